@@ -1,0 +1,10 @@
+use Rattle.std.proofs.Common.{ℕ, List, [], ◌∷◌, ◌++◌, ◌∙◌, ap₂, sym, arith}
+use Rattle.std.proofs.lemmas.List.Edits.{between_more}
+use Rattle.jp_decimal.specs.Magnitudes.{digits}
+use Rattle.jp_decimal.proofs.parts.Magnitude.digits_between.Goals as goal
+
+pub loop-place-preserved : goal.loop-place-preserved
+loop-place-preserved c =
+    c.in_ok-push.ensures.items
+    ∙ (ap₂ (λ (xs : List ℕ) (d : ℕ). xs ++ d ∷ []) c.loop-place.invariant c.digit.ensures
+    ∙ sym (between_more (digits c.args.self.now) c.args.from c.loop-place.place 0x30 (omega arith) (omega arith)))

@@ -1,0 +1,24 @@
+ghost use Rattle.std.specs.Prelude.{◌≡◌, true, ◌≢◌, ◌-◌, length, slice_index_or};
+ghost use Rattle.jp_decimal.specs.Digits.{are_digits};
+
+use std::cmp::Reverse;
+
+/// The digits of a number that is not zero, without zeros in front and behind, and the power of ten above the first:
+/// 0.`digits` times ten to the `power`.
+#[derive(Debug, PartialEq, Eq, PartialOrd, Ord, Drop)]
+pub struct KeySize {
+    pub power: i64,
+    pub digits: Vec<u8>,
+    ghost are_digits: { are_digits digits.items ≡ true },
+    ghost first: { slice_index_or digits.items 0 0x30 ≢ 0x30 },
+    ghost last: { slice_index_or digits.items (length digits.items - 1) 0x30 ≢ 0x30 },
+}
+
+/// One key for all spellings of a number. `==` and the order of keys are those of the values: negative numbers, the
+/// greater sizes first, then zero, then the others.
+#[derive(Debug, PartialEq, Eq, PartialOrd, Ord, Drop)]
+pub enum DecimalKey {
+    Negative(Reverse<KeySize>),
+    Zero,
+    Positive(KeySize),
+}

@@ -1,0 +1,15 @@
+ghost use Rattle.std.specs.Prelude.{◌≡◌, true, ◌+◌, ◌^◌, ◌<◌, ◌≤ℤ◌, pos, negsuc, length};
+ghost use Rattle.jp_decimal.specs.Digits.{are_digits};
+
+/// A number without its sign: the digits on both sides of the point, and the exponent.
+#[derive(Clone, Copy, Debug)]
+pub struct Magnitude<'a> {
+    pub int: &'a [u8],
+    pub fraction: &'a [u8],
+    pub exponent: i64,
+    ghost int_digits: { are_digits int.now ≡ true },
+    ghost fraction_digits: { are_digits fraction.now ≡ true },
+    ghost room: { length int.now + length fraction.now < 2 ^ 32 },
+    ghost low: { negsuc 999999999999998 ≤ℤ exponent },
+    ghost high: { exponent ≤ℤ pos 999999999999999 },
+}

@@ -1,0 +1,192 @@
+-- The numbers of RFC 8259, section 6, which are also those of a query (RFC 9535, section 2.3.5.1), and their exact values.
+use Rattle.std.specs.Prelude.{◌≡◌, ℕ, ◌^◌, Bool, true, false, cond, not, ◌&&◌, ◌==◌, nat_lt, List, [], ◌∷◌, ◌++◌, length, drop, ℤ, pos, neg_ℤ, ◌-ℤ◌, ◌*ℤ◌, nat_abs, int_lt, Option, Some, None, ⊤, if◌then◌else◌}
+use Rattle.std.specs.declared.cmp.Ordering.{Ordering}
+use Rattle.std.specs.Ordering.{int_cmp, is_lt, is_eq}
+use Rattle.jp_model.specs.Characters.{is_digit, digits_value}
+use Rattle.jp_model.specs.Json.Places.{Reads}
+
+-- *DIGIT
+abbrev pub AreDigits : List ℕ → Type 0
+AreDigits [] = ⊤
+AreDigits (d ∷ ds) = (is_digit d ≡ true) × AreDigits ds
+
+-- 1*DIGIT
+abbrev pub AreSomeDigits : List ℕ → Type 0
+AreSomeDigits [] = ⊥
+AreSomeDigits (d ∷ ds) = AreDigits (d ∷ ds)
+
+-- int = "0" / DIGIT1 *DIGIT
+abbrev pub IsInt : List ℕ → Type 0
+IsInt [] = ⊥
+IsInt (d ∷ []) = is_digit d ≡ true
+IsInt (d ∷ e ∷ ds) = (is_digit d ≡ true) × ((d == 0x30) ≡ false) × AreDigits (e ∷ ds)
+
+-- the sign of an exponent, if it has one
+pub data Sign : Type 0 where
+  no_sign : Sign
+  plus_sign : Sign
+  minus_sign : Sign
+
+-- an exponent part without its "e"
+pub record Exponent : Type 0 where
+  pub capital : Bool
+  pub sign : Sign
+  pub digits : List ℕ
+
+-- the parts of a number as it is spelled; no fraction digits stand for no fraction part
+pub record Numeral : Type 0 where
+  pub negative : Bool
+  pub int : List ℕ
+  pub fraction : List ℕ
+  pub exponent : Option Exponent
+
+-- an exponent part has some digits
+abbrev pub IsExponent : Option Exponent → Type 0
+IsExponent None = ⊤
+IsExponent (Some e) = AreSomeDigits e.digits
+
+-- the parts that the grammar allows
+pub record IsNumeral (n : Numeral) : Type 0 where
+  pub int : IsInt n.int
+  pub fraction : AreDigits n.fraction
+  pub exponent : IsExponent n.exponent
+
+-- [ minus ]
+abbrev pub minus_bytes : Bool → List ℕ
+minus_bytes negative = cond negative (0x2D ∷ []) []
+
+-- [ frac ]
+abbrev pub fraction_bytes : List ℕ → List ℕ
+fraction_bytes [] = []
+fraction_bytes (d ∷ ds) = 0x2E ∷ d ∷ ds
+
+-- [ minus / plus ]
+abbrev pub sign_bytes : Sign → List ℕ
+sign_bytes no_sign = []
+sign_bytes plus_sign = 0x2B ∷ []
+sign_bytes minus_sign = 0x2D ∷ []
+
+-- [ exp ]
+abbrev pub exponent_bytes : Option Exponent → List ℕ
+exponent_bytes None = []
+exponent_bytes (Some e) = cond e.capital 0x45 0x65 ∷ (sign_bytes e.sign ++ e.digits)
+
+-- number = [ minus ] int [ frac ] [ exp ]
+abbrev pub numeral_bytes : Numeral → List ℕ
+numeral_bytes n = minus_bytes n.negative ++ (n.int ++ (fraction_bytes n.fraction ++ exponent_bytes n.exponent))
+
+-- with a minus, or without
+abbrev pub signed : Bool → ℕ → ℤ
+signed negative n = cond negative (neg_ℤ (pos n)) (pos n)
+
+-- the sign is a minus
+abbrev pub is_minus : Sign → Bool
+is_minus no_sign = false
+is_minus plus_sign = false
+is_minus minus_sign = true
+
+-- what an exponent part stands for, 0 where there is none
+abbrev pub exponent_value : Option Exponent → ℤ
+exponent_value None = pos 0
+exponent_value (Some e) = signed (is_minus e.sign) (digits_value e.digits)
+
+-- a number is m times ten to the e: m is the signed digits without the point
+abbrev pub mantissa : Numeral → ℤ
+mantissa n = signed n.negative (digits_value (n.int ++ n.fraction))
+
+-- and e the exponent less the count of fraction digits
+abbrev pub scale : Numeral → ℤ
+scale n = exponent_value n.exponent -ℤ pos (length n.fraction)
+
+-- the bytes of a line from a place up to another spell m times ten to the e
+pub record SpellsNumber (line : List ℕ) (from to : ℕ) (m e : ℤ) : Type 0 where
+  pub numeral : Numeral
+  pub correct : IsNumeral numeral
+  pub bytes : Reads line from to (numeral_bytes numeral)
+  pub is_mantissa : mantissa numeral ≡ m
+  pub is_scale : scale numeral ≡ e
+
+-- ---- the parts of a spelling, by computing
+
+-- the digits at the front
+abbrev pub leading_digits : List ℕ → List ℕ
+leading_digits [] = []
+leading_digits (b ∷ bytes) = if is_digit b then b ∷ leading_digits bytes else []
+
+-- what stands behind them
+abbrev pub behind_digits : List ℕ → List ℕ
+behind_digits [] = []
+behind_digits (b ∷ bytes) = if is_digit b then behind_digits bytes else b ∷ bytes
+
+-- that byte stands at the front
+abbrev pub begins_with : ℕ → List ℕ → Bool
+begins_with byte [] = false
+begins_with byte (b ∷ bytes) = b == byte
+
+-- without that byte at the front
+abbrev pub behind_byte : ℕ → List ℕ → List ℕ
+behind_byte byte bytes = if begins_with byte bytes then drop 1 bytes else bytes
+
+-- the digits behind a point at the front
+abbrev pub fraction_of : List ℕ → List ℕ
+fraction_of bytes = if begins_with 0x2E bytes then leading_digits (drop 1 bytes) else []
+
+-- what stands behind them
+abbrev pub behind_fraction : List ℕ → List ℕ
+behind_fraction bytes = if begins_with 0x2E bytes then behind_digits (drop 1 bytes) else bytes
+
+-- the sign at the front
+abbrev pub sign_of : List ℕ → Sign
+sign_of bytes = if begins_with 0x2B bytes then plus_sign else if begins_with 0x2D bytes then minus_sign else no_sign
+
+-- a letter at the front, and what stands behind it
+abbrev pub exponent_of : List ℕ → Option Exponent
+exponent_of [] = None
+exponent_of (letter ∷ bytes) = Some (record { capital = letter == 0x45; sign = sign_of bytes; digits = behind_byte 0x2D (behind_byte 0x2B bytes) })
+
+-- The parts of a number's spelling. Where some correct numeral has these bytes, it is that one.
+abbrev pub numeral_of : List ℕ → Numeral
+numeral_of bytes =
+    let digits = behind_byte 0x2D bytes in
+    let behind_int = behind_digits digits in
+    record { negative = begins_with 0x2D bytes; int = leading_digits digits; fraction = fraction_of behind_int; exponent = exponent_of (behind_fraction behind_int) }
+
+-- leading zeros do not count (profile)
+abbrev pub without_leading_zeros : List ℕ → List ℕ
+without_leading_zeros [] = []
+without_leading_zeros (d ∷ ds) = if d == 0x30 then without_leading_zeros ds else d ∷ ds
+
+-- the digits of an exponent that count (profile)
+abbrev pub exponent_digits : Option Exponent → List ℕ
+exponent_digits None = []
+exponent_digits (Some e) = without_leading_zeros e.digits
+
+-- more than 15 digits of an exponent stand behind its leading zeros (profile)
+abbrev pub is_long_exponent : Numeral → Bool
+is_long_exponent n = nat_lt 15 (length (exponent_digits n.exponent))
+
+-- ---- the order of values
+
+-- the smaller of two
+abbrev pub smaller : ℤ → ℤ → ℤ
+smaller a b = cond (int_lt a b) a b
+
+-- the power of ten that brings an exponent to one that is no greater
+abbrev pub power_from : ℤ → ℤ → ℕ
+power_from least e = 10 ^ nat_abs (e -ℤ least)
+
+-- m times ten to the e, brought to an exponent that is no greater
+abbrev pub brought_to : ℤ → ℤ → ℤ → ℤ
+brought_to least m e = m *ℤ pos (power_from least e)
+
+-- m times ten to the e against n times ten to the f: both are brought to the smaller exponent and compared as whole numbers
+abbrev pub number_order : ℤ → ℤ → ℤ → ℤ → Ordering
+number_order m e n f = int_cmp (brought_to (smaller e f) m e) (brought_to (smaller e f) n f)
+
+-- the first is less
+abbrev pub number_less : ℤ → ℤ → ℤ → ℤ → Bool
+number_less m e n f = is_lt (number_order m e n f)
+
+-- both are equal
+abbrev pub number_equal : ℤ → ℤ → ℤ → ℤ → Bool
+number_equal m e n f = is_eq (number_order m e n f)
