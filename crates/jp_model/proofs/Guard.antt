@@ -6,7 +6,6 @@ use Rattle.jp_model.proofs.Seek.{segment_is, no_nodes}
 use Rattle.std.specs.Prelude.{ℤ, cond, int_lt}
 use Rattle.std.proofs.Common.{arith}
 use Rattle.std.proofs.lemmas.Int.{ints}
-use Rattle.std.specs.declared.cmp.Ordering.{Ordering}
 use Rattle.std.specs.declared.cmp.Ordering.TheVariants.{Less, Equal, Greater}
 use Rattle.std.specs.Ordering.{int_cmp, is_eq}
 use Rattle.jp_model.specs.Json.Numbers.{smaller, brought_to, number_equal, numeral_of, mantissa, scale}

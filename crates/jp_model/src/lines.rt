@@ -23,7 +23,8 @@ fn without_byte_order_mark(bytes: &[u8]) -> &[u8]
 
 /// The lines of a collection, one after another, each without its line feed.
 ///
-/// One byte order mark at the front of the collection is dropped, and an empty last piece is no line.
+/// A line feed, 0A, ends a line, and an empty last piece is no line. One byte order mark, EF BB BF, at the front of the
+/// collection is dropped. A carriage return before the line feed stays in its line, where it is white space.
 #[derive(Drop)]
 pub struct Lines<'a> {
     rest: &'a [u8],
@@ -39,7 +40,7 @@ impl<'a> Model for Lines<'a> {
 }
 
 impl<'a> Lines<'a> {
-    /// The lines of these bytes, of which none is read yet.
+    /// The lines of a collection that is these bytes; none of them is read yet.
     pub fn new(bytes: &'a [u8]) -> Lines<'a>
         ensures { result ≡ lines framings.Lines bytes.now }
     {

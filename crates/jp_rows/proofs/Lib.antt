@@ -1,1 +1,6 @@
 mod Transfers
+pub mod Chains
+mod Printed
+mod Plain
+mod Named
+mod Walks

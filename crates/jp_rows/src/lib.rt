@@ -1,6 +1,14 @@
 //! The rows of an answer, written to a watched writer.
 #![tactic(auto)]
 
+mod names;
+mod path;
+mod rows;
 mod whole;
 
+pub use path::write_path;
+pub use rows::{write_count, write_node, write_refusal};
 pub use whole::{WriteFault, write_whole};
+
+#[cfg(test)]
+mod tests;

@@ -1,5 +1,5 @@
 -- The numbers of RFC 8259, section 6, which are also those of a query (RFC 9535, section 2.3.5.1), and their exact values.
-use Rattle.std.specs.Prelude.{◌≡◌, ℕ, ◌^◌, Bool, true, false, cond, not, ◌&&◌, ◌==◌, nat_lt, List, [], ◌∷◌, ◌++◌, length, drop, ℤ, pos, neg_ℤ, ◌-ℤ◌, ◌*ℤ◌, nat_abs, int_lt, Option, Some, None, ⊤, if◌then◌else◌}
+use Rattle.std.specs.Prelude.{◌≡◌, ℕ, ◌^◌, Bool, true, false, cond, ◌==◌, nat_lt, List, [], ◌∷◌, ◌++◌, length, drop, ℤ, pos, neg_ℤ, ◌-ℤ◌, ◌*ℤ◌, nat_abs, int_lt, Option, Some, None, ⊤, if◌then◌else◌}
 use Rattle.std.specs.declared.cmp.Ordering.{Ordering}
 use Rattle.std.specs.Ordering.{int_cmp, is_lt, is_eq}
 use Rattle.jp_model.specs.Characters.{is_digit, digits_value}
@@ -75,7 +75,7 @@ exponent_bytes (Some e) = cond e.capital 0x45 0x65 ∷ (sign_bytes e.sign ++ e.d
 abbrev pub numeral_bytes : Numeral → List ℕ
 numeral_bytes n = minus_bytes n.negative ++ (n.int ++ (fraction_bytes n.fraction ++ exponent_bytes n.exponent))
 
--- with a minus, or without
+-- a number with a minus, or without
 abbrev pub signed : Bool → ℕ → ℤ
 signed negative n = cond negative (neg_ℤ (pos n)) (pos n)
 
@@ -94,7 +94,7 @@ exponent_value (Some e) = signed (is_minus e.sign) (digits_value e.digits)
 abbrev pub mantissa : Numeral → ℤ
 mantissa n = signed n.negative (digits_value (n.int ++ n.fraction))
 
--- and e the exponent less the count of fraction digits
+-- and e is the exponent less the count of fraction digits
 abbrev pub scale : Numeral → ℤ
 scale n = exponent_value n.exponent -ℤ pos (length n.fraction)
 
@@ -113,17 +113,17 @@ abbrev pub leading_digits : List ℕ → List ℕ
 leading_digits [] = []
 leading_digits (b ∷ bytes) = if is_digit b then b ∷ leading_digits bytes else []
 
--- what stands behind them
+-- what stands behind the digits at the front
 abbrev pub behind_digits : List ℕ → List ℕ
 behind_digits [] = []
 behind_digits (b ∷ bytes) = if is_digit b then behind_digits bytes else b ∷ bytes
 
--- that byte stands at the front
+-- a byte stands at the front
 abbrev pub begins_with : ℕ → List ℕ → Bool
 begins_with byte [] = false
 begins_with byte (b ∷ bytes) = b == byte
 
--- without that byte at the front
+-- the bytes without that byte at the front, where it stands there
 abbrev pub behind_byte : ℕ → List ℕ → List ℕ
 behind_byte byte bytes = if begins_with byte bytes then drop 1 bytes else bytes
 
@@ -131,7 +131,7 @@ behind_byte byte bytes = if begins_with byte bytes then drop 1 bytes else bytes
 abbrev pub fraction_of : List ℕ → List ℕ
 fraction_of bytes = if begins_with 0x2E bytes then leading_digits (drop 1 bytes) else []
 
--- what stands behind them
+-- what stands behind a point at the front and its digits
 abbrev pub behind_fraction : List ℕ → List ℕ
 behind_fraction bytes = if begins_with 0x2E bytes then behind_digits (drop 1 bytes) else bytes
 
@@ -139,7 +139,7 @@ behind_fraction bytes = if begins_with 0x2E bytes then behind_digits (drop 1 byt
 abbrev pub sign_of : List ℕ → Sign
 sign_of bytes = if begins_with 0x2B bytes then plus_sign else if begins_with 0x2D bytes then minus_sign else no_sign
 
--- a letter at the front, and what stands behind it
+-- an exponent part: a letter at the front, and the sign and the digits behind it
 abbrev pub exponent_of : List ℕ → Option Exponent
 exponent_of [] = None
 exponent_of (letter ∷ bytes) = Some (record { capital = letter == 0x45; sign = sign_of bytes; digits = behind_byte 0x2D (behind_byte 0x2B bytes) })
@@ -151,7 +151,7 @@ numeral_of bytes =
     let behind_int = behind_digits digits in
     record { negative = begins_with 0x2D bytes; int = leading_digits digits; fraction = fraction_of behind_int; exponent = exponent_of (behind_fraction behind_int) }
 
--- leading zeros do not count (profile)
+-- digits without their leading zeros, which do not count (profile)
 abbrev pub without_leading_zeros : List ℕ → List ℕ
 without_leading_zeros [] = []
 without_leading_zeros (d ∷ ds) = if d == 0x30 then without_leading_zeros ds else d ∷ ds
@@ -167,7 +167,7 @@ is_long_exponent n = nat_lt 15 (length (exponent_digits n.exponent))
 
 -- ---- the order of values
 
--- the smaller of two
+-- the smaller of two exponents
 abbrev pub smaller : ℤ → ℤ → ℤ
 smaller a b = cond (int_lt a b) a b
 
@@ -179,14 +179,15 @@ power_from least e = 10 ^ nat_abs (e -ℤ least)
 abbrev pub brought_to : ℤ → ℤ → ℤ → ℤ
 brought_to least m e = m *ℤ pos (power_from least e)
 
--- m times ten to the e against n times ten to the f: both are brought to the smaller exponent and compared as whole numbers
+-- m times ten to the e against n times ten to the f, by their exact values: both are brought to the smaller exponent and
+-- compared as whole numbers (RFC 9535, section 2.3.5.2.2; profile)
 abbrev pub number_order : ℤ → ℤ → ℤ → ℤ → Ordering
 number_order m e n f = int_cmp (brought_to (smaller e f) m e) (brought_to (smaller e f) n f)
 
--- the first is less
+-- the first of two numbers is less
 abbrev pub number_less : ℤ → ℤ → ℤ → ℤ → Bool
 number_less m e n f = is_lt (number_order m e n f)
 
--- both are equal
+-- two numbers are equal
 abbrev pub number_equal : ℤ → ℤ → ℤ → ℤ → Bool
 number_equal m e n f = is_eq (number_order m e n f)

@@ -4,7 +4,7 @@ use Rattle.std.specs.Fmt.{signed_decimal}
 use Rattle.jp_model.specs.Steps.{Step, name_step, index_step}
 use Rattle.jp_model.specs.Query.Syntax.{CompareOp, equal, not_equal, less, less_equal, greater, greater_equal, Literal, null_literal, false_literal, true_literal, number_literal, string_literal}
 
--- normal-hexchar, in lower case (section 2.7)
+-- normal-HEXDIG (section 2.7)
 abbrev pub hex_digit : ℕ → ℕ
 hex_digit n = if nat_lt n 10 then 48 + n else 87 + n
 
@@ -17,11 +17,11 @@ name_scalar c =
     else if nat_lt c 32 then codes "\\u00" ++ hex_digit (c / 16) ∷ hex_digit (c % 16) ∷ []
     else c ∷ []
 
--- a name, or a string, between single quotes (section 2.7)
+-- normal-name-selector: a name, or a string, between single quotes (section 2.7)
 abbrev pub quoted : List ℕ → List ℕ
 quoted x = codes "'" ++ flat_map name_scalar x ++ codes "'"
 
--- normal-selector (section 2.7)
+-- normal-index-segment (section 2.7)
 abbrev pub step_text : Step → List ℕ
 step_text (name_step x) = codes "[" ++ quoted x ++ codes "]"
 step_text (index_step i) = codes "[" ++ signed_decimal i ++ codes "]"
@@ -30,7 +30,7 @@ step_text (index_step i) = codes "[" ++ signed_decimal i ++ codes "]"
 abbrev pub steps_text : List Step → List ℕ
 steps_text = flat_map step_text
 
--- the bytes of a normalized path, and of an index path, whose indexes may be negative (section 2.7)
+-- the bytes of a normalized path (section 2.7), and of an index path, whose indexes may be negative (profile)
 abbrev pub path_text : List Step → List ℕ
 path_text steps = encode_utf8_all (codes "$" ++ steps_text steps)
 

@@ -13,7 +13,7 @@ use Rattle.jp_model.specs.Script.Machine.{State, run_commands, OnlyForMemory}
 abbrev pub loaded : Setup → List ℕ → State
 loaded setup collection = record { lines = lines setup.framing collection; paths = [] }
 
--- it fits, and is framed
+-- the collection fits, and is framed
 abbrev pub MayLoad : Setup → List ℕ → Type 0
 MayLoad setup collection = (length collection ≤ setup.most) × (is_framed setup.framing collection ≡ true)
 

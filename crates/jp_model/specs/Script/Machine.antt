@@ -42,11 +42,11 @@ error text = codes "error: " ++ text ++ line_feed
 abbrev pub count_line : ℕ → List ℕ
 count_line n = codes "= " ++ decimal n ++ line_feed
 
--- the path is among these
+-- a path is among some others
 abbrev pub has_path : List Step → List (List Step) → Bool
 has_path p paths = list_any (steps_equal p) paths
 
--- these, without that path
+-- some paths without one of them
 abbrev pub without_path : List Step → List (List Step) → List (List Step)
 without_path p [] = []
 without_path p (q ∷ qs) = if steps_equal p q then without_path p qs else q ∷ without_path p qs
@@ -75,13 +75,14 @@ keeps text state = record { written = text; after = state }
 abbrev pub statuses : Framing → List (List ℕ) → List LineStatus
 statuses f lines = map (status_of f) lines
 
+-- a line's text, and nothing where there is no such line
+abbrev pub text_or_nothing : Option (List ℕ) → List ℕ
+text_or_nothing None = []
+text_or_nothing (Some line) = line
+
 -- the text of a row
 abbrev pub row_text : Framing → List (List ℕ) → Row → List ℕ
-row_text f lines (node_row n node) = node_text f n (line_at (slice_get lines (n - 1))) node
-  where
-    line_at : Option (List ℕ) → List ℕ
-    line_at None = []
-    line_at (Some line) = line
+row_text f lines (node_row n node) = node_text f n (text_or_nothing (slice_get lines (n - 1))) node
 row_text f lines (refusal_row n fault) = refusal_text f n fault
 
 -- the row is of a node

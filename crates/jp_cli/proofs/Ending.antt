@@ -1,0 +1,120 @@
+-- How a run ends, by how its script ended.
+use Rattle.std.proofs.Common.{◌≡◌, ◌∙◌, ◌≤◌, ◌<◌, ℕ, List, [], ◌∷◌, ◌++◌, length, take, map, sym, ap, subst, refl, Bool, true, false, Option, Some, None, Result, Ok, Err, MatchResult, append-nil, inl, inr}
+use Rattle.std.specs.Prelude.{OnOk, IfSome}
+use Rattle.std.proofs.lemmas.List.{map-append}
+use Rattle.std.specs.Io.KnownBytes.{Consumes, IsAtEnd}
+use Rattle.jp_model.specs.declared.Setup.{Setup}
+use Rattle.jp_model.specs.declared.RunFault.{RunFault}
+use Rattle.jp_model.specs.declared.RunFault.TheVariants as faults
+use Rattle.jp_model.specs.Devices.{Device, Received, Begins}
+use Rattle.jp_model.specs.declared.Framing.{Framing}
+use Rattle.jp_model.specs.declared.Framing.TheVariants as framings
+use Rattle.jp_model.specs.Lines.{text_lines, closed_lines, lines, is_framed}
+use Rattle.jp_model.specs.Query.Status.{QueryStatus}
+use Rattle.jp_model.specs.Script.Commands.{Command, without_final_cr, command_lines, closed_command_lines}
+use Rattle.jp_model.specs.Script.Headline.{loaded, MayLoad, Answered, AnsweredInPart, AnsweredFirst, RunEnded, RunStopped}
+use Rattle.jp_model.specs.Script.Machine.{State, Outcome, step, step_unless, run_commands, OnlyForMemory}
+use Rattle.jp_cli.specs.Asked.{asked_by, asked_in}
+use Rattle.jp_cli.specs.Runs.{ScriptStopped}
+
+module _ (query_of : List ℕ → QueryStatus) (setup : Setup) where
+  -- lines as they came ask for what they ask without their final CR
+  run_as : (state : State) (raws : List (List ℕ)) (flags : List Bool)
+      → run_commands query_of asked_in setup state raws flags ≡ run_commands query_of asked_by setup state (map without_final_cr raws) flags
+  run_as state [] flags = refl
+  run_as state (raw ∷ raws) [] =
+      let first : Outcome = step query_of setup state (asked_in raw) in
+      ap (λ (later : Outcome). let o : Outcome = record { written = first.written ++ later.written; after = later.after } in o) (run_as first.after raws [])
+  run_as state (raw ∷ raws) (starved ∷ flags) =
+      let first : Outcome = step_unless query_of starved setup state (asked_in raw) in
+      ap (λ (later : Outcome). let o : Outcome = record { written = first.written ++ later.written; after = later.after } in o) (run_as first.after raws flags)
+
+  only_as : (raws : List (List ℕ)) (flags : List Bool) → OnlyForMemory asked_in raws flags → OnlyForMemory asked_by (map without_final_cr raws) flags
+  only_as [] [] h = h
+  only_as [] (starved ∷ flags) h = h
+  only_as (raw ∷ raws) [] h = h
+  only_as (raw ∷ raws) (starved ∷ flags) h = (h.0, only_as raws flags h.1)
+
+  module _ {W : Type 0} (contents : W → Option (List ℕ)) (old new : Device W) where
+    answered_as : (state : State) (raws : List (List ℕ)) → Answered query_of asked_in contents old new setup state raws
+        → Answered query_of asked_by contents old new setup state (map without_final_cr raws)
+    answered_as state raws h = (h.0, only_as raws h.0 h.1, subst (λ (o : Outcome). Received contents old new o.written) (run_as state raws h.0) h.2)
+
+    part_as : (state : State) (raws : List (List ℕ)) → AnsweredInPart query_of asked_in contents old new setup state raws
+        → AnsweredInPart query_of asked_by contents old new setup state (map without_final_cr raws)
+    part_as state raws h =
+        (h.0, h.1, only_as raws h.0 h.2, subst (λ (o : Outcome). Begins h.1 o.written) (run_as state raws h.0) h.3, h.4)
+
+    first_as : (state : State) (raws : List (List ℕ)) → AnsweredFirst query_of asked_in contents old new setup state raws
+        → AnsweredFirst query_of asked_by contents old new setup state (map without_final_cr raws)
+    first_as state raws h =
+        (map without_final_cr h.0, (map without_final_cr h.1.0, ap (map without_final_cr) h.1.1 ∙ map-append without_final_cr h.0 h.1.0), answered_as state h.0 h.2)
+
+    -- what is known of the whole run
+    pub ends : (result : Result (Unit {0}) RunFault) (state : State) (failed : Bool) (Ended : Type 0) (collection script : List ℕ)
+        → Ended → MayLoad setup collection → state ≡ loaded setup collection
+        → MatchResult result
+        (λ _. (length script ≤ setup.script_most) × Answered query_of asked_in contents old new setup state (text_lines script))
+        (λ fault. ScriptStopped query_of asked_in contents old new fault setup state failed script)
+        → MatchResult result
+        (λ _. RunEnded query_of asked_by contents old new setup collection script)
+        (λ fault. RunStopped query_of asked_by contents old new fault setup failed Ended collection script)
+    ends (Ok x) state failed Ended collection script ended may is h =
+        (may, h.0, subst (λ s. Answered query_of asked_by contents old new setup s (command_lines script)) is (answered_as state (text_lines script) h.1))
+    ends (Err faults.ReadCollection) state failed Ended collection script ended may is h = absurd h
+    ends (Err faults.Size) state failed Ended collection script ended may is h = absurd h
+    ends (Err faults.Framing) state failed Ended collection script ended may is h = absurd h
+    ends (Err faults.ReadScript) state failed Ended collection script ended may is h = (
+      ended,
+      may,
+      h.0,
+      subst (λ s. Answered query_of asked_by contents old new setup s (closed_command_lines (take setup.script_most script))) is
+          (answered_as state (closed_lines (take setup.script_most script)) h.1),
+    )
+    ends (Err faults.Write) state failed Ended collection script ended may is h = (
+      ended,
+      may,
+      subst (λ s. AnsweredInPart query_of asked_by contents old new setup s (command_lines (take setup.script_most script))) is
+          (part_as state (text_lines (take setup.script_most script)) h),
+    )
+    ends (Err faults.Memory) state failed Ended collection script ended may is h =
+        inr (
+          ended,
+          may,
+          subst (λ s. AnsweredFirst query_of asked_by contents old new setup s (command_lines (take setup.script_most script))) is
+              (first_as state (text_lines (take setup.script_most script)) h),
+        )
+
+-- the bytes that came are all, where the reader is at its end
+all_came : (old new : Option (List ℕ)) (bytes : List ℕ) → Consumes old new bytes → IsAtEnd new → IfSome old (λ all. bytes ≡ all)
+all_came None new bytes h e = tt
+all_came (Some all) None bytes h e = absurd h
+all_came (Some all) (Some left) bytes h e = sym (h ∙ ap (λ l. bytes ++ l) e ∙ append-nil bytes)
+
+if_some : {A : Type 0} (P Q : A → Type 0) (o : Option A) → IfSome o P → ((x : A) → P x → Q x) → IfSome o Q
+if_some P Q None h f = tt
+if_some P Q (Some x) h f = f x h
+
+-- so what holds of the bytes that came holds of all
+pub told_of_all : {X F : Type 0} (result : Result X F) (Stops : F → Type 0) (c0 c1 s0 s1 : Option (List ℕ)) (c s : List ℕ) (P : List ℕ → List ℕ → Type 0)
+    → Consumes c0 c1 c → Consumes s0 s1 s → OnOk result (IsAtEnd c1 × IsAtEnd s1) → MatchResult result (λ _. P c s) Stops
+    → OnOk result (IfSome c0 (λ c. IfSome s0 (λ s. P c s)))
+told_of_all (Err fault) Stops c0 c1 s0 s1 c s P h k ended out = tt
+told_of_all (Ok x) Stops c0 c1 s0 s1 c s P h k ended out =
+    if_some (λ all. c ≡ all) (λ c. IfSome s0 (λ s. P c s)) c0 (all_came c0 c1 c h ended.0)
+    (λ all e. if_some (λ every. s ≡ every) (λ s. P all s) s0 (all_came s0 s1 s k ended.1) (λ every f. subst (P all) f (subst (λ t. P t s) e out)))
+
+-- the lines that are loaded are those of the collection, in its framing
+pub loaded_is : (setup : Setup) (state : State) (bytes collection : List ℕ) → state ≡ record { lines = lines framings.Lines bytes; paths = [] }
+    → bytes ≡ collection → setup.framing ≡ framings.Lines → state ≡ loaded setup collection
+loaded_is setup state bytes collection e f is =
+    e ∙ ap (λ b. let s : State = record { lines = lines framings.Lines b; paths = [] } in s) f
+    ∙ ap (λ (framing : Framing). let s : State = record { lines = lines framing collection; paths = [] } in s) (sym is)
+
+-- every collection of lines is framed
+pub framed_lines : (setup : Setup) (collection : List ℕ) → setup.framing ≡ framings.Lines → is_framed setup.framing collection ≡ true
+framed_lines setup collection is = ap (λ (framing : Framing). is_framed framing collection) is
+
+pub both_ended : {X F : Type 0} (result : Result X F) (A B : Type 0) → A → OnOk result B → OnOk result (A × B)
+both_ended (Err fault) A B a b = tt
+both_ended (Ok x) A B a b = (a, b)

@@ -1,0 +1,72 @@
+-- What the calls of `read_words` come to, by the rules of its two arguments.
+use Rattle.std.proofs.Common.{ap, ap₂, refl, sym, subst, true, false, codes, zero, suc, List, Result, [], ◌∷◌, ◌≡◌, ◌∙◌, inl, inr, arith, slice_index}
+use Rattle.std.specs.List.{All}
+use Rattle.std.specs.Prelude.{IsErrAnd}
+use Rattle.std.specs.Str.{bytes_eq}
+use Rattle.std.proofs.lemmas.Result.{err_from_is_err_and}
+use Rattle.clap.specs.Built.{FitsChain, HasDistinctIds, IsPlainArg}
+use Rattle.clap.specs.Words.{AddsArg, App, FailsBy, HasKind, HasMatchesOf, Kinds, Text, app_of, fault_of, first_of, first_value, found_of, is_simple, is_simple_and_free, matches_of, new_app, rule_of, with_rule}
+use Rattle.clap.specs.declared.builder.arg.Arg.{Arg}
+use Rattle.clap.specs.declared.builder.command.Command.{Command}
+use Rattle.clap.specs.declared.error.Error.{Error}
+use Rattle.clap.specs.declared.parser.matches.ArgMatches.{ArgMatches}
+use Rattle.clap.proofs.WalkLemmas.{first_value-rows}
+use Rattle.jp_cli.specs.Words.{faults_in, file_rule, found_in, program, script_rule}
+
+-- the two arguments, added in turn, make the program
+pub is_program : (start one two : Command) (file script : Arg) → app_of start ≡ new_app (codes "jpq")
+    → AddsArg start file one → AddsArg one script two → file.global ≡ false → script.global ≡ false
+    → rule_of file ≡ file_rule → rule_of script ≡ script_rule → app_of two ≡ program
+is_program start one two file script named first second file_local script_local file_is script_is =
+    second.shape script_local ∙ ap₂ with_rule (first.shape file_local ∙ ap₂ with_rule named file_is) script_is
+
+-- the matches give an argument its value by the written meaning of the words
+pub first_found : (a : App) (words : List Text) (m : ArgMatches) (id : Text) → a ≡ program → HasMatchesOf a words m
+    → first_of id (found_in words) ≡ first_value (found_of m) id
+unfolding found_in
+first_found a words m id is has =
+    sym (first_value-rows (found_of m) id ∙ ap (first_of id) ((has (ap is_simple is)).0 ∙ ap (λ x. matches_of x words) is))
+
+-- the parse fails by the written faults of the words
+pub fails_by_faults : {X : Type 0} (a : App) (words : List Text) (r : Result X Error) → a ≡ program
+    → (is_simple_and_free a ≡ true → FailsBy (fault_of a words) r) → FailsBy (faults_in words) r
+unfolding faults_in
+fails_by_faults a words r is fails = subst (λ x. FailsBy (fault_of x words) r) is (fails (ap is_simple_and_free is))
+
+-- an error that is handed on keeps its kind
+pub fails_on : {X : Type 0} (kinds : Kinds) (r : Result X Error) (e : Error) → IsErrAnd r (λ y. y ≡ e) → HasKind kinds e → FailsBy kinds r
+fails_on kinds r e handed kind =
+    let met = err_from_is_err_and r handed in
+    subst (λ s. FailsBy kinds s) (sym met.1) (subst (HasKind kinds) (sym met.2) kind)
+
+-- an argument that is neither nameless nor one of the two that building adds
+pub fits_chain : (a : Arg) (name : Text) → IsPlainArg a → a.global ≡ false → a.id.now ≡ name
+    → (slice_index name 0 ≡ 0 → ⊥) → (slice_index name 0 ≡ 104 → ⊥) → (slice_index name 0 ≡ 118 → ⊥) → FitsChain a
+fits_chain a name plain local is named no_help no_version = (
+  plain,
+  local,
+  (λ e. named (ap (λ t. slice_index t 0) (sym is ∙ e))),
+  (λ auto. elim auto [
+    | inl h ↦ no_help (ap (λ t. slice_index t 0) (sym is ∙ h))
+    | inr h ↦ no_version (ap (λ t. slice_index t 0) (sym is ∙ h))
+  ]),
+)
+
+pub all_of_two : {X : Type 0} (P : X → Type 0) (x y : X) → P x → P y → All P (x ∷ y ∷ [])
+all_of_two P x y p q zero d lt = p
+all_of_two P x y p q (suc zero) d lt = q
+all_of_two P x y p q (suc (suc n)) d lt = absurd (omega arith)
+
+-- the two arguments have names of their own
+pub has_distinct_ids : (x y : Arg) → x.id.now ≡ codes "file" → y.id.now ≡ codes "script" → HasDistinctIds (x ∷ y ∷ [])
+has_distinct_ids x y x_is y_is zero zero d e j_lt k_lt same = refl
+has_distinct_ids x y x_is y_is (suc zero) (suc zero) d e j_lt k_lt same = refl
+has_distinct_ids x y x_is y_is zero (suc zero) d e j_lt k_lt same =
+    let bad : bytes_eq (codes "file") (codes "script") ≡ true = rw (x_is, y_is) at same in
+    cc
+has_distinct_ids x y x_is y_is (suc zero) zero d e j_lt k_lt same =
+    let bad : bytes_eq (codes "script") (codes "file") ≡ true = rw (x_is, y_is) at same in
+    cc
+has_distinct_ids x y x_is y_is (suc (suc j)) k d e j_lt k_lt same = absurd (omega arith)
+has_distinct_ids x y x_is y_is zero (suc (suc k)) d e j_lt k_lt same = absurd (omega arith)
+has_distinct_ids x y x_is y_is (suc zero) (suc (suc k)) d e j_lt k_lt same = absurd (omega arith)

@@ -1,0 +1,196 @@
+-- What has come of a script so far, and what is done with it.
+use Rattle.std.proofs.Common.{◌≡◌, ℕ, ◌+◌, ◌-◌, ◌<◌, ◌≤◌, min, List, [], ◌∷◌, ◌++◌, length, take, Bool, true, false, refl, sym, ap, ◌∙◌, subst, append_assoc, append-nil, arith, length-append}
+use Rattle.std.specs.Prelude.{Option, ◌==◌}
+use Rattle.std.proofs.lemmas.Bool.{true≢false, eqb-false}
+use Rattle.std.proofs.lemmas.List.{take_all, take-take, length-take}
+use Rattle.std.proofs.lemmas.Grind.{common_steps}
+use Rattle.std.proofs.Math.Seq.{take-append-add}
+use Rattle.std.proofs.KnownBytes.{Consumes-trans, Consumes-kept}
+use Rattle.std.specs.Io.KnownBytes.{Keeps}
+use Rattle.jp_model.specs.declared.Setup.{Setup}
+use Rattle.jp_model.specs.declared.RunFault.{RunFault}
+use Rattle.jp_model.specs.declared.RunFault.TheVariants as faults
+use Rattle.jp_model.specs.Devices.{Device, Gave, one_more, Received, Begins}
+use Rattle.jp_model.specs.Lines.{text_lines, closed_lines, open_line, line_unless_empty}
+use Rattle.jp_model.specs.Query.Status.{QueryStatus}
+use Rattle.jp_model.specs.Script.Commands.{Command}
+use Rattle.jp_model.specs.Script.Headline.{Answered, AnsweredInPart}
+use Rattle.jp_model.specs.Script.Machine.{State}
+use Rattle.jp_model.proofs.Pieces.{closed-append, open-append}
+use Rattle.jp_cli.specs.Runs.{MayAnswer, Ran, StoppedIn, ScriptStopped}
+use Rattle.jp_cli.proofs.Answering.{ran_answered, ran_more, answered_more, part_more, part_before, part_of_line}
+
+-- these bytes came; the lines that they close are run, and the open one is held
+pub record SoFar (query_of : List ℕ → QueryStatus) (asked : List ℕ → Command) (setup : Setup) {R W : Type 0} (remaining : R → Option (List ℕ)) (contents : W → Option (List ℕ)) (script_old script_new : Device R) (out_old out_new : Device W)
+    (old new : State) (held : List ℕ) (count : ℕ) : Type 0 where
+  pub bytes : List ℕ
+  pub came : Gave remaining script_old script_new bytes
+  pub counted : length bytes ≡ count
+  pub ran : Ran query_of asked contents out_old out_new setup old (closed_lines bytes) new
+  pub open_is : held ≡ open_line bytes
+
+-- the bytes of a script within its limit, where some came before
+within_limit : (bytes got : List ℕ) (most count : ℕ) → length bytes ≡ count → count ≤ most → take most (bytes ++ got) ≡ bytes ++ take (most - count) got
+within_limit bytes got most count e l =
+    let n : most ≡ length bytes + (most - count) = omega arith in
+    ap (λ m. take m (bytes ++ got)) n ∙ take-append-add bytes got (most - count)
+
+-- the first bytes of a piece are cut to what is left
+pub cut_piece : (read left : ℕ) (piece : List ℕ) → take (min read left) piece ≡ take left (take read piece)
+cut_piece read left piece = grind (arith, common_steps, take-take, take_all, length-take)
+
+nothing_held : (held : List ℕ) → length held ≡ 0 → line_unless_empty held ≡ []
+nothing_held [] e = refl
+nothing_held (byte ∷ bytes) e = absurd (omega arith)
+
+something_held : (held : List ℕ) → (length held ≡ 0 → ⊥) → line_unless_empty held ≡ held ∷ []
+something_held [] some = absurd (some refl)
+something_held (byte ∷ bytes) some = refl
+
+pub min_first : (m n : ℕ) → m ≤ n → min m n ≡ m
+min_first m n l = omega arith
+
+-- a call that brought a byte at least
+pub one_more_call : (first old new count read : ℕ) → old ≤ first + count → new ≡ one_more old → (read ≡ 0 → ⊥) → new ≤ first + (count + read)
+one_more_call first old new count read l e some = omega arith
+
+pub not_empty : (held line : List ℕ) (n : ℕ) → false ≡ (n == 0) → line ≡ held → length line ≡ n → length held ≡ 0 → ⊥
+not_empty held line n test e counted none = eqb-false n 0 (sym test) (sym counted ∙ ap length e ∙ none)
+
+module _ (query_of : List ℕ → QueryStatus) (asked : List ℕ → Command) (setup : Setup) {R W : Type 0} (remaining : R → Option (List ℕ)) (contents : W → Option (List ℕ)) where
+  -- a read that failed
+  pub stopped_read : (s0 s1 s2 : Device R) (o0 o1 : Device W) (old new : State) (held : List ℕ) (count : ℕ)
+      → SoFar query_of asked setup remaining contents s0 s1 o0 o1 old new held count → Keeps (remaining s1.device) (remaining s2.device) → count ≤ setup.script_most → s2.failed ≡ true
+      → (bytes : List ℕ) × Gave remaining s0 s2 bytes × ((s2.failed ≡ false → setup.script_most < length bytes) × Answered query_of asked contents o0 o1 setup old (closed_lines (take setup.script_most bytes)))
+  stopped_read s0 s1 s2 o0 o1 old new held count so keeps within failed = (
+    so.bytes,
+    Consumes-kept _ _ _ so.bytes so.came keeps,
+    (
+      λ e. absurd (true≢false (sym failed ∙ e)),
+      subst (λ t. Answered query_of asked contents o0 o1 setup old (closed_lines t)) (sym (take_all setup.script_most so.bytes (omega (arith, so.counted))))
+          (ran_answered query_of asked setup contents o0 o1 old new (closed_lines so.bytes) so.ran),
+    ),
+  )
+
+  -- one more piece, whose closed lines are run
+  pub taken : (s0 s1 s2 : Device R) (o0 o1 o2 : Device W) (old mid new : State) (held held' : List ℕ) (count n : ℕ) (piece : List ℕ)
+      → SoFar query_of asked setup remaining contents s0 s1 o0 o1 old mid held count → Gave remaining s1 s2 piece → length piece ≡ n
+      → Ran query_of asked contents o1 o2 setup mid (closed_lines (held ++ piece)) new → held' ≡ open_line (held ++ piece)
+      → SoFar query_of asked setup remaining contents s0 s2 o0 o2 old new held' (count + n)
+  taken s0 s1 s2 o0 o1 o2 old mid new held held' count n piece so gave e ran opened = record {
+    bytes = so.bytes ++ piece;
+    came = Consumes-trans _ _ _ so.bytes piece so.came gave;
+    counted = omega (arith, so.counted, length-append so.bytes piece);
+    ran = subst (λ l. Ran query_of asked contents o0 o2 setup old l new) (sym (closed-append 0x0A so.bytes piece ∙ ap (λ h. closed_lines so.bytes ++ closed_lines (h ++ piece)) (sym so.open_is)))
+        (ran_more query_of asked setup contents o0 o1 o2 old mid new (closed_lines so.bytes) (closed_lines (held ++ piece)) so.ran ran);
+    open_is = opened ∙ ap (λ h. open_line (h ++ piece)) so.open_is ∙ sym (open-append 0x0A so.bytes piece);
+  }
+
+  -- the closed lines of what came within the limit
+  closed_within : (s0 s1 : Device R) (o0 o1 : Device W) (old mid : State) (held : List ℕ) (count : ℕ) (got : List ℕ)
+      → (so : SoFar query_of asked setup remaining contents s0 s1 o0 o1 old mid held count) → count ≤ setup.script_most
+      → closed_lines (take setup.script_most (so.bytes ++ got)) ≡ closed_lines so.bytes ++ closed_lines (held ++ take (setup.script_most - count) got)
+  closed_within s0 s1 o0 o1 old mid held count got so within =
+      ap closed_lines (within_limit so.bytes got setup.script_most count so.counted within) ∙ closed-append 0x0A so.bytes (take (setup.script_most - count) got)
+      ∙ ap (λ h. closed_lines so.bytes ++ closed_lines (h ++ take (setup.script_most - count) got)) (sym so.open_is)
+
+  -- the byte past the limit came
+  pub too_long : (s0 s1 s2 : Device R) (o0 o1 o2 : Device W) (old mid new : State) (held : List ℕ) (count : ℕ) (got : List ℕ)
+      → SoFar query_of asked setup remaining contents s0 s1 o0 o1 old mid held count → count ≤ setup.script_most → Gave remaining s1 s2 got → setup.script_most - count < length got
+      → Ran query_of asked contents o1 o2 setup mid (closed_lines (held ++ take (setup.script_most - count) got)) new
+      → (bytes : List ℕ) × Gave remaining s0 s2 bytes × ((s2.failed ≡ false → setup.script_most < length bytes) × Answered query_of asked contents o0 o2 setup old (closed_lines (take setup.script_most bytes)))
+  too_long s0 s1 s2 o0 o1 o2 old mid new held count got so within gave long ran = (
+    so.bytes ++ got,
+    Consumes-trans _ _ _ so.bytes got so.came gave,
+    (
+      λ e. omega (arith, so.counted, length-append so.bytes got),
+      subst (Answered query_of asked contents o0 o2 setup old) (sym (closed_within s0 s1 o0 o1 old mid held count got so within))
+          (ran_answered query_of asked setup contents o0 o2 old new _ (ran_more query_of asked setup contents o0 o1 o2 old mid new (closed_lines so.bytes) (closed_lines (held ++ take (setup.script_most - count) got)) so.ran ran)),
+    ),
+  )
+
+  -- a run that stopped in a piece
+  pub stopped_piece : (s0 s1 s2 : Device R) (o0 o1 o2 : Device W) (old mid : State) (held : List ℕ) (count : ℕ) (got : List ℕ) (failed : Bool) (fault : RunFault)
+      → SoFar query_of asked setup remaining contents s0 s1 o0 o1 old mid held count → count ≤ setup.script_most → Gave remaining s1 s2 got
+      → StoppedIn query_of asked contents o1 o2 fault setup mid (closed_lines (held ++ take (setup.script_most - count) got))
+      → (bytes : List ℕ) × Gave remaining s0 s2 bytes × ScriptStopped query_of asked contents o0 o2 fault setup old failed bytes
+  stopped_piece s0 s1 s2 o0 o1 o2 old mid held count got failed faults.ReadCollection so within gave stop = absurd stop
+  stopped_piece s0 s1 s2 o0 o1 o2 old mid held count got failed faults.Size so within gave stop = absurd stop
+  stopped_piece s0 s1 s2 o0 o1 o2 old mid held count got failed faults.ReadScript so within gave stop = absurd stop
+  stopped_piece s0 s1 s2 o0 o1 o2 old mid held count got failed faults.Framing so within gave stop = absurd stop
+  stopped_piece s0 s1 s2 o0 o1 o2 old mid held count got failed faults.Write so within gave stop =
+      let bytes = so.bytes ++ got in
+      let first = closed_lines so.bytes in
+      let more = closed_lines (held ++ take (setup.script_most - count) got) in
+      let e : closed_lines (take setup.script_most bytes) ≡ first ++ more = closed_within s0 s1 o0 o1 old mid held count got so within in
+      let part : AnsweredInPart query_of asked contents o0 o2 setup old (closed_lines (take setup.script_most bytes)) =
+      subst (AnsweredInPart query_of asked contents o0 o2 setup old) (sym e) (part_more query_of asked setup contents o0 o1 o2 old mid first more so.ran stop) in (
+        bytes,
+        Consumes-trans _ _ _ so.bytes got so.came gave,
+        part_before query_of asked setup contents o0 o2 old (closed_lines (take setup.script_most bytes)) (line_unless_empty (open_line (take setup.script_most bytes))) part,
+      )
+  stopped_piece s0 s1 s2 o0 o1 o2 old mid held count got failed faults.Memory so within gave stop =
+      let bytes = so.bytes ++ got in
+      let first = closed_lines so.bytes in
+      let more = closed_lines (held ++ take (setup.script_most - count) got) in
+      let last = line_unless_empty (open_line (take setup.script_most bytes)) in
+      let e : closed_lines (take setup.script_most bytes) ≡ first ++ more = closed_within s0 s1 o0 o1 old mid held count got so within in
+      let split : text_lines (take setup.script_most bytes) ≡ (first ++ stop.0) ++ (stop.1.0 ++ last) =
+      ap (λ l. l ++ last) (e ∙ ap (λ l. first ++ l) stop.1.1 ∙ sym (append_assoc first stop.0 stop.1.0)) ∙ append_assoc (first ++ stop.0) stop.1.0 last in (
+        bytes,
+        Consumes-trans _ _ _ so.bytes got so.came gave,
+        (first ++ stop.0, (stop.1.0 ++ last, split), answered_more query_of asked setup contents o0 o1 o2 old mid first stop.0 so.ran stop.2),
+      )
+
+  -- a read at the end brings nothing
+  pub ended : (s0 s1 s2 : Device R) (o0 o1 : Device W) (old new : State) (held : List ℕ) (count n : ℕ) (piece : List ℕ)
+      → SoFar query_of asked setup remaining contents s0 s1 o0 o1 old new held count → Gave remaining s1 s2 (take n piece) → n ≡ 0 → SoFar query_of asked setup remaining contents s0 s2 o0 o1 old new held count
+  ended s0 s1 s2 o0 o1 old new held count n piece so gave e = record {
+    bytes = so.bytes;
+    came = subst (Gave remaining s0 s2) (append-nil so.bytes)
+        (Consumes-trans _ _ _ so.bytes [] so.came (subst (λ m. Gave remaining s1 s2 (take m piece)) e gave));
+    counted = so.counted;
+    ran = so.ran;
+    open_is = so.open_is;
+  }
+
+  -- the whole script is run
+  pub all_run : (s0 s1 : Device R) (o0 o1 : Device W) (old new : State) (held : List ℕ) (count : ℕ)
+      → SoFar query_of asked setup remaining contents s0 s1 o0 o1 old new held count → count ≤ setup.script_most → length held ≡ 0
+      → (bytes : List ℕ) × Gave remaining s0 s1 bytes × ((length bytes ≤ setup.script_most) × Answered query_of asked contents o0 o1 setup old (text_lines bytes))
+  all_run s0 s1 o0 o1 old new held count so within none =
+      let e : text_lines so.bytes ≡ closed_lines so.bytes =
+      ap (λ h. closed_lines so.bytes ++ line_unless_empty h) (sym so.open_is) ∙ ap (λ l. closed_lines so.bytes ++ l) (nothing_held held none) ∙ append-nil (closed_lines so.bytes) in
+      (so.bytes, so.came, (omega (arith, so.counted), subst (Answered query_of asked contents o0 o1 setup old) (sym e) (ran_answered query_of asked setup contents o0 o1 old new (closed_lines so.bytes) so.ran)))
+
+  -- the held line is run last
+  pub last_run : (s0 s1 : Device R) (o0 o1 o2 : Device W) (old mid new : State) (held line text : List ℕ) (count : ℕ)
+      → SoFar query_of asked setup remaining contents s0 s1 o0 o1 old mid held count → count ≤ setup.script_most → (length held ≡ 0 → ⊥) → line ≡ held
+      → MayAnswer query_of asked setup mid (line ∷ []) text new → Received contents o1 o2 text
+      → (bytes : List ℕ) × Gave remaining s0 s1 bytes × ((length bytes ≤ setup.script_most) × Answered query_of asked contents o0 o2 setup old (text_lines bytes))
+  last_run s0 s1 o0 o1 o2 old mid new held line text count so within some is_held answers received =
+      let e : text_lines so.bytes ≡ closed_lines so.bytes ++ line ∷ [] =
+      ap (λ h. closed_lines so.bytes ++ line_unless_empty h) (sym so.open_is) ∙ ap (λ l. closed_lines so.bytes ++ l) (something_held held some ∙ ap (λ h. h ∷ []) (sym is_held)) in (
+        so.bytes,
+        so.came,
+        (
+          omega (arith, so.counted),
+          subst (Answered query_of asked contents o0 o2 setup old) (sym e)
+              (ran_answered query_of asked setup contents o0 o2 old new _ (ran_more query_of asked setup contents o0 o1 o2 old mid new (closed_lines so.bytes) (line ∷ []) so.ran (text, answers, received))),
+        ),
+      )
+
+  -- the writer failed in the answer of the held line
+  pub last_stopped : (s0 s1 : Device R) (o0 o1 o2 : Device W) (old mid new : State) (held line text part : List ℕ) (count : ℕ)
+      → SoFar query_of asked setup remaining contents s0 s1 o0 o1 old mid held count → count ≤ setup.script_most → (length held ≡ 0 → ⊥) → line ≡ held
+      → MayAnswer query_of asked setup mid (line ∷ []) text new → Begins part text → Received contents o1 o2 part
+      → (bytes : List ℕ) × Gave remaining s0 s1 bytes × AnsweredInPart query_of asked contents o0 o2 setup old (text_lines (take setup.script_most bytes))
+  last_stopped s0 s1 o0 o1 o2 old mid new held line text part count so within some is_held answers begins received =
+      let e : text_lines so.bytes ≡ closed_lines so.bytes ++ line ∷ [] =
+      ap (λ h. closed_lines so.bytes ++ line_unless_empty h) (sym so.open_is) ∙ ap (λ l. closed_lines so.bytes ++ l) (something_held held some ∙ ap (λ h. h ∷ []) (sym is_held)) in (
+        so.bytes,
+        so.came,
+        subst (λ t. AnsweredInPart query_of asked contents o0 o2 setup old (text_lines t)) (sym (take_all setup.script_most so.bytes (omega (arith, so.counted))))
+            (subst (AnsweredInPart query_of asked contents o0 o2 setup old) (sym e)
+            (part_more query_of asked setup contents o0 o1 o2 old mid (closed_lines so.bytes) (line ∷ []) so.ran (part_of_line query_of asked setup contents o1 o2 mid new (line ∷ []) text part answers begins received))),
+      )

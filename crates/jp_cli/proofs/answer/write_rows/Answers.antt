@@ -1,0 +1,17 @@
+-- One row more is written, or a beginning of it.
+use Rattle.jp_model.specs.declared.Framing.TheVariants as framings
+use Rattle.jp_cli.specs.Stored.{found_text}
+use Rattle.jp_cli.proofs.RowsWritten.{row_written, row_in_part}
+use Rattle.jp_cli.proofs.answer.write_rows.Goals as goal
+
+pub returns-in-Err-clause-text : goal.returns-in-Err-clause-text
+returns-in-Err-clause-text g c =
+    row_in_part (found_text framings.Lines) c.args.rows.now c.loop-row.row-index c.row-item.result c.loop-row-test.true c.row-item.is _ _ _
+    c.loop-row.invariant.written c.in-Err.ensures.text
+
+pub loop-row-preserved : goal.loop-row-preserved
+loop-row-preserved g c = record {
+  working = c.in_default.ensures.fault;
+  written = row_written (found_text framings.Lines) c.args.rows.now c.loop-row.row-index c.row-item.result c.loop-row-test.true c.row-item.is _ _ _
+      c.loop-row.invariant.written c.in_default.ensures.text;
+}

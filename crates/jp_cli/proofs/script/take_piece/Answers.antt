@@ -1,0 +1,72 @@
+-- Each byte closes the open line, which is then run, or goes on with it.
+use Rattle.std.proofs.Common.{◌≡◌, ◌+◌, ◌++◌, ◌∷◌, [], append-nil, take, get_or, sym, ap, ◌∙◌, subst, if◌then◌else◌}
+use Rattle.jp_cli.proofs.Answering.{ran_none, ran_more, ran_answered, stopped_within}
+use Rattle.jp_model.proofs.Pieces.{closed_clear, open_clear, later_lines, closed_later, closed_through, closed_at_separator, open_at_separator, closed_at_other, open_at_other}
+use Rattle.jp_cli.specs.Runs.{Ran}
+use Rattle.jp_model.specs.Script.Headline.{AnsweredInPart}
+use Rattle.jp_model.specs.Lines.{closed_lines, open_line}
+use Rattle.jp_cli.specs.Asked.{asked_in}
+use Rattle.jp_cli.specs.NamesQuery.{query_of}
+use Rattle.jp_cli.proofs.script.take_piece.Goals as goal
+use Rattle.jp_cli.proofs.script.take_piece.Goals.{then-byte-eq10+in-Ok, else-byte-eq10+else-is_err}
+
+pub loop-byte-init : goal.loop-byte-init
+loop-byte-init g c = record {
+  working = c.requires.working;
+  ran = ran_none query_of asked_in c.args.setup g.W.Write.contents c.args.out.now _ _ (ap closed_lines (append-nil c.args.held.now.items) ∙ closed_clear 0x0A c.args.held.now.items c.requires.open);
+  held = sym (ap open_line (append-nil c.args.held.now.items) ∙ open_clear 0x0A c.args.held.now.items c.requires.open);
+}
+
+pub returns-in-Err-clause-err : goal.returns-in-Err-clause-err
+returns-in-Err-clause-err g c =
+    let ran = c.in-Err.ensures.ran in
+    let i = c.loop-byte.byte-index in
+    let before = c.args.held.now.items in
+    let piece = c.args.piece.now in
+    let line = c.as_slice.result.now in
+    let e = closed_through 0x0A before piece i line c.loop-byte-test.true c.if-byte-eq10.true (c.as_slice.ensures.value ∙ c.loop-byte.invariant.held) in
+    subst (AnsweredInPart query_of asked_in g.W.Write.contents c.args.out.now c.answer_line.new.out c.args.setup c.args.store.now) (sym e)
+    (stopped_within query_of asked_in c.args.setup g.W.Write.contents c.args.out.now c.loop-byte.out c.answer_line.new.out c.args.store.now c.args.store.now c.args.store.now
+    (closed_lines (before ++ take i piece)) (line ∷ []) (later_lines 0x0A before piece (i + 1)) ran.0 ran.2.0
+    c.loop-byte.invariant.ran ran.1 ran.2.1 ran.2.2)
+
+pub returns-then-is_err-clause-err : goal.returns-then-is_err-clause-err
+returns-then-is_err-clause-err g c =
+    let i = c.loop-byte.byte-index in
+    let before = c.args.held.now.items in
+    let piece = c.args.piece.now in (
+      closed_lines (before ++ take i piece),
+      (later_lines 0x0A before piece i, closed_later 0x0A before piece i),
+      ran_answered query_of asked_in c.args.setup g.W.Write.contents c.args.out.now c.loop-byte.out c.args.store.now c.args.store.now (closed_lines (before ++ take i piece)) c.loop-byte.invariant.ran,
+    )
+
+pub loop-byte-preserved : goal.loop-byte-preserved
+loop-byte-preserved g c =
+    let i = c.loop-byte.byte-index in
+    let before = c.args.held.now.items in
+    let piece = c.args.piece.now in
+    let first = closed_lines (before ++ take i piece) in
+    elim c.if-byte-eq10.branch [
+      | then-byte-eq10+in-Ok w ↦
+          let ran = w.in-Ok.ensures.ran in
+          let line = w.as_slice.result.now in
+          let is_open = w.as_slice.ensures.value ∙ c.loop-byte.invariant.held in
+          let e : closed_lines (before ++ take (i + 1) piece) ≡ first ++ line ∷ [] =
+          closed_at_separator 0x0A before piece i c.loop-byte-test.true w.if-byte-eq10.true ∙ ap (λ o. first ++ o ∷ []) (sym is_open) in
+          rw (w.out-is, w.held-is) (record {
+            working = w.in-Ok.ensures.fault;
+            ran = subst (λ l. Ran query_of asked_in g.W.Write.contents c.args.out.now w.answer_line.new.out c.args.setup c.args.store.now l c.args.store.now) (sym e)
+                (ran_more query_of asked_in c.args.setup g.W.Write.contents c.args.out.now c.loop-byte.out w.answer_line.new.out c.args.store.now c.args.store.now c.args.store.now
+                first (line ∷ []) c.loop-byte.invariant.ran ran);
+            held = w.clear.ensures.items ∙ sym (open_at_separator 0x0A before piece i c.loop-byte-test.true w.if-byte-eq10.true);
+          })
+      | else-byte-eq10+else-is_err w ↦
+          rw (w.out-is, w.held-is) (record {
+            working = c.loop-byte.invariant.working;
+            ran = subst (λ l. Ran query_of asked_in g.W.Write.contents c.args.out.now c.loop-byte.out c.args.setup c.args.store.now l c.args.store.now)
+                (sym (closed_at_other 0x0A before piece i c.loop-byte-test.true w.if-byte-eq10.false)) c.loop-byte.invariant.ran;
+            held = (w.push.ensures.items ∙ ap (λ b. if b then (c.loop-byte.held.items ++ get_or piece i 0 ∷ []) else c.loop-byte.held.items) w.if-is_err.ensures.negation)
+                ∙ ap (λ l. l ++ get_or piece i 0 ∷ []) c.loop-byte.invariant.held
+                ∙ sym (open_at_other 0x0A before piece i c.loop-byte-test.true w.if-byte-eq10.false);
+          })
+    ]

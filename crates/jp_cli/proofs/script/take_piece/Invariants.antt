@@ -1,0 +1,14 @@
+-- The lines closed so far are run, and the open one is held.
+use Rattle.std.proofs.Common.{◌≡◌, ◌++◌, take, false}
+use Rattle.jp_model.specs.Lines.{closed_lines, open_line}
+use Rattle.jp_cli.specs.Runs.{Ran}
+use Rattle.jp_cli.specs.Asked.{asked_in}
+use Rattle.jp_cli.specs.NamesQuery.{query_of}
+use Rattle.jp_cli.proofs.script.take_piece.Given as goal
+
+abbrev pub invariant-loop-byte : goal.invariant-loop-byte
+invariant-loop-byte g l = record {
+  working : l.out.failed ≡ false;
+  ran : Ran query_of asked_in g.W.Write.contents l.fn.out l.out l.setup l.store (closed_lines (l.fn.held.items ++ take l.byte-index l.piece)) l.store;
+  held : l.held.items ≡ open_line (l.fn.held.items ++ take l.byte-index l.piece);
+}

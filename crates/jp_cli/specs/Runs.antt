@@ -1,0 +1,40 @@
+-- Runs of command lines that are held as they came, one after another.
+use Rattle.std.specs.Prelude.{◌≡◌, ℕ, ◌<◌, List, [], ◌++◌, Bool, false, Option, take, length}
+use Rattle.jp_model.specs.declared.Setup.{Setup}
+use Rattle.jp_model.specs.declared.RunFault.{RunFault}
+use Rattle.jp_model.specs.declared.RunFault.TheVariants as faults
+use Rattle.jp_model.specs.Devices.{Device, Received}
+use Rattle.jp_model.specs.Lines.{text_lines, closed_lines}
+use Rattle.jp_model.specs.Query.Status.{QueryStatus}
+use Rattle.jp_model.specs.Script.Commands.{Command}
+use Rattle.jp_model.specs.Script.Headline.{Answered, AnsweredInPart, AnsweredFirst}
+use Rattle.jp_model.specs.Script.Machine.{State, run_commands, OnlyForMemory}
+
+module _ (query_of : List ℕ → QueryStatus) (asked : List ℕ → Command) where
+  -- These command lines may answer this text, and leave this state.
+  pub record MayAnswer (setup : Setup) (old : State) (commands : List (List ℕ)) (text : List ℕ) (new : State) : Type 0 where
+    pub flags : List Bool
+    pub each : length flags ≡ length commands
+    pub only : OnlyForMemory asked commands flags
+    pub text_is : text ≡ (run_commands query_of asked setup old commands flags).written
+    pub new_is : new ≡ (run_commands query_of asked setup old commands flags).after
+
+  -- These command lines were run to their end, and the writer received their answers.
+  abbrev pub Ran : {W : Type 0} → (W → Option (List ℕ)) → Device W → Device W → Setup → State → List (List ℕ) → State → Type 0
+  Ran contents out_old out_new setup old commands new = (text : List ℕ) × MayAnswer setup old commands text new × Received contents out_old out_new text
+
+  -- A run of these command lines stopped: in the middle of an answer, or before one of them.
+  abbrev pub StoppedIn : {W : Type 0} → (W → Option (List ℕ)) → Device W → Device W → RunFault → Setup → State → List (List ℕ) → Type 0
+  StoppedIn contents old new faults.Write setup state commands = AnsweredInPart query_of asked contents old new setup state commands
+  StoppedIn contents old new faults.Memory setup state commands = AnsweredFirst query_of asked contents old new setup state commands
+  StoppedIn contents old new _ setup state commands = ⊥
+
+  -- What the writer received where a script stopped, by the fault, by whether the script's reader failed, and by the bytes that it gave.
+  abbrev pub ScriptStopped : {W : Type 0} → (W → Option (List ℕ)) → Device W → Device W → RunFault → Setup → State → Bool → List ℕ → Type 0
+  ScriptStopped contents old new faults.ReadScript setup state failed script =
+      (failed ≡ false → setup.script_most < length script) × Answered query_of asked contents old new setup state (closed_lines (take setup.script_most script))
+  ScriptStopped contents old new faults.Write setup state failed script =
+      AnsweredInPart query_of asked contents old new setup state (text_lines (take setup.script_most script))
+  ScriptStopped contents old new faults.Memory setup state failed script =
+      AnsweredFirst query_of asked contents old new setup state (text_lines (take setup.script_most script))
+  ScriptStopped contents old new _ setup state failed script = ⊥

@@ -1,0 +1,27 @@
+-- What the program's words ask for (profile): `jpq FILE [--script FILE]`, read as the crate `clap` reads words.
+use Rattle.std.specs.Prelude.{true, List, Some, codes}
+use Rattle.clap.specs.Words.{App, Kinds, Row, Rule, Text, fault_of, matches_of, new_app, new_rule, with_rule}
+use Rattle.clap.specs.declared.builder.action.ArgAction.TheVariants.{Set}
+
+-- FILE, the collection: it has to be there
+abbrev pub file_rule : Rule
+file_rule = record (new_rule (codes "file")) { required = true; action = Some Set; value_names = 1 }
+
+-- `--script`, with one value; it may be left out
+abbrev pub script_rule : Rule
+script_rule = record (new_rule (codes "script")) {
+  long = Some (codes "script");
+  action = Some Set;
+  value_names = 1;
+}
+
+abbrev pub program : App
+program = with_rule (with_rule (new_app (codes "jpq")) file_rule) script_rule
+
+-- what the words give each argument, the first word being the program's own name
+unfoldable pub found_in : List Text → List Row
+found_in words = matches_of program words
+
+-- why the words are refused: the kinds that the error may have, and none where they are taken
+unfoldable pub faults_in : List Text → Kinds
+faults_in words = fault_of program words

@@ -1,0 +1,60 @@
+//! The bytes of a collection, read up to a limit.
+
+ghost use Rattle.std.specs.Prelude.{◌≡◌, ℕ, ◌+◌, ◌≤◌, List, length, false, OnOk, MatchResult};
+ghost use Rattle.jp_model.specs.Devices.{Gave, HasEnded};
+ghost use Rattle.jp_cli.specs.Collections.{CameBefore, is_read_fault};
+
+use jp_model::Watched;
+use std::alloc::Global;
+use std::io::Read;
+
+/// Why a collection was not read to its end.
+#[derive(Debug, Drop)]
+pub(crate) enum CollectionFault {
+    /// A read failed.
+    Read,
+    /// It has more bytes than it may.
+    Size,
+    /// A growth was refused.
+    Memory,
+}
+
+/// The bytes that one read asks for.
+const PIECE: usize = 65_536;
+
+/// Reads to the end, where that comes within `most` bytes. It makes at most one read for each of these bytes, and one more.
+pub(crate) fn read_collection<C: Read>(
+    alloc: Global,
+    most: u32,
+    reader: &mut Watched<C>,
+) -> Result<Vec<u8>, CollectionFault>
+    requires { reader.old.failed ≡ false }
+    ensures bytes { (bytes : List ℕ) × Gave C.remaining reader.old reader.new bytes × MatchResult result
+        (λ all. (all.items ≡ bytes) × (length bytes ≤ most))
+        (λ fault. CameBefore fault most bytes) }
+    ensures ended { OnOk result (HasEnded C.remaining reader.new) }
+    ensures fault { MatchResult result
+        (λ _. reader.new.failed ≡ false)
+        (λ fault. reader.new.failed ≡ is_read_fault fault) }
+    ensures calls { reader.new.calls ≤ reader.old.calls + (most + 1) }
+{
+    let mut all = Vec::new(alloc);
+    let mut piece = [0; PIECE];
+    loop {
+        let left = most as usize - all.len();
+        // One byte more than is left, so that the byte past the limit is seen.
+        let room = piece.len().min(left + 1);
+        let Ok(count) = reader.read(&mut piece[..room]) else {
+            return Err(CollectionFault::Read);
+        };
+        if count == 0 {
+            return Ok(all);
+        }
+        if count > left {
+            return Err(CollectionFault::Size);
+        }
+        if all.extend_from_slice(&piece[..count]).is_err() {
+            return Err(CollectionFault::Memory);
+        }
+    }
+}

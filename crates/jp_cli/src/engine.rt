@@ -1,0 +1,68 @@
+//! The run of a script over a collection.
+
+ghost use Rattle.std.specs.Prelude.{◌≡◌, ℕ, ◌+◌, ◌≤◌, false, List, OnOk, IfSome, MatchResult};
+ghost use Rattle.jp_model.specs.declared.Framing.TheVariants as framings;
+ghost use Rattle.jp_model.specs.Devices.{Gave, HasEnded};
+ghost use Rattle.jp_model.specs.Script.Headline.{RunEnded, RunStopped, is_write_fault, is_read_collection, OnlyReadScript};
+ghost use Rattle.jp_cli.specs.Asked.{asked_by};
+ghost use Rattle.jp_cli.specs.NamesQuery.{query_of};
+
+use crate::collection::{CollectionFault, read_collection};
+use crate::script::run_script;
+use crate::store::Store;
+use jp_model::{RunFault, Setup, Watched};
+use std::alloc::Global;
+use std::io::{Read, Write};
+
+/// Runs the commands of a script over a collection of JSON texts, one to a line, and writes what they answer.
+///
+/// The collection is read to its end before the script. Each command is answered as its line feed comes, and its answer is
+/// whole before its first byte is written. No read follows one that answered 0, one that failed, or the byte past a limit,
+/// and no write follows one that failed or took no byte.
+///
+/// # Errors
+///
+/// `ReadCollection` and `ReadScript` where a read failed, `Size` where the collection has more than `most` bytes,
+/// `ReadScript` also where the script has more than `script_most` bytes, `Write` where a write failed or took no byte, and
+/// `Memory` where a growth was refused while the collection was loaded or a command line was held.
+pub fn run<C: Read, R: Read, W: Write>(
+    alloc: Global,
+    setup: Setup,
+    collection: &mut Watched<C>,
+    script: &mut Watched<R>,
+    out: &mut Watched<W>,
+) -> Result<(), RunFault>
+    requires framing { setup.framing ≡ framings.Lines }
+    requires collection { collection.old.failed ≡ false }
+    requires script { script.old.failed ≡ false }
+    requires out { out.old.failed ≡ false }
+    // The readers gave some bytes. At Ok they gave all, and the writer received the output for them; else what `RunStopped` says.
+    ensures output { (c : List ℕ) × (s : List ℕ)
+        × Gave C.remaining collection.old collection.new c
+        × Gave R.remaining script.old script.new s
+        × MatchResult result
+        (λ _. RunEnded query_of asked_by W.contents out.old out.new setup c s)
+        (λ fault. RunStopped query_of asked_by W.contents out.old out.new fault setup script.new.failed (HasEnded C.remaining collection.new) c s) }
+    // In short: where the readers tell their bytes, Ok means the output of all of them.
+    ensures told { OnOk result (IfSome (C.remaining collection.old.device) (λ c. IfSome (R.remaining script.old.device) (λ s.
+        RunEnded query_of asked_by W.contents out.old out.new setup c s))) }
+    ensures ended { OnOk result (HasEnded C.remaining collection.new × HasEnded R.remaining script.new) }
+    // Each device's fault is answered exactly where that device failed.
+    ensures collection_fault { MatchResult result (λ _. collection.new.failed ≡ false) (λ fault. collection.new.failed ≡ is_read_collection fault) }
+    ensures script_fault { MatchResult result (λ _. script.new.failed ≡ false) (λ fault. OnlyReadScript fault script.new.failed) }
+    ensures write_fault { MatchResult result (λ _. out.new.failed ≡ false) (λ fault. out.new.failed ≡ is_write_fault fault) }
+    // It reads at most once for each byte up to a limit, and once more.
+    ensures collection_calls { collection.new.calls ≤ collection.old.calls + (setup.most + 1) }
+    ensures script_calls { script.new.calls ≤ script.old.calls + (setup.script_most + 1) }
+{
+    let bytes = match read_collection(alloc, setup.most, collection) {
+        Ok(bytes) => bytes,
+        Err(CollectionFault::Read) => return Err(RunFault::ReadCollection),
+        Err(CollectionFault::Size) => return Err(RunFault::Size),
+        Err(CollectionFault::Memory) => return Err(RunFault::Memory),
+    };
+    let Ok(store) = Store::load(alloc, bytes.as_slice()) else {
+        return Err(RunFault::Memory);
+    };
+    run_script(&store, alloc, setup, script, out)
+}

@@ -1,0 +1,21 @@
+//! The engine of jpq: a script of commands over a collection of JSON texts, one to a line.
+#![tactic(auto)]
+
+mod answer;
+mod collection;
+mod command;
+mod end;
+mod engine;
+mod find;
+mod names;
+mod script;
+mod store;
+mod words;
+
+pub use end::End;
+pub use engine::run;
+pub use jp_model::{Framing, RunFault, Setup};
+pub use words::{Options, read_words};
+
+#[cfg(test)]
+mod tests;

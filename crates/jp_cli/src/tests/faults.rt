@@ -1,0 +1,160 @@
+//! Runs that stop: what was written, and how often each device was called.
+
+ghost use Rattle.std.specs.Prelude.{◌≡◌};
+ghost use Rattle.jp_model.specs.declared.Framing.TheVariants as framings;
+
+use super::devices::{Cutting, Endless, NEVER, Taking};
+use crate::run;
+use jp_model::{Framing, RunFault, Setup, Watched};
+use std::alloc::Global;
+use std::test::Fail;
+
+const COLLECTION: &[u8] = b"{\"a\":1}\n";
+
+const OUTPUT: &[u8] = b"1\t$['a']\t1\n= 1\n";
+
+const fn setup(most: u32, script_most: u32) -> Setup
+    ensures { result.framing ≡ framings.Lines }
+{
+    Setup {
+        framing: Framing::Lines,
+        most,
+        script_most,
+    }
+}
+
+#[test]
+fn each_write_fails_once(rt: HostRuntime) -> Result<(), Fail> {
+    for n in 1..=16u64 {
+        for takes_none in [false, true] {
+            let mut collection = Watched::new(Cutting::new(rt.alloc(), COLLECTION, 1, NEVER)?);
+            let mut script = Watched::new(Cutting::new(rt.alloc(), b"query $.a", 1, NEVER)?);
+            let (fails_in, takes_none_in) = if takes_none { (NEVER, n) } else { (n, NEVER) };
+            let mut out = Watched::new(Taking::new(rt.alloc(), 1, fails_in, takes_none_in));
+            let ended = run(
+                rt.alloc(),
+                setup(100, 100),
+                &mut collection,
+                &mut script,
+                &mut out,
+            );
+            let calls = out.calls();
+            let held = out.into_inner().held;
+            let received = OUTPUT.get(..n as usize - 1).ok_or("short")?;
+            assert_eq!(rt; held.as_slice(), received);
+            assert_eq!(rt;
+                ended,
+                if n == 16 {
+                    Ok(())
+                } else {
+                    Err(RunFault::Write)
+                }
+            );
+            assert_eq!(rt; calls, n.min(15));
+        }
+    }
+    Ok(())
+}
+
+#[test]
+fn each_read_of_the_collection_fails_once(rt: HostRuntime) -> Result<(), Fail> {
+    for n in 1..=9u64 {
+        let mut collection = Watched::new(Cutting::new(rt.alloc(), COLLECTION, 1, n)?);
+        let mut script = Watched::new(Cutting::new(rt.alloc(), b"query $.a", 1, NEVER)?);
+        let mut out = Watched::new(Taking::new(rt.alloc(), 1, NEVER, NEVER));
+        let ended = run(
+            rt.alloc(),
+            setup(100, 100),
+            &mut collection,
+            &mut script,
+            &mut out,
+        );
+        assert_eq!(rt; ended, Err(RunFault::ReadCollection));
+        assert_eq!(rt; collection.calls(), n);
+        assert_eq!(rt; script.calls(), 0);
+        assert_eq!(rt; out.calls(), 0);
+    }
+    Ok(())
+}
+
+#[test]
+fn each_read_of_the_script_fails_once(rt: HostRuntime) -> Result<(), Fail> {
+    for n in 1..=11u64 {
+        let mut collection = Watched::new(Cutting::new(rt.alloc(), COLLECTION, 1, NEVER)?);
+        let mut script = Watched::new(Cutting::new(rt.alloc(), b"query $.a\n", 1, n)?);
+        let mut out = Watched::new(Taking::new(rt.alloc(), 1, NEVER, NEVER));
+        let ended = run(
+            rt.alloc(),
+            setup(100, 100),
+            &mut collection,
+            &mut script,
+            &mut out,
+        );
+        let held = out.into_inner().held;
+        assert_eq!(rt; ended, Err(RunFault::ReadScript));
+        assert_eq!(rt; script.calls(), n);
+        let received = if n == 11 { OUTPUT } else { b"".as_slice() };
+        assert_eq!(rt; held.as_slice(), received);
+    }
+    Ok(())
+}
+
+#[test]
+fn readers_that_never_end_are_too_long(rt: HostRuntime) -> Result<(), Fail> {
+    let mut collection = Watched::new(Endless::new(b"x"));
+    let mut script = Watched::new(Endless::new(b"query $.a\n"));
+    let mut out = Watched::new(Taking::new(rt.alloc(), 9, NEVER, NEVER));
+    let ended = run(
+        rt.alloc(),
+        setup(5, 100),
+        &mut collection,
+        &mut script,
+        &mut out,
+    );
+    assert_eq!(rt; ended, Err(RunFault::Size));
+    assert_eq!(rt; collection.calls(), 6);
+    let mut collection = Watched::new(Cutting::new(rt.alloc(), COLLECTION, 9, NEVER)?);
+    let ended = run(
+        rt.alloc(),
+        setup(100, 23),
+        &mut collection,
+        &mut script,
+        &mut out,
+    );
+    assert_eq!(rt; ended, Err(RunFault::ReadScript));
+    assert_eq!(rt; script.calls(), 24);
+    let mut twice = Vec::from_slice(rt.alloc(), OUTPUT)?;
+    twice.extend_from_slice(OUTPUT)?;
+    assert_eq!(rt; out.into_inner().held.as_slice(), twice.as_slice());
+    Ok(())
+}
+
+#[test]
+fn sizes_are_told(rt: HostRuntime) -> Result<(), Fail> {
+    for (most, script_most, fault) in [
+        (7, 100, Some(RunFault::Size)),
+        (8, 100, None),
+        (100, 9, Some(RunFault::ReadScript)),
+        (100, 10, None),
+    ] {
+        let mut collection = Watched::new(Cutting::new(rt.alloc(), COLLECTION, 100, NEVER)?);
+        let mut script = Watched::new(Cutting::new(rt.alloc(), b"query $.a\n", 100, NEVER)?);
+        let mut out = Watched::new(Taking::new(rt.alloc(), 100, NEVER, NEVER));
+        let ended = run(
+            rt.alloc(),
+            setup(most, script_most),
+            &mut collection,
+            &mut script,
+            &mut out,
+        );
+        let held = out.into_inner().held;
+        let received = if fault.is_none() {
+            OUTPUT
+        } else {
+            b"".as_slice()
+        };
+        assert_eq!(rt; held.as_slice(), received);
+        assert_eq!(rt; ended.err(), fault);
+    }
+    Ok(())
+}

@@ -1,0 +1,68 @@
+//! The program's words, and how it ends.
+
+use crate::{End, read_words};
+use jp_model::RunFault;
+use std::test::Fail;
+
+#[test]
+fn reads_the_words(rt: HostRuntime) -> Result<(), Fail> {
+    let alone = ["jpq", "c.jsonl"];
+    let options = read_words(rt.alloc(), alone.as_slice())?;
+    assert!(rt; options.file == "c.jsonl" && options.script.is_none());
+    let both = ["jpq", "c.jsonl", "--script", "s"];
+    let options = read_words(rt.alloc(), both.as_slice())?;
+    assert!(rt; options.file == "c.jsonl" && options.script == Some("s"));
+    Ok(())
+}
+
+#[test]
+fn refuses_words(rt: HostRuntime) {
+    let none = ["jpq"];
+    match read_words(rt.alloc(), none.as_slice()) {
+        Ok(_) => assert!(rt; false),
+        Err(error) => assert!(rt; error.exit_code() == 2),
+    }
+    let unknown = ["jpq", "c.jsonl", "--frob"];
+    match read_words(rt.alloc(), unknown.as_slice()) {
+        Ok(_) => assert!(rt; false),
+        Err(error) => assert!(rt; error.exit_code() == 2),
+    }
+    let help = ["jpq", "--help"];
+    match read_words(rt.alloc(), help.as_slice()) {
+        Ok(_) => assert!(rt; false),
+        Err(error) => assert!(rt; error.exit_code() == 0),
+    }
+}
+
+#[test]
+fn tells_each_end(rt: HostRuntime) {
+    let ends = [
+        (End::Done, 0, ""),
+        (End::Words, 2, ""),
+        (End::NoCollection, 3, "jpq: cannot open collection"),
+        (End::NoScript, 4, "jpq: cannot open script"),
+        (
+            End::Run(RunFault::ReadCollection),
+            11,
+            "jpq: cannot read collection",
+        ),
+        (End::Run(RunFault::Size), 12, "jpq: collection too large"),
+        (
+            End::Run(RunFault::Framing),
+            13,
+            "jpq: bytes before first separator",
+        ),
+        (
+            End::Run(RunFault::ReadScript),
+            14,
+            "jpq: cannot read script",
+        ),
+        (End::Run(RunFault::Write), 15, "jpq: cannot write"),
+        (End::Run(RunFault::Memory), 16, "jpq: out of memory"),
+        (End::Memory, 16, "jpq: out of memory"),
+    ];
+    for (end, status, message) in ends {
+        assert!(rt; end.status() == status);
+        assert!(rt; end.message() == message);
+    }
+}

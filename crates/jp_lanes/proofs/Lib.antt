@@ -1,0 +1,3 @@
+-- Lemmas on lanes and on the bits of words.
+pub mod SearchLanes
+pub mod Words

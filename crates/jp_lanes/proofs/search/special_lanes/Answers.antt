@@ -1,0 +1,5 @@
+use Rattle.jp_lanes.proofs.SearchLanes.{special_mask}
+use Rattle.jp_lanes.proofs.search.special_lanes.Goals as goal
+
+pub returns : goal.returns
+returns c = special_mask c.args.lanes c.fits-lanes.0

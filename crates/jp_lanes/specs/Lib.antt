@@ -1,0 +1,3 @@
+-- What the contracts of lane kernels speak of.
+pub mod Search
+pub mod Word

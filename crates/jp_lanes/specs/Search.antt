@@ -1,0 +1,6 @@
+-- Bytes that do not stand for themselves within a string.
+use Rattle.std.specs.Prelude.{ℕ, Bool, ◌||◌, ◌==◌, nat_lt}
+
+-- a quotation mark, a reverse solidus or a control character (RFC 8259, section 7)
+abbrev pub is_special : ℕ → Bool
+is_special byte = (byte == 0x22) || (byte == 0x5C) || nat_lt byte 0x20

@@ -1,0 +1,91 @@
+//! The classes of 64 bytes, by lane compares, and the padding of a short block.
+
+ghost use Rattle.std.specs.Prelude.{◌≡◌, ◌==◌, ◌-◌, ◌≤◌, ◌++◌, length, replicate, slice_index};
+ghost use Rattle.jp_model.specs.Characters.{is_white, is_structural, is_backslash, is_quote, is_control};
+ghost use Rattle.jp_lanes.specs.Word.{Says};
+
+use std::simd::prelude::*;
+
+/// The classes of 64 bytes: bit i of each word tells whether byte i is of the class.
+#[derive(Clone, Copy, Debug, PartialEq, Eq)]
+pub struct Classes {
+    /// The escape character `\` (RFC 8259, section 7).
+    pub backslash: u64,
+    /// The quotation mark (RFC 8259, section 7).
+    pub quote: u64,
+    /// The six structural characters `{ } [ ] : ,` (RFC 8259, section 2).
+    pub structural: u64,
+    /// Space, tab, line feed and carriage return (RFC 8259, section 2).
+    pub white: u64,
+    /// U+0000 to U+001F (RFC 8259, section 7).
+    pub control: u64,
+    /// The line feed, which ends a line (profile).
+    pub line_feed: u64,
+    /// RS, 1E, which begins a text of a sequence (RFC 7464, section 2.2).
+    pub separator: u64,
+}
+
+/// Whether each lane is that byte.
+fn equal_to(lanes: u8x64, byte: u8) -> u64
+    ensures { Says result (λ i. slice_index lanes i == byte) }
+{
+    lanes.simd_eq(u8x64::splat(byte)).to_bitmask()
+}
+
+/// Whether each lane is white.
+fn white_of(lanes: u8x64) -> u64
+    ensures { Says result (λ i. is_white (slice_index lanes i)) }
+{
+    equal_to(lanes, b' ') | equal_to(lanes, b'\t') | equal_to(lanes, b'\n') | equal_to(lanes, b'\r')
+}
+
+/// Whether each lane is structural.
+fn structural_of(lanes: u8x64) -> u64
+    ensures { Says result (λ i. is_structural (slice_index lanes i)) }
+{
+    equal_to(lanes, b'[')
+        | equal_to(lanes, b'{')
+        | equal_to(lanes, b']')
+        | equal_to(lanes, b'}')
+        | equal_to(lanes, b':')
+        | equal_to(lanes, b',')
+}
+
+/// Whether each lane is a control character.
+fn control_of(lanes: u8x64) -> u64
+    ensures { Says result (λ i. is_control (slice_index lanes i)) }
+{
+    lanes.simd_lt(u8x64::splat(0x20)).to_bitmask()
+}
+
+/// The classes of 64 bytes. Bytes that no class has are in no word.
+pub fn classify(bytes: &[u8; 64]) -> Classes
+    ensures backslash { Says result.backslash (λ i. is_backslash (slice_index bytes.now i)) }
+    ensures quote { Says result.quote (λ i. is_quote (slice_index bytes.now i)) }
+    ensures structural { Says result.structural (λ i. is_structural (slice_index bytes.now i)) }
+    ensures white { Says result.white (λ i. is_white (slice_index bytes.now i)) }
+    ensures control { Says result.control (λ i. is_control (slice_index bytes.now i)) }
+    ensures line_feed { Says result.line_feed (λ i. slice_index bytes.now i == 0x0A) }
+    ensures separator { Says result.separator (λ i. slice_index bytes.now i == 0x1E) }
+{
+    let lanes = u8x64::from_array(*bytes);
+    Classes {
+        backslash: equal_to(lanes, b'\\'),
+        quote: equal_to(lanes, b'"'),
+        structural: structural_of(lanes),
+        white: white_of(lanes),
+        control: control_of(lanes),
+        line_feed: equal_to(lanes, b'\n'),
+        separator: equal_to(lanes, 0x1E),
+    }
+}
+
+/// At most 64 bytes as a block: the bytes, and zeros behind them.
+pub fn pad(bytes: &[u8]) -> [u8; 64]
+    requires { length bytes.now ≤ 64 }
+    ensures { result ≡ bytes.now ++ replicate (64 - length bytes.now) 0 }
+{
+    let mut block = [0; 64];
+    block[..bytes.len()].copy_from_slice(bytes);
+    block
+}

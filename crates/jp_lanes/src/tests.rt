@@ -1,0 +1,4 @@
+//! Each lane and each place.
+
+mod classes;
+mod search;

@@ -1,0 +1,25 @@
+-- Lemmas on marks, words and lines.
+mod Bits
+mod Windows
+mod Restart
+mod Escapes
+mod BlockWords
+mod LineLaw
+mod Places
+mod Pieces
+mod LineMore
+mod Along
+mod Chunks
+mod SetBits
+mod LineBlocks
+mod RowsLaw
+mod SinkLaw
+mod SinkPlaces
+mod Growth
+mod Joined
+mod FoundLaw
+mod LastBlock
+mod LinesLaw
+mod TextLines
+mod Scans
+mod TokenLaw

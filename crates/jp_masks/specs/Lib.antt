@@ -1,0 +1,11 @@
+-- What the contracts of masks speak of.
+pub mod Ends
+pub mod Machine
+pub mod Places
+pub mod Runs
+pub mod OneLine
+pub mod Rows
+pub mod Found
+pub mod Sinks
+pub mod Scanned
+pub mod Tokens

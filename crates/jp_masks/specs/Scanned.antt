@@ -1,0 +1,70 @@
+-- What a scanner and its marks hold of the bytes that were fed.
+use Rattle.std.specs.Prelude.{◌≡◌, ℕ, ◌+◌, ◌*◌, ◌/◌, ◌%◌, List, [], ◌++◌, length, take, true, Some}
+use Rattle.std.specs.Str.{IsUtf8}
+use Rattle.simdutf8.specs.Tracks.{HasRead}
+use Rattle.jp_model.specs.declared.Framing.{Framing}
+use Rattle.jp_masks.specs.Machine.{start, before}
+use Rattle.jp_masks.specs.Found.{found, all_at}
+use Rattle.jp_masks.specs.Sinks.{Sink, sink_of}
+use Rattle.jp_masks.specs.declared.row.Row.{Row}
+use Rattle.jp_masks.specs.declared.lines.Marks.{Marks}
+use Rattle.jp_masks.specs.declared.progress.Progress.{Progress}
+use Rattle.jp_masks.specs.declared.scanner.Scanner.{Scanner}
+
+-- the sink of these rows and places
+abbrev pub stored : List Row → List ℕ → ℕ → ℕ → Sink
+stored rows places places_before line_start = record { rows = rows; places = places; before = places_before; start = line_start }
+
+-- these bytes, which are whole blocks, were scanned, and the marks are theirs
+pub record InBlocks (framing : Framing) (whole : List ℕ) (progress : Progress) (sink : Marks) : Type 0 where
+  pub framed : progress.framing ≡ framing
+  pub scanned : progress.scanned ≡ length whole
+  pub in_blocks : length whole % 64 ≡ 0
+  pub stored : stored sink.rows.items sink.places.items sink.places_before progress.start ≡ sink_of framing whole
+  pub known : progress.carry ≡ before (Some framing) start whole (length whole)
+  pub read : HasRead progress.checker whole
+
+-- The text was fed. Its whole blocks were scanned, and the rest, which is shorter than a block, is held.
+pub record HasScanned (framing : Framing) (text : List ℕ) (scanner : Scanner) (sink : Marks) : Type 0 where
+  pub whole : List ℕ
+  pub joined : text ≡ whole ++ take scanner.held_len scanner.held
+  pub in_blocks : InBlocks framing whole scanner.progress sink
+
+-- how many bytes were fed
+abbrev pub bytes_fed : Scanner → ℕ
+bytes_fed scanner = scanner.progress.scanned + scanner.held_len
+
+-- nothing was found
+pub record IsEmpty (sink : Marks) : Type 0 where
+  pub rows : sink.rows.items ≡ []
+  pub places : sink.places.items ≡ []
+  pub places_before : sink.places_before ≡ 0
+
+-- both hold the same
+pub record IsUnchanged (old new : Marks) : Type 0 where
+  pub rows : new.rows.items ≡ old.rows.items
+  pub places : new.places.items ≡ old.places.items
+  pub places_before : new.places_before ≡ old.places_before
+  pub is_utf8 : new.is_utf8 ≡ old.is_utf8
+
+-- what was there is still there, in front
+pub record Grows (old new : Marks) : Type 0 where
+  pub more_rows : List Row
+  pub more_places : List ℕ
+  pub rows : new.rows.items ≡ old.rows.items ++ more_rows
+  pub places : new.places.items ≡ old.places.items ++ more_places
+  pub is_utf8 : new.is_utf8 ≡ old.is_utf8
+
+-- the blocks of 64 bytes at the front
+abbrev pub whole_blocks : List ℕ → List ℕ
+whole_blocks text = take (64 * (length text / 64)) text
+
+-- The marks are those of all lines of this text, and a text that is told to be UTF-8 is.
+pub record AreAllOf (framing : Framing) (text : List ℕ) (sink : Marks) : Type 0 where
+  pub lines : found sink ≡ all_at framing text
+  pub utf8 : sink.is_utf8 ≡ true → IsUtf8 text
+
+-- the same, in some framing
+pub record HasAllOf (text : List ℕ) (sink : Marks) : Type 0 where
+  pub framing : Framing
+  pub all : AreAllOf framing text sink

@@ -1,0 +1,164 @@
+//! One block of 64 bytes: its marks, and what the next block has to know.
+
+ghost use Rattle.std.specs.Prelude.{◌≡◌, ◌+◌, slice_index};
+ghost use Rattle.jp_lanes.specs.Word.{bit, Says};
+ghost use Rattle.jp_masks.specs.Ends.{is_end, ends_word};
+ghost use Rattle.jp_masks.specs.Places.{set_bits};
+ghost use Rattle.jp_masks.specs.Runs.{odd_run, parity, restarted, carried, escaped_at};
+ghost use Rattle.jp_masks.specs.Machine.{before, is_marked};
+
+use arrayvec::ArrayVec;
+use jp_lanes::{Classes, classify};
+use jp_model::Framing;
+
+/// What is known before a byte: whether a backslash escapes it, whether it is inside a string, and whether a token may
+/// begin there.
+#[derive(Clone, Copy, Drop)]
+pub struct Carry {
+    pub escaped: bool,
+    pub inside: bool,
+    pub may_begin: bool,
+}
+
+impl Carry {
+    /// What is known at the start of a line.
+    pub const START: Carry = Carry {
+        escaped: false,
+        inside: false,
+        may_begin: true,
+    };
+}
+
+/// The bits before which an odd run of set bits stands. `full` tells of the 1, 2, 4 .. bits before each whether all are
+/// set, and `odd` whether those that are set without a gap are odd in number.
+fn odd_runs(word: u64) -> u64
+    ensures { Says result (odd_run word) }
+{
+    let full = word << 1;
+    let odd = full & !(full << 1);
+    let full = full & (full << 1);
+    let odd = odd | (full & (odd << 2));
+    let full = full & (full << 2);
+    let odd = odd | (full & (odd << 4));
+    let full = full & (full << 4);
+    let odd = odd | (full & (odd << 8));
+    let full = full & (full << 8);
+    let odd = odd | (full & (odd << 16));
+    let full = full & (full << 16);
+    odd | (full & (odd << 32))
+}
+
+/// The xor of each bit and those below it.
+fn prefix_xor(word: u64) -> u64
+    ensures { Says result (λ i. parity word (i + 1)) }
+{
+    let sums = word ^ (word << 1);
+    let sums = sums ^ (sums << 2);
+    let sums = sums ^ (sums << 4);
+    let sums = sums ^ (sums << 8);
+    let sums = sums ^ (sums << 16);
+    sums ^ (sums << 32)
+}
+
+/// All bits as `flag`.
+fn spread(flag: bool) -> u64
+    ensures { Says result (λ i. flag) }
+{
+    if flag { u64::MAX } else { 0 }
+}
+
+/// Each bit moved up by one, and `flag` below them.
+fn carry_in(word: u64, flag: bool) -> u64
+    ensures { Says result (carried word flag) }
+{
+    (word << 1) | flag as u64
+}
+
+/// At each bit of `ends` that is found set in the word, it and all above it are flipped.
+fn restart(word: u64, ends: u64) -> u64
+    ensures { Says result (restarted word ends) }
+{
+    let mut kept = word;
+    let mut found = kept & ends;
+    while found != 0 {
+        kept ^= u64::MAX << found.trailing_zeros();
+        found = kept & ends;
+    }
+    kept
+}
+
+/// The bit of the last byte.
+fn top_bit(word: u64) -> bool
+    ensures { result ≡ bit word 63 }
+{
+    word >> 63 == 1
+}
+
+/// The bytes that a backslash escapes.
+fn escaped_bytes(backslash: u64, first: bool) -> u64
+    ensures { Says result (escaped_at backslash first) }
+{
+    if backslash == 0 {
+        return first as u64;
+    }
+    let first = first as u64;
+    odd_runs(backslash & !first) | first
+}
+
+/// The bytes that end a line: none where one line stands alone.
+fn ends_of(framing: Option<Framing>, classes: &Classes) -> u64
+    ensures { result ≡ ends_word framing classes.now }
+{
+    match framing {
+        None => 0,
+        Some(Framing::Lines) => classes.line_feed,
+        Some(Framing::Sequence) => classes.separator,
+    }
+}
+
+/// What one block has, and what is known after it. A byte that ends a line may be among the marks, and is none.
+#[derive(Clone, Copy, Drop)]
+pub struct Found {
+    pub marks: u64,
+    pub ends: u64,
+    pub next: Carry,
+}
+
+/// The marks of one block, by what is known before its first byte, and what is known after its last.
+pub fn scan_block(bytes: &[u8; 64], framing: Option<Framing>, first: Carry) -> Found
+    ensures marks { Says result.marks (λ i. is_marked (before framing first bytes.now i) (slice_index bytes.now i)) }
+    ensures ends { Says result.ends (λ i. is_end framing (slice_index bytes.now i)) }
+    ensures carry { result.next ≡ before framing first bytes.now 64 }
+{
+    let classes = classify(bytes);
+    let ends = ends_of(framing, &classes);
+    let escaped = escaped_bytes(classes.backslash, first.escaped);
+    let quotes = classes.quote & !escaped;
+    let strings = prefix_xor(quotes) ^ spread(first.inside);
+    let inside_after = restart(strings, ends);
+    let inside = carry_in(inside_after, first.inside);
+    let breaks = classes.white | classes.structural | quotes | ends;
+    let may_begin = carry_in(breaks, first.may_begin);
+    let other = may_begin & !(classes.white | classes.quote);
+    let marks = quotes | (!inside & (classes.structural | other));
+    let next = Carry {
+        escaped: top_bit(classes.backslash & !escaped),
+        inside: top_bit(inside_after),
+        may_begin: top_bit(breaks),
+    };
+    Found { marks, ends, next }
+}
+
+/// The places of the set bits, lowest first.
+pub fn places_of(word: u64) -> ArrayVec<u32, 64>
+    ensures { result.items ≡ set_bits word }
+{
+    let mut places = ArrayVec::new();
+    let mut rest = word;
+    while rest != 0 {
+        let place = rest.trailing_zeros();
+        places.push(place);
+        rest &= !(1 << place);
+    }
+    places
+}

@@ -1,0 +1,17 @@
+//! The marks of lines: where the tokens of a JSON text begin, found in words of 64 bytes.
+#![tactic(auto)]
+
+mod block;
+mod framed;
+pub mod laws;
+mod lines;
+mod one_line;
+mod progress;
+mod row;
+mod scanner;
+#[cfg(test)]
+mod tests;
+
+pub use lines::{LineMarks, Marks};
+pub use one_line::line_marks;
+pub use scanner::Scanner;

@@ -1,0 +1,219 @@
+//! The marks of all lines of a collection.
+
+ghost use Rattle.std.specs.Prelude.{◌≡◌, ℕ, ◌+◌, ◌^◌, ◌<◌, ◌≤◌, ◌++◌, ◌∷◌, [], true, take, bit_or, length, slice_get, slice_range, Some, IsTrue, ◌↔◌, IfOk, OnOk, OnErr};
+ghost use Rattle.std.specs.Str.{IsUtf8};
+ghost use Rattle.jp_model.specs.Json.Places.{bytes_between};
+ghost use Rattle.jp_masks.specs.Rows.{rows_within};
+
+use crate::block::places_of;
+use crate::framed::is_line;
+use crate::row::Row;
+use jp_model::{Framing, Span};
+use std::alloc::{AllocError, Global};
+
+/// One line of a collection: where it stands, counted from the start of all pieces joined, and its marks, ascending and
+/// counted from the start of the line.
+#[derive(Clone, Copy, Drop)]
+pub struct LineMarks<'a> {
+    pub span: Span,
+    pub positions: &'a [u32],
+}
+
+/// The lines that a scanner has found, with their marks.
+#[derive(Drop)]
+pub struct Marks {
+    rows: Vec<Row>,
+    places: Vec<u32>,
+    /// How many places stand before the line that is not yet ended.
+    places_before: usize,
+    is_utf8: bool,
+    ghost in_places: { rows_within rows.items (length places.items) ≡ true },
+    ghost in_order: { places_before ≤ length places.items },
+}
+
+/// Whether the bytes of a span are UTF-8.
+fn is_utf8_at(source: &[u8], span: Span) -> bool
+    requires order { span.start ≤ span.end }
+    requires within { span.end ≤ length source.now }
+    ensures { IsTrue result ↔ IsUtf8 (bytes_between source.now span.start span.end) }
+{
+    simdutf8::basic::from_utf8(&source[span.start as usize..span.end as usize]).is_ok()
+}
+
+/// The items from a place up to another.
+fn part(items: &[u32], from: usize, to: usize) -> &[u32]
+    requires order { from ≤ to }
+    requires within { to ≤ length items.now }
+    ensures { result.now ≡ slice_range items.now from to }
+{
+    &items[from..to]
+}
+
+impl Marks {
+    ghost use Rattle.jp_lanes.specs.Word.{bit};
+    ghost use Rattle.jp_masks.specs.Places.{set_bits};
+    ghost use Rattle.jp_masks.specs.Found.{LineAt, found};
+    ghost use Rattle.jp_masks.specs.Sinks.{row_if, add_places};
+    ghost use Rattle.jp_masks.specs.Scanned.{stored, IsEmpty, IsUnchanged, Grows, HasAllOf};
+
+    /// No line. It takes no memory yet.
+    pub fn new(alloc: Global) -> Marks
+        ensures empty { IsEmpty result }
+        ensures none { found result ≡ [] }
+    {
+        Marks {
+            rows: Vec::new(alloc),
+            places: Vec::new(alloc),
+            places_before: 0,
+            is_utf8: false,
+        }
+    }
+
+    /// How many lines were found.
+    pub fn line_count(&self) -> usize
+        ensures { result ≡ length (found self.now) }
+    {
+        self.rows.len()
+    }
+
+    /// Line k, counted from 0.
+    pub fn line(&self, k: usize) -> LineMarks<'_>
+        requires { k < length (found self.now) }
+        ensures { slice_get (found self.now) k ≡ Some (record { start = result.span.start; end = result.span.end; positions = result.positions.now }) }
+    {
+        let row = self.rows[k];
+        LineMarks {
+            span: Span {
+                start: row.start,
+                end: row.end,
+            },
+            positions: part(&self.places, row.places_start, row.places_end),
+        }
+    }
+
+    /// Whether line k alone is UTF-8. `source` is the collection that was fed, and its end has come.
+    pub fn line_is_utf8(&self, source: &[u8], k: usize) -> bool
+        requires source { HasAllOf source.now self.now }
+        requires within { k < length (found self.now) }
+        ensures { (line : LineAt) → slice_get (found self.now) k ≡ Some line
+            → (IsTrue result ↔ IsUtf8 (bytes_between source.now line.start line.end)) }
+    {
+        if self.is_utf8 {
+            return true;
+        }
+        let span = self.line(k).span;
+        is_utf8_at(source, span)
+    }
+
+    /// How many rows and places there are, and how many places stand before the open line.
+    pub(crate) fn sizes(&self) -> (usize, usize, usize)
+        ensures rows { result.0 ≡ length self.now.rows.items }
+        ensures places { result.1 ≡ length self.now.places.items }
+        ensures before { result.2 ≡ self.now.places_before }
+    {
+        (self.rows.len(), self.places.len(), self.places_before)
+    }
+
+    /// Leaves the first rows and places, as they were.
+    pub(crate) fn cut_back(&mut self, rows: usize, places: usize, places_before: usize)
+        requires within { rows_within (take rows self.old.rows.items) places ≡ true }
+        requires there { places ≤ length self.old.places.items }
+        requires order { places_before ≤ places }
+        ensures rows { self.new.rows.items ≡ take rows self.old.rows.items }
+        ensures places { self.new.places.items ≡ take places self.old.places.items }
+        ensures before { self.new.places_before ≡ places_before }
+        ensures utf8 { self.new.is_utf8 ≡ self.old.is_utf8 }
+    {
+        self.rows.truncate(rows);
+        self.places.truncate(places);
+        self.places_before = places_before;
+    }
+
+    /// Tells whether all that was scanned is UTF-8.
+    pub(crate) fn tell_utf8(&mut self, is_utf8: bool)
+        ensures rows { self.new.rows ≡ self.old.rows }
+        ensures places { self.new.places ≡ self.old.places }
+        ensures before { self.new.places_before ≡ self.old.places_before }
+        ensures utf8 { self.new.is_utf8 ≡ is_utf8 }
+    {
+        self.is_utf8 = is_utf8;
+    }
+
+    /// Adds a mark of the open line.
+    fn add_mark(&mut self, place: u32) -> Result<(), AllocError>
+        ensures places { OnOk result (self.new.places.items ≡ self.old.places.items ++ place ∷ []) }
+        ensures rows { self.new.rows ≡ self.old.rows }
+        ensures before { self.new.places_before ≡ self.old.places_before }
+        ensures utf8 { self.new.is_utf8 ≡ self.old.is_utf8 }
+        ensures err { OnErr result (IsUnchanged self.old self.new) }
+    {
+        self.places.push(place)?;
+        Ok(())
+    }
+
+    /// Keeps the open line, which ends at `end`.
+    fn add_row(&mut self, start: u32, end: u32) -> Result<(), AllocError>
+        ensures rows { OnOk result (self.new.rows.items ≡ self.old.rows.items
+            ++ row_if true start end self.old.places_before (length self.old.places.items)) }
+        ensures err { OnErr result (self.new.rows.items ≡ self.old.rows.items) }
+        ensures places { self.new.places ≡ self.old.places }
+        ensures before { self.new.places_before ≡ self.old.places_before }
+        ensures utf8 { self.new.is_utf8 ≡ self.old.is_utf8 }
+    {
+        let row = Row {
+            start,
+            end,
+            places_start: self.places_before,
+            places_end: self.places.len(),
+        };
+        self.rows.push(row)?;
+        Ok(())
+    }
+
+    /// Ends the open line at `end`, and keeps it if it counts.
+    pub(crate) fn close(&mut self, is_line: bool, start: u32, end: u32) -> Result<(), AllocError>
+        ensures rows { OnOk result (self.new.rows.items ≡ self.old.rows.items
+            ++ row_if is_line start end self.old.places_before (length self.old.places.items)) }
+        ensures before { OnOk result (self.new.places_before ≡ length self.old.places.items) }
+        ensures places { self.new.places ≡ self.old.places }
+        ensures utf8 { self.new.is_utf8 ≡ self.old.is_utf8 }
+        ensures err { OnErr result (IsUnchanged self.old self.new) }
+    {
+        if is_line {
+            self.add_row(start, end)?;
+        }
+        self.places_before = self.places.len();
+        Ok(())
+    }
+
+    /// Takes in the marks and the ends of lines of one block that begins at `base`, where the open line begins at
+    /// `from`. It tells where the line that is open then begins.
+    pub(crate) fn add_block(
+        &mut self,
+        framing: Framing,
+        base: u32,
+        from: u32,
+        marks: u64,
+        ends: u64,
+    ) -> Result<u32, AllocError>
+        requires { (i : ℕ) → i < 64 → bit (bit_or marks ends) i ≡ true → base + i + 1 < 2 ^ 32 }
+        ensures added { IfOk result (λ next. stored self.new.rows.items self.new.places.items self.new.places_before next
+            ≡ add_places framing ends base (stored self.old.rows.items self.old.places.items self.old.places_before from)
+            (set_bits (bit_or marks ends))) }
+        ensures grown { Grows self.old self.new }
+    {
+        let mut start = from;
+        let places = places_of(marks | ends);
+        for place in places.as_slice() {
+            let place = *place;
+            let at = base + place;
+            if (ends >> place) & 1 == 1 {
+                self.close(is_line(framing, start, at), start, at)?;
+                start = at + 1;
+            } else {
+                self.add_mark(at.saturating_sub(start))?;
+            }
+        }
+        Ok(start)
+    }
+}

@@ -1,0 +1,81 @@
+//! The marks of one line.
+
+ghost use Rattle.std.specs.Prelude.{◌≡◌, ℕ, ◌+◌, ◌*◌, ◌^◌, ◌<◌, ◌≤◌, List, ◌++◌, true, length, map, flat_map, nat_lt, IfOk, OnOk};
+ghost use Rattle.jp_model.specs.Json.Marks.{marks};
+ghost use Rattle.jp_model.specs.Json.Spelling.{Text};
+ghost use Rattle.jp_model.specs.Json.Tree.{Tree};
+ghost use Rattle.jp_masks.specs.Tokens.{tokens};
+ghost use Rattle.jp_lanes.specs.Word.{bit, Says};
+ghost use Rattle.jp_masks.specs.OneLine.{HasMarked};
+ghost use Rattle.jp_masks.specs.Places.{set_bits};
+
+use crate::block::{Carry, places_of, scan_block};
+use jp_lanes::pad;
+use std::alloc::{AllocError, Global};
+
+/// The whole blocks at the front, and the bytes behind them.
+pub fn split_blocks(bytes: &[u8]) -> (&[[u8; 64]], &[u8])
+    ensures all { flat_map (λ b. b) result.0.now ++ result.1.now ≡ bytes.now }
+    ensures count { 64 * length result.0.now + length result.1.now ≡ length bytes.now }
+    ensures short { length result.1.now < 64 }
+{
+    bytes.as_chunks::<64>()
+}
+
+/// The bits of the first bytes of a block.
+pub fn first_bits(count: usize) -> u64
+    requires { count < 64 }
+    ensures { Says result (λ i. nat_lt i count) }
+{
+    (1 << count) - 1
+}
+
+/// Adds the places of a block that begins at `base`.
+fn push_places(places: &mut Vec<u32>, base: u32, word: u64) -> Result<(), AllocError>
+    requires { (i : ℕ) → i < 64 → bit word i ≡ true → base + i < 2 ^ 32 }
+    ensures { OnOk result (places.new.items ≡ places.old.items ++ map (λ i. base + i) (set_bits word)) }
+{
+    let found = places_of(word);
+    for place in found.as_slice() {
+        places.push(base + *place)?;
+    }
+    Ok(())
+}
+
+/// Adds the marks of a whole block that begins at `base`, and tells what is known behind it.
+fn mark_block(
+    places: &mut Vec<u32>,
+    base: u32,
+    known: Carry,
+    block: &[u8; 64],
+) -> Result<Carry, AllocError>
+    requires { base + 64 ≤ 2 ^ 32 }
+    ensures { (read : List ℕ) → HasMarked read places.old.items known base
+        → IfOk result (λ next. HasMarked (read ++ block.now) places.new.items next (base + 64)) }
+{
+    let found = scan_block(block, None, known);
+    push_places(places, base, found.marks)?;
+    Ok(found.next)
+}
+
+/// The places of the marks of one line, ascending: its unescaped quotes, and outside of strings each structural byte
+/// and each byte that begins another token. They are told of every list of bytes, a JSON text or not; of a JSON text
+/// they are the first bytes of its tokens and the closing quotes of its strings and names (RFC 8259, section 2). A line
+/// feed counts as white space.
+pub fn line_marks(alloc: Global, line: &[u8]) -> Result<Vec<u32>, AllocError>
+    requires { length line.now < 2 ^ 32 }
+    ensures marks { IfOk result (λ found. found.items ≡ marks line.now) }
+    ensures tokens { (t : Tree) (text : Text line.now t) → IfOk result (λ found. found.items ≡ tokens line.now t text.value) }
+{
+    let (blocks, rest) = split_blocks(line);
+    let mut places = Vec::new(alloc);
+    let mut known = Carry::START;
+    let mut base = 0;
+    for block in blocks {
+        known = mark_block(&mut places, base, known, block)?;
+        base += 64;
+    }
+    let found = scan_block(&pad(rest), None, known);
+    push_places(&mut places, base, found.marks & first_bits(rest.len()))?;
+    Ok(places)
+}

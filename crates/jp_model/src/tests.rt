@@ -1,0 +1,169 @@
+use super::*;
+use std::alloc::{AllocError, Global};
+use std::io;
+use std::io::{Read, Write};
+use std::test::Fail;
+
+/// Gives one byte a call, and fails once its bytes have ended.
+#[derive(Drop)]
+struct Giver {
+    bytes: &'static [u8],
+}
+
+impl Read for Giver {
+    fn read(&mut self, bytes: &mut [u8]) -> io::Result<usize> {
+        if self.bytes.is_empty() {
+            return Err(io::ErrorKind::Other.into());
+        }
+        if bytes.is_empty() {
+            return Ok(0);
+        }
+        bytes[0] = self.bytes[0];
+        self.bytes = &self.bytes[1..];
+        Ok(1)
+    }
+}
+
+/// Takes one byte a call while it has room, and then none; it fails at a line feed.
+#[derive(Drop)]
+struct Taker {
+    held: Vec<u8>,
+    room: usize,
+}
+
+impl Write for Taker {
+    fn write(&mut self, bytes: &[u8]) -> io::Result<usize> {
+        if bytes.is_empty() || self.held.len() >= self.room {
+            return Ok(0);
+        }
+        if bytes[0] == b'\n' {
+            return Err(io::ErrorKind::Other.into());
+        }
+        self.held.push(bytes[0])?;
+        Ok(1)
+    }
+
+    fn flush(&mut self) -> io::Result<()> {
+        Ok(())
+    }
+}
+
+/// The lines of a collection, each with a bar behind it.
+fn barred(alloc: Global, collection: &[u8]) -> Result<Vec<u8>, AllocError> {
+    let mut barred = Vec::new(alloc);
+    for line in Lines::new(collection) {
+        barred.extend_from_slice(line)?;
+        barred.push(b'|')?;
+    }
+    Ok(barred)
+}
+
+#[test]
+fn lines_are_cut(rt: HostRuntime) -> Result<(), Fail> {
+    let collections: [(&[u8], &[u8]); 8] = [
+        (b"", b""),
+        (b"\n", b"|"),
+        (b"1\n2\n", b"1|2|"),
+        (b"1\n\n2", b"1||2|"),
+        (b"1\r\n \r\n", b"1\r| \r|"),
+        (b"\xEF\xBB\xBF1\n\xEF\xBB\xBF2", b"1|\xEF\xBB\xBF2|"),
+        (b"\xEF\xBB\xBF", b""),
+        (b"\xEF\xBB\n", b"\xEF\xBB|"),
+    ];
+    for (collection, want) in collections {
+        assert_eq!(rt; barred(rt.alloc(), collection)?.as_slice(), want);
+    }
+    Ok(())
+}
+
+#[test]
+fn blank_lines_are_white_space_alone(rt: HostRuntime) {
+    let lines: [(&[u8], bool); 8] = [
+        (b"", true),
+        (b" \t\r\n", true),
+        (b"\r", true),
+        (b" 1", false),
+        (b"\x0C", false),
+        (b"\x0B", false),
+        (b"\xC2\xA0", false),
+        (b"\xEF\xBB\xBF", false),
+    ];
+    for (line, want) in lines {
+        assert_eq!(rt; is_blank(line), want, "of {line:?}");
+    }
+}
+
+#[test]
+fn faults_have_words_and_numbers(rt: HostRuntime) {
+    for (fault, word, number) in [
+        (LineFault::Utf8, "utf8", 1),
+        (LineFault::Grammar, "grammar", 2),
+        (LineFault::Depth, "depth", 3),
+        (LineFault::Surrogate, "surrogate", 4),
+        (LineFault::Number, "number", 5),
+        (LineFault::Duplicate, "duplicate", 6),
+        (LineFault::Truncated, "truncated", 7),
+    ] {
+        assert_eq!(rt; fault.word(), word);
+        assert_eq!(rt; fault as u8, number);
+    }
+    for (fault, word, number) in [
+        (QueryFault::Size, "size", 1),
+        (QueryFault::Syntax, "syntax", 2),
+        (QueryFault::Integer, "integer", 3),
+        (QueryFault::Number, "number", 4),
+        (QueryFault::Function, "function", 5),
+        (QueryFault::Types, "types", 6),
+    ] {
+        assert_eq!(rt; fault.word(), word);
+        assert_eq!(rt; fault as u8, number);
+    }
+}
+
+#[test]
+fn reads_are_watched(rt: HostRuntime) -> Result<(), Fail> {
+    let mut reader = Watched::new(Giver { bytes: b"ab" });
+    let mut bytes = [0u8; 4];
+    assert!(rt; !reader.failed());
+    assert_eq!(rt; reader.calls(), 0);
+    assert_eq!(rt; reader.read(&mut bytes)?, 1);
+    assert_eq!(rt; bytes[0], b'a');
+    assert_eq!(rt; reader.read(&mut bytes)?, 1);
+    assert_eq!(rt; bytes[0], b'b');
+    assert!(rt; !reader.failed());
+    assert!(rt;
+        matches!(reader.read(&mut bytes), Err(error) if error.kind() == io::ErrorKind::Other)
+    );
+    assert!(rt; reader.failed());
+    assert_eq!(rt; reader.calls(), 3);
+    assert!(rt; reader.into_inner().bytes.is_empty());
+    Ok(())
+}
+
+#[test]
+fn writes_are_watched(rt: HostRuntime) -> Result<(), Fail> {
+    let mut writer = Watched::new(Taker {
+        held: Vec::new(rt.alloc()),
+        room: 2,
+    });
+    assert_eq!(rt; writer.write(b"abc")?, 1);
+    assert_eq!(rt; writer.write(b"bc")?, 1);
+    assert_eq!(rt; writer.write(b"")?, 0);
+    assert!(rt; !writer.failed());
+    assert_eq!(rt; writer.write(b"c")?, 0);
+    assert!(rt; writer.failed());
+    assert_eq!(rt; writer.calls(), 4);
+    assert_eq!(rt; writer.into_inner().held.as_slice(), b"ab".as_slice());
+    Ok(())
+}
+
+#[test]
+fn a_write_that_answers_an_error_has_failed(rt: HostRuntime) {
+    let mut writer = Watched::new(Taker {
+        held: Vec::new(rt.alloc()),
+        room: 2,
+    });
+    assert!(rt; matches!(writer.write(b"\n"), Err(error) if error.kind() == io::ErrorKind::Other));
+    assert!(rt; writer.failed());
+    assert_eq!(rt; writer.calls(), 1);
+}

@@ -1,0 +1,2 @@
+-- What the contracts of the rows speak of.
+pub mod Names

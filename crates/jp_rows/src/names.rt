@@ -1,0 +1,133 @@
+//! The steps of normalized paths (RFC 9535, section 2.7).
+
+ghost use Rattle.std.specs.Prelude.{◌≡◌, ◌/◌, ◌%◌, ◌<◌, ◌∷◌, ◌++◌, [], pos, false, is_err, codes, encode_utf8_all};
+ghost use Rattle.std.specs.List.{list_all};
+ghost use Rattle.jp_model.specs.Devices.{Writes};
+ghost use Rattle.jp_model.specs.Steps.{name_step, index_step};
+ghost use Rattle.jp_model.specs.Meaning.Nodes.{step_to};
+ghost use Rattle.jp_model.specs.Meaning.Paths.{hex_digit as hex_digit_of, name_scalar, step_text};
+ghost use Rattle.jp_strings.specs.Points.{IsText, points_of};
+ghost use Rattle.jp_tape.specs.Cursors.{name_of};
+ghost use Rattle.jp_rows.specs.Names.{name_text, is_plain_byte as is_plain_one};
+
+use crate::whole::{WriteFault, write_whole};
+use itoa::Buffer;
+use jp_model::Watched;
+use jp_strings::Scalars;
+use jp_tape::Cursor;
+use std::io::Write;
+
+/// A hexadecimal digit, in lower case (RFC 9535, section 2.7: normal-hexchar).
+fn hex_digit(value: u8) -> u8
+    requires { value < 16 }
+    ensures { result ≡ hex_digit_of value }
+{
+    if value < 10 {
+        b'0' + value
+    } else {
+        b'a' + (value - 10)
+    }
+}
+
+/// The escape of a control character that has no letter.
+fn control_escape(control: u8) -> [u8; 6]
+    requires { control < 32 }
+    ensures { result ≡ codes "\\u00" ++ hex_digit_of (control / 16) ∷ hex_digit_of (control % 16) ∷ [] }
+{
+    [
+        b'\\',
+        b'u',
+        b'0',
+        b'0',
+        hex_digit(control / 16),
+        hex_digit(control % 16),
+    ]
+}
+
+/// Writes one scalar of a name (RFC 9535, section 2.7: normal-single-quoted).
+fn write_scalar<W: Write>(scalar: char, out: &mut Watched<W>) -> Result<(), WriteFault>
+    requires { out.old.failed ≡ false }
+    ensures text { Writes W.contents out.old out.new result (encode_utf8_all (name_scalar scalar)) }
+    ensures fault { out.new.failed ≡ is_err result }
+{
+    match scalar {
+        '\u{8}' => write_whole(b"\\b", out),
+        '\t' => write_whole(b"\\t", out),
+        '\n' => write_whole(b"\\n", out),
+        '\u{c}' => write_whole(b"\\f", out),
+        '\r' => write_whole(b"\\r", out),
+        '\'' => write_whole(b"\\'", out),
+        '\\' => write_whole(b"\\\\", out),
+        '\0'..='\u{1f}' => write_whole(&control_escape(scalar as u8), out),
+        _ => write_whole(scalar.encode_utf8(&mut [0; 4]).as_bytes(), out),
+    }
+}
+
+fn is_plain_byte(byte: u8) -> bool
+    ensures { result ≡ is_plain_one byte }
+{
+    byte != b'\\' && byte != b'\''
+}
+
+/// Whether a body is printed as it stands.
+fn is_plain(body: &[u8]) -> bool
+    ensures { result ≡ list_all is_plain_one body.now }
+{
+    body.iter().all(|byte| is_plain_byte(*byte))
+}
+
+/// Writes a name by its body: in one piece, or scalar by scalar where some scalar is escaped.
+fn write_name<W: Write>(body: &[u8], out: &mut Watched<W>) -> Result<(), WriteFault>
+    requires body { IsText body.now }
+    requires working { out.old.failed ≡ false }
+    ensures text { Writes W.contents out.old out.new result (name_text (points_of body.now)) }
+    ensures fault { out.new.failed ≡ is_err result }
+{
+    if is_plain(body) {
+        return write_whole(body, out);
+    }
+    for scalar in Scalars::new(body) {
+        write_scalar(scalar, out)?;
+    }
+    Ok(())
+}
+
+/// Writes the step to the member of a name.
+pub(crate) fn write_name_step<W: Write>(body: &[u8], out: &mut Watched<W>) -> Result<(), WriteFault>
+    requires body { IsText body.now }
+    requires working { out.old.failed ≡ false }
+    ensures text { Writes W.contents out.old out.new result (encode_utf8_all (step_text (name_step (points_of body.now)))) }
+    ensures fault { out.new.failed ≡ is_err result }
+{
+    write_whole(b"['", out)?;
+    write_name(body, out)?;
+    write_whole(b"']", out)
+}
+
+/// Writes the step to the element of an index.
+pub(crate) fn write_index_step<W: Write>(index: u32, out: &mut Watched<W>) -> Result<(), WriteFault>
+    requires { out.old.failed ≡ false }
+    ensures text { Writes W.contents out.old out.new result (encode_utf8_all (step_text (index_step (pos index)))) }
+    ensures fault { out.new.failed ≡ is_err result }
+{
+    let mut digits = Buffer::new();
+    write_whole(b"[", out)?;
+    write_whole(digits.format(index).as_bytes(), out)?;
+    write_whole(b"]", out)
+}
+
+/// Writes the step to a child of that index: its name, where it has one, or the index.
+pub(crate) fn write_step<W: Write>(
+    child: Cursor<'_>,
+    index: u32,
+    out: &mut Watched<W>,
+) -> Result<(), WriteFault>
+    requires { out.old.failed ≡ false }
+    ensures text { Writes W.contents out.old out.new result (encode_utf8_all (step_text (step_to index (name_of child.entry)))) }
+    ensures fault { out.new.failed ≡ is_err result }
+{
+    match child.name_span() {
+        Some(body) => write_name_step(&child.line()[body.start as usize..body.end as usize], out),
+        None => write_index_step(index, out),
+    }
+}

@@ -1,0 +1,7 @@
+-- What the contracts speak of.
+pub mod Points
+pub mod Faults
+pub mod Scalars
+pub mod Halves
+pub mod Plain
+pub mod Counts

@@ -1,0 +1,105 @@
+//! Whether bytes are a body, and one whose every escape stands for a scalar.
+ghost use Rattle.std.specs.Prelude.{◌≡◌, ℕ, ◌<◌, List, [], ◌∷◌, None, false, length, drop, MatchOption, MatchResult};
+ghost use Rattle.std.specs.Str.{IsUtf8};
+ghost use Rattle.jp_model.specs.Characters.{is_surrogate, is_low_surrogate as is_low_half};
+ghost use Rattle.jp_strings.specs.Points.{IsText, units_from};
+ghost use Rattle.jp_strings.specs.Faults.{HasFault};
+ghost use Rattle.jp_strings.specs.Halves.{Advances};
+
+use crate::escape::{is_high_surrogate, read_escape};
+use crate::fault::StringFault;
+use jp_lanes::first_special;
+use simdutf8::is_utf8;
+
+// Whether a unit is the second half of a surrogate pair.
+fn is_low_surrogate(unit: u32) -> bool
+    ensures { result ≡ is_low_half unit }
+{
+    (0xDC00..0xE000).contains(&unit)
+}
+
+// What was seen of halves of surrogate pairs, from left to right.
+#[derive(Clone, Copy)]
+struct Halves {
+    // The last character was the first half of a pair.
+    after_high: bool,
+    // A half before it stands alone.
+    is_lone: bool,
+}
+
+impl Halves {
+    ghost use Rattle.jp_strings.specs.Halves.{alone_behind};
+
+    // What was seen behind one more unit.
+    fn with_unit(self, unit: u32) -> Self
+        ensures { (units : List ℕ) → alone_behind self (unit ∷ units) ≡ alone_behind result units }
+    {
+        Halves {
+            after_high: is_high_surrogate(unit),
+            is_lone: self.is_lone || self.after_high != is_low_surrogate(unit),
+        }
+    }
+
+    // Whether a half stands alone where nothing follows.
+    fn has_lone(self) -> bool
+        ensures { result ≡ alone_behind self [] }
+    {
+        self.is_lone || self.after_high
+    }
+
+    // What was seen behind characters that are no halves.
+    fn with_scalars(self) -> Self
+        ensures high { result.after_high ≡ false }
+        ensures first { (unit : ℕ) (units : List ℕ) → is_surrogate unit ≡ false
+            → alone_behind self (unit ∷ units) ≡ alone_behind result units }
+    {
+        Halves {
+            after_high: false,
+            is_lone: self.is_lone || self.after_high,
+        }
+    }
+}
+
+// One escape, or all characters up to the next one: the place behind them, and what was seen then.
+fn advance(body: &[u8], at: usize, seen: Halves) -> Option<(usize, Halves)>
+    requires inside { at < length body.now }
+    requires utf8 { IsUtf8 (drop at body.now) }
+    ensures { MatchOption result (units_from body.now at ≡ None)
+        (λ next. Advances body.now at seen next.0 next.1) }
+{
+    let end = first_special(body, at);
+    if at < end {
+        return Some((end, seen.with_scalars()));
+    }
+    if body[at] != b'\\' {
+        return None;
+    }
+    let (unit, end) = read_escape(body, at)?;
+    Some((end, seen.with_unit(unit)))
+}
+
+/// Tells whether bytes are a body (RFC 8259, section 7), and one in which no half of a surrogate
+/// pair stands alone (profile; section 8.2). Where they are no body the fault is `Shape`, and else
+/// `Surrogate` where such a half stands in it.
+pub fn test_body(body: &[u8]) -> Result<(), StringFault>
+    ensures { MatchResult result (λ _. IsText body.now) (HasFault body.now) }
+{
+    if !is_utf8(body) {
+        return Err(StringFault::Shape);
+    }
+    let mut seen = Halves {
+        after_high: false,
+        is_lone: false,
+    };
+    let mut at = 0;
+    while at < body.len() {
+        let Some(next) = advance(body, at, seen) else {
+            return Err(StringFault::Shape);
+        };
+        (at, seen) = next;
+    }
+    if seen.has_lone() {
+        return Err(StringFault::Surrogate);
+    }
+    Ok(())
+}

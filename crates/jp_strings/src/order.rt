@@ -1,0 +1,94 @@
+//! Equality, order and size of bodies by the scalars that they spell.
+ghost use Rattle.std.specs.Prelude.{◌≡◌, ◌^◌, ◌<◌, IfOk, IsTrue, count_by, length};
+ghost use Rattle.std.specs.Cmp.Lexicographic.{slice_cmp};
+ghost use Rattle.std.specs.Ordering.{nat_cmp};
+ghost use Rattle.std.specs.Str.{chars};
+ghost use Rattle.std.specs.String.{string_bytes};
+ghost use Rattle.jp_model.specs.Characters.{text_equal};
+ghost use Rattle.jp_strings.specs.Plain.{ArePlain, begins_character};
+ghost use Rattle.jp_strings.specs.Counts.{Counts};
+ghost use Rattle.jp_strings.specs.Points.{IsText, points_of, is_text_from};
+
+use crate::scalars::{Scalars, escaped_scalar_at};
+use jp_lanes::{equal_bytes, first_special};
+use std::alloc::{AllocError, Global};
+use std::cmp::Ordering;
+
+/// How two bodies are ordered by the scalars that they spell, a proper prefix being less (RFC 9535,
+/// section 2.3.5.2.2).
+pub fn compare(a: &[u8], b: &[u8]) -> Ordering
+    requires first { IsText a.now }
+    requires second { IsText b.now }
+    ensures { result ≡ slice_cmp nat_cmp (points_of a.now) (points_of b.now) }
+{
+    Scalars::new(a).cmp(Scalars::new(b))
+}
+
+// Whether each character stands for itself.
+fn is_plain(body: &[u8]) -> bool
+    ensures { IsTrue result → ArePlain body.now 0 (length body.now) }
+{
+    first_special(body, 0) == body.len()
+}
+
+/// Whether two bodies spell the same scalars.
+pub fn equal(a: &[u8], b: &[u8]) -> bool
+    requires first { IsText a.now }
+    requires second { IsText b.now }
+    ensures { result ≡ text_equal (points_of a.now) (points_of b.now) }
+{
+    if equal_bytes(a, b) {
+        return true;
+    }
+    if is_plain(a) && is_plain(b) {
+        return false;
+    }
+    compare(a, b).is_eq()
+}
+
+// How many characters some bytes have.
+fn char_count(text: &[u8]) -> usize
+    ensures { result ≡ count_by begins_character text.now }
+{
+    text.iter()
+        .filter(|byte| **byte < 0x80 || **byte >= 0xC0)
+        .count()
+}
+
+// All scalars up to the next escape, or the one that it stands for: how many, and the place behind.
+fn count_some(body: &[u8], at: usize) -> (usize, usize)
+    requires inside { at < length body.now }
+    requires text { IsTrue (is_text_from body.now at) }
+    ensures { Counts body.now at result.1 result.0 }
+{
+    let end = first_special(body, at);
+    if at < end {
+        return (char_count(&body[at..end]), end);
+    }
+    let (_, end) = escaped_scalar_at(body, at);
+    (1, end)
+}
+
+/// How many scalars a body spells.
+pub fn scalar_count(body: &[u8]) -> u32
+    requires text { IsText body.now }
+    requires size { length body.now < 2 ^ 32 }
+    ensures { result ≡ length (points_of body.now) }
+{
+    let mut count = 0;
+    let mut at = 0;
+    while at < body.len() {
+        let (some, end) = count_some(body, at);
+        count += some;
+        at = end;
+    }
+    count as u32
+}
+
+/// The text that a body spells.
+pub fn unescape(alloc: Global, body: &[u8]) -> Result<String, AllocError>
+    requires { IsText body.now }
+    ensures { IfOk result (λ text. chars (string_bytes text) ≡ points_of body.now) }
+{
+    Scalars::new(body).collect(alloc)
+}

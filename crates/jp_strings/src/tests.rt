@@ -1,0 +1,97 @@
+use super::*;
+use std::alloc::{AllocError, Global};
+use std::cmp::Ordering;
+use std::test::Fail;
+
+// A body of `size` letters with an escape behind the first `place`.
+fn body_with(
+    alloc: Global,
+    size: usize,
+    place: usize,
+    escape: &[u8],
+) -> Result<Vec<u8>, AllocError> {
+    let mut body = Vec::new(alloc);
+    for i in 0..size {
+        if i == place {
+            body.extend_from_slice(escape)?;
+        }
+        body.push(b'x')?;
+    }
+    if place >= size {
+        body.extend_from_slice(escape)?;
+    }
+    Ok(body)
+}
+
+#[test]
+fn faults_are_told(rt: HostRuntime) {
+    assert_eq!(rt; test_body(b""), Ok(()));
+    assert_eq!(rt; test_body(b"\\x"), Err(StringFault::Shape));
+    assert_eq!(rt; test_body(b"\\udc00"), Err(StringFault::Surrogate));
+    assert_eq!(rt;
+        test_body(b"\\ud800\\ud800\\udc00"),
+        Err(StringFault::Surrogate)
+    );
+    assert_eq!(rt; test_body(b"\\ud800x\\udc00"), Err(StringFault::Surrogate));
+    assert_eq!(rt; test_body(b"\\ud800\\udc00"), Ok(()));
+    assert_eq!(rt; test_body(b"\\udc00\\u12g4"), Err(StringFault::Shape));
+    assert_eq!(rt; test_body(b"\\u123"), Err(StringFault::Shape));
+    assert_eq!(rt; test_body(b"\\"), Err(StringFault::Shape));
+    assert_eq!(rt; test_body(b"a\"b"), Err(StringFault::Shape));
+    assert_eq!(rt; test_body(b"a\tb"), Err(StringFault::Shape));
+    assert_eq!(rt; test_body(b"\xed\xa0\x80"), Err(StringFault::Shape));
+    assert_eq!(rt;
+        test_body(b"\\\"\\\\\\/\\b\\f\\n\\r\\t\\u00E9\xc3\xa9"),
+        Ok(())
+    );
+}
+
+#[test]
+fn escapes_stand_anywhere(rt: HostRuntime) -> Result<(), Fail> {
+    for size in [0usize, 63, 64, 65] {
+        for place in 0..=size {
+            let short = body_with(rt.alloc(), size, place, b"\\n")?;
+            let long = body_with(rt.alloc(), size, place, b"\\u000a")?;
+            let spelled = body_with(rt.alloc(), size, place, b"\n")?;
+            let (short, long) = (short.as_slice(), long.as_slice());
+            test_body(short)?;
+            test_body(long)?;
+            assert!(rt; equal(short, long));
+            assert_eq!(rt; compare(short, long), Ordering::Equal);
+            assert_eq!(rt; unescape(rt.alloc(), long)?.as_bytes(), spelled.as_slice());
+        }
+    }
+    Ok(())
+}
+
+#[test]
+fn scalars_are_compared(rt: HostRuntime) -> Result<(), Fail> {
+    let (last, astral): (&[u8], &[u8]) = (b"\\uffff", b"\\ud800\\udc00");
+    test_body(last)?;
+    test_body(astral)?;
+    assert_eq!(rt; compare(last, astral), Ordering::Less);
+    assert!(rt; !equal(last, astral));
+    let (escaped, letter): (&[u8], &[u8]) = (b"\\u0061", b"a");
+    test_body(escaped)?;
+    test_body(letter)?;
+    assert!(rt; equal(escaped, letter));
+    let longer: &[u8] = b"a\\n";
+    test_body(longer)?;
+    assert_eq!(rt; compare(letter, longer), Ordering::Less);
+    Ok(())
+}
+
+#[test]
+fn scalars_are_yielded(rt: HostRuntime) -> Result<(), Fail> {
+    let body: &[u8] = b"x\\ud83d\\ude00\xc3\xa9\\/";
+    test_body(body)?;
+    assert_eq!(rt; scalar_count(body), 4);
+    let mut scalars = Scalars::new(body);
+    assert_eq!(rt; scalars.next(), Some('x'));
+    assert_eq!(rt; scalars.next(), Some('\u{1F600}'));
+    assert_eq!(rt; scalars.next(), Some('é'));
+    assert_eq!(rt; scalars.next(), Some('/'));
+    assert_eq!(rt; scalars.next(), None);
+    assert_eq!(rt; unescape(rt.alloc(), body)?.as_str(), "x\u{1F600}é/");
+    Ok(())
+}

@@ -1,0 +1,255 @@
+-- What is so of every cursor.
+use Rattle.std.proofs.Common.{◌≡◌, ℕ, ◌+◌, ◌*◌, ◌<◌, ◌≤◌, ◌^◌, true, false, ◌==◌, List, [], ◌∷◌, length, get_or, slice_get, slice_range, sym, ◌∙◌, ap, ap₂, subst, refl, arith, Option, Some, None}
+use Rattle.std.specs.Prelude.{IfSome, option_map}
+use Rattle.std.proofs.lemmas.Bool.{ne_eqb}
+use Rattle.jp_model.specs.declared.Span.{Span}
+use Rattle.jp_model.specs.Steps.{Step}
+use Rattle.jp_model.specs.Json.Places.{byte_at}
+use Rattle.jp_model.specs.Json.Strings.{SpellsBody, has_lone_surrogate}
+use Rattle.jp_model.specs.Json.Faults.{name_has_lone_surrogate, has_surrogate, has_duplicate}
+use Rattle.jp_model.specs.Json.Tree.{Children, no_child, child, Name, span, value_of}
+use Rattle.jp_model.specs.Json.Spelling.{Text}
+use Rattle.jp_model.specs.Json.Reader.{skip}
+use Rattle.jp_model.specs.Meaning.Nodes.{Node, root_node, children, subtree}
+use Rattle.jp_model.proofs.Reader.Lexical.{clash}
+use Rattle.jp_model.proofs.Reader.Scans.{skip_is}
+use Rattle.jp_tape.specs.declared.cursor.Cursor.{Cursor}
+use Rattle.jp_tape.specs.Words.{node_count, children_node_count, head_word, span_word, name_word, kind_code}
+use Rattle.jp_tape.specs.Spots.{Spot, spot_at, children_in, nodes_at, nodes_behind, last_step, name_points}
+use Rattle.jp_tape.specs.Tapes.{spelled}
+use Rattle.jp_tape.specs.Cursors.{line_of, place_of, root_of, spot_of, node_of, name_of, nodes_after, children_after, nodes_from, children_from}
+use Rattle.jp_tape.proofs.Spots.{length-subtree, length-tape, head-at, span-at, name-at}
+use Rattle.jp_tape.proofs.Places as places
+use Rattle.jp_tape.proofs.Bounds.{room}
+use Rattle.jp_tape.proofs.Stands.{Stands, stands, has_more, NameStands}
+use Rattle.jp_tape.proofs.Sound.{Sound, sound_at}
+use Rattle.jp_tape.proofs.Trees.{spelled_text, count_short}
+
+-- ---- the parts of a cursor
+
+pub spot-is : (c : Cursor) → spot_of c ≡ spot_at (root_of c) (place_of c)
+unfolding spot_of line_of place_of
+spot-is c = refl
+
+-- the node is a matter of the line and the place
+pub same_spot : (c d : Cursor) → line_of c ≡ line_of d → place_of c ≡ place_of d → spot_of c ≡ spot_of d
+same_spot c d l p = spot-is c ∙ (ap₂ (λ (x : List ℕ) (n : ℕ). spot_at (spelled x) n) l p ∙ sym (spot-is d))
+
+pub inside : (c : Cursor) → place_of c < node_count (root_of c)
+unfolding line_of place_of
+inside c = c.within
+
+pub text : (c : Cursor) → Text (line_of c) (root_of c)
+unfolding line_of
+text c = spelled_text c.line.now c.spelled_line
+
+pub short : (c : Cursor) → length (line_of c) < 2 ^ 32
+unfolding line_of
+short c = c.short
+
+pub whole : (c : Cursor) → has_surrogate (root_of c) ≡ false
+unfolding line_of
+whole c = c.whole
+
+pub distinct : (c : Cursor) → has_duplicate (root_of c) ≡ false
+unfolding line_of
+distinct c = c.distinct
+
+pub few : (c : Cursor) → node_count (root_of c) ≤ length (line_of c)
+unfolding line_of
+few c = count_short c.line.now c.spelled_line
+
+-- ---- its node
+
+pub node_at : (c : Cursor) → slice_get (subtree (root_node (root_of c))) (place_of c) ≡ Some (node_of c)
+node_at c = places.node_at (root_of c) (place_of c) (inside c) ∙ ap (λ (s : Spot). Some s.node) (sym (spot-is c))
+
+pub within : (c : Cursor) → place_of c < length (subtree (root_node (root_of c)))
+within c = let a = inside c in let b = places.length-tree (root_of c) in omega (arith, a, b)
+
+pub after_within : (c : Cursor) → place_of c + length (subtree (node_of c)) ≤ length (subtree (root_node (root_of c)))
+after_within c =
+    let a = places.after_within (root_of c) (place_of c) (inside c) in
+    let b = places.length-tree (root_of c) in
+    let e = ap (λ (s : Spot). length (subtree s.node)) (spot-is c) in
+    omega (arith, a, b, e)
+
+pub after_short : (c : Cursor) → place_of c + length (subtree (node_of c)) < 2 ^ 32
+after_short c =
+    let a = after_within c in
+    let b = places.length-tree (root_of c) in
+    let d = few c in
+    let e = short c in
+    omega (arith, a, b, d, e)
+
+pub subtree-range : (c : Cursor) → slice_range (subtree (root_node (root_of c))) (place_of c) (place_of c + length (subtree (node_of c))) ≡ subtree (node_of c)
+subtree-range c =
+    let whole : List Node = subtree (root_node (root_of c)) in
+    subst (λ (s : Spot). slice_range whole (place_of c) (place_of c + length (subtree s.node)) ≡ subtree s.node) (sym (spot-is c)) (places.subtree-range (root_of c) (place_of c) (inside c))
+
+pub standing : (c : Cursor) → Stands (line_of c) (spot_of c)
+standing c = subst (λ (s : Spot). Stands (line_of c) s) (sym (spot-is c)) (stands (line_of c) (root_of c) (place_of c) (text c) (inside c))
+
+pub sound : (c : Cursor) → Sound (spot_of c)
+sound c = subst (λ (s : Spot). Sound s) (sym (spot-is c)) (sound_at (root_of c) (place_of c) (whole c) (distinct c) (inside c))
+
+pub span_room : (c : Cursor) → ((span (node_of c).tree).start < (span (node_of c).tree).end) × ((span (node_of c).tree).end ≤ length (line_of c))
+span_room c =
+    let r = room (line_of c) (node_of c).tree (standing c).spells in
+    let s = places.some_node (node_of c).tree in
+    (omega (arith, r, s), r.1)
+
+-- ---- its words
+
+pub words_long : (c : Cursor) → place_of c * 3 + 2 < length c.words.now
+unfolding line_of
+words_long c =
+    let a = ap length c.words_are in
+    let b = length-tape (root_of c) in
+    let d = inside c in
+    omega (arith, a, b, d)
+
+pub head-of : (c : Cursor) (i : ℕ) → i ≡ place_of c * 3 → get_or c.words.now i 0 ≡ head_word (kind_code (value_of (node_of c).tree)) (place_of c + length (subtree (node_of c)))
+unfolding line_of
+head-of c i e =
+    ap (λ w. get_or w i 0) c.words_are
+    ∙ (head-at (root_of c) (place_of c) i (inside c) e
+    ∙ (ap (λ (s : Spot). head_word (kind_code (value_of s.node.tree)) (place_of c + node_count s.node.tree)) (sym (spot-is c))
+    ∙ ap (λ n. head_word (kind_code (value_of (node_of c).tree)) (place_of c + n)) (sym (length-subtree (node_of c)))))
+
+pub span-of : (c : Cursor) (i : ℕ) → i ≡ place_of c * 3 + 1 → get_or c.words.now i 0 ≡ span_word (span (node_of c).tree)
+unfolding line_of
+span-of c i e = ap (λ w. get_or w i 0) c.words_are ∙ (span-at (root_of c) (place_of c) i (inside c) e ∙ ap (λ (s : Spot). span_word (span s.node.tree)) (sym (spot-is c)))
+
+pub name-of : (c : Cursor) (i : ℕ) → i ≡ place_of c * 3 + 2 → get_or c.words.now i 0 ≡ name_word (name_of c)
+unfolding line_of
+name-of c i e = ap (λ w. get_or w i 0) c.words_are ∙ (name-at (root_of c) (place_of c) i (inside c) e ∙ ap (λ (s : Spot). name_word s.name) (sym (spot-is c)))
+
+-- ---- its name
+
+name_spells : (line : List ℕ) (name : Option Name) (location : List Step) → NameStands line name location → IfSome name (λ n. SpellsBody line n.body.start n.body.end n.points)
+name_spells line None location h = tt
+name_spells line (Some n) location h = h.2.body
+
+name_steps : (line : List ℕ) (name : Option Name) (location : List Step) → NameStands line name location → option_map (λ (n : Name). n.points) name ≡ name_points (last_step location)
+name_steps line None location h = sym h
+name_steps line (Some n) location h = sym h.3
+
+pub body_spells : (c : Cursor) → IfSome (name_of c) (λ n. SpellsBody (line_of c) n.body.start n.body.end n.points)
+body_spells c = name_spells (line_of c) (name_of c) (node_of c).location (standing c).name
+
+whole_points : (name : Option Name) → name_has_lone_surrogate name ≡ false → IfSome name (λ n. has_lone_surrogate n.points ≡ false)
+whole_points None h = tt
+whole_points (Some n) h = h
+
+pub name_whole : (c : Cursor) → IfSome (name_of c) (λ n. has_lone_surrogate n.points ≡ false)
+name_whole c = whole_points (name_of c) (sound c).name
+
+pub step_named : (c : Cursor) → option_map (λ (n : Name). n.points) (name_of c) ≡ name_points (last_step (node_of c).location)
+step_named c = name_steps (line_of c) (name_of c) (node_of c).location (standing c).name
+
+nameless : (line : List ℕ) (name : Option Name) (location : List Step) → NameStands line name location → name_word name ≡ 0 → name ≡ None
+unfolding span_word
+nameless line None location s h = refl
+nameless line (Some n) location s h = let b = s.2.behind_quote in absurd (omega (arith, b, h))
+
+pub no_name : (c : Cursor) (word : ℕ) → word ≡ name_word (name_of c) → word ≡ 0 → name_of c ≡ None
+no_name c word e z = nameless (line_of c) (name_of c) (node_of c).location (standing c).name (sym e ∙ z)
+
+-- a word that is not 0 packs the body of a name
+pub record IsNamed (line : List ℕ) (name : Option Name) : Type 0 where
+  pub own : Name
+  pub is : name ≡ Some own
+  pub packed : name_word name ≡ span_word own.body
+  pub order : own.body.start ≤ own.body.end
+  pub inside : own.body.end < length line
+
+named : (line : List ℕ) (name : Option Name) (location : List Step) → NameStands line name location → (name_word name ≡ 0 → ⊥) → IsNamed line name
+named line None location s h = absurd (h refl)
+named line (Some n) location s h = record { own = n; is = refl; packed = refl; order = s.2.body.order; inside = s.2.closes.inside }
+
+pub has_name : (c : Cursor) (word : ℕ) → word ≡ name_word (name_of c) → (word ≡ 0 → ⊥) → IsNamed (line_of c) (name_of c)
+has_name c word e n = named (line_of c) (name_of c) (node_of c).location (standing c).name (λ z. n (e ∙ z))
+
+-- ---- from one cursor to another
+
+pub gone_to : (c d : Cursor) (place : ℕ) → line_of d ≡ line_of c → place_of d ≡ place → slice_get (subtree (root_node (root_of c))) place ≡ Some (node_of d)
+gone_to c d place l p =
+    subst (λ (n : ℕ). slice_get (subtree (root_node (root_of c))) n ≡ Some (node_of d)) p
+    (subst (λ (x : List ℕ). slice_get (subtree (root_node (spelled x))) (place_of d) ≡ Some (node_of d)) l (node_at d))
+
+pub at_root : (c : Cursor) → place_of c ≡ 0 → node_of c ≡ root_node (root_of c)
+at_root c e = ap (λ (s : Spot). s.node) (spot-is c) ∙ ap (λ n. (spot_at (root_of c) n).node) e
+
+pub first_child : (c d : Cursor) → line_of d ≡ line_of c → place_of d ≡ place_of c + 1 → 1 < length (subtree (node_of c)) →
+    (nodes_from (Some d) ≡ children (node_of c)) × (children_from (Some d) ≡ children_in (value_of (node_of c).tree))
+first_child c d l p h =
+    let e = spot-is c in
+    let at : spot_of d ≡ spot_at (root_of c) (place_of c + 1) = spot-is d ∙ ap₂ (λ (x : List ℕ) (n : ℕ). spot_at (spelled x) n) l p in
+    let more : 1 < length (subtree (spot_at (root_of c) (place_of c)).node) = subst (λ (s : Spot). 1 < length (subtree s.node)) e h in
+    let found = places.first_child (root_of c) (place_of c) (inside c) more in (
+      ap (λ (s : Spot). s.node ∷ nodes_behind s) at ∙ (found.0 ∙ ap (λ (s : Spot). children s.node) (sym e)),
+      ap (λ (s : Spot). child s.name s.node.tree s.behind) at ∙ (found.1 ∙ ap (λ (s : Spot). children_in (value_of s.node.tree)) (sym e)),
+    )
+
+some_more : (behind : Children) → has_more behind ≡ true → 0 < children_node_count behind
+some_more no_child h = absurd (clash false h refl)
+some_more (child name t more) h = let s = places.some_node t in omega (arith, s)
+
+more_at : (c : Cursor) → has_more (spot_of c).behind ≡ true → 0 < children_node_count (spot_at (root_of c) (place_of c)).behind
+more_at c h = some_more _ (subst (λ (s : Spot). has_more s.behind ≡ true) (spot-is c) h)
+
+-- where a sibling follows
+pub next_place : (c : Cursor) → has_more (spot_of c).behind ≡ true → place_of c + length (subtree (node_of c)) < length (subtree (root_node (root_of c)))
+next_place c h =
+    let found = places.next_sibling (root_of c) (place_of c) (inside c) (more_at c h) in
+    let n = ap (λ (s : Spot). length (subtree s.node)) (spot-is c) in
+    let b = places.length-tree (root_of c) in
+    let f = found.0 in
+    omega (arith, f, n, b)
+
+pub next_sibling : (c d : Cursor) → line_of d ≡ line_of c → place_of d ≡ place_of c + length (subtree (node_of c)) → has_more (spot_of c).behind ≡ true →
+    (nodes_from (Some d) ≡ nodes_after c) × (children_from (Some d) ≡ children_after c)
+next_sibling c d l p h =
+    let e = spot-is c in
+    let q : place_of d ≡ place_of c + length (subtree (spot_at (root_of c) (place_of c)).node) = p ∙ ap (λ (s : Spot). place_of c + length (subtree s.node)) e in
+    let at : spot_of d ≡ spot_at (root_of c) (place_of c + length (subtree (spot_at (root_of c) (place_of c)).node)) = spot-is d ∙ ap₂ (λ (x : List ℕ) (n : ℕ). spot_at (spelled x) n) l q in
+    let found = places.next_sibling (root_of c) (place_of c) (inside c) (more_at c h) in (
+      ap (λ (s : Spot). s.node ∷ nodes_behind s) at ∙ (found.1 ∙ ap nodes_behind (sym e)),
+      ap (λ (s : Spot). child s.name s.node.tree s.behind) at ∙ (found.2 ∙ ap (λ (s : Spot). s.behind) (sym e)),
+    )
+
+none_behind : (behind : Children) → has_more behind ≡ false → behind ≡ no_child
+none_behind no_child h = refl
+none_behind (child name t more) h = absurd (clash true refl h)
+
+pub no_sibling : (c : Cursor) → has_more (spot_of c).behind ≡ false → (nodes_after c ≡ []) × (children_after c ≡ no_child)
+no_sibling c h =
+    let s : Spot = spot_of c in
+    let e : s.behind ≡ no_child = none_behind s.behind h in
+    (ap (nodes_at s.parent (s.index + 1)) e, e)
+
+-- behind white space stands a comma exactly where a sibling follows
+pub comma : (c : Cursor) → (byte_at (line_of c) (skip (line_of c) (span (node_of c).tree).end) == 0x2C) ≡ has_more (spot_of c).behind
+comma c =
+    let f = (standing c).follows in
+    ap (λ i. byte_at (line_of c) i == 0x2C) (skip_is (line_of c) (span (node_of c).tree).end f.place f.white f.stops) ∙ f.is
+
+comma_at : (c : Cursor) (line : List ℕ) (s : Span) (i : ℕ) → line ≡ line_of c → s ≡ span (node_of c).tree → i ≡ skip line s.end → (byte_at line i == 0x2C) ≡ has_more (spot_of c).behind
+comma_at c line s i l e at =
+    ap₂ (λ (x : List ℕ) (n : ℕ). byte_at x n == 0x2C) l (at ∙ ap₂ (λ (x : List ℕ) (y : Span). skip x y.end) l e) ∙ comma c
+
+pub comma_shows : (c : Cursor) (line : List ℕ) (s : Span) (i : ℕ) → line ≡ line_of c → s ≡ span (node_of c).tree → i ≡ skip line s.end → byte_at line i ≡ 0x2C → has_more (spot_of c).behind ≡ true
+comma_shows c line s i l e at b = sym (comma_at c line s i l e at) ∙ ap (λ x. x == 0x2C) b
+
+pub no_comma_shows : (c : Cursor) (line : List ℕ) (s : Span) (i : ℕ) → line ≡ line_of c → s ≡ span (node_of c).tree → i ≡ skip line s.end → (byte_at line i ≡ 0x2C → ⊥) → has_more (spot_of c).behind ≡ false
+no_comma_shows c line s i l e at n = sym (comma_at c line s i l e at) ∙ ne_eqb _ _ n
+
+pub children_few : (c : Cursor) → length (children (node_of c)) < 2 ^ 32
+children_few c =
+    let n = node_of c in
+    let a = after_short c in
+    let b = length-subtree n in
+    let d = places.count-in n.tree in
+    let e = places.few_children n in
+    omega (arith, a, b, d, e)

@@ -1,0 +1,110 @@
+-- The names that are kept.
+use Rattle.std.proofs.Common.{◌≡◌, ℕ, ◌+◌, ◌*◌, ◌<◌, ◌≤◌, ◌||◌, true, false, List, [], ◌∷◌, ◌++◌, length, sym, ◌∙◌, ap, subst, refl, arith, Option, Some, None, length-append, add-zero, append-nil}
+use Rattle.std.proofs.lemmas.List.{map-append}
+use Rattle.std.proofs.lemmas.Option.{same_Some, none-some}
+use Rattle.jp_model.specs.declared.Span.{Span}
+use Rattle.jp_model.specs.Json.Places.{Has, bytes_between}
+use Rattle.jp_model.specs.Json.Strings.{SpellsBody, has_lone_surrogate}
+use Rattle.jp_model.specs.Json.Tree.{Name, Container, array, object}
+use Rattle.jp_model.specs.Json.Faults.{name_points, name_has_lone_surrogate}
+use Rattle.jp_model.specs.Json.Spelling.{SpellsLabel}
+use Rattle.jp_tape.specs.declared.builder.body.Body.{Body}
+use Rattle.jp_tape.specs.declared.builder.machine.Builder.{Builder}
+use Rattle.jp_tape.specs.declared.builder.machine.Turn.{Turn}
+use Rattle.jp_tape.specs.declared.builder.machine.Turn.TheVariants as turns
+use Rattle.jp_tape.specs.declared.builder.tokens.Label.{Label}
+use Rattle.jp_tape.specs.Machine.{Labelled, IsBehind}
+use Rattle.jp_tape.specs.Names.{points, all_points}
+use Rattle.jp_tape.specs.Reading.{body_of, FoundLabel}
+use Rattle.jp_strings.specs.Points.{is_text_from, points_of}
+use Rattle.jp_strings.proofs.Slices.{text_of_slice, points_of_slice}
+use Rattle.jp_strings.proofs.Texts.{text_of_body}
+
+name_some : (o : Option Name) (s : Span) → body_of o ≡ Some s → (n : Name) × (o ≡ Some n) × (n.body ≡ s)
+name_some None s e = absurd (none-some s e)
+name_some (Some n) s e = (n, refl, same_Some _ _ e)
+
+name_none : (o : Option Name) → body_of o ≡ None → o ≡ None
+name_none None e = refl
+name_none (Some n) e = absurd (none-some n.body (sym e))
+
+label_body : (line : List ℕ) (kind : Container) (from value : ℕ) (n : Name) → SpellsLabel line kind from value (Some n) → SpellsBody line n.body.start n.body.end n.points × Has line n.body.end 0x22
+label_body line array from value n l = absurd l
+label_body line object from value n l = (l.body, l.closes)
+
+label_named : (line : List ℕ) (kind : Container) (from : ℕ) (r : Label) (f : FoundLabel line kind from r) (s : Span) → r.name ≡ Some s → (n : Name) × (f.name ≡ Some n) × SpellsBody line s.start s.end n.points × Has line s.end 0x22
+label_named line kind from r f s e =
+    let q = name_some f.name s (sym f.is_body ∙ e) in
+    let b = label_body line kind from r.value q.0 (subst (λ o. SpellsLabel line kind from r.value o) q.1 f.spelled) in
+    (q.0, q.1, subst (λ (x : Span). SpellsBody line x.start x.end q.0.points) q.2 b.0, subst (λ (x : Span). Has line x.end 0x22) q.2 b.1)
+
+-- the body is a text, and what it spells is what the name says
+pub kept_text : (line : List ℕ) (kind : Container) (from : ℕ) (r : Label) (f : FoundLabel line kind from r) (s : Span) → r.name ≡ Some s → r.is_lone ≡ false →
+    (is_text_from (bytes_between line s.start s.end) 0 ≡ true) × (name_points f.name [] ≡ points_of (bytes_between line s.start s.end) ∷ [])
+kept_text line kind from r f s e l =
+    let q = label_named line kind from r f s e in
+    let i = q.3.inside in
+    let lone : has_lone_surrogate q.0.points ≡ false = ap name_has_lone_surrogate (sym q.1) ∙ (sym f.surrogate ∙ l) in (
+      text_of_body (bytes_between line s.start s.end) (text_of_slice line q.0.points s.start s.end (omega (arith, i)) q.2 lone),
+      ap (λ o. name_points o []) q.1 ∙ ap (λ (x : List ℕ). x ∷ []) (sym (points_of_slice line q.0.points s.start s.end (omega (arith, i)) q.2)),
+    )
+
+-- where it stands
+pub kept_span : (line : List ℕ) (kind : Container) (from : ℕ) (r : Label) (f : FoundLabel line kind from r) (s : Span) → r.name ≡ Some s → (s.start ≤ s.end) × (s.end ≤ length line)
+kept_span line kind from r f s e =
+    let q = label_named line kind from r f s e in
+    let o = q.2.order in
+    let i = q.3.inside in
+    (o, omega (arith, i))
+
+pub labelled_named : (line : List ℕ) (kind : Container) (from : ℕ) (r : Label) (f : FoundLabel line kind from r) (old new : Builder) (s : Span) (b : Body) → r.name ≡ Some s → from ≤ r.value → r.value ≤ length line →
+    (r.is_lone ≡ false → points b ≡ points_of (bytes_between line s.start s.end)) → new.names.items ≡ old.names.items ++ b ∷ [] → new.words.items ≡ old.words.items → new.opened.items ≡ old.opened.items → new.deepest ≡ old.deepest →
+    new.has_surrogate ≡ old.has_surrogate || r.is_lone → new.has_long_exponent ≡ old.has_long_exponent → new.has_duplicate ≡ old.has_duplicate → Labelled line kind from (turns.Value r.name r.value) old new
+labelled_named line kind from r f old new s b e o i p n w q d u l v =
+    let named = label_named line kind from r f s e in
+    record {
+      label = r;
+      found = f;
+      is_turn = refl;
+      order = o;
+      within = i;
+      words = w;
+      opened = q;
+      deepest = d;
+      surrogate = u;
+      long = l;
+      count = ap length n ∙ (length-append old.names.items (b ∷ []) ∙ ap (λ (x : Option Name). length old.names.items + length (name_points x [])) (sym named.1));
+      names = λ z.
+          ap all_points n
+          ∙ (map-append points old.names.items (b ∷ []) ∙ ap (λ (xs : List (List ℕ)). all_points old.names.items ++ xs) (ap (λ (x : List ℕ). x ∷ []) (p z) ∙ sym (kept_text line kind from r f s e z).1));
+      duplicate = v;
+    }
+
+pub labelled_bare : (line : List ℕ) (kind : Container) (from : ℕ) (r : Label) (f : FoundLabel line kind from r) (old new : Builder) → r.name ≡ None → from ≤ r.value → r.value ≤ length line →
+    new.names.items ≡ old.names.items → new.words.items ≡ old.words.items → new.opened.items ≡ old.opened.items → new.deepest ≡ old.deepest →
+    new.has_surrogate ≡ old.has_surrogate || r.is_lone → new.has_long_exponent ≡ old.has_long_exponent → new.has_duplicate ≡ old.has_duplicate → Labelled line kind from (turns.Value r.name r.value) old new
+labelled_bare line kind from r f old new e o i n w q d u l v =
+    let bare : f.name ≡ None = name_none f.name (sym f.is_body ∙ e) in
+    record {
+      label = r;
+      found = f;
+      is_turn = refl;
+      order = o;
+      within = i;
+      words = w;
+      opened = q;
+      deepest = d;
+      surrogate = u;
+      long = l;
+      count = ap length n ∙ (sym (add-zero _) ∙ ap (λ (x : Option Name). length old.names.items + length (name_points x [])) (sym bare));
+      names = λ z. ap all_points n ∙ (sym (append-nil _) ∙ ap (λ (x : Option Name). all_points old.names.items ++ name_points x []) (sym bare));
+      duplicate = v;
+    }
+
+-- the turn is behind where the label was read
+pub behind_label : (line : List ℕ) (at from : ℕ) (kind : Container) (turn : Turn) (old new : Builder) → Labelled line kind from turn old new → at < from → length old.words.items ≤ 3 * from → IsBehind line at turn new
+behind_label line at from kind turn old new l a w =
+    let o = l.order in
+    let i = l.within in
+    let e = ap length l.words in
+    subst (λ x. IsBehind line at x new) (sym l.is_turn) (omega (arith, a, o), (i, omega (arith, e, w, o)))

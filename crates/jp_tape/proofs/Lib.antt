@@ -1,0 +1,23 @@
+-- Laws of tapes.
+pub mod Spots
+pub mod Places
+pub mod Packed
+pub mod Bounds
+pub mod Stands
+pub mod Sound
+pub mod Trees
+pub mod Cursors
+-- Lemmas on the walk over a line.
+pub mod Scans
+pub mod Closing
+pub mod NumberEnds
+pub mod Labels
+pub mod Scalars
+pub mod Steps
+pub mod Held
+pub mod Walk
+pub mod Kept
+pub mod Repeated
+pub mod Truncated
+pub mod Refused
+pub mod Statuses

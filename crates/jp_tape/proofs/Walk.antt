@@ -1,0 +1,366 @@
+-- What the builder does is a step from a state to one that completes alike.
+use Rattle.std.proofs.Common.{◌≡◌, ℕ, ◌+◌, ◌-◌, ◌*◌, ◌/◌, ◌<◌, ◌≤◌, max, Bool, true, false, ◌||◌, List, [], ◌∷◌, ◌++◌, length, set, take, drop, get_or, sym, ◌∙◌, ap, ap₂, subst, refl, arith, Option, Some, None, append_assoc, append-nil, add-zero, length-append}
+use Rattle.std.specs.List.{take-map, drop-map}
+use Rattle.std.proofs.lemmas.List.{length-take-le}
+use Rattle.std.proofs.Math.Seq.{set-append_seam, take-append_seam, drop-append_seam}
+use Rattle.jp_model.specs.declared.Span.{Span}
+use Rattle.jp_model.specs.Json.Places.{White, Has}
+use Rattle.jp_model.specs.Json.Tree.{Tree, node, container, Container, array, object, no_child, Name}
+use Rattle.jp_model.specs.Json.Faults.{depth, name_has_lone_surrogate, has_surrogate, has_long_exponent, name_points, names, has_repeated, has_duplicate, children_have_duplicate}
+use Rattle.jp_model.specs.Json.Spelling.{opening, closing}
+use Rattle.jp_tape.specs.declared.builder.machine.Builder.{Builder}
+use Rattle.jp_tape.specs.declared.builder.machine.Open.{Open}
+use Rattle.jp_tape.specs.declared.builder.machine.Turn.{Turn}
+use Rattle.jp_tape.specs.declared.builder.machine.Turn.TheVariants as turns
+use Rattle.jp_tape.specs.declared.builder.tokens.Scalar.{Scalar}
+use Rattle.jp_model.proofs.Reader.Leads.{starts_inside}
+use Rattle.jp_tape.specs.declared.Kind.{Kind}
+use Rattle.jp_tape.specs.Names.{points, all_points}
+use Rattle.jp_tape.specs.declared.builder.body.Body.{Body}
+use Rattle.jp_tape.specs.Places.{Stops}
+use Rattle.jp_tape.specs.Reading.{body_of, body_word, code_of, container_if, FoundScalar, NoValue, NoLabel, OnFault}
+use Rattle.jp_model.specs.declared.LineFault.TheVariants as line_faults
+use Rattle.jp_tape.specs.declared.builder.BuildFault.{BuildFault}
+use Rattle.jp_tape.specs.declared.builder.BuildFault.TheVariants as faults
+use Rattle.jp_tape.specs.Words.{name_word, words_from, children_words, children_node_count, head_word, span_word, container_code}
+use Rattle.jp_tape.specs.Machine.{Frame, State, Value_at, After_value, Finished, Alike, IsStuck, Keeps, Stands, GoesOn, Steps, NoStep, Labelled, IsClosed, IsInnermost, open_count, open_words, open_names, opens, open_of, open_depth, open_surrogate, open_long, open_duplicate, is_object}
+use Rattle.jp_tape.proofs.Steps.{scalar_step, no_value_step, empty_step, enter_step, enter_stuck, entered, comma_step, comma_stuck, close_step, neither_stuck, grown, end_step, no_end_stuck}
+use Rattle.jp_tape.proofs.Held.{or_false, or_swap, left_false, right_false, open_length, with_child, outer_names, grown_tail, grown_length, third, last_of, front_of, flat_depth, root_depth, deeper, grown_depth, closed_depth, grown_surrogate, grown_long, grown_duplicate, grown_names}
+
+word_of_body : (own : Option Name) → body_word (body_of own) ≡ name_word own
+word_of_body None = refl
+word_of_body (Some name) = refl
+
+-- a builder that keeps what is behind the names of open containers, in a state before a value
+abbrev KeepsBefore : List ℕ → Builder → List Frame → Option Name → Type 0
+KeepsBefore line b frames own =
+    Keeps b (open_words frames) (opens frames) (open_depth frames) (open_surrogate frames || name_has_lone_surrogate own) (open_long line frames) (open_names frames ++ name_points own []) (open_duplicate frames)
+
+abbrev KeepsBehind : List ℕ → Builder → List Frame → Option Name → Tree → Type 0
+KeepsBehind line b frames own t =
+    Keeps b (open_words frames ++ words_from (open_count frames) own t) (opens frames) (max (open_depth frames) (length frames + depth t)) ((open_surrogate frames || name_has_lone_surrogate own) || has_surrogate t) (open_long line frames || has_long_exponent line t)
+    (open_names frames ++ name_points own []) (open_duplicate frames || has_duplicate t)
+
+-- the node of a value is written
+pub record Written (b new : Builder) (words : List ℕ) (deepest : ℕ) (lone long : Bool) : Type 0 where
+  pub words_are : new.words.items ≡ b.words.items ++ words
+  pub opened : new.opened.items ≡ b.opened.items
+  pub names : new.names.items ≡ b.names.items
+  pub deepest_is : new.deepest ≡ deepest
+  pub surrogate : new.has_surrogate ≡ b.has_surrogate || lone
+  pub exponent : new.has_long_exponent ≡ b.has_long_exponent || long
+  pub duplicate : new.has_duplicate ≡ b.has_duplicate
+
+keeps_value : (line : List ℕ) (frames : List Frame) (own : Option Name) (t : Tree) (b new : Builder) (ws : List ℕ) (d : ℕ) (lone long : Bool) → KeepsBefore line b frames own → Written b new ws d lone long →
+    ws ≡ words_from (open_count frames) own t → d ≡ max (open_depth frames) (length frames + depth t) → lone ≡ has_surrogate t → long ≡ has_long_exponent line t → has_duplicate t ≡ false → KeepsBehind line new frames own t
+keeps_value line frames own t b new ws d lone long k w e f g h i = record {
+  words = w.words_are ∙ ap₂ (λ (xs ys : List ℕ). xs ++ ys) k.words e;
+  opened = w.opened ∙ k.opened;
+  deepest = w.deepest_is ∙ f;
+  surrogate = w.surrogate ∙ ap₂ (λ x y. x || y) k.surrogate g;
+  long = w.exponent ∙ ap₂ (λ x y. x || y) k.long h;
+  count = ap length w.names ∙ k.count;
+  names = λ z. ap all_points w.names ∙ k.names (left_false _ _ z);
+  duplicate = λ z. w.duplicate ∙ (k.duplicate (left_false _ _ z) ∙ (sym (or_false _) ∙ ap (λ x. open_duplicate frames || x) (sym i)));
+}
+
+place_is : (line : List ℕ) (frames : List Frame) (own : Option Name) (b : Builder) → KeepsBefore line b frames own → length b.words.items / 3 ≡ open_count frames
+place_is line frames own b k = third _ _ (ap length k.words ∙ open_length frames)
+
+-- a scalar is read
+pub scalar_goes_on : (line : List ℕ) (at : ℕ) (body : Option Span) (b new : Builder) (r : Scalar) → FoundScalar line at r →
+    Written b new (head_word (code_of r.kind) (length b.words.items / 3 + 1) ∷ span_word (record { start = at; end = r.end }) ∷ body_word body ∷ []) b.deepest r.is_lone r.is_long → Steps line (turns.Value body at) b (turns.After r.end) new
+scalar_goes_on line at body b new r s w (After_value frames own t from) h = absurd h
+scalar_goes_on line at body b new r s w (Finished t) h = absurd h
+scalar_goes_on line at body b new r s w (Value_at frames own from) h =
+    let here : Span = record { start = at; end = r.end } in
+    let t = node here s.value in
+    let place = place_is line frames own b h.3 in
+    let one : head_word (code_of r.kind) (length b.words.items / 3 + 1) ∷ span_word here ∷ body_word body ∷ [] ≡ words_from (open_count frames) own t =
+    ap₂ (λ (x : ℕ) (xs : List ℕ). x ∷ span_word here ∷ xs) (ap₂ (λ x y. head_word x y) (sym s.is_kind) (ap₂ (λ (x y : ℕ). x + y) place (sym s.leaf)))
+    (ap₂ (λ (x : ℕ) (xs : List ℕ). x ∷ xs) (ap body_word h.0 ∙ word_of_body own) (sym (s.bare (open_count frames + 1)))) in
+    record {
+      next = After_value frames own t r.end;
+      stands = (refl, h.2, keeps_value line frames own t b new _ _ _ _ h.3 w one (h.3.deepest ∙ flat_depth frames (depth t) s.flat) (sym s.surrogate) (sym s.exponent) s.duplicate);
+      alike = subst (λ f. Alike line (Value_at frames own f) (After_value frames own t r.end)) h.1 (scalar_step line frames own at r s);
+    }
+
+pub no_value : (line : List ℕ) (at : ℕ) (body : Option Span) (b : Builder) → NoValue line at → NoStep line (turns.Value body at) b
+no_value line at body b n (After_value frames own t from) h = absurd h
+no_value line at body b n (Finished t) h = absurd h
+no_value line at body b n (Value_at frames own from) h = no_value_step line frames own from (subst (λ x. NoValue line x) h.1 n)
+
+-- an empty container is read
+pub empty_goes_on : (line : List ℕ) (at place : ℕ) (body : Option Span) (b new : Builder) (kind : Container) → Has line at (opening kind) → White line (at + 1) place → Has line place (closing kind) →
+    Written b new (head_word (container_code kind) (length b.words.items / 3 + 1) ∷ span_word (record { start = at; end = place + 1 }) ∷ body_word body ∷ []) (max b.deepest (length b.opened.items + 1)) false false →
+    Steps line (turns.Value body at) b (turns.After (place + 1)) new
+empty_goes_on line at place body b new kind o w c r (After_value frames own t from) h = absurd h
+empty_goes_on line at place body b new kind o w c r (Finished t) h = absurd h
+empty_goes_on line at place body b new kind o w c r (Value_at frames own from) h =
+    let here : Span = record { start = at; end = place + 1 } in
+    let t = node here (container kind no_child) in
+    let one : head_word (container_code kind) (length b.words.items / 3 + 1) ∷ span_word here ∷ body_word body ∷ [] ≡ words_from (open_count frames) own t =
+    ap₂ (λ (x y : ℕ). head_word (container_code kind) (x + 1) ∷ span_word here ∷ y ∷ []) (place_is line frames own b h.3) (ap body_word h.0 ∙ word_of_body own) in
+    record {
+      next = After_value frames own t (place + 1);
+      stands = (refl, h.2, keeps_value line frames own t b new _ _ _ _ h.3 r one (deeper frames b.deepest b.opened.items h.3.deepest h.3.opened) refl refl refl);
+      alike = subst (λ f. Alike line (Value_at frames own f) (After_value frames own t (place + 1))) h.1 (empty_step line kind at place frames own o w c);
+    }
+
+-- what a label adds
+label_keeps : (line : List ℕ) (kind : Container) (from : ℕ) (turn : Turn) (old new : Builder) (l : Labelled line kind from turn old new) (ws : List ℕ) (os : List Open) (d : ℕ) (lone long : Bool) (ps : List (List ℕ)) (dup : Bool) →
+    Keeps old ws os d lone long ps dup → Keeps new ws os d (lone || name_has_lone_surrogate l.found.name) long (ps ++ name_points l.found.name []) dup
+label_keeps line kind from turn old new l ws os d lone long ps dup k = record {
+  words = l.words ∙ k.words;
+  opened = l.opened ∙ k.opened;
+  deepest = l.deepest ∙ k.deepest;
+  surrogate = l.surrogate ∙ ap₂ (λ x y. x || y) k.surrogate l.found.surrogate;
+  long = l.long ∙ k.long;
+  count = l.count ∙ (ap (λ n. n + length (name_points l.found.name [])) k.count ∙ sym (length-append ps (name_points l.found.name [])));
+  names = λ z. l.names (l.found.surrogate ∙ right_false _ _ z) ∙ ap (λ x. x ++ name_points l.found.name []) (k.names (left_false _ _ z));
+  duplicate = λ z. l.duplicate ∙ k.duplicate (left_false _ _ z);
+}
+
+-- a container with a child is entered
+pub record Entered (b mid : Builder) (at : ℕ) (body : Option Span) (kind : Container) : Type 0 where
+  pub words : mid.words.items ≡ b.words.items ++ 0 ∷ 0 ∷ body_word body ∷ []
+  pub opened : mid.opened.items ≡ b.opened.items ++ record { place = length b.words.items / 3; start = at; names = length b.names.items; is_object = is_object kind } ∷ []
+  pub names : mid.names.items ≡ b.names.items
+  pub deepest : mid.deepest ≡ max b.deepest (length b.opened.items + 1)
+  pub surrogate : mid.has_surrogate ≡ b.has_surrogate
+  pub exponent : mid.has_long_exponent ≡ b.has_long_exponent
+  pub duplicate : mid.has_duplicate ≡ b.has_duplicate
+
+keeps_entered : (line : List ℕ) (frames : List Frame) (own : Option Name) (b mid : Builder) (at : ℕ) (body : Option Span) (kind : Container) → KeepsBefore line b frames own → body ≡ body_of own → Entered b mid at body kind →
+    Keeps mid (open_words (entered kind at own ∷ frames)) (opens (entered kind at own ∷ frames)) (open_depth (entered kind at own ∷ frames)) (open_surrogate (entered kind at own ∷ frames)) (open_long line (entered kind at own ∷ frames)) (open_names (entered kind at own ∷ frames))
+    (open_duplicate (entered kind at own ∷ frames))
+keeps_entered line frames own b mid at body kind k n e =
+    let one : record { place = length b.words.items / 3; start = at; names = length b.names.items; is_object = is_object kind } ≡ open_of (entered kind at own) frames =
+    ap₂ (λ (x y : ℕ). record { place = x; start = at; names = y; is_object = is_object kind }) (place_is line frames own b k) k.count in
+    record {
+      words = e.words ∙ ap₂ (λ (xs : List ℕ) (x : ℕ). xs ++ 0 ∷ 0 ∷ x ∷ []) k.words (ap body_word n ∙ word_of_body own);
+      opened = e.opened ∙ ap₂ (λ (xs : List Open) (x : Open). xs ++ x ∷ []) k.opened one;
+      deepest = e.deepest ∙ (deeper frames b.deepest b.opened.items k.deepest k.opened ∙ ap (λ x. max (open_depth frames) x) (sym (add-zero (length frames + 1))));
+      surrogate = e.surrogate ∙ (k.surrogate ∙ sym (or_false _));
+      long = e.exponent ∙ (k.long ∙ sym (or_false _));
+      count = ap length e.names ∙ (k.count ∙ ap (λ (x : List (List ℕ)). length x) (sym (append-nil (open_names frames ++ name_points own []))));
+      names = λ z. ap all_points e.names ∙ (k.names (left_false _ _ z) ∙ sym (append-nil (open_names frames ++ name_points own [])));
+      duplicate = λ z. e.duplicate ∙ (k.duplicate (left_false _ _ z) ∙ sym (or_false _));
+    }
+
+pub enter_goes_on : (line : List ℕ) (at place : ℕ) (body : Option Span) (b mid new : Builder) (turn : Turn) (kind : Container) → Has line at (opening kind) → White line (at + 1) place → Stops line place → (Has line place (closing kind) → ⊥) →
+    Entered b mid at body kind → Labelled line kind place turn mid new → Steps line (turns.Value body at) b turn new
+enter_goes_on line at place body b mid new turn kind o w s c e l (After_value frames own t from) h = absurd h
+enter_goes_on line at place body b mid new turn kind o w s c e l (Finished t) h = absurd h
+enter_goes_on line at place body b mid new turn kind o w s c e l (Value_at frames own from) h =
+    let f = l.found in
+    let inner = entered kind at own ∷ frames in
+    subst (λ x. GoesOn line (Value_at frames own from) x new) (sym l.is_turn)
+    (record {
+      next = Value_at inner f.name l.label.value;
+      stands = (f.is_body, refl, h.2, label_keeps line kind place turn mid new l _ _ _ _ _ _ _ (keeps_entered line frames own b mid at body kind h.3 h.0 e));
+      alike = subst (λ y. Alike line (Value_at frames own y) (Value_at inner f.name l.label.value)) h.1 (enter_step line kind at place frames own o w s c l.label f);
+    })
+
+pub no_enter : (line : List ℕ) (at place : ℕ) (body : Option Span) (b : Builder) (kind : Container) → Has line at (opening kind) → White line (at + 1) place → Stops line place → (Has line place (closing kind) → ⊥) → NoLabel line kind place → NoStep line (turns.Value body at) b
+no_enter line at place body b kind o w s c l (After_value frames own t from) h = absurd h
+no_enter line at place body b kind o w s c l (Finished t) h = absurd h
+no_enter line at place body b kind o w s c l (Value_at frames own from) h = subst (λ f. IsStuck line (Value_at frames own f)) h.1 (enter_stuck line kind at place frames own o w s c l)
+
+-- ---- behind a value
+
+kind_of : (kind : Container) → container_if (is_object kind) ≡ kind
+kind_of array = refl
+kind_of object = refl
+
+innermost_kind : (o : Open) (f : Frame) (frames : List Frame) → o ≡ open_of f frames → container_if o.is_object ≡ f.kind
+innermost_kind o f frames e = ap (λ (x : Open). container_if x.is_object) e ∙ kind_of f.kind
+
+pub is_innermost : (line : List ℕ) (at : ℕ) (b : Builder) (o : Open) → 0 < length b.opened.items → o ≡ get_or b.opened.items (length b.opened.items - 1) o → (x : State) → Stands line (turns.After at) b x → IsInnermost o x
+is_innermost line at b o l e (Value_at frames own from) h = absurd h
+is_innermost line at b o l e (Finished t) h = absurd h
+is_innermost line at b o l e (After_value [] own t from) h = let z : length b.opened.items ≡ 0 = ap length h.2.opened in absurd (omega (arith, l, z))
+is_innermost line at b o l e (After_value (f ∷ frames) own t from) h = e ∙ (ap (λ (xs : List Open). get_or xs (length xs - 1) o) h.2.opened ∙ last_of (opens frames) (open_of f frames) o)
+
+-- where its node stands, and its names
+pub innermost_place : (line : List ℕ) (at : ℕ) (b : Builder) (o : Open) (x : State) → Stands line (turns.After at) b x → IsInnermost o x → 3 * o.place + 1 < length b.words.items
+innermost_place line at b o (Value_at frames own from) h i = absurd h
+innermost_place line at b o (Finished t) h i = absurd h
+innermost_place line at b o (After_value [] own t from) h i = absurd i
+innermost_place line at b o (After_value (f ∷ frames) own t from) h i =
+    let p : o.place ≡ open_count frames = ap (λ (y : Open). y.place) i in
+    let n = ap length h.2.words ∙ grown_length f frames own t in
+    omega (arith, p, n)
+
+pub innermost_names : (line : List ℕ) (at : ℕ) (b : Builder) (o : Open) (x : State) → Stands line (turns.After at) b x → IsInnermost o x → o.names ≤ length b.names.items
+innermost_names line at b o (Value_at frames own from) h i = absurd h
+innermost_names line at b o (Finished t) h i = absurd h
+innermost_names line at b o (After_value [] own t from) h i = absurd i
+innermost_names line at b o (After_value (f ∷ frames) own t from) h i =
+    let p : o.names ≡ length (outer_names f frames) = ap (λ (y : Open). y.names) i in
+    let n = h.2.count ∙ ap (λ (ps : List (List ℕ)). length ps) (grown_names f frames own t) in
+    let l = length-append (outer_names f frames) (names (with_child f own t)) in
+    omega (arith, p, n, l)
+
+-- the child is one of the innermost container
+keeps_grown : (line : List ℕ) (f : Frame) (frames : List Frame) (own : Option Name) (t : Tree) (b : Builder) → KeepsBehind line b (f ∷ frames) own t →
+    Keeps b (open_words (grown f own t ∷ frames)) (opens (f ∷ frames)) (open_depth (grown f own t ∷ frames)) (open_surrogate (grown f own t ∷ frames)) (open_long line (grown f own t ∷ frames)) (open_names (grown f own t ∷ frames)) (open_duplicate (grown f own t ∷ frames))
+keeps_grown line f frames own t b k = record {
+  words = k.words ∙ grown_tail f frames own t;
+  opened = k.opened;
+  deepest = k.deepest ∙ grown_depth f frames own t;
+  surrogate = k.surrogate ∙ grown_surrogate f frames own t;
+  long = k.long ∙ grown_long line f frames own t;
+  count = k.count ∙ ap (λ (ps : List (List ℕ)). length ps) (grown_names f frames own t);
+  names = λ z. k.names (grown_surrogate f frames own t ∙ z) ∙ grown_names f frames own t;
+  duplicate = λ z. k.duplicate (grown_surrogate f frames own t ∙ z) ∙ grown_duplicate f frames own t;
+}
+
+pub comma_goes_on : (line : List ℕ) (at next from : ℕ) (b new : Builder) (turn : Turn) (o : Open) → White line at next → Has line next 0x2C → White line (next + 1) from → Stops line from → Labelled line (container_if o.is_object) from turn b new →
+    (x : State) → Stands line (turns.After at) b x → IsInnermost o x → GoesOn line x turn new
+comma_goes_on line at next from b new turn o w c v s l (Value_at frames own y) h i = absurd h
+comma_goes_on line at next from b new turn o w c v s l (Finished t) h i = absurd h
+comma_goes_on line at next from b new turn o w c v s l (After_value [] own t y) h i = absurd i
+comma_goes_on line at next from b new turn o w c v s l (After_value (f ∷ frames) own t y) h i =
+    let m : Labelled line f.kind from turn b new = subst (λ k. Labelled line k from turn b new) (innermost_kind o f frames i) l in
+    let inner = grown f own t ∷ frames in
+    subst (λ z. GoesOn line (After_value (f ∷ frames) own t y) z new) (sym m.is_turn)
+    (record {
+      next = Value_at inner m.found.name m.label.value;
+      stands = (m.found.is_body, refl, h.1, label_keeps line f.kind from turn b new m _ _ _ _ _ _ _ (keeps_grown line f frames own t b h.2));
+      alike = subst (λ z. Alike line (After_value (f ∷ frames) own t z) (Value_at inner m.found.name m.label.value)) h.0 (comma_step line f frames own t at next from w c v s m.label m.found);
+    })
+
+pub no_comma : (line : List ℕ) (at next from : ℕ) (b : Builder) (o : Open) → White line at next → Has line next 0x2C → White line (next + 1) from → Stops line from → NoLabel line (container_if o.is_object) from →
+    (x : State) → Stands line (turns.After at) b x → IsInnermost o x → IsStuck line x
+no_comma line at next from b o w c v s l (Value_at frames own y) h i = absurd h
+no_comma line at next from b o w c v s l (Finished t) h i = absurd h
+no_comma line at next from b o w c v s l (After_value [] own t y) h i = absurd i
+no_comma line at next from b o w c v s l (After_value (f ∷ frames) own t y) h i =
+    subst (λ z. IsStuck line (After_value (f ∷ frames) own t z)) h.0 (comma_stuck line f frames own t at next from w c v s (subst (λ k. NoLabel line k from) (innermost_kind o f frames i) l))
+
+pub no_neither : (line : List ℕ) (at next : ℕ) (b : Builder) (o : Open) → White line at next → Stops line next → (Has line next 0x2C → ⊥) → (Has line next (closing (container_if o.is_object)) → ⊥) →
+    (x : State) → Stands line (turns.After at) b x → IsInnermost o x → IsStuck line x
+no_neither line at next b o w s c d (Value_at frames own y) h i = absurd h
+no_neither line at next b o w s c d (Finished t) h i = absurd h
+no_neither line at next b o w s c d (After_value [] own t y) h i = absurd i
+no_neither line at next b o w s c d (After_value (f ∷ frames) own t y) h i =
+    subst (λ z. IsStuck line (After_value (f ∷ frames) own t z)) h.0 (neither_stuck line f frames own t at next w s c (λ e. d (subst (λ k. Has line next (closing k)) (sym (innermost_kind o f frames i)) e)))
+
+-- ---- the closing bracket
+
+-- the first two words of a node are written behind other words
+set_two : (front rest : List ℕ) (h s x y : ℕ) → set (set (front ++ x ∷ y ∷ rest) (length front) h) (length front + 1) s ≡ front ++ h ∷ s ∷ rest
+set_two front rest h s x y =
+    let l : length front + 1 ≡ length (front ++ h ∷ []) = sym (length-append front (h ∷ [])) in
+    ap (λ (xs : List ℕ). set xs (length front + 1) s) (set-append_seam front x (y ∷ rest) h ∙ sym (append_assoc front (h ∷ []) (y ∷ rest)))
+    ∙ (ap (λ n. set ((front ++ h ∷ []) ++ y ∷ rest) n s) l ∙ (set-append_seam (front ++ h ∷ []) y rest s ∙ append_assoc front (h ∷ []) (s ∷ rest)))
+
+closed_words : (f : Frame) (frames : List Frame) (own : Option Name) (t : Tree) (o : Open) (end : ℕ) (old new : List ℕ) → old ≡ open_words (f ∷ frames) ++ words_from (open_count (f ∷ frames)) own t → o ≡ open_of f frames →
+    new ≡ set (set old (3 * o.place) (head_word (container_code (container_if o.is_object)) (length old / 3))) (3 * o.place + 1) (span_word (record { start = o.start; end = end })) →
+    new ≡ open_words frames ++ words_from (open_count frames) f.name (node (record { start = f.start; end = end }) (container f.kind (with_child f own t)))
+closed_words f frames own t o end old new e i n =
+    let count : ℕ = open_count frames + (1 + children_node_count (with_child f own t)) in
+    let place : 3 * o.place ≡ length (open_words frames) = ap (λ (y : Open). 3 * y.place) i ∙ sym (open_length frames) in
+    let head : head_word (container_code (container_if o.is_object)) (length old / 3) ≡ head_word (container_code f.kind) count =
+    ap₂ (λ (k : Container) (m : ℕ). head_word (container_code k) m) (innermost_kind o f frames i) (third (length old) count (ap length e ∙ grown_length f frames own t)) in
+    let start : o.start ≡ f.start = ap (λ (y : Open). y.start) i in
+    n
+    ∙ (ap₂ (λ (p : List ℕ × ℕ) (q : ℕ × ℕ). set (set p.0 p.1 q.0) (p.1 + 1) (span_word (record { start = q.1; end = end }))) (ap₂ (λ (xs : List ℕ) (m : ℕ). (xs, m)) (e ∙ grown_tail f frames own t) place) (ap₂ (λ (x y : ℕ). (x, y)) head start)
+    ∙ set_two (open_words frames) (name_word f.name ∷ children_words (open_count frames + 1) (with_child f own t)) (head_word (container_code f.kind) count) (span_word (record { start = f.start; end = end })) 0 0)
+
+-- the names of the container go, and those outside stay
+names_stay : (outer inner : List (List ℕ)) (bodies : List Body) (n : ℕ) → n ≡ length outer → all_points bodies ≡ outer ++ inner → all_points (take n bodies) ≡ outer
+names_stay outer inner bodies n e h = sym (take-map points n bodies) ∙ (ap₂ (λ m (xs : List (List ℕ)). take m xs) e h ∙ take-append_seam outer inner)
+
+names_go : (outer inner : List (List ℕ)) (bodies : List Body) (n : ℕ) → n ≡ length outer → all_points bodies ≡ outer ++ inner → all_points (drop n bodies) ≡ inner
+names_go outer inner bodies n e h = sym (drop-map points n bodies) ∙ (ap₂ (λ m (xs : List (List ℕ)). drop m xs) e h ∙ drop-append_seam outer inner)
+
+pub close_goes_on : (line : List ℕ) (at next : ℕ) (b new : Builder) (o : Open) → White line at next → Has line next (closing (container_if o.is_object)) → IsClosed o (next + 1) b new →
+    (x : State) → Stands line (turns.After at) b x → IsInnermost o x → GoesOn line x (turns.After (next + 1)) new
+close_goes_on line at next b new o w c r (Value_at frames own y) h i = absurd h
+close_goes_on line at next b new o w c r (Finished t) h i = absurd h
+close_goes_on line at next b new o w c r (After_value [] own t y) h i = absurd i
+close_goes_on line at next b new o w c r (After_value (f ∷ frames) own t y) h i =
+    let k = h.2 in
+    let all = with_child f own t in
+    let outer = outer_names f frames in
+    let closed = node (record { start = f.start; end = next + 1 }) (container f.kind all) in
+    let base : o.names ≡ length outer = ap (λ (z : Open). z.names) i in
+    let spelled = grown_names f frames own t in
+    let lone = grown_surrogate f frames own t in
+    let k_names = λ (z : (open_surrogate frames || name_has_lone_surrogate f.name) || has_surrogate closed ≡ false). k.names (lone ∙ z) ∙ spelled in
+    record {
+      next = After_value frames f.name closed (next + 1);
+      stands = (
+        refl,
+        h.1,
+        record {
+          words = closed_words f frames own t o (next + 1) b.words.items new.words.items k.words i r.words;
+          opened = r.opened ∙ (ap (λ (os : List Open). take (length os - 1) os) k.opened ∙ front_of (opens frames) (open_of f frames));
+          deepest = r.deepest ∙ (k.deepest ∙ closed_depth f frames own t);
+          surrogate = r.surrogate ∙ (k.surrogate ∙ lone);
+          long = r.long ∙ (k.long ∙ grown_long line f frames own t);
+          count = ap length r.names ∙ (length-take-le o.names b.names.items (innermost_names line at b o (After_value (f ∷ frames) own t y) h i) ∙ base);
+          names = λ z. ap all_points r.names ∙ names_stay outer (names all) b.names.items o.names base (k_names z);
+          duplicate = λ z.
+              r.duplicate (k.surrogate ∙ (lone ∙ z))
+              ∙ (ap₂ (λ x (ps : List (List ℕ)). x || has_repeated ps) (k.duplicate (lone ∙ z) ∙ grown_duplicate f frames own t) (names_go outer (names all) b.names.items o.names base (k_names z))
+              ∙ or_swap (open_duplicate frames) (children_have_duplicate all) (has_repeated (names all)));
+        },
+      );
+      alike = subst (λ z. Alike line (After_value (f ∷ frames) own t z) (After_value frames f.name closed (next + 1))) h.0
+          (close_step line f frames own t at next w (subst (λ q. Has line next (closing q)) (innermost_kind o f frames i) c));
+    }
+
+-- ---- the end
+
+pub end_goes_on : (line : List ℕ) (at : ℕ) (b : Builder) → White line at (length line) → length b.opened.items ≡ 0 → Steps line (turns.After at) b turns.End b
+end_goes_on line at b w z (Value_at frames own y) h = absurd h
+end_goes_on line at b w z (Finished t) h = absurd h
+end_goes_on line at b w z (After_value (f ∷ frames) own t y) h =
+    let n = ap length h.2.opened in
+    let l = length-append (opens frames) (open_of f frames ∷ []) in
+    absurd (omega (arith, n, l, z))
+end_goes_on line at b w z (After_value [] own t y) h =
+    let k : KeepsBehind line b [] None t = subst (λ o. KeepsBehind line b [] o t) h.1 h.2 in
+    record {
+      next = Finished t;
+      stands = record { words = k.words; opened = k.opened; deepest = k.deepest ∙ root_depth (depth t); surrogate = k.surrogate; long = k.long; count = k.count; names = k.names; duplicate = k.duplicate };
+      alike = subst (λ z. Alike line (After_value [] own t z) (Finished t)) h.0 (end_step line own t at w);
+    }
+
+pub no_end : (line : List ℕ) (at next : ℕ) (b : Builder) → White line at next → Stops line next → (next ≡ length line → ⊥) → length b.opened.items ≡ 0 → NoStep line (turns.After at) b
+no_end line at next b w s n z (Value_at frames own y) h = absurd h
+no_end line at next b w s n z (Finished t) h = absurd h
+no_end line at next b w s n z (After_value (f ∷ frames) own t y) h =
+    let m = ap length h.2.opened in
+    let l = length-append (opens frames) (open_of f frames ∷ []) in
+    absurd (omega (arith, m, l, z))
+no_end line at next b w s n z (After_value [] own t y) h = subst (λ x. IsStuck line (After_value [] own t x)) h.0 (no_end_stuck line own t at next w s n)
+
+-- what a fault promises follows from what another promises
+pub on_fault : {P Q : Type 0} (fault : BuildFault) → (P → Q) → OnFault fault P → OnFault fault Q
+on_fault (faults.Line line_faults.Utf8) f h = h
+on_fault (faults.Line line_faults.Grammar) f h = f h
+on_fault (faults.Line line_faults.Truncated) f h = h
+on_fault (faults.Line line_faults.Depth) f h = h
+on_fault (faults.Line line_faults.Surrogate) f h = h
+on_fault (faults.Line line_faults.Number) f h = h
+on_fault (faults.Line line_faults.Duplicate) f h = h
+on_fault faults.Memory f h = h
+
+-- no value stands behind the line
+pub no_value_behind : (line : List ℕ) (at : ℕ) → length line ≤ at → NoValue line at
+no_value_behind line at l t e h g = let o = starts_inside line t h in omega (arith, l, e, o)
+
+-- the words that are written
+pub node_is : (ws new : List ℕ) (h s n i t m : ℕ) → new ≡ ws ++ h ∷ s ∷ n ∷ [] → h ≡ i → s ≡ t → n ≡ m → new ≡ ws ++ i ∷ t ∷ m ∷ []
+node_is ws new h s n i t m e p q r = e ∙ ap₂ (λ (x : ℕ) (y : ℕ × ℕ). ws ++ x ∷ y.0 ∷ y.1 ∷ []) p (ap₂ (λ (x y : ℕ). (x, y)) q r)
+
+pub head_is : (kind : Kind) (box : Container) (n place : ℕ) (ws : List ℕ) → code_of kind ≡ container_code box → place ≡ n → n ≡ length ws → head_word (code_of kind) (place / 3 + 1) ≡ head_word (container_code box) (length ws / 3 + 1)
+head_is kind box n place ws e p q = ap₂ (λ x (y : ℕ). head_word x (y / 3 + 1)) e (p ∙ q)
+
+pub opened_is : (b : Bool) (place n names m at : ℕ) → place ≡ n → names ≡ m → (let o : Open = record { place = place / 3; start = at; names = names; is_object = b } in o) ≡ record { place = n / 3; start = at; names = m; is_object = is_object (container_if b) }
+opened_is true place n names m at p q = ap₂ (λ (x y : ℕ). record { place = x / 3; start = at; names = y; is_object = true }) p q
+opened_is false place n names m at p q = ap₂ (λ (x y : ℕ). record { place = x / 3; start = at; names = y; is_object = false }) p q

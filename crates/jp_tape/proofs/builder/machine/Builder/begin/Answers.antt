@@ -1,0 +1,26 @@
+use Rattle.std.proofs.Common.{ℕ, ◌+◌, ◌/◌, ap, ◌∙◌, refl}
+use Rattle.jp_tape.specs.Reading.{code_of}
+use Rattle.jp_tape.specs.Words.{head_word}
+use Rattle.jp_tape.proofs.Walk.{node_is, scalar_goes_on, no_value, no_value_behind}
+use Rattle.jp_tape.proofs.builder.machine.Builder.begin.Goals as goal
+
+pub returns-then-at-line-clause-stuck : goal.returns-then-at-line-clause-stuck
+returns-then-at-line-clause-stuck c = no_value c.args.line.now c.args.at c.args.name c.args.self.now (no_value_behind c.args.line.now c.args.at c.if-at-line.true)
+
+pub returns-in_default-clause-stuck : goal.returns-in_default-clause-stuck
+returns-in_default-clause-stuck c = no_value c.args.line.now c.args.at c.args.name c.args.self.now c.in_default.ensures.none
+
+pub returns-clause-goes_on : goal.returns-clause-goes_on
+returns-clause-goes_on c =
+    let b = c.args.self.now in
+    let r = c.in-Some.scalar in
+    scalar_goes_on c.args.line.now c.args.at c.args.name b _ r c.in-Some.ensures.found
+    (record {
+      words_are = node_is b.words.items _ _ _ _ _ _ _ c.in-Ok.ensures.written (c.head-head.ensures ∙ ap (λ (n : ℕ). head_word (code_of r.kind) (n / 3 + 1)) (c.len.ensures ∙ b.words.ok.0)) c.span_to_word-span.ensures c.name_to_word.ensures;
+      opened = refl;
+      names = refl;
+      deepest_is = refl;
+      surrogate = refl;
+      exponent = refl;
+      duplicate = refl;
+    })

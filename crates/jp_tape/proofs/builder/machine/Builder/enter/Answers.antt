@@ -1,0 +1,55 @@
+use Rattle.std.proofs.Common.{◌+◌, ◌++◌, ◌∷◌, [], max, sym, ◌∙◌, ap, subst, refl}
+use Rattle.std.proofs.lemmas.Result.{IfOk-weaker, IfErr-weaker}
+use Rattle.jp_model.specs.Json.Places.{Has}
+use Rattle.jp_tape.specs.declared.builder.machine.Builder.{Builder}
+use Rattle.jp_tape.specs.declared.builder.machine.Open.{Open}
+use Rattle.jp_tape.specs.Reading.{container_if}
+use Rattle.jp_tape.proofs.Held.{or_false}
+use Rattle.jp_tape.proofs.Walk.{node_is, head_is, opened_is, empty_goes_on, enter_goes_on, no_enter, on_fault}
+use Rattle.jp_tape.proofs.builder.machine.Builder.enter.Goals as goal
+
+pub returns-in-Ok-clause-goes_on : goal.returns-in-Ok-clause-goes_on
+returns-in-Ok-clause-goes_on c =
+    let b = c.args.self.now in
+    let kind = container_if c.args.is_object in
+    empty_goes_on c.args.line.now c.args.at c.skip_white-inside.result c.args.name b _ kind c.requires.opens c.skip_white-inside.ensures.white
+    (subst (λ x. Has c.args.line.now c.skip_white-inside.result x) c.closing_of.ensures (c.is_at.ensures.yes c.if-is_at.true))
+    (record {
+      words_are = node_is b.words.items _ _ _ _ _ _ _ c.in-Ok.ensures.written (c.head-head.ensures ∙ head_is c.container_kind.result kind _ _ b.words.items c.container_kind.ensures c.len-place.ensures b.words.ok.0) c.span_to_word-span.ensures c.name_to_word.ensures;
+      opened = refl;
+      names = refl;
+      deepest_is = c.larger-self.ensures ∙ ap (λ n. max b.deepest (n + 1)) (c.len.ensures ∙ b.opened.ok.0);
+      surrogate = sym (or_false _);
+      exponent = sym (or_false _);
+      duplicate = refl;
+    })
+
+pub returns-in-Ok-push-clause-goes_on : goal.returns-in-Ok-push-clause-goes_on
+returns-in-Ok-push-clause-goes_on c =
+    let b = c.args.self.now in
+    let kind = container_if c.args.is_object in
+    let w = c.skip_white-inside.ensures in
+    let mid : Builder = record { words = c.write_node-2.new.words; opened = c.push.new.self; names = b.names; deepest = c.larger-self.result; has_surrogate = b.has_surrogate; has_long_exponent = b.has_long_exponent; has_duplicate = b.has_duplicate } in
+    IfOk-weaker c.next_child.result _ _
+    (λ turn l. enter_goes_on c.args.line.now c.args.at c.skip_white-inside.result c.args.name b mid c.next_child.new.self turn kind c.requires.opens w.white w.stops
+    (λ h. c.is_at.ensures.no c.if-is_at.false (subst (λ x. Has c.args.line.now c.skip_white-inside.result x) (sym c.closing_of.ensures) h))
+    (record {
+      words = node_is b.words.items _ _ _ _ _ _ _ c.in-Ok-write_node.ensures.written refl refl c.name_to_word-2.ensures;
+      opened = c.in-Ok-push.ensures.items ∙ ap (λ (o : Open). b.opened.items ++ o ∷ []) (opened_is c.args.is_object _ _ _ _ c.args.at (c.len-place.ensures ∙ b.words.ok.0) (c.len-2.ensures ∙ b.names.ok.0));
+      names = refl;
+      deepest = c.larger-self.ensures ∙ ap (λ n. max b.deepest (n + 1)) (c.len.ensures ∙ b.opened.ok.0);
+      surrogate = refl;
+      exponent = refl;
+      duplicate = refl;
+    }) l)
+    c.next_child.ensures.found
+
+pub returns-in-Ok-push-clause-stuck : goal.returns-in-Ok-push-clause-stuck
+returns-in-Ok-push-clause-stuck c =
+    let b = c.args.self.now in
+    let kind = container_if c.args.is_object in
+    let w = c.skip_white-inside.ensures in
+    IfErr-weaker c.next_child.result _ _
+    (λ fault. on_fault fault (λ l. no_enter c.args.line.now c.args.at c.skip_white-inside.result c.args.name b kind c.requires.opens w.white w.stops
+    (λ h. c.is_at.ensures.no c.if-is_at.false (subst (λ x. Has c.args.line.now c.skip_white-inside.result x) (sym c.closing_of.ensures) h)) l))
+    c.next_child.ensures.stuck

@@ -1,0 +1,26 @@
+use Rattle.std.proofs.Common.{length, [], refl, None, ap, arith}
+use Rattle.jp_tape.specs.Machine.{Value_at}
+use Rattle.jp_tape.specs.Names.{all_points}
+use Rattle.jp_tape.proofs.Steps.{start_forth, start_back}
+use Rattle.jp_tape.proofs.builder.machine.walk.Goals as goal
+
+pub loop-turn-init : goal.loop-turn-init
+loop-turn-init c =
+    let line = c.args.line.now in
+    let w = c.skip_white.ensures in
+    let e = c.new-builder.ensures in
+    let n = ap length e.words in
+    record {
+      reached = record {
+        state = Value_at [] None c.skip_white.result;
+        stands = (
+          refl,
+          refl,
+          refl,
+          record { words = e.words; opened = e.opened; deepest = e.deepest; surrogate = e.surrogate; long = e.long; count = ap length e.names; names = λ z. ap all_points e.names; duplicate = λ z. e.duplicate },
+        );
+        forth = start_forth line c.skip_white.result w.white w.stops;
+        back = start_back line c.skip_white.result w.white;
+      };
+      within = (w.white.within, omega (arith, n));
+    }

@@ -1,0 +1,29 @@
+-- What kind of value a node is (RFC 8259, section 3).
+use Rattle.std.specs.Prelude.{ℕ, Bool, true, false, nat_eq, if◌then◌else◌}
+use Rattle.jp_model.specs.Json.Tree.{Value, null, boolean, number, string, container, Container, array, object}
+use Rattle.jp_tape.specs.declared.Kind.{Kind}
+use Rattle.jp_tape.specs.declared.Kind.TheVariants as kinds
+
+-- of a boolean
+abbrev pub boolean_kind : Bool → Kind
+boolean_kind false = kinds.False
+boolean_kind true = kinds.True
+
+-- of an array or an object
+abbrev pub container_kind : Container → Kind
+container_kind array = kinds.Array
+container_kind object = kinds.Object
+
+-- of any value
+abbrev pub kind_of : Value → Kind
+kind_of null = kinds.Null
+kind_of (boolean b) = boolean_kind b
+kind_of (number m e) = kinds.Number
+kind_of (string points) = kinds.Text
+kind_of (container kind children) = container_kind kind
+
+-- by its code in the first word of a node
+abbrev pub kind_by : ℕ → Kind
+kind_by code =
+    if nat_eq code 0 then kinds.Null else if nat_eq code 1 then kinds.False else if nat_eq code 2 then kinds.True
+    else if nat_eq code 3 then kinds.Number else if nat_eq code 4 then kinds.Text else if nat_eq code 5 then kinds.Array else kinds.Object

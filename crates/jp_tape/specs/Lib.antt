@@ -1,0 +1,11 @@
+-- What the contracts of the tape speak of.
+pub mod Words
+pub mod Kinds
+pub mod Spots
+pub mod Tapes
+pub mod Cursors
+pub mod Places
+pub mod Names
+pub mod Reading
+pub mod Machine
+pub mod Refusals

@@ -1,0 +1,207 @@
+-- The states of the walk over a line, and which trees each completes to.
+use Rattle.std.specs.Prelude.{◌≡◌, ℕ, suc, ◌+◌, ◌-◌, ◌*◌, ◌<◌, ◌≤◌, max, Bool, true, false, ◌||◌, List, [], ◌∷◌, ◌++◌, length, take, drop, slice_set, ◌/◌, Option, None}
+use Rattle.jp_model.specs.Json.Places.{White}
+use Rattle.jp_model.specs.Json.Tree.{Tree, node, container, Container, array, object, Children, no_child, child, Name, span}
+use Rattle.jp_model.specs.Json.Faults.{depth, greatest_depth, name_has_lone_surrogate, has_surrogate, children_have_surrogate, has_long_exponent, children_have_long_exponent, name_points, names, has_repeated, has_duplicate, children_have_duplicate}
+use Rattle.jp_model.specs.Json.Spelling.{Spells, SpellsMore, Text}
+use Rattle.jp_tape.specs.declared.builder.machine.Open.{Open}
+use Rattle.jp_tape.specs.declared.builder.machine.Builder.{Builder}
+use Rattle.jp_tape.specs.declared.builder.machine.Turn.{Turn}
+use Rattle.jp_tape.specs.declared.builder.machine.Turn.TheVariants as turns
+use Rattle.jp_tape.specs.Words.{children_node_count, name_word, words_from, children_words, tape_words, head_word, container_code, span_word}
+use Rattle.jp_tape.specs.declared.builder.tokens.Label.{Label}
+use Rattle.jp_tape.specs.Reading.{body_of, container_if, FoundLabel}
+use Rattle.jp_tape.specs.Names.{all_points}
+
+-- the children of both, in order
+abbrev pub joined : Children → Children → Children
+joined no_child more = more
+joined (child name t rest) more = child name t (joined rest more)
+
+-- a container that is open: where it begins, its own name, and its children so far
+pub record Frame : Type 0 where
+  pub kind : Container
+  pub start : ℕ
+  pub name : Option Name
+  pub done : Children
+
+-- the innermost open container comes first
+pub data State : Type 0 where
+  Value_at : List Frame → Option Name → ℕ → State
+  After_value : List Frame → Option Name → Tree → ℕ → State
+  Finished : Tree → State
+
+-- a value is read up to a place: the rest of the line closes the containers, and makes this tree
+abbrev pub CompletesAfter : List ℕ → List Frame → Option Name → Tree → ℕ → Tree → Type 0
+CompletesAfter line [] name t from whole = White line from (length line) × (whole ≡ t)
+CompletesAfter line (f ∷ frames) name t from whole =
+    (more : Children) × (to : ℕ) × SpellsMore line f.kind from to more
+    × CompletesAfter line frames f.name (node (record { start = f.start; end = to }) (container f.kind (joined f.done (child name t more)))) to whole
+
+-- what is left of the line completes the state to this tree
+abbrev pub Completes : List ℕ → State → Tree → Type 0
+Completes line (Value_at frames name from) whole = (t : Tree) × ((span t).start ≡ from) × Spells line t × CompletesAfter line frames name t (span t).end whole
+Completes line (After_value frames name t from) whole = CompletesAfter line frames name t from whole
+Completes line (Finished t) whole = whole ≡ t
+
+-- two states complete to the same trees
+pub record Alike (line : List ℕ) (x y : State) : Type 0 where
+  pub forth : (whole : Tree) → Completes line x whole → Completes line y whole
+  pub back : (whole : Tree) → Completes line y whole → Completes line x whole
+
+-- how many nodes have begun
+abbrev pub open_count : List Frame → ℕ
+open_count [] = 0
+open_count (f ∷ frames) = open_count frames + 1 + children_node_count f.done
+
+-- their words; the first two of an open container are written when it closes
+abbrev pub open_words : List Frame → List ℕ
+open_words [] = []
+open_words (f ∷ frames) = open_words frames ++ 0 ∷ 0 ∷ name_word f.name ∷ children_words (open_count frames + 1) f.done
+
+-- the code points of the names that have been read in open containers, a container's own name before those in it
+abbrev pub open_names : List Frame → List (List ℕ)
+open_names [] = []
+open_names (f ∷ frames) = (open_names frames ++ name_points f.name []) ++ names f.done
+
+abbrev pub is_object : Container → Bool
+is_object array = false
+is_object object = true
+
+-- what the builder keeps of an open container
+abbrev pub open_of : Frame → List Frame → Open
+open_of f frames = record { place = open_count frames; start = f.start; names = length (open_names frames ++ name_points f.name []); is_object = is_object f.kind }
+
+abbrev pub opens : List Frame → List Open
+opens [] = []
+opens (f ∷ frames) = opens frames ++ open_of f frames ∷ []
+
+-- how deep the open containers and what is read in them nest
+abbrev pub open_depth : List Frame → ℕ
+open_depth [] = 0
+open_depth (f ∷ frames) = max (open_depth frames) (length frames + 1 + greatest_depth f.done)
+
+-- a surrogate stands alone in them
+abbrev pub open_surrogate : List Frame → Bool
+open_surrogate [] = false
+open_surrogate (f ∷ frames) = (open_surrogate frames || name_has_lone_surrogate f.name) || children_have_surrogate f.done
+
+-- a number in them has a long exponent
+abbrev pub open_long : List ℕ → List Frame → Bool
+open_long line [] = false
+open_long line (f ∷ frames) = open_long line frames || children_have_long_exponent line f.done
+
+-- an object that was closed in them has two equal names
+abbrev pub open_duplicate : List Frame → Bool
+open_duplicate [] = false
+open_duplicate (f ∷ frames) = open_duplicate frames || children_have_duplicate f.done
+
+-- the value of the whole line has no name
+abbrev pub NoRootName : List Frame → Option Name → Type 0
+NoRootName [] own = own ≡ None
+NoRootName (f ∷ frames) own = NoRootName frames f.name
+
+-- what the builder holds. Names are kept, and compared, only as long as no surrogate stands alone.
+pub record Keeps (b : Builder) (ws : List ℕ) (os : List Open) (d : ℕ) (lone too_long : Bool) (ps : List (List ℕ)) (repeated : Bool) : Type 0 where
+  pub words : b.words.items ≡ ws
+  pub opened : b.opened.items ≡ os
+  pub deepest : b.deepest ≡ d
+  pub surrogate : b.has_surrogate ≡ lone
+  pub long : b.has_long_exponent ≡ too_long
+  pub count : length b.names.items ≡ length ps
+  pub names : lone ≡ false → all_points b.names.items ≡ ps
+  pub duplicate : lone ≡ false → b.has_duplicate ≡ repeated
+
+-- the builder holds a whole tree
+abbrev pub IsFinished : List ℕ → Builder → Tree → Type 0
+IsFinished line b t = Keeps b (tape_words t) [] (depth t) (has_surrogate t) (has_long_exponent line t) [] (has_duplicate t)
+
+-- what the builder holds stands for the state
+abbrev pub Stands : List ℕ → Turn → Builder → State → Type 0
+Stands line (turns.Value name at) b (Value_at frames own from) =
+    (name ≡ body_of own) × (at ≡ from) × NoRootName frames own
+    × Keeps b (open_words frames) (opens frames) (open_depth frames) (open_surrogate frames || name_has_lone_surrogate own) (open_long line frames) (open_names frames ++ name_points own []) (open_duplicate frames)
+Stands line (turns.After at) b (After_value frames own t from) =
+    (at ≡ from) × NoRootName frames own
+    × Keeps b (open_words frames ++ words_from (open_count frames) own t) (opens frames) (max (open_depth frames) (length frames + depth t)) ((open_surrogate frames || name_has_lone_surrogate own) || has_surrogate t) (open_long line frames || has_long_exponent line t)
+    (open_names frames ++ name_points own []) (open_duplicate frames || has_duplicate t)
+Stands line turns.End b (Finished t) = IsFinished line b t
+Stands line turn b state = ⊥
+
+-- the builder goes on from a state to one that completes alike
+pub record GoesOn (line : List ℕ) (x : State) (turn : Turn) (b : Builder) : Type 0 where
+  pub next : State
+  pub stands : Stands line turn b next
+  pub alike : Alike line x next
+
+-- nothing completes the state
+abbrev pub IsStuck : List ℕ → State → Type 0
+IsStuck line x = (whole : Tree) → Completes line x whole → ⊥
+
+-- a step from what was held
+abbrev pub Steps : List ℕ → Turn → Builder → Turn → Builder → Type 0
+Steps line before b turn new = (x : State) → Stands line before b x → GoesOn line x turn new
+
+-- there is none
+abbrev pub NoStep : List ℕ → Turn → Builder → Type 0
+NoStep line before b = (x : State) → Stands line before b x → IsStuck line x
+
+-- what is held completes to the trees of the whole line
+pub record Reached (line : List ℕ) (turn : Turn) (b : Builder) : Type 0 where
+  pub state : State
+  pub stands : Stands line turn b state
+  pub forth : (whole : Tree) → Text line whole → Completes line state whole
+  pub back : (whole : Tree) → Completes line state whole → Text line whole
+
+-- how much is left to read
+abbrev pub turn_left : List ℕ → Turn → ℕ
+turn_left line (turns.Value name at) = suc (length line - at)
+turn_left line (turns.After at) = suc (length line - at)
+turn_left line turns.End = 0
+
+-- the turn is at a place of the line, and three words at most are written for a byte that was read
+abbrev pub IsWithin : List ℕ → Turn → Builder → Type 0
+IsWithin line (turns.Value name at) b = (at ≤ length line) × (length b.words.items ≤ 3 * at)
+IsWithin line (turns.After at) b = (at ≤ length line) × (length b.words.items ≤ 3 * at)
+IsWithin line turns.End b = Unit {0}
+
+-- the turn is behind this place, and within the line
+abbrev pub IsBehind : List ℕ → ℕ → Turn → Builder → Type 0
+IsBehind line from (turns.Value name at) b = (from < at) × IsWithin line (turns.Value name at) b
+IsBehind line from (turns.After at) b = (from < at) × IsWithin line (turns.After at) b
+IsBehind line from turns.End b = Unit {0}
+
+-- the innermost open container of the state is this one
+abbrev pub IsInnermost : Open → State → Type 0
+IsInnermost o (After_value (f ∷ frames) own t from) = o ≡ open_of f frames
+IsInnermost o state = ⊥
+
+-- a label is read and kept
+pub record Labelled (line : List ℕ) (kind : Container) (from : ℕ) (turn : Turn) (old new : Builder) : Type 0 where
+  pub label : Label
+  pub found : FoundLabel line kind from label
+  pub is_turn : turn ≡ turns.Value label.name label.value
+  pub order : from ≤ label.value
+  pub within : label.value ≤ length line
+  pub words : new.words.items ≡ old.words.items
+  pub opened : new.opened.items ≡ old.opened.items
+  pub deepest : new.deepest ≡ old.deepest
+  pub surrogate : new.has_surrogate ≡ old.has_surrogate || label.is_lone
+  pub long : new.has_long_exponent ≡ old.has_long_exponent
+  pub count : length new.names.items ≡ length old.names.items + length (name_points found.name [])
+  pub names : label.is_lone ≡ false → all_points new.names.items ≡ all_points old.names.items ++ name_points found.name []
+  pub duplicate : new.has_duplicate ≡ old.has_duplicate
+
+-- some state is held
+abbrev pub Holds : List ℕ → Turn → Builder → Type 0
+Holds line turn b = (x : State) × Stands line turn b x
+
+-- the innermost container is closed
+pub record IsClosed (container : Open) (end : ℕ) (old new : Builder) : Type 0 where
+  pub words : new.words.items ≡ slice_set (slice_set old.words.items (3 * container.place) (head_word (container_code (container_if container.is_object)) (length old.words.items / 3))) (3 * container.place + 1) (span_word (record { start = container.start; end = end }))
+  pub opened : new.opened.items ≡ take (length old.opened.items - 1) old.opened.items
+  pub deepest : new.deepest ≡ old.deepest
+  pub surrogate : new.has_surrogate ≡ old.has_surrogate
+  pub long : new.has_long_exponent ≡ old.has_long_exponent
+  pub names : new.names.items ≡ take container.names old.names.items
+  pub duplicate : old.has_surrogate ≡ false → new.has_duplicate ≡ old.has_duplicate || has_repeated (all_points (drop container.names old.names.items))

@@ -1,0 +1,80 @@
+-- What the readers of single tokens answer.
+use Rattle.std.specs.Prelude.{◌≡◌, ℕ, Bool, true, false, List, [], Option, Some, None}
+use Rattle.jp_model.specs.declared.Span.{Span}
+use Rattle.jp_model.specs.declared.LineFault.TheVariants as line_faults
+use Rattle.jp_model.specs.Json.Tree.{Tree, node, Value, Container, array, object, Name, span}
+use Rattle.jp_model.specs.Json.Faults.{value_depth, value_has_surrogate, value_has_long_exponent, value_has_duplicate, name_has_lone_surrogate}
+use Rattle.jp_model.specs.Json.Spelling.{Spells, SpellsValue, SpellsLabel}
+use Rattle.jp_tape.specs.declared.Kind.{Kind}
+use Rattle.jp_tape.specs.declared.Kind.TheVariants as kinds
+use Rattle.jp_tape.specs.declared.builder.BuildFault.{BuildFault}
+use Rattle.jp_tape.specs.declared.builder.BuildFault.TheVariants as faults
+use Rattle.jp_tape.specs.declared.builder.tokens.Scalar.{Scalar}
+use Rattle.jp_tape.specs.declared.builder.tokens.Label.{Label}
+use Rattle.jp_tape.specs.Places.{Ended, Stops}
+use Rattle.jp_tape.specs.Words.{kind_code, value_node_count, words_below, span_word}
+
+-- the number of a kind
+abbrev pub code_of : Kind → ℕ
+code_of kinds.Null = 0
+code_of kinds.False = 1
+code_of kinds.True = 2
+code_of kinds.Number = 3
+code_of kinds.Text = 4
+code_of kinds.Array = 5
+code_of kinds.Object = 6
+
+-- the array's or the object's
+abbrev pub container_if : Bool → Container
+container_if true = object
+container_if false = array
+
+-- where the body of a name stands
+abbrev pub body_of : Option Name → Option Span
+body_of None = None
+body_of (Some name) = Some name.body
+
+-- the third word of a node
+abbrev pub body_word : Option Span → ℕ
+body_word None = 0
+body_word (Some body) = span_word body
+
+-- a value that is no container stands there, and no other one can
+pub record FoundScalar (line : List ℕ) (from : ℕ) (r : Scalar) : Type 0 where
+  pub value : Value
+  pub is_kind : kind_code value ≡ code_of r.kind
+  pub leaf : value_node_count value ≡ 1
+  pub bare : (place : ℕ) → words_below place value ≡ []
+  pub flat : value_depth value ≡ 0
+  pub surrogate : value_has_surrogate value ≡ r.is_lone
+  pub exponent : value_has_long_exponent line (record { start = from; end = r.end }) value ≡ r.is_long
+  pub duplicate : value_has_duplicate value ≡ false
+  pub spelled : SpellsValue line (record { start = from; end = r.end }) value
+  pub only : (t : Tree) → (span t).start ≡ from → Spells line t → Ended line (span t).end → t ≡ node (record { start = from; end = r.end }) value
+
+-- no value does
+abbrev pub NoValue : List ℕ → ℕ → Type 0
+NoValue line from = (t : Tree) → (span t).start ≡ from → Spells line t → Ended line (span t).end → ⊥
+
+-- what stands before a child's value, and nothing else can
+pub record FoundLabel (line : List ℕ) (kind : Container) (from : ℕ) (r : Label) : Type 0 where
+  pub name : Option Name
+  pub is_body : r.name ≡ body_of name
+  pub surrogate : r.is_lone ≡ name_has_lone_surrogate name
+  pub spelled : SpellsLabel line kind from r.value name
+  pub only : (own : Option Name) (place : ℕ) → SpellsLabel line kind from place own → Stops line place → (own ≡ name) × (place ≡ r.value)
+
+-- nothing does
+abbrev pub NoLabel : List ℕ → Container → ℕ → Type 0
+NoLabel line kind from = (own : Option Name) (place : ℕ) → SpellsLabel line kind from place own → Stops line place → ⊥
+
+-- what a fault of the grammar promises; want of memory promises nothing, and there is no other fault while a line is read
+abbrev pub OnFault : BuildFault → Type 0 → Type 0
+OnFault (faults.Line line_faults.Utf8) promise = ⊥
+OnFault (faults.Line line_faults.Grammar) promise = promise
+OnFault (faults.Line line_faults.Truncated) promise = ⊥
+OnFault (faults.Line line_faults.Depth) promise = ⊥
+OnFault (faults.Line line_faults.Surrogate) promise = ⊥
+OnFault (faults.Line line_faults.Number) promise = ⊥
+OnFault (faults.Line line_faults.Duplicate) promise = ⊥
+OnFault faults.Memory promise = Unit {0}

@@ -1,0 +1,74 @@
+-- The words of a tape: three to a node, each node before its children, in the order of the line.
+use Rattle.std.specs.Prelude.{ℕ, ◌+◌, ◌*◌, ◌^◌, Bool, true, false, List, [], ◌∷◌, ◌++◌, Option, Some, None}
+use Rattle.jp_model.specs.declared.Span.{Span}
+use Rattle.jp_model.specs.Json.Tree.{Tree, node, Value, null, boolean, number, string, container, Container, array, object, Children, no_child, child, Name}
+
+-- how many nodes a tree has
+abbrev mutual
+  pub node_count : Tree → ℕ
+  node_count (node s v) = value_node_count v
+
+  -- the same of a value
+  pub value_node_count : Value → ℕ
+  value_node_count null = 1
+  value_node_count (boolean b) = 1
+  value_node_count (number m e) = 1
+  value_node_count (string points) = 1
+  value_node_count (container kind children) = 1 + children_node_count children
+
+  -- the same of some children
+  pub children_node_count : Children → ℕ
+  children_node_count no_child = 0
+  children_node_count (child name t more) = node_count t + children_node_count more
+
+-- the number of a kind
+abbrev pub boolean_code : Bool → ℕ
+boolean_code false = 1
+boolean_code true = 2
+
+abbrev pub container_code : Container → ℕ
+container_code array = 5
+container_code object = 6
+
+abbrev pub kind_code : Value → ℕ
+kind_code null = 0
+kind_code (boolean b) = boolean_code b
+kind_code (number m e) = 3
+kind_code (string points) = 4
+kind_code (container kind children) = container_code kind
+
+-- the first word: the kind in the top eight bits, the place behind the subtree in the low thirty-two
+unfoldable pub head_word : ℕ → ℕ → ℕ
+head_word code after = code * 2 ^ 56 + after
+
+-- the second word: where the value stands, the start above the end
+unfoldable pub span_word : Span → ℕ
+span_word s = s.start * 2 ^ 32 + s.end
+
+-- the third word: where the body of the name stands, or 0
+abbrev pub name_word : Option Name → ℕ
+name_word None = 0
+name_word (Some name) = span_word name.body
+
+-- the words of a tree whose root is at this place
+abbrev mutual
+  pub words_from : ℕ → Option Name → Tree → List ℕ
+  words_from place name (node s v) =
+      head_word (kind_code v) (place + value_node_count v) ∷ span_word s ∷ name_word name ∷ words_below (place + 1) v
+
+  -- the words of the nodes below a value
+  pub words_below : ℕ → Value → List ℕ
+  words_below place null = []
+  words_below place (boolean b) = []
+  words_below place (number m e) = []
+  words_below place (string points) = []
+  words_below place (container kind children) = children_words place children
+
+  -- the words of some children
+  pub children_words : ℕ → Children → List ℕ
+  children_words place no_child = []
+  children_words place (child name t more) = words_from place name t ++ children_words (place + node_count t) more
+
+-- the words of a whole tree; its root has no name
+abbrev pub tape_words : Tree → List ℕ
+tape_words t = words_from 0 None t

@@ -1,0 +1,99 @@
+//! The builder of a tape: it reads a line once, and tells its first fault.
+
+ghost use Rattle.std.specs.Prelude.{◌≡◌, ℕ, ◌<◌, ◌↔◌, ◌^◌, true, false, length, IfOk, IfErr, IsTrue, IsUtf8};
+ghost use Rattle.jp_model.specs.Lines.{is_blank};
+ghost use Rattle.jp_model.specs.Json.Faults.{is_truncated as truncated};
+ghost use Rattle.jp_model.specs.Json.Tree.{Tree};
+ghost use Rattle.jp_model.specs.Json.Spelling.{Text};
+ghost use Rattle.jp_model.specs.Json.Status.{HasStatus, parsed, fault_of_tree};
+ghost use Rattle.jp_tape.specs.Words.{tape_words};
+ghost use Rattle.jp_tape.specs.Machine.{IsFinished};
+ghost use Rattle.jp_tape.specs.Refusals.{IsRefused};
+
+mod body;
+mod machine;
+mod names;
+mod scan;
+mod tokens;
+
+use crate::tape::Tape;
+use jp_model::{Framing, LineFault};
+use machine::{Builder, walk};
+use std::alloc::Global;
+
+/// Why a line has no tape.
+#[derive(Clone, Copy, Debug, PartialEq, Eq)]
+pub enum BuildFault {
+    /// The line's first fault.
+    Line(LineFault),
+    /// There is no memory left.
+    Memory,
+}
+
+/// Arrays and objects nest no deeper (profile).
+const MOST_DEPTH: usize = 512;
+
+/// Whether a text of a sequence may have lost its end: it is a number, true, false or null, and no byte follows it.
+fn is_truncated(words: &[u64], line: &[u8], framing: Framing) -> bool
+    requires room { length line.now < 2 ^ 32 }
+    requires text { (t : Tree) × Text line.now t × (words.now ≡ tape_words t) }
+    ensures { (t : Tree) → Text line.now t → words.now ≡ tape_words t → result ≡ truncated framing line.now t }
+{
+    match framing {
+        Framing::Lines => false,
+        Framing::Sequence => words[0] < 4 << 56 && words[1] % (1 << 32) == line.len() as u64,
+    }
+}
+
+/// The first fault of a line that was read.
+fn fault_of(builder: &Builder<'_>, line: &[u8], framing: Framing) -> Option<LineFault>
+    requires room { length line.now < 2 ^ 32 }
+    requires text { (t : Tree) × Text line.now t × IsFinished line.now builder.now t }
+    ensures { (t : Tree) → Text line.now t → IsFinished line.now builder.now t → result ≡ fault_of_tree framing line.now t }
+{
+    if is_truncated(&builder.words, line, framing) {
+        Some(LineFault::Truncated)
+    } else if builder.deepest > MOST_DEPTH {
+        Some(LineFault::Depth)
+    } else if builder.has_surrogate {
+        Some(LineFault::Surrogate)
+    } else if builder.has_long_exponent {
+        Some(LineFault::Number)
+    } else if builder.has_duplicate {
+        Some(LineFault::Duplicate)
+    } else {
+        None
+    }
+}
+
+/// The tape of a line (RFC 8259, sections 2 to 8), or the line's first fault.
+///
+/// `is_utf8` is whether the line is UTF-8. The faults are told in this order: `Utf8`; `Grammar`, where the line is no
+/// JSON text; `Truncated`, where a text of a sequence may have lost its end (RFC 7464, section 2.4); `Depth`, where
+/// arrays and objects nest deeper than 512; `Surrogate`, where half of a pair stands alone; `Number`, where an exponent
+/// has more than 15 digits behind its leading zeros; and `Duplicate`, where an object has two equal names (profile). The
+/// line is read once, however deep it nests, and equal names are found by a sort of each object's names.
+pub fn build(
+    alloc: Global,
+    line: &[u8],
+    is_utf8: bool,
+    framing: Framing,
+) -> Result<Tape, BuildFault>
+    requires not_blank { is_blank line.now ≡ false }
+    requires room { length line.now < 2 ^ 32 }
+    requires verdict { IsTrue is_utf8 ↔ IsUtf8 line.now }
+    ensures tree { IfOk result (λ tape. (t : Tree) × HasStatus framing line.now (parsed t) × (tape ≡ tape_words t)) }
+    ensures only { IfOk result (λ tape. (t : Tree) → Text line.now t → tape ≡ tape_words t) }
+    ensures fault { IfErr result (λ fault. IsRefused framing line.now fault) }
+{
+    if !is_utf8 {
+        return Err(BuildFault::Line(LineFault::Utf8));
+    }
+    let builder = walk(alloc, line)?;
+    match fault_of(&builder, line, framing) {
+        Some(fault) => Err(BuildFault::Line(fault)),
+        None => Ok(Tape {
+            words: builder.words,
+        }),
+    }
+}

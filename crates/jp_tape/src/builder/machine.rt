@@ -1,0 +1,337 @@
+//! The walk over a line: a machine with a stack of open containers, which writes the words of the nodes.
+
+ghost use Rattle.std.specs.Prelude.{◌≡◌, ℕ, ◌+◌, ◌*◌, ◌^◌, ◌<◌, ◌≤◌, ◌++◌, ◌∷◌, [], max, length, List, true, false, IfOk, IfErr, IsTrue};
+ghost use Rattle.jp_model.specs.Json.Places.{White, Has, byte_at, bytes_between};
+ghost use Rattle.jp_tape.specs.Names.{points};
+ghost use Rattle.jp_strings.specs.Points.{is_text_from, points_of};
+ghost use Rattle.jp_model.specs.Json.Tree.{Tree};
+ghost use Rattle.jp_model.specs.Json.Spelling.{Text, opening, closing};
+ghost use Rattle.jp_model.specs.Json.Status.{IsNoText};
+ghost use Rattle.jp_tape.specs.Words.{head_word, span_word, container_code};
+ghost use Rattle.jp_tape.specs.Places.{Stops};
+ghost use Rattle.jp_tape.specs.Reading.{body_word, code_of, container_if, NoLabel, OnFault};
+ghost use Rattle.jp_tape.specs.Machine.{State, Stands, Steps, NoStep, IsWithin, IsBehind, Labelled, IsFinished, IsClosed, Holds};
+ghost use Rattle.jp_tape.specs.declared.builder.machine.Turn.TheVariants as turns;
+
+use super::BuildFault;
+use super::body::Body;
+use super::names::has_equal;
+use super::scan::{is_at, skip_white};
+use super::tokens::{Label, label_at, scalar_at};
+use crate::Kind;
+use jp_model::{LineFault, Span};
+use std::alloc::{AllocError, Global};
+
+/// A container that is open.
+#[derive(Clone, Copy)]
+struct Open {
+    /// The place of its node.
+    place: u32,
+    /// Where it begins in the line.
+    start: u32,
+    /// How many names were kept before those of its members.
+    names: usize,
+    is_object: bool,
+}
+
+/// What is read next.
+#[derive(Clone, Copy)]
+enum Turn {
+    /// A value, behind its name.
+    Value(Option<Span>, usize),
+    /// What stands behind a value.
+    After(usize),
+    End,
+}
+
+/// What has been read of a line.
+#[derive(Drop)]
+pub(super) struct Builder<'a> {
+    /// Three words to a node. The first two of an open container are not known yet.
+    pub(super) words: Vec<u64>,
+    /// The containers that are open, the innermost last.
+    opened: Vec<Open>,
+    /// The bodies of the names in them.
+    names: Vec<Body<'a>>,
+    pub(super) deepest: usize,
+    pub(super) has_surrogate: bool,
+    pub(super) has_long_exponent: bool,
+    /// Not kept up where a surrogate stands alone.
+    pub(super) has_duplicate: bool,
+}
+
+const GRAMMAR: BuildFault = BuildFault::Line(LineFault::Grammar);
+
+fn larger(a: usize, b: usize) -> usize
+    ensures { result ≡ max a b }
+{
+    if a < b { b } else { a }
+}
+
+fn closing_of(is_object: bool) -> u8
+    ensures { result ≡ closing (container_if is_object) }
+{
+    if is_object { b'}' } else { b']' }
+}
+
+/// The number of a kind in a node's first word.
+fn code(kind: Kind) -> u64
+    ensures { result ≡ code_of kind }
+{
+    match kind {
+        Kind::Null => 0,
+        Kind::False => 1,
+        Kind::True => 2,
+        Kind::Number => 3,
+        Kind::Text => 4,
+        Kind::Array => 5,
+        Kind::Object => 6,
+    }
+}
+
+fn container_kind(is_object: bool) -> Kind
+    ensures { code_of result ≡ container_code (container_if is_object) }
+{
+    if is_object { Kind::Object } else { Kind::Array }
+}
+
+/// The first word of a node.
+#[tactic(auto, unfolding(crate::specs::Words::head_word))]
+fn head(kind: Kind, after: usize) -> u64
+    requires { after ≤ 2 ^ 32 }
+    ensures { result ≡ head_word (code_of kind) after }
+{
+    code(kind) * (1 << 56) + after as u64
+}
+
+/// The second word of a node, and the third of one that has a name.
+#[tactic(auto, unfolding(crate::specs::Words::span_word))]
+fn span_to_word(start: u32, end: u32) -> u64
+    ensures { result ≡ span_word (record { start = start; end = end }) }
+{
+    start as u64 * (1 << 32) + end as u64
+}
+
+/// The third word of a node.
+fn name_to_word(name: Option<Span>) -> u64
+    ensures { result ≡ body_word name }
+{
+    match name {
+        Some(body) => span_to_word(body.start, body.end),
+        None => 0,
+    }
+}
+
+/// Writes a node.
+fn write_node(words: &mut Vec<u64>, head: u64, span: u64, name: u64) -> Result<(), BuildFault>
+    ensures written { IfOk result (λ _. words.new.items ≡ words.old.items ++ head ∷ span ∷ name ∷ []) }
+    ensures memory { IfErr result (λ fault. OnFault fault ⊥) }
+{
+    match words.extend_from_slice(&[head, span, name]) {
+        Ok(()) => Ok(()),
+        Err(_) => Err(BuildFault::Memory),
+    }
+}
+
+/// The body of a name; an empty one where a surrogate stands alone in it, since such names are not compared.
+fn kept_body<'a>(line: &'a [u8], span: Span, is_lone: bool) -> Body<'a>
+    requires order { span.start ≤ span.end }
+    requires within { span.end ≤ length line.now }
+    requires text { is_lone ≡ false → IsTrue (is_text_from (bytes_between line.now span.start span.end) 0) }
+    ensures { is_lone ≡ false → points result ≡ points_of (bytes_between line.now span.start span.end) }
+{
+    if is_lone {
+        Body::new(&line[..0])
+    } else {
+        Body::new(&line[span.start as usize..span.end as usize])
+    }
+}
+
+impl<'a> Builder<'a> {
+    fn new(alloc: Global) -> Builder<'a>
+        ensures words { result.words.items ≡ [] }
+        ensures opened { result.opened.items ≡ [] }
+        ensures names { result.names.items ≡ [] }
+        ensures deepest { result.deepest ≡ 0 }
+        ensures surrogate { result.has_surrogate ≡ false }
+        ensures long { result.has_long_exponent ≡ false }
+        ensures duplicate { result.has_duplicate ≡ false }
+    {
+        Builder {
+            words: Vec::new(alloc),
+            opened: Vec::new(alloc),
+            names: Vec::new(alloc),
+            deepest: 0,
+            has_surrogate: false,
+            has_long_exponent: false,
+            has_duplicate: false,
+        }
+    }
+
+    /// Reads what stands before a child's value, and keeps its name.
+    fn next_child(
+        &mut self,
+        line: &'a [u8],
+        is_object: bool,
+        from: usize,
+    ) -> Result<Turn, BuildFault>
+        requires within { from ≤ length line.now }
+        requires room { length line.now < 2 ^ 32 }
+        requires stops { Stops line.now from }
+        ensures found { IfOk result (λ turn. Labelled line.now (container_if is_object) from turn self.old self.new) }
+        ensures stuck { IfErr result (λ fault. OnFault fault (NoLabel line.now (container_if is_object) from)) }
+    {
+        let Some(label) = label_at(line, is_object, from) else {
+            return Err(GRAMMAR);
+        };
+        self.has_surrogate |= label.is_lone;
+        if let Some(span) = label.name {
+            match self.names.push(kept_body(line, span, label.is_lone)) {
+                Ok(()) => {}
+                Err(_) => return Err(BuildFault::Memory),
+            }
+        }
+        Ok(Turn::Value(label.name, label.value))
+    }
+
+    /// Reads the opening bracket at `at`, and what stands behind it up to the first child's value.
+    fn enter(
+        &mut self,
+        line: &'a [u8],
+        at: usize,
+        is_object: bool,
+        name: Option<Span>,
+    ) -> Result<Turn, BuildFault>
+        requires opens { Has line.now at (opening (container_if is_object)) }
+        requires room { length line.now < 2 ^ 32 }
+        requires few { length self.old.words.items ≤ 3 * at }
+        ensures goes_on { IfOk result (λ turn. Steps line.now (turns.Value name at) self.old turn self.new) }
+        ensures behind { IfOk result (λ turn. IsBehind line.now at turn self.new) }
+        ensures stuck { IfErr result (λ fault. OnFault fault (NoStep line.now (turns.Value name at) self.old)) }
+    {
+        let inside = skip_white(line, at + 1);
+        let place = self.words.len() / 3;
+        self.deepest = larger(self.deepest, self.opened.len() + 1);
+        if is_at(line, inside, closing_of(is_object)) {
+            let span = span_to_word(at as u32, (inside + 1) as u32);
+            let head = head(container_kind(is_object), place + 1);
+            return match write_node(&mut self.words, head, span, name_to_word(name)) {
+                Ok(()) => Ok(Turn::After(inside + 1)),
+                Err(fault) => Err(fault),
+            };
+        }
+        let container = Open {
+            place: place as u32,
+            start: at as u32,
+            names: self.names.len(),
+            is_object,
+        };
+        match write_node(&mut self.words, 0, 0, name_to_word(name)) {
+            Ok(()) => {}
+            Err(fault) => return Err(fault),
+        }
+        match self.opened.push(container) {
+            Ok(()) => self.next_child(line, is_object, inside),
+            Err(_) => Err(BuildFault::Memory),
+        }
+    }
+
+    /// Reads the value at `at`: all of it, or up to the first child's value.
+    fn begin(&mut self, line: &'a [u8], at: usize, name: Option<Span>) -> Result<Turn, BuildFault>
+        requires within { at ≤ length line.now }
+        requires room { length line.now < 2 ^ 32 }
+        requires few { length self.old.words.items ≤ 3 * at }
+        ensures goes_on { IfOk result (λ turn. Steps line.now (turns.Value name at) self.old turn self.new) }
+        ensures behind { IfOk result (λ turn. IsBehind line.now at turn self.new) }
+        ensures stuck { IfErr result (λ fault. OnFault fault (NoStep line.now (turns.Value name at) self.old)) }
+    {
+        if at >= line.len() {
+            return Err(GRAMMAR);
+        }
+        if is_at(line, at, b'[') {
+            return self.enter(line, at, false, name);
+        }
+        if is_at(line, at, b'{') {
+            return self.enter(line, at, true, name);
+        }
+        let Some(scalar) = scalar_at(line, at) else {
+            return Err(GRAMMAR);
+        };
+        let head = head(scalar.kind, self.words.len() / 3 + 1);
+        let span = span_to_word(at as u32, scalar.end as u32);
+        match write_node(&mut self.words, head, span, name_to_word(name)) {
+            Ok(()) => {}
+            Err(fault) => return Err(fault),
+        }
+        self.has_surrogate |= scalar.is_lone;
+        self.has_long_exponent |= scalar.is_long;
+        Ok(Turn::After(scalar.end))
+    }
+
+    /// Closes the innermost container, which ends before `end`.
+    fn close(&mut self, container: Open, end: usize)
+        requires place { 3 * container.place + 1 < length self.old.words.items }
+        requires last { 0 < length self.old.opened.items }
+        requires names { container.names ≤ length self.old.names.items }
+        requires few { length self.old.words.items < 3 * end }
+        requires room { end < 2 ^ 32 }
+        ensures closed { IsClosed container end self.old self.new }
+    {
+        let place = container.place as usize;
+        let kind = container_kind(container.is_object);
+        self.words[3 * place] = head(kind, self.words.len() / 3);
+        self.words[3 * place + 1] = span_to_word(container.start, end as u32);
+        if !self.has_surrogate {
+            let is_repeated = has_equal(&mut self.names[container.names..]);
+            self.has_duplicate |= is_repeated;
+        }
+        self.names.truncate(container.names);
+        self.opened.pop();
+    }
+
+    /// Reads what follows a value.
+    fn go_on(&mut self, line: &'a [u8], at: usize) -> Result<Turn, BuildFault>
+        requires within { at ≤ length line.now }
+        requires room { length line.now < 2 ^ 32 }
+        requires few { length self.old.words.items ≤ 3 * at }
+        requires holds { Holds line.now (turns.After at) self.old }
+        ensures goes_on { IfOk result (λ turn. Steps line.now (turns.After at) self.old turn self.new) }
+        ensures behind { IfOk result (λ turn. IsBehind line.now at turn self.new) }
+        ensures stuck { IfErr result (λ fault. OnFault fault (NoStep line.now (turns.After at) self.old)) }
+    {
+        let next = skip_white(line, at);
+        if self.opened.is_empty() {
+            return if next == line.len() {
+                Ok(Turn::End)
+            } else {
+                Err(GRAMMAR)
+            };
+        }
+        let container = self.opened[self.opened.len() - 1];
+        if is_at(line, next, b',') {
+            return self.next_child(line, container.is_object, skip_white(line, next + 1));
+        }
+        if !is_at(line, next, closing_of(container.is_object)) {
+            return Err(GRAMMAR);
+        }
+        self.close(container, next + 1);
+        Ok(Turn::After(next + 1))
+    }
+}
+
+/// Reads the whole line.
+pub(super) fn walk(alloc: Global, line: &[u8]) -> Result<Builder<'_>, BuildFault>
+    requires room { length line.now < 2 ^ 32 }
+    ensures found { IfOk result (λ builder. (t : Tree) × Text line.now t × IsFinished line.now builder t) }
+    ensures refused { IfErr result (λ fault. OnFault fault (IsNoText line.now)) }
+{
+    let mut builder = Builder::new(alloc);
+    let mut turn = Turn::Value(None, skip_white(line, 0));
+    loop {
+        turn = match turn {
+            Turn::Value(name, at) => builder.begin(line, at, name)?,
+            Turn::After(at) => builder.go_on(line, at)?,
+            Turn::End => return Ok(builder),
+        };
+    }
+}

@@ -1,0 +1,74 @@
+//! The names of an object: whether two of them are equal.
+
+ghost use Rattle.std.specs.Prelude.{◌≡◌, ℕ, ◌<◌, ◌≤◌, List, map, length, Some, None, nat_eq, refl, IsSorted};
+ghost use Rattle.std.specs.Ordering.{nat_cmp};
+ghost use Rattle.std.specs.Cmp.Lexicographic.{slice_cmp, pointwise, nat_list_eq_equiv, nat_list_cmp_total, texts_po, texts_ties};
+ghost use Rattle.std.specs.Cmp.{on_equiv, on_per, on_po, on_total, partial_equiv_from_equiv};
+ghost use Rattle.jp_model.specs.Json.Faults.{has_repeated};
+ghost use Rattle.jp_tape.specs.Names.{points, all_points};
+
+use super::body::Body;
+use jp_strings::compare;
+use std::cmp::Ordering;
+
+impl PartialEq for Body<'_> {
+    ghost eq = { λ a b. pointwise nat_eq (points a) (points b) };
+
+    ghost laws = { on_per points (partial_equiv_from_equiv nat_list_eq_equiv) };
+
+    fn eq(&self, other: &Body<'_>) -> bool {
+        self.cmp(other).is_eq()
+    }
+}
+
+impl Eq for Body<'_> {
+    ghost laws = { on_equiv points nat_list_eq_equiv };
+}
+
+impl PartialOrd for Body<'_> {
+    ghost partial_cmp = { λ a b. Some (slice_cmp nat_cmp (points a) (points b)) };
+
+    ghost laws = { on_po points texts_po };
+
+    fn partial_cmp(&self, other: &Body<'_>) -> Option<Ordering> {
+        Some(self.cmp(other))
+    }
+}
+
+impl Ord for Body<'_> {
+    ghost cmp = { λ a b. slice_cmp nat_cmp (points a) (points b) };
+
+    ghost total = { on_total points nat_list_cmp_total };
+
+    ghost matches_partial_cmp = { λ a b. refl };
+
+    ghost matches_eq = { λ a b. texts_ties (points a) (points b) };
+
+    fn cmp(&self, other: &Body<'_>) -> Ordering {
+        compare(self.bytes, other.bytes)
+    }
+}
+
+/// Whether two neighbours are equal.
+fn has_equal_neighbours(bodies: &[Body<'_>]) -> bool
+    requires { IsSorted (λ a b. slice_cmp nat_cmp (points a) (points b)) bodies.now }
+    ensures { result ≡ has_repeated (all_points bodies.now) }
+{
+    for later in 1..bodies.len() {
+        if bodies[later - 1] == bodies[later] {
+            return true;
+        }
+    }
+    false
+}
+
+/// Whether two bodies are equal. It changes their order.
+pub(super) fn has_equal(bodies: &mut [Body<'_>]) -> bool
+    ensures { result ≡ has_repeated (all_points bodies.old) }
+{
+    if bodies.len() < 2 {
+        return false;
+    }
+    bodies.sort_unstable();
+    has_equal_neighbours(bodies)
+}

@@ -1,0 +1,76 @@
+//! Places in a line: where white space, words, numbers and strings end.
+
+ghost use Rattle.std.specs.Prelude.{◌≡◌, ℕ, ◌+◌, ◌<◌, ◌≤◌, true, false, length, List, IfSome, IfNone};
+ghost use Rattle.jp_model.specs.Characters.{is_white};
+ghost use Rattle.jp_model.specs.Json.Places.{White, Has, Reads, byte_at};
+ghost use Rattle.jp_tape.specs.Places.{in_number, Ended, Stops};
+
+fn is_white_byte(byte: u8) -> bool
+    ensures { result ≡ is_white byte }
+{
+    byte == b' ' || byte == b'\t' || byte == b'\n' || byte == b'\r'
+}
+
+fn is_number_byte(byte: u8) -> bool
+    ensures { result ≡ in_number byte }
+{
+    byte >= b'0' && byte <= b'9'
+        || byte == b'.'
+        || byte == b'e'
+        || byte == b'E'
+        || byte == b'+'
+        || byte == b'-'
+}
+
+/// The first place at or after `from` without white space, or the length.
+pub(super) fn skip_white(line: &[u8], from: usize) -> usize
+    requires { from ≤ length line.now }
+    ensures white { White line.now from result }
+    ensures stops { Stops line.now result }
+{
+    let mut at = from;
+    while at < line.len() && is_white_byte(line[at]) {
+        at += 1;
+    }
+    at
+}
+
+/// The first place at or after `from` with no byte of a number, or the length.
+pub(super) fn number_bytes_end(line: &[u8], from: usize) -> usize
+    requires { from ≤ length line.now }
+    ensures order { from ≤ result }
+    ensures within { result ≤ length line.now }
+    ensures inside { (k : ℕ) → from ≤ k → k < result → in_number (byte_at line.now k) ≡ true }
+    ensures ended { Ended line.now result }
+{
+    let mut at = from;
+    while at < line.len() && is_number_byte(line[at]) {
+        at += 1;
+    }
+    at
+}
+
+/// The end of the word, where it stands at `from`.
+pub(super) fn word_end(line: &[u8], from: usize, word: &[u8]) -> Option<usize>
+    requires { from ≤ length line.now }
+    ensures found { IfSome result (λ to. Reads line.now from to word.now × (to ≡ from + length word.now)) }
+    ensures none { IfNone result ((to : ℕ) → Reads line.now from to word.now → ⊥) }
+{
+    if line.len() - from < word.len() {
+        return None;
+    }
+    let to = from + word.len();
+    if &line[from..to] == word {
+        Some(to)
+    } else {
+        None
+    }
+}
+
+/// Whether this byte stands there.
+pub(super) fn is_at(line: &[u8], at: usize, byte: u8) -> bool
+    ensures yes { result ≡ true → Has line.now at byte }
+    ensures no { result ≡ false → Has line.now at byte → ⊥ }
+{
+    at < line.len() && line[at] == byte
+}

@@ -1,0 +1,227 @@
+//! The tokens of a line: strings, numbers, words and names.
+
+ghost use Rattle.std.specs.Prelude.{◌≡◌, ℕ, ◌+◌, ◌^◌, ◌<◌, ◌≤◌, true, false, length, List, Some, None, IfSome, IfNone, ℤ};
+ghost use Rattle.jp_model.specs.Json.Places.{White, Has, Reads, byte_at, bytes_between};
+ghost use Rattle.jp_model.specs.Json.Numbers.{SpellsNumber, numeral_of, is_long_exponent};
+ghost use Rattle.jp_model.specs.Json.Strings.{SpellsBody, has_lone_surrogate};
+ghost use Rattle.jp_model.specs.Json.Spelling.{SpellsString, SpellsName};
+ghost use Rattle.jp_model.specs.Json.Tree.{Name, object, array};
+ghost use Rattle.jp_tape.specs.Places.{Ended, Stops, Passes};
+ghost use Rattle.jp_tape.specs.Reading.{FoundScalar, NoValue, FoundLabel, NoLabel, container_if};
+
+use super::scan::{is_at, number_bytes_end, skip_white, word_end};
+use crate::Kind;
+use jp_decimal::{Decimal, NumberFault};
+use jp_lanes::first_special;
+use jp_model::Span;
+use jp_strings::{StringFault, test_body};
+
+/// The end of a string, and whether a surrogate stands alone in it.
+#[derive(Clone, Copy)]
+pub(super) struct StringEnd {
+    end: usize,
+    is_lone: bool,
+}
+
+/// The end of a number, and whether its exponent is too long.
+#[derive(Clone, Copy)]
+pub(super) struct NumberEnd {
+    end: usize,
+    is_long: bool,
+}
+
+/// A value that is no array or object.
+#[derive(Clone, Copy)]
+pub(super) struct Scalar {
+    pub(super) kind: Kind,
+    pub(super) end: usize,
+    /// A surrogate stands alone in it.
+    pub(super) is_lone: bool,
+    /// Its exponent is too long.
+    pub(super) is_long: bool,
+}
+
+/// What stands before the value of a child: in an object its name, and the place of the value.
+#[derive(Clone, Copy)]
+pub(super) struct Label {
+    pub(super) name: Option<Span>,
+    /// A surrogate stands alone in the name.
+    pub(super) is_lone: bool,
+    pub(super) value: usize,
+}
+
+/// The quote that closes the body at `from`.
+fn closing_quote(line: &[u8], from: usize) -> Option<usize>
+    requires { from ≤ length line.now }
+    ensures within { IfSome result (λ at. from ≤ at) }
+    ensures quote { IfSome result (λ at. Has line.now at 0x22) }
+    ensures only { IfSome result (λ at. (to : ℕ) (points : List ℕ) → SpellsBody line.now from to points → Has line.now to 0x22 → to ≡ at) }
+    ensures none { IfNone result ((to : ℕ) (points : List ℕ) → SpellsBody line.now from to points → Has line.now to 0x22 → ⊥) }
+{
+    let mut at = from;
+    loop {
+        at = first_special(line, at);
+        if at >= line.len() {
+            return None;
+        }
+        if line[at] == b'"' {
+            return Some(at);
+        }
+        if line[at] != b'\\' || line.len() - at < 2 {
+            return None;
+        }
+        at += 2;
+    }
+}
+
+/// The end of the string at `from`.
+fn string_end(line: &[u8], from: usize) -> Option<StringEnd>
+    requires { Has line.now from 0x22 }
+    ensures within { IfSome result (λ r. (from + 1 < r.end) × (r.end ≤ length line.now)) }
+    ensures found { IfSome result (λ r. (points : List ℕ) × SpellsString line.now from r.end points × (has_lone_surrogate points ≡ r.is_lone)) }
+    ensures none { IfNone result ((to : ℕ) (points : List ℕ) → SpellsString line.now from to points → ⊥) }
+{
+    let Some(last) = closing_quote(line, from + 1) else {
+        return None;
+    };
+    match test_body(&line[from + 1..last]) {
+        Ok(()) => Some(StringEnd {
+            end: last + 1,
+            is_lone: false,
+        }),
+        Err(StringFault::Surrogate) => Some(StringEnd {
+            end: last + 1,
+            is_lone: true,
+        }),
+        Err(StringFault::Shape) => None,
+    }
+}
+
+/// The end of the number at `from`, where no byte of a number follows it.
+fn number_end(line: &[u8], from: usize) -> Option<NumberEnd>
+    requires inside { from < length line.now }
+    requires room { length line.now < 2 ^ 32 }
+    ensures within { IfSome result (λ r. (from < r.end) × (r.end ≤ length line.now)) }
+    ensures found { IfSome result (λ r. (m e : ℤ) × SpellsNumber line.now from r.end m e × Ended line.now r.end × (is_long_exponent (numeral_of (bytes_between line.now from r.end)) ≡ r.is_long)) }
+    ensures none { IfNone result ((to : ℕ) (m e : ℤ) → SpellsNumber line.now from to m e → Ended line.now to → ⊥) }
+{
+    let end = number_bytes_end(line, from);
+    match Decimal::read(&line[from..end]) {
+        Ok(_) => Some(NumberEnd {
+            end,
+            is_long: false,
+        }),
+        Err(NumberFault::Exponent) => Some(NumberEnd { end, is_long: true }),
+        Err(NumberFault::Shape) => None,
+    }
+}
+
+/// The name at `from` and its colon.
+fn name_at(line: &[u8], from: usize) -> Option<Label>
+    requires within { from ≤ length line.now }
+    requires room { length line.now < 2 ^ 32 }
+    ensures within { IfSome result (λ r. (from < r.value) × (r.value ≤ length line.now)) }
+    ensures stops { IfSome result (λ r. Stops line.now r.value) }
+    ensures found { IfSome result (λ r. FoundLabel line.now object from r) }
+    ensures none { IfNone result (NoLabel line.now object from) }
+{
+    if !is_at(line, from, b'"') {
+        return None;
+    }
+    let Some(name) = string_end(line, from) else {
+        return None;
+    };
+    let colon = skip_white(line, name.end);
+    if !is_at(line, colon, b':') {
+        return None;
+    }
+    let body = Span {
+        start: (from + 1) as u32,
+        end: (name.end - 1) as u32,
+    };
+    Some(Label {
+        name: Some(body),
+        is_lone: name.is_lone,
+        value: skip_white(line, colon + 1),
+    })
+}
+
+/// What stands before the value of a child.
+pub(super) fn label_at(line: &[u8], is_object: bool, from: usize) -> Option<Label>
+    requires within { from ≤ length line.now }
+    requires room { length line.now < 2 ^ 32 }
+    requires stops { Stops line.now from }
+    ensures within { IfSome result (λ r. (from ≤ r.value) × (r.value ≤ length line.now)) }
+    ensures stops { IfSome result (λ r. Stops line.now r.value) }
+    ensures found { IfSome result (λ r. FoundLabel line.now (container_if is_object) from r) }
+    ensures none { IfNone result (NoLabel line.now (container_if is_object) from) }
+{
+    if is_object {
+        name_at(line, from)
+    } else {
+        Some(Label {
+            name: None,
+            is_lone: false,
+            value: from,
+        })
+    }
+}
+
+/// The word at `from`, as a value of this kind.
+fn word_at(line: &[u8], from: usize, word: &[u8], kind: Kind) -> Option<Scalar>
+    requires { from ≤ length line.now }
+    ensures found { IfSome result (λ r. Reads line.now from r.end word.now × (r.end ≡ from + length word.now) × (r.kind ≡ kind) × (r.is_lone ≡ false) × (r.is_long ≡ false)) }
+    ensures none { IfNone result ((to : ℕ) → Reads line.now from to word.now → ⊥) }
+{
+    match word_end(line, from, word) {
+        Some(end) => Some(Scalar {
+            kind,
+            end,
+            is_lone: false,
+            is_long: false,
+        }),
+        None => None,
+    }
+}
+
+/// The value at `from`, which is no array or object.
+pub(super) fn scalar_at(line: &[u8], from: usize) -> Option<Scalar>
+    requires inside { from < length line.now }
+    requires room { length line.now < 2 ^ 32 }
+    requires no_array { byte_at line.now from ≡ 0x5B → ⊥ }
+    requires no_object { byte_at line.now from ≡ 0x7B → ⊥ }
+    ensures within { IfSome result (λ r. (from < r.end) × (r.end ≤ length line.now)) }
+    ensures found { IfSome result (λ r. FoundScalar line.now from r) }
+    ensures none { IfNone result (NoValue line.now from) }
+{
+    let byte = line[from];
+    if byte == b'n' {
+        return word_at(line, from, b"null", Kind::Null);
+    }
+    if byte == b't' {
+        return word_at(line, from, b"true", Kind::True);
+    }
+    if byte == b'f' {
+        return word_at(line, from, b"false", Kind::False);
+    }
+    if byte == b'"' {
+        return match string_end(line, from) {
+            Some(string) => Some(Scalar {
+                kind: Kind::Text,
+                end: string.end,
+                is_lone: string.is_lone,
+                is_long: false,
+            }),
+            None => None,
+        };
+    }
+    match number_end(line, from) {
+        Some(number) => Some(Scalar {
+            kind: Kind::Number,
+            end: number.end,
+            is_lone: false,
+            is_long: number.is_long,
+        }),
+        None => None,
+    }
+}

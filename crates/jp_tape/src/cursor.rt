@@ -1,0 +1,274 @@
+//! A walk over the nodes of a tape.
+
+ghost use Rattle.std.specs.Prelude.{◌≡◌, ℕ, ◌<◌, ◌≤◌, ◌+◌, ◌*◌, ◌^◌, true, false, List, length, Some, None, IfSome, option_map, slice_get, slice_range, slice_index};
+ghost use Rattle.std.specs.List.{prefix_len};
+ghost use Rattle.jp_model.specs.Json.Tree.{Tree, span as span_of, value_of, count_children};
+ghost use Rattle.jp_model.specs.Json.Strings.{SpellsBody, has_lone_surrogate};
+ghost use Rattle.jp_model.specs.Json.Faults.{has_surrogate, has_duplicate};
+ghost use Rattle.jp_model.specs.Json.Spelling.{Text, Spells};
+ghost use Rattle.jp_model.specs.Json.Reader.{skip};
+ghost use Rattle.jp_model.specs.Meaning.Nodes.{root_node, children, subtree, child_count as count_of};
+ghost use Rattle.jp_model.specs.Characters.{is_white as is_white_byte};
+ghost use Rattle.jp_model.specs.Rows.{source as source_of};
+ghost use Rattle.jp_tape.specs.Kinds.{kind_of, kind_by};
+ghost use Rattle.jp_tape.specs.Spots.{children_in, last_step, name_points};
+ghost use Rattle.jp_tape.specs.Tapes.{is_spelled, spelled, IsTapeOf};
+ghost use Rattle.jp_model.specs.declared.Span.{Span};
+ghost use Rattle.jp_tape.specs.Words.{node_count, tape_words, head_word, span_word, name_word, kind_code};
+
+use crate::Kind;
+use crate::tape::Tape;
+use jp_model::Span;
+
+/// A node of a line (RFC 9535, section 1.1): a place in the line's tape. It is copied freely and owns nothing.
+#[derive(Clone, Copy)]
+pub struct Cursor<'a> {
+    words: &'a [u64],
+    line: &'a [u8],
+    place: u32,
+    ghost spelled_line: { is_spelled line.now ≡ true },
+    ghost words_are: { words.now ≡ tape_words (spelled line.now) },
+    ghost short: { length line.now < 2 ^ 32 },
+    ghost whole: { has_surrogate (spelled line.now) ≡ false },
+    ghost distinct: { has_duplicate (spelled line.now) ≡ false },
+    ghost within: { place < node_count (spelled line.now) },
+}
+
+/// The low half of a word.
+const LOW: u64 = 0xFFFF_FFFF;
+
+/// The span that a word packs.
+fn unpack(word: u64) -> Span
+    ensures { (s : Span) → s.end < 2 ^ 32 → word ≡ span_word s → result ≡ s }
+{
+    Span {
+        start: (word >> 32) as u32,
+        end: (word & LOW) as u32,
+    }
+}
+
+/// The kind of a code.
+fn kind_of_code(code: u64) -> Kind
+    ensures { result ≡ kind_by code }
+{
+    match code {
+        0 => Kind::Null,
+        1 => Kind::False,
+        2 => Kind::True,
+        3 => Kind::Number,
+        4 => Kind::Text,
+        5 => Kind::Array,
+        _ => Kind::Object,
+    }
+}
+
+fn is_white(byte: u8) -> bool
+    ensures { result ≡ is_white_byte byte }
+{
+    byte == b' ' || byte == b'\t' || byte == b'\n' || byte == b'\r'
+}
+
+/// How much white space stands at the front.
+fn count_white(bytes: &[u8]) -> usize
+    ensures value { result ≡ prefix_len is_white_byte bytes.now }
+    ensures within { result ≤ length bytes.now }
+{
+    bytes.iter().take_while(|byte| is_white(**byte)).count()
+}
+
+/// The first place from a place on where no white space stands (RFC 8259, section 2).
+fn behind_white(line: &[u8], from: usize) -> usize
+    requires { from ≤ length line.now }
+    ensures value { result ≡ skip line.now from }
+    ensures within { result ≤ length line.now }
+{
+    from + count_white(&line[from..])
+}
+
+impl<'a> Cursor<'a> {
+    ghost use Rattle.jp_tape.specs.Cursors.{line_of, place_of, root_of, node_of, name_of, nodes_after, children_after, nodes_from, children_from};
+
+    /// The root node of a line. The tape was built of this line.
+    pub fn root(tape: &'a Tape, line: &'a [u8]) -> Cursor<'a>
+        requires { IsTapeOf tape.now line.now }
+        ensures line { line_of result ≡ line.now }
+        ensures place { place_of result ≡ 0 }
+        ensures node { node_of result ≡ root_node (spelled line.now) }
+    {
+        Cursor {
+            words: &tape.words,
+            line,
+            place: 0,
+        }
+    }
+
+    /// The node at a place: depth first from the root, whose place is 0. The tape was built of this line.
+    pub fn at(tape: &'a Tape, line: &'a [u8], place: u32) -> Cursor<'a>
+        requires tape { IsTapeOf tape.now line.now }
+        requires place { place < length (subtree (root_node (spelled line.now))) }
+        ensures line { line_of result ≡ line.now }
+        ensures place { place_of result ≡ place }
+        ensures node { slice_get (subtree (root_node (spelled line.now))) place ≡ Some (node_of result) }
+    {
+        Cursor::root(tape, line).go_to(place)
+    }
+
+    /// The node at a place of the same line.
+    pub fn go_to(self, place: u32) -> Cursor<'a>
+        requires { place < length (subtree (root_node (root_of self))) }
+        ensures line { line_of result ≡ line_of self.entry }
+        ensures place { place_of result ≡ place }
+        ensures node { slice_get (subtree (root_node (root_of self.entry))) place ≡ Some (node_of result) }
+    {
+        Cursor {
+            words: self.words,
+            line: self.line,
+            place,
+        }
+    }
+
+    /// The root node of the same line.
+    pub fn top(self) -> Cursor<'a>
+        ensures line { line_of result ≡ line_of self.entry }
+        ensures place { place_of result ≡ 0 }
+        ensures node { node_of result ≡ root_node (root_of self.entry) }
+    {
+        self.go_to(0)
+    }
+
+    /// The bytes of the line.
+    pub fn line(self) -> &'a [u8]
+        ensures bytes { result.now ≡ line_of self.entry }
+        ensures text { Text (line_of self.entry) (root_of self.entry) }
+        ensures short { length (line_of self.entry) < 2 ^ 32 }
+        ensures whole { has_surrogate (root_of self.entry) ≡ false }
+        ensures distinct { has_duplicate (root_of self.entry) ≡ false }
+    {
+        self.line
+    }
+
+    /// The number of the node: depth first from the root, whose number is 0.
+    pub fn place(self) -> u32
+        ensures value { result ≡ place_of self.entry }
+        ensures within { result < length (subtree (root_node (root_of self.entry))) }
+        ensures node { slice_get (subtree (root_node (root_of self.entry))) result ≡ Some (node_of self.entry) }
+    {
+        self.place
+    }
+
+    /// What kind of value the node is (RFC 8259, section 3).
+    pub fn kind(self) -> Kind
+        ensures { result ≡ kind_of (value_of (node_of self.entry).tree) }
+    {
+        kind_of_code(self.head() >> 56)
+    }
+
+    /// Where the node's value stands: bytes of the line, from 0.
+    pub fn span(self) -> Span
+        ensures value { result ≡ span_of (node_of self.entry).tree }
+        ensures spells { Spells (line_of self.entry) (node_of self.entry).tree }
+        ensures whole { has_surrogate (node_of self.entry).tree ≡ false }
+        ensures distinct { has_duplicate (node_of self.entry).tree ≡ false }
+        ensures order { result.start < result.end }
+        ensures within { result.end ≤ length (line_of self.entry) }
+    {
+        unpack(self.body())
+    }
+
+    /// The bytes of the node's span, unchanged.
+    pub fn source(self) -> &'a [u8]
+        ensures { result.now ≡ source_of (line_of self.entry) (node_of self.entry).tree }
+    {
+        let (line, span) = (self.line(), self.span());
+        &line[span.start as usize..span.end as usize]
+    }
+
+    /// The first element or member, in the order of the line (RFC 9535, section 2.5.1.2).
+    pub fn first_child(self) -> Option<Cursor<'a>>
+        ensures nodes { nodes_from result ≡ children (node_of self.entry) }
+        ensures children { children_from result ≡ children_in (value_of (node_of self.entry).tree) }
+        ensures line { IfSome result (λ c. line_of c ≡ line_of self.entry) }
+        ensures place { IfSome result (λ c. place_of c ≡ place_of self.entry + 1) }
+    {
+        let place = self.place() + 1;
+        if place < self.after() {
+            Some(self.go_to(place))
+        } else {
+            None
+        }
+    }
+
+    /// The element or member behind this one, in the order of the line. It reads the white space behind this one.
+    pub fn next_sibling(self) -> Option<Cursor<'a>>
+        ensures nodes { nodes_from result ≡ nodes_after self.entry }
+        ensures children { children_from result ≡ children_after self.entry }
+        ensures line { IfSome result (λ c. line_of c ≡ line_of self.entry) }
+        ensures place { IfSome result (λ c. place_of c ≡ place_of self.entry + length (subtree (node_of self.entry))) }
+    {
+        let line = self.line();
+        let behind = behind_white(line, self.span().end as usize);
+        if behind < line.len() && line[behind] == b',' {
+            Some(self.go_to(self.after()))
+        } else {
+            None
+        }
+    }
+
+    /// Where the body of a member's name stands, without its quotes: bytes of the line, from 0. The root and elements
+    /// have none (RFC 8259, section 4).
+    pub fn name_span(self) -> Option<Span>
+        ensures body { result ≡ option_map (λ n. n.body) (name_of self.entry) }
+        ensures spells { IfSome (name_of self.entry) (λ n. SpellsBody (line_of self.entry) n.body.start n.body.end n.points) }
+        ensures whole { IfSome (name_of self.entry) (λ n. has_lone_surrogate n.points ≡ false) }
+        ensures step { option_map (λ n. n.points) (name_of self.entry) ≡ name_points (last_step (node_of self.entry).location) }
+        ensures within { IfSome result (λ s. (s.start ≤ s.end) × (s.end < length (line_of self.entry))) }
+    {
+        let word = self.label();
+        if word == 0 { None } else { Some(unpack(word)) }
+    }
+
+    /// How many elements or members the node has. It walks over them.
+    pub fn child_count(self) -> u32
+        ensures nodes { result ≡ count_of (node_of self.entry) }
+        ensures children { result ≡ count_children (children_in (value_of (node_of self.entry).tree)) }
+    {
+        let mut count = 0;
+        let mut next = self.first_child();
+        while let Some(child) = next {
+            count += 1;
+            next = child.next_sibling();
+        }
+        count
+    }
+
+    /// The place behind the node's subtree.
+    pub fn after(self) -> u32
+        ensures value { result ≡ place_of self.entry + length (subtree (node_of self.entry)) }
+        ensures within { result ≤ length (subtree (root_node (root_of self.entry))) }
+        ensures nodes { slice_range (subtree (root_node (root_of self.entry))) (place_of self.entry) result ≡ subtree (node_of self.entry) }
+    {
+        (self.head() & LOW) as u32
+    }
+
+    /// The first word: the kind's code and the place behind the subtree.
+    fn head(self) -> u64
+        ensures word { result ≡ head_word (kind_code (value_of (node_of self.entry).tree)) (place_of self.entry + length (subtree (node_of self.entry))) }
+        ensures room { place_of self.entry + length (subtree (node_of self.entry)) < 2 ^ 32 }
+    {
+        self.words[3 * self.place as usize]
+    }
+
+    /// The second word: where the value stands.
+    fn body(self) -> u64
+        ensures { result ≡ span_word (span_of (node_of self.entry).tree) }
+    {
+        self.words[3 * self.place as usize + 1]
+    }
+
+    /// The third word: where the body of the name stands, or 0.
+    fn label(self) -> u64
+        ensures { result ≡ name_word (name_of self.entry) }
+    {
+        self.words[3 * self.place as usize + 2]
+    }
+}

@@ -1,0 +1,235 @@
+//! Tapes and faults of lines by hand, and walks over tapes.
+
+ghost use Rattle.std.specs.Prelude.{IfOk};
+ghost use Rattle.jp_tape.specs.Tapes.{IsTapeOf};
+
+use crate::{BuildFault, Cursor, Kind, Tape, build};
+use jp_model::{Framing, LineFault, Span, is_blank};
+use std::alloc::{AllocError, Global};
+
+#[derive(Debug, Drop)]
+enum Fail {
+    Fault(BuildFault),
+    Memory,
+}
+
+impl From<BuildFault> for Fail {
+    fn from(fault: BuildFault) -> Fail {
+        Fail::Fault(fault)
+    }
+}
+
+impl From<AllocError> for Fail {
+    fn from(_error: AllocError) -> Fail {
+        Fail::Memory
+    }
+}
+
+fn read(alloc: Global, line: &[u8], framing: Framing) -> Result<Tape, BuildFault>
+    ensures { IfOk result (λ tape. IsTapeOf tape line.now) }
+{
+    if is_blank(line) || line.len() > 0xffff_ffff {
+        return Err(BuildFault::Memory);
+    }
+    let is_utf8 = std::str::from_utf8(line).is_ok();
+    build(alloc, line, is_utf8, framing)
+}
+
+fn fault(alloc: Global, line: &[u8], framing: Framing) -> Option<LineFault> {
+    match read(alloc, line, framing) {
+        Err(BuildFault::Line(fault)) => Some(fault),
+        Err(BuildFault::Memory) => None,
+        Ok(_) => None,
+    }
+}
+
+fn has_tape(alloc: Global, line: &[u8]) -> bool {
+    read(alloc, line, Framing::Lines).is_ok()
+}
+
+fn is_refused(alloc: Global, line: &[u8], wanted: LineFault) -> bool {
+    fault(alloc, line, Framing::Lines) == Some(wanted)
+}
+
+#[test]
+fn nodes_stand_in_order(rt: HostRuntime) -> Result<(), Fail> {
+    let tape = read(rt.alloc(), b"{\"a\":[1,true]}", Framing::Lines)?;
+    let words: [u64; 12] = [
+        6 * 72057594037927936 + 4,
+        14,
+        0,
+        5 * 72057594037927936 + 4,
+        5 * 4294967296 + 13,
+        2 * 4294967296 + 3,
+        3 * 72057594037927936 + 3,
+        6 * 4294967296 + 7,
+        0,
+        2 * 72057594037927936 + 4,
+        8 * 4294967296 + 12,
+        0,
+    ];
+    assert!(rt; tape.words.as_slice() == words.as_slice());
+    Ok(())
+}
+
+#[test]
+fn texts_are_read(rt: HostRuntime) {
+    let alloc = rt.alloc();
+    assert!(rt; has_tape(alloc, b" null "));
+    assert!(rt; has_tape(alloc, b"-0.5e+10"));
+    assert!(rt;
+        has_tape(
+            alloc,
+            b"[1e0000000000000000001, {}, [], \"\\ud834\\udd1e\\u0041\"]"
+        )
+    );
+    assert!(rt; has_tape(alloc, "{\"é\" : \"𝄞\", \"\" : false}".as_bytes()));
+}
+
+#[test]
+fn faults_are_told(rt: HostRuntime) {
+    let alloc = rt.alloc();
+    assert!(rt; is_refused(alloc, b"[1,]", LineFault::Grammar));
+    assert!(rt; is_refused(alloc, b"01", LineFault::Grammar));
+    assert!(rt; is_refused(alloc, b"\"a", LineFault::Grammar));
+    assert!(rt; is_refused(alloc, b"\"\\x\"", LineFault::Grammar));
+    assert!(rt; is_refused(alloc, b"{\"a\" 1}", LineFault::Grammar));
+    assert!(rt; is_refused(alloc, b"[1]]", LineFault::Grammar));
+    assert!(rt; is_refused(alloc, b"\"\xff\"", LineFault::Utf8));
+    assert!(rt; is_refused(alloc, b"\"\\udc00\"", LineFault::Surrogate));
+    assert!(rt; is_refused(alloc, b"{\"\\ud800\":1}", LineFault::Surrogate));
+    assert!(rt; is_refused(alloc, b"[1e1000000000000000]", LineFault::Number));
+    assert!(rt;
+        is_refused(
+            alloc,
+            b"[{\"a\":1,\"b\":2,\"\\u0061\":3}]",
+            LineFault::Duplicate
+        )
+    );
+    assert!(rt;
+        is_refused(
+            alloc,
+            b"[\"\\ud800\", 1e1000000000000000, {\"a\":1,\"a\":2}]",
+            LineFault::Surrogate
+        )
+    );
+    assert!(rt;
+        is_refused(
+            alloc,
+            b"[\"\\ud800\", {\"a\":1,\"a\":2}",
+            LineFault::Grammar
+        )
+    );
+}
+
+#[test]
+fn equal_names_of_two_objects_are_no_fault(rt: HostRuntime) {
+    assert!(rt; has_tape(rt.alloc(), b"{\"a\":{\"a\":1},\"b\":[{\"a\":2},{\"a\":3}]}"));
+}
+
+#[test]
+fn ends_of_texts_are_seen(rt: HostRuntime) {
+    let alloc = rt.alloc();
+    assert!(rt; fault(alloc, b"12", Framing::Sequence) == Some(LineFault::Truncated));
+    assert!(rt; fault(alloc, b"true", Framing::Sequence) == Some(LineFault::Truncated));
+    assert!(rt; read(alloc, b"12\n", Framing::Sequence).is_ok());
+    assert!(rt; read(alloc, b"[12]", Framing::Sequence).is_ok());
+    assert!(rt; read(alloc, b"\"a\"", Framing::Sequence).is_ok());
+    assert!(rt; read(alloc, b"12", Framing::Lines).is_ok());
+}
+
+fn nested(alloc: Global, opened: usize, closed: usize) -> Result<Vec<u8>, AllocError> {
+    let mut line = Vec::new(alloc);
+    for _ in 0..opened {
+        line.push(b'[')?;
+    }
+    for _ in 0..closed {
+        line.push(b']')?;
+    }
+    Ok(line)
+}
+
+#[test]
+fn depth_is_bounded_and_not_recursive(rt: HostRuntime) -> Result<(), Fail> {
+    let alloc = rt.alloc();
+    let most = nested(alloc, 512, 512)?;
+    assert!(rt; has_tape(alloc, &most));
+    let more = nested(alloc, 513, 513)?;
+    assert!(rt; is_refused(alloc, &more, LineFault::Depth));
+    let many = nested(alloc, 1000000, 1000000)?;
+    assert!(rt; is_refused(alloc, &many, LineFault::Depth));
+    let open = nested(alloc, 1000000, 0)?;
+    assert!(rt; is_refused(alloc, &open, LineFault::Grammar));
+    Ok(())
+}
+
+const LINE: [u8; 25] = *b"{\"a\":[1,\"x\",{}],\"b\":null}";
+
+#[test]
+fn a_root_is_described(rt: HostRuntime) -> Result<(), Fail> {
+    let line = LINE;
+    let tape = read(rt.alloc(), &line, Framing::Lines)?;
+    let root = Cursor::root(&tape, &line);
+    assert_eq!(rt; root.place(), 0);
+    assert_eq!(rt; root.kind(), Kind::Object);
+    assert_eq!(rt; root.span(), Span { start: 0, end: 25 });
+    assert_eq!(rt; root.child_count(), 2);
+    assert_eq!(rt; root.after(), 6);
+    assert_eq!(rt; root.name_span(), None);
+    assert!(rt; root.line() == line.as_slice() && root.source() == line.as_slice());
+    assert!(rt; root.next_sibling().is_none());
+    Ok(())
+}
+
+/// Of each child of a node, in order: its kind, its place, the place behind it, and how many children it has.
+fn described_children(
+    alloc: Global,
+    parent: Cursor<'_>,
+) -> Result<Vec<(Kind, u32, u32, u32)>, AllocError> {
+    let mut children = Vec::new(alloc);
+    let mut next = parent.first_child();
+    while let Some(child) = next {
+        children.push((
+            child.kind(),
+            child.place(),
+            child.after(),
+            child.child_count(),
+        ))?;
+        next = child.next_sibling();
+    }
+    Ok(children)
+}
+
+#[test]
+fn children_are_walked(rt: HostRuntime) -> Result<(), Fail> {
+    let line = LINE;
+    let tape = read(rt.alloc(), &line, Framing::Lines)?;
+    let root = Cursor::root(&tape, &line);
+    let children = described_children(rt.alloc(), root)?;
+    assert_eq!(rt;
+        children.as_slice(),
+        [(Kind::Array, 1, 5, 3), (Kind::Null, 5, 6, 0)].as_slice()
+    );
+    Ok(())
+}
+
+#[test]
+fn a_place_is_found(rt: HostRuntime) -> Result<(), Fail> {
+    let line = LINE;
+    let tape = read(rt.alloc(), &line, Framing::Lines)?;
+    assert!(rt; 5 < Cursor::root(&tape, &line).after());
+    let text = Cursor::at(&tape, &line, 3);
+    assert_eq!(rt; text.kind(), Kind::Text);
+    assert_eq!(rt; text.span(), Span { start: 8, end: 11 });
+    assert_eq!(rt; text.source(), b"\"x\"".as_slice());
+    assert_eq!(rt; text.name_span(), None);
+    assert!(rt; text.first_child().is_none());
+    let empty = text.go_to(4);
+    assert_eq!(rt; empty.kind(), Kind::Object);
+    assert!(rt; empty.first_child().is_none() && empty.next_sibling().is_none());
+    let member = empty.go_to(5);
+    assert_eq!(rt; member.name_span(), Some(Span { start: 17, end: 18 }));
+    assert_eq!(rt; member.source(), b"null".as_slice());
+    assert_eq!(rt; member.top().place(), 0);
+    Ok(())
+}
