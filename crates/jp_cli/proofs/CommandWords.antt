@@ -39,11 +39,11 @@ parted (c ∷ x) (suc at) h =
     let here = at_other c x no_space in
     (here.0 ∙ ap (λ w. c ∷ w) later.0, here.1 ∙ later.1)
 
--- the two words with no argument are not answered yet
-unless_words : (p q : Bool) (other : Command) → known other ≡ unknown_line → known (if p then indexes_line else if q then check_line else other) ≡ unknown_line
-unless_words true q other h = refl
-unless_words false true other h = refl
-unless_words false false other h = h
+-- of the two words with no argument the one is not answered yet, and the other was looked for
+unless_words : (p q : Bool) (other : Command) → q ≡ false → known other ≡ unknown_line → known (if p then indexes_line else if q then check_line else other) ≡ unknown_line
+unless_words true q other n h = refl
+unless_words false true other n h = absurd (cc)
+unless_words false false other n h = h
 
 not_words : (p q : Bool) (other : Command) → (p ≡ true → ⊥) → (q ≡ true → ⊥) → known (if p then indexes_line else if q then check_line else other) ≡ known other
 not_words true q other f g = absurd (f refl)
@@ -88,10 +88,10 @@ no_word word none line rest some e =
     absurd (cc)
 
 -- what a line without a space asks for
-pub asks_nothing : (line : List ℕ) → (length line ≡ 0 → ⊥) → IsFirstByte (is_byte 32) line None → asked_by line ≡ unknown_line
-asks_nothing [] some h = absurd (some refl)
-asks_nothing (c ∷ x) some h =
-    unless_words (text_equal (c ∷ x) (codes "indexes")) (text_equal (c ∷ x) (codes "check")) (command_with (first_word (c ∷ x)) (behind_word (c ∷ x)))
+pub asks_nothing : (line : List ℕ) → (length line ≡ 0 → ⊥) → text_equal line (codes "check") ≡ false → IsFirstByte (is_byte 32) line None → asked_by line ≡ unknown_line
+asks_nothing [] some other h = absurd (some refl)
+asks_nothing (c ∷ x) some other h =
+    unless_words (text_equal (c ∷ x) (codes "indexes")) (text_equal (c ∷ x) (codes "check")) (command_with (first_word (c ∷ x)) (behind_word (c ∷ x))) other
     (ap (λ rest. known (command_with (first_word (c ∷ x)) rest)) (no_argument (c ∷ x) h))
 
 -- what a line with a space asks for
@@ -115,3 +115,7 @@ asks_other line at h e = asks_with line at h ∙ other_word (take at line) (drop
 
 pub not_empty : (n : ℕ) (is_empty : Bool) → is_empty ≡ (n == 0) → is_empty ≡ false → n ≡ 0 → ⊥
 not_empty n is_empty test no_test none = eqb-false n 0 (sym test ∙ no_test) none
+
+-- what the word alone asks for
+pub asks_check : (line : List ℕ) → text_equal line (codes "check") ≡ true → check_line ≡ asked_by line
+asks_check line e = sym (ap asked_by (text_same line (codes "check") e))

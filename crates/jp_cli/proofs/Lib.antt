@@ -4,13 +4,11 @@ mod Ending
 mod FinalReturns
 mod LineSizes
 mod Loading
-mod Members
-mod NamedBodies
-mod NamePieces
 mod Program
 mod RowTexts
-mod OwnBodies
+mod NodeRows
 mod RowsWritten
+mod RefusalsWritten
 mod Runs
 mod Answering
 mod ScriptSoFar

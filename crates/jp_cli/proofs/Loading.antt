@@ -4,12 +4,9 @@ use Rattle.std.proofs.lemmas.List.{length-map, map-append}
 use Rattle.std.specs.Prelude.{suc, All}
 use Rattle.std.proofs.lemmas.List.Elements.{All-append, All-cons}
 use Rattle.jp_cli.specs.declared.store.Line.{Line}
-use Rattle.jp_cli.specs.Stored.{IsRead, AreRead}
+use Rattle.jp_cli.specs.Stored.{text_of, IsRead, AreRead}
 
 -- the text of a line that is read
-abbrev pub text_of : Line → List ℕ
-text_of line = line.text.items
-
 pub first_came : (stored : List Line) (left all : List (List ℕ)) → stored ≡ [] → left ≡ all → map text_of stored ++ left ≡ all
 first_came stored left all e f = ap (λ s. map text_of s ++ left) e ∙ f
 

@@ -17,9 +17,9 @@ use Rattle.jp_model.specs.Script.Machine.{row_text, is_node, text_or_nothing}
 use Rattle.jp_cli.specs.declared.store.Line.{Line}
 use Rattle.jp_cli.specs.declared.store.Row.{Row as Found}
 use Rattle.jp_cli.specs.Stored.{line_row_text, found_text, is_found_node}
-use Rattle.jp_cli.proofs.Loading.{text_of}
+use Rattle.jp_cli.specs.Stored.{text_of}
 
-count_append : {X : Type 0} (p : X → Bool) (xs ys : List X) → count_by p (xs ++ ys) ≡ count_by p xs + count_by p ys
+pub count_append : {X : Type 0} (p : X → Bool) (xs ys : List X) → count_by p (xs ++ ys) ≡ count_by p xs + count_by p ys
 count_append p xs ys = sum_by-append (λ x. cond (p x) 1 0) xs ys
 
 -- the rows of the nodes of a line have that line's bytes

@@ -7,4 +7,5 @@ use Rattle.jp_cli.specs.declared.command.Command.TheVariants as commands
 abbrev pub command_view : Command → script.Command
 command_view commands.Empty = script.empty_line
 command_view (commands.Query argument) = script.query_line argument.now
+command_view commands.Check = script.check_line
 command_view commands.Unknown = script.unknown_line

@@ -4,10 +4,7 @@ pub mod Asked
 pub mod Collections
 pub mod Commands
 pub mod Ends
-pub mod Found
-pub mod NamesQuery
 pub mod Refusals
 pub mod Runs
-pub mod Steps
 pub mod Stored
 pub mod Words

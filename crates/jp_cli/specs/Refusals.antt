@@ -1,11 +1,11 @@
 -- Why a query's text is refused.
 use Rattle.std.specs.Prelude.{◌≡◌, ℕ, List}
 use Rattle.jp_model.specs.Query.Status.{refused_query}
-use Rattle.jp_cli.specs.NamesQuery.{query_of}
-use Rattle.jp_cli.specs.declared.names.NamesFault.{NamesFault}
-use Rattle.jp_cli.specs.declared.names.NamesFault.TheVariants as names_faults
+use Rattle.jp_query.specs.Status.{query_of}
+use Rattle.jp_cli.specs.declared.query.Refusal.{Refusal}
+use Rattle.jp_cli.specs.declared.query.Refusal.TheVariants as refusals
 
 -- the text is refused by the fault; a refused growth says nothing
-abbrev pub RefusesNames : List ℕ → NamesFault → Type 0
-RefusesNames text (names_faults.Refused fault) = query_of text ≡ refused_query fault
-RefusesNames text names_faults.Memory = Unit {0}
+abbrev pub RefusesQueryText : List ℕ → Refusal → Type 0
+RefusesQueryText text (refusals.Query fault) = query_of text ≡ refused_query fault
+RefusesQueryText text refusals.Memory = Unit {0}

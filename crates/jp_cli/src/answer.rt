@@ -7,12 +7,13 @@ ghost use Rattle.jp_model.specs.Script.Commands.{MayWantMemory, without_final_cr
 ghost use Rattle.jp_model.specs.Script.Machine.{step, query_answer, count_line};
 ghost use Rattle.jp_cli.specs.Answers.{answer_text};
 ghost use Rattle.jp_cli.specs.Asked.{asked_in};
-ghost use Rattle.jp_cli.specs.NamesQuery.{query_of};
+ghost use Rattle.jp_query.specs.Status.{query_of};
 ghost use Rattle.jp_cli.specs.Stored.{found_text, is_found_node};
 ghost use Rattle.jp_cli.specs.declared.answer.Answer.TheVariants as answers;
 
+use crate::check::write_check;
 use crate::command::{Command, read_command};
-use crate::names::{NamesFault, read_names};
+use crate::query::{Refusal, read_query};
 use crate::store::{Row, Store};
 use jp_model::{Framing, QueryFault, Setup, Watched};
 use jp_rows::{WriteFault, write_count, write_node, write_refusal, write_whole};
@@ -28,6 +29,8 @@ pub(crate) enum Answer<'a> {
     QueryRefused(QueryFault),
     /// The rows of a query, and their count.
     Rows(Vec<Row<'a>>),
+    /// The refused lines, and how many lines there are.
+    Check(&'a Store),
 }
 
 /// The line without one final CR.
@@ -46,13 +49,13 @@ fn without_final_cr(line: &[u8]) -> &[u8]
 fn answer_query<'a>(store: &'a Store, alloc: Global, text: &[u8]) -> Result<Answer<'a>, AllocError>
     ensures { IfOk result (λ answer. answer_text answer ≡ query_answer framings.Lines store.now (query_of text.now)) }
 {
-    match read_names(alloc, text) {
-        Ok(names) => {
-            let rows = store.rows(alloc, names.as_slice())?;
+    match read_query(alloc, text) {
+        Ok(checked) => {
+            let rows = store.rows(alloc, &checked)?;
             Ok(Answer::Rows(rows))
         }
-        Err(NamesFault::Refused(fault)) => Ok(Answer::QueryRefused(fault)),
-        Err(NamesFault::Memory) => Err(AllocError),
+        Err(Refusal::Query(fault)) => Ok(Answer::QueryRefused(fault)),
+        Err(Refusal::Memory) => Err(AllocError),
     }
 }
 
@@ -71,6 +74,7 @@ pub(crate) fn answer_command<'a>(
     match read_command(without_final_cr(line)) {
         Command::Empty => Ok(Answer::Fixed(b"")),
         Command::Query(text) => answer_query(store, alloc, text),
+        Command::Check => Ok(Answer::Check(store)),
         Command::Unknown => Ok(Answer::Fixed(b"error: command\n")),
     }
 }
@@ -153,5 +157,6 @@ pub(crate) fn write_answer<W: Write>(
         Answer::Fixed(words) => write_whole(words, out),
         Answer::QueryRefused(fault) => write_query_fault(*fault, out),
         Answer::Rows(rows) => write_rows_and_count(rows.as_slice(), out),
+        Answer::Check(store) => write_check(store, out),
     }
 }

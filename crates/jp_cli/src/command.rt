@@ -12,6 +12,8 @@ pub(crate) enum Command<'a> {
     Empty,
     /// The nodes of a query, whose text stands behind the word.
     Query(&'a [u8]),
+    /// The refused lines, and how many lines there are.
+    Check,
     /// What no command of this version does.
     Unknown,
 }
@@ -22,6 +24,9 @@ pub(crate) fn read_command(line: &[u8]) -> Command<'_>
 {
     if line.is_empty() {
         return Command::Empty;
+    }
+    if line == b"check".as_slice() {
+        return Command::Check;
     }
     let Some(end) = memchr(b' ', line) else {
         return Command::Unknown;

@@ -5,7 +5,7 @@ ghost use Rattle.jp_model.specs.declared.Framing.TheVariants as framings;
 ghost use Rattle.jp_model.specs.Devices.{Gave, HasEnded};
 ghost use Rattle.jp_model.specs.Script.Headline.{RunEnded, RunStopped, is_write_fault, is_read_collection, OnlyReadScript};
 ghost use Rattle.jp_cli.specs.Asked.{asked_by};
-ghost use Rattle.jp_cli.specs.NamesQuery.{query_of};
+ghost use Rattle.jp_query.specs.Status.{query_of};
 
 use crate::collection::{CollectionFault, read_collection};
 use crate::script::run_script;

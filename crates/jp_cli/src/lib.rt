@@ -2,12 +2,12 @@
 #![tactic(auto)]
 
 mod answer;
+mod check;
 mod collection;
 mod command;
 mod end;
 mod engine;
-mod find;
-mod names;
+mod query;
 mod script;
 mod store;
 mod words;

@@ -6,7 +6,7 @@ ghost use Rattle.jp_model.specs.Devices.{Gave, HasEnded, Writes};
 ghost use Rattle.jp_model.specs.Lines.{HasNoSeparator, text_lines, closed_lines, open_line};
 ghost use Rattle.jp_model.specs.Script.Headline.{Answered, is_write_fault, OnlyReadScript};
 ghost use Rattle.jp_cli.specs.Asked.{asked_in};
-ghost use Rattle.jp_cli.specs.NamesQuery.{query_of};
+ghost use Rattle.jp_query.specs.Status.{query_of};
 ghost use Rattle.jp_cli.specs.Runs.{MayAnswer, Ran, StoppedIn, ScriptStopped};
 
 use crate::answer::{answer_command, write_answer};

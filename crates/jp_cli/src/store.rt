@@ -1,18 +1,18 @@
 //! The lines of a collection, each read as it was loaded.
 
-ghost use Rattle.std.specs.Prelude.{◌≡◌, ◌↔◌, ◌<◌, ◌+◌, ◌++◌, ◌^◌, ℕ, List, [], All, map, flat_map, count_by, length, IfOk, OnOk, OnErr, IsTrue, IsUtf8};
+ghost use Rattle.std.specs.Prelude.{◌≡◌, ◌↔◌, ◌<◌, ◌+◌, ◌++◌, ◌^◌, ℕ, List, [], map, flat_map, count_by, length, IfOk, OnOk, IsTrue, IsUtf8};
 ghost use Rattle.jp_model.specs.Lines.{lines};
 ghost use Rattle.jp_model.specs.declared.Framing.TheVariants as framings;
 ghost use Rattle.jp_model.specs.Json.Reader.{status_of};
 ghost use Rattle.jp_model.specs.Rows.{rows as rows_of, status_rows};
 ghost use Rattle.jp_model.specs.Script.Machine.{row_text, is_node, statuses};
-ghost use Rattle.jp_cli.specs.Found.{IsOwnBody};
-ghost use Rattle.jp_cli.specs.NamesQuery.{name_segments};
-ghost use Rattle.jp_cli.specs.Stored.{IsOfKind, IsRead, found_text, is_found_node, line_row_text};
+ghost use Rattle.jp_types.specs.Checks.{checked_view};
+ghost use Rattle.jp_cli.specs.Stored.{AreRead, text_of, IsOfKind, IsRead, found_text, cursor_text, is_found_node, line_row_text};
 
-use crate::find::find_node;
+use jp_eval::eval_from;
 use jp_model::{Framing, LineFault, Lines, is_blank};
 use jp_tape::{BuildFault, Cursor, Tape, build};
+use jp_types::Checked;
 use std::alloc::{AllocError, Global};
 use std::marker::Model;
 
@@ -106,38 +106,47 @@ impl Store {
         Ok(Store { lines: stored })
     }
 
-    /// The rows of a query of names, line by line.
-    pub(crate) fn rows(&self, alloc: Global, names: &[&[u8]]) -> Result<Vec<Row<'_>>, AllocError>
-        requires { All (λ name. IsOwnBody name.now) names.now }
+    /// The lines, in order.
+    pub(crate) fn lines(&self) -> &[Line]
+        ensures lines { map text_of result.now ≡ self.now.lines }
+        ensures read { AreRead result.now }
+    {
+        self.lines.as_slice()
+    }
+
+    /// The rows of a query, line by line.
+    pub(crate) fn rows(&self, alloc: Global, query: &Checked) -> Result<Vec<Row<'_>>, AllocError>
         ensures text { IfOk result (λ rows. flat_map (found_text framings.Lines) rows.items
-            ≡ flat_map (row_text framings.Lines self.now.lines) (rows_of (name_segments (map (λ name. name.now) names.now)) (statuses framings.Lines self.now.lines))) }
+            ≡ flat_map (row_text framings.Lines self.now.lines) (rows_of (checked_view query.now) (statuses framings.Lines self.now.lines))) }
         ensures count { IfOk result (λ rows. count_by is_found_node rows.items
-            ≡ count_by is_node (rows_of (name_segments (map (λ name. name.now) names.now)) (statuses framings.Lines self.now.lines))) }
+            ≡ count_by is_node (rows_of (checked_view query.now) (statuses framings.Lines self.now.lines))) }
     {
         let mut rows = Vec::new(alloc);
+        let mut found = Vec::new(alloc);
         let mut number = 0;
         for line in &self.lines {
             number += 1;
-            push_row(line, number, names, &mut rows)?;
+            push_rows(alloc, line, number, query, &mut found, &mut rows)?;
         }
         Ok(rows)
     }
 }
 
-/// Puts the row of a line behind others: of its node that the names lead to, or of its refusal. An `Err` changes nothing.
-fn push_row<'a>(
+/// Puts the rows of a line behind others: of the nodes that the query selects in it, or of its refusal. `found` lends its
+/// memory.
+fn push_rows<'a>(
+    alloc: Global,
     line: &'a Line,
     number: u32,
-    names: &[&[u8]],
+    query: &Checked,
+    found: &mut Vec<Cursor<'a>>,
     rows: &mut Vec<Row<'a>>,
 ) -> Result<(), AllocError>
     requires read { IsRead line.now }
-    requires names { All (λ name. IsOwnBody name.now) names.now }
     ensures text { OnOk result (flat_map (found_text framings.Lines) rows.new.items ≡ flat_map (found_text framings.Lines) rows.old.items
-        ++ flat_map (line_row_text framings.Lines line.now.text.items) (status_rows (name_segments (map (λ name. name.now) names.now)) number (status_of framings.Lines line.now.text.items))) }
+        ++ flat_map (line_row_text framings.Lines line.now.text.items) (status_rows (checked_view query.now) number (status_of framings.Lines line.now.text.items))) }
     ensures count { OnOk result (count_by is_found_node rows.new.items ≡ count_by is_found_node rows.old.items
-        + count_by is_node (status_rows (name_segments (map (λ name. name.now) names.now)) number (status_of framings.Lines line.now.text.items))) }
-    ensures err { OnErr result (rows.new.items ≡ rows.old.items) }
+        + count_by is_node (status_rows (checked_view query.now) number (status_of framings.Lines line.now.text.items))) }
 {
     match &line.kind {
         LineKind::Blank => Ok(()),
@@ -149,13 +158,30 @@ fn push_row<'a>(
             Ok(())
         }
         LineKind::Tree(tape) => {
-            if let Some(cursor) = find_node(Cursor::root(tape, line.text.as_slice()), names) {
-                rows.push(Row::Node {
-                    line: number,
-                    cursor,
-                })?;
-            }
-            Ok(())
+            let root = Cursor::root(tape, line.text.as_slice());
+            found.clear();
+            eval_from(alloc, query.segments(), root, root, found)?;
+            push_nodes(number, found.as_slice(), rows)
         }
     }
+}
+
+/// Puts a row of each node behind others.
+fn push_nodes<'a>(
+    number: u32,
+    found: &[Cursor<'a>],
+    rows: &mut Vec<Row<'a>>,
+) -> Result<(), AllocError>
+    ensures text { OnOk result (flat_map (found_text framings.Lines) rows.new.items ≡ flat_map (found_text framings.Lines) rows.old.items
+        ++ flat_map (cursor_text framings.Lines number) found.now) }
+    ensures count { OnOk result (count_by is_found_node rows.new.items ≡ count_by is_found_node rows.old.items + length found.now) }
+{
+    rows.reserve(found.len())?;
+    for cursor in found {
+        rows.push(Row::Node {
+            line: number,
+            cursor: *cursor,
+        })?;
+    }
+    Ok(())
 }

@@ -3,4 +3,4 @@ pub mod Chains
 mod Printed
 mod Plain
 mod Named
-mod Walks
+mod Summaries

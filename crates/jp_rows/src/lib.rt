@@ -4,10 +4,12 @@
 mod names;
 mod path;
 mod rows;
+mod summary;
 mod whole;
 
 pub use path::write_path;
 pub use rows::{write_count, write_node, write_refusal};
+pub use summary::write_summary;
 pub use whole::{WriteFault, write_whole};
 
 #[cfg(test)]

@@ -7,7 +7,7 @@ ghost use Rattle.jp_model.specs.Steps.{name_step, index_step};
 ghost use Rattle.jp_model.specs.Meaning.Nodes.{step_to};
 ghost use Rattle.jp_model.specs.Meaning.Paths.{hex_digit as hex_digit_of, name_scalar, step_text};
 ghost use Rattle.jp_strings.specs.Points.{IsText, points_of};
-ghost use Rattle.jp_tape.specs.Cursors.{name_of};
+ghost use Rattle.jp_tape.specs.Cursors.{name_of, index_of};
 ghost use Rattle.jp_rows.specs.Names.{name_text, is_plain_byte as is_plain_one};
 
 use crate::whole::{WriteFault, write_whole};
@@ -116,18 +116,17 @@ pub(crate) fn write_index_step<W: Write>(index: u32, out: &mut Watched<W>) -> Re
     write_whole(b"]", out)
 }
 
-/// Writes the step to a child of that index: its name, where it has one, or the index.
+/// Writes the step to a child: its name, where it has one, or its index.
 pub(crate) fn write_step<W: Write>(
     child: Cursor<'_>,
-    index: u32,
     out: &mut Watched<W>,
 ) -> Result<(), WriteFault>
     requires { out.old.failed ≡ false }
-    ensures text { Writes W.contents out.old out.new result (encode_utf8_all (step_text (step_to index (name_of child.entry)))) }
+    ensures text { Writes W.contents out.old out.new result (encode_utf8_all (step_text (step_to (index_of child.entry) (name_of child.entry)))) }
     ensures fault { out.new.failed ≡ is_err result }
 {
     match child.name_span() {
         Some(body) => write_name_step(&child.line()[body.start as usize..body.end as usize], out),
-        None => write_index_step(index, out),
+        None => write_index_step(child.index(), out),
     }
 }

@@ -1,3 +1,7 @@
+//! Rows, and the parts of them, by hand.
+
+mod paths;
+
 use super::*;
 use crate::names::{write_index_step, write_name_step};
 use jp_model::{Framing, LineFault, Watched};

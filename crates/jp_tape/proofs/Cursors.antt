@@ -1,27 +1,29 @@
 -- What is so of every cursor.
-use Rattle.std.proofs.Common.{◌≡◌, ℕ, ◌+◌, ◌*◌, ◌<◌, ◌≤◌, ◌^◌, true, false, ◌==◌, List, [], ◌∷◌, length, get_or, slice_get, slice_range, sym, ◌∙◌, ap, ap₂, subst, refl, arith, Option, Some, None}
+use Rattle.std.proofs.Common.{◌≡◌, ℕ, ◌+◌, ◌*◌, ◌<◌, ◌≤◌, ◌^◌, true, false, ◌==◌, inl, inr, List, [], ◌∷◌, ◌++◌, length, get_or, slice_get, slice_range, sym, ◌∙◌, ap, ap₂, subst, refl, arith, Option, Some, None}
 use Rattle.std.specs.Prelude.{IfSome, option_map}
-use Rattle.std.proofs.lemmas.Bool.{ne_eqb}
+use Rattle.std.proofs.lemmas.Bool.{ne_eqb, cases_lt}
+use Rattle.std.proofs.lemmas.Option.{slice_get_within}
 use Rattle.jp_model.specs.declared.Span.{Span}
 use Rattle.jp_model.specs.Steps.{Step}
 use Rattle.jp_model.specs.Json.Places.{byte_at}
 use Rattle.jp_model.specs.Json.Strings.{SpellsBody, has_lone_surrogate}
-use Rattle.jp_model.specs.Json.Faults.{name_has_lone_surrogate, has_surrogate, has_duplicate}
+use Rattle.jp_model.specs.Json.Faults.{name_has_lone_surrogate, has_surrogate, has_long_exponent, has_duplicate}
 use Rattle.jp_model.specs.Json.Tree.{Children, no_child, child, Name, span, value_of}
 use Rattle.jp_model.specs.Json.Spelling.{Text}
 use Rattle.jp_model.specs.Json.Reader.{skip}
-use Rattle.jp_model.specs.Meaning.Nodes.{Node, root_node, children, subtree}
+use Rattle.jp_model.specs.Meaning.Nodes.{Node, root_node, step_to, children, subtree}
 use Rattle.jp_model.proofs.Reader.Lexical.{clash}
 use Rattle.jp_model.proofs.Reader.Scans.{skip_is}
 use Rattle.jp_tape.specs.declared.cursor.Cursor.{Cursor}
-use Rattle.jp_tape.specs.Words.{node_count, children_node_count, head_word, span_word, name_word, kind_code}
+use Rattle.jp_tape.specs.Words.{node_count, children_node_count, head_word, span_word, name_word, up_word, kind_code}
 use Rattle.jp_tape.specs.Spots.{Spot, spot_at, children_in, nodes_at, nodes_behind, last_step, name_points}
 use Rattle.jp_tape.specs.Tapes.{spelled}
-use Rattle.jp_tape.specs.Cursors.{line_of, place_of, root_of, spot_of, node_of, name_of, nodes_after, children_after, nodes_from, children_from}
-use Rattle.jp_tape.proofs.Spots.{length-subtree, length-tape, head-at, span-at, name-at}
+use Rattle.jp_tape.specs.Cursors.{line_of, place_of, root_of, spot_of, node_of, name_of, up_of, index_of, nodes_after, children_after, nodes_from, children_from}
+use Rattle.jp_tape.proofs.Spots.{length-subtree, length-tape, head-at, span-at, name-at, up-at}
 use Rattle.jp_tape.proofs.Places as places
+use Rattle.jp_tape.proofs.Parents.{HasParent, has_parent}
 use Rattle.jp_tape.proofs.Bounds.{room}
-use Rattle.jp_tape.proofs.Stands.{Stands, stands, has_more, NameStands}
+use Rattle.jp_tape.proofs.Stands.{Stands, stands, has_more, NameStands, last-push}
 use Rattle.jp_tape.proofs.Sound.{Sound, sound_at}
 use Rattle.jp_tape.proofs.Trees.{spelled_text, count_short}
 
@@ -50,6 +52,10 @@ short c = c.short
 pub whole : (c : Cursor) → has_surrogate (root_of c) ≡ false
 unfolding line_of
 whole c = c.whole
+
+pub exponents : (c : Cursor) → has_long_exponent (line_of c) (root_of c) ≡ false
+unfolding line_of
+exponents c = c.exponents
 
 pub distinct : (c : Cursor) → has_duplicate (root_of c) ≡ false
 unfolding line_of
@@ -90,8 +96,8 @@ subtree-range c =
 pub standing : (c : Cursor) → Stands (line_of c) (spot_of c)
 standing c = subst (λ (s : Spot). Stands (line_of c) s) (sym (spot-is c)) (stands (line_of c) (root_of c) (place_of c) (text c) (inside c))
 
-pub sound : (c : Cursor) → Sound (spot_of c)
-sound c = subst (λ (s : Spot). Sound s) (sym (spot-is c)) (sound_at (root_of c) (place_of c) (whole c) (distinct c) (inside c))
+pub sound : (c : Cursor) → Sound (line_of c) (spot_of c)
+sound c = subst (λ (s : Spot). Sound (line_of c) s) (sym (spot-is c)) (sound_at (line_of c) (root_of c) (place_of c) (whole c) (exponents c) (distinct c) (inside c))
 
 pub span_room : (c : Cursor) → ((span (node_of c).tree).start < (span (node_of c).tree).end) × ((span (node_of c).tree).end ≤ length (line_of c))
 span_room c =
@@ -101,7 +107,7 @@ span_room c =
 
 -- ---- its words
 
-pub words_long : (c : Cursor) → place_of c * 3 + 2 < length c.words.now
+pub words_long : (c : Cursor) → place_of c * 4 + 3 < length c.words.now
 unfolding line_of
 words_long c =
     let a = ap length c.words_are in
@@ -109,7 +115,7 @@ words_long c =
     let d = inside c in
     omega (arith, a, b, d)
 
-pub head-of : (c : Cursor) (i : ℕ) → i ≡ place_of c * 3 → get_or c.words.now i 0 ≡ head_word (kind_code (value_of (node_of c).tree)) (place_of c + length (subtree (node_of c)))
+pub head-of : (c : Cursor) (i : ℕ) → i ≡ place_of c * 4 → get_or c.words.now i 0 ≡ head_word (kind_code (value_of (node_of c).tree)) (place_of c + length (subtree (node_of c)))
 unfolding line_of
 head-of c i e =
     ap (λ w. get_or w i 0) c.words_are
@@ -117,13 +123,17 @@ head-of c i e =
     ∙ (ap (λ (s : Spot). head_word (kind_code (value_of s.node.tree)) (place_of c + node_count s.node.tree)) (sym (spot-is c))
     ∙ ap (λ n. head_word (kind_code (value_of (node_of c).tree)) (place_of c + n)) (sym (length-subtree (node_of c)))))
 
-pub span-of : (c : Cursor) (i : ℕ) → i ≡ place_of c * 3 + 1 → get_or c.words.now i 0 ≡ span_word (span (node_of c).tree)
+pub span-of : (c : Cursor) (i : ℕ) → i ≡ place_of c * 4 + 1 → get_or c.words.now i 0 ≡ span_word (span (node_of c).tree)
 unfolding line_of
 span-of c i e = ap (λ w. get_or w i 0) c.words_are ∙ (span-at (root_of c) (place_of c) i (inside c) e ∙ ap (λ (s : Spot). span_word (span s.node.tree)) (sym (spot-is c)))
 
-pub name-of : (c : Cursor) (i : ℕ) → i ≡ place_of c * 3 + 2 → get_or c.words.now i 0 ≡ name_word (name_of c)
+pub name-of : (c : Cursor) (i : ℕ) → i ≡ place_of c * 4 + 2 → get_or c.words.now i 0 ≡ name_word (name_of c)
 unfolding line_of
 name-of c i e = ap (λ w. get_or w i 0) c.words_are ∙ (name-at (root_of c) (place_of c) i (inside c) e ∙ ap (λ (s : Spot). name_word s.name) (sym (spot-is c)))
+
+pub up-of : (c : Cursor) (i : ℕ) → i ≡ place_of c * 4 + 3 → get_or c.words.now i 0 ≡ up_word (up_of c) (index_of c)
+unfolding line_of
+up-of c i e = ap (λ w. get_or w i 0) c.words_are ∙ (up-at (root_of c) (place_of c) i (inside c) e ∙ ap (λ (s : Spot). up_word s.up s.index) (sym (spot-is c)))
 
 -- ---- its name
 
@@ -191,6 +201,53 @@ first_child c d l p h =
       ap (λ (s : Spot). s.node ∷ nodes_behind s) at ∙ (found.0 ∙ ap (λ (s : Spot). children s.node) (sym e)),
       ap (λ (s : Spot). child s.name s.node.tree s.behind) at ∙ (found.1 ∙ ap (λ (s : Spot). children_in (value_of s.node.tree)) (sym e)),
     )
+
+-- its parent in its tree
+parent_of : (c : Cursor) → 0 < place_of c → HasParent (root_of c) (place_of c) (spot_of c)
+parent_of c l = subst (λ (s : Spot). HasParent (root_of c) (place_of c) s) (sym (spot-is c)) (has_parent (root_of c) (place_of c) l (inside c))
+
+-- a cursor at its parent's place
+pub parent_is : (c p : Cursor) → line_of p ≡ line_of c → place_of p ≡ up_of c → 0 < place_of c →
+    (place_of p < place_of c) × (slice_get (children (node_of p)) (index_of c) ≡ Some (node_of c)) × ((node_of c).location ≡ (node_of p).location ++ step_to (index_of c) (name_of c) ∷ [])
+parent_is c p l e h =
+    let r = parent_of c h in
+    let b = r.before in
+    let at : spot_of p ≡ spot_at (root_of c) (up_of c) = spot-is p ∙ ap₂ (λ (x : List ℕ) (n : ℕ). spot_at (spelled x) n) l e in (
+      omega (arith, e, b),
+      ap (λ (s : Spot). slice_get (children s.node) (index_of c)) at ∙ r.child,
+      r.location ∙ ap (λ (s : Spot). s.node.location ++ step_to (index_of c) (name_of c) ∷ []) (sym at),
+    )
+
+-- its last step
+pub last_is : (c : Cursor) → 0 < place_of c → last_step (node_of c).location ≡ Some (step_to (index_of c) (name_of c))
+last_is c h = let r = parent_of c h in ap last_step r.location ∙ last-push (spot_at (root_of c) (up_of c)).node.location (step_to (index_of c) (name_of c))
+
+pub up_within : (c : Cursor) → 0 < place_of c → up_of c < length (subtree (root_node (root_of c)))
+up_within c h = let b = (parent_of c h).before in let w = within c in omega (arith, b, w)
+
+pub index_short : (c : Cursor) → index_of c < 2 ^ 32
+index_short c =
+    let n = few c in
+    let l = short c in
+    elim (cases_lt 0 (place_of c)) [
+      | inl lt ↦ (
+          let r = parent_of c lt in
+          let b = r.before in
+          let w = inside c in
+          let parent : Node = (spot_at (root_of c) (up_of c)).node in
+          let i = slice_get_within (children parent) (index_of c) (node_of c) r.child in
+          let k = places.few_children parent in
+          let m = places.count-in parent.tree in
+          let s = length-subtree parent in
+          let a = places.after_within (root_of c) (up_of c) (omega (arith, b, w)) in
+          omega (arith, n, l, i, k, m, s, a)
+          )
+      | inr le ↦ (
+          let z : place_of c ≡ 0 = omega (arith, le) in
+          let e : index_of c ≡ 0 = ap (λ (s : Spot). s.index) (spot-is c) ∙ ap (λ (k : ℕ). (spot_at (root_of c) k).index) z in
+          omega (arith, e)
+          )
+    ]
 
 some_more : (behind : Children) → has_more behind ≡ true → 0 < children_node_count behind
 some_more no_child h = absurd (clash false h refl)

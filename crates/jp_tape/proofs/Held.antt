@@ -1,11 +1,11 @@
 -- What the builder holds is that of the state.
-use Rattle.std.proofs.Common.{◌≡◌, ℕ, suc, ◌+◌, ◌-◌, ◌*◌, ◌/◌, ◌≤◌, max, Bool, true, false, ◌||◌, List, [], ◌∷◌, ◌++◌, length, take, get_or, sym, ◌∙◌, ap, ap₂, refl, arith, Option, Some, None, append_assoc, append-nil, add-zero, add_assoc, length-append, get_or-append-add, true≢false}
+use Rattle.std.proofs.Common.{◌≡◌, ℕ, suc, ◌+◌, ◌-◌, ◌*◌, ◌/◌, ◌<◌, ◌≤◌, max, Bool, true, false, ◌||◌, List, [], ◌∷◌, ◌++◌, length, set, take, get_or, sym, ◌∙◌, ap, ap₂, refl, arith, Option, Some, None, append_assoc, append-nil, add-zero, add_assoc, length-append, get_or-append-add, true≢false}
 use Rattle.std.proofs.Math.Seq.{take-append_seam}
-use Rattle.jp_model.specs.Json.Tree.{Tree, node, Value, null, boolean, number, string, container, Children, no_child, child, Name}
+use Rattle.jp_model.specs.Json.Tree.{Tree, node, Value, null, boolean, number, string, container, Children, no_child, child, Name, count_children}
 use Rattle.jp_model.specs.Json.Faults.{depth, greatest_depth, name_has_lone_surrogate, has_surrogate, children_have_surrogate, has_long_exponent, children_have_long_exponent, name_points, names, has_duplicate, children_have_duplicate}
 use Rattle.jp_tape.specs.declared.builder.machine.Open.{Open}
-use Rattle.jp_tape.specs.Words.{node_count, value_node_count, children_node_count, name_word, words_from, words_below, children_words}
-use Rattle.jp_tape.specs.Machine.{joined, Frame, open_count, open_words, open_names, opens, open_of, open_depth, open_surrogate, open_long, open_duplicate}
+use Rattle.jp_tape.specs.Words.{node_count, value_node_count, children_node_count, name_word, up_word, words_from, words_below, children_words}
+use Rattle.jp_tape.specs.Machine.{joined, Frame, open_count, open_words, open_names, opens, open_of, next_parent, next_index, next_up, open_depth, open_surrogate, open_long, open_duplicate}
 
 -- ---- tests
 
@@ -35,67 +35,121 @@ right_false false b h = h
 -- ---- words
 
 mutual
-  pub length_words : (place : ℕ) (own : Option Name) (t : Tree) → length (words_from place own t) ≡ 3 * node_count t
-  length_words place own (node s v) = length_below (place + 1) v
+  pub length_words : (place parent index : ℕ) (own : Option Name) (t : Tree) → length (words_from place parent index own t) ≡ 4 * node_count t
+  length_words place parent index own (node s v) = length_below place v
 
-  length_below : (place : ℕ) (v : Value) → suc (suc (suc (length (words_below place v)))) ≡ 3 * value_node_count v
+  length_below : (place : ℕ) (v : Value) → suc (suc (suc (suc (length (words_below place v))))) ≡ 4 * value_node_count v
   length_below place null = refl
   length_below place (boolean b) = refl
   length_below place (number m e) = refl
   length_below place (string points) = refl
-  length_below place (container kind children) = let e = length_children place children in omega (arith, e)
+  length_below place (container kind children) = let e = length_children (place + 1) place 0 children in omega (arith, e)
 
-  pub length_children : (place : ℕ) (children : Children) → length (children_words place children) ≡ 3 * children_node_count children
-  length_children place no_child = refl
-  length_children place (child own t more) =
-      let l = length-append (words_from place own t) (children_words (place + node_count t) more) in
-      let a = length_words place own t in
-      let b = length_children (place + node_count t) more in
+  pub length_children : (place parent index : ℕ) (children : Children) → length (children_words place parent index children) ≡ 4 * children_node_count children
+  length_children place parent index no_child = refl
+  length_children place parent index (child own t more) =
+      let l = length-append (words_from place parent index own t) (children_words (place + node_count t) parent (index + 1) more) in
+      let a = length_words place parent index own t in
+      let b = length_children (place + node_count t) parent (index + 1) more in
       omega (arith, l, a, b)
 
-pub joined_words : (place : ℕ) (a b : Children) → children_words place (joined a b) ≡ children_words place a ++ children_words (place + children_node_count a) b
-joined_words place no_child b = ap (λ q. children_words q b) (sym (add-zero place))
-joined_words place (child own t rest) b =
-    ap (λ x. words_from place own t ++ x) (joined_words (place + node_count t) rest b)
-    ∙ (ap (λ q. words_from place own t ++ (children_words (place + node_count t) rest ++ children_words q b)) (add_assoc place (node_count t) (children_node_count rest))
-    ∙ sym (append_assoc (words_from place own t) (children_words (place + node_count t) rest) _))
+pub joined_words : (place parent index : ℕ) (a b : Children) →
+    children_words place parent index (joined a b) ≡ children_words place parent index a ++ children_words (place + children_node_count a) parent (index + count_children a) b
+joined_words place parent index no_child b = ap₂ (λ q i. children_words q parent i b) (sym (add-zero place)) (sym (add-zero index))
+joined_words place parent index (child own t rest) b =
+    let first : List ℕ = words_from place parent index own t in
+    let others : List ℕ = children_words (place + node_count t) parent (index + 1) rest in
+    ap (λ x. first ++ x) (joined_words (place + node_count t) parent (index + 1) rest b)
+    ∙ (ap₂ (λ q i. first ++ (others ++ children_words q parent i b)) (add_assoc place (node_count t) (children_node_count rest)) (let e : index + 1 + count_children rest ≡ index + suc (count_children rest) = omega arith in e)
+    ∙ sym (append_assoc first others _))
 
 -- one more child
 abbrev pub with_child : Frame → Option Name → Tree → Children
 with_child f own t = joined f.done (child own t no_child)
 
-grown_words : (place : ℕ) (a : Children) (own : Option Name) (t : Tree) → children_words place (joined a (child own t no_child)) ≡ children_words place a ++ words_from (place + children_node_count a) own t
-grown_words place a own t = joined_words place a (child own t no_child) ∙ ap (λ x. children_words place a ++ x) (append-nil _)
+grown_words : (place parent : ℕ) (a : Children) (own : Option Name) (t : Tree) →
+    children_words place parent 0 (joined a (child own t no_child)) ≡ children_words place parent 0 a ++ words_from (place + children_node_count a) parent (count_children a) own t
+grown_words place parent a own t =
+    let front : List ℕ = children_words place parent 0 a in
+    let e : 0 + count_children a ≡ count_children a = omega arith in
+    joined_words place parent 0 a (child own t no_child)
+    ∙ (ap (λ i. front ++ children_words (place + children_node_count a) parent i (child own t no_child)) e ∙ ap (λ x. front ++ x) (append-nil _))
 
-pub open_length : (frames : List Frame) → length (open_words frames) ≡ 3 * open_count frames
+-- the fourth word of an open container
+abbrev pub own_up : List Frame → ℕ
+own_up frames = up_word (next_parent frames) (next_index frames)
+
+pub open_length : (frames : List Frame) → length (open_words frames) ≡ 4 * open_count frames
 open_length [] = refl
 open_length (f ∷ frames) =
-    let e = length_children (open_count frames + 1) f.done in
+    let e = length_children (open_count frames + 1) (open_count frames) 0 f.done in
     let i = open_length frames in
-    let l = length-append (open_words frames) (0 ∷ 0 ∷ name_word f.name ∷ children_words (open_count frames + 1) f.done) in
+    let l = length-append (open_words frames) (0 ∷ 0 ∷ name_word f.name ∷ own_up frames ∷ children_words (open_count frames + 1) (open_count frames) 0 f.done) in
     omega (arith, e, i, l)
 
 -- the words behind those of the outer containers
 abbrev pub inner_words : Frame → List Frame → Children → List ℕ
-inner_words f frames children = 0 ∷ 0 ∷ name_word f.name ∷ children_words (open_count frames + 1) children
+inner_words f frames children = 0 ∷ 0 ∷ name_word f.name ∷ own_up frames ∷ children_words (open_count frames + 1) (open_count frames) 0 children
+
+-- the words of the next value, a child of the innermost container
+abbrev pub next_words : List Frame → Option Name → Tree → List ℕ
+next_words frames own t = words_from (open_count frames) (next_parent frames) (next_index frames) own t
 
 pub grown_tail : (f : Frame) (frames : List Frame) (own : Option Name) (t : Tree) →
-    open_words (f ∷ frames) ++ words_from (open_count (f ∷ frames)) own t ≡ open_words frames ++ inner_words f frames (with_child f own t)
+    open_words (f ∷ frames) ++ next_words (f ∷ frames) own t ≡ open_words frames ++ inner_words f frames (with_child f own t)
 grown_tail f frames own t =
-    append_assoc (open_words frames) (inner_words f frames f.done) (words_from (open_count (f ∷ frames)) own t)
-    ∙ ap (λ xs. open_words frames ++ 0 ∷ 0 ∷ name_word f.name ∷ xs) (sym (grown_words (open_count frames + 1) f.done own t))
+    append_assoc (open_words frames) (inner_words f frames f.done) (next_words (f ∷ frames) own t)
+    ∙ ap (λ xs. open_words frames ++ 0 ∷ 0 ∷ name_word f.name ∷ own_up frames ∷ xs) (sym (grown_words (open_count frames + 1) (open_count frames) f.done own t))
 
 pub grown_length : (f : Frame) (frames : List Frame) (own : Option Name) (t : Tree) →
-    length (open_words (f ∷ frames) ++ words_from (open_count (f ∷ frames)) own t) ≡ 3 * (open_count frames + (1 + children_node_count (with_child f own t)))
+    length (open_words (f ∷ frames) ++ next_words (f ∷ frames) own t) ≡ 4 * (open_count frames + (1 + children_node_count (with_child f own t)))
 grown_length f frames own t =
     let e = ap (λ (xs : List ℕ). length xs) (grown_tail f frames own t) in
-    let c = length_children (open_count frames + 1) (with_child f own t) in
+    let c = length_children (open_count frames + 1) (open_count frames) 0 (with_child f own t) in
     let o = open_length frames in
     let l = length-append (open_words frames) (inner_words f frames (with_child f own t)) in
     omega (arith, e, c, o, l)
 
-pub third : (n m : ℕ) → n ≡ 3 * m → n / 3 ≡ m
-third n m e = omega (arith, e)
+pub fourth : (n m : ℕ) → n ≡ 4 * m → n / 4 ≡ m
+fourth n m e = omega (arith, e)
+
+-- each child has a node
+children_few : (a : Children) → count_children a ≤ children_node_count a
+children_few no_child = omega arith
+children_few (child own (node s v) more) = let h = children_few more in let l = length_below 0 v in omega (arith, h, l)
+
+pub grown_few : (f : Frame) (frames : List Frame) (own : Option Name) (t : Tree) → 4 * (count_children f.done + 1) ≤ length (open_words (f ∷ frames) ++ next_words (f ∷ frames) own t)
+grown_few f frames own t =
+    let h = children_few f.done in
+    let o = open_length (f ∷ frames) in
+    let l = length-append (open_words (f ∷ frames)) (next_words (f ∷ frames) own t) in
+    omega (arith, h, o, l)
+
+-- one more child
+pub joined_count : (a : Children) (own : Option Name) (t : Tree) → count_children (joined a (child own t no_child)) ≡ count_children a + 1
+joined_count no_child own t = refl
+joined_count (child o u rest) own t = let h = joined_count rest own t in omega (arith, h)
+
+-- the fourth word of the next value, by the innermost container, which is the last
+up_behind : (os : List Open) (o : Open) → next_up (os ++ o ∷ []) ≡ up_word o.place o.children
+up_behind [] o = refl
+up_behind (p ∷ []) o = refl
+up_behind (p ∷ q ∷ os) o = up_behind (q ∷ os) o
+
+pub up_of_frames : (frames : List Frame) → next_up (opens frames) ≡ own_up frames
+up_of_frames [] = refl
+up_of_frames (f ∷ frames) = up_behind (opens frames) (open_of f frames)
+
+pub up_of_none : (os : List Open) → length os ≡ 0 → next_up os ≡ up_word 0 0
+up_of_none [] h = refl
+up_of_none (o ∷ os) h = absurd (omega (arith, h))
+
+pub up_of_last : (os : List Open) (o : Open) → 0 < length os → o ≡ get_or os (length os - 1) o → next_up os ≡ up_word o.place o.children
+up_of_last [] o l h = absurd (omega (arith, l))
+up_of_last (p ∷ []) o l h = ap (λ (x : Open). up_word x.place x.children) (sym h)
+up_of_last (p ∷ q ∷ os) o l h =
+    let e : suc (suc (length os)) - 1 ≡ suc (suc (length os) - 1) = omega arith in
+    up_of_last (q ∷ os) o (omega arith) (h ∙ ap (λ n. get_or (p ∷ q ∷ os) n o) e)
 
 -- ---- depths
 
@@ -199,3 +253,12 @@ front_of {A} xs y =
     let l = length-append xs (y ∷ []) in
     let e : length (xs ++ y ∷ []) - 1 ≡ length xs = omega (arith, l) in
     ap (λ n. take n (xs ++ y ∷ [])) e ∙ take-append_seam xs (y ∷ [])
+
+-- a list that is not empty has a front and a last item, in whose place another can stand
+pub set_last : {A : Type 0} (xs : List A) (x y : A) → 0 < length xs → x ≡ get_or xs (length xs - 1) x → (front : List A) × (xs ≡ front ++ x ∷ []) × (set xs (length xs - 1) y ≡ front ++ y ∷ [])
+set_last [] x y l e = absurd (omega (arith, l))
+set_last (z ∷ []) x y l e = ([], ap (λ a. a ∷ []) (sym e), refl)
+set_last {A} (z ∷ w ∷ xs) x y l e =
+    let n : suc (suc (length xs)) - 1 ≡ suc (suc (length xs) - 1) = omega arith in
+    let r = set_last (w ∷ xs) x y (omega arith) (e ∙ ap (λ k. get_or (z ∷ w ∷ xs) k x) n) in
+    (z ∷ r.0, ap (λ (a : List A). z ∷ a) r.1, ap (λ k. set (z ∷ w ∷ xs) k y) n ∙ ap (λ (a : List A). z ∷ a) r.2)

@@ -1,10 +1,12 @@
 -- Laws of tapes.
 pub mod Spots
 pub mod Places
+pub mod Parents
 pub mod Packed
 pub mod Bounds
 pub mod Stands
 pub mod Sound
+pub mod Contents
 pub mod Trees
 pub mod Cursors
 -- Lemmas on the walk over a line.

@@ -12,7 +12,7 @@ use Rattle.jp_tape.proofs.Spots.{length-below, length-from, length-spots, nodes-
 
 -- a tree has at least its root
 pub some_node : (t : Tree) → 0 < node_count t
-some_node t = let h = length-below [] t in omega (arith, h)
+some_node t = let h = length-below [] 0 t in omega (arith, h)
 
 pub length-tree : (t : Tree) → length (subtree (root_node t)) ≡ node_count t
 length-tree t = length-subtree (root_node t)
@@ -28,12 +28,12 @@ count-in (node s (number m e)) = refl
 count-in (node s (string points)) = refl
 count-in (node s (container kind children)) = refl
 
-below-from : (location : List Step) (t : Tree) → spots_below location t ≡ spots_from location 0 (children_in (value_of t))
-below-from location (node s null) = refl
-below-from location (node s (boolean b)) = refl
-below-from location (node s (number m e)) = refl
-below-from location (node s (string points)) = refl
-below-from location (node s (container kind children)) = refl
+pub below-from : (location : List Step) (place : ℕ) (t : Tree) → spots_below location place t ≡ spots_from location place 0 (place + 1) (children_in (value_of t))
+below-from location place (node s null) = refl
+below-from location place (node s (boolean b)) = refl
+below-from location place (node s (number m e)) = refl
+below-from location place (node s (string points)) = refl
+below-from location place (node s (container kind children)) = refl
 
 count_few : (children : Children) → count_children children ≤ children_node_count children
 count_few no_child = omega arith
@@ -67,12 +67,12 @@ pub after_within : (t : Tree) (place : ℕ) → place < node_count t → place +
 after_within t place h =
     let s : Spot = spot_at t place in
     let r = sits_at t place h in
-    let others : List Spot = spots_from s.parent (s.index + 1) s.behind ++ r.rest in
+    let others : List Spot = spots_from s.parent s.up (s.index + 1) (place + node_count s.node.tree) s.behind ++ r.rest in
     let a = length-spots t in
     let b = length-drop place (spots t) in
     let c = ap length r.from_here in
-    let d = length-append (spots_below s.node.location s.node.tree) others in
-    let e = length-below s.node.location s.node.tree in
+    let d = length-append (spots_below s.node.location place s.node.tree) others in
+    let e = length-below s.node.location place s.node.tree in
     let f = length-subtree s.node in
     omega (arith, a, b, c, d, e, f)
 
@@ -80,15 +80,15 @@ pub subtree-range : (t : Tree) (place : ℕ) → place < node_count t → slice_
 subtree-range t place h =
     let s : Spot = spot_at t place in
     let r = sits_at t place h in
-    let others : List Spot = spots_from s.parent (s.index + 1) s.behind ++ r.rest in
+    let others : List Spot = spots_from s.parent s.up (s.index + 1) (place + node_count s.node.tree) s.behind ++ r.rest in
     let n : ℕ = length (subtree s.node) in
-    let own : subtree s.node ≡ map (λ (x : Spot). x.node) (s ∷ spots_below s.node.location s.node.tree) = sym (nodes-below s.node.location s.node.tree) in
+    let own : subtree s.node ≡ map (λ (x : Spot). x.node) (s ∷ spots_below s.node.location place s.node.tree) = sym (nodes-below s.node.location place s.node.tree) in
     let e : (place + n) - place ≡ n = omega arith in
     let parts : drop place (subtree (root_node t)) ≡ subtree s.node ++ map (λ (x : Spot). x.node) others =
     ap (drop place) (sym (nodes-spots t))
     ∙ (drop-map (λ (x : Spot). x.node) place (spots t)
     ∙ (ap (map (λ (x : Spot). x.node)) r.from_here
-    ∙ (map-append (λ (x : Spot). x.node) (s ∷ spots_below s.node.location s.node.tree) others
+    ∙ (map-append (λ (x : Spot). x.node) (s ∷ spots_below s.node.location place s.node.tree) others
     ∙ ap (λ x. x ++ map (λ (x : Spot). x.node) others) (sym own)))) in
     ap (λ k. take k (drop place (subtree (root_node t)))) e ∙ (ap (take n) parts ∙ take_at (subtree s.node) (map (λ (x : Spot). x.node) others) n refl)
 
@@ -101,12 +101,12 @@ pub first_child : (t : Tree) (place : ℕ) → place < node_count t → 1 < leng
 first_child t place h more =
     let s : Spot = spot_at t place in
     let r = sits_at t place h in
-    let others : List Spot = spots_from s.parent (s.index + 1) s.behind ++ r.rest in
-    let from : drop (place + 1) (spots t) ≡ spots_from s.node.location 0 (children_in (value_of s.node.tree)) ++ others =
-    sym (drop-drop 1 place (spots t)) ∙ (ap (drop 1) r.from_here ∙ ap (λ x. x ++ others) (below-from s.node.location s.node.tree)) in
+    let others : List Spot = spots_from s.parent s.up (s.index + 1) (place + node_count s.node.tree) s.behind ++ r.rest in
+    let from : drop (place + 1) (spots t) ≡ spots_from s.node.location place 0 (place + 1) (children_in (value_of s.node.tree)) ++ others =
+    sym (drop-drop 1 place (spots t)) ∙ (ap (drop 1) r.from_here ∙ ap (λ x. x ++ others) (below-from s.node.location place s.node.tree)) in
     let a = length-subtree s.node in
     let b = count-in s.node.tree in
-    let found = heads t (place + 1) s.node.location 0 (children_in (value_of s.node.tree)) others from (omega (arith, a, b, more)) in
+    let found = heads t (place + 1) s.node.location place 0 (place + 1) (children_in (value_of s.node.tree)) others from (omega (arith, a, b, more)) in
     (found.0 ∙ sym (children-nodes s.node), found.1)
 
 pub no_first_child : (n : Node) → length (subtree n) ≤ 1 → (children n ≡ []) × (children_in (value_of n.tree) ≡ no_child)
@@ -120,15 +120,15 @@ no_first_child n h =
 
 behind_from : (t : Tree) (place : ℕ) (h : place < node_count t) →
     let s = spot_at t place in
-    (rest : List Spot) × (drop (place + length (subtree s.node)) (spots t) ≡ spots_from s.parent (s.index + 1) s.behind ++ rest)
+    (rest : List Spot) × (drop (place + length (subtree s.node)) (spots t) ≡ spots_from s.parent s.up (s.index + 1) (place + node_count s.node.tree) s.behind ++ rest)
 behind_from t place h =
     let s : Spot = spot_at t place in
     let r = sits_at t place h in
-    let others : List Spot = spots_from s.parent (s.index + 1) s.behind ++ r.rest in
+    let others : List Spot = spots_from s.parent s.up (s.index + 1) (place + node_count s.node.tree) s.behind ++ r.rest in
     let a = length-subtree s.node in
-    let b = length-below s.node.location s.node.tree in
-    let e : length (s ∷ spots_below s.node.location s.node.tree) ≡ length (subtree s.node) = omega (arith, a, b) in
-    (r.rest, sym (drop-drop (length (subtree s.node)) place (spots t)) ∙ (ap (drop (length (subtree s.node))) r.from_here ∙ drop_at (s ∷ spots_below s.node.location s.node.tree) others (length (subtree s.node)) e))
+    let b = length-below s.node.location place s.node.tree in
+    let e : length (s ∷ spots_below s.node.location place s.node.tree) ≡ length (subtree s.node) = omega (arith, a, b) in
+    (r.rest, sym (drop-drop (length (subtree s.node)) place (spots t)) ∙ (ap (drop (length (subtree s.node))) r.from_here ∙ drop_at (s ∷ spots_below s.node.location place s.node.tree) others (length (subtree s.node)) e))
 
 pub next_sibling : (t : Tree) (place : ℕ) → place < node_count t → 0 < children_node_count (spot_at t place).behind →
     let s = spot_at t place in
@@ -142,7 +142,8 @@ next_sibling t place h more =
     let a = length-spots t in
     let b = length-drop after (spots t) in
     let c = ap length r.1 in
-    let d = length-append (spots_from s.parent (s.index + 1) s.behind) r.0 in
-    let e = length-from s.parent (s.index + 1) s.behind in
-    let found = heads t after s.parent (s.index + 1) s.behind r.0 r.1 more in
+    let from : ℕ = place + node_count s.node.tree in
+    let d = length-append (spots_from s.parent s.up (s.index + 1) from s.behind) r.0 in
+    let e = length-from s.parent s.up (s.index + 1) from s.behind in
+    let found = heads t after s.parent s.up (s.index + 1) from s.behind r.0 r.1 more in
     (omega (arith, a, b, c, d, e, more), found.0, found.1)

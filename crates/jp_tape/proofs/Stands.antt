@@ -51,7 +51,7 @@ each-at line (x ∷ xs) (suc i) d h p = each-at line xs i d (omega arith) p.1
 
 -- ---- the parts
 
-last-push : (xs : List Step) (s : Step) → last_step (xs ++ s ∷ []) ≡ Some s
+pub last-push : (xs : List Step) (s : Step) → last_step (xs ++ s ∷ []) ≡ Some s
 last-push [] s = refl
 last-push (x ∷ []) s = refl
 last-push (x ∷ y ∷ xs) s = last-push (y ∷ xs) s
@@ -71,25 +71,27 @@ more_follows line kind from to no_child h = record { place = h.place; white = h.
 more_follows line kind from to (child name t more) h = record { place = h.1.place; white = h.1.before; stops = ap is_white h.1.is.is; is = ap (λ b. b == 0x2C) h.1.is.is }
 
 mutual
-  below_stand : (line : List ℕ) (t : Tree) (location : List Step) → Spells line t → Each line (spots_below location t)
-  below_stand line (node s null) location h = tt
-  below_stand line (node s (boolean b)) location h = tt
-  below_stand line (node s (number m e)) location h = tt
-  below_stand line (node s (string points)) location h = tt
-  below_stand line (node s (container kind children)) location h = first_stand line children kind (s.start + 1) s.end location h.1
+  below_stand : (line : List ℕ) (t : Tree) (location : List Step) (place : ℕ) → Spells line t → Each line (spots_below location place t)
+  below_stand line (node s null) location place h = tt
+  below_stand line (node s (boolean b)) location place h = tt
+  below_stand line (node s (number m e)) location place h = tt
+  below_stand line (node s (string points)) location place h = tt
+  below_stand line (node s (container kind children)) location place h = first_stand line children kind (s.start + 1) s.end location place (place + 1) h.1
 
-  first_stand : (line : List ℕ) (children : Children) (kind : Container) (from to : ℕ) (parent : List Step) → SpellsFirst line kind from to children → Each line (spots_from parent 0 children)
-  first_stand line no_child kind from to parent h = tt
-  first_stand line (child name t more) kind from to parent h = (
+  first_stand : (line : List ℕ) (children : Children) (kind : Container) (from to : ℕ) (parent : List Step) (up place : ℕ) → SpellsFirst line kind from to children → Each line (spots_from parent up 0 place children)
+  first_stand line no_child kind from to parent up place h = tt
+  first_stand line (child name t more) kind from to parent up place h = (
     record { spells = h.3; name = name_stands line kind h.0 (span t).start name parent 0 h.2; follows = more_follows line kind (span t).end to more h.4 },
-    each-append line (spots_below (parent ++ step_to 0 name ∷ []) t) (spots_from parent 1 more) (below_stand line t (parent ++ step_to 0 name ∷ []) h.3) (more_stand line more kind (span t).end to parent 1 h.4),
+    each-append line (spots_below (parent ++ step_to 0 name ∷ []) place t) (spots_from parent up 1 (place + node_count t) more) (below_stand line t (parent ++ step_to 0 name ∷ []) place h.3)
+        (more_stand line more kind (span t).end to parent up 1 (place + node_count t) h.4),
   )
 
-  more_stand : (line : List ℕ) (children : Children) (kind : Container) (from to : ℕ) (parent : List Step) (index : ℕ) → SpellsMore line kind from to children → Each line (spots_from parent index children)
-  more_stand line no_child kind from to parent index h = tt
-  more_stand line (child name t more) kind from to parent index h = (
+  more_stand : (line : List ℕ) (children : Children) (kind : Container) (from to : ℕ) (parent : List Step) (up index place : ℕ) → SpellsMore line kind from to children → Each line (spots_from parent up index place children)
+  more_stand line no_child kind from to parent up index place h = tt
+  more_stand line (child name t more) kind from to parent up index place h = (
     record { spells = h.3; name = name_stands line kind h.0 (span t).start name parent index h.2; follows = more_follows line kind (span t).end to more h.4 },
-    each-append line (spots_below (parent ++ step_to index name ∷ []) t) (spots_from parent (index + 1) more) (below_stand line t (parent ++ step_to index name ∷ []) h.3) (more_stand line more kind (span t).end to parent (index + 1) h.4),
+    each-append line (spots_below (parent ++ step_to index name ∷ []) place t) (spots_from parent up (index + 1) (place + node_count t) more) (below_stand line t (parent ++ step_to index name ∷ []) place h.3)
+        (more_stand line more kind (span t).end to parent up (index + 1) (place + node_count t) h.4),
   )
 
 root_stands : (line : List ℕ) (t : Tree) → Text line t → Stands line (root_spot t)
@@ -100,4 +102,4 @@ root_stands line t h = record {
 }
 
 pub stands : (line : List ℕ) (t : Tree) (place : ℕ) → Text line t → place < node_count t → Stands line (spot_at t place)
-stands line t place h l = let n = length-spots t in each-at line (spots t) place (root_spot t) (omega (arith, n, l)) (root_stands line t h, below_stand line t [] h.value)
+stands line t place h l = let n = length-spots t in each-at line (spots t) place (root_spot t) (omega (arith, n, l)) (root_stands line t h, below_stand line t [] 0 h.value)

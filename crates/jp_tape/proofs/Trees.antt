@@ -3,7 +3,7 @@ use Rattle.std.proofs.Common.{◌≡◌, ℕ, ◌<◌, ◌≤◌, ◌^◌, true,
 use Rattle.std.specs.Option.{is_some}
 use Rattle.jp_model.specs.Json.Tree.{Tree, node, null}
 use Rattle.jp_model.specs.Json.Spelling.{Text}
-use Rattle.jp_model.specs.Json.Faults.{has_surrogate, has_duplicate}
+use Rattle.jp_model.specs.Json.Faults.{has_surrogate, has_long_exponent, has_duplicate}
 use Rattle.jp_model.specs.Json.Reader.{tree_of}
 use Rattle.jp_model.proofs.Reader.Found.{tree_found}
 use Rattle.jp_model.proofs.Reader.Whole.{tree_whole}
@@ -28,14 +28,15 @@ is_spelled_by : (line : List ℕ) (t : Tree) → Text line t → is_spelled line
 unfolding is_spelled
 is_spelled_by line t h = ap is_some (tree_whole line t h)
 
-pub tape_made : (words line : List ℕ) (t : Tree) → Text line t → words ≡ tape_words t → length line < 2 ^ 32 → has_surrogate t ≡ false → has_duplicate t ≡ false → IsTapeOf words line
-tape_made words line t h w l whole distinct =
+pub tape_made : (words line : List ℕ) (t : Tree) → Text line t → words ≡ tape_words t → length line < 2 ^ 32 → has_surrogate t ≡ false → has_duplicate t ≡ false → has_long_exponent line t ≡ false → IsTapeOf words line
+tape_made words line t h w l whole distinct exponents =
     let e = spelled_only line t h in
     record {
       spelled_line = is_spelled_by line t h;
       words_are = w ∙ ap tape_words (sym e);
       short = l;
       whole = ap has_surrogate e ∙ whole;
+      exponents = ap (has_long_exponent line) e ∙ exponents;
       distinct = ap has_duplicate e ∙ distinct;
     }
 

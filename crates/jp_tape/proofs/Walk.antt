@@ -5,7 +5,7 @@ use Rattle.std.proofs.lemmas.List.{length-take-le}
 use Rattle.std.proofs.Math.Seq.{set-append_seam, take-append_seam, drop-append_seam}
 use Rattle.jp_model.specs.declared.Span.{Span}
 use Rattle.jp_model.specs.Json.Places.{White, Has}
-use Rattle.jp_model.specs.Json.Tree.{Tree, node, container, Container, array, object, no_child, Name}
+use Rattle.jp_model.specs.Json.Tree.{Tree, node, container, Container, array, object, no_child, Name, count_children}
 use Rattle.jp_model.specs.Json.Faults.{depth, name_has_lone_surrogate, has_surrogate, has_long_exponent, name_points, names, has_repeated, has_duplicate, children_have_duplicate}
 use Rattle.jp_model.specs.Json.Spelling.{opening, closing}
 use Rattle.jp_tape.specs.declared.builder.machine.Builder.{Builder}
@@ -22,10 +22,10 @@ use Rattle.jp_tape.specs.Reading.{body_of, body_word, code_of, container_if, Fou
 use Rattle.jp_model.specs.declared.LineFault.TheVariants as line_faults
 use Rattle.jp_tape.specs.declared.builder.BuildFault.{BuildFault}
 use Rattle.jp_tape.specs.declared.builder.BuildFault.TheVariants as faults
-use Rattle.jp_tape.specs.Words.{name_word, words_from, children_words, children_node_count, head_word, span_word, container_code}
-use Rattle.jp_tape.specs.Machine.{Frame, State, Value_at, After_value, Finished, Alike, IsStuck, Keeps, Stands, GoesOn, Steps, NoStep, Labelled, IsClosed, IsInnermost, open_count, open_words, open_names, opens, open_of, open_depth, open_surrogate, open_long, open_duplicate, is_object}
+use Rattle.jp_tape.specs.Words.{name_word, children_words, children_node_count, head_word, span_word, container_code}
+use Rattle.jp_tape.specs.Machine.{Frame, State, Value_at, After_value, Finished, Alike, IsStuck, Keeps, Stands, GoesOn, Steps, NoStep, Labelled, IsCounted, IsClosed, IsInnermost, next_up, open_count, open_words, open_names, opens, open_of, open_depth, open_surrogate, open_long, open_duplicate, is_object}
 use Rattle.jp_tape.proofs.Steps.{scalar_step, no_value_step, empty_step, enter_step, enter_stuck, entered, comma_step, comma_stuck, close_step, neither_stuck, grown, end_step, no_end_stuck}
-use Rattle.jp_tape.proofs.Held.{or_false, or_swap, left_false, right_false, open_length, with_child, outer_names, grown_tail, grown_length, third, last_of, front_of, flat_depth, root_depth, deeper, grown_depth, closed_depth, grown_surrogate, grown_long, grown_duplicate, grown_names}
+use Rattle.jp_tape.proofs.Held.{or_false, or_swap, left_false, right_false, open_length, with_child, outer_names, own_up, next_words, grown_tail, grown_length, grown_few, joined_count, fourth, up_of_frames, snoc_front, last_of, front_of, flat_depth, root_depth, deeper, grown_depth, closed_depth, grown_surrogate, grown_long, grown_duplicate, grown_names}
 
 word_of_body : (own : Option Name) → body_word (body_of own) ≡ name_word own
 word_of_body None = refl
@@ -38,7 +38,7 @@ KeepsBefore line b frames own =
 
 abbrev KeepsBehind : List ℕ → Builder → List Frame → Option Name → Tree → Type 0
 KeepsBehind line b frames own t =
-    Keeps b (open_words frames ++ words_from (open_count frames) own t) (opens frames) (max (open_depth frames) (length frames + depth t)) ((open_surrogate frames || name_has_lone_surrogate own) || has_surrogate t) (open_long line frames || has_long_exponent line t)
+    Keeps b (open_words frames ++ next_words frames own t) (opens frames) (max (open_depth frames) (length frames + depth t)) ((open_surrogate frames || name_has_lone_surrogate own) || has_surrogate t) (open_long line frames || has_long_exponent line t)
     (open_names frames ++ name_points own []) (open_duplicate frames || has_duplicate t)
 
 -- the node of a value is written
@@ -52,7 +52,7 @@ pub record Written (b new : Builder) (words : List ℕ) (deepest : ℕ) (lone lo
   pub duplicate : new.has_duplicate ≡ b.has_duplicate
 
 keeps_value : (line : List ℕ) (frames : List Frame) (own : Option Name) (t : Tree) (b new : Builder) (ws : List ℕ) (d : ℕ) (lone long : Bool) → KeepsBefore line b frames own → Written b new ws d lone long →
-    ws ≡ words_from (open_count frames) own t → d ≡ max (open_depth frames) (length frames + depth t) → lone ≡ has_surrogate t → long ≡ has_long_exponent line t → has_duplicate t ≡ false → KeepsBehind line new frames own t
+    ws ≡ next_words frames own t → d ≡ max (open_depth frames) (length frames + depth t) → lone ≡ has_surrogate t → long ≡ has_long_exponent line t → has_duplicate t ≡ false → KeepsBehind line new frames own t
 keeps_value line frames own t b new ws d lone long k w e f g h i = record {
   words = w.words_are ∙ ap₂ (λ (xs ys : List ℕ). xs ++ ys) k.words e;
   opened = w.opened ∙ k.opened;
@@ -64,21 +64,25 @@ keeps_value line frames own t b new ws d lone long k w e f g h i = record {
   duplicate = λ z. w.duplicate ∙ (k.duplicate (left_false _ _ z) ∙ (sym (or_false _) ∙ ap (λ x. open_duplicate frames || x) (sym i)));
 }
 
-place_is : (line : List ℕ) (frames : List Frame) (own : Option Name) (b : Builder) → KeepsBefore line b frames own → length b.words.items / 3 ≡ open_count frames
-place_is line frames own b k = third _ _ (ap length k.words ∙ open_length frames)
+place_is : (line : List ℕ) (frames : List Frame) (own : Option Name) (b : Builder) → KeepsBefore line b frames own → length b.words.items / 4 ≡ open_count frames
+place_is line frames own b k = fourth _ _ (ap length k.words ∙ open_length frames)
+
+up_is : (line : List ℕ) (frames : List Frame) (own : Option Name) (b : Builder) → KeepsBefore line b frames own → next_up b.opened.items ≡ own_up frames
+up_is line frames own b k = ap next_up k.opened ∙ up_of_frames frames
 
 -- a scalar is read
 pub scalar_goes_on : (line : List ℕ) (at : ℕ) (body : Option Span) (b new : Builder) (r : Scalar) → FoundScalar line at r →
-    Written b new (head_word (code_of r.kind) (length b.words.items / 3 + 1) ∷ span_word (record { start = at; end = r.end }) ∷ body_word body ∷ []) b.deepest r.is_lone r.is_long → Steps line (turns.Value body at) b (turns.After r.end) new
+    Written b new (head_word (code_of r.kind) (length b.words.items / 4 + 1) ∷ span_word (record { start = at; end = r.end }) ∷ body_word body ∷ next_up b.opened.items ∷ []) b.deepest r.is_lone r.is_long → Steps line (turns.Value body at) b (turns.After r.end) new
 scalar_goes_on line at body b new r s w (After_value frames own t from) h = absurd h
 scalar_goes_on line at body b new r s w (Finished t) h = absurd h
 scalar_goes_on line at body b new r s w (Value_at frames own from) h =
     let here : Span = record { start = at; end = r.end } in
     let t = node here s.value in
     let place = place_is line frames own b h.3 in
-    let one : head_word (code_of r.kind) (length b.words.items / 3 + 1) ∷ span_word here ∷ body_word body ∷ [] ≡ words_from (open_count frames) own t =
+    let up = up_is line frames own b h.3 in
+    let one : head_word (code_of r.kind) (length b.words.items / 4 + 1) ∷ span_word here ∷ body_word body ∷ next_up b.opened.items ∷ [] ≡ next_words frames own t =
     ap₂ (λ (x : ℕ) (xs : List ℕ). x ∷ span_word here ∷ xs) (ap₂ (λ x y. head_word x y) (sym s.is_kind) (ap₂ (λ (x y : ℕ). x + y) place (sym s.leaf)))
-    (ap₂ (λ (x : ℕ) (xs : List ℕ). x ∷ xs) (ap body_word h.0 ∙ word_of_body own) (sym (s.bare (open_count frames + 1)))) in
+    (ap₂ (λ (x : ℕ) (xs : List ℕ). x ∷ xs) (ap body_word h.0 ∙ word_of_body own) (ap₂ (λ (x : ℕ) (xs : List ℕ). x ∷ xs) up (sym (s.bare (open_count frames))))) in
     record {
       next = After_value frames own t r.end;
       stands = (refl, h.2, keeps_value line frames own t b new _ _ _ _ h.3 w one (h.3.deepest ∙ flat_depth frames (depth t) s.flat) (sym s.surrogate) (sym s.exponent) s.duplicate);
@@ -92,15 +96,15 @@ no_value line at body b n (Value_at frames own from) h = no_value_step line fram
 
 -- an empty container is read
 pub empty_goes_on : (line : List ℕ) (at place : ℕ) (body : Option Span) (b new : Builder) (kind : Container) → Has line at (opening kind) → White line (at + 1) place → Has line place (closing kind) →
-    Written b new (head_word (container_code kind) (length b.words.items / 3 + 1) ∷ span_word (record { start = at; end = place + 1 }) ∷ body_word body ∷ []) (max b.deepest (length b.opened.items + 1)) false false →
+    Written b new (head_word (container_code kind) (length b.words.items / 4 + 1) ∷ span_word (record { start = at; end = place + 1 }) ∷ body_word body ∷ next_up b.opened.items ∷ []) (max b.deepest (length b.opened.items + 1)) false false →
     Steps line (turns.Value body at) b (turns.After (place + 1)) new
 empty_goes_on line at place body b new kind o w c r (After_value frames own t from) h = absurd h
 empty_goes_on line at place body b new kind o w c r (Finished t) h = absurd h
 empty_goes_on line at place body b new kind o w c r (Value_at frames own from) h =
     let here : Span = record { start = at; end = place + 1 } in
     let t = node here (container kind no_child) in
-    let one : head_word (container_code kind) (length b.words.items / 3 + 1) ∷ span_word here ∷ body_word body ∷ [] ≡ words_from (open_count frames) own t =
-    ap₂ (λ (x y : ℕ). head_word (container_code kind) (x + 1) ∷ span_word here ∷ y ∷ []) (place_is line frames own b h.3) (ap body_word h.0 ∙ word_of_body own) in
+    let one : head_word (container_code kind) (length b.words.items / 4 + 1) ∷ span_word here ∷ body_word body ∷ next_up b.opened.items ∷ [] ≡ next_words frames own t =
+    ap₂ (λ (x : ℕ) (ys : List ℕ). head_word (container_code kind) (x + 1) ∷ span_word here ∷ ys) (place_is line frames own b h.3) (ap₂ (λ (y z : ℕ). y ∷ z ∷ []) (ap body_word h.0 ∙ word_of_body own) (up_is line frames own b h.3)) in
     record {
       next = After_value frames own t (place + 1);
       stands = (refl, h.2, keeps_value line frames own t b new _ _ _ _ h.3 r one (deeper frames b.deepest b.opened.items h.3.deepest h.3.opened) refl refl refl);
@@ -123,8 +127,8 @@ label_keeps line kind from turn old new l ws os d lone long ps dup k = record {
 
 -- a container with a child is entered
 pub record Entered (b mid : Builder) (at : ℕ) (body : Option Span) (kind : Container) : Type 0 where
-  pub words : mid.words.items ≡ b.words.items ++ 0 ∷ 0 ∷ body_word body ∷ []
-  pub opened : mid.opened.items ≡ b.opened.items ++ record { place = length b.words.items / 3; start = at; names = length b.names.items; is_object = is_object kind } ∷ []
+  pub words : mid.words.items ≡ b.words.items ++ 0 ∷ 0 ∷ body_word body ∷ next_up b.opened.items ∷ []
+  pub opened : mid.opened.items ≡ b.opened.items ++ record { place = length b.words.items / 4; start = at; children = 0; names = length b.names.items; is_object = is_object kind } ∷ []
   pub names : mid.names.items ≡ b.names.items
   pub deepest : mid.deepest ≡ max b.deepest (length b.opened.items + 1)
   pub surrogate : mid.has_surrogate ≡ b.has_surrogate
@@ -135,10 +139,10 @@ keeps_entered : (line : List ℕ) (frames : List Frame) (own : Option Name) (b m
     Keeps mid (open_words (entered kind at own ∷ frames)) (opens (entered kind at own ∷ frames)) (open_depth (entered kind at own ∷ frames)) (open_surrogate (entered kind at own ∷ frames)) (open_long line (entered kind at own ∷ frames)) (open_names (entered kind at own ∷ frames))
     (open_duplicate (entered kind at own ∷ frames))
 keeps_entered line frames own b mid at body kind k n e =
-    let one : record { place = length b.words.items / 3; start = at; names = length b.names.items; is_object = is_object kind } ≡ open_of (entered kind at own) frames =
-    ap₂ (λ (x y : ℕ). record { place = x; start = at; names = y; is_object = is_object kind }) (place_is line frames own b k) k.count in
+    let one : record { place = length b.words.items / 4; start = at; children = 0; names = length b.names.items; is_object = is_object kind } ≡ open_of (entered kind at own) frames =
+    ap₂ (λ (x y : ℕ). record { place = x; start = at; children = 0; names = y; is_object = is_object kind }) (place_is line frames own b k) k.count in
     record {
-      words = e.words ∙ ap₂ (λ (xs : List ℕ) (x : ℕ). xs ++ 0 ∷ 0 ∷ x ∷ []) k.words (ap body_word n ∙ word_of_body own);
+      words = e.words ∙ ap₂ (λ (xs ys : List ℕ). xs ++ 0 ∷ 0 ∷ ys) k.words (ap₂ (λ (x y : ℕ). x ∷ y ∷ []) (ap body_word n ∙ word_of_body own) (up_is line frames own b k));
       opened = e.opened ∙ ap₂ (λ (xs : List Open) (x : Open). xs ++ x ∷ []) k.opened one;
       deepest = e.deepest ∙ (deeper frames b.deepest b.opened.items k.deepest k.opened ∙ ap (λ x. max (open_depth frames) x) (sym (add-zero (length frames + 1))));
       surrogate = e.surrogate ∙ (k.surrogate ∙ sym (or_false _));
@@ -183,7 +187,7 @@ is_innermost line at b o l e (After_value [] own t from) h = let z : length b.op
 is_innermost line at b o l e (After_value (f ∷ frames) own t from) h = e ∙ (ap (λ (xs : List Open). get_or xs (length xs - 1) o) h.2.opened ∙ last_of (opens frames) (open_of f frames) o)
 
 -- where its node stands, and its names
-pub innermost_place : (line : List ℕ) (at : ℕ) (b : Builder) (o : Open) (x : State) → Stands line (turns.After at) b x → IsInnermost o x → 3 * o.place + 1 < length b.words.items
+pub innermost_place : (line : List ℕ) (at : ℕ) (b : Builder) (o : Open) (x : State) → Stands line (turns.After at) b x → IsInnermost o x → 4 * o.place + 1 < length b.words.items
 innermost_place line at b o (Value_at frames own from) h i = absurd h
 innermost_place line at b o (Finished t) h i = absurd h
 innermost_place line at b o (After_value [] own t from) h i = absurd i
@@ -202,32 +206,54 @@ innermost_names line at b o (After_value (f ∷ frames) own t from) h i =
     let l = length-append (outer_names f frames) (names (with_child f own t)) in
     omega (arith, p, n, l)
 
--- the child is one of the innermost container
-keeps_grown : (line : List ℕ) (f : Frame) (frames : List Frame) (own : Option Name) (t : Tree) (b : Builder) → KeepsBehind line b (f ∷ frames) own t →
-    Keeps b (open_words (grown f own t ∷ frames)) (opens (f ∷ frames)) (open_depth (grown f own t ∷ frames)) (open_surrogate (grown f own t ∷ frames)) (open_long line (grown f own t ∷ frames)) (open_names (grown f own t ∷ frames)) (open_duplicate (grown f own t ∷ frames))
-keeps_grown line f frames own t b k = record {
-  words = k.words ∙ grown_tail f frames own t;
-  opened = k.opened;
-  deepest = k.deepest ∙ grown_depth f frames own t;
-  surrogate = k.surrogate ∙ grown_surrogate f frames own t;
-  long = k.long ∙ grown_long line f frames own t;
-  count = k.count ∙ ap (λ (ps : List (List ℕ)). length ps) (grown_names f frames own t);
-  names = λ z. k.names (grown_surrogate f frames own t ∙ z) ∙ grown_names f frames own t;
-  duplicate = λ z. k.duplicate (grown_surrogate f frames own t ∙ z) ∙ grown_duplicate f frames own t;
+-- how many children it has
+pub innermost_children : (line : List ℕ) (at : ℕ) (b : Builder) (o : Open) (x : State) → Stands line (turns.After at) b x → IsInnermost o x → 4 * (o.children + 1) ≤ length b.words.items
+innermost_children line at b o (Value_at frames own from) h i = absurd h
+innermost_children line at b o (Finished t) h i = absurd h
+innermost_children line at b o (After_value [] own t from) h i = absurd i
+innermost_children line at b o (After_value (f ∷ frames) own t from) h i =
+    let p : o.children ≡ count_children f.done = ap (λ (y : Open). y.children) i in
+    let n = ap length h.2.words in
+    let l = grown_few f frames own t in
+    omega (arith, p, n, l)
+
+-- the child is one of the innermost container, which counts it
+counted_open : (f : Frame) (frames : List Frame) (own : Option Name) (t : Tree) (b mid : Builder) → b.opened.items ≡ opens (f ∷ frames) → IsCounted b mid → mid.opened.items ≡ opens (grown f own t ∷ frames)
+counted_open f frames own t b mid k c =
+    let e : c.outer ++ c.innermost ∷ [] ≡ opens frames ++ open_of f frames ∷ [] = sym c.before ∙ k in
+    let outer : c.outer ≡ opens frames = snoc_front c.outer (opens frames) c.innermost (open_of f frames) e in
+    let last : c.innermost ≡ open_of f frames =
+    sym (last_of c.outer c.innermost (open_of f frames)) ∙ (ap (λ (xs : List Open). get_or xs (length xs - 1) (open_of f frames)) e ∙ last_of (opens frames) (open_of f frames) (open_of f frames)) in
+    c.after
+    ∙ (ap₂ (λ (xs : List Open) (x : Open). xs ++ record x { children = x.children + 1 } ∷ []) outer last
+    ∙ ap (λ (n : ℕ). opens frames ++ record (open_of f frames) { children = n } ∷ []) (sym (joined_count f.done own t)))
+
+keeps_grown : (line : List ℕ) (f : Frame) (frames : List Frame) (own : Option Name) (t : Tree) (b mid : Builder) → KeepsBehind line b (f ∷ frames) own t → IsCounted b mid →
+    Keeps mid (open_words (grown f own t ∷ frames)) (opens (grown f own t ∷ frames)) (open_depth (grown f own t ∷ frames)) (open_surrogate (grown f own t ∷ frames)) (open_long line (grown f own t ∷ frames)) (open_names (grown f own t ∷ frames)) (open_duplicate (grown f own t ∷ frames))
+keeps_grown line f frames own t b mid k c = record {
+  words = c.words ∙ (k.words ∙ grown_tail f frames own t);
+  opened = counted_open f frames own t b mid k.opened c;
+  deepest = c.deepest ∙ (k.deepest ∙ grown_depth f frames own t);
+  surrogate = c.surrogate ∙ (k.surrogate ∙ grown_surrogate f frames own t);
+  long = c.long ∙ (k.long ∙ grown_long line f frames own t);
+  count = ap length c.names ∙ (k.count ∙ ap (λ (ps : List (List ℕ)). length ps) (grown_names f frames own t));
+  names = λ z. ap all_points c.names ∙ (k.names (grown_surrogate f frames own t ∙ z) ∙ grown_names f frames own t);
+  duplicate = λ z. c.duplicate ∙ (k.duplicate (grown_surrogate f frames own t ∙ z) ∙ grown_duplicate f frames own t);
 }
 
-pub comma_goes_on : (line : List ℕ) (at next from : ℕ) (b new : Builder) (turn : Turn) (o : Open) → White line at next → Has line next 0x2C → White line (next + 1) from → Stops line from → Labelled line (container_if o.is_object) from turn b new →
+pub comma_goes_on : (line : List ℕ) (at next from : ℕ) (b mid new : Builder) (turn : Turn) (o : Open) → White line at next → Has line next 0x2C → White line (next + 1) from → Stops line from → IsCounted b mid →
+    Labelled line (container_if o.is_object) from turn mid new →
     (x : State) → Stands line (turns.After at) b x → IsInnermost o x → GoesOn line x turn new
-comma_goes_on line at next from b new turn o w c v s l (Value_at frames own y) h i = absurd h
-comma_goes_on line at next from b new turn o w c v s l (Finished t) h i = absurd h
-comma_goes_on line at next from b new turn o w c v s l (After_value [] own t y) h i = absurd i
-comma_goes_on line at next from b new turn o w c v s l (After_value (f ∷ frames) own t y) h i =
-    let m : Labelled line f.kind from turn b new = subst (λ k. Labelled line k from turn b new) (innermost_kind o f frames i) l in
+comma_goes_on line at next from b mid new turn o w c v s n l (Value_at frames own y) h i = absurd h
+comma_goes_on line at next from b mid new turn o w c v s n l (Finished t) h i = absurd h
+comma_goes_on line at next from b mid new turn o w c v s n l (After_value [] own t y) h i = absurd i
+comma_goes_on line at next from b mid new turn o w c v s n l (After_value (f ∷ frames) own t y) h i =
+    let m : Labelled line f.kind from turn mid new = subst (λ k. Labelled line k from turn mid new) (innermost_kind o f frames i) l in
     let inner = grown f own t ∷ frames in
     subst (λ z. GoesOn line (After_value (f ∷ frames) own t y) z new) (sym m.is_turn)
     (record {
       next = Value_at inner m.found.name m.label.value;
-      stands = (m.found.is_body, refl, h.1, label_keeps line f.kind from turn b new m _ _ _ _ _ _ _ (keeps_grown line f frames own t b h.2));
+      stands = (m.found.is_body, refl, h.1, label_keeps line f.kind from turn mid new m _ _ _ _ _ _ _ (keeps_grown line f frames own t b mid h.2 n));
       alike = subst (λ z. Alike line (After_value (f ∷ frames) own t z) (Value_at inner m.found.name m.label.value)) h.0 (comma_step line f frames own t at next from w c v s m.label m.found);
     })
 
@@ -256,18 +282,18 @@ set_two front rest h s x y =
     ap (λ (xs : List ℕ). set xs (length front + 1) s) (set-append_seam front x (y ∷ rest) h ∙ sym (append_assoc front (h ∷ []) (y ∷ rest)))
     ∙ (ap (λ n. set ((front ++ h ∷ []) ++ y ∷ rest) n s) l ∙ (set-append_seam (front ++ h ∷ []) y rest s ∙ append_assoc front (h ∷ []) (s ∷ rest)))
 
-closed_words : (f : Frame) (frames : List Frame) (own : Option Name) (t : Tree) (o : Open) (end : ℕ) (old new : List ℕ) → old ≡ open_words (f ∷ frames) ++ words_from (open_count (f ∷ frames)) own t → o ≡ open_of f frames →
-    new ≡ set (set old (3 * o.place) (head_word (container_code (container_if o.is_object)) (length old / 3))) (3 * o.place + 1) (span_word (record { start = o.start; end = end })) →
-    new ≡ open_words frames ++ words_from (open_count frames) f.name (node (record { start = f.start; end = end }) (container f.kind (with_child f own t)))
+closed_words : (f : Frame) (frames : List Frame) (own : Option Name) (t : Tree) (o : Open) (end : ℕ) (old new : List ℕ) → old ≡ open_words (f ∷ frames) ++ next_words (f ∷ frames) own t → o ≡ open_of f frames →
+    new ≡ set (set old (4 * o.place) (head_word (container_code (container_if o.is_object)) (length old / 4))) (4 * o.place + 1) (span_word (record { start = o.start; end = end })) →
+    new ≡ open_words frames ++ next_words frames f.name (node (record { start = f.start; end = end }) (container f.kind (with_child f own t)))
 closed_words f frames own t o end old new e i n =
     let count : ℕ = open_count frames + (1 + children_node_count (with_child f own t)) in
-    let place : 3 * o.place ≡ length (open_words frames) = ap (λ (y : Open). 3 * y.place) i ∙ sym (open_length frames) in
-    let head : head_word (container_code (container_if o.is_object)) (length old / 3) ≡ head_word (container_code f.kind) count =
-    ap₂ (λ (k : Container) (m : ℕ). head_word (container_code k) m) (innermost_kind o f frames i) (third (length old) count (ap length e ∙ grown_length f frames own t)) in
+    let place : 4 * o.place ≡ length (open_words frames) = ap (λ (y : Open). 4 * y.place) i ∙ sym (open_length frames) in
+    let head : head_word (container_code (container_if o.is_object)) (length old / 4) ≡ head_word (container_code f.kind) count =
+    ap₂ (λ (k : Container) (m : ℕ). head_word (container_code k) m) (innermost_kind o f frames i) (fourth (length old) count (ap length e ∙ grown_length f frames own t)) in
     let start : o.start ≡ f.start = ap (λ (y : Open). y.start) i in
     n
     ∙ (ap₂ (λ (p : List ℕ × ℕ) (q : ℕ × ℕ). set (set p.0 p.1 q.0) (p.1 + 1) (span_word (record { start = q.1; end = end }))) (ap₂ (λ (xs : List ℕ) (m : ℕ). (xs, m)) (e ∙ grown_tail f frames own t) place) (ap₂ (λ (x y : ℕ). (x, y)) head start)
-    ∙ set_two (open_words frames) (name_word f.name ∷ children_words (open_count frames + 1) (with_child f own t)) (head_word (container_code f.kind) count) (span_word (record { start = f.start; end = end })) 0 0)
+    ∙ set_two (open_words frames) (name_word f.name ∷ own_up frames ∷ children_words (open_count frames + 1) (open_count frames) 0 (with_child f own t)) (head_word (container_code f.kind) count) (span_word (record { start = f.start; end = end })) 0 0)
 
 -- the names of the container go, and those outside stay
 names_stay : (outer inner : List (List ℕ)) (bodies : List Body) (n : ℕ) → n ≡ length outer → all_points bodies ≡ outer ++ inner → all_points (take n bodies) ≡ outer
@@ -355,12 +381,13 @@ pub no_value_behind : (line : List ℕ) (at : ℕ) → length line ≤ at → No
 no_value_behind line at l t e h g = let o = starts_inside line t h in omega (arith, l, e, o)
 
 -- the words that are written
-pub node_is : (ws new : List ℕ) (h s n i t m : ℕ) → new ≡ ws ++ h ∷ s ∷ n ∷ [] → h ≡ i → s ≡ t → n ≡ m → new ≡ ws ++ i ∷ t ∷ m ∷ []
-node_is ws new h s n i t m e p q r = e ∙ ap₂ (λ (x : ℕ) (y : ℕ × ℕ). ws ++ x ∷ y.0 ∷ y.1 ∷ []) p (ap₂ (λ (x y : ℕ). (x, y)) q r)
+pub node_is : (ws new : List ℕ) (h s n u i t m v : ℕ) → new ≡ ws ++ h ∷ s ∷ n ∷ u ∷ [] → h ≡ i → s ≡ t → n ≡ m → u ≡ v → new ≡ ws ++ i ∷ t ∷ m ∷ v ∷ []
+node_is ws new h s n u i t m v e p q r w =
+    e ∙ ap₂ (λ (x y : ℕ × ℕ). ws ++ x.0 ∷ x.1 ∷ y.0 ∷ y.1 ∷ []) (ap₂ (λ (x y : ℕ). (x, y)) p q) (ap₂ (λ (x y : ℕ). (x, y)) r w)
 
-pub head_is : (kind : Kind) (box : Container) (n place : ℕ) (ws : List ℕ) → code_of kind ≡ container_code box → place ≡ n → n ≡ length ws → head_word (code_of kind) (place / 3 + 1) ≡ head_word (container_code box) (length ws / 3 + 1)
-head_is kind box n place ws e p q = ap₂ (λ x (y : ℕ). head_word x (y / 3 + 1)) e (p ∙ q)
+pub head_is : (kind : Kind) (box : Container) (n place : ℕ) (ws : List ℕ) → code_of kind ≡ container_code box → place ≡ n → n ≡ length ws → head_word (code_of kind) (place / 4 + 1) ≡ head_word (container_code box) (length ws / 4 + 1)
+head_is kind box n place ws e p q = ap₂ (λ x (y : ℕ). head_word x (y / 4 + 1)) e (p ∙ q)
 
-pub opened_is : (b : Bool) (place n names m at : ℕ) → place ≡ n → names ≡ m → (let o : Open = record { place = place / 3; start = at; names = names; is_object = b } in o) ≡ record { place = n / 3; start = at; names = m; is_object = is_object (container_if b) }
-opened_is true place n names m at p q = ap₂ (λ (x y : ℕ). record { place = x / 3; start = at; names = y; is_object = true }) p q
-opened_is false place n names m at p q = ap₂ (λ (x y : ℕ). record { place = x / 3; start = at; names = y; is_object = false }) p q
+pub opened_is : (b : Bool) (place n names m at : ℕ) → place ≡ n → names ≡ m → (let o : Open = record { place = place / 4; start = at; children = 0; names = names; is_object = b } in o) ≡ record { place = n / 4; start = at; children = 0; names = m; is_object = is_object (container_if b) }
+opened_is true place n names m at p q = ap₂ (λ (x y : ℕ). record { place = x / 4; start = at; children = 0; names = y; is_object = true }) p q
+opened_is false place n names m at p q = ap₂ (λ (x y : ℕ). record { place = x / 4; start = at; children = 0; names = y; is_object = false }) p q

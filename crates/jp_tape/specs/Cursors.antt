@@ -30,6 +30,14 @@ node_of c = (spot_of c).node
 abbrev pub name_of : Cursor → Option Name
 name_of c = (spot_of c).name
 
+-- the place of the parent, 0 for the root
+abbrev pub up_of : Cursor → ℕ
+up_of c = (spot_of c).up
+
+-- how many siblings stand before it
+abbrev pub index_of : Cursor → ℕ
+index_of c = (spot_of c).index
+
 -- the sibling nodes behind it, in order
 abbrev pub nodes_after : Cursor → List Node
 nodes_after c = nodes_behind (spot_of c)

@@ -1,6 +1,7 @@
 -- What the contracts of the tape speak of.
 pub mod Words
 pub mod Kinds
+pub mod Contents
 pub mod Spots
 pub mod Tapes
 pub mod Cursors

@@ -1,14 +1,14 @@
 -- The states of the walk over a line, and which trees each completes to.
 use Rattle.std.specs.Prelude.{◌≡◌, ℕ, suc, ◌+◌, ◌-◌, ◌*◌, ◌<◌, ◌≤◌, max, Bool, true, false, ◌||◌, List, [], ◌∷◌, ◌++◌, length, take, drop, slice_set, ◌/◌, Option, None}
 use Rattle.jp_model.specs.Json.Places.{White}
-use Rattle.jp_model.specs.Json.Tree.{Tree, node, container, Container, array, object, Children, no_child, child, Name, span}
+use Rattle.jp_model.specs.Json.Tree.{Tree, node, container, Container, array, object, Children, no_child, child, Name, span, count_children}
 use Rattle.jp_model.specs.Json.Faults.{depth, greatest_depth, name_has_lone_surrogate, has_surrogate, children_have_surrogate, has_long_exponent, children_have_long_exponent, name_points, names, has_repeated, has_duplicate, children_have_duplicate}
 use Rattle.jp_model.specs.Json.Spelling.{Spells, SpellsMore, Text}
 use Rattle.jp_tape.specs.declared.builder.machine.Open.{Open}
 use Rattle.jp_tape.specs.declared.builder.machine.Builder.{Builder}
 use Rattle.jp_tape.specs.declared.builder.machine.Turn.{Turn}
 use Rattle.jp_tape.specs.declared.builder.machine.Turn.TheVariants as turns
-use Rattle.jp_tape.specs.Words.{children_node_count, name_word, words_from, children_words, tape_words, head_word, container_code, span_word}
+use Rattle.jp_tape.specs.Words.{children_node_count, name_word, up_word, words_from, children_words, tape_words, head_word, container_code, span_word}
 use Rattle.jp_tape.specs.declared.builder.tokens.Label.{Label}
 use Rattle.jp_tape.specs.Reading.{body_of, container_if, FoundLabel}
 use Rattle.jp_tape.specs.Names.{all_points}
@@ -54,10 +54,20 @@ abbrev pub open_count : List Frame → ℕ
 open_count [] = 0
 open_count (f ∷ frames) = open_count frames + 1 + children_node_count f.done
 
--- their words; the first two of an open container are written when it closes
+-- where the parent of the next value stands: the innermost open container
+abbrev pub next_parent : List Frame → ℕ
+next_parent [] = 0
+next_parent (f ∷ frames) = open_count frames
+
+-- how many of its children stand before that value
+abbrev pub next_index : List Frame → ℕ
+next_index [] = 0
+next_index (f ∷ frames) = count_children f.done
+
+-- the words of the nodes that have begun; the first two of an open container are written when it closes
 abbrev pub open_words : List Frame → List ℕ
 open_words [] = []
-open_words (f ∷ frames) = open_words frames ++ 0 ∷ 0 ∷ name_word f.name ∷ children_words (open_count frames + 1) f.done
+open_words (f ∷ frames) = open_words frames ++ 0 ∷ 0 ∷ name_word f.name ∷ up_word (next_parent frames) (next_index frames) ∷ children_words (open_count frames + 1) (open_count frames) 0 f.done
 
 -- the code points of the names that have been read in open containers, a container's own name before those in it
 abbrev pub open_names : List Frame → List (List ℕ)
@@ -70,11 +80,17 @@ is_object object = true
 
 -- what the builder keeps of an open container
 abbrev pub open_of : Frame → List Frame → Open
-open_of f frames = record { place = open_count frames; start = f.start; names = length (open_names frames ++ name_points f.name []); is_object = is_object f.kind }
+open_of f frames = record { place = open_count frames; start = f.start; children = count_children f.done; names = length (open_names frames ++ name_points f.name []); is_object = is_object f.kind }
 
 abbrev pub opens : List Frame → List Open
 opens [] = []
 opens (f ∷ frames) = opens frames ++ open_of f frames ∷ []
+
+-- the fourth word of the next value, a child of the innermost container, which is the last
+abbrev pub next_up : List Open → ℕ
+next_up [] = up_word 0 0
+next_up (o ∷ []) = up_word o.place o.children
+next_up (o ∷ p ∷ os) = next_up (p ∷ os)
 
 -- how deep the open containers and what is read in them nest
 abbrev pub open_depth : List Frame → ℕ
@@ -123,7 +139,7 @@ Stands line (turns.Value name at) b (Value_at frames own from) =
     × Keeps b (open_words frames) (opens frames) (open_depth frames) (open_surrogate frames || name_has_lone_surrogate own) (open_long line frames) (open_names frames ++ name_points own []) (open_duplicate frames)
 Stands line (turns.After at) b (After_value frames own t from) =
     (at ≡ from) × NoRootName frames own
-    × Keeps b (open_words frames ++ words_from (open_count frames) own t) (opens frames) (max (open_depth frames) (length frames + depth t)) ((open_surrogate frames || name_has_lone_surrogate own) || has_surrogate t) (open_long line frames || has_long_exponent line t)
+    × Keeps b (open_words frames ++ words_from (open_count frames) (next_parent frames) (next_index frames) own t) (opens frames) (max (open_depth frames) (length frames + depth t)) ((open_surrogate frames || name_has_lone_surrogate own) || has_surrogate t) (open_long line frames || has_long_exponent line t)
     (open_names frames ++ name_points own []) (open_duplicate frames || has_duplicate t)
 Stands line turns.End b (Finished t) = IsFinished line b t
 Stands line turn b state = ⊥
@@ -159,10 +175,10 @@ turn_left line (turns.Value name at) = suc (length line - at)
 turn_left line (turns.After at) = suc (length line - at)
 turn_left line turns.End = 0
 
--- the turn is at a place of the line, and three words at most are written for a byte that was read
+-- the turn is at a place of the line, and four words at most are written for a byte that was read
 abbrev pub IsWithin : List ℕ → Turn → Builder → Type 0
-IsWithin line (turns.Value name at) b = (at ≤ length line) × (length b.words.items ≤ 3 * at)
-IsWithin line (turns.After at) b = (at ≤ length line) × (length b.words.items ≤ 3 * at)
+IsWithin line (turns.Value name at) b = (at ≤ length line) × (length b.words.items ≤ 4 * at)
+IsWithin line (turns.After at) b = (at ≤ length line) × (length b.words.items ≤ 4 * at)
 IsWithin line turns.End b = Unit {0}
 
 -- the turn is behind this place, and within the line
@@ -192,13 +208,26 @@ pub record Labelled (line : List ℕ) (kind : Container) (from : ℕ) (turn : Tu
   pub names : label.is_lone ≡ false → all_points new.names.items ≡ all_points old.names.items ++ name_points found.name []
   pub duplicate : new.has_duplicate ≡ old.has_duplicate
 
+-- one more child of the innermost container was read
+pub record IsCounted (old new : Builder) : Type 0 where
+  pub outer : List Open
+  pub innermost : Open
+  pub before : old.opened.items ≡ outer ++ innermost ∷ []
+  pub after : new.opened.items ≡ outer ++ record innermost { children = innermost.children + 1 } ∷ []
+  pub words : new.words.items ≡ old.words.items
+  pub deepest : new.deepest ≡ old.deepest
+  pub surrogate : new.has_surrogate ≡ old.has_surrogate
+  pub long : new.has_long_exponent ≡ old.has_long_exponent
+  pub names : new.names.items ≡ old.names.items
+  pub duplicate : new.has_duplicate ≡ old.has_duplicate
+
 -- some state is held
 abbrev pub Holds : List ℕ → Turn → Builder → Type 0
 Holds line turn b = (x : State) × Stands line turn b x
 
 -- the innermost container is closed
 pub record IsClosed (container : Open) (end : ℕ) (old new : Builder) : Type 0 where
-  pub words : new.words.items ≡ slice_set (slice_set old.words.items (3 * container.place) (head_word (container_code (container_if container.is_object)) (length old.words.items / 3))) (3 * container.place + 1) (span_word (record { start = container.start; end = end }))
+  pub words : new.words.items ≡ slice_set (slice_set old.words.items (4 * container.place) (head_word (container_code (container_if container.is_object)) (length old.words.items / 4))) (4 * container.place + 1) (span_word (record { start = container.start; end = end }))
   pub opened : new.opened.items ≡ take (length old.opened.items - 1) old.opened.items
   pub deepest : new.deepest ≡ old.deepest
   pub surrogate : new.has_surrogate ≡ old.has_surrogate

@@ -1,4 +1,4 @@
--- The words of a tape: three to a node, each node before its children, in the order of the line.
+-- The words of a tape: four to a node, each node before its children, in the order of the line.
 use Rattle.std.specs.Prelude.{ℕ, ◌+◌, ◌*◌, ◌^◌, Bool, true, false, List, [], ◌∷◌, ◌++◌, Option, Some, None}
 use Rattle.jp_model.specs.declared.Span.{Span}
 use Rattle.jp_model.specs.Json.Tree.{Tree, node, Value, null, boolean, number, string, container, Container, array, object, Children, no_child, child, Name}
@@ -50,25 +50,29 @@ abbrev pub name_word : Option Name → ℕ
 name_word None = 0
 name_word (Some name) = span_word name.body
 
--- the words of a tree whose root is at this place
-abbrev mutual
-  pub words_from : ℕ → Option Name → Tree → List ℕ
-  words_from place name (node s v) =
-      head_word (kind_code v) (place + value_node_count v) ∷ span_word s ∷ name_word name ∷ words_below (place + 1) v
+-- the fourth word: the place of the parent above the index among its children, both 0 for the root
+unfoldable pub up_word : ℕ → ℕ → ℕ
+up_word parent index = parent * 2 ^ 32 + index
 
-  -- the words of the nodes below a value
+-- the words of a tree whose root is at this place, a child of that index of the node at its parent's place
+abbrev mutual
+  pub words_from : (place parent index : ℕ) → Option Name → Tree → List ℕ
+  words_from place parent index name (node s v) =
+      head_word (kind_code v) (place + value_node_count v) ∷ span_word s ∷ name_word name ∷ up_word parent index ∷ words_below place v
+
+  -- the words of the nodes below a value, whose own node is at this place
   pub words_below : ℕ → Value → List ℕ
   words_below place null = []
   words_below place (boolean b) = []
   words_below place (number m e) = []
   words_below place (string points) = []
-  words_below place (container kind children) = children_words place children
+  words_below place (container kind children) = children_words (place + 1) place 0 children
 
-  -- the words of some children
-  pub children_words : ℕ → Children → List ℕ
-  children_words place no_child = []
-  children_words place (child name t more) = words_from place name t ++ children_words (place + node_count t) more
+  -- the words of some children from an index on, the first of them at this place
+  pub children_words : (place parent index : ℕ) → Children → List ℕ
+  children_words place parent index no_child = []
+  children_words place parent index (child name t more) = words_from place parent index name t ++ children_words (place + node_count t) parent (index + 1) more
 
 -- the words of a whole tree; its root has no name
 abbrev pub tape_words : Tree → List ℕ
-tape_words t = words_from 0 None t
+tape_words t = words_from 0 0 0 None t

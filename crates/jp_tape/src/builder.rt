@@ -6,6 +6,7 @@ ghost use Rattle.jp_model.specs.Json.Faults.{is_truncated as truncated};
 ghost use Rattle.jp_model.specs.Json.Tree.{Tree};
 ghost use Rattle.jp_model.specs.Json.Spelling.{Text};
 ghost use Rattle.jp_model.specs.Json.Status.{HasStatus, parsed, fault_of_tree};
+ghost use Rattle.jp_tape.specs.Tapes.{IsTapeOf};
 ghost use Rattle.jp_tape.specs.Words.{tape_words};
 ghost use Rattle.jp_tape.specs.Machine.{IsFinished};
 ghost use Rattle.jp_tape.specs.Refusals.{IsRefused};
@@ -84,6 +85,7 @@ pub fn build(
     requires verdict { IsTrue is_utf8 ↔ IsUtf8 line.now }
     ensures tree { IfOk result (λ tape. (t : Tree) × HasStatus framing line.now (parsed t) × (tape ≡ tape_words t)) }
     ensures only { IfOk result (λ tape. (t : Tree) → Text line.now t → tape ≡ tape_words t) }
+    ensures made { IfOk result (λ tape. IsTapeOf tape line.now) }
     ensures fault { IfErr result (λ fault. IsRefused framing line.now fault) }
 {
     if !is_utf8 {

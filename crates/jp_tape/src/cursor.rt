@@ -1,23 +1,26 @@
 //! A walk over the nodes of a tape.
 
-ghost use Rattle.std.specs.Prelude.{◌≡◌, ℕ, ◌<◌, ◌≤◌, ◌+◌, ◌*◌, ◌^◌, true, false, List, length, Some, None, IfSome, option_map, slice_get, slice_range, slice_index};
+ghost use Rattle.std.specs.Prelude.{◌≡◌, ℕ, ◌<◌, ◌≤◌, ◌+◌, ◌*◌, ◌^◌, ◌++◌, ◌∷◌, [], true, false, List, length, Some, None, IfSome, IfNone, option_map, slice_get, slice_range, slice_index};
 ghost use Rattle.std.specs.List.{prefix_len};
 ghost use Rattle.jp_model.specs.Json.Tree.{Tree, span as span_of, value_of, count_children};
 ghost use Rattle.jp_model.specs.Json.Strings.{SpellsBody, has_lone_surrogate};
-ghost use Rattle.jp_model.specs.Json.Faults.{has_surrogate, has_duplicate};
+ghost use Rattle.jp_model.specs.Json.Faults.{has_surrogate, has_long_exponent, has_duplicate};
 ghost use Rattle.jp_model.specs.Json.Spelling.{Text, Spells};
 ghost use Rattle.jp_model.specs.Json.Reader.{skip};
-ghost use Rattle.jp_model.specs.Meaning.Nodes.{root_node, children, subtree, child_count as count_of};
+ghost use Rattle.jp_model.specs.Meaning.Nodes.{root_node, step_to, children, subtree, child_count as count_of};
 ghost use Rattle.jp_model.specs.Characters.{is_white as is_white_byte};
 ghost use Rattle.jp_model.specs.Rows.{source as source_of};
+ghost use Rattle.jp_strings.specs.Points.{IsText, points_of};
 ghost use Rattle.jp_tape.specs.Kinds.{kind_of, kind_by};
+ghost use Rattle.jp_tape.specs.Contents.{text_in, number_in};
 ghost use Rattle.jp_tape.specs.Spots.{children_in, last_step, name_points};
 ghost use Rattle.jp_tape.specs.Tapes.{is_spelled, spelled, IsTapeOf};
 ghost use Rattle.jp_model.specs.declared.Span.{Span};
-ghost use Rattle.jp_tape.specs.Words.{node_count, tape_words, head_word, span_word, name_word, kind_code};
+ghost use Rattle.jp_tape.specs.Words.{node_count, tape_words, head_word, span_word, name_word, up_word, kind_code};
 
 use crate::Kind;
 use crate::tape::Tape;
+use jp_decimal::Decimal;
 use jp_model::Span;
 
 /// A node of a line (RFC 9535, section 1.1): a place in the line's tape. It is copied freely and owns nothing.
@@ -30,6 +33,7 @@ pub struct Cursor<'a> {
     ghost words_are: { words.now ≡ tape_words (spelled line.now) },
     ghost short: { length line.now < 2 ^ 32 },
     ghost whole: { has_surrogate (spelled line.now) ≡ false },
+    ghost exponents: { has_long_exponent line.now (spelled line.now) ≡ false },
     ghost distinct: { has_duplicate (spelled line.now) ≡ false },
     ghost within: { place < node_count (spelled line.now) },
 }
@@ -86,7 +90,7 @@ fn behind_white(line: &[u8], from: usize) -> usize
 }
 
 impl<'a> Cursor<'a> {
-    ghost use Rattle.jp_tape.specs.Cursors.{line_of, place_of, root_of, node_of, name_of, nodes_after, children_after, nodes_from, children_from};
+    ghost use Rattle.jp_tape.specs.Cursors.{line_of, place_of, root_of, node_of, name_of, up_of, index_of, nodes_after, children_after, nodes_from, children_from};
 
     /// The root node of a line. The tape was built of this line.
     pub fn root(tape: &'a Tape, line: &'a [u8]) -> Cursor<'a>
@@ -142,6 +146,7 @@ impl<'a> Cursor<'a> {
         ensures text { Text (line_of self.entry) (root_of self.entry) }
         ensures short { length (line_of self.entry) < 2 ^ 32 }
         ensures whole { has_surrogate (root_of self.entry) ≡ false }
+        ensures exponents { has_long_exponent (line_of self.entry) (root_of self.entry) ≡ false }
         ensures distinct { has_duplicate (root_of self.entry) ≡ false }
     {
         self.line
@@ -168,6 +173,7 @@ impl<'a> Cursor<'a> {
         ensures value { result ≡ span_of (node_of self.entry).tree }
         ensures spells { Spells (line_of self.entry) (node_of self.entry).tree }
         ensures whole { has_surrogate (node_of self.entry).tree ≡ false }
+        ensures exponents { has_long_exponent (line_of self.entry) (node_of self.entry).tree ≡ false }
         ensures distinct { has_duplicate (node_of self.entry).tree ≡ false }
         ensures order { result.start < result.end }
         ensures within { result.end ≤ length (line_of self.entry) }
@@ -227,6 +233,62 @@ impl<'a> Cursor<'a> {
         if word == 0 { None } else { Some(unpack(word)) }
     }
 
+    /// The node that this one is an element or a member of. The root has none.
+    pub fn parent(self) -> Option<Cursor<'a>>
+        ensures root { IfNone result (node_of self.entry ≡ root_node (root_of self.entry)) }
+        ensures line { IfSome result (λ p. line_of p ≡ line_of self.entry) }
+        ensures place { IfSome result (λ p. place_of p < place_of self.entry) }
+        ensures child { IfSome result (λ p. slice_get (children (node_of p)) (index_of self.entry) ≡ Some (node_of self.entry)) }
+        ensures location { IfSome result (λ p. (node_of self.entry).location ≡ (node_of p).location ++ step_to (index_of self.entry) (name_of self.entry) ∷ []) }
+    {
+        if self.place() == 0 {
+            None
+        } else {
+            Some(self.go_to((self.up() >> 32) as u32))
+        }
+    }
+
+    /// The number of siblings before the node: its index in an array, from 0. That of the root is 0.
+    pub fn index(self) -> u32
+        ensures value { result ≡ index_of self.entry }
+        ensures step { 0 < place_of self.entry → last_step (node_of self.entry).location ≡ Some (step_to result (name_of self.entry)) }
+    {
+        (self.up() & LOW) as u32
+    }
+
+    /// The body of a member's name, without its quotes. The root and elements have none (RFC 8259, section 4).
+    pub fn name(self) -> Option<&'a [u8]>
+        ensures points { option_map (λ body. points_of body.now) result ≡ option_map (λ n. n.points) (name_of self.entry) }
+        ensures text { IfSome result (λ body. IsText body.now) }
+        ensures short { IfSome result (λ body. length body.now < 2 ^ 32) }
+    {
+        let span = self.name_span()?;
+        Some(&self.line()[span.start as usize..span.end as usize])
+    }
+
+    /// The body of a string, without its quotes (RFC 8259, section 7).
+    pub fn text(self) -> Option<&'a [u8]>
+        ensures points { option_map (λ body. points_of body.now) result ≡ text_in (value_of (node_of self.entry).tree) }
+        ensures text { IfSome result (λ body. IsText body.now) }
+        ensures short { IfSome result (λ body. length body.now < 2 ^ 32) }
+    {
+        if self.kind() != Kind::Text {
+            return None;
+        }
+        let (line, span) = (self.line(), self.span());
+        Some(&line[span.start as usize + 1..span.end as usize - 1])
+    }
+
+    /// The exact value of a number (RFC 8259, section 6).
+    pub fn number(self) -> Option<Decimal<'a>>
+        ensures { result ≡ number_in (value_of (node_of self.entry).tree) }
+    {
+        if self.kind() != Kind::Number {
+            return None;
+        }
+        Decimal::read(self.source()).ok()
+    }
+
     /// How many elements or members the node has. It walks over them.
     pub fn child_count(self) -> u32
         ensures nodes { result ≡ count_of (node_of self.entry) }
@@ -255,20 +317,27 @@ impl<'a> Cursor<'a> {
         ensures word { result ≡ head_word (kind_code (value_of (node_of self.entry).tree)) (place_of self.entry + length (subtree (node_of self.entry))) }
         ensures room { place_of self.entry + length (subtree (node_of self.entry)) < 2 ^ 32 }
     {
-        self.words[3 * self.place as usize]
+        self.words[4 * self.place as usize]
     }
 
     /// The second word: where the value stands.
     fn body(self) -> u64
         ensures { result ≡ span_word (span_of (node_of self.entry).tree) }
     {
-        self.words[3 * self.place as usize + 1]
+        self.words[4 * self.place as usize + 1]
     }
 
     /// The third word: where the body of the name stands, or 0.
     fn label(self) -> u64
         ensures { result ≡ name_word (name_of self.entry) }
     {
-        self.words[3 * self.place as usize + 2]
+        self.words[4 * self.place as usize + 2]
+    }
+
+    /// The fourth word: the place of the parent and the index among its children.
+    fn up(self) -> u64
+        ensures { result ≡ up_word (up_of self.entry) (index_of self.entry) }
+    {
+        self.words[4 * self.place as usize + 3]
     }
 }

@@ -4,6 +4,7 @@ ghost use Rattle.std.specs.Prelude.{IfOk};
 ghost use Rattle.jp_tape.specs.Tapes.{IsTapeOf};
 
 use crate::{BuildFault, Cursor, Kind, Tape, build};
+use jp_decimal::Decimal;
 use jp_model::{Framing, LineFault, Span, is_blank};
 use std::alloc::{AllocError, Global};
 
@@ -54,19 +55,23 @@ fn is_refused(alloc: Global, line: &[u8], wanted: LineFault) -> bool {
 #[test]
 fn nodes_stand_in_order(rt: HostRuntime) -> Result<(), Fail> {
     let tape = read(rt.alloc(), b"{\"a\":[1,true]}", Framing::Lines)?;
-    let words: [u64; 12] = [
+    let words: [u64; 16] = [
         6 * 72057594037927936 + 4,
         14,
+        0,
         0,
         5 * 72057594037927936 + 4,
         5 * 4294967296 + 13,
         2 * 4294967296 + 3,
+        0,
         3 * 72057594037927936 + 3,
         6 * 4294967296 + 7,
         0,
+        4294967296,
         2 * 72057594037927936 + 4,
         8 * 4294967296 + 12,
         0,
+        4294967296 + 1,
     ];
     assert!(rt; tape.words.as_slice() == words.as_slice());
     Ok(())
@@ -213,6 +218,40 @@ fn children_are_walked(rt: HostRuntime) -> Result<(), Fail> {
     Ok(())
 }
 
+/// The place of a node's parent, where it has one, and its index.
+fn stands_at(node: Cursor<'_>) -> (Option<u32>, u32) {
+    match node.parent() {
+        Some(parent) => (Some(parent.place()), node.index()),
+        None => (None, node.index()),
+    }
+}
+
+#[test]
+fn parents_are_known(rt: HostRuntime) -> Result<(), Fail> {
+    let line = *b"[[],{\"a\":[1,2]},[[3],4]]";
+    let tape = read(rt.alloc(), &line, Framing::Lines)?;
+    let root = Cursor::root(&tape, &line);
+    let wanted: [(Option<u32>, u32); 10] = [
+        (None, 0),
+        (Some(0), 0),
+        (Some(0), 1),
+        (Some(2), 0),
+        (Some(3), 0),
+        (Some(3), 1),
+        (Some(0), 2),
+        (Some(6), 0),
+        (Some(7), 0),
+        (Some(6), 1),
+    ];
+    assert_eq!(rt; root.after(), 10);
+    for (place, parent) in wanted.iter().enumerate() {
+        if (place as u32) < root.after() {
+            assert_eq!(rt; stands_at(root.go_to(place as u32)), *parent);
+        }
+    }
+    Ok(())
+}
+
 #[test]
 fn a_place_is_found(rt: HostRuntime) -> Result<(), Fail> {
     let line = LINE;
@@ -231,5 +270,29 @@ fn a_place_is_found(rt: HostRuntime) -> Result<(), Fail> {
     assert_eq!(rt; member.name_span(), Some(Span { start: 17, end: 18 }));
     assert_eq!(rt; member.source(), b"null".as_slice());
     assert_eq!(rt; member.top().place(), 0);
+    Ok(())
+}
+
+#[test]
+fn contents_are_read(rt: HostRuntime) -> Result<(), Fail> {
+    let line = b"{\"\\u0061\":\"x\\n\",\"\":-25e-1}".as_slice();
+    let tape = read(rt.alloc(), line, Framing::Lines)?;
+    let root = Cursor::root(&tape, line);
+    assert!(rt; root.name().is_none() && root.text().is_none() && root.number().is_none());
+    assert!(rt; 2 < root.after());
+    let text = root.go_to(1);
+    assert_eq!(rt; text.name(), Some(b"\\u0061".as_slice()));
+    assert_eq!(rt; text.text(), Some(b"x\\n".as_slice()));
+    assert!(rt; text.number().is_none());
+    let number = root.go_to(2);
+    assert_eq!(rt; number.name(), Some(b"".as_slice()));
+    assert!(rt; number.text().is_none());
+    let same = Decimal::read(b"-2.5");
+    assert!(rt;
+        match (number.number(), same) {
+            (Some(value), Ok(other)) => value.equal(&other),
+            _ => false,
+        }
+    );
     Ok(())
 }

@@ -1,27 +1,8 @@
 //! What scripts answer over collections, with reads cut at every size.
 
-use super::devices::{Cutting, NEVER, Taking};
-use crate::run;
-use jp_model::{Framing, Setup, Watched};
+use super::running::answered;
 use std::alloc::Global;
 use std::test::Fail;
-
-const SETUP: Setup = Setup {
-    framing: Framing::Lines,
-    most: u32::MAX,
-    script_most: u32::MAX,
-};
-
-/// What the script answers, where both are read so many bytes at a time.
-fn answered(alloc: Global, collection: &[u8], script: &[u8], cut: usize) -> Result<Vec<u8>, Fail> {
-    let mut collection = Watched::new(Cutting::new(alloc, collection, cut, NEVER)?);
-    let mut script = Watched::new(Cutting::new(alloc, script, cut, NEVER)?);
-    let mut out = Watched::new(Taking::new(alloc, 100, NEVER, NEVER));
-    match run(alloc, SETUP, &mut collection, &mut script, &mut out) {
-        Ok(()) => Ok(out.into_inner().held),
-        Err(_) => Err("the run stopped".into()),
-    }
-}
 
 const CUTS: [usize; 5] = [1, 2, 3, 7, 100_000];
 

@@ -7,10 +7,11 @@ ghost use Rattle.jp_strings.specs.Points.{is_text_from, points_of};
 ghost use Rattle.jp_model.specs.Json.Tree.{Tree};
 ghost use Rattle.jp_model.specs.Json.Spelling.{Text, opening, closing};
 ghost use Rattle.jp_model.specs.Json.Status.{IsNoText};
-ghost use Rattle.jp_tape.specs.Words.{head_word, span_word, container_code};
+ghost use Rattle.jp_tape.specs.Words.{head_word, span_word, up_word, container_code};
 ghost use Rattle.jp_tape.specs.Places.{Stops};
 ghost use Rattle.jp_tape.specs.Reading.{body_word, code_of, container_if, NoLabel, OnFault};
-ghost use Rattle.jp_tape.specs.Machine.{State, Stands, Steps, NoStep, IsWithin, IsBehind, Labelled, IsFinished, IsClosed, Holds};
+ghost use Rattle.jp_tape.specs.Machine.{State, Stands, Steps, NoStep, IsWithin, IsBehind, Labelled, IsFinished, IsCounted, IsClosed, Holds, next_up};
+ghost use Rattle.jp_tape.specs.declared.builder.machine.Open.{Open};
 ghost use Rattle.jp_tape.specs.declared.builder.machine.Turn.TheVariants as turns;
 
 use super::BuildFault;
@@ -29,6 +30,8 @@ struct Open {
     place: u32,
     /// Where it begins in the line.
     start: u32,
+    /// How many of its children stand before the one that is read.
+    children: u32,
     /// How many names were kept before those of its members.
     names: usize,
     is_object: bool,
@@ -47,7 +50,7 @@ enum Turn {
 /// What has been read of a line.
 #[derive(Drop)]
 pub(super) struct Builder<'a> {
-    /// Three words to a node. The first two of an open container are not known yet.
+    /// Four words to a node. The first two of an open container are not known yet.
     pub(super) words: Vec<u64>,
     /// The containers that are open, the innermost last.
     opened: Vec<Open>,
@@ -122,12 +125,26 @@ fn name_to_word(name: Option<Span>) -> u64
     }
 }
 
+/// The fourth word of a node.
+#[tactic(auto, unfolding(crate::specs::Words::up_word))]
+fn up_to_word(parent: u32, index: u32) -> u64
+    ensures { result ≡ up_word parent index }
+{
+    parent as u64 * (1 << 32) + index as u64
+}
+
 /// Writes a node.
-fn write_node(words: &mut Vec<u64>, head: u64, span: u64, name: u64) -> Result<(), BuildFault>
-    ensures written { IfOk result (λ _. words.new.items ≡ words.old.items ++ head ∷ span ∷ name ∷ []) }
+fn write_node(
+    words: &mut Vec<u64>,
+    head: u64,
+    span: u64,
+    name: u64,
+    up: u64,
+) -> Result<(), BuildFault>
+    ensures written { IfOk result (λ _. words.new.items ≡ words.old.items ++ head ∷ span ∷ name ∷ up ∷ []) }
     ensures memory { IfErr result (λ fault. OnFault fault ⊥) }
 {
-    match words.extend_from_slice(&[head, span, name]) {
+    match words.extend_from_slice(&[head, span, name, up]) {
         Ok(()) => Ok(()),
         Err(_) => Err(BuildFault::Memory),
     }
@@ -168,6 +185,17 @@ impl<'a> Builder<'a> {
         }
     }
 
+    /// The fourth word of the next value: it is a child of the innermost container, or the root.
+    fn up(&self) -> u64
+        ensures { result ≡ next_up self.now.opened.items }
+    {
+        if self.opened.is_empty() {
+            return up_to_word(0, 0);
+        }
+        let parent = self.opened[self.opened.len() - 1];
+        up_to_word(parent.place, parent.children)
+    }
+
     /// Reads what stands before a child's value, and keeps its name.
     fn next_child(
         &mut self,
@@ -204,18 +232,19 @@ impl<'a> Builder<'a> {
     ) -> Result<Turn, BuildFault>
         requires opens { Has line.now at (opening (container_if is_object)) }
         requires room { length line.now < 2 ^ 32 }
-        requires few { length self.old.words.items ≤ 3 * at }
+        requires few { length self.old.words.items ≤ 4 * at }
         ensures goes_on { IfOk result (λ turn. Steps line.now (turns.Value name at) self.old turn self.new) }
         ensures behind { IfOk result (λ turn. IsBehind line.now at turn self.new) }
         ensures stuck { IfErr result (λ fault. OnFault fault (NoStep line.now (turns.Value name at) self.old)) }
     {
         let inside = skip_white(line, at + 1);
-        let place = self.words.len() / 3;
+        let place = self.words.len() / 4;
+        let up = self.up();
         self.deepest = larger(self.deepest, self.opened.len() + 1);
         if is_at(line, inside, closing_of(is_object)) {
             let span = span_to_word(at as u32, (inside + 1) as u32);
             let head = head(container_kind(is_object), place + 1);
-            return match write_node(&mut self.words, head, span, name_to_word(name)) {
+            return match write_node(&mut self.words, head, span, name_to_word(name), up) {
                 Ok(()) => Ok(Turn::After(inside + 1)),
                 Err(fault) => Err(fault),
             };
@@ -223,10 +252,11 @@ impl<'a> Builder<'a> {
         let container = Open {
             place: place as u32,
             start: at as u32,
+            children: 0,
             names: self.names.len(),
             is_object,
         };
-        match write_node(&mut self.words, 0, 0, name_to_word(name)) {
+        match write_node(&mut self.words, 0, 0, name_to_word(name), up) {
             Ok(()) => {}
             Err(fault) => return Err(fault),
         }
@@ -240,7 +270,7 @@ impl<'a> Builder<'a> {
     fn begin(&mut self, line: &'a [u8], at: usize, name: Option<Span>) -> Result<Turn, BuildFault>
         requires within { at ≤ length line.now }
         requires room { length line.now < 2 ^ 32 }
-        requires few { length self.old.words.items ≤ 3 * at }
+        requires few { length self.old.words.items ≤ 4 * at }
         ensures goes_on { IfOk result (λ turn. Steps line.now (turns.Value name at) self.old turn self.new) }
         ensures behind { IfOk result (λ turn. IsBehind line.now at turn self.new) }
         ensures stuck { IfErr result (λ fault. OnFault fault (NoStep line.now (turns.Value name at) self.old)) }
@@ -257,9 +287,10 @@ impl<'a> Builder<'a> {
         let Some(scalar) = scalar_at(line, at) else {
             return Err(GRAMMAR);
         };
-        let head = head(scalar.kind, self.words.len() / 3 + 1);
+        let head = head(scalar.kind, self.words.len() / 4 + 1);
         let span = span_to_word(at as u32, scalar.end as u32);
-        match write_node(&mut self.words, head, span, name_to_word(name)) {
+        let up = self.up();
+        match write_node(&mut self.words, head, span, name_to_word(name), up) {
             Ok(()) => {}
             Err(fault) => return Err(fault),
         }
@@ -270,17 +301,17 @@ impl<'a> Builder<'a> {
 
     /// Closes the innermost container, which ends before `end`.
     fn close(&mut self, container: Open, end: usize)
-        requires place { 3 * container.place + 1 < length self.old.words.items }
+        requires place { 4 * container.place + 1 < length self.old.words.items }
         requires last { 0 < length self.old.opened.items }
         requires names { container.names ≤ length self.old.names.items }
-        requires few { length self.old.words.items < 3 * end }
+        requires few { length self.old.words.items < 4 * end }
         requires room { end < 2 ^ 32 }
         ensures closed { IsClosed container end self.old self.new }
     {
         let place = container.place as usize;
         let kind = container_kind(container.is_object);
-        self.words[3 * place] = head(kind, self.words.len() / 3);
-        self.words[3 * place + 1] = span_to_word(container.start, end as u32);
+        self.words[4 * place] = head(kind, self.words.len() / 4);
+        self.words[4 * place + 1] = span_to_word(container.start, end as u32);
         if !self.has_surrogate {
             let is_repeated = has_equal(&mut self.names[container.names..]);
             self.has_duplicate |= is_repeated;
@@ -289,11 +320,21 @@ impl<'a> Builder<'a> {
         self.opened.pop();
     }
 
+    /// Counts a child of the innermost container, which was read.
+    fn count_child(&mut self)
+        requires some { 0 < length self.old.opened.items }
+        requires room { (outer : List Open) (o : Open) → self.old.opened.items ≡ outer ++ o ∷ [] → o.children + 1 < 2 ^ 32 }
+        ensures counted { IsCounted self.old self.new }
+    {
+        let last = self.opened.len() - 1;
+        self.opened[last].children += 1;
+    }
+
     /// Reads what follows a value.
     fn go_on(&mut self, line: &'a [u8], at: usize) -> Result<Turn, BuildFault>
         requires within { at ≤ length line.now }
         requires room { length line.now < 2 ^ 32 }
-        requires few { length self.old.words.items ≤ 3 * at }
+        requires few { length self.old.words.items ≤ 4 * at }
         requires holds { Holds line.now (turns.After at) self.old }
         ensures goes_on { IfOk result (λ turn. Steps line.now (turns.After at) self.old turn self.new) }
         ensures behind { IfOk result (λ turn. IsBehind line.now at turn self.new) }
@@ -309,6 +350,7 @@ impl<'a> Builder<'a> {
         }
         let container = self.opened[self.opened.len() - 1];
         if is_at(line, next, b',') {
+            self.count_child();
             return self.next_child(line, container.is_object, skip_white(line, next + 1));
         }
         if !is_at(line, next, closing_of(container.is_object)) {

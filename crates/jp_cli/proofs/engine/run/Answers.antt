@@ -6,7 +6,7 @@ use Rattle.jp_model.specs.Lines.{lines, is_framed}
 use Rattle.jp_model.specs.Script.Headline.{loaded, MayLoad, RunEnded, RunStopped}
 use Rattle.jp_model.specs.Script.Machine.{State}
 use Rattle.jp_cli.specs.Asked.{asked_by}
-use Rattle.jp_cli.specs.NamesQuery.{query_of}
+use Rattle.jp_query.specs.Status.{query_of}
 use Rattle.jp_cli.proofs.Ending.{ends, told_of_all, both_ended, loaded_is, framed_lines}
 use Rattle.jp_cli.proofs.engine.run.Goals as goal
 

@@ -4,7 +4,7 @@ use Rattle.std.proofs.lemmas.Bool.{false≢true}
 use Rattle.jp_model.specs.Script.Machine.{error}
 use Rattle.jp_cli.specs.Answers.{answer_text}
 use Rattle.jp_cli.specs.Asked.{asked_in}
-use Rattle.jp_cli.specs.NamesQuery.{query_of}
+use Rattle.jp_query.specs.Status.{query_of}
 use Rattle.jp_cli.proofs.Runs.{answer_one}
 use Rattle.jp_cli.proofs.script.answer_line.Goals as goal
 

@@ -5,7 +5,7 @@ use Rattle.jp_cli.specs.Runs.{Ran, StoppedIn}
 use Rattle.jp_model.proofs.Pieces.{pieces_clear}
 use Rattle.jp_cli.proofs.ScriptSoFar.{stopped_read, taken, too_long, stopped_piece, cut_piece, min_first, one_more_call, not_empty, ended, last_run, last_stopped}
 use Rattle.jp_cli.specs.Asked.{asked_in}
-use Rattle.jp_cli.specs.NamesQuery.{query_of}
+use Rattle.jp_query.specs.Status.{query_of}
 use Rattle.jp_cli.proofs.script.run_script.Goals as goal
 
 pub returns-in_default-clause-output : goal.returns-in_default-clause-output

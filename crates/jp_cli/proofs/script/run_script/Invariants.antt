@@ -2,7 +2,7 @@
 use Rattle.std.proofs.Common.{◌≡◌, ◌+◌, ◌-◌, ◌≤◌, false}
 use Rattle.jp_cli.proofs.ScriptSoFar.{SoFar}
 use Rattle.jp_cli.specs.Asked.{asked_in}
-use Rattle.jp_cli.specs.NamesQuery.{query_of}
+use Rattle.jp_query.specs.Status.{query_of}
 use Rattle.jp_cli.proofs.script.run_script.Given as goal
 
 abbrev pub invariant-loop-read : goal.invariant-loop-read

@@ -6,7 +6,7 @@ use Rattle.jp_cli.specs.Runs.{Ran}
 use Rattle.jp_model.specs.Script.Headline.{AnsweredInPart}
 use Rattle.jp_model.specs.Lines.{closed_lines, open_line}
 use Rattle.jp_cli.specs.Asked.{asked_in}
-use Rattle.jp_cli.specs.NamesQuery.{query_of}
+use Rattle.jp_query.specs.Status.{query_of}
 use Rattle.jp_cli.proofs.script.take_piece.Goals as goal
 use Rattle.jp_cli.proofs.script.take_piece.Goals.{then-byte-eq10+in-Ok, else-byte-eq10+else-is_err}
 

@@ -3,7 +3,7 @@ use Rattle.std.proofs.Common.{◌≡◌, ◌++◌, take, false}
 use Rattle.jp_model.specs.Lines.{closed_lines, open_line}
 use Rattle.jp_cli.specs.Runs.{Ran}
 use Rattle.jp_cli.specs.Asked.{asked_in}
-use Rattle.jp_cli.specs.NamesQuery.{query_of}
+use Rattle.jp_query.specs.Status.{query_of}
 use Rattle.jp_cli.proofs.script.take_piece.Given as goal
 
 abbrev pub invariant-loop-byte : goal.invariant-loop-byte

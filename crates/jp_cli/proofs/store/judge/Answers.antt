@@ -3,9 +3,8 @@ use Rattle.std.proofs.Common.{◌∙◌, ap, sym, subst}
 use Rattle.jp_model.specs.declared.Framing.TheVariants as framings
 use Rattle.jp_model.specs.Json.Status.{parsed, refused}
 use Rattle.jp_model.proofs.Reader.Statuses.{only_status}
-use Rattle.jp_tape.proofs.Trees.{tape_made, spelled_only}
+use Rattle.jp_tape.proofs.Trees.{spelled_only}
 use Rattle.jp_tape.specs.Refusals.{IsRefused}
-use Rattle.jp_tape.proofs.Statuses.{without_fault}
 use Rattle.jp_cli.proofs.store.judge.Goals as goal
 
 pub returns-in-Ok : goal.returns-in-Ok
@@ -13,10 +12,7 @@ returns-in-Ok c =
     let line = c.args.text.now in
     let built = c.in-Ok.ensures.tree in
     let t = built.0 in
-    let clean = without_fault framings.Lines line t built.1.2 in (
-      sym (only_status framings.Lines line (parsed t) built.1) ∙ ap parsed (sym (spelled_only line t built.1.1)),
-      tape_made c.in-Ok.tape line t built.1.1 built.2 c.requires clean.0 clean.1,
-    )
+    (sym (only_status framings.Lines line (parsed t) built.1) ∙ ap parsed (sym (spelled_only line t built.1.1)), c.in-Ok.ensures.made)
 
 pub returns-in-Err-Line : goal.returns-in-Err-Line
 returns-in-Err-Line c =

@@ -1,5 +1,5 @@
 -- The body of the name is the slice that its span gives.
-use Rattle.jp_tape.specs.Cursors.{line_of, name_of}
+use Rattle.jp_tape.specs.Cursors.{line_of, name_of, index_of}
 use Rattle.jp_rows.proofs.Named.{names_step}
 use Rattle.jp_rows.proofs.names.write_step.Goals as goal
 
@@ -14,4 +14,4 @@ returns-in-Some-clause-text g c =
     let child = c.args.child in
     let e = c.in-Some.ensures in
     let name = names_step c.line.result.now (line_of child) (name_of child) c.in-Some.body c.line.ensures.bytes e.body e.spells e.whole e.within.1 in
-    rw (name.step c.args.index) c.write_name_step.ensures.text
+    rw (name.step (index_of child)) c.write_name_step.ensures.text

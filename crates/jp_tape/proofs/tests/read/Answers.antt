@@ -11,4 +11,4 @@ returns c =
     let short = c.if-line-gt4294967295.false in
     IfOk-weaker c.build.result _ _ (λ tape built.
     let clean = without_fault c.args.framing line built.0 built.1.2 in
-    tape_made _ line built.0 built.1.1 built.2 (omega (arith, short)) clean.0 clean.1) c.build.ensures.tree
+    tape_made _ line built.0 built.1.1 built.2 (omega (arith, short)) clean.0 clean.1 clean.2) c.build.ensures.tree

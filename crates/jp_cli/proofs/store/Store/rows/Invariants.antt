@@ -4,15 +4,15 @@ use Rattle.std.specs.Prelude.{count_by}
 use Rattle.jp_model.specs.declared.Framing.TheVariants as framings
 use Rattle.jp_model.specs.Rows.{rows}
 use Rattle.jp_model.specs.Script.Machine.{row_text, is_node, statuses}
-use Rattle.jp_cli.specs.NamesQuery.{name_segments}
+use Rattle.jp_types.specs.Checks.{checked_view}
 use Rattle.jp_cli.specs.Stored.{found_text, is_found_node}
-use Rattle.jp_cli.proofs.Loading.{text_of}
+use Rattle.jp_cli.specs.Stored.{text_of}
 use Rattle.jp_cli.proofs.RowTexts.{rows_left}
 use Rattle.jp_cli.proofs.store.Store.rows.Given as goal
 
 abbrev pub invariant-loop-line : goal.invariant-loop-line
 invariant-loop-line l =
-    let q = name_segments (map (λ name. name.now) l.names) in
+    let q = checked_view l.query in
     let all = map text_of l.line-items in
     record {
       text : flat_map (found_text framings.Lines) l.rows.items ++ flat_map (row_text framings.Lines all) (rows_left q l.line-items l.line-index)

@@ -15,6 +15,7 @@ returns c =
       value = e;
       spells = (standing self).spells;
       whole = (sound self).whole;
+      exponents = (sound self).exponents;
       distinct = (sound self).distinct;
       order = subst (λ (s : Span). s.start < s.end) (sym e) room.0;
       within = subst (λ (s : Span). s.end ≤ length (line_of self)) (sym e) room.1;

@@ -16,7 +16,7 @@ returns-clause-goes_on c =
     let r = c.in-Some.scalar in
     scalar_goes_on c.args.line.now c.args.at c.args.name b _ r c.in-Some.ensures.found
     (record {
-      words_are = node_is b.words.items _ _ _ _ _ _ _ c.in-Ok.ensures.written (c.head-head.ensures ∙ ap (λ (n : ℕ). head_word (code_of r.kind) (n / 3 + 1)) (c.len.ensures ∙ b.words.ok.0)) c.span_to_word-span.ensures c.name_to_word.ensures;
+      words_are = node_is b.words.items _ _ _ _ _ _ _ _ _ c.in-Ok.ensures.written (c.head-head.ensures ∙ ap (λ (n : ℕ). head_word (code_of r.kind) (n / 4 + 1)) (c.len.ensures ∙ b.words.ok.0)) c.span_to_word-span.ensures c.name_to_word.ensures c.up-up.ensures;
       opened = refl;
       names = refl;
       deepest_is = refl;

@@ -15,7 +15,7 @@ returns-in-Ok-clause-goes_on c =
     empty_goes_on c.args.line.now c.args.at c.skip_white-inside.result c.args.name b _ kind c.requires.opens c.skip_white-inside.ensures.white
     (subst (λ x. Has c.args.line.now c.skip_white-inside.result x) c.closing_of.ensures (c.is_at.ensures.yes c.if-is_at.true))
     (record {
-      words_are = node_is b.words.items _ _ _ _ _ _ _ c.in-Ok.ensures.written (c.head-head.ensures ∙ head_is c.container_kind.result kind _ _ b.words.items c.container_kind.ensures c.len-place.ensures b.words.ok.0) c.span_to_word-span.ensures c.name_to_word.ensures;
+      words_are = node_is b.words.items _ _ _ _ _ _ _ _ _ c.in-Ok.ensures.written (c.head-head.ensures ∙ head_is c.container_kind.result kind _ _ b.words.items c.container_kind.ensures c.len-place.ensures b.words.ok.0) c.span_to_word-span.ensures c.name_to_word.ensures c.up-up.ensures;
       opened = refl;
       names = refl;
       deepest_is = c.larger-self.ensures ∙ ap (λ n. max b.deepest (n + 1)) (c.len.ensures ∙ b.opened.ok.0);
@@ -34,7 +34,7 @@ returns-in-Ok-push-clause-goes_on c =
     (λ turn l. enter_goes_on c.args.line.now c.args.at c.skip_white-inside.result c.args.name b mid c.next_child.new.self turn kind c.requires.opens w.white w.stops
     (λ h. c.is_at.ensures.no c.if-is_at.false (subst (λ x. Has c.args.line.now c.skip_white-inside.result x) (sym c.closing_of.ensures) h))
     (record {
-      words = node_is b.words.items _ _ _ _ _ _ _ c.in-Ok-write_node.ensures.written refl refl c.name_to_word-2.ensures;
+      words = node_is b.words.items _ _ _ _ _ _ _ _ _ c.in-Ok-write_node.ensures.written refl refl c.name_to_word-2.ensures c.up-up.ensures;
       opened = c.in-Ok-push.ensures.items ∙ ap (λ (o : Open). b.opened.items ++ o ∷ []) (opened_is c.args.is_object _ _ _ _ c.args.at (c.len-place.ensures ∙ b.words.ok.0) (c.len-2.ensures ∙ b.names.ok.0));
       names = refl;
       deepest = c.larger-self.ensures ∙ ap (λ n. max b.deepest (n + 1)) (c.len.ensures ∙ b.opened.ok.0);

@@ -4,7 +4,8 @@ use Rattle.std.proofs.lemmas.Result.{IfOk-weaker, IfErr-weaker}
 use Rattle.jp_model.specs.Json.Places.{White, Has}
 use Rattle.jp_tape.specs.declared.builder.machine.Open.{Open}
 use Rattle.jp_tape.proofs.Walk.{on_fault}
-use Rattle.jp_tape.proofs.Walk.{is_innermost, innermost_place, innermost_names, comma_goes_on, no_comma, no_neither, close_goes_on, end_goes_on, no_end}
+use Rattle.jp_tape.proofs.Held.{last_of}
+use Rattle.jp_tape.proofs.Walk.{is_innermost, innermost_children, innermost_place, innermost_names, comma_goes_on, no_comma, no_neither, close_goes_on, end_goes_on, no_end}
 use Rattle.jp_tape.proofs.builder.machine.Builder.go_on.Goals as goal
 
 pub returns-then-next-line-clause-goes_on : goal.returns-then-next-line-clause-goes_on
@@ -22,6 +23,22 @@ some_open n m e h = let z : n ≡ 0 → ⊥ = eqb-false n 0 (sym h) in omega (ar
 last_read : (os : List Open) (n m : ℕ) (o : Open) → n ≡ m → m ≡ length os → o ≡ get_or os (n - 1) o → o ≡ get_or os (length os - 1) o
 last_read os n m o e f h = h ∙ ap (λ k. get_or os (k - 1) o) (e ∙ f)
 
+pub count_child-requires-clause-some : goal.count_child-requires-clause-some
+count_child-requires-clause-some c = some_open _ _ c.args.self.now.opened.ok.0 c.if-is_empty.ensures
+
+pub count_child-requires-clause-room : goal.count_child-requires-clause-room
+count_child-requires-clause-room c outer o e =
+    let b = c.args.self.now in
+    let some = some_open _ _ b.opened.ok.0 c.if-is_empty.ensures in
+    let x = c.requires.holds.0 in
+    let h = c.requires.holds.1 in
+    let last : o ≡ get_or b.opened.items (length b.opened.items - 1) o = sym (ap (λ (os : List Open). get_or os (length os - 1) o) e ∙ last_of outer o o) in
+    let n = innermost_children c.args.line.now c.args.at b o x h (is_innermost c.args.line.now c.args.at b o some last x h) in
+    let few = c.requires.few in
+    let within = c.requires.within in
+    let room = c.requires.room in
+    omega (arith, n, few, within, room)
+
 pub returns-then-is_at-clause-goes_on : goal.returns-then-is_at-clause-goes_on
 returns-then-is_at-clause-goes_on c =
     let w = c.skip_white-next.ensures in
@@ -31,7 +48,7 @@ returns-then-is_at-clause-goes_on c =
     let some = some_open _ _ b.opened.ok.0 c.if-is_empty.ensures in
     let last = last_read b.opened.items _ _ o c.len.ensures b.opened.ok.0 c.index-container.ensures in
     IfOk-weaker c.next_child.result _ _
-    (λ turn l x h. comma_goes_on c.args.line.now c.args.at c.skip_white-next.result c.skip_white.result b c.next_child.new.self turn o w.white (c.is_at.ensures.yes c.if-is_at.true) v.white v.stops l x h
+    (λ turn l x h. comma_goes_on c.args.line.now c.args.at c.skip_white-next.result c.skip_white.result b c.count_child.new.self c.next_child.new.self turn o w.white (c.is_at.ensures.yes c.if-is_at.true) v.white v.stops c.count_child.ensures.counted l x h
     (is_innermost c.args.line.now c.args.at b o some last x h))
     c.next_child.ensures.found
 

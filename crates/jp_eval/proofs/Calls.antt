@@ -1,0 +1,133 @@
+-- What calls answer, by the names of their functions.
+use Rattle.std.proofs.Common.{◌≡◌, ◌∙◌, ◌<◌, ◌≤◌, ℕ, List, [], ◌∷◌, length, Bool, true, false, if◌then◌else◌, Option, Some, None, codes, sym, ap, ap₂, subst, refl, arith}
+use Rattle.std.specs.Prelude.{string_bytes}
+use Rattle.std.specs.Str.{chars, IsUtf8, IsAscii}
+use Rattle.std.proofs.Common.{zero, suc, lit<}
+use Rattle.std.proofs.lemmas.Str.{chars-IsAscii, encodes-chars, encodes-IsAscii}
+use Rattle.std.proofs.lemmas.Bool.{true≢false, and_parts, ltb-true}
+use Rattle.std.specs.List.{list_all}
+use Rattle.std.specs.Prelude.{slice_index, nat_lt, encode_utf8_all}
+use Rattle.jp_model.specs.Characters.{text_equal}
+use Rattle.jp_model.specs.Json.Tree.{Tree, Value}
+use Rattle.jp_model.specs.Meaning.Nodes.{Node}
+use Rattle.jp_model.specs.Meaning.Functions.{Given, value_function, logical_function}
+use Rattle.jp_model.specs.Meaning.Selecting.{given, call_value, call_truth}
+use Rattle.jp_model.specs.Query.Syntax as syntax
+use Rattle.jp_model.proofs.Seek.{text_same}
+use Rattle.jp_query.specs.View.{call_view, path_view, arguments_view, argument_view, segments_view, origin_view}
+use Rattle.jp_query.specs.declared.tree.Call.{Call}
+use Rattle.jp_query.specs.declared.tree.Path.{Path}
+use Rattle.jp_query.specs.declared.tree.Argument.{Argument}
+use Rattle.jp_eval.specs.declared.functions.Function.{Function}
+use Rattle.jp_eval.specs.declared.functions.Function.TheVariants as functions
+use Rattle.jp_eval.specs.Functions.{function_named}
+use Rattle.jp_eval.proofs.Views.{call_viewed}
+
+-- the name of a function
+abbrev pub name_of : Function → List ℕ
+name_of functions.Length = codes "length"
+name_of functions.Count = codes "count"
+name_of functions.Value = codes "value"
+name_of functions.Match = codes "match"
+name_of functions.Search = codes "search"
+
+abbrev pub function_by : Bool → Bool → Bool → Bool → Bool → Option Function
+function_by a b c d e =
+    if a then Some functions.Length
+    else if b then Some functions.Count
+    else if c then Some functions.Value
+    else if d then Some functions.Match
+    else if e then Some functions.Search
+    else None
+
+pub named_so : (f : List ℕ) (o : Function) → function_named f ≡ Some o → f ≡ name_of o
+named_so f o h = by (text_equal f (codes "length")) (text_equal f (codes "count")) (text_equal f (codes "value")) (text_equal f (codes "match")) (text_equal f (codes "search")) refl refl refl refl refl h
+  where
+    by : (p q r s u : Bool) → text_equal f (codes "length") ≡ p → text_equal f (codes "count") ≡ q → text_equal f (codes "value") ≡ r → text_equal f (codes "match") ≡ s → text_equal f (codes "search") ≡ u
+        → function_by p q r s u ≡ Some o → f ≡ name_of o
+    by true q r s u a b c d e h = let i : functions.Length ≡ o = cc in text_same f (codes "length") a ∙ ap name_of i
+    by false true r s u a b c d e h = let i : functions.Count ≡ o = cc in text_same f (codes "count") b ∙ ap name_of i
+    by false false true s u a b c d e h = let i : functions.Value ≡ o = cc in text_same f (codes "value") c ∙ ap name_of i
+    by false false false true u a b c d e h = let i : functions.Match ≡ o = cc in text_same f (codes "match") d ∙ ap name_of i
+    by false false false false true a b c d e h = let i : functions.Search ≡ o = cc in text_same f (codes "search") e ∙ ap name_of i
+    by false false false false false a b c d e h = absurd (cc)
+
+-- a call of one of the functions, with its arguments
+pub called : (c : Call) (name : List ℕ) (items : List Argument) (o : Function) → name ≡ string_bytes c.name → items ≡ c.arguments.items → function_named (chars name) ≡ Some o
+    → call_view c ≡ syntax.call (name_of o) (arguments_view items)
+called c name items o e f h =
+    call_viewed c
+    ∙ ap₂ (λ (x : List ℕ) (y : List Argument). syntax.call x (arguments_view y)) (ap chars (sym e) ∙ named_so (chars name) o h) (sym f)
+
+-- with no function of one argument, or of two
+few : (items : List Argument) (n : Node) (t : Tree) → length items < 2 → (f : List ℕ) → false ≡ logical_function f (given (arguments_view items) n t)
+few [] n t h f = refl
+few (a ∷ []) n t h f = refl
+few (a ∷ b ∷ items) n t h f = absurd (omega (arith, h))
+
+many : (items : List Argument) (n : Node) (t : Tree) → 3 ≤ length items → (f : List ℕ) → false ≡ logical_function f (given (arguments_view items) n t)
+many [] n t h f = refl
+many (a ∷ []) n t h f = refl
+many (a ∷ b ∷ []) n t h f = absurd (omega (arith, h))
+many (a ∷ b ∷ d ∷ items) n t h f = refl
+
+pub few_called : (c : Call) (items : List Argument) (n : Node) (t : Tree) → items ≡ c.arguments.items → length items < 2 → false ≡ call_truth (call_view c) n t
+few_called c items n t e h = few items n t h (chars (string_bytes c.name)) ∙ (ap (λ (y : List Argument). logical_function (chars (string_bytes c.name)) (given (arguments_view y) n t)) e ∙ sym (ap (λ (v : syntax.Call). call_truth v n t) (call_viewed c)))
+
+pub many_called : (c : Call) (items : List Argument) (n : Node) (t : Tree) → items ≡ c.arguments.items → 3 ≤ length items → false ≡ call_truth (call_view c) n t
+many_called c items n t e h = many items n t h (chars (string_bytes c.name)) ∙ (ap (λ (y : List Argument). logical_function (chars (string_bytes c.name)) (given (arguments_view y) n t)) e ∙ sym (ap (λ (v : syntax.Call). call_truth v n t) (call_viewed c)))
+
+none_of : (items : List Argument) (n : Node) (t : Tree) → length items < 1 → (f : List ℕ) → None ≡ value_function f (given (arguments_view items) n t)
+none_of [] n t h f = refl
+none_of (a ∷ items) n t h f = absurd (omega (arith, h))
+
+several : (items : List Argument) (n : Node) (t : Tree) → 2 ≤ length items → (f : List ℕ) → None ≡ value_function f (given (arguments_view items) n t)
+several [] n t h f = refl
+several (a ∷ []) n t h f = absurd (omega (arith, h))
+several (a ∷ b ∷ items) n t h f = refl
+
+pub none_called : (c : Call) (items : List Argument) (n : Node) (t : Tree) → items ≡ c.arguments.items → length items < 1 → None ≡ call_value (call_view c) n t
+none_called c items n t e h = none_of items n t h (chars (string_bytes c.name)) ∙ (ap (λ (y : List Argument). value_function (chars (string_bytes c.name)) (given (arguments_view y) n t)) e ∙ sym (ap (λ (v : syntax.Call). call_value v n t) (call_viewed c)))
+
+pub several_called : (c : Call) (items : List Argument) (n : Node) (t : Tree) → items ≡ c.arguments.items → 2 ≤ length items → None ≡ call_value (call_view c) n t
+several_called c items n t e h = several items n t h (chars (string_bytes c.name)) ∙ (ap (λ (y : List Argument). value_function (chars (string_bytes c.name)) (given (arguments_view y) n t)) e ∙ sym (ap (λ (v : syntax.Call). call_value v n t) (call_viewed c)))
+
+-- ---- a name in UTF-8
+
+-- each byte of the word is below 128
+ascii_by : (w : List ℕ) → list_all (λ x. nat_lt x 128) w ≡ true → IsAscii w
+ascii_by [] h zero = lit< tt
+ascii_by [] h (suc i) = lit< tt
+ascii_by (x ∷ xs) h zero = ltb-true x 128 (and_parts (nat_lt x 128) (list_all (λ x. nat_lt x 128) xs) h).0
+ascii_by (x ∷ xs) h (suc i) = ascii_by xs (and_parts (nat_lt x 128) (list_all (λ x. nat_lt x 128) xs) h).1 i
+
+-- a text equals a word of ASCII as its scalars do
+pub same_text : (s w : List ℕ) → IsUtf8 s → IsAscii w → text_equal w w ≡ true → text_equal s w ≡ text_equal (chars s) w
+same_text s w u a r = by (text_equal s w) (text_equal (chars s) w) refl refl
+  where
+    by : (p q : Bool) → text_equal s w ≡ p → text_equal (chars s) w ≡ q → p ≡ q
+    by true true e f = refl
+    by false false e f = refl
+    by true false e f =
+        let same : s ≡ w = text_same s w e in
+        let plain : chars s ≡ w = ap chars same ∙ chars-IsAscii w a in
+        absurd (true≢false (sym r ∙ (sym (ap (λ x. text_equal x w) plain) ∙ f)))
+    by false true e f =
+        let plain : chars s ≡ w = text_same (chars s) w f in
+        let same : s ≡ w = sym (encodes-chars s u) ∙ (ap encode_utf8_all plain ∙ encodes-IsAscii w a) in
+        absurd (true≢false (sym r ∙ (sym (ap (λ x. text_equal x w) same) ∙ e)))
+
+pub length_name : (s : List ℕ) (b : Bool) → IsUtf8 s → b ≡ text_equal s (codes "length") → text_equal (chars s) (codes "length") ≡ b
+length_name s b u e = sym (e ∙ same_text s (codes "length") u (ascii_by (codes "length") refl) refl)
+
+pub count_name : (s : List ℕ) (b : Bool) → IsUtf8 s → b ≡ text_equal s (codes "count") → text_equal (chars s) (codes "count") ≡ b
+count_name s b u e = sym (e ∙ same_text s (codes "count") u (ascii_by (codes "count") refl) refl)
+
+pub value_name : (s : List ℕ) (b : Bool) → IsUtf8 s → b ≡ text_equal s (codes "value") → text_equal (chars s) (codes "value") ≡ b
+value_name s b u e = sym (e ∙ same_text s (codes "value") u (ascii_by (codes "value") refl) refl)
+
+pub match_name : (s : List ℕ) (b : Bool) → IsUtf8 s → b ≡ text_equal s (codes "match") → text_equal (chars s) (codes "match") ≡ b
+match_name s b u e = sym (e ∙ same_text s (codes "match") u (ascii_by (codes "match") refl) refl)
+
+pub search_name : (s : List ℕ) (b : Bool) → IsUtf8 s → b ≡ text_equal s (codes "search") → text_equal (chars s) (codes "search") ≡ b
+search_name s b u e = sym (e ∙ same_text s (codes "search") u (ascii_by (codes "search") refl) refl)

@@ -1,0 +1,13 @@
+-- Lemmas of the evaluator.
+pub mod Sizes
+pub mod Lists
+pub mod Nodelists
+pub mod Kept
+pub mod Goes
+pub mod Walks
+pub mod Members
+pub mod Elements
+pub mod Views
+pub mod Calls
+pub mod Descendants
+pub mod Counts

@@ -1,0 +1,5 @@
+-- What the contracts of the evaluator speak of.
+pub mod Found
+pub mod Expressions
+pub mod Functions
+pub mod Walks

@@ -1,0 +1,211 @@
+//! Children that are selected by name or by place (RFC 9535, sections 2.3.1, 2.3.3 and 2.3.4).
+
+ghost use Rattle.std.specs.Prelude.{◌≡◌, ℕ, pos, neg_ℤ, ◌-ℤ◌, ◌≤ℤ◌, ◌≢◌, ◌^◌, map, IfOk, IfSome};
+ghost use Rattle.std.specs.Str.{chars};
+ghost use Rattle.jp_model.specs.Characters.{text_equal};
+ghost use Rattle.jp_model.specs.Meaning.Nodes.{step_to, children_where, child_count as count_of};
+ghost use Rattle.jp_model.specs.Steps.{same_int};
+ghost use Rattle.jp_model.specs.Meaning.Slices.{named, indexed, sliced, is_name, is_index, normal as normal_of, on_stride, upward, downward};
+ghost use Rattle.jp_strings.specs.Points.{IsText, points_of};
+ghost use Rattle.jp_tape.specs.Cursors.{line_of, node_of, name_of};
+ghost use Rattle.jp_eval.specs.Found.{node_list, AreOf};
+ghost use Rattle.jp_eval.specs.Walks.{IsAt, slice_has};
+
+use jp_strings::Scalars;
+use jp_tape::Cursor;
+use std::alloc::{AllocError, Global};
+
+/// Whether a body spells a text.
+fn spells(body: &[u8], text: &str) -> bool
+    requires { IsText body.now }
+    ensures { result ≡ text_equal (chars text.now) (points_of body.now) }
+{
+    text.chars().cmp(Scalars::new(body)).is_eq()
+}
+
+/// Whether the node is the member of this name.
+fn is_named(node: Cursor<'_>, name: &str) -> bool
+    ensures { (index : ℕ) → result ≡ is_name (chars name.now) (step_to index (name_of node.entry)) }
+{
+    match node.name() {
+        Some(body) => spells(body, name),
+        None => false,
+    }
+}
+
+/// The member of this name, of an object alone (RFC 9535, section 2.3.1.2).
+pub(crate) fn find_member<'a>(node: Cursor<'a>, name: &str) -> Option<Cursor<'a>>
+    ensures nodes { node_list result ≡ named (chars name.now) (node_of node.entry) }
+    ensures line { IfSome result (λ c. line_of c ≡ line_of node.entry) }
+{
+    let mut next = node.first_child();
+    while let Some(child) = next {
+        if is_named(child, name) {
+            return Some(child);
+        }
+        next = child.next_sibling();
+    }
+    None
+}
+
+/// An index from the start (RFC 9535, section 2.3.4.2.2).
+fn normal(count: u32, index: i64) -> i64
+    ensures { result ≡ normal_of count index }
+{
+    if index < 0 {
+        i64::from(count) + index
+    } else {
+        index
+    }
+}
+
+/// The child that so many children stand before.
+fn nth_child(node: Cursor<'_>, place: u32) -> Option<Cursor<'_>>
+    ensures at { IsAt (node_of node.entry) place result }
+    ensures line { IfSome result (λ c. line_of c ≡ line_of node.entry) }
+{
+    let mut next = node.first_child();
+    for _passed in 0..place {
+        match next {
+            Some(child) => next = child.next_sibling(),
+            None => return None,
+        }
+    }
+    next
+}
+
+/// The element that so many elements stand before, of an array alone.
+fn nth_element(node: Cursor<'_>, place: u32) -> Option<Cursor<'_>>
+    ensures nodes { node_list result ≡ children_where (is_index (same_int (pos place))) (node_of node.entry) }
+    ensures line { IfSome result (λ c. line_of c ≡ line_of node.entry) }
+{
+    match nth_child(node, place) {
+        Some(child) => match child.name() {
+            None => Some(child),
+            Some(_) => None,
+        },
+        None => None,
+    }
+}
+
+/// An index of a node's elements from the start. They are counted only where it is negative.
+fn place_from_start(node: Cursor<'_>, index: i64) -> i64
+    ensures { result ≡ normal_of (count_of (node_of node.entry)) index }
+{
+    if index < 0 {
+        normal(node.child_count(), index)
+    } else {
+        index
+    }
+}
+
+/// The element of this index, of an array alone. A negative index counts from the end (RFC 9535, section 2.3.3.2).
+pub(crate) fn find_element(node: Cursor<'_>, index: i64) -> Option<Cursor<'_>>
+    ensures nodes { node_list result ≡ indexed index (node_of node.entry) }
+    ensures line { IfSome result (λ c. line_of c ≡ line_of node.entry) }
+{
+    let place = place_from_start(node, index);
+    if place < 0 || place > 0xFFFF_FFFF {
+        return None;
+    }
+    nth_element(node, place as u32)
+}
+
+/// Whether an index stands a whole number of steps from the start (RFC 9535, section 2.3.4.2.2).
+fn is_on_stride(start: i64, step: i64, index: i64) -> bool
+    requires near { (neg_ℤ (pos (2 ^ 33)) ≤ℤ (index -ℤ start)) × ((index -ℤ start) ≤ℤ pos (2 ^ 33)) }
+    requires some { step ≢ pos 0 }
+    ensures { result ≡ on_stride start step index }
+{
+    let rest = (index - start) % step;
+    rest <= 0 && 0 <= rest
+}
+
+/// Whether a slice with a step above 0 of an array of so many elements has the element of an index (RFC 9535, section
+/// 2.3.4.2.2).
+fn has_upward(count: u32, first: Option<i64>, last: Option<i64>, step: i64, index: u32) -> bool
+    requires { step ≢ pos 0 }
+    ensures { result ≡ upward count first last step (pos index) }
+{
+    let (len, index) = (i64::from(count), i64::from(index));
+    let low = normal(count, first.unwrap_or(0)).max(0).min(len);
+    let high = normal(count, last.unwrap_or(len)).max(0).min(len);
+    low <= index && index < high && is_on_stride(low, step, index)
+}
+
+/// The same of one with a step below 0.
+fn has_downward(count: u32, first: Option<i64>, last: Option<i64>, step: i64, index: u32) -> bool
+    requires { step ≢ pos 0 }
+    ensures { result ≡ downward count first last step (pos index) }
+{
+    let (len, index) = (i64::from(count), i64::from(index));
+    let high = normal(count, first.unwrap_or(len - 1)).max(-1).min(len - 1);
+    let low = normal(count, last.unwrap_or(-len - 1)).max(-1).min(len - 1);
+    low < index && index <= high && is_on_stride(high, step, index)
+}
+
+/// Whether the slice selects this child, before which so many stand.
+fn selects(child: Cursor<'_>, count: u32, slice: Slice, index: u32) -> bool
+    requires { slice.step ≢ pos 0 }
+    ensures { result ≡ is_index (slice_has count slice.first slice.last slice.step) (step_to index (name_of child.entry)) }
+{
+    if child.name().is_some() {
+        return false;
+    }
+    if slice.step > 0 {
+        has_upward(count, slice.first, slice.last, slice.step, index)
+    } else {
+        has_downward(count, slice.first, slice.last, slice.step, index)
+    }
+}
+
+/// The parts of a slice selector (RFC 9535, section 2.3.4.1).
+#[derive(Clone, Copy)]
+pub(crate) struct Slice {
+    pub(crate) first: Option<i64>,
+    pub(crate) last: Option<i64>,
+    pub(crate) step: i64,
+}
+
+/// The elements that a slice selects, in their own order.
+fn slice_elements<'a>(
+    alloc: Global,
+    node: Cursor<'a>,
+    slice: Slice,
+) -> Result<Vec<Cursor<'a>>, AllocError>
+    requires { slice.step ≢ pos 0 }
+    ensures nodes { IfOk result (λ found. map node_of found.items ≡ children_where (is_index (slice_has (count_of (node_of node.entry)) slice.first slice.last slice.step)) (node_of node.entry)) }
+    ensures lines { IfOk result (λ found. AreOf (line_of node.entry) found.items) }
+{
+    let mut found = Vec::new(alloc);
+    let count = node.child_count();
+    let mut next = node.first_child();
+    let mut index = 0;
+    while let Some(child) = next {
+        if selects(child, count, slice, index) {
+            found.push(child)?;
+        }
+        index += 1;
+        next = child.next_sibling();
+    }
+    Ok(found)
+}
+
+/// The elements of a slice, of an array alone, in the order in which they are selected (RFC 9535, section 2.3.4).
+pub(crate) fn find_elements<'a>(
+    alloc: Global,
+    node: Cursor<'a>,
+    slice: Slice,
+) -> Result<Vec<Cursor<'a>>, AllocError>
+    ensures nodes { IfOk result (λ found. map node_of found.items ≡ sliced slice.first slice.last slice.step (node_of node.entry)) }
+    ensures lines { IfOk result (λ found. AreOf (line_of node.entry) found.items) }
+{
+    if slice.step == 0 {
+        return Ok(Vec::new(alloc));
+    }
+    let mut found = slice_elements(alloc, node, slice)?;
+    if slice.step < 0 {
+        found.reverse();
+    }
+    Ok(found)
+}

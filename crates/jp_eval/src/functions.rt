@@ -1,0 +1,144 @@
+//! The functions of filters (RFC 9535, section 2.4).
+
+ghost use Rattle.std.specs.Prelude.{◌≡◌, length, Some, IfOk, IsTrue, option_map};
+ghost use Rattle.std.specs.Str.{chars};
+ghost use Rattle.jp_model.specs.Json.Tree.{value_of};
+ghost use Rattle.jp_model.specs.Meaning.Functions.{length_of as length_of_value, in_pattern as in_pattern_of};
+ghost use Rattle.jp_tape.specs.Cursors.{node_of};
+ghost use Rattle.jp_eval.specs.Functions.{function_named, passing, pattern_in, passes_as_string};
+ghost use Rattle.jp_iregexp.specs.Trees.{pattern_view};
+ghost use Rattle.jp_values.specs.Values.{value_view, is_sound_value};
+
+use jp_iregexp::Pattern;
+use jp_query::Literal;
+use jp_strings::{scalar_count, unescape};
+use jp_tape::{Cursor, Kind};
+use jp_values::Value;
+use std::alloc::{AllocError, Global};
+
+/// How many scalars a text has.
+fn count_scalars(text: &str) -> u64
+    ensures { result ≡ length (chars text.now) }
+{
+    text.chars().count() as u64
+}
+
+/// How long a node's value is: scalars of a string, elements or members (RFC 9535, section 2.4.4).
+fn length_of_node(node: Cursor<'_>) -> Value<'_>
+    ensures sound { IsTrue (is_sound_value result) }
+    ensures value { value_view result ≡ length_of_value (Some (value_of (node_of node.entry).tree)) }
+{
+    if let Some(body) = node.text() {
+        return Value::Count(u64::from(scalar_count(body)));
+    }
+    match node.kind() {
+        Kind::Array | Kind::Object => Value::Count(u64::from(node.child_count())),
+        _ => Value::Nothing,
+    }
+}
+
+/// How long a value is (RFC 9535, section 2.4.4).
+pub(crate) fn length_of<'a>(value: Value<'a>) -> Value<'a>
+    ensures sound { IsTrue (is_sound_value result) }
+    ensures value { value_view result ≡ length_of_value (value_view value.entry) }
+{
+    match value {
+        Value::Node(node) => length_of_node(node),
+        Value::Constant(Literal::Text(text)) => Value::Count(count_scalars(text.as_str())),
+        _ => Value::Nothing,
+    }
+}
+
+/// Whether a text passes a pattern: all of it, or a part of it.
+fn text_passes(
+    alloc: Global,
+    pattern: &Pattern,
+    whole: bool,
+    text: &str,
+) -> Result<bool, AllocError>
+    ensures { IfOk result (λ b. b ≡ passing whole (pattern_view pattern.now) (chars text.now)) }
+{
+    if whole {
+        pattern.matches(alloc, text)
+    } else {
+        pattern.occurs(alloc, text)
+    }
+}
+
+/// The pattern that a string spells.
+fn read_pattern(alloc: Global, value: Value<'_>) -> Result<Option<Pattern>, AllocError>
+    ensures { IfOk result (λ found. option_map pattern_view found ≡ pattern_in (value_view value.entry)) }
+{
+    match value {
+        Value::Node(node) => match node.text() {
+            Some(body) => Pattern::parse(alloc, unescape(alloc, body)?.as_str()),
+            None => Ok(None),
+        },
+        Value::Constant(Literal::Text(text)) => Pattern::parse(alloc, text.as_str()),
+        _ => Ok(None),
+    }
+}
+
+/// Whether the value is a string that passes a pattern: all of it, or a part of it.
+fn value_passes(
+    alloc: Global,
+    pattern: &Pattern,
+    whole: bool,
+    value: Value<'_>,
+) -> Result<bool, AllocError>
+    ensures { IfOk result (λ b. b ≡ passes_as_string (passing whole) (pattern_view pattern.now) (value_view value.entry)) }
+{
+    match value {
+        Value::Node(node) => match node.text() {
+            Some(body) => text_passes(alloc, pattern, whole, unescape(alloc, body)?.as_str()),
+            None => Ok(false),
+        },
+        Value::Constant(Literal::Text(text)) => text_passes(alloc, pattern, whole, text.as_str()),
+        _ => Ok(false),
+    }
+}
+
+/// Whether both are strings, the second spells a pattern, and all or a part of the first passes it (RFC 9535,
+/// sections 2.4.6 and 2.4.7).
+pub(crate) fn in_pattern(
+    alloc: Global,
+    whole: bool,
+    value: Value<'_>,
+    pattern: Value<'_>,
+) -> Result<bool, AllocError>
+    ensures { IfOk result (λ b. b ≡ in_pattern_of (passing whole) (value_view value.entry) (value_view pattern.entry)) }
+{
+    match read_pattern(alloc, pattern)? {
+        Some(pattern) => value_passes(alloc, &pattern, whole, value),
+        None => Ok(false),
+    }
+}
+
+/// The five functions.
+#[derive(Clone, Copy)]
+pub(crate) enum Function {
+    Length,
+    Count,
+    Value,
+    Match,
+    Search,
+}
+
+/// The function of a name.
+pub(crate) fn function_of(name: &str) -> Option<Function>
+    ensures { result ≡ function_named (chars name.now) }
+{
+    if name == "length" {
+        Some(Function::Length)
+    } else if name == "count" {
+        Some(Function::Count)
+    } else if name == "value" {
+        Some(Function::Value)
+    } else if name == "match" {
+        Some(Function::Match)
+    } else if name == "search" {
+        Some(Function::Search)
+    } else {
+        None
+    }
+}

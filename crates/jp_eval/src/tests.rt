@@ -1,0 +1,142 @@
+//! What queries select in small lines.
+
+ghost use Rattle.std.specs.Prelude.{◌≡◌, IfOk};
+ghost use Rattle.jp_tape.specs.Tapes.{IsTapeOf};
+
+use crate::{eval_from, truth};
+use jp_model::Framing;
+use jp_query::{Logical, parse};
+use jp_tape::{Cursor, Tape, build};
+use std::alloc::{AllocError, Global};
+
+#[derive(Debug, Drop)]
+enum Fail {
+    Line,
+    Query,
+    Memory,
+}
+
+impl From<AllocError> for Fail {
+    fn from(_error: AllocError) -> Fail {
+        Fail::Memory
+    }
+}
+
+fn read(alloc: Global, line: &[u8]) -> Result<Tape, Fail>
+    ensures { IfOk result (λ tape. IsTapeOf tape line.now) }
+{
+    if jp_model::is_blank(line) || line.len() > 0xffff {
+        return Err(Fail::Line);
+    }
+    let is_utf8 = std::str::from_utf8(line).is_ok();
+    match build(alloc, line, is_utf8, Framing::Lines) {
+        Ok(tape) => Ok(tape),
+        Err(_) => Err(Fail::Line),
+    }
+}
+
+/// Whether the query selects nodes of these bytes, which are given one behind another, each with a blank behind it.
+fn selects(alloc: Global, line: &str, query: &str, wanted: &str) -> Result<bool, Fail> {
+    let line = line.as_bytes();
+    let tape = read(alloc, line)?;
+    let root = Cursor::root(&tape, line);
+    let query = match parse(alloc, query.as_bytes()) {
+        Ok(query) => query,
+        Err(_) => return Err(Fail::Query),
+    };
+    let mut found = Vec::new(alloc);
+    eval_from(alloc, query.segments(), root, root, &mut found)?;
+    let mut text = Vec::new(alloc);
+    for node in &found {
+        text.extend_from_slice(node.source())?;
+        text.extend_from_slice(b" ")?;
+    }
+    Ok(text.as_slice() == wanted.as_bytes())
+}
+
+/// A line, a query, and the bytes of the nodes that it selects.
+const CASES: [(&str, &str, &str); 32] = [
+    ("[0,1,2,3]", "$[::-1]", "3 2 1 0 "),
+    ("[0,1,2,3]", "$[1:3:0]", ""),
+    ("[0,1,2,3]", "$[-1]", "3 "),
+    ("[0,1,2,3]", "$[9]", ""),
+    ("[0,1,2,3]", "$[0,0]", "0 0 "),
+    ("[0,1,2,3]", "$[3:0:-2]", "3 1 "),
+    ("[0,1,2,3]", "$[:-5:-1]", "3 2 1 0 "),
+    (
+        "[0,1,2,3]",
+        "$[-9007199254740991:9007199254740991:9007199254740991]",
+        "0 ",
+    ),
+    ("[0,1,2,3]", "$[::9007199254740991]", "0 "),
+    ("{\"a\":1,\"b\":2}", "$[0]", ""),
+    ("{\"a\":1,\"b\":2}", "$[:]", ""),
+    ("[[1,2],[3]]", "$[:][0]", "1 3 "),
+    ("[[1,2],[3]]", "$[::-1][::-1]", "3 2 1 "),
+    ("{\"a\":[{\"b\":1},{\"b\":2}],\"b\":3}", "$..b", "3 1 2 "),
+    ("[[[1]],[2]]", "$..*", "[[1]] [2] [1] 1 2 "),
+    ("{\"\\u0061\":1}", "$.a", "1 "),
+    ("{\"a\":{\"a\":1}}", "$..a", "{\"a\":1} 1 "),
+    ("[{\"a\":null},{}]", "$[?@.a]", "{\"a\":null} "),
+    ("[{\"a\":null},{}]", "$[?!@.a]", "{} "),
+    ("[{\"a\":null},{}]", "$[?@.a==null]", "{\"a\":null} "),
+    ("[{},{\"a\":null}]", "$[?@.a==@.b]", "{} "),
+    (
+        "[{\"a\":1,\"b\":2},{\"b\":2.0,\"a\":1}]",
+        "$[?@==$[0]]",
+        "{\"a\":1,\"b\":2} {\"b\":2.0,\"a\":1} ",
+    ),
+    ("[1,1.0,100e-2,2]", "$[?@==1 || @>1]", "1 1.0 100e-2 2 "),
+    ("[1,1.0,100e-2,2]", "$[?@==1 && @<1]", ""),
+    (
+        "[{\"a\":1},{\"a\":1,\"b\":{\"a\":1}}]",
+        "$[?value(@..a)==1]",
+        "{\"a\":1} ",
+    ),
+    (
+        "[{\"a\":1},{\"a\":1,\"b\":{\"a\":1}}]",
+        "$[?count(@..a)==2]",
+        "{\"a\":1,\"b\":{\"a\":1}} ",
+    ),
+    (
+        "[{\"a\":1},{\"a\":2}]",
+        "$[?count(@['a','a'])==2]",
+        "{\"a\":1} {\"a\":2} ",
+    ),
+    (
+        "[\"\\ud83d\\ude00\",[1,2],{\"a\":0},7]",
+        "$[?length(@)==1]",
+        "\"\\ud83d\\ude00\" {\"a\":0} ",
+    ),
+    ("[[1],2]", "$[?length(@.x)==length(@.y)]", "[1] 2 "),
+    (
+        "[\"abc\",\"abb\",\"a\\nc\"]",
+        "$[?match(@,'a.c')]",
+        "\"abc\" ",
+    ),
+    (
+        "[\"abc\",\"abb\",\"^\"]",
+        "$[?search(@,'b{2,}')]",
+        "\"abb\" ",
+    ),
+    ("{\"a\":[1,[2],{\"c\":[3]}]}", "$.a[?@[0]][0]", "2 "),
+];
+
+#[test]
+fn queries_select_their_nodes(rt: HostRuntime) -> Result<(), Fail> {
+    for (line, query, wanted) in CASES {
+        assert!(&rt; selects(rt.alloc(), line, query, wanted)?, "{query}");
+    }
+    Ok(())
+}
+
+#[test]
+fn no_part_makes_and_true_and_or_false(rt: HostRuntime) -> Result<(), Fail> {
+    let tape = read(rt.alloc(), b"1")?;
+    let root = Cursor::root(&tape, b"1");
+    let all = Logical::And(Vec::new(rt.alloc()));
+    assert!(&rt; truth(rt.alloc(), &all, root, root)?);
+    let some = Logical::Or(Vec::new(rt.alloc()));
+    assert!(&rt; !truth(rt.alloc(), &some, root, root)?);
+    Ok(())
+}

@@ -1,0 +1,14 @@
+pub mod Bits
+pub mod Reaching
+pub mod Turns
+pub mod Keeping
+pub mod Parts
+pub mod Asked
+pub mod Classes
+pub mod Rows
+pub mod Built
+pub mod Readers
+pub mod Turning
+pub mod Found
+pub mod Complete
+pub mod Law

@@ -1,0 +1,7 @@
+use Rattle.jp_model.specs.Pattern.Language.{Language}
+use Rattle.jp_iregexp.specs.Trees.{tree_of}
+use Rattle.jp_iregexp.proofs.Rows.{RowsBelow}
+use Rattle.jp_iregexp.proofs.table.table.Given as goal
+
+abbrev pub invariant-loop-p : goal.invariant-loop-p
+invariant-loop-p l = RowsBelow (Language (tree_of l.body)) l.text l.p l.rows.items

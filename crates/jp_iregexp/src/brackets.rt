@@ -1,0 +1,150 @@
+//! Classes in brackets (RFC 9485, section 3, `charClassExpr`).
+
+ghost use Rattle.std.specs.Prelude.{◌≡◌, ◌++◌, ℕ, suc, map, option_map, Some, IfOk};
+ghost use Rattle.jp_model.specs.Pattern.Reading.{then_read, read_items, last_hyphen, read_members, read_class};
+ghost use Rattle.jp_model.specs.Pattern.Spelling.{class_token};
+ghost use Rattle.jp_iregexp.specs.Tokens.{first_of, after_next};
+ghost use Rattle.jp_iregexp.specs.Trees.{item_of, class_of};
+
+use crate::class::{Class, Item};
+use crate::items::read_whole_item;
+use std::alloc::{AllocError, Global};
+
+/// What follows the items so far, and what stands behind it.
+#[derive(Clone, Copy)]
+pub(crate) enum Next<'a> {
+    Item(Item, &'a [char]),
+    /// The hyphen that stands last, with the bracket behind it.
+    Hyphen(&'a [char]),
+    /// The bracket that closes.
+    End(&'a [char]),
+}
+
+fn read_next(text: &[char]) -> Option<Next<'_>>
+    ensures { (steps : ℕ) → read_items (suc steps) text.now ≡ after_next steps result }
+{
+    match text {
+        [] => None,
+        [first, rest @ ..] => {
+            if *first == ']' {
+                Some(Next::End(rest))
+            } else if *first == '-' {
+                read_last_hyphen(rest)
+            } else {
+                let (item, behind) = read_whole_item(text)?;
+                Some(Next::Item(item, behind))
+            }
+        }
+    }
+}
+
+fn read_last_hyphen(text: &[char]) -> Option<Next<'_>>
+    ensures { (steps : ℕ) → last_hyphen text.now ≡ after_next steps result }
+{
+    match text {
+        [] => None,
+        [first, rest @ ..] => {
+            if *first == ']' {
+                Some(Next::Hyphen(rest))
+            } else {
+                None
+            }
+        }
+    }
+}
+
+// The items so far with those up to the bracket that closes, of which there are fewer than `limit`, and what stands
+// behind it.
+fn read_more(
+    mut items: Vec<Item>,
+    limit: usize,
+    text: &[char],
+) -> Result<Option<(Vec<Item>, &[char])>, AllocError>
+    ensures { IfOk result (λ found. option_map (λ p. (map item_of p.0.items, p.1.now)) found ≡ then_read (read_items limit text.now) (λ more rest. Some (map item_of items.items ++ more, rest))) }
+{
+    let mut left = text;
+    for turn in 0..limit {
+        match read_next(left) {
+            None => return Ok(None),
+            Some(Next::End(rest)) => return Ok(Some((items, rest))),
+            Some(Next::Hyphen(rest)) => {
+                items.push(Item::Range('-', '-'))?;
+                return Ok(Some((items, rest)));
+            }
+            Some(Next::Item(item, rest)) => {
+                items.push(item)?;
+                left = rest;
+            }
+        }
+    }
+    Ok(None)
+}
+
+// The item that stands first, where a hyphen stands for itself.
+fn read_first(text: &[char]) -> Option<(Item, &[char])>
+    ensures { option_map (λ p. (item_of p.0, p.1.now)) result ≡ first_of text.now }
+{
+    match text {
+        [] => None,
+        [first, rest @ ..] => {
+            if *first == '-' {
+                Some((Item::Range('-', '-'), rest))
+            } else {
+                read_whole_item(text)
+            }
+        }
+    }
+}
+
+// A hyphen or an item, and more items.
+fn read_in_brackets(
+    alloc: Global,
+    negated: bool,
+    text: &[char],
+) -> Result<Option<(Class, &[char])>, AllocError>
+    ensures { IfOk result (λ found. option_map (λ p. (class_token (class_of p.0), p.1.now)) found ≡ read_members negated text.now) }
+{
+    match read_first(text) {
+        None => Ok(None),
+        Some((item, rest)) => {
+            let items = vec![in alloc; item]?;
+            match read_more(items, text.len() - 1, rest)? {
+                None => Ok(None),
+                Some((items, rest)) => Ok(Some((Class::Members { negated, items }, rest))),
+            }
+        }
+    }
+}
+
+/// The class behind `[`. `^` in front negates, but `[^]` is the class of `^`.
+pub(crate) fn read_brackets(
+    alloc: Global,
+    text: &[char],
+) -> Result<Option<(Class, &[char])>, AllocError>
+    ensures { IfOk result (λ found. option_map (λ p. (class_token (class_of p.0), p.1.now)) found ≡ read_class text.now) }
+{
+    match text {
+        [first, behind @ ..] => {
+            if *first != '^' {
+                return read_in_brackets(alloc, false, text);
+            }
+            match behind {
+                [bracket, rest @ ..] => {
+                    if *bracket != ']' {
+                        return read_in_brackets(alloc, true, behind);
+                    }
+                    let items = vec![in alloc; Item::Range('^', '^')]?;
+                    Ok(Some((
+                        Class::Members {
+                            negated: false,
+                            items,
+                        },
+                        rest,
+                    )))
+                }
+                [] => Ok(None),
+            }
+        }
+        [] => Ok(None),
+    }
+}

@@ -1,0 +1,104 @@
+//! What was read of one group of a pattern (RFC 9485, section 3).
+
+ghost use Rattle.std.specs.Prelude.{◌≡◌, IfOk, OnOk, Some, None, if◌then◌else◌};
+ghost use Rattle.jp_iregexp.specs.Groups.{group_of, atom_of, latest_first};
+ghost use Rattle.jp_model.specs.Pattern.Groups.{fresh, with_atom, add_atom, add_count, next_branch, whole_of};
+ghost use Rattle.jp_iregexp.specs.Trees.{tree_of};
+
+use crate::node::Node;
+use std::alloc::{AllocError, Global};
+
+/// The finished branches, the pieces of the last one, and the atom that a quantifier may still follow.
+#[derive(Drop)]
+pub(crate) struct Group {
+    branches: Vec<Node>,
+    pieces: Vec<Node>,
+    atom: Option<Node>,
+}
+
+impl Group {
+    #[tactic(auto, using(crate::proofs::Built::first_push))]
+    pub(crate) fn new(alloc: Global) -> Group
+        ensures { group_of result ≡ fresh }
+    {
+        Group {
+            branches: Vec::new(alloc),
+            pieces: Vec::new(alloc),
+            atom: None,
+        }
+    }
+
+    /// One more atom.
+    #[tactic(auto, using(crate::proofs::Built::first_push))]
+    pub(crate) fn add_atom(&mut self, atom: Node) -> Result<(), AllocError>
+        ensures { OnOk result (group_of self.new ≡ add_atom (tree_of atom) (group_of self.old)) }
+    {
+        if let Some(piece) = self.atom.take() {
+            self.pieces.push(piece)?;
+        }
+        self.atom = Some(atom);
+        Ok(())
+    }
+
+    // The atom is a piece, as no quantifier follows it.
+    #[tactic(auto, using(crate::proofs::Built::first_push))]
+    fn end_piece(&mut self) -> Result<(), AllocError>
+        ensures pieces { OnOk result (latest_first self.new.pieces.items ≡ with_atom (atom_of self.old.atom) (latest_first self.old.pieces.items)) }
+        ensures atom { OnOk result (self.new.atom ≡ None) }
+        ensures branches { self.new.branches ≡ self.old.branches }
+    {
+        if let Some(piece) = self.atom.take() {
+            self.pieces.push(piece)?;
+        }
+        Ok(())
+    }
+
+    /// The atom with a quantifier behind it, and whether there is an atom. Where there is none, nothing changes.
+    #[tactic(auto, using(crate::proofs::Built::first_push))]
+    pub(crate) fn add_count(
+        &mut self,
+        alloc: Global,
+        least: u32,
+        most: Option<u32>,
+    ) -> Result<bool, AllocError>
+        ensures { IfOk result (λ stands. add_count least most (group_of self.old) (group_of self.old).atom ≡ (if stands then Some (group_of self.new) else None)) }
+    {
+        match self.atom.take() {
+            None => Ok(false),
+            Some(atom) => {
+                self.pieces.push(Node::Repeated {
+                    body: Box::new(alloc, atom)?,
+                    least,
+                    most,
+                    rows: Vec::new(alloc),
+                })?;
+                Ok(true)
+            }
+        }
+    }
+
+    /// The branch ends, and another begins.
+    #[tactic(auto, using(crate::proofs::Built::first_push))]
+    pub(crate) fn end_branch(&mut self, alloc: Global) -> Result<(), AllocError>
+        ensures { OnOk result (group_of self.new ≡ next_branch (group_of self.old)) }
+    {
+        self.end_piece()?;
+        let pieces = std::mem::replace(&mut self.pieces, Vec::new(alloc));
+        self.branches.push(Node::Sequence(pieces))?;
+        Ok(())
+    }
+
+    /// The group as one part.
+    #[tactic(auto, using(crate::proofs::Built::first_push))]
+    pub(crate) fn into_node(mut self, alloc: Global) -> Result<Node, AllocError>
+        ensures { IfOk result (λ node. tree_of node ≡ whole_of (group_of self)) }
+    {
+        self.end_branch(alloc)?;
+        let Group {
+            branches,
+            pieces,
+            atom,
+        } = self;
+        Ok(Node::Choice(branches))
+    }
+}

@@ -1,0 +1,25 @@
+//! I-Regexp patterns (RFC 9485): their reading, and the texts that they match.
+#![tactic(auto)]
+
+mod brackets;
+mod class;
+mod counts;
+mod escapes;
+mod group;
+mod groups;
+mod items;
+pub mod laws;
+mod matcher;
+mod names;
+mod node;
+mod parser;
+mod pattern;
+mod positions;
+mod prepare;
+mod table;
+mod token;
+
+pub use pattern::Pattern;
+
+#[cfg(test)]
+mod tests;

@@ -1,0 +1,210 @@
+// Which positions a part of a pattern reaches.
+
+ghost use Rattle.std.specs.Prelude.{◌≡◌, ◌^◌, ℕ, ◌<◌, IfOk, length, List};
+ghost use Rattle.jp_iregexp.specs.Positions.{IsSetOver, AreEnds};
+ghost use Rattle.jp_model.specs.Pattern.Language.{Language, Repeats, RepeatsWithin};
+ghost use Rattle.jp_iregexp.specs.Tables.{Kept, KeptList, KeptRows};
+ghost use Rattle.jp_iregexp.specs.Trees.{tree_of, class_of, sequence_list, choice_list};
+ghost use Rattle.jp_model.specs.Pattern.Tree.{one_of, times};
+
+use crate::class::Class;
+use crate::node::Node;
+use crate::positions::PositionSet;
+use crate::table::turn_by;
+use std::alloc::{AllocError, Global};
+
+// One scalar of the class.
+fn class_ends(
+    alloc: Global,
+    class: &Class,
+    text: &[char],
+    starts: &PositionSet,
+) -> Result<PositionSet, AllocError>
+    requires over { IsSetOver (length text.now) starts.now.words.items }
+    requires fits { length text.now < 2 ^ 63 }
+    ensures { IfOk result (λ out. AreEnds (Language (one_of (class_of class.now))) text.now starts.now.words.items out.words.items) }
+{
+    let mut out = PositionSet::empty(alloc, text.len())?;
+    for (p, scalar) in text.iter().enumerate() {
+        if starts.contains(p) && class.contains(*scalar) {
+            out.insert(p + 1);
+        }
+    }
+    Ok(out)
+}
+
+/// The positions where a text of the part ends that begins at one of the starts.
+#[cycle(ends)]
+pub(crate) fn ends(
+    alloc: Global,
+    node: &Node,
+    text: &[char],
+    starts: &PositionSet,
+) -> Result<PositionSet, AllocError>
+    requires over { IsSetOver (length text.now) starts.now.words.items }
+    requires fits { length text.now < 2 ^ 63 }
+    requires kept { Kept text.now node.now }
+    ensures { IfOk result (λ out. AreEnds (Language (tree_of node.now)) text.now starts.now.words.items out.words.items) }
+{
+    match node {
+        Node::Class(class) => class_ends(alloc, class, text, starts),
+        Node::Sequence(parts) => sequence_ends(alloc, parts.as_slice(), text, starts),
+        Node::Choice(parts) => choice_ends(alloc, parts.as_slice(), text, starts),
+        Node::Repeated {
+            body,
+            least,
+            most,
+            rows,
+        } => repeated_ends(alloc, body, rows.as_slice(), *least, *most, text, starts),
+    }
+}
+
+// The parts one after another.
+#[cycle(ends)]
+fn sequence_ends(
+    alloc: Global,
+    parts: &[Node],
+    text: &[char],
+    starts: &PositionSet,
+) -> Result<PositionSet, AllocError>
+    requires over { IsSetOver (length text.now) starts.now.words.items }
+    requires fits { length text.now < 2 ^ 63 }
+    requires kept { KeptList text.now parts.now }
+    ensures { IfOk result (λ out. AreEnds (Language (sequence_list parts.now)) text.now starts.now.words.items out.words.items) }
+{
+    let mut reached = starts.copy(alloc)?;
+    for part in parts {
+        reached = ends(alloc, part, text, &reached)?;
+    }
+    Ok(reached)
+}
+
+// One of the parts.
+#[cycle(ends)]
+fn choice_ends(
+    alloc: Global,
+    parts: &[Node],
+    text: &[char],
+    starts: &PositionSet,
+) -> Result<PositionSet, AllocError>
+    requires over { IsSetOver (length text.now) starts.now.words.items }
+    requires fits { length text.now < 2 ^ 63 }
+    requires kept { KeptList text.now parts.now }
+    ensures { IfOk result (λ out. AreEnds (Language (choice_list parts.now)) text.now starts.now.words.items out.words.items) }
+{
+    let mut all = PositionSet::empty(alloc, text.len())?;
+    for part in parts {
+        let reached = ends(alloc, part, text, starts)?;
+        all.add_all(&reached);
+    }
+    Ok(all)
+}
+
+// The part from `least` to `most` times. More further turns than the text has scalars reach nothing new.
+#[cycle(ends)]
+fn repeated_ends(
+    alloc: Global,
+    body: &Node,
+    rows: &[PositionSet],
+    least: u32,
+    most: Option<u32>,
+    text: &[char],
+    starts: &PositionSet,
+) -> Result<PositionSet, AllocError>
+    requires over { IsSetOver (length text.now) starts.now.words.items }
+    requires fits { length text.now < 2 ^ 63 }
+    requires kept { Kept text.now body.now }
+    requires rows { KeptRows text.now body.now rows.now }
+    ensures { IfOk result (λ out. AreEnds (Language (times (tree_of body.now) least most)) text.now starts.now.words.items out.words.items) }
+{
+    match most {
+        Some(most) => {
+            if most < least {
+                return PositionSet::empty(alloc, text.len());
+            }
+            let reached = exact_turns(alloc, body, rows, least, text, starts)?;
+            further_turns(alloc, body, rows, (most - least) as usize, text, &reached)
+        }
+        None => {
+            let reached = exact_turns(alloc, body, rows, least, text, starts)?;
+            further_turns(alloc, body, rows, text.len(), text, &reached)
+        }
+    }
+}
+
+// The part so many times. The turns stop where one changes nothing.
+#[cycle(ends)]
+fn exact_turns(
+    alloc: Global,
+    body: &Node,
+    rows: &[PositionSet],
+    count: u32,
+    text: &[char],
+    starts: &PositionSet,
+) -> Result<PositionSet, AllocError>
+    requires over { IsSetOver (length text.now) starts.now.words.items }
+    requires fits { length text.now < 2 ^ 63 }
+    requires kept { Kept text.now body.now }
+    requires rows { KeptRows text.now body.now rows.now }
+    ensures { IfOk result (λ out. AreEnds (Repeats (Language (tree_of body.now)) count) text.now starts.now.words.items out.words.items) }
+{
+    let mut reached = starts.copy(alloc)?;
+    for turn in 0..count {
+        let next = one_turn(alloc, body, rows, text, &reached)?;
+        if next.is_same(&reached) {
+            return Ok(next);
+        }
+        reached = next;
+    }
+    Ok(reached)
+}
+
+// The part up to so many times. The turns stop where one adds nothing.
+#[cycle(ends)]
+fn further_turns(
+    alloc: Global,
+    body: &Node,
+    rows: &[PositionSet],
+    most: usize,
+    text: &[char],
+    starts: &PositionSet,
+) -> Result<PositionSet, AllocError>
+    requires over { IsSetOver (length text.now) starts.now.words.items }
+    requires fits { length text.now < 2 ^ 63 }
+    requires kept { Kept text.now body.now }
+    requires rows { KeptRows text.now body.now rows.now }
+    ensures { IfOk result (λ out. AreEnds (RepeatsWithin (Language (tree_of body.now)) 0 (Some most)) text.now starts.now.words.items out.words.items) }
+{
+    let mut reached = starts.copy(alloc)?;
+    for turn in 0..most {
+        let mut next = one_turn(alloc, body, rows, text, &reached)?;
+        next.add_all(&reached);
+        if next.is_same(&reached) {
+            return Ok(next);
+        }
+        reached = next;
+    }
+    Ok(reached)
+}
+
+// The part once.
+#[cycle(ends)]
+fn one_turn(
+    alloc: Global,
+    body: &Node,
+    rows: &[PositionSet],
+    text: &[char],
+    starts: &PositionSet,
+) -> Result<PositionSet, AllocError>
+    requires over { IsSetOver (length text.now) starts.now.words.items }
+    requires fits { length text.now < 2 ^ 63 }
+    requires kept { Kept text.now body.now }
+    requires rows { KeptRows text.now body.now rows.now }
+    ensures { IfOk result (λ out. AreEnds (Language (tree_of body.now)) text.now starts.now.words.items out.words.items) }
+{
+    if rows.is_empty() {
+        ends(alloc, body, text, starts)
+    } else {
+        turn_by(alloc, body, rows, text, starts)
+    }
+}

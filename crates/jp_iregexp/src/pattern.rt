@@ -1,0 +1,76 @@
+//! Patterns and the questions that are asked of them.
+
+ghost use Rattle.std.specs.Prelude.{◌≡◌, ◌^◌, ◌<◌, IfOk, length, option_map};
+ghost use Rattle.std.specs.Str.{chars};
+ghost use Rattle.jp_model.specs.Pattern.Membership.{is_in, occurs_in};
+ghost use Rattle.jp_model.specs.Pattern.Reading.{pattern_of};
+ghost use Rattle.jp_iregexp.specs.Trees.{tree_of, pattern_view};
+
+use crate::node::Node;
+use crate::parser::read_pattern;
+use crate::positions::PositionSet;
+use crate::prepare::reach;
+use std::alloc::{AllocError, Global};
+
+/// A pattern (RFC 9485, section 3).
+#[derive(Drop)]
+pub struct Pattern {
+    root: Node,
+}
+
+impl Pattern {
+    /// The pattern that a text spells, or `None` where it is no pattern (RFC 9485, section 3). By the choices of the profile these
+    /// are none: a range that ends below its start, `{n,m}` with `n` above `m`, a bound above 999,999,999, and more than 256
+    /// scalars `(`, wherever they stand. Where memory is refused the answer is an error.
+    pub fn parse(alloc: Global, text: &str) -> Result<Option<Pattern>, AllocError>
+        ensures { IfOk result (λ found. option_map pattern_view found ≡ pattern_of (chars text.now)) }
+    {
+        let scalars = scalars_of(alloc, text)?;
+        match read_pattern(alloc, scalars.as_slice())? {
+            None => Ok(None),
+            Some(root) => Ok(Some(Pattern { root })),
+        }
+    }
+
+    /// Whether the whole text is in the pattern's set (RFC 9485, section 4). Where memory is refused the answer is an error.
+    pub fn matches(&self, alloc: Global, text: &str) -> Result<bool, AllocError>
+        ensures { IfOk result (λ answer. answer ≡ is_in (pattern_view self.now) (chars text.now)) }
+    {
+        let scalars = scalars_of(alloc, text)?;
+        matches_scalars(alloc, &self.root, scalars.as_slice())
+    }
+
+    /// Whether some part of the text, the empty one included, is in the pattern's set. Where memory is refused the answer is
+    /// an error.
+    pub fn occurs(&self, alloc: Global, text: &str) -> Result<bool, AllocError>
+        ensures { IfOk result (λ answer. answer ≡ occurs_in (pattern_view self.now) (chars text.now)) }
+    {
+        let scalars = scalars_of(alloc, text)?;
+        occurs_in_scalars(alloc, &self.root, scalars.as_slice())
+    }
+}
+
+fn scalars_of(alloc: Global, text: &str) -> Result<Vec<char>, AllocError>
+    ensures { IfOk result (λ scalars. scalars.items ≡ chars text.now) }
+{
+    text.chars().collect(alloc)
+}
+
+fn matches_scalars(alloc: Global, node: &Node, text: &[char]) -> Result<bool, AllocError>
+    requires { length text.now < 2 ^ 63 }
+    ensures { IfOk result (λ answer. answer ≡ is_in (tree_of node.now) text.now) }
+{
+    let mut starts = PositionSet::empty(alloc, text.len())?;
+    starts.insert(0);
+    let reached = reach(alloc, node, text, &starts)?;
+    Ok(reached.contains(text.len()))
+}
+
+fn occurs_in_scalars(alloc: Global, node: &Node, text: &[char]) -> Result<bool, AllocError>
+    requires { length text.now < 2 ^ 63 }
+    ensures { IfOk result (λ answer. answer ≡ occurs_in (tree_of node.now) text.now) }
+{
+    let starts = PositionSet::all(alloc, text.len())?;
+    let reached = reach(alloc, node, text, &starts)?;
+    Ok(reached.has_any(text.len()))
+}

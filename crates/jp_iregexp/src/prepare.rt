@@ -1,0 +1,168 @@
+//! Nested counts. Where a count stands under another one, the turns of the outer one would repeat those of the inner one,
+//! and the counts multiply. So each part under a count that has a count in it gets a table of its ends first: for a text of n
+//! scalars, n + 1 rows of n + 1 bits, which live as long as the match.
+
+ghost use Rattle.std.specs.Prelude.{◌≡◌, ◌^◌, ◌<◌, ℕ, List, false, map, length, IfOk};
+ghost use Rattle.jp_model.specs.Pattern.Language.{Language};
+ghost use Rattle.jp_model.specs.Pattern.Tree.{times};
+ghost use Rattle.jp_iregexp.specs.Positions.{IsSetOver, AreEnds};
+ghost use Rattle.jp_iregexp.specs.Tables.{Kept, KeptList, KeptRows};
+ghost use Rattle.jp_iregexp.specs.Trees.{tree_of};
+
+use crate::matcher::ends;
+use crate::node::Node;
+use crate::positions::PositionSet;
+use crate::table::table;
+use std::alloc::{AllocError, Global};
+
+/// The positions where a text of the part ends that begins at one of the starts.
+pub(crate) fn reach(
+    alloc: Global,
+    node: &Node,
+    text: &[char],
+    starts: &PositionSet,
+) -> Result<PositionSet, AllocError>
+    requires over { IsSetOver (length text.now) starts.now.words.items }
+    requires fits { length text.now < 2 ^ 63 }
+    ensures { IfOk result (λ out. AreEnds (Language (tree_of node.now)) text.now starts.now.words.items out.words.items) }
+{
+    if !needs_tables(node) {
+        return ends(alloc, node, text, starts);
+    }
+    let prepared = prepare(alloc, node, text)?;
+    ends(alloc, &prepared, text, starts)
+}
+
+// Whether a repeated part stands in the part.
+#[cycle(repeats)]
+fn has_repeated(node: &Node) -> bool {
+    match node {
+        Node::Class(_) => false,
+        Node::Sequence(parts) => some_has_repeated(parts.as_slice()),
+        Node::Choice(parts) => some_has_repeated(parts.as_slice()),
+        Node::Repeated { .. } => true,
+    }
+}
+
+#[cycle(repeats)]
+fn some_has_repeated(parts: &[Node]) -> bool {
+    for part in parts {
+        if has_repeated(part) {
+            return true;
+        }
+    }
+    false
+}
+
+// Whether a repeated part stands in another one, or has rows already.
+#[cycle(needs)]
+fn needs_tables(node: &Node) -> bool
+    ensures { result ≡ false → (text : List ℕ) → Kept text node.now }
+{
+    match node {
+        Node::Class(_) => false,
+        Node::Sequence(parts) => some_needs_tables(parts.as_slice()),
+        Node::Choice(parts) => some_needs_tables(parts.as_slice()),
+        Node::Repeated { body, rows, .. } => {
+            if !rows.is_empty() || has_repeated(body) {
+                return true;
+            }
+            needs_tables(body)
+        }
+    }
+}
+
+#[cycle(needs)]
+fn some_needs_tables(parts: &[Node]) -> bool
+    ensures { result ≡ false → (text : List ℕ) → KeptList text parts.now }
+{
+    for part in parts {
+        if needs_tables(part) {
+            return true;
+        }
+    }
+    false
+}
+
+// The part with its tables for a text.
+#[cycle(prepare)]
+fn prepare(alloc: Global, node: &Node, text: &[char]) -> Result<Node, AllocError>
+    requires { length text.now < 2 ^ 63 }
+    ensures same { IfOk result (λ made. tree_of made ≡ tree_of node.now) }
+    ensures kept { IfOk result (λ made. Kept text.now made) }
+{
+    match node {
+        Node::Class(class) => {
+            let copy = class.copy(alloc)?;
+            Ok(Node::Class(copy))
+        }
+        Node::Sequence(parts) => {
+            let made = prepare_parts(alloc, parts.as_slice(), text)?;
+            Ok(Node::Sequence(made))
+        }
+        Node::Choice(parts) => {
+            let made = prepare_parts(alloc, parts.as_slice(), text)?;
+            Ok(Node::Choice(made))
+        }
+        Node::Repeated {
+            body,
+            least,
+            most,
+            ..
+        } => {
+            let made = prepare(alloc, body, text)?;
+            with_rows(alloc, made, *least, *most, text)
+        }
+    }
+}
+
+#[cycle(prepare)]
+fn prepare_parts(alloc: Global, parts: &[Node], text: &[char]) -> Result<Vec<Node>, AllocError>
+    requires { length text.now < 2 ^ 63 }
+    ensures same { IfOk result (λ made. map tree_of made.items ≡ map tree_of parts.now) }
+    ensures kept { IfOk result (λ made. KeptList text.now made.items) }
+{
+    let mut made = Vec::new(alloc);
+    made.reserve(parts.len())?;
+    for part in parts {
+        let prepared = prepare(alloc, part, text)?;
+        made.push(prepared)?;
+    }
+    Ok(made)
+}
+
+// A part that is prepared, so many times.
+fn with_rows(
+    alloc: Global,
+    body: Node,
+    least: u32,
+    most: Option<u32>,
+    text: &[char],
+) -> Result<Node, AllocError>
+    requires fits { length text.now < 2 ^ 63 }
+    requires kept { Kept text.now body }
+    ensures same { IfOk result (λ made. tree_of made ≡ times (tree_of body) least most) }
+    ensures kept { IfOk result (λ made. Kept text.now made) }
+{
+    let rows = rows_of(alloc, &body, text)?;
+    let body = Box::new(alloc, body)?;
+    Ok(Node::Repeated {
+        body,
+        least,
+        most,
+        rows,
+    })
+}
+
+// The table of a part in which a count stands.
+fn rows_of(alloc: Global, body: &Node, text: &[char]) -> Result<Vec<PositionSet>, AllocError>
+    requires fits { length text.now < 2 ^ 63 }
+    requires kept { Kept text.now body.now }
+    ensures { IfOk result (λ rows. KeptRows text.now body.now rows.items) }
+{
+    if has_repeated(body) {
+        table(alloc, body, text)
+    } else {
+        Ok(Vec::new(alloc))
+    }
+}

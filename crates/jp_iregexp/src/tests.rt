@@ -1,0 +1,271 @@
+use super::*;
+use std::alloc::{AllocError, Global};
+use std::test::Fail;
+
+// Whether the whole text matches; `None` where the first text is no pattern.
+fn matches(alloc: Global, pattern: &str, text: &str) -> Result<Option<bool>, AllocError> {
+    match Pattern::parse(alloc, pattern)? {
+        None => Ok(None),
+        Some(found) => Ok(Some(found.matches(alloc, text)?)),
+    }
+}
+
+// Whether some part of the text matches; `None` where the first text is no pattern.
+fn occurs(alloc: Global, pattern: &str, text: &str) -> Result<Option<bool>, AllocError> {
+    match Pattern::parse(alloc, pattern)? {
+        None => Ok(None),
+        Some(found) => Ok(Some(found.occurs(alloc, text)?)),
+    }
+}
+
+// A text so many times.
+fn repeated(alloc: Global, text: &str, count: usize) -> Result<String, AllocError> {
+    let mut all = String::new(alloc);
+    for _ in 0..count {
+        all.push_str(text)?;
+    }
+    Ok(all)
+}
+
+#[test]
+fn whole_texts_match(rt: HostRuntime) -> Result<(), Fail> {
+    for (pattern, text, is_match) in [
+        ("a.c", "abc", true),
+        ("a.c", "a\nc", false),
+        ("a.c", "a\rc", false),
+        ("a.c", "a\u{2028}c", true),
+        ("a.c", "xabc", false),
+        ("a.c", "abcx", false),
+        ("[^]", "^", true),
+        ("[^]", "a", false),
+        ("^a", "^a", true),
+        ("^a", "a", false),
+        ("a$", "a$", true),
+        ("", "", true),
+        ("", "a", false),
+        ("|b", "", true),
+        ("a|bc|", "bc", true),
+        ("a|bc|", "c", false),
+        ("(ab)*c", "ababc", true),
+        ("(ab)+", "", false),
+        ("(a|b)?c", "bc", true),
+        ("()", "", true),
+        ("é{2}", "éé", true),
+    ] {
+        assert_eq!(rt; matches(rt.alloc(), pattern, text)?, Some(is_match));
+    }
+    Ok(())
+}
+
+#[test]
+fn parts_occur(rt: HostRuntime) -> Result<(), Fail> {
+    for (pattern, text, is_found) in [
+        ("b{2,}", "abb", true),
+        ("b{2,}", "abab", false),
+        ("b{3,}", "abb", false),
+        ("a.c", "xabcx", true),
+        ("^a", "ba", false),
+        ("^a", "b^a", true),
+        ("z", "", false),
+        ("", "", true),
+        ("", "abc", true),
+        ("\n", "a\nb", true),
+    ] {
+        assert_eq!(rt; occurs(rt.alloc(), pattern, text)?, Some(is_found));
+    }
+    Ok(())
+}
+
+#[test]
+fn counts_are_exact(rt: HostRuntime) -> Result<(), Fail> {
+    for size in [0usize, 62, 63, 64, 65] {
+        let text = repeated(rt.alloc(), "x", size)?;
+        for (pattern, count) in [
+            (".{0}", 0usize),
+            (".{62}", 62),
+            (".{63}", 63),
+            (".{64}", 64),
+            (".{65}", 65),
+        ] {
+            assert_eq!(rt;
+                matches(rt.alloc(), pattern, text.as_str())?,
+                Some(size == count)
+            );
+        }
+        assert_eq!(rt;
+            matches(rt.alloc(), ".{63,64}", text.as_str())?,
+            Some(size == 63 || size == 64)
+        );
+        assert_eq!(rt;
+            matches(rt.alloc(), ".{63,}", text.as_str())?,
+            Some(size >= 63)
+        );
+    }
+    Ok(())
+}
+
+#[test]
+fn classes_have_their_scalars(rt: HostRuntime) -> Result<(), Fail> {
+    for (pattern, text, is_match) in [
+        ("[a-c]", "b", true),
+        ("[a-c]", "c", true),
+        ("[a-c]", "d", false),
+        ("[a-c]", "-", false),
+        ("[^a-c]", "b", false),
+        ("[^a-c]", "d", true),
+        ("[-a]", "-", true),
+        ("[-a]", "a", true),
+        ("[a-]", "-", true),
+        ("[a-]", "b", false),
+        ("[^-]", "-", false),
+        ("[a^]", "^", true),
+        ("[^^]", "^", false),
+        ("[\\p{Nd}x]", "7", true),
+        ("[\\p{Nd}x]", "x", true),
+        ("[\\p{Nd}x]", "y", false),
+        ("[\\]-a]", "^", true),
+        ("\\p{Lu}", "A", true),
+        ("\\p{Lu}", "a", false),
+        ("\\p{L}", "a", true),
+        ("\\P{L}", "a", false),
+        ("\\P{L}", "1", true),
+        ("\\p{Cn}", "\u{378}", true),
+    ] {
+        assert_eq!(rt; matches(rt.alloc(), pattern, text)?, Some(is_match));
+    }
+    Ok(())
+}
+
+#[test]
+fn escapes_stand_for_their_scalars(rt: HostRuntime) -> Result<(), Fail> {
+    for (pattern, text) in [
+        ("\\n", "\n"),
+        ("\\r", "\r"),
+        ("\\t", "\t"),
+        ("\\.", "."),
+        ("\\\\", "\\"),
+        ("\\-", "-"),
+        ("\\(\\)\\*\\+\\?", "()*+?"),
+        ("\\[\\]\\^\\{\\|\\}", "[]^{|}"),
+    ] {
+        assert_eq!(rt; matches(rt.alloc(), pattern, text)?, Some(true));
+    }
+    assert_eq!(rt; matches(rt.alloc(), "\\.", "x")?, Some(false));
+    Ok(())
+}
+
+#[test]
+fn other_texts_are_no_patterns(rt: HostRuntime) -> Result<(), Fail> {
+    for pattern in [
+        "[z-a]",
+        "\\p{Lx}",
+        "\\p{}",
+        "\\p{lu}",
+        "\\pL",
+        "\\d",
+        "\\$",
+        "\\",
+        "a**",
+        "*",
+        "a{1}{2}",
+        "|+",
+        "(",
+        ")",
+        "(a",
+        "a)",
+        "()*)",
+        "a{2,1}",
+        "a{1000000000}",
+        "a{0,1000000000}",
+        "a{",
+        "a{}",
+        "a{,2}",
+        "a{1,2,3}",
+        "a{x}",
+        "a}",
+        "]",
+        "[",
+        "[]",
+        "[]]",
+        "[^",
+        "[a--b]",
+        "[a-b-c]",
+        "[\\p{L}-z]",
+        "[--a]",
+    ] {
+        assert_eq!(rt; matches(rt.alloc(), pattern, "")?, None);
+    }
+    for pattern in ["a{0999999999}", "a{000000000002,2}", "a{999999999}"] {
+        assert_eq!(rt; matches(rt.alloc(), pattern, "")?, Some(false));
+    }
+    Ok(())
+}
+
+#[test]
+fn parentheses_are_counted(rt: HostRuntime) -> Result<(), Fail> {
+    let (open, close) = (
+        repeated(rt.alloc(), "(", 256)?,
+        repeated(rt.alloc(), ")", 256)?,
+    );
+    let mut deep = String::new(rt.alloc());
+    deep.push_str(open.as_str())?;
+    deep.push_str("a")?;
+    deep.push_str(close.as_str())?;
+    assert_eq!(rt; matches(rt.alloc(), deep.as_str(), "a")?, Some(true));
+    assert_eq!(rt; occurs(rt.alloc(), deep.as_str(), "ba")?, Some(true));
+    deep.push_str("[(]")?;
+    assert_eq!(rt; matches(rt.alloc(), deep.as_str(), "a(")?, None);
+    let escaped = repeated(rt.alloc(), "\\(", 256)?;
+    let text = repeated(rt.alloc(), "(", 256)?;
+    assert_eq!(rt;
+        matches(rt.alloc(), escaped.as_str(), text.as_str())?,
+        Some(true)
+    );
+    let escaped = repeated(rt.alloc(), "\\(", 257)?;
+    assert_eq!(rt; matches(rt.alloc(), escaped.as_str(), "")?, None);
+    Ok(())
+}
+
+#[test]
+fn counts_do_not_multiply(rt: HostRuntime) -> Result<(), Fail> {
+    for (pattern, text, is_match) in [
+        ("(a{0,999999999}){999999999}", "aaa", true),
+        ("(a{2}){999999999}", "aaaa", false),
+        ("(a{2}){2,999999999}", "aaaa", true),
+        ("(){999999999}", "", true),
+        ("((a*)*)*", "aaaa", true),
+    ] {
+        assert_eq!(rt; matches(rt.alloc(), pattern, text)?, Some(is_match));
+    }
+    let (open, close) = (
+        repeated(rt.alloc(), "(", 40)?,
+        repeated(rt.alloc(), "){0,9}", 40)?,
+    );
+    let mut nested = String::new(rt.alloc());
+    nested.push_str(open.as_str())?;
+    nested.push_str("a")?;
+    nested.push_str(close.as_str())?;
+    assert_eq!(rt; matches(rt.alloc(), nested.as_str(), "aaa")?, Some(true));
+    assert_eq!(rt; matches(rt.alloc(), nested.as_str(), "aab")?, Some(false));
+    assert_eq!(rt; occurs(rt.alloc(), nested.as_str(), "bbb")?, Some(true));
+    Ok(())
+}
+
+#[test]
+fn counts_with_other_branches_do_not_multiply(rt: HostRuntime) -> Result<(), Fail> {
+    let (open, close) = (
+        repeated(rt.alloc(), "(", 40)?,
+        repeated(rt.alloc(), "|a){2}", 40)?,
+    );
+    let mut nested = String::new(rt.alloc());
+    nested.push_str(open.as_str())?;
+    nested.push_str("a")?;
+    nested.push_str(close.as_str())?;
+    let pattern = nested.as_str();
+    let text = repeated(rt.alloc(), "a", 60)?;
+    assert_eq!(rt; matches(rt.alloc(), pattern, text.as_str())?, Some(true));
+    assert_eq!(rt; matches(rt.alloc(), pattern, "aa")?, Some(true));
+    assert_eq!(rt; matches(rt.alloc(), pattern, "a")?, Some(false));
+    assert_eq!(rt; occurs(rt.alloc(), pattern, "baab")?, Some(true));
+    Ok(())
+}

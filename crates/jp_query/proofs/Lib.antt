@@ -1,0 +1,25 @@
+-- Laws between the reader of queries and what spells them.
+pub mod LawTools
+pub mod SoundLeaves
+pub mod SoundLiterals
+pub mod SoundTrees
+pub mod Shrinks
+pub mod Follows
+pub mod LeafReads
+pub mod LiteralReads
+pub mod TreeSteps
+pub mod ExpressionSteps
+pub mod Complete
+pub mod IntegerChanges
+pub mod Statuses
+pub mod SoundNumbers
+pub mod SingularWalk
+pub mod SameSteps
+-- Lemmas of the parser.
+mod Digits
+mod Loop
+mod Outcomes
+mod Quotes
+mod Runs
+mod Spellings
+mod Texts

@@ -1,0 +1,17 @@
+-- The text between two quotes, from what was read of it.
+use Rattle.std.proofs.Common.{◌≡◌, ℕ, List, Some, None, refl}
+use Rattle.jp_query.specs.Reading.Scalars.{after, all_of}
+use Rattle.jp_query.specs.Reading.Strings.{next_scalar, quoted}
+
+module _ (quote : ℕ) (x : List ℕ) where
+  pub is_refused : all_of (next_scalar quote) x ≡ None → quoted quote x ≡ None
+  unfolding quoted
+  is_refused h = rw h refl
+
+  pub is_open : (s y : List ℕ) → all_of (next_scalar quote) x ≡ Some (s, y) → after quote y ≡ None → quoted quote x ≡ None
+  unfolding quoted
+  is_open s y h e = rw (h, e) refl
+
+  pub is_closed : (s y z : List ℕ) → all_of (next_scalar quote) x ≡ Some (s, y) → after quote y ≡ Some z → quoted quote x ≡ Some (s, z)
+  unfolding quoted
+  is_closed s y z h e = rw (h, e) refl

@@ -1,0 +1,66 @@
+-- Runs of a class of scalars, read one by one.
+use Rattle.std.proofs.Common.{◌≡◌, ℕ, suc, ◌+◌, Some, length-append, ◌<◌, ◌≤◌, List, [], ◌∷◌, ◌++◌, length, take, drop, get_or, Bool, true, false, cond, refl, sym, ap, ◌∙◌, arith, append_assoc, append-nil}
+use Rattle.std.proofs.lemmas.List.{drop_more}
+use Rattle.std.proofs.Math.Seq.{take-suc, take-append_seam, drop-append_seam}
+use Rattle.jp_query.specs.Reading.Scalars.{run, begins, named}
+
+-- the run from a place on, behind what stands in front of it
+abbrev pub run_from : (ℕ → Bool) → List ℕ → ℕ → List ℕ × List ℕ
+run_from m x i = (take i x ++ (run m (drop i x)).0, (run m (drop i x)).1)
+
+run_on : (m : ℕ → Bool) (c : ℕ) (x : List ℕ) → m c ≡ true → run m (c ∷ x) ≡ (c ∷ (run m x).0, (run m x).1)
+run_on m c x h = step (m c) h
+  where
+    step : (t : Bool) → t ≡ true → cond {A = List ℕ × List ℕ} t (c ∷ (run m x).0, (run m x).1) ([], c ∷ x) ≡ (c ∷ (run m x).0, (run m x).1)
+    step true e = refl
+    step false e = absurd (cc)
+
+run_ended : (m : ℕ → Bool) (c : ℕ) (x : List ℕ) → m c ≡ false → run m (c ∷ x) ≡ ([], c ∷ x)
+run_ended m c x h = step (m c) h
+  where
+    step : (t : Bool) → t ≡ false → cond {A = List ℕ × List ℕ} t (c ∷ (run m x).0, (run m x).1) ([], c ∷ x) ≡ ([], c ∷ x)
+    step true e = absurd (cc)
+    step false e = refl
+
+-- one more scalar of the class
+pub run_goes_on : (m : ℕ → Bool) (x : List ℕ) (i : ℕ) → i < length x → m (get_or x i 0) ≡ true → run_from m x i ≡ run m x → run_from m x (i + 1) ≡ run m x
+run_goes_on m x i lt h so_far =
+    let d : drop i x ≡ get_or x i 0 ∷ drop (i + 1) x = drop_more x i 0 lt in
+    let e : run m (drop i x) ≡ (get_or x i 0 ∷ (run m (drop (i + 1) x)).0, (run m (drop (i + 1) x)).1) = ap (run m) d ∙ run_on m (get_or x i 0) (drop (i + 1) x) h in
+    let k : i + 1 ≡ suc i = omega arith in
+    let f : take (i + 1) x ≡ take i x ++ (get_or x i 0 ∷ []) = ap (λ (n : ℕ). take n x) k ∙ take-suc x i 0 lt in
+    let one : run_from m x i ≡ run_from m x (i + 1) = rw (e, f) (ap (λ (all : List ℕ). (all, (run m (drop (i + 1) x)).1)) (simp append_assoc)) in
+    sym one ∙ so_far
+
+-- another scalar
+pub run_stops : (m : ℕ → Bool) (x : List ℕ) (i : ℕ) → i < length x → m (get_or x i 0) ≡ false → run_from m x i ≡ run m x → (take i x, drop i x) ≡ run m x
+run_stops m x i lt h so_far =
+    let d : drop i x ≡ get_or x i 0 ∷ drop (i + 1) x = drop_more x i 0 lt in
+    let e : run m (drop i x) ≡ ([], drop i x) = ap (run m) d ∙ (run_ended m (get_or x i 0) (drop (i + 1) x) h ∙ ap (λ (rest : List ℕ). ([], rest)) (sym d)) in
+    let one : run_from m x i ≡ (take i x, drop i x) = rw e (ap (λ (all : List ℕ). (all, drop i x)) (append-nil (take i x))) in
+    sym one ∙ so_far
+
+-- a run stands in front of what is left
+pub run_joins : (m : ℕ → Bool) (x : List ℕ) → (run m x).0 ++ (run m x).1 ≡ x
+run_joins m [] = refl
+run_joins m (c ∷ x) = step (m c) (run_joins m x)
+  where
+    step : (t : Bool) → (run m x).0 ++ (run m x).1 ≡ x → (cond {A = List ℕ × List ℕ} t (c ∷ (run m x).0, (run m x).1) ([], c ∷ x)).0 ++ (cond {A = List ℕ × List ℕ} t (c ∷ (run m x).0, (run m x).1) ([], c ∷ x)).1 ≡ c ∷ x
+    step true e = ap (λ (all : List ℕ). c ∷ all) e
+    step false e = refl
+
+-- what stands in front, and what stands behind it
+pub cut_at : (s y x : List ℕ) → s ++ y ≡ x → (length s ≤ length x) × (take (length s) x ≡ s) × (drop (length s) x ≡ y)
+cut_at s y x h =
+    let n : length x ≡ length s + length y = ap (λ (all : List ℕ). length all) (sym h) ∙ length-append s y in
+    (omega arith, ap (λ (all : List ℕ). take (length s) all) (sym h) ∙ take-append_seam s y, ap (λ (all : List ℕ). drop (length s) all) (sym h) ∙ drop-append_seam s y)
+
+-- a scalar of one class and a run of another
+pub named_cut : (first others : ℕ → Bool) (x : List ℕ) → begins first x ≡ true
+    → (length (run others (drop 1 x)).0 + 1 ≤ length x) × (named first others x ≡ Some (take (length (run others (drop 1 x)).0 + 1) x, drop (length (run others (drop 1 x)).0 + 1) x))
+named_cut first others [] h = absurd (cc)
+named_cut first others (c ∷ x) h =
+    let n : length (run others x).0 + 1 ≡ length (c ∷ (run others x).0) = omega arith in
+    let p = cut_at (c ∷ (run others x).0) (run others x).1 (c ∷ x) (ap (λ (all : List ℕ). c ∷ all) (run_joins others x)) in
+    let e : named first others (c ∷ x) ≡ Some (c ∷ (run others x).0, (run others x).1) = rw h refl in
+    (rw n p.0, rw n (e ∙ ap (λ (r : List ℕ × List ℕ). Some r) (ap (λ (s : List ℕ). (s, (run others x).1)) (sym p.1) ∙ ap (λ (y : List ℕ). (take (length (c ∷ (run others x).0)) (c ∷ x), y)) (sym p.2))))

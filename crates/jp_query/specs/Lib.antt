@@ -1,0 +1,15 @@
+-- What the contracts of queries speak of.
+pub mod Answers
+pub mod Integers
+pub mod Limits
+pub mod Outcome
+pub mod Parsing
+pub mod Queries
+pub mod Reading
+pub mod SingularPaths
+pub mod Sound
+pub mod Status
+pub mod StepEquality
+pub mod View
+pub mod WellFormed
+pub mod Worked

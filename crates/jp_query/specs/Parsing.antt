@@ -1,0 +1,50 @@
+-- What the parser's functions give, beside the reader.
+use Rattle.std.specs.Prelude.{◌≡◌, ℕ, Bool, cond, Option, Some, None, Result, Ok, Err}
+use Rattle.jp_model.specs.Characters.{is_white, is_digit, is_lower}
+use Rattle.jp_model.specs.Query.Spelling.{is_name_first, is_name_scalar, is_function_scalar}
+use Rattle.jp_model.specs.Query.Syntax.{Selector, name_selector}
+use Rattle.jp_query.specs.Integers.{clamp}
+use Rattle.jp_query.specs.Reading.Scalars.{Reader, ◌>>=◌, choose, after, begins}
+use Rattle.jp_query.specs.Reading.Numbers.{is_int_first, is_positive_digit}
+use Rattle.jp_query.specs.Reading.Strings.{string_at}
+use Rattle.jp_query.specs.Reading.Queries.{Expression, slice_behind, index_or_slice}
+use Rattle.jp_query.specs.View.{logical_view}
+use Rattle.jp_query.specs.declared.parser.failure.Failure.{Failure}
+use Rattle.jp_query.specs.declared.parser.failure.Failure.TheVariants as failures
+use Rattle.jp_query.specs.declared.parser.class.Class.{Class}
+use Rattle.jp_query.specs.declared.parser.class.Class.TheVariants as classes
+use Rattle.jp_query.specs.declared.parser.parsed.Parsed.{Parsed}
+
+-- a function that stopped so was right to do it: what it read is refused, or memory ran out
+abbrev pub Fails : {Y : Type 0} → Failure → Option Y → Type 0
+Fails failures.Memory read = Unit {0}
+Fails failures.Syntax read = read ≡ None
+
+-- what a function returned, seen by view, is what the reader gives, unless memory ran out
+abbrev pub Gives : {X Y : Type 0} → (X → Y) → Result X Failure → Option Y → Type 0
+Gives view (Ok x) read = read ≡ Some (view x)
+Gives view (Err e) read = Fails e read
+
+-- the scalars of a class
+abbrev pub is_member : Class → ℕ → Bool
+is_member classes.Blank c = is_white c
+is_member classes.Digit c = is_digit c
+is_member classes.PositiveDigit c = is_positive_digit c
+is_member classes.NameFirst c = is_name_first c
+is_member classes.NameScalar c = is_name_scalar c
+is_member classes.Lower c = is_lower c
+is_member classes.FunctionScalar c = is_function_scalar c
+
+-- an expression, and whether it is a query or a call alone
+abbrev pub parsed_view : Parsed → Expression
+parsed_view e = (e.is_bare, logical_view e.logical)
+
+-- a selector that is neither a wildcard nor a filter
+abbrev pub simple_selector : Reader Selector
+simple_selector x = choose (after 58 x)
+    (slice_behind clamp None)
+    (cond (begins is_int_first x)
+    (index_or_slice clamp x)
+    (do
+      r ← string_at x
+      Some (name_selector r.0, r.1)))

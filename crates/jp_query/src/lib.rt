@@ -1,0 +1,22 @@
+//! The syntax tree of a JSONPath query, and its reader (RFC 9535).
+#![tactic(auto)]
+
+mod fault;
+pub mod laws;
+mod limit;
+mod limits;
+mod parser;
+mod paths;
+mod query;
+#[cfg(test)]
+mod tests;
+mod tree;
+pub mod worked;
+
+pub use fault::ParseFault;
+pub use parser::parse;
+pub use paths::{SingularPath, Step, is_singular, singular};
+pub use query::Query;
+pub use tree::{
+    Argument, Call, Comparable, CompareOp, Literal, Logical, Origin, Path, Segment, Selector,
+};

@@ -1,0 +1,141 @@
+//! Reading a query (RFC 9535, section 2 and appendix A).
+
+mod class;
+mod expression;
+mod failure;
+mod literals;
+mod numbers;
+mod parsed;
+mod queries;
+mod scalars;
+mod selectors;
+mod strings;
+
+ghost use Rattle.std.specs.Prelude.{◌≡◌, true, IsFalse, IfOk, IfErr, chars};
+ghost use Rattle.jp_model.specs.Query.Limits.{is_oversized, has_exact_integers, has_small_exponents};
+ghost use Rattle.jp_model.specs.Query.Status.{TextSpells};
+ghost use Rattle.jp_model.specs.Query.Syntax.{Segments};
+ghost use Rattle.jp_query.specs.Answers.{GivesQuery, IsFirstFault, TellsStatus};
+ghost use Rattle.jp_query.specs.Integers.{clamp};
+ghost use Rattle.jp_query.specs.Parsing.{Gives};
+ghost use Rattle.jp_query.specs.Queries.{query_view};
+ghost use Rattle.jp_query.specs.Reading.Queries.{query_at};
+ghost use Rattle.jp_query.specs.Outcome.{IsRead, Meant};
+ghost use Rattle.jp_query.specs.Status.{read_text};
+ghost use Rattle.jp_query.specs.View.{segments_view};
+
+use crate::fault::ParseFault;
+use crate::limit::Limit;
+use crate::limits::segments_pass;
+use crate::query::Query;
+use crate::tree::Segment;
+use failure::Failure;
+use jp_model::QueryFault;
+use queries::segments;
+use scalars::after;
+use std::alloc::{AllocError, Global};
+
+/// How deep brackets and parentheses nest at most.
+const MAX_DEPTH: u32 = 512;
+
+/// The bytes that a text has at most.
+const MAX_BYTES: usize = 65_535;
+
+/// The brackets and parentheses that are opened in a text at most.
+const MAX_OPENED: usize = 512;
+
+/// Whether the text is too long, or opens too many brackets and parentheses.
+fn is_oversized(text: &[u8]) -> bool
+    ensures { result ≡ is_oversized text.now }
+{
+    let mut opened: usize = 0;
+    for byte in text {
+        if *byte == b'(' || *byte == b'[' {
+            opened += 1;
+        }
+    }
+    text.len() > MAX_BYTES || opened > MAX_OPENED
+}
+
+/// The scalars of a text.
+fn to_scalars(alloc: Global, text: &str) -> Result<Vec<char>, AllocError>
+    ensures { IfOk result (λ v. v.items ≡ chars text.now) }
+{
+    text.chars().collect(alloc)
+}
+
+/// The segments of a query that is the whole of the scalars (RFC 9535, section 2.1.1).
+#[tactic(auto, unfolding(crate::specs::Reading::Queries::query_at))]
+fn query_segments(alloc: Global, text: &[char]) -> Result<Vec<Segment>, Failure>
+    ensures { Gives (λ v. segments_view v.items) result (query_at clamp 512 text.now) }
+{
+    let Some(rest) = after(text, '$') else {
+        return Err(Failure::Syntax);
+    };
+    let (segments, rest) = segments(alloc, rest, MAX_DEPTH)?;
+    if !rest.is_empty() {
+        return Err(Failure::Syntax);
+    }
+    Ok(segments)
+}
+
+/// The segments of the query that a text spells, each integer of a selector brought to one step outside the exact ones
+/// where it is farther from them.
+#[tactic(auto, unfolding(crate::specs::Status::read_text))]
+fn read(alloc: Global, text: &[u8]) -> Result<Vec<Segment>, Failure>
+    ensures { Gives (λ v. segments_view v.items) result (read_text clamp text.now) }
+{
+    let Ok(text) = simdutf8::basic::from_utf8(text) else {
+        return Err(Failure::Syntax);
+    };
+    let scalars = to_scalars(alloc, text)?;
+    query_segments(alloc, scalars.as_slice())
+}
+
+/// The query of these segments, which were read from a text, where they are within their limits.
+fn limited(text: &[u8], segments: Vec<Segment>) -> Result<Query, ParseFault>
+    requires { IsRead text.now (segments_view segments.items) }
+    ensures { Meant text.now result }
+{
+    if !segments_pass(segments.as_slice(), Limit::Integers) {
+        return Err(ParseFault::Refused(QueryFault::Integer));
+    }
+    if !segments_pass(segments.as_slice(), Limit::Exponents) {
+        return Err(ParseFault::Refused(QueryFault::Number));
+    }
+    Ok(Query::new(segments))
+}
+
+/// The query that a text spells, or the first fault that it meets.
+fn answer(alloc: Global, text: &[u8]) -> Result<Query, ParseFault>
+    ensures { Meant text.now result }
+{
+    if is_oversized(text) {
+        return Err(ParseFault::Refused(QueryFault::Size));
+    }
+    match read(alloc, text) {
+        Ok(segments) => limited(text, segments),
+        Err(Failure::Syntax) => Err(ParseFault::Refused(QueryFault::Syntax)),
+        Err(Failure::Memory) => Err(ParseFault::Memory),
+    }
+}
+
+/// The query that a text spells (RFC 9535, section 2.1).
+///
+/// Types are not looked at: a query with an unknown function, or with arguments that are not well-typed, is given too.
+///
+/// # Errors
+///
+/// `Refused` with the first fault of the text: `Size` where it has more than 65,535 bytes, or more than 512 bytes `(` or
+/// `[` together; `Syntax` where it is not UTF-8 or no query; `Integer` where an integer of a selector is not exact; and
+/// `Number` where the exponent of a number is too long. `Memory` where memory ran out.
+pub fn parse(alloc: Global, text: &[u8]) -> Result<Query, ParseFault>
+    // What is found is spelled so.
+    ensures found { IfOk result (λ q. IsFalse (is_oversized text.now) × TextSpells text.now (query_view q)) }
+    // What is spelled within the limits is found, and nothing else.
+    ensures only { (q : Segments) → IsFalse (is_oversized text.now) → TextSpells text.now q → has_exact_integers q ≡ true → has_small_exponents q ≡ true → GivesQuery q result }
+    ensures fault { IfErr result (λ e. IsFirstFault text.now e) }
+    ensures status { TellsStatus text.now result }
+{
+    answer(alloc, text)
+}

@@ -1,0 +1,10 @@
+//! An expression that was read.
+
+use crate::tree::Logical;
+
+/// An expression, and whether it is a query or a call alone, with neither `!` nor parentheses.
+#[derive(Drop)]
+pub(crate) struct Parsed {
+    pub(crate) is_bare: bool,
+    pub(crate) logical: Logical,
+}

@@ -1,0 +1,552 @@
+//! Segments, selectors and expressions, which hold each other (RFC 9535, sections 2.3 to 2.5).
+//!
+//! Each function reads from the front of a text and gives what is left. `depth` is how deep brackets and parentheses may
+//! still nest.
+
+ghost use Rattle.std.specs.Prelude.{◌≡◌, option_map, map};
+ghost use Rattle.jp_query.specs.Integers.{clamp};
+ghost use Rattle.jp_query.specs.Parsing.{Gives, parsed_view};
+ghost use Rattle.jp_query.specs.Reading.Queries.{selector_at, next_selector, brackets_at, descendant_at, next_segment, segments_at, closed_at, argument_at, next_argument, arguments_at, call_behind, comparable_at, comparison_behind, query_behind, call_or_comparison, literal_comparison, test_at, negated_at, plain_at, basic_at, next_basic, and_at, next_and, logical_at};
+ghost use Rattle.jp_query.specs.Reading.Scalars.{all_of, with_front};
+ghost use Rattle.jp_query.specs.View.{selector_view, segment_view, logical_view, comparable_view, argument_view, call_view, op_view, origin_view, selectors_view, segments_view, logicals_view, arguments_view};
+
+use super::expression::{
+    all_true, argument_of, call_of, exists_of, not_of, one_true, side_of, single_of, test_of,
+};
+use super::failure::Failure;
+use super::literals::{begins_without_literal, literal, operator, origin};
+use super::parsed::Parsed;
+use super::scalars::{after, after_blanks, call_start, skip_blanks, to_text};
+use super::selectors::{dotted, one, simple_selector, singular};
+use crate::tree::{Argument, Call, Comparable, CompareOp, Logical, Origin, Segment, Selector};
+use std::alloc::Global;
+
+/// A selector (RFC 9535, section 2.3).
+#[cycle(query)]
+#[tactic(auto, unfolding(crate::specs::Reading::Queries::selector_at))]
+fn selector(alloc: Global, text: &[char], depth: u32) -> Result<(Selector, &[char]), Failure>
+    ensures { Gives (λ x. (selector_view x.0, x.1.now)) result (selector_at clamp (logical_at clamp depth) text.now) }
+{
+    if let Some(rest) = after(text, '*') {
+        return Ok((Selector::Wildcard, rest));
+    }
+    if let Some(rest) = after(text, '?') {
+        let (condition, rest) = logical(alloc, skip_blanks(rest), depth)?;
+        return Ok((Selector::Filter(condition.logical), rest));
+    }
+    simple_selector(alloc, text)
+}
+
+/// Blanks, a comma, blanks and a selector, if a comma stands there.
+#[cycle(query)]
+#[tactic(auto, unfolding(crate::specs::Reading::Queries::next_selector))]
+fn next_selector(
+    alloc: Global,
+    text: &[char],
+    depth: u32,
+) -> Result<Option<(Selector, &[char])>, Failure>
+    ensures { Gives (option_map (λ x. (selector_view x.0, x.1.now))) result (next_selector clamp (logical_at clamp depth) text.now) }
+{
+    match after_blanks(text, ',') {
+        Some(rest) => Ok(Some(selector(alloc, skip_blanks(rest), depth)?)),
+        None => Ok(None),
+    }
+}
+
+/// The selectors behind those that were found.
+#[cycle(query)]
+fn more_selectors(
+    found: Vec<Selector>,
+    alloc: Global,
+    text: &[char],
+    depth: u32,
+) -> Result<(Vec<Selector>, &[char]), Failure>
+    ensures { Gives (λ x. (map selector_view x.0.items, x.1.now)) result (with_front (map selector_view found.items) (all_of (next_selector clamp (logical_at clamp depth)) text.now)) }
+{
+    let mut all = found;
+    let mut rest = text;
+    for _ in 0..text.len() {
+        let Some((one, others)) = next_selector(alloc, rest, depth)? else {
+            break;
+        };
+        all.push(one)?;
+        rest = others;
+    }
+    Ok((all, rest))
+}
+
+/// Selectors in brackets (RFC 9535, section 2.5.1.1).
+#[cycle(query)]
+#[tactic(auto, unfolding(crate::specs::Reading::Queries::brackets_at))]
+fn brackets(alloc: Global, text: &[char], depth: u32) -> Result<(Vec<Selector>, &[char]), Failure>
+    ensures { Gives (λ x. (map selector_view x.0.items, x.1.now)) result (brackets_at clamp (logical_at clamp depth) text.now) }
+{
+    let Some(rest) = after(text, '[') else {
+        return Err(Failure::Syntax);
+    };
+    let (first, rest) = selector(alloc, skip_blanks(rest), depth)?;
+    let (selectors, rest) = more_selectors(one(alloc, first)?, alloc, rest, depth)?;
+    match after_blanks(rest, ']') {
+        Some(rest) => Ok((selectors, rest)),
+        None => Err(Failure::Syntax),
+    }
+}
+
+/// The selectors of a descendant segment, behind its two points (RFC 9535, section 2.5.2.1).
+#[cycle(query)]
+#[tactic(auto, unfolding(crate::specs::Reading::Queries::descendant_at))]
+fn descendants(
+    alloc: Global,
+    text: &[char],
+    depth: u32,
+) -> Result<(Vec<Selector>, &[char]), Failure>
+    ensures { Gives (λ x. (map selector_view x.0.items, x.1.now)) result (descendant_at clamp (logical_at clamp depth) text.now) }
+{
+    match after(text, '[') {
+        Some(_) => brackets(alloc, text, depth),
+        None => dotted(alloc, text),
+    }
+}
+
+/// Blanks and a segment, if a point or a bracket stands there (RFC 9535, section 2.1.1).
+#[cycle(query)]
+#[tactic(auto, unfolding(crate::specs::Reading::Queries::next_segment))]
+fn next_segment(
+    alloc: Global,
+    text: &[char],
+    depth: u32,
+) -> Result<Option<(Segment, &[char])>, Failure>
+    ensures { Gives (option_map (λ x. (segment_view x.0, x.1.now))) result (next_segment clamp (logical_at clamp depth) text.now) }
+{
+    if let Some(rest) = after_blanks(text, '.') {
+        if let Some(rest) = after(rest, '.') {
+            let (selectors, rest) = descendants(alloc, rest, depth)?;
+            return Ok(Some((Segment::Descendant(selectors), rest)));
+        }
+        let (selectors, rest) = dotted(alloc, rest)?;
+        return Ok(Some((Segment::Child(selectors), rest)));
+    }
+    if after_blanks(text, '[').is_none() {
+        return Ok(None);
+    }
+    let (selectors, rest) = brackets(alloc, skip_blanks(text), depth)?;
+    Ok(Some((Segment::Child(selectors), rest)))
+}
+
+/// Segments as a list, as many as stand there.
+#[cycle(query)]
+fn segment_list(
+    alloc: Global,
+    text: &[char],
+    depth: u32,
+) -> Result<(Vec<Segment>, &[char]), Failure>
+    ensures { Gives (λ x. (map segment_view x.0.items, x.1.now)) result (all_of (next_segment clamp (logical_at clamp depth)) text.now) }
+{
+    let mut all = Vec::new(alloc);
+    let mut rest = text;
+    for _ in 0..text.len() {
+        let Some((one, others)) = next_segment(alloc, rest, depth)? else {
+            break;
+        };
+        all.push(one)?;
+        rest = others;
+    }
+    Ok((all, rest))
+}
+
+/// Segments, as many as stand there (RFC 9535, section 2.1.1).
+#[cycle(query)]
+#[tactic(auto, unfolding(crate::specs::Reading::Queries::segments_at))]
+pub(crate) fn segments(
+    alloc: Global,
+    text: &[char],
+    depth: u32,
+) -> Result<(Vec<Segment>, &[char]), Failure>
+    ensures { Gives (λ x. (segments_view x.0.items, x.1.now)) result (segments_at clamp (logical_at clamp depth) text.now) }
+{
+    segment_list(alloc, text, depth)
+}
+
+/// An expression and a parenthesis behind it, behind the first parenthesis (RFC 9535, section 2.3.5.1).
+#[cycle(query)]
+#[tactic(auto, unfolding(crate::specs::Reading::Queries::closed_at))]
+fn closed(alloc: Global, text: &[char], depth: u32) -> Result<(Logical, &[char]), Failure>
+    ensures { Gives (λ x. (logical_view x.0, x.1.now)) result (closed_at clamp (logical_at clamp depth) text.now) }
+{
+    let (inner, rest) = logical(alloc, skip_blanks(text), depth)?;
+    match after_blanks(rest, ')') {
+        Some(rest) => Ok((inner.logical, rest)),
+        None => Err(Failure::Syntax),
+    }
+}
+
+/// An argument of a function (RFC 9535, section 2.4).
+#[cycle(query)]
+#[tactic(auto, unfolding(crate::specs::Reading::Queries::argument_at, crate::specs::Reading::Queries::condition_at))]
+fn argument(alloc: Global, text: &[char], depth: u32) -> Result<(Argument, &[char]), Failure>
+    ensures { Gives (λ x. (argument_view x.0, x.1.now)) result (argument_at clamp (logical_at clamp depth) text.now) }
+{
+    if !begins_without_literal(text) {
+        let (value, rest) = literal(alloc, text)?;
+        if operator(skip_blanks(rest)).is_none() {
+            return Ok((Argument::Constant(value), rest));
+        }
+    }
+    let (expression, rest) = logical(alloc, text, depth)?;
+    Ok((argument_of(expression), rest))
+}
+
+/// Blanks, a comma, blanks and an argument, if a comma stands there.
+#[cycle(query)]
+#[tactic(auto, unfolding(crate::specs::Reading::Queries::next_argument))]
+fn next_argument(
+    alloc: Global,
+    text: &[char],
+    depth: u32,
+) -> Result<Option<(Argument, &[char])>, Failure>
+    ensures { Gives (option_map (λ x. (argument_view x.0, x.1.now))) result (next_argument clamp (logical_at clamp depth) text.now) }
+{
+    match after_blanks(text, ',') {
+        Some(rest) => Ok(Some(argument(alloc, skip_blanks(rest), depth)?)),
+        None => Ok(None),
+    }
+}
+
+/// The arguments behind those that were found.
+#[cycle(query)]
+fn more_arguments(
+    found: Vec<Argument>,
+    alloc: Global,
+    text: &[char],
+    depth: u32,
+) -> Result<(Vec<Argument>, &[char]), Failure>
+    ensures { Gives (λ x. (map argument_view x.0.items, x.1.now)) result (with_front (map argument_view found.items) (all_of (next_argument clamp (logical_at clamp depth)) text.now)) }
+{
+    let mut all = found;
+    let mut rest = text;
+    for _ in 0..text.len() {
+        let Some((one, others)) = next_argument(alloc, rest, depth)? else {
+            break;
+        };
+        all.push(one)?;
+        rest = others;
+    }
+    Ok((all, rest))
+}
+
+/// Arguments and a parenthesis behind them (RFC 9535, section 2.4).
+#[cycle(query)]
+#[tactic(auto, unfolding(crate::specs::Reading::Queries::arguments_at))]
+fn arguments(alloc: Global, text: &[char], depth: u32) -> Result<(Vec<Argument>, &[char]), Failure>
+    ensures { Gives (λ x. (map argument_view x.0.items, x.1.now)) result (arguments_at clamp (logical_at clamp depth) text.now) }
+{
+    let (first, rest) = argument(alloc, text, depth)?;
+    let (arguments, rest) = more_arguments(one(alloc, first)?, alloc, rest, depth)?;
+    match after_blanks(rest, ')') {
+        Some(rest) => Ok((arguments, rest)),
+        None => Err(Failure::Syntax),
+    }
+}
+
+/// A call of a function, behind its name and its parenthesis (RFC 9535, section 2.4).
+#[cycle(query)]
+#[tactic(auto, unfolding(crate::specs::Reading::Queries::call_behind))]
+fn call<'a>(
+    alloc: Global,
+    name: &[char],
+    text: &'a [char],
+    depth: u32,
+) -> Result<(Call, &'a [char]), Failure>
+    ensures { Gives (λ x. (call_view x.0, x.1.now)) result (call_behind clamp (logical_at clamp depth) name.now text.now) }
+{
+    let name = to_text(alloc, name)?;
+    if let Some(rest) = after_blanks(text, ')') {
+        return Ok((call_of(name, Vec::new(alloc)), rest));
+    }
+    let (arguments, rest) = arguments(alloc, skip_blanks(text), depth)?;
+    Ok((call_of(name, arguments), rest))
+}
+
+/// A side of a comparison (RFC 9535, section 2.3.5.1).
+#[cycle(query)]
+#[tactic(auto, unfolding(crate::specs::Reading::Queries::comparable_at))]
+fn comparable(alloc: Global, text: &[char], depth: u32) -> Result<(Comparable, &[char]), Failure>
+    ensures { Gives (λ x. (comparable_view x.0, x.1.now)) result (comparable_at clamp (logical_at clamp depth) text.now) }
+{
+    if let Some((origin, rest)) = origin(text) {
+        let (segments, rest) = singular(alloc, rest)?;
+        return Ok((single_of(origin, segments), rest));
+    }
+    if let Some((name, rest)) = call_start(text) {
+        let (call, rest) = call(alloc, name, rest, depth)?;
+        return Ok((side_of(call), rest));
+    }
+    let (value, rest) = literal(alloc, text)?;
+    Ok((Comparable::Constant(value), rest))
+}
+
+/// A comparison behind its first side and its operator (RFC 9535, section 2.3.5.1).
+#[cycle(query)]
+#[tactic(auto, unfolding(crate::specs::Reading::Queries::comparison_behind))]
+fn comparison(
+    left: Comparable,
+    op: CompareOp,
+    alloc: Global,
+    text: &[char],
+    depth: u32,
+) -> Result<(Parsed, &[char]), Failure>
+    ensures { Gives (λ x. (parsed_view x.0, x.1.now)) result (comparison_behind clamp (logical_at clamp depth) (comparable_view left) (op_view op) text.now) }
+{
+    let (right, rest) = comparable(alloc, skip_blanks(text), depth)?;
+    Ok((
+        Parsed {
+            is_bare: false,
+            logical: Logical::Compare { left, op, right },
+        },
+        rest,
+    ))
+}
+
+/// A comparison whose first side is a query, or a test of a query, behind its mark.
+#[cycle(query)]
+#[tactic(auto, unfolding(crate::specs::Reading::Queries::query_behind))]
+fn query_or_comparison(
+    origin: Origin,
+    alloc: Global,
+    text: &[char],
+    depth: u32,
+) -> Result<(Parsed, &[char]), Failure>
+    ensures { Gives (λ x. (parsed_view x.0, x.1.now)) result (query_behind clamp (logical_at clamp depth) (origin_view origin) text.now) }
+{
+    let (steps, rest) = singular(alloc, text)?;
+    if let Some((op, rest)) = operator(skip_blanks(rest)) {
+        return comparison(single_of(origin, steps), op, alloc, rest, depth);
+    }
+    let (segments, rest) = segments(alloc, text, depth)?;
+    let logical = exists_of(origin, segments);
+    Ok((
+        Parsed {
+            is_bare: true,
+            logical,
+        },
+        rest,
+    ))
+}
+
+/// A comparison whose first side is a call, or a test of a call, behind its name and its parenthesis.
+#[cycle(query)]
+#[tactic(auto, unfolding(crate::specs::Reading::Queries::call_or_comparison))]
+fn call_or_comparison<'a>(
+    alloc: Global,
+    name: &[char],
+    text: &'a [char],
+    depth: u32,
+) -> Result<(Parsed, &'a [char]), Failure>
+    ensures { Gives (λ x. (parsed_view x.0, x.1.now)) result (call_or_comparison clamp (logical_at clamp depth) name.now text.now) }
+{
+    let (call, rest) = call(alloc, name, text, depth)?;
+    if let Some((op, rest)) = operator(skip_blanks(rest)) {
+        return comparison(side_of(call), op, alloc, rest, depth);
+    }
+    Ok((
+        Parsed {
+            is_bare: true,
+            logical: test_of(call),
+        },
+        rest,
+    ))
+}
+
+/// A comparison whose first side is a literal.
+#[cycle(query)]
+#[tactic(auto, unfolding(crate::specs::Reading::Queries::literal_comparison))]
+fn literal_comparison(
+    alloc: Global,
+    text: &[char],
+    depth: u32,
+) -> Result<(Parsed, &[char]), Failure>
+    ensures { Gives (λ x. (parsed_view x.0, x.1.now)) result (literal_comparison clamp (logical_at clamp depth) text.now) }
+{
+    let (value, rest) = literal(alloc, text)?;
+    let Some((op, rest)) = operator(skip_blanks(rest)) else {
+        return Err(Failure::Syntax);
+    };
+    comparison(Comparable::Constant(value), op, alloc, rest, depth)
+}
+
+/// A query or a call alone (RFC 9535, section 2.3.5.1).
+#[cycle(query)]
+#[tactic(auto, unfolding(crate::specs::Reading::Queries::test_at))]
+fn test(alloc: Global, text: &[char], depth: u32) -> Result<(Logical, &[char]), Failure>
+    ensures { Gives (λ x. (logical_view x.0, x.1.now)) result (test_at clamp (logical_at clamp depth) text.now) }
+{
+    if let Some((origin, rest)) = origin(text) {
+        let (segments, rest) = segments(alloc, rest, depth)?;
+        return Ok((exists_of(origin, segments), rest));
+    }
+    let Some((name, rest)) = call_start(text) else {
+        return Err(Failure::Syntax);
+    };
+    let (call, rest) = call(alloc, name, rest, depth)?;
+    Ok((test_of(call), rest))
+}
+
+/// What stands behind `!`: a parenthesis, a query or a call, and no comparison.
+#[cycle(query)]
+#[tactic(auto, unfolding(crate::specs::Reading::Queries::negated_at))]
+fn negated(alloc: Global, text: &[char], depth: u32) -> Result<(Parsed, &[char]), Failure>
+    ensures { Gives (λ x. (parsed_view x.0, x.1.now)) result (negated_at clamp (logical_at clamp depth) text.now) }
+{
+    let (inner, rest) = match after(text, '(') {
+        Some(rest) => closed(alloc, rest, depth)?,
+        None => test(alloc, text, depth)?,
+    };
+    let logical = not_of(alloc, inner)?;
+    Ok((
+        Parsed {
+            is_bare: false,
+            logical,
+        },
+        rest,
+    ))
+}
+
+/// A basic expression without `!` (RFC 9535, section 2.3.5.1).
+#[cycle(query)]
+#[tactic(auto, unfolding(crate::specs::Reading::Queries::plain_at))]
+fn plain(alloc: Global, text: &[char], depth: u32) -> Result<(Parsed, &[char]), Failure>
+    ensures { Gives (λ x. (parsed_view x.0, x.1.now)) result (plain_at clamp (logical_at clamp depth) text.now) }
+{
+    if let Some(rest) = after(text, '(') {
+        let (logical, rest) = closed(alloc, rest, depth)?;
+        return Ok((
+            Parsed {
+                is_bare: false,
+                logical,
+            },
+            rest,
+        ));
+    }
+    if let Some((origin, rest)) = origin(text) {
+        return query_or_comparison(origin, alloc, rest, depth);
+    }
+    match call_start(text) {
+        Some((name, rest)) => call_or_comparison(alloc, name, rest, depth),
+        None => literal_comparison(alloc, text, depth),
+    }
+}
+
+/// A basic expression (RFC 9535, section 2.3.5.1).
+#[cycle(query)]
+#[tactic(auto, unfolding(crate::specs::Reading::Queries::basic_at))]
+fn basic(alloc: Global, text: &[char], depth: u32) -> Result<(Parsed, &[char]), Failure>
+    ensures { Gives (λ x. (parsed_view x.0, x.1.now)) result (basic_at clamp (logical_at clamp depth) text.now) }
+{
+    match after(text, '!') {
+        Some(rest) => negated(alloc, skip_blanks(rest), depth),
+        None => plain(alloc, text, depth),
+    }
+}
+
+/// Blanks, `&&`, blanks and a basic expression, if a `&` stands there.
+#[cycle(query)]
+#[tactic(auto, unfolding(crate::specs::Reading::Queries::next_basic))]
+fn next_basic(
+    alloc: Global,
+    text: &[char],
+    depth: u32,
+) -> Result<Option<(Logical, &[char])>, Failure>
+    ensures { Gives (option_map (λ x. (logical_view x.0, x.1.now))) result (next_basic clamp (logical_at clamp depth) text.now) }
+{
+    let Some(rest) = after_blanks(text, '&') else {
+        return Ok(None);
+    };
+    let Some(rest) = after(rest, '&') else {
+        return Err(Failure::Syntax);
+    };
+    let (part, rest) = basic(alloc, skip_blanks(rest), depth)?;
+    Ok(Some((part.logical, rest)))
+}
+
+/// The parts behind the first `&&`.
+#[cycle(query)]
+fn more_basics(alloc: Global, text: &[char], depth: u32) -> Result<(Vec<Logical>, &[char]), Failure>
+    ensures { Gives (λ x. (map logical_view x.0.items, x.1.now)) result (all_of (next_basic clamp (logical_at clamp depth)) text.now) }
+{
+    let mut all = Vec::new(alloc);
+    let mut rest = text;
+    for _ in 0..text.len() {
+        let Some((one, others)) = next_basic(alloc, rest, depth)? else {
+            break;
+        };
+        all.push(one)?;
+        rest = others;
+    }
+    Ok((all, rest))
+}
+
+/// Parts between `&&` (RFC 9535, section 2.3.5.1).
+#[cycle(query)]
+#[tactic(auto, unfolding(crate::specs::Reading::Queries::and_at))]
+fn conjunction(alloc: Global, text: &[char], depth: u32) -> Result<(Parsed, &[char]), Failure>
+    ensures { Gives (λ x. (parsed_view x.0, x.1.now)) result (and_at clamp (logical_at clamp depth) text.now) }
+{
+    let (first, rest) = basic(alloc, text, depth)?;
+    let (others, rest) = more_basics(alloc, rest, depth)?;
+    Ok((all_true(first, others)?, rest))
+}
+
+/// Blanks, `||`, blanks and parts between `&&`, if a `|` stands there.
+#[cycle(query)]
+#[tactic(auto, unfolding(crate::specs::Reading::Queries::next_and))]
+fn next_conjunction(
+    alloc: Global,
+    text: &[char],
+    depth: u32,
+) -> Result<Option<(Logical, &[char])>, Failure>
+    ensures { Gives (option_map (λ x. (logical_view x.0, x.1.now))) result (next_and clamp (logical_at clamp depth) text.now) }
+{
+    let Some(rest) = after_blanks(text, '|') else {
+        return Ok(None);
+    };
+    let Some(rest) = after(rest, '|') else {
+        return Err(Failure::Syntax);
+    };
+    let (part, rest) = conjunction(alloc, skip_blanks(rest), depth)?;
+    Ok(Some((part.logical, rest)))
+}
+
+/// The parts behind the first `||`.
+#[cycle(query)]
+fn more_conjunctions(
+    alloc: Global,
+    text: &[char],
+    depth: u32,
+) -> Result<(Vec<Logical>, &[char]), Failure>
+    ensures { Gives (λ x. (map logical_view x.0.items, x.1.now)) result (all_of (next_and clamp (logical_at clamp depth)) text.now) }
+{
+    let mut all = Vec::new(alloc);
+    let mut rest = text;
+    for _ in 0..text.len() {
+        let Some((one, others)) = next_conjunction(alloc, rest, depth)? else {
+            break;
+        };
+        all.push(one)?;
+        rest = others;
+    }
+    Ok((all, rest))
+}
+
+/// An expression (RFC 9535, section 2.3.5.1).
+#[cycle(query)]
+#[tactic(auto, unfolding(crate::specs::Reading::Queries::logical_at, crate::specs::Reading::Queries::or_at))]
+fn logical(alloc: Global, text: &[char], depth: u32) -> Result<(Parsed, &[char]), Failure>
+    ensures { Gives (λ x. (parsed_view x.0, x.1.now)) result (logical_at clamp depth text.now) }
+{
+    if depth == 0 {
+        return Err(Failure::Syntax);
+    }
+    let (first, rest) = conjunction(alloc, text, depth - 1)?;
+    let (others, rest) = more_conjunctions(alloc, rest, depth - 1)?;
+    Ok((one_true(first, others)?, rest))
+}

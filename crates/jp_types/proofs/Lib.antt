@@ -1,0 +1,4 @@
+-- Lemmas of typing.
+pub mod KnownWords
+pub mod Arity
+pub mod Faults

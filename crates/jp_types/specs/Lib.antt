@@ -1,0 +1,3 @@
+-- What the contracts of typing speak of.
+pub mod Checks
+pub mod Signatures

@@ -1,0 +1,9 @@
+-- Lemmas on values.
+pub mod Bodies
+pub mod Numerals
+pub mod Lookups
+pub mod Leaves
+pub mod Inside
+pub mod Sides
+pub mod Utf8Order
+pub mod KeyOrder

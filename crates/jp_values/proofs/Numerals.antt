@@ -1,0 +1,97 @@
+-- The digits of a count are read as the count, and orders the other way round.
+use Rattle.std.proofs.Common.{◌≡◌, ℕ, zero, suc, ltb, ◌<◌, ◌≤◌, ◌^◌, Bool, true, false, cond, List, [], ◌∷◌, length, get_or, sym, ◌∙◌, ap, ap₂, refl, arith, ℤ, pos, negsuc, None, decimal, append-nil}
+use Rattle.std.specs.Ordering.{int_cmp, ordering_reverse}
+use Rattle.std.proofs.lemmas.Bool.{ne_eqb}
+use Rattle.std.proofs.lemmas.Bool.Decides.{nat_tests}
+use Rattle.std.proofs.lemmas.Cmp.{int_cmp_total}
+use Rattle.std.proofs.lemmas.Fmt.{digits_decimal, digits_value-decimal, decimal_nonempty, first_decimal, decimal_digit}
+use Rattle.std.proofs.lemmas.Str.Parse.{IsNumeralModel, IsDigitsTest, numerals_by_fold, FoldsDigits}
+use Rattle.jp_model.specs.Characters.{is_digit, digits_value, value_behind}
+use Rattle.jp_model.specs.Json.Numbers.{Numeral, IsNumeral, IsInt, AreDigits, numeral_bytes, numeral_of, is_long_exponent, mantissa, scale, smaller, brought_to}
+use Rattle.jp_model.proofs.Json.Parts.{parts_read}
+use Rattle.jp_model.proofs.Reader.Lexical.{clash}
+use Rattle.jp_decimal.specs.Values.{Number, order}
+use Rattle.jp_decimal.specs.Reading.{ReadsAs, Refuses}
+use Rattle.jp_decimal.specs.declared.fault.NumberFault.{NumberFault}
+use Rattle.jp_decimal.specs.declared.fault.NumberFault.TheVariants.{Shape, Exponent}
+use Rattle.jp_values.specs.Scalars.{count_number}
+
+-- ---- digits
+
+digit_range : (c : ℕ) → is_digit c ≡ true → (48 ≤ c) × (c ≤ 57)
+digit_range c h = grind (arith, nat_tests, h)
+
+digit_in_range : (c : ℕ) → 48 ≤ c → c ≤ 57 → is_digit c ≡ true
+digit_in_range c l h = grind (arith, nat_tests, l, h)
+
+digits_test : IsDigitsTest AreDigits
+digits_test = record { empty = tt; parts = λ c cs h. (digit_range c h.0, h.1); more = λ c cs r h. (digit_in_range c r.0 r.1, h) }
+
+folds : FoldsDigits value_behind
+folds = record { empty = λ n. refl; more = λ n c cs r. refl }
+
+own : IsNumeralModel AreDigits digits_value
+own = numerals_by_fold AreDigits digits_test value_behind folds
+
+int_of : (ds : List ℕ) → AreDigits ds → 0 < length ds → (get_or ds 0 0 ≡ 0x30 → length ds ≡ 1) → IsInt ds
+int_of [] a l z = absurd (omega (arith, l))
+int_of (d ∷ []) a l z = a.0
+int_of (d ∷ e ∷ ds) a l z = (a.0, ne_eqb d 0x30 (λ h. let n = z h in absurd (omega (arith, n))), a.1)
+
+one_zero : (n : ℕ) → n < 2 ^ 64 → get_or (decimal n) 0 0 ≡ 0x30 → length (decimal n) ≡ 1
+one_zero zero h z = ap length (decimal_digit 0 (omega arith))
+one_zero (suc n) h z = let f = first_decimal (suc n) (omega arith) h in absurd (omega (arith, f, z))
+
+decimal_int : (n : ℕ) → n < 2 ^ 64 → IsInt (decimal n)
+decimal_int n h = int_of (decimal n) (digits_decimal own n h) (decimal_nonempty n h) (one_zero n h)
+
+count_numeral : ℕ → Numeral
+count_numeral n = record { negative = false; int = decimal n; fraction = []; exponent = None }
+
+-- the digits of a count are read as the count, and not refused
+pub record CountIs (n : ℕ) : Type 0 where
+  pub value : (y : Number) → ReadsAs (decimal n) y → y ≡ count_number n
+  pub read : (fault : NumberFault) → Refuses (decimal n) fault → ⊥
+
+pub count_is : (n : ℕ) → n < 2 ^ 64 → CountIs n
+unfolding count_numeral
+count_is n h = record { value = value; read = read }
+  where
+    correct : IsNumeral (count_numeral n)
+    correct = record { int = decimal_int n h; fraction = tt; exponent = tt }
+
+    bytes : numeral_bytes (count_numeral n) ≡ decimal n
+    bytes = append-nil (decimal n)
+
+    parts : numeral_of (decimal n) ≡ count_numeral n
+    parts = ap numeral_of (sym bytes) ∙ parts_read (count_numeral n) correct
+
+    value : (y : Number) → ReadsAs (decimal n) y → y ≡ count_number n
+    value y r =
+        let same : r.numeral ≡ count_numeral n = sym r.spells.only ∙ parts in
+        let m : mantissa (count_numeral n) ≡ pos n = ap pos (ap digits_value (append-nil (decimal n)) ∙ digits_value-decimal own n h) in
+        ap₂ (λ (a b : ℤ). record { mantissa = a; scale = b }) (sym r.is_mantissa ∙ (ap mantissa same ∙ m)) (sym r.is_scale ∙ ap scale same)
+
+    read : (fault : NumberFault) → Refuses (decimal n) fault → ⊥
+    read Shape r = r (count_numeral n) correct bytes
+    read Exponent r = clash _ r.long (ap is_long_exponent (sym r.spells.only ∙ parts))
+
+-- ---- orders
+
+either : (p q : Bool) {x y : ℤ} → (p ≡ true → q ≡ true → ⊥) → (p ≡ false → q ≡ false → x ≡ y) → cond p x y ≡ cond q y x
+either true true n s = absurd (n refl refl)
+either true false n s = refl
+either false true n s = refl
+either false false n s = sym (s refl refl)
+
+smaller-comm : (a b : ℤ) → smaller a b ≡ smaller b a
+smaller-comm (pos a) (pos b) = either (ltb a b) (ltb b a) (λ p q. grind (arith, nat_tests, p, q)) (λ p q. ap pos (grind (arith, nat_tests, p, q)))
+smaller-comm (pos a) (negsuc b) = refl
+smaller-comm (negsuc a) (pos b) = refl
+smaller-comm (negsuc a) (negsuc b) = either (ltb b a) (ltb a b) (λ p q. grind (arith, nat_tests, p, q)) (λ p q. ap negsuc (grind (arith, nat_tests, p, q)))
+
+pub order_reversed : (x y : Number) → order x y ≡ ordering_reverse (order y x)
+order_reversed x y =
+    let least : ℤ = smaller x.scale y.scale in
+    int_cmp_total.antisymm (brought_to least x.mantissa x.scale) (brought_to least y.mantissa y.scale)
+    ∙ ap (λ s. ordering_reverse (int_cmp (brought_to s y.mantissa y.scale) (brought_to s x.mantissa x.scale))) (smaller-comm x.scale y.scale)

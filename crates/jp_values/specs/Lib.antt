@@ -1,0 +1,5 @@
+-- What the contracts of values speak of.
+pub mod Scalars
+pub mod Values
+pub mod Members
+pub mod Keys

@@ -1,0 +1,60 @@
+//! The text of a string.
+
+ghost use Rattle.std.specs.Prelude.{◌≡◌, chars};
+ghost use Rattle.std.specs.Cmp.Lexicographic.{slice_cmp};
+ghost use Rattle.std.specs.Ordering.{nat_cmp};
+ghost use Rattle.jp_model.specs.Characters.{text_equal};
+ghost use Rattle.jp_strings.specs.Points.{IsText, points_of};
+ghost use Rattle.jp_values.specs.Scalars.{text_points};
+
+use crate::body::Body;
+use jp_strings::{Scalars, compare, equal};
+use std::cmp::Ordering;
+
+/// The scalars of a string: spelled by the body of a JSON string, or as they are in a query.
+#[derive(Clone, Copy)]
+pub(crate) enum Text<'a> {
+    Body(Body<'a>),
+    Plain(&'a str),
+}
+
+/// The order of the scalars of a body and of a text, a proper prefix being less.
+fn compare_with_plain(body: &[u8], plain: &str) -> Ordering
+    requires { IsText body.now }
+    ensures { result ≡ slice_cmp nat_cmp (points_of body.now) (chars plain.now) }
+{
+    Scalars::new(body).cmp(plain.chars())
+}
+
+/// The order of the scalars of two texts.
+fn compare_plain(plain: &str, other: &str) -> Ordering
+    ensures { result ≡ slice_cmp nat_cmp (chars plain.now) (chars other.now) }
+{
+    plain.chars().cmp(other.chars())
+}
+
+impl Text<'_> {
+    /// The order by scalars, a proper prefix being less (RFC 9535, section 2.3.5.2.2).
+    pub fn compare(self, other: Text<'_>) -> Ordering
+        ensures { result ≡ slice_cmp nat_cmp (text_points self.entry) (text_points other.entry) }
+    {
+        match (self, other) {
+            (Text::Body(body), Text::Body(other)) => compare(body.bytes(), other.bytes()),
+            (Text::Body(body), Text::Plain(plain)) => compare_with_plain(body.bytes(), plain),
+            (Text::Plain(plain), Text::Body(other)) => {
+                compare_with_plain(other.bytes(), plain).reverse()
+            }
+            (Text::Plain(plain), Text::Plain(other)) => compare_plain(plain, other),
+        }
+    }
+
+    /// Whether the scalars are the same.
+    pub fn equal(self, other: Text<'_>) -> bool
+        ensures { result ≡ text_equal (text_points self.entry) (text_points other.entry) }
+    {
+        match (self, other) {
+            (Text::Body(body), Text::Body(other)) => equal(body.bytes(), other.bytes()),
+            _ => self.compare(other).is_eq(),
+        }
+    }
+}
