@@ -1,11 +1,11 @@
 #!/usr/bin/env bash
-# Times queries over about 36 MB of lines, beside `jq` and, where it is installed, `gojq`. Each time is of the whole program,
-# the loading too. It says its machine and makes no claim. Build the program first:
+# Times queries over about 50 MB of lines, beside `jq` and, where it is installed (Debian has it), `gojq`. Each time is of the
+# whole program, the loading too. It says its machine and makes no claim. Build the program first:
 # (cd crates/jpq && rt run -- /dev/null < /dev/null)
 set -euo pipefail
 cd "$(dirname "${BASH_SOURCE[0]}")/.."
 . bench/timing.sh
-awk 'BEGIN { for (n = 0; n < 250000; n++)
+awk 'BEGIN { for (n = 0; n < 350000; n++)
     printf "{\"id\":%d,\"level\":\"%s\",\"user\":{\"name\":\"user %d\",\"age\":%d},\"items\":[{\"name\":\"pen\",\"price\":%d},{\"name\":\"book\",\"price\":%d.5,\"tags\":[\"a\",\"b\"]}]}\n", n, n % 7 ? "info" : "error", n % 1000, n % 90, n % 13, n % 29 }' > "$folder/lines.jsonl"
 bytes=$(stat -c %s "$folder/lines.jsonl")
 tell_machine

@@ -1,9 +1,8 @@
--- The lines of a collection are no more than its bytes, and none is longer than it.
+-- The lines of a collection are no more than its bytes.
 use Rattle.std.proofs.Common.{◌≡◌, ◌∙◌, ◌+◌, ◌<◌, ◌≤◌, ◌^◌, ℕ, List, [], ◌∷◌, ◌++◌, length, take, drop, sym, ap, subst, refl, arith, true, false, Bool, length-drop, if◌then◌else◌}
-use Rattle.std.specs.Prelude.{suc, All}
+use Rattle.std.specs.Prelude.{suc}
 use Rattle.std.specs.List.{onto_first}
 use Rattle.std.proofs.lemmas.List.Splits.{slice_split-cons_yes, slice_split-cons_no}
-use Rattle.std.proofs.lemmas.List.Elements.{All-cons}
 use Rattle.jp_model.specs.declared.Framing.TheVariants as framings
 use Rattle.jp_model.specs.Characters.{text_equal}
 use Rattle.jp_model.specs.Lines.{is_separator, pieces, before_last_piece, last_piece, line_unless_empty, text_lines, lines, without_byte_order_mark}
@@ -48,27 +47,14 @@ fewer_lines [] [] = omega arith
 fewer_lines (byte ∷ bytes) [] = omega arith
 fewer_lines first (next ∷ rest) = let later = fewer_lines next rest in omega arith
 
-all_weaker : (m n : ℕ) (ls : List (List ℕ)) → m ≤ n → All (λ l. length l + 1 ≤ m) ls → All (λ l. length l + 1 ≤ n) ls
-all_weaker m n ls h all = λ k d l. let here = all k d l in omega arith
-
-shorter_lines : (first : List ℕ) (rest : List (List ℕ)) → All (λ l. length l + 1 ≤ weight (first ∷ rest)) (lines_of (first ∷ rest))
-unfolding weight
-shorter_lines [] [] = λ k d l. absurd (omega arith)
-shorter_lines (byte ∷ bytes) [] = All-cons (λ l. length l + 1 ≤ weight ((byte ∷ bytes) ∷ [])) (byte ∷ bytes) [] (omega arith) (λ k d l. absurd (omega arith))
-shorter_lines first (next ∷ rest) =
-    All-cons (λ l. length l + 1 ≤ weight (first ∷ next ∷ rest)) first (lines_of (next ∷ rest)) (omega arith)
-    (all_weaker (weight (next ∷ rest)) (weight (first ∷ next ∷ rest)) (lines_of (next ∷ rest)) (omega arith) (shorter_lines next rest))
-
-text_lines_fit : (text : List ℕ) → (length (text_lines text) ≤ length text) × All (λ l. length l ≤ length text) (text_lines text)
-text_lines_fit text =
+text_lines_few : (text : List ℕ) → length (text_lines text) ≤ length text
+text_lines_few text =
     let some = pieces_some 10 text in
     let size : weight (some.0 ∷ some.1) ≡ suc (length text) = ap weight (sym some.2) ∙ pieces_weight text in
     let few = fewer_lines some.0 some.1 in
-    let short = shorter_lines some.0 some.1 in
-    subst (λ ps. (length (lines_of ps) ≤ length text) × All (λ l. length l ≤ length text) (lines_of ps)) (sym some.2)
-    (omega arith, λ k d l. let here = short k d l in omega arith)
+    subst (λ ps. length (lines_of ps) ≤ length text) (sym some.2) (omega arith)
 
-mark_shorter : (bytes : List ℕ) → length (without_byte_order_mark bytes) ≤ length bytes
+pub mark_shorter : (bytes : List ℕ) → length (without_byte_order_mark bytes) ≤ length bytes
 mark_shorter bytes = by_test (text_equal (take 3 bytes) (0xEF ∷ 0xBB ∷ 0xBF ∷ []))
   where
     by_test : (b : Bool) → length (if b then drop 3 bytes else bytes) ≤ length bytes
@@ -77,12 +63,5 @@ mark_shorter bytes = by_test (text_equal (take 3 bytes) (0xEF ∷ 0xBB ∷ 0xBF 
 
 pub lines_few : (bytes : List ℕ) → length bytes < 2 ^ 32 → length (lines framings.Lines bytes) < 2 ^ 32
 lines_few bytes l =
-    let fit = text_lines_fit (without_byte_order_mark bytes) in
-    let few = fit.0 in
+    let few = text_lines_few (without_byte_order_mark bytes) in
     let front = mark_shorter bytes in omega arith
-
-pub lines_short : (bytes : List ℕ) → length bytes < 2 ^ 32 → All (λ line. length line < 2 ^ 32) (lines framings.Lines bytes)
-lines_short bytes l =
-    let fit = text_lines_fit (without_byte_order_mark bytes) in
-    let front = mark_shorter bytes in
-    λ k d inside. let here = fit.1 k d inside in omega arith

@@ -99,10 +99,10 @@ counted_alike p q same (line ∷ lines) h =
     ∙ sym (count_append q (status_at (text_of line) ∷ []) (statuses_of lines)))
 
 refused_count : (lines : List Line) → All IsRead lines → count_by is_refused_line lines ≡ count_by is_refused_status (statuses_of lines)
-refused_count = counted_alike is_refused_line is_refused_status (λ line h. refused_kind line.kind line.text.items h)
+refused_count = counted_alike is_refused_line is_refused_status (λ line h. refused_kind line.kind line.text.now h)
 
 blank_count : (lines : List Line) → All IsRead lines → count_by is_blank_line lines ≡ count_by is_blank_status (statuses_of lines)
-blank_count = counted_alike is_blank_line is_blank_status (λ line h. blank_kind line.kind line.text.items h)
+blank_count = counted_alike is_blank_line is_blank_status (λ line h. blank_kind line.kind line.text.now h)
 
 by_counts : (n r b m s c : ℕ) → n ≡ m → r ≡ s → b ≡ c
     → said (codes "= " ++ decimal n ++ codes " lines, " ++ decimal r ++ codes " refused, " ++ decimal b ++ codes " blank")

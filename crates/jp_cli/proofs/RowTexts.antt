@@ -37,13 +37,13 @@ line_rows f all n line q e (parsed t) = node_rows f all n line e _
 
 -- the line at a place, of those that are left
 lines_left : (lines : List Line) (i : ℕ) (d : Line) → i < length lines
-    → map (status_of framings.Lines) (map text_of (drop i lines)) ≡ status_of framings.Lines (get_or lines i d).text.items ∷ map (status_of framings.Lines) (map text_of (drop (i + 1) lines))
+    → map (status_of framings.Lines) (map text_of (drop i lines)) ≡ status_of framings.Lines (get_or lines i d).text.now ∷ map (status_of framings.Lines) (map text_of (drop (i + 1) lines))
 lines_left lines i d l =
     let next : suc i ≡ i + 1 = omega arith in
     ap (λ ls. map (status_of framings.Lines) (map text_of ls)) (drop-cons lines i d l)
-    ∙ ap (λ k. status_of framings.Lines (get_or lines i d).text.items ∷ map (status_of framings.Lines) (map text_of (drop k lines))) next
+    ∙ ap (λ k. status_of framings.Lines (get_or lines i d).text.now ∷ map (status_of framings.Lines) (map text_of (drop k lines))) next
 
-text_at : (lines : List Line) (i : ℕ) (d : Line) → i < length lines → slice_get (map text_of lines) i ≡ Some (get_or lines i d).text.items
+text_at : (lines : List Line) (i : ℕ) (d : Line) → i < length lines → slice_get (map text_of lines) i ≡ Some (get_or lines i d).text.now
 text_at [] i d l = absurd (omega arith)
 text_at (line ∷ lines) zero d l = refl
 text_at (line ∷ lines) (suc i) d l = text_at lines i d (omega arith)
@@ -53,24 +53,24 @@ abbrev pub rows_left : Segments → List Line → ℕ → List Row
 rows_left q lines i = rows_from q (i + 1) (map (status_of framings.Lines) (map text_of (drop i lines)))
 
 next_rows : (q : Segments) (lines : List Line) (i : ℕ) (d : Line) → i < length lines
-    → rows_left q lines i ≡ status_rows q (i + 1) (status_of framings.Lines (get_or lines i d).text.items) ++ rows_left q lines (i + 1)
+    → rows_left q lines i ≡ status_rows q (i + 1) (status_of framings.Lines (get_or lines i d).text.now) ++ rows_left q lines (i + 1)
 next_rows q lines i d l = ap (rows_from q (i + 1)) (lines_left lines i d l)
 
 -- one line more is answered
 pub more_text : (q : Segments) (lines : List Line) (i n : ℕ) (d here : Line) (rows after : List Found) (whole : List ℕ) → i < length lines → here ≡ get_or lines i d → n ≡ i + 1
     → flat_map (found_text framings.Lines) after ≡ flat_map (found_text framings.Lines) rows
-    ++ flat_map (line_row_text framings.Lines here.text.items) (status_rows q n (status_of framings.Lines here.text.items))
+    ++ flat_map (line_row_text framings.Lines here.text.now) (status_rows q n (status_of framings.Lines here.text.now))
     → flat_map (found_text framings.Lines) rows ++ flat_map (row_text framings.Lines (map text_of lines)) (rows_left q lines i) ≡ whole
     → flat_map (found_text framings.Lines) after ++ flat_map (row_text framings.Lines (map text_of lines)) (rows_left q lines (i + 1)) ≡ whole
 more_text q lines i n d here rows after whole l same is e h =
     let all = map text_of lines in
-    let line = (get_or lines i d).text.items in
+    let line = (get_or lines i d).text.now in
     let s = status_of framings.Lines line in
     let place : (i + 1) - 1 ≡ i = omega arith in
     let found : slice_get all ((i + 1) - 1) ≡ Some line = ap (slice_get all) place ∙ text_at lines i d l in
     let before = flat_map (found_text framings.Lines) rows in
     let later = flat_map (row_text framings.Lines all) (rows_left q lines (i + 1)) in
-    ap (λ t. t ++ later) (e ∙ ap (λ (l : Line). before ++ flat_map (line_row_text framings.Lines l.text.items) (status_rows q n (status_of framings.Lines l.text.items))) same
+    ap (λ t. t ++ later) (e ∙ ap (λ (l : Line). before ++ flat_map (line_row_text framings.Lines l.text.now) (status_rows q n (status_of framings.Lines l.text.now))) same
     ∙ ap (λ k. before ++ flat_map (line_row_text framings.Lines line) (status_rows q k s)) is)
     ∙ append_assoc before (flat_map (line_row_text framings.Lines line) (status_rows q (i + 1) s)) later
     ∙ ap (λ t. before ++ (t ++ later)) (sym (line_rows framings.Lines all (i + 1) line q found s))
@@ -79,13 +79,13 @@ more_text q lines i n d here rows after whole l same is e h =
 
 -- and counted
 pub more_count : (q : Segments) (lines : List Line) (i n : ℕ) (d here : Line) (rows after : List Found) (whole : ℕ) → i < length lines → here ≡ get_or lines i d → n ≡ i + 1
-    → count_by is_found_node after ≡ count_by is_found_node rows + count_by is_node (status_rows q n (status_of framings.Lines here.text.items))
+    → count_by is_found_node after ≡ count_by is_found_node rows + count_by is_node (status_rows q n (status_of framings.Lines here.text.now))
     → count_by is_found_node rows + count_by is_node (rows_left q lines i) ≡ whole
     → count_by is_found_node after + count_by is_node (rows_left q lines (i + 1)) ≡ whole
 more_count q lines i n d here rows after whole l same is e h =
-    let s = status_of framings.Lines (get_or lines i d).text.items in
+    let s = status_of framings.Lines (get_or lines i d).text.now in
     let counted : count_by is_found_node after ≡ count_by is_found_node rows + count_by is_node (status_rows q (i + 1) s) =
-    e ∙ ap (λ (l : Line). count_by is_found_node rows + count_by is_node (status_rows q n (status_of framings.Lines l.text.items))) same
+    e ∙ ap (λ (l : Line). count_by is_found_node rows + count_by is_node (status_rows q n (status_of framings.Lines l.text.now))) same
     ∙ ap (λ k. count_by is_found_node rows + count_by is_node (status_rows q k s)) is in
     let split : count_by is_node (rows_left q lines i) ≡ count_by is_node (status_rows q (i + 1) s) + count_by is_node (rows_left q lines (i + 1)) =
     ap (count_by is_node) (next_rows q lines i d l) ∙ count_append is_node (status_rows q (i + 1) s) (rows_left q lines (i + 1)) in

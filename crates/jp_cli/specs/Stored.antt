@@ -23,11 +23,11 @@ IsOfKind (kinds.Tree tape) line = (status_of framings.Lines line ≡ parsed (spe
 
 -- of a stored line
 abbrev pub IsRead : Line → Type 0
-IsRead line = IsOfKind line.kind line.text.items
+IsRead line = IsOfKind line.kind line.text.now
 
 -- the bytes of a stored line
 abbrev pub text_of : Line → List ℕ
-text_of line = line.text.items
+text_of line = line.text.now
 
 -- the lines are read, and their numbers have thirty-two bits
 pub record AreRead (lines : List Line) : Type 0 where

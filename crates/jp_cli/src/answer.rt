@@ -30,7 +30,7 @@ pub(crate) enum Answer<'a> {
     /// The rows of a query, and their count.
     Rows(Vec<Row<'a>>),
     /// The refused lines, and how many lines there are.
-    Check(&'a Store),
+    Check(&'a Store<'a>),
 }
 
 /// The line without one final CR.
@@ -46,7 +46,11 @@ fn without_final_cr(line: &[u8]) -> &[u8]
     line
 }
 
-fn answer_query<'a>(store: &'a Store, alloc: Global, text: &[u8]) -> Result<Answer<'a>, AllocError>
+fn answer_query<'a>(
+    store: &'a Store<'_>,
+    alloc: Global,
+    text: &[u8],
+) -> Result<Answer<'a>, AllocError>
     ensures { IfOk result (λ answer. answer_text answer ≡ query_answer framings.Lines store.now (query_of text.now)) }
 {
     match read_query(alloc, text) {
@@ -61,7 +65,7 @@ fn answer_query<'a>(store: &'a Store, alloc: Global, text: &[u8]) -> Result<Answ
 
 /// What a line of the script asks for, answered over the lines of the collection.
 pub(crate) fn answer_command<'a>(
-    store: &'a Store,
+    store: &'a Store<'_>,
     alloc: Global,
     setup: Setup,
     line: &[u8],

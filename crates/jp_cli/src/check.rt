@@ -11,25 +11,25 @@ use jp_model::{Framing, Watched};
 use jp_rows::{WriteFault, write_refusal, write_summary};
 use std::io::Write;
 
-fn is_refused(line: &Line) -> bool
+fn is_refused(line: &Line<'_>) -> bool
     ensures { result ≡ is_refused_line line.now }
 {
     matches!(line.kind, LineKind::Refused(_))
 }
 
-fn is_blank(line: &Line) -> bool
+fn is_blank(line: &Line<'_>) -> bool
     ensures { result ≡ is_blank_line line.now }
 {
     matches!(line.kind, LineKind::Blank)
 }
 
-fn count_refused(lines: &[Line]) -> usize
+fn count_refused(lines: &[Line<'_>]) -> usize
     ensures { result ≡ count_by is_refused_line lines.now }
 {
     lines.iter().filter(|line| is_refused(line)).count()
 }
 
-fn count_blank(lines: &[Line]) -> usize
+fn count_blank(lines: &[Line<'_>]) -> usize
     ensures { result ≡ count_by is_blank_line lines.now }
 {
     lines.iter().filter(|line| is_blank(line)).count()
@@ -37,7 +37,7 @@ fn count_blank(lines: &[Line]) -> usize
 
 /// Writes the row of a line that is refused, and nothing for any other.
 fn write_if_refused<W: Write>(
-    line: &Line,
+    line: &Line<'_>,
     number: u32,
     out: &mut Watched<W>,
 ) -> Result<(), WriteFault>
@@ -53,7 +53,7 @@ fn write_if_refused<W: Write>(
 }
 
 /// Writes a row for each refused line.
-fn write_refusals<W: Write>(lines: &[Line], out: &mut Watched<W>) -> Result<(), WriteFault>
+fn write_refusals<W: Write>(lines: &[Line<'_>], out: &mut Watched<W>) -> Result<(), WriteFault>
     requires working { out.old.failed ≡ false }
     requires read { AreRead lines.now }
     ensures text { Writes W.contents out.old out.new result (refusals 1 lines.now) }
@@ -70,7 +70,10 @@ fn write_refusals<W: Write>(lines: &[Line], out: &mut Watched<W>) -> Result<(), 
 }
 
 /// Writes the refused lines, and then how many lines there are, how many of them are refused and how many are blank.
-pub(crate) fn write_check<W: Write>(store: &Store, out: &mut Watched<W>) -> Result<(), WriteFault>
+pub(crate) fn write_check<W: Write>(
+    store: &Store<'_>,
+    out: &mut Watched<W>,
+) -> Result<(), WriteFault>
     requires { out.old.failed ≡ false }
     ensures text { Writes W.contents out.old out.new result (check_answer framings.Lines store.now) }
     ensures fault { out.new.failed ≡ is_err result }

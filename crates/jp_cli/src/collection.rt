@@ -2,6 +2,7 @@
 
 ghost use Rattle.std.specs.Prelude.{◌≡◌, ℕ, ◌+◌, ◌≤◌, List, length, false, OnOk, MatchResult};
 ghost use Rattle.jp_model.specs.Devices.{Gave, HasEnded};
+ghost use Rattle.jp_model.specs.Lines.{without_byte_order_mark as without_mark};
 ghost use Rattle.jp_cli.specs.Collections.{CameBefore, is_read_fault};
 
 use jp_model::Watched;
@@ -21,6 +22,19 @@ pub(crate) enum CollectionFault {
 
 /// The bytes that one read asks for.
 const PIECE: usize = 65_536;
+
+const BYTE_ORDER_MARK: &[u8] = b"\xEF\xBB\xBF";
+
+/// The bytes behind a byte order mark at the front, or all (RFC 8259, section 8.1).
+pub(crate) fn without_byte_order_mark(bytes: &[u8]) -> &[u8]
+    ensures { result.now ≡ without_mark bytes.now }
+{
+    if bytes.starts_with(BYTE_ORDER_MARK) {
+        &bytes[3..]
+    } else {
+        bytes
+    }
+}
 
 /// Reads to the end, where that comes within `most` bytes. It makes at most one read for each of these bytes, and one more.
 pub(crate) fn read_collection<C: Read>(

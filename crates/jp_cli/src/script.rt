@@ -21,7 +21,7 @@ const PIECE: usize = 4096;
 
 /// Answers one line of the script, and then writes its whole answer.
 fn answer_line<W: Write>(
-    store: &Store,
+    store: &Store<'_>,
     alloc: Global,
     setup: Setup,
     line: &[u8],
@@ -40,7 +40,7 @@ fn answer_line<W: Write>(
 
 /// Answers each line whose line feed comes with the piece, and holds what stands behind the last one.
 fn take_piece<W: Write>(
-    store: &Store,
+    store: &Store<'_>,
     alloc: Global,
     setup: Setup,
     held: &mut Vec<u8>,
@@ -73,7 +73,7 @@ fn take_piece<W: Write>(
 /// Answers the lines of a script, each as its line feed comes. It makes at most one read for each byte of the script up to
 /// the limit, and one more.
 pub(crate) fn run_script<R: Read, W: Write>(
-    store: &Store,
+    store: &Store<'_>,
     alloc: Global,
     setup: Setup,
     script: &mut Watched<R>,

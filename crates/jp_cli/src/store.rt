@@ -1,16 +1,21 @@
 //! The lines of a collection, each read as it was loaded.
 
-ghost use Rattle.std.specs.Prelude.{◌≡◌, ◌↔◌, ◌<◌, ◌+◌, ◌++◌, ◌^◌, ℕ, List, [], map, flat_map, count_by, length, IfOk, OnOk, IsTrue, IsUtf8};
-ghost use Rattle.jp_model.specs.Lines.{lines};
+ghost use Rattle.std.specs.Prelude.{◌≡◌, ◌↔◌, ◌<◌, ◌+◌, ◌++◌, ◌^◌, ℕ, List, [], Some, map, flat_map, count_by, length, slice_get, IfOk, OnOk, IsTrue, IsUtf8};
+ghost use Rattle.jp_model.specs.Lines.{lines, text_lines};
 ghost use Rattle.jp_model.specs.declared.Framing.TheVariants as framings;
+ghost use Rattle.jp_model.specs.Json.Marks.{marks as marks_of};
 ghost use Rattle.jp_model.specs.Json.Reader.{status_of};
 ghost use Rattle.jp_model.specs.Rows.{rows as rows_of, status_rows};
 ghost use Rattle.jp_model.specs.Script.Machine.{row_text, is_node, statuses};
+ghost use Rattle.jp_masks.specs.Found.{found};
+ghost use Rattle.jp_masks.specs.Scanned.{AreAllOf};
 ghost use Rattle.jp_types.specs.Checks.{checked_view};
 ghost use Rattle.jp_cli.specs.Stored.{AreRead, text_of, IsOfKind, IsRead, found_text, cursor_text, is_found_node, line_row_text};
 
+use crate::collection::without_byte_order_mark;
 use jp_eval::eval_from;
-use jp_model::{Framing, LineFault, Lines, is_blank};
+use jp_masks::{Marks, Scanner, laws};
+use jp_model::{Framing, LineFault, is_blank};
 use jp_tape::{BuildFault, Cursor, Tape, build};
 use jp_types::Checked;
 use std::alloc::{AllocError, Global};
@@ -29,8 +34,8 @@ pub(crate) enum LineKind {
 
 /// A line of the collection, without its line feed.
 #[derive(Drop)]
-pub(crate) struct Line {
-    pub(crate) text: Vec<u8>,
+pub(crate) struct Line<'a> {
+    pub(crate) text: &'a [u8],
     pub(crate) kind: LineKind,
 }
 
@@ -45,69 +50,94 @@ pub(crate) enum Row<'a> {
 
 /// The lines of a collection.
 #[derive(Drop)]
-pub(crate) struct Store {
-    lines: Vec<Line>,
+pub(crate) struct Store<'a> {
+    lines: Vec<Line<'a>>,
 }
 
-impl Model for Store {
+impl<'a> Model for Store<'a> {
     ghost use Rattle.std.specs.Prelude.{map, []};
     ghost use Rattle.jp_model.specs.Script.Machine.{State};
     ghost use Rattle.jp_cli.specs.Stored.{AreRead};
 
     ghost Value = { State };
 
-    ghost view = { λ s. record { lines = map (λ line. line.text.items) s.lines.items; paths = [] } };
+    ghost view = { λ s. record { lines = map (λ line. line.text.now) s.lines.items; paths = [] } };
 
     ghost invariant = { λ s. AreRead s.lines.items };
 }
 
-fn is_text(bytes: &[u8]) -> bool
-    ensures { IsTrue result ↔ IsUtf8 bytes.now }
+/// The marks of all lines of a text.
+fn scan(alloc: Global, text: &[u8]) -> Result<Marks, AllocError>
+    requires { length text.now < 2 ^ 32 }
+    ensures all { IfOk result (λ marks. AreAllOf framings.Lines text.now marks) }
+    ensures count { IfOk result (λ marks. length (found marks) ≡ length (text_lines text.now)) }
 {
-    simdutf8::is_utf8(bytes)
+    laws::lines_are_those_of_the_text();
+    let mut marks = Marks::new(alloc);
+    let mut scanner = Scanner::new(Framing::Lines);
+    scanner.feed(text, &mut marks)?;
+    scanner.finish(&mut marks)?;
+    Ok(marks)
 }
 
 /// What a line is, with its tape where it has one.
-fn judge(alloc: Global, text: &[u8]) -> Result<LineKind, AllocError>
-    requires { length text.now < 2 ^ 32 }
+fn judge(alloc: Global, text: &[u8], marks: &[u32], is_utf8: bool) -> Result<LineKind, AllocError>
+    requires room { length text.now < 2 ^ 32 }
+    requires marks { marks.now ≡ marks_of text.now }
+    requires verdict { IsTrue is_utf8 ↔ IsUtf8 text.now }
     ensures { IfOk result (λ kind. IsOfKind kind text.now) }
 {
     if is_blank(text) {
         return Ok(LineKind::Blank);
     }
-    match build(alloc, text, is_text(text), Framing::Lines) {
+    match build(alloc, text, marks, is_utf8, Framing::Lines) {
         Ok(tape) => Ok(LineKind::Tree(tape)),
         Err(BuildFault::Line(fault)) => Ok(LineKind::Refused(fault)),
         Err(BuildFault::Memory) => Err(AllocError),
     }
 }
 
-fn read_line(alloc: Global, text: &[u8]) -> Result<Line, AllocError>
-    requires { length text.now < 2 ^ 32 }
-    ensures text { IfOk result (λ line. line.text.items ≡ text.now) }
+/// The line of a text that stands at an index, from 0.
+fn read_line<'a>(
+    alloc: Global,
+    text: &'a [u8],
+    marks: &Marks,
+    index: usize,
+) -> Result<Line<'a>, AllocError>
+    requires room { length text.now < 2 ^ 32 }
+    requires all { AreAllOf framings.Lines text.now marks.now }
+    requires within { index < length (found marks.now) }
+    ensures text { IfOk result (λ line. slice_get (text_lines text.now) index ≡ Some line.text.now) }
     ensures read { IfOk result (λ line. IsRead line) }
 {
-    let kind = judge(alloc, text)?;
-    let text = Vec::from_slice(alloc, text)?;
+    laws::lines_are_those_of_the_text();
+    let line = marks.line(index);
+    let is_utf8 = marks.line_is_utf8(text, index);
+    let text = &text[line.span.start as usize..line.span.end as usize];
+    let kind = judge(alloc, text, line.positions, is_utf8)?;
     Ok(Line { text, kind })
 }
 
-impl Store {
-    /// The lines of a collection, each read.
-    pub(crate) fn load(alloc: Global, bytes: &[u8]) -> Result<Store, AllocError>
+impl<'a> Store<'a> {
+    /// The lines of a collection, each read. The collection is scanned once.
+    pub(crate) fn load(alloc: Global, bytes: &'a [u8]) -> Result<Store<'a>, AllocError>
         requires { length bytes.now < 2 ^ 32 }
         ensures { IfOk result (λ store. store ≡ record { lines = lines framings.Lines bytes.now; paths = [] }) }
     {
-        let mut stored = Vec::new(alloc);
-        for text in Lines::new(bytes) {
-            let line = read_line(alloc, text)?;
-            stored.push(line)?;
+        let text = without_byte_order_mark(bytes);
+        let marks = scan(alloc, text)?;
+        let count = marks.line_count();
+        let mut lines = Vec::new(alloc);
+        lines.reserve(count)?;
+        for index in 0..count {
+            let line = read_line(alloc, text, &marks, index)?;
+            lines.push(line)?;
         }
-        Ok(Store { lines: stored })
+        Ok(Store { lines })
     }
 
     /// The lines, in order.
-    pub(crate) fn lines(&self) -> &[Line]
+    pub(crate) fn lines(&self) -> &[Line<'a>]
         ensures lines { map text_of result.now ≡ self.now.lines }
         ensures read { AreRead result.now }
     {
@@ -136,7 +166,7 @@ impl Store {
 /// memory.
 fn push_rows<'a>(
     alloc: Global,
-    line: &'a Line,
+    line: &'a Line<'_>,
     number: u32,
     query: &Checked,
     found: &mut Vec<Cursor<'a>>,
@@ -144,9 +174,9 @@ fn push_rows<'a>(
 ) -> Result<(), AllocError>
     requires read { IsRead line.now }
     ensures text { OnOk result (flat_map (found_text framings.Lines) rows.new.items ≡ flat_map (found_text framings.Lines) rows.old.items
-        ++ flat_map (line_row_text framings.Lines line.now.text.items) (status_rows (checked_view query.now) number (status_of framings.Lines line.now.text.items))) }
+        ++ flat_map (line_row_text framings.Lines line.now.text.now) (status_rows (checked_view query.now) number (status_of framings.Lines line.now.text.now))) }
     ensures count { OnOk result (count_by is_found_node rows.new.items ≡ count_by is_found_node rows.old.items
-        + count_by is_node (status_rows (checked_view query.now) number (status_of framings.Lines line.now.text.items))) }
+        + count_by is_node (status_rows (checked_view query.now) number (status_of framings.Lines line.now.text.now))) }
 {
     match &line.kind {
         LineKind::Blank => Ok(()),
@@ -158,7 +188,7 @@ fn push_rows<'a>(
             Ok(())
         }
         LineKind::Tree(tape) => {
-            let root = Cursor::root(tape, line.text.as_slice());
+            let root = Cursor::root(tape, line.text);
             found.clear();
             eval_from(alloc, query.segments(), root, root, found)?;
             push_nodes(number, found.as_slice(), rows)

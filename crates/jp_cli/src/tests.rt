@@ -1,11 +1,16 @@
 //! Runs over devices that cut their bytes, fail at one call, or never end; the program's words and ends.
 
+mod books;
 mod check;
 mod devices;
+mod examples;
 mod faults;
 mod filters;
+mod pieces;
 mod refused;
 mod rows;
 mod running;
 mod selectors;
+mod stopped;
 mod words;
+mod worked;

@@ -11,3 +11,4 @@ pub mod Views
 pub mod Calls
 pub mod Descendants
 pub mod Counts
+pub mod NoMembers

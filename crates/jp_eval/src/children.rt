@@ -1,18 +1,21 @@
 //! Children that are selected by name or by place (RFC 9535, sections 2.3.1, 2.3.3 and 2.3.4).
 
-ghost use Rattle.std.specs.Prelude.{◌≡◌, ℕ, pos, neg_ℤ, ◌-ℤ◌, ◌≤ℤ◌, ◌≢◌, ◌^◌, map, IfOk, IfSome};
+ghost use Rattle.std.specs.Prelude.{◌≡◌, ℕ, false, pos, neg_ℤ, ◌-ℤ◌, ◌≤ℤ◌, ◌≢◌, ◌^◌, map, IfOk, IfSome};
 ghost use Rattle.std.specs.Str.{chars};
 ghost use Rattle.jp_model.specs.Characters.{text_equal};
 ghost use Rattle.jp_model.specs.Meaning.Nodes.{step_to, children_where, child_count as count_of};
+ghost use Rattle.jp_model.specs.Json.Tree.{value_of};
 ghost use Rattle.jp_model.specs.Steps.{same_int};
 ghost use Rattle.jp_model.specs.Meaning.Slices.{named, indexed, sliced, is_name, is_index, normal as normal_of, on_stride, upward, downward};
 ghost use Rattle.jp_strings.specs.Points.{IsText, points_of};
 ghost use Rattle.jp_tape.specs.Cursors.{line_of, node_of, name_of};
+ghost use Rattle.jp_tape.specs.Kinds.{kind_of};
+ghost use Rattle.jp_tape.specs.declared.Kind.TheVariants as kinds;
 ghost use Rattle.jp_eval.specs.Found.{node_list, AreOf};
 ghost use Rattle.jp_eval.specs.Walks.{IsAt, slice_has};
 
 use jp_strings::Scalars;
-use jp_tape::Cursor;
+use jp_tape::{Cursor, Kind};
 use std::alloc::{AllocError, Global};
 
 /// Whether a body spells a text.
@@ -33,11 +36,20 @@ fn is_named(node: Cursor<'_>, name: &str) -> bool
     }
 }
 
+fn is_object(node: Cursor<'_>) -> bool
+    ensures { result ≡ false → kind_of (value_of (node_of node.entry).tree) ≡ kinds.Object → ⊥ }
+{
+    matches!(node.kind(), Kind::Object)
+}
+
 /// The member of this name, of an object alone (RFC 9535, section 2.3.1.2).
 pub(crate) fn find_member<'a>(node: Cursor<'a>, name: &str) -> Option<Cursor<'a>>
     ensures nodes { node_list result ≡ named (chars name.now) (node_of node.entry) }
     ensures line { IfSome result (λ c. line_of c ≡ line_of node.entry) }
 {
+    if !is_object(node) {
+        return None;
+    }
     let mut next = node.first_child();
     while let Some(child) = next {
         if is_named(child, name) {
@@ -88,6 +100,12 @@ fn nth_element(node: Cursor<'_>, place: u32) -> Option<Cursor<'_>>
     }
 }
 
+fn is_array(node: Cursor<'_>) -> bool
+    ensures { result ≡ false → kind_of (value_of (node_of node.entry).tree) ≡ kinds.Array → ⊥ }
+{
+    matches!(node.kind(), Kind::Array)
+}
+
 /// An index of a node's elements from the start. They are counted only where it is negative.
 fn place_from_start(node: Cursor<'_>, index: i64) -> i64
     ensures { result ≡ normal_of (count_of (node_of node.entry)) index }
@@ -104,6 +122,9 @@ pub(crate) fn find_element(node: Cursor<'_>, index: i64) -> Option<Cursor<'_>>
     ensures nodes { node_list result ≡ indexed index (node_of node.entry) }
     ensures line { IfSome result (λ c. line_of c ≡ line_of node.entry) }
 {
+    if !is_array(node) {
+        return None;
+    }
     let place = place_from_start(node, index);
     if place < 0 || place > 0xFFFF_FFFF {
         return None;

@@ -4,6 +4,7 @@ ghost use Rattle.std.specs.Prelude.{◌≡◌, IfOk};
 ghost use Rattle.jp_tape.specs.Tapes.{IsTapeOf};
 
 use crate::{eval_from, truth};
+use jp_masks::line_marks;
 use jp_model::Framing;
 use jp_query::{Logical, parse};
 use jp_tape::{Cursor, Tape, build};
@@ -29,7 +30,8 @@ fn read(alloc: Global, line: &[u8]) -> Result<Tape, Fail>
         return Err(Fail::Line);
     }
     let is_utf8 = std::str::from_utf8(line).is_ok();
-    match build(alloc, line, is_utf8, Framing::Lines) {
+    let marks = line_marks(alloc, line)?;
+    match build(alloc, line, &marks, is_utf8, Framing::Lines) {
         Ok(tape) => Ok(tape),
         Err(_) => Err(Fail::Line),
     }
@@ -55,7 +57,7 @@ fn selects(alloc: Global, line: &str, query: &str, wanted: &str) -> Result<bool,
 }
 
 /// A line, a query, and the bytes of the nodes that it selects.
-const CASES: [(&str, &str, &str); 32] = [
+const CASES: [(&str, &str, &str); 34] = [
     ("[0,1,2,3]", "$[::-1]", "3 2 1 0 "),
     ("[0,1,2,3]", "$[1:3:0]", ""),
     ("[0,1,2,3]", "$[-1]", "3 "),
@@ -71,6 +73,8 @@ const CASES: [(&str, &str, &str); 32] = [
     ("[0,1,2,3]", "$[::9007199254740991]", "0 "),
     ("{\"a\":1,\"b\":2}", "$[0]", ""),
     ("{\"a\":1,\"b\":2}", "$[:]", ""),
+    ("{\"a\":1,\"b\":2}", "$[:2]", ""),
+    ("{\"a\":1,\"b\":2}", "$[::-1]", ""),
     ("[[1,2],[3]]", "$[:][0]", "1 3 "),
     ("[[1,2],[3]]", "$[::-1][::-1]", "3 2 1 "),
     ("{\"a\":[{\"b\":1},{\"b\":2}],\"b\":3}", "$..b", "3 1 2 "),
@@ -125,6 +129,68 @@ const CASES: [(&str, &str, &str); 32] = [
 #[test]
 fn queries_select_their_nodes(rt: HostRuntime) -> Result<(), Fail> {
     for (line, query, wanted) in CASES {
+        assert!(&rt; selects(rt.alloc(), line, query, wanted)?, "{query}");
+    }
+    Ok(())
+}
+
+/// A query, and the elements of `[0,1,2,3]` that it selects.
+const SLICES: [(&str, &str); 20] = [
+    ("$[:]", "0 1 2 3 "),
+    ("$[:2]", "0 1 "),
+    ("$[2:]", "2 3 "),
+    ("$[1:3]", "1 2 "),
+    ("$[:9]", "0 1 2 3 "),
+    ("$[4:]", ""),
+    ("$[2:1]", ""),
+    ("$[-2:]", "2 3 "),
+    ("$[:-1]", "0 1 2 "),
+    ("$[-3:-1]", "1 2 "),
+    ("$[-9:2]", "0 1 "),
+    ("$[::2]", "0 2 "),
+    ("$[1::2]", "1 3 "),
+    ("$[-3:9:2]", "1 3 "),
+    ("$[2::-1]", "2 1 0 "),
+    ("$[:1:-1]", "3 2 "),
+    ("$[-2:0:-1]", "2 1 "),
+    ("$[9:-4:-2]", "3 1 "),
+    ("$[::-2]", "3 1 "),
+    ("$[0:3:-1]", ""),
+];
+
+#[test]
+fn slices_select_their_elements(rt: HostRuntime) -> Result<(), Fail> {
+    for (query, wanted) in SLICES {
+        assert!(&rt; selects(rt.alloc(), "[0,1,2,3]", query, wanted)?, "{query}");
+    }
+    Ok(())
+}
+
+/// A line, a query with patterns, and the bytes of the nodes that it selects.
+const PATTERNS: [(&str, &str, &str); 6] = [
+    (
+        "[{\"a\":\"xy\",\"b\":\"q\"},{\"a\":\"xy\",\"b\":\"zz\"}]",
+        "$[?match(@.a,'x.*') && search(@.b,'q') || search(@.a,'x.*') && match(@.b,'q+')].b",
+        "\"q\" ",
+    ),
+    ("[\"[\",\"a\"]", "$[?match(@,'[') || search(@,'[')]", ""),
+    (
+        "[{\"a\":\"bb\",\"p\":\"b*\"},{\"a\":\"bb\",\"p\":\"b\"}]",
+        "$[?match(@.a,@.p)].p",
+        "\"b*\" ",
+    ),
+    ("[[\"ab\"],[\"aa\"]]", "$[?@[?match(@,'a+')]][0]", "\"aa\" "),
+    (
+        "[{\"a\":1},{\"a\":\"1\"}]",
+        "$[?match(@.a,'1')].a",
+        "\"1\" ",
+    ),
+    ("[\"a\",\"b\"]", "$[?!match(@,'a')]", "\"b\" "),
+];
+
+#[test]
+fn patterns_decide_strings_alone(rt: HostRuntime) -> Result<(), Fail> {
+    for (line, query, wanted) in PATTERNS {
         assert!(&rt; selects(rt.alloc(), line, query, wanted)?, "{query}");
     }
     Ok(())

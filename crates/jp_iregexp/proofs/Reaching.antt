@@ -186,7 +186,7 @@ pub ends_repeats_closed : {Member : List ℕ → Type 0} (text set : List ℕ) �
 ends_repeats_closed text set a zero = ends_nothing text set a.over
 ends_repeats_closed text set a (suc count) = ends_then text set set set a (ends_repeats_closed text set a count)
 
-closed_under : {Member : List ℕ → Type 0} (text set : List ℕ) → ((p q : ℕ) → Has set p → Reach Member text p q → Has set q) → (count p q : ℕ) → Has set p → Reach (Repeats Member count) text p q → Has set q
+pub closed_under : {Member : List ℕ → Type 0} (text set : List ℕ) → ((p q : ℕ) → Has set p → Reach Member text p q → Has set q) → (count p q : ℕ) → Has set p → Reach (Repeats Member count) text p q → Has set q
 closed_under text set keeps zero p q h r = subst (λ x. Has set x) (nothing_only text p q r) h
 closed_under {Member} text set keeps (suc count) p q h r =
     let m : Between Member (Repeats Member count) text p q = between text p q r in

@@ -132,10 +132,13 @@ pub times_some : (Member : List ℕ → Type 0) (least most : ℕ) (text starts 
 times_some Member least most text starts reached ends l a b =
     ends_same text starts ends (within_join least (Some most) l) (λ x _ r. within_split least (Some most) x r) (ends_then text starts reached ends a b)
 
-pub times_none : (Member : List ℕ → Type 0) (least : ℕ) (text starts reached ends : List ℕ) → AreEnds (Repeats Member least) text starts reached → AreEnds (RepeatsWithin Member 0 (Some (length text))) text reached ends → AreEnds (RepeatsWithin Member least None) text starts ends
+-- as many turns as the text has scalars are any number of turns
+pub any_number : (Member : List ℕ → Type 0) (text starts ends : List ℕ) → AreEnds (RepeatsWithin Member 0 (Some (length text))) text starts ends → AreEnds (RepeatsWithin Member 0 None) text starts ends
+any_number Member text starts ends a = ends_same text starts ends (uncut (length text)) (cut (length text)) a
+
+pub times_none : (Member : List ℕ → Type 0) (least : ℕ) (text starts reached ends : List ℕ) → AreEnds (Repeats Member least) text starts reached → AreEnds (RepeatsWithin Member 0 None) text reached ends → AreEnds (RepeatsWithin Member least None) text starts ends
 times_none Member least text starts reached ends a b =
-    ends_same text starts ends (within_join least None tt) (λ x _ r. within_split least None x r)
-    (ends_then text starts reached ends a (ends_same text reached ends (uncut (length text)) (cut (length text)) b))
+    ends_same text starts ends (within_join least None tt) (λ x _ r. within_split least None x r) (ends_then text starts reached ends a b)
 
 -- more than the most is none
 pub times_never : (Member : List ℕ → Type 0) (least most : ℕ) (text starts ends : List ℕ) → most < least → IsSetOver (length text) ends → ((q : ℕ) → ¬ (Has ends q)) → AreEnds (RepeatsWithin Member least (Some most)) text starts ends

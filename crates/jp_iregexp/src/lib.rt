@@ -16,6 +16,7 @@ mod parser;
 mod pattern;
 mod positions;
 mod prepare;
+mod runs;
 mod table;
 mod token;
 

@@ -1,6 +1,6 @@
 // Which positions a part of a pattern reaches.
 
-ghost use Rattle.std.specs.Prelude.{◌≡◌, ◌^◌, ℕ, ◌<◌, IfOk, length, List};
+ghost use Rattle.std.specs.Prelude.{◌≡◌, ◌^◌, ℕ, ◌<◌, None, IfOk, length, List};
 ghost use Rattle.jp_iregexp.specs.Positions.{IsSetOver, AreEnds};
 ghost use Rattle.jp_model.specs.Pattern.Language.{Language, Repeats, RepeatsWithin};
 ghost use Rattle.jp_iregexp.specs.Tables.{Kept, KeptList, KeptRows};
@@ -10,6 +10,7 @@ ghost use Rattle.jp_model.specs.Pattern.Tree.{one_of, times};
 use crate::class::Class;
 use crate::node::Node;
 use crate::positions::PositionSet;
+use crate::runs::run_ends;
 use crate::table::turn_by;
 use std::alloc::{AllocError, Global};
 
@@ -100,7 +101,7 @@ fn choice_ends(
     Ok(all)
 }
 
-// The part from `least` to `most` times. More further turns than the text has scalars reach nothing new.
+// The part from `least` to `most` times.
 #[cycle(ends)]
 fn repeated_ends(
     alloc: Global,
@@ -127,8 +128,30 @@ fn repeated_ends(
         }
         None => {
             let reached = exact_turns(alloc, body, rows, least, text, starts)?;
-            further_turns(alloc, body, rows, text.len(), text, &reached)
+            any_turns(alloc, body, rows, text, &reached)
         }
+    }
+}
+
+// The part any number of times. Scalars of a class take one pass; of another part, more turns than the text has scalars reach
+// nothing new.
+#[cycle(ends)]
+fn any_turns(
+    alloc: Global,
+    body: &Node,
+    rows: &[PositionSet],
+    text: &[char],
+    starts: &PositionSet,
+) -> Result<PositionSet, AllocError>
+    requires over { IsSetOver (length text.now) starts.now.words.items }
+    requires fits { length text.now < 2 ^ 63 }
+    requires kept { Kept text.now body.now }
+    requires rows { KeptRows text.now body.now rows.now }
+    ensures { IfOk result (λ out. AreEnds (RepeatsWithin (Language (tree_of body.now)) 0 None) text.now starts.now.words.items out.words.items) }
+{
+    match body {
+        Node::Class(class) => run_ends(alloc, class, text, starts),
+        _ => further_turns(alloc, body, rows, text.len(), text, starts),
     }
 }
 

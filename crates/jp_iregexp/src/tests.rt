@@ -46,6 +46,15 @@ fn whole_texts_match(rt: HostRuntime) -> Result<(), Fail> {
         ("|b", "", true),
         ("a|bc|", "bc", true),
         ("a|bc|", "c", false),
+        ("a|", "", true),
+        ("a|", "a", true),
+        ("a|", "aa", false),
+        (".", "\r", false),
+        (".", "\n", false),
+        (".", "\u{85}", true),
+        (".", "\u{10ffff}", true),
+        ("^*", "^^^", true),
+        ("a,-b", "a,-b", true),
         ("(ab)*c", "ababc", true),
         ("(ab)+", "", false),
         ("(a|b)?c", "bc", true),
@@ -101,6 +110,22 @@ fn counts_are_exact(rt: HostRuntime) -> Result<(), Fail> {
             Some(size >= 63)
         );
     }
+    let text = repeated(rt.alloc(), "x", 64)?;
+    for (pattern, is_match) in [
+        ("x{63}", false),
+        ("x{64}", true),
+        ("x{65}", false),
+        ("(x{8}){8}", true),
+        ("(x{8}){7}", false),
+        ("(x{8}){9}", false),
+        ("((x{2}){4}){8}", true),
+    ] {
+        assert_eq!(rt;
+            matches(rt.alloc(), pattern, text.as_str())?,
+            Some(is_match)
+        );
+    }
+    assert_eq!(rt; matches(rt.alloc(), "x{0000000000001}", "x")?, Some(true));
     Ok(())
 }
 
@@ -126,6 +151,11 @@ fn classes_have_their_scalars(rt: HostRuntime) -> Result<(), Fail> {
         ("[\\]-a]", "^", true),
         ("\\p{Lu}", "A", true),
         ("\\p{Lu}", "a", false),
+        ("\\p{Lu}", "\u{c4}", true),
+        ("\\p{Lu}", "\u{e4}", false),
+        ("\\P{Lu}", "\u{e4}", true),
+        ("[^\\p{Lu}]", "\u{c4}", false),
+        ("[\\P{Lu}]", "\u{e4}", true),
         ("\\p{L}", "a", true),
         ("\\P{L}", "a", false),
         ("\\P{L}", "1", true),
@@ -154,45 +184,74 @@ fn escapes_stand_for_their_scalars(rt: HostRuntime) -> Result<(), Fail> {
     Ok(())
 }
 
+// Texts that are no patterns, one to a line.
+const NO_PATTERNS: &str = r"[z-a]
+\p{Lx}
+\p{}
+\p{lu}
+\p{l}
+\p{Cs}
+\P{Cs}
+[\p{Cs}]
+\p{IsGreek}
+\p{Lu
+\p
+\pL
+\d
+[\d]
+\w
+\b
+\1
+\u0041
+\$
+\
+a**
+a*?
+a++
+a{1}?
+(?:a)
+(?i)a
+(?=a)
+*
+a{1}{2}
+|+
+(
+)
+(a
+a)
+()*)
+a{2,1}
+a{1000000000}
+a{0,1000000000}
+a{
+a{}
+a{,2}
+a{1,2,3}
+a{x}
+a{-1}
+a{1 }
+a{1
+a{1,
+{
+{1}
+}
+a}
+]
+[
+[]
+[]]
+[[:alpha:]]
+[a-z&&[^b]]
+[^]]
+[^
+[a--b]
+[a-b-c]
+[\p{L}-z]
+[--a]";
+
 #[test]
 fn other_texts_are_no_patterns(rt: HostRuntime) -> Result<(), Fail> {
-    for pattern in [
-        "[z-a]",
-        "\\p{Lx}",
-        "\\p{}",
-        "\\p{lu}",
-        "\\pL",
-        "\\d",
-        "\\$",
-        "\\",
-        "a**",
-        "*",
-        "a{1}{2}",
-        "|+",
-        "(",
-        ")",
-        "(a",
-        "a)",
-        "()*)",
-        "a{2,1}",
-        "a{1000000000}",
-        "a{0,1000000000}",
-        "a{",
-        "a{}",
-        "a{,2}",
-        "a{1,2,3}",
-        "a{x}",
-        "a}",
-        "]",
-        "[",
-        "[]",
-        "[]]",
-        "[^",
-        "[a--b]",
-        "[a-b-c]",
-        "[\\p{L}-z]",
-        "[--a]",
-    ] {
+    for pattern in NO_PATTERNS.lines() {
         assert_eq!(rt; matches(rt.alloc(), pattern, "")?, None);
     }
     for pattern in ["a{0999999999}", "a{000000000002,2}", "a{999999999}"] {
@@ -223,6 +282,13 @@ fn parentheses_are_counted(rt: HostRuntime) -> Result<(), Fail> {
     );
     let escaped = repeated(rt.alloc(), "\\(", 257)?;
     assert_eq!(rt; matches(rt.alloc(), escaped.as_str(), "")?, None);
+    let classes = repeated(rt.alloc(), "[(]", 256)?;
+    assert_eq!(rt;
+        matches(rt.alloc(), classes.as_str(), text.as_str())?,
+        Some(true)
+    );
+    let classes = repeated(rt.alloc(), "[(]", 257)?;
+    assert_eq!(rt; matches(rt.alloc(), classes.as_str(), "")?, None);
     Ok(())
 }
 
@@ -232,6 +298,7 @@ fn counts_do_not_multiply(rt: HostRuntime) -> Result<(), Fail> {
         ("(a{0,999999999}){999999999}", "aaa", true),
         ("(a{2}){999999999}", "aaaa", false),
         ("(a{2}){2,999999999}", "aaaa", true),
+        ("(a{2}){2,999999999}", "aaaaa", false),
         ("(){999999999}", "", true),
         ("((a*)*)*", "aaaa", true),
     ] {
@@ -267,5 +334,26 @@ fn counts_with_other_branches_do_not_multiply(rt: HostRuntime) -> Result<(), Fai
     assert_eq!(rt; matches(rt.alloc(), pattern, "aa")?, Some(true));
     assert_eq!(rt; matches(rt.alloc(), pattern, "a")?, Some(false));
     assert_eq!(rt; occurs(rt.alloc(), pattern, "baab")?, Some(true));
+    Ok(())
+}
+
+#[test]
+fn runs_of_a_class_take_one_pass(rt: HostRuntime) -> Result<(), Fail> {
+    let text = repeated(rt.alloc(), "x", 100_000)?;
+    for (pattern, is_match, is_found) in [
+        (".*", true, true),
+        ("[^y]+", true, true),
+        ("x.*x", true, true),
+        ("x.*y", false, false),
+        ("x*y*x*", true, true),
+        ("x*y+", false, false),
+        ("[a-w]*", false, true),
+    ] {
+        assert_eq!(rt;
+            matches(rt.alloc(), pattern, text.as_str())?,
+            Some(is_match)
+        );
+        assert_eq!(rt; occurs(rt.alloc(), pattern, text.as_str())?, Some(is_found));
+    }
     Ok(())
 }

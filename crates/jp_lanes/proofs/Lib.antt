@@ -1,3 +1,4 @@
 -- Lemmas on lanes and on the bits of words.
+pub mod LaneClasses
 pub mod SearchLanes
 pub mod Words

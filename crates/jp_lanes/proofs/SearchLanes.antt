@@ -1,5 +1,5 @@
 -- What the lanes of 64 bytes tell.
-use Rattle.std.proofs.Common.{◌≡◌, ℕ, ◌+◌, ◌*◌, ◌^◌, ◌%◌, Bool, true, false, not, cond, ◌||◌, eqb, ltb, List, [], ◌∷◌, ◌++◌, map, length, take, drop, sym, ◌∙◌, ap, ap₂, refl, arith, w8, bit_or}
+use Rattle.std.proofs.Common.{◌≡◌, ℕ, ◌+◌, ◌*◌, ◌^◌, ◌%◌, ◌≤◌, Bool, true, false, not, cond, ◌||◌, eqb, ltb, List, [], ◌∷◌, ◌++◌, map, length, take, drop, sym, ◌∙◌, ap, ap₂, refl, arith, w8, bit_or}
 use lib.Lanes.{mask_l, zip2, top}
 use Rattle.std.specs.Prelude.{replicate}
 use Rattle.std.proofs.lemmas.Bool.{eqb-true, eq-eqb}
@@ -25,21 +25,21 @@ same_map : {A B : Type 0} (f g : A → B) (xs : List A) → ((x : A) → f x ≡
 same_map f g [] e = refl
 same_map f g (x ∷ xs) e = ap₂ (λ y ys. y ∷ ys) (e x) (same_map f g xs e)
 
-abbrev lanes_equal : List ℕ → ℕ → List ℕ
-lanes_equal xs byte = zip2 (λ a b. lane (eqb a b)) xs (replicate 64 byte)
+abbrev lanes_equal : ℕ → List ℕ → ℕ → List ℕ
+lanes_equal n xs byte = zip2 (λ a b. lane (eqb a b)) xs (replicate n byte)
 
-abbrev lanes_below : List ℕ → ℕ → List ℕ
-lanes_below xs byte = zip2 (λ a b. lane (ltb a b)) xs (replicate 64 byte)
+abbrev lanes_below : ℕ → List ℕ → ℕ → List ℕ
+lanes_below n xs byte = zip2 (λ a b. lane (ltb a b)) xs (replicate n byte)
 
-pub special_mask : (xs : List ℕ) → length xs ≡ 64 → mask_l (map (top 7) (zip2 bit_or (zip2 bit_or (lanes_equal xs 0x22) (lanes_equal xs 0x5C)) (lanes_below xs 0x20))) % 2 ^ 64 ≡ mask_l (map is_special xs)
-special_mask xs n =
-    let quotes : lanes_equal xs 0x22 ≡ map (λ x. lane (eqb x 0x22)) xs = zip2_splat (λ a b. lane (eqb a b)) xs 64 0x22 n in
-    let backslashes : lanes_equal xs 0x5C ≡ map (λ x. lane (eqb x 0x5C)) xs = zip2_splat (λ a b. lane (eqb a b)) xs 64 0x5C n in
-    let controls : lanes_below xs 0x20 ≡ map (λ x. lane (ltb x 0x20)) xs = zip2_splat (λ a b. lane (ltb a b)) xs 64 0x20 n in
+pub special_mask : (xs : List ℕ) (n : ℕ) → length xs ≡ n → n ≤ 64 → mask_l (map (top 7) (zip2 bit_or (zip2 bit_or (lanes_equal n xs 0x22) (lanes_equal n xs 0x5C)) (lanes_below n xs 0x20))) % 2 ^ 64 ≡ mask_l (map is_special xs)
+special_mask xs n e few =
+    let quotes : lanes_equal n xs 0x22 ≡ map (λ x. lane (eqb x 0x22)) xs = zip2_splat (λ a b. lane (eqb a b)) xs n 0x22 e in
+    let backslashes : lanes_equal n xs 0x5C ≡ map (λ x. lane (eqb x 0x5C)) xs = zip2_splat (λ a b. lane (eqb a b)) xs n 0x5C e in
+    let controls : lanes_below n xs 0x20 ≡ map (λ x. lane (ltb x 0x20)) xs = zip2_splat (λ a b. lane (ltb a b)) xs n 0x20 e in
     let two = zip2_of_maps bit_or (λ x. lane (eqb x 0x22)) (λ x. lane (eqb x 0x5C)) xs quotes backslashes in
     let three = zip2_of_maps bit_or (λ x. bit_or (lane (eqb x 0x22)) (lane (eqb x 0x5C))) (λ x. lane (ltb x 0x20)) xs two controls in
     let tops = ap (map (top 7)) three ∙ (map-map (top 7) (λ x. bit_or (bit_or (lane (eqb x 0x22)) (lane (eqb x 0x5C))) (lane (ltb x 0x20))) xs ∙ same_map _ is_special xs (λ x. either_lane (eqb x 0x22) (eqb x 0x5C) (ltb x 0x20))) in
-    ap (λ ms. mask_l ms % 2 ^ 64) tops ∙ mask_l-mod (map is_special xs) 64 (let l = length-map xs is_special in omega (arith, l, n))
+    ap (λ ms. mask_l ms % 2 ^ 64) tops ∙ mask_l-mod (map is_special xs) 64 (let l = length-map xs is_special in omega (arith, l, e, few))
 
 -- ---- two blocks
 abbrev differs : ℕ → ℕ → Bool

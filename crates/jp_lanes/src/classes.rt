@@ -32,23 +32,27 @@ fn equal_to(lanes: u8x64, byte: u8) -> u64
     lanes.simd_eq(u8x64::splat(byte)).to_bitmask()
 }
 
-/// Whether each lane is white.
+/// Whether each lane is white. A tab and a carriage return differ in one bit.
 fn white_of(lanes: u8x64) -> u64
     ensures { Says result (λ i. is_white (slice_index lanes i)) }
 {
-    equal_to(lanes, b' ') | equal_to(lanes, b'\t') | equal_to(lanes, b'\n') | equal_to(lanes, b'\r')
+    let joined = lanes | u8x64::splat(b'\t' ^ b'\r');
+    let blank = lanes.simd_eq(u8x64::splat(b' '));
+    let line_feed = lanes.simd_eq(u8x64::splat(b'\n'));
+    let tab_or_return = joined.simd_eq(u8x64::splat(b'\r'));
+    (blank | line_feed | tab_or_return).to_bitmask()
 }
 
-/// Whether each lane is structural.
+/// Whether each lane is structural. A brace and its bracket differ in one bit.
 fn structural_of(lanes: u8x64) -> u64
     ensures { Says result (λ i. is_structural (slice_index lanes i)) }
 {
-    equal_to(lanes, b'[')
-        | equal_to(lanes, b'{')
-        | equal_to(lanes, b']')
-        | equal_to(lanes, b'}')
-        | equal_to(lanes, b':')
-        | equal_to(lanes, b',')
+    let joined = lanes | u8x64::splat(b'[' ^ b'{');
+    let opens = joined.simd_eq(u8x64::splat(b'{'));
+    let closes = joined.simd_eq(u8x64::splat(b'}'));
+    let colon = lanes.simd_eq(u8x64::splat(b':'));
+    let comma = lanes.simd_eq(u8x64::splat(b','));
+    (opens | closes | colon | comma).to_bitmask()
 }
 
 /// Whether each lane is a control character.

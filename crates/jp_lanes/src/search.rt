@@ -7,6 +7,10 @@ use std::simd::prelude::*;
 
 const BLOCK: usize = 64;
 
+const QUARTER: usize = 16;
+
+const EIGHTH: usize = 8;
+
 fn is_special(byte: u8) -> bool
     ensures { result ≡ is_special_byte byte }
 {
@@ -14,26 +18,30 @@ fn is_special(byte: u8) -> bool
 }
 
 // Bit i tells whether lane i is special.
-fn special_lanes(lanes: u8x64) -> u64
-    ensures { result ≡ mask_l (map is_special_byte lanes) }
+#[inline(always)]
+fn special_lanes<const N: usize>(lanes: Simd<u8, N>) -> u64
+    requires { N ≤ 64 }
+    ensures { result ≡ mask_l (map is_special_byte lanes.entry) }
 {
-    let quotes = lanes.simd_eq(u8x64::splat(b'"'));
-    let backslashes = lanes.simd_eq(u8x64::splat(b'\\'));
-    let controls = lanes.simd_lt(u8x64::splat(0x20));
+    let quotes = lanes.simd_eq(Simd::splat(b'"'));
+    let backslashes = lanes.simd_eq(Simd::splat(b'\\'));
+    let controls = lanes.simd_lt(Simd::splat(0x20));
     (quotes | backslashes | controls).to_bitmask()
 }
 
-// How many of the 64 bytes at a place come before the first special one.
-fn plain_run(bytes: &[u8], at: usize) -> usize
-    requires { at + 64 ≤ length bytes.now }
-    ensures most { result ≤ 64 }
+// How many of the N bytes at a place come before the first special one.
+#[inline(always)]
+fn plain_run<const N: usize>(bytes: &[u8], at: usize) -> usize
+    requires few { N ≤ 64 }
+    requires inside { at + N ≤ length bytes.now }
+    ensures most { result ≤ N }
     ensures plain { (k : ℕ) → at ≤ k → k < at + result
         → is_special_byte (slice_index bytes.now k) ≡ false }
-    ensures stops { result < 64 → IsTrue (is_special_byte (slice_index bytes.now (at + result))) }
+    ensures stops { result < N → IsTrue (is_special_byte (slice_index bytes.now (at + result))) }
 {
-    let special = special_lanes(u8x64::from_slice(&bytes[at..]));
+    let special = special_lanes(Simd::<u8, N>::from_slice(&bytes[at..]));
     if special == 0 {
-        return BLOCK;
+        return N;
     }
     special.trailing_zeros() as usize
 }
@@ -50,14 +58,34 @@ pub fn first_special(bytes: &[u8], from: usize) -> usize
         → IsTrue (is_special_byte (slice_index bytes.now result)) }
 {
     let mut at = from;
-    while bytes.len() - at >= BLOCK {
-        let run = plain_run(bytes, at);
-        at += run;
-        if run < BLOCK {
-            return at;
+    while bytes.len() - at >= QUARTER {
+        let run = plain_run::<QUARTER>(bytes, at);
+        if run < QUARTER {
+            return at + run;
         }
+        at += QUARTER;
     }
-    first_special_plainly(bytes, at)
+    first_special_of_few(bytes, at)
+}
+
+// The same, where few bytes are left: eight at once, and then byte by byte.
+fn first_special_of_few(bytes: &[u8], from: usize) -> usize
+    requires { from ≤ length bytes.now }
+    ensures order { from ≤ result }
+    ensures within { result ≤ length bytes.now }
+    ensures plain { (k : ℕ) → from ≤ k → k < result
+        → is_special_byte (slice_index bytes.now k) ≡ false }
+    ensures stops { result < length bytes.now
+        → IsTrue (is_special_byte (slice_index bytes.now result)) }
+{
+    if bytes.len() - from < EIGHTH {
+        return first_special_plainly(bytes, from);
+    }
+    let run = plain_run::<EIGHTH>(bytes, from);
+    if run < EIGHTH {
+        return from + run;
+    }
+    first_special_plainly(bytes, from + EIGHTH)
 }
 
 // The same, byte by byte.

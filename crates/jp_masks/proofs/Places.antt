@@ -1,10 +1,11 @@
 -- The places of the set bits of a word, lowest first.
-use Rattle.std.proofs.Common.{◌≡◌, ℕ, zero, suc, ◌+◌, ◌-◌, ◌*◌, ◌%◌, ◌^◌, ◌<◌, ◌≤◌, ◌==◌, Bool, true, false, cond, List, [], ◌∷◌, length, refl, sym, ap, ap₂, ◌∙◌, arith, w64, ◌⊎◌, inl, inr}
+use Rattle.std.proofs.Common.{◌≡◌, ℕ, zero, suc, ◌+◌, ◌-◌, ◌/◌, ◌%◌, ◌^◌, ◌<◌, ◌≤◌, ◌==◌, Bool, true, false, cond, List, [], ◌∷◌, ◌++◌, length, map, refl, sym, ap, ap₂, ◌∙◌, arith, w64, ◌⊎◌, inl, inr}
 use Rattle.std.specs.List.{filter, range_with_len}
-use Rattle.std.specs.Int.{trailing_zeros}
-use lib.Bits.{bit_and}
+use Rattle.std.specs.Int.{bit_at, trailing_zeros}
+use lib.Bits.{bit_and, and_le_r}
 use Rattle.std.proofs.lemmas.Bool.{cases_lt}
-use Rattle.std.proofs.lemmas.Nat.Bits.{bit_at-trailing_zeros, bit_at_clear_same, bit_at_clear_other}
+use Rattle.std.proofs.lemmas.Bool.Decides.{eqb_tells}
+use Rattle.std.proofs.lemmas.Nat.Bits.{bit_at-trailing_zeros, bit_at_and, bit_at_lowest, bit_at-suc}
 use Rattle.jp_lanes.specs.Word.{bit}
 use Rattle.jp_masks.specs.Places.{set_bits}
 use Rattle.jp_masks.proofs.Bits.{bit_zero}
@@ -46,19 +47,116 @@ filter_first p q first a (suc n) low high there gone none same =
         let agree : rest p ≡ rest q = filter_same p q (a + 1) n (λ i l h. sym (same i (omega arith) (omega arith) (λ e. omega arith))) in
         ap (λ x. cond x (a ∷ rest p) (rest p)) p_set ∙ ap₂ (λ x y. x ∷ y) here agree ∙ sym (ap (λ x. first ∷ cond x (a ∷ rest q) (rest q)) q_clear)
 
--- `word & !(1 << word.trailing_zeros())`
-abbrev pub without_lowest : ℕ → ℕ
-without_lowest word = bit_and word (2 ^ 64 - 1 - 1 * 2 ^ trailing_zeros w64 word % 2 ^ 64)
+-- one that passes parts those that pass
+pub filter_split : (p below above : ℕ → Bool) (place a n : ℕ) → a ≤ place → place < a + n → p place ≡ true
+    → ((i : ℕ) → i < place → below i ≡ p i) → ((i : ℕ) → place ≤ i → i < a + n → below i ≡ false)
+    → ((i : ℕ) → i ≤ place → above i ≡ false) → ((i : ℕ) → place < i → i < a + n → above i ≡ p i)
+    → filter p (range_with_len a n) ≡ filter below (range_with_len a n) ++ place ∷ filter above (range_with_len a n)
+filter_split p below above place a zero low high there b0 b1 a0 a1 = let no : ⊥ = omega arith in absurd no
+filter_split p below above place a (suc n) low high there b0 b1 a0 a1 =
+    go (cases_lt a place) (λ later. filter_split p below above place (a + 1) n (omega arith) (omega arith) there b0 (λ i l h. b1 i l (omega arith)) a0 (λ i l h. a1 i l (omega arith)))
+  where
+    rest : (ℕ → Bool) → List ℕ
+    rest r = filter r (range_with_len (a + 1) n)
 
-pub lowest_first : (word : ℕ) → 0 < word → word < 2 ^ 64 → set_bits word ≡ trailing_zeros w64 word ∷ set_bits (without_lowest word)
-unfolding bit set_bits
-lowest_first word some small =
-    let lowest = bit_at-trailing_zeros w64 word some small in
-    let place = trailing_zeros w64 word in
-    filter_first (bit word) (bit (without_lowest word)) place 0 64 (omega arith) (omega (arith, lowest.0)) (ap (λ n. n == 1) lowest.1)
-    (ap (λ n. n == 1) (bit_at_clear_same w64 word place lowest.0))
-    (λ i low below. ap (λ n. n == 1) (lowest.2 i below))
-    (λ i low within other. ap (λ n. n == 1) (bit_at_clear_other w64 word place lowest.0 i (omega arith) other))
+    taken : (b : Bool) (w x y : List ℕ) → w ≡ x ++ place ∷ y → cond b (a ∷ w) w ≡ cond b (a ∷ x) x ++ place ∷ y
+    taken true w x y e = ap (λ l. a ∷ l) e
+    taken false w x y e = e
+
+    go : (a < place) ⊎ (place ≤ a) → (a < place → rest p ≡ rest below ++ place ∷ rest above) → filter p (range_with_len a (suc n)) ≡ filter below (range_with_len a (suc n)) ++ place ∷ filter above (range_with_len a (suc n))
+    go (inl before) later =
+        taken (p a) (rest p) (rest below) (rest above) (later before)
+        ∙ sym (λ t. cond (b0 a before t) (a ∷ rest below) (rest below) ++ place ∷ cond (a0 a (omega arith) t) (a ∷ rest above) (rest above))
+    go (inr behind) later =
+        let here : a ≡ place = omega arith in
+        let set : p a ≡ true = ap p here ∙ there in
+        let agree : rest p ≡ rest above = filter_same p above (a + 1) n (λ i l h. sym (a1 i (omega arith) (omega arith))) in
+        let nothing : rest below ≡ [] = filter_none below (a + 1) n (λ i l h. b1 i (omega arith) (omega arith)) in
+        ap (λ x. cond x (a ∷ rest p) (rest p)) set ∙ ap₂ (λ x y. x ∷ y) here agree
+        ∙ sym (λ t. cond (b1 a (omega arith) (omega arith) t) (a ∷ nothing t) (nothing t) ++ place ∷ cond (a0 a (omega arith) t) (a ∷ rest above) (rest above))
+
+-- one less has the bits of n above its lowest one, at k, and not that one
+abbrev LessHas : ℕ → ℕ → Type 0
+LessHas k n = ((i : ℕ) → k < i → bit_at (n - 1) i ≡ bit_at n i) × (bit_at (n - 1) k ≡ 0)
+
+at_first : (n : ℕ) → n % 2 ≡ 1 → (i : ℕ) → 0 < i → bit_at (n - 1) i ≡ bit_at n i
+at_first n odd zero high = absurd (omega arith)
+at_first n odd (suc i) high =
+    let halves : (n - 1) / 2 ≡ n / 2 = omega (arith, odd) in
+    bit_at-suc (n - 1) i ∙ ap (λ m. bit_at m i) halves ∙ sym (bit_at-suc n i)
+
+at_later : (k n : ℕ) → (n - 1) / 2 ≡ n / 2 - 1 → LessHas k (n / 2) → (i : ℕ) → suc k < i → bit_at (n - 1) i ≡ bit_at n i
+at_later k n halves half zero high = absurd (omega arith)
+at_later k n halves half (suc i) high = bit_at-suc (n - 1) i ∙ ap (λ m. bit_at m i) halves ∙ half.0 i (omega arith) ∙ sym (bit_at-suc n i)
+
+one_less : (k n : ℕ) → bit_at n k ≡ 1 → ((i : ℕ) → i < k → bit_at n i ≡ 0) → LessHas k n
+one_less zero n set clear =
+    let odd : n % 2 ≡ 1 = sym (bit_at_lowest n) ∙ set in
+    (at_first n odd, bit_at_lowest (n - 1) ∙ omega (arith, odd))
+one_less (suc k) n set clear =
+    let half = one_less k (n / 2) (sym (bit_at-suc n k) ∙ set) (λ i low. sym (bit_at-suc n i) ∙ clear (suc i) (omega arith)) in
+    let even : n % 2 ≡ 0 = sym (bit_at_lowest n) ∙ clear 0 (omega arith) in
+    let halves : (n - 1) / 2 ≡ n / 2 - 1 = omega (arith, even) in
+    (at_later k n halves half, bit_at-suc (n - 1) k ∙ ap (λ m. bit_at m k) halves ∙ half.1)
+
+-- `word & (word - 1)`
+abbrev pub without_lowest : ℕ → ℕ
+without_lowest word = bit_and word (word - 1)
+
+module _ (word : ℕ) (some : 0 < word) (small : word < 2 ^ 64) where
+  lowest : (trailing_zeros w64 word < 64) × (bit_at word (trailing_zeros w64 word) ≡ 1) × ((i : ℕ) → i < trailing_zeros w64 word → bit_at word i ≡ 0)
+  lowest = bit_at-trailing_zeros w64 word some small
+
+  pub lowest_within : trailing_zeros w64 word < 64
+  lowest_within = lowest.0
+
+  pub lowest_set : bit word (trailing_zeros w64 word) ≡ true
+  unfolding bit
+  lowest_set = ap (λ n. n == 1) lowest.1
+
+  pub none_below : (i : ℕ) → i < trailing_zeros w64 word → bit word i ≡ false
+  unfolding bit
+  none_below i low = ap (λ n. n == 1) (lowest.2 i low)
+
+  pub lowest_gone : bit (without_lowest word) (trailing_zeros w64 word) ≡ false
+  unfolding bit
+  lowest_gone =
+      let less_has = one_less (trailing_zeros w64 word) word lowest.1 lowest.2 in
+      let gone : bit_at (bit_and word (word - 1)) (trailing_zeros w64 word) ≡ 0 = omega (arith, bit_at_and word (word - 1) (trailing_zeros w64 word), less_has.1) in
+      ap (λ n. n == 1) gone
+
+  stays : (i : ℕ) → (i < trailing_zeros w64 word) ⊎ (trailing_zeros w64 word < i) → bit_at (bit_and word (word - 1)) i ≡ bit_at word i
+  stays i (inl low) = omega (arith, bit_at_and word (word - 1) i, lowest.2 i low)
+  stays i (inr high) = omega (arith, bit_at_and word (word - 1) i, (one_less (trailing_zeros w64 word) word lowest.1 lowest.2).0 i high)
+
+  apart : (i k : ℕ) → (i ≡ k → ⊥) → (i < k) ⊎ (k < i)
+  apart i k other = go (cases_lt i k) (cases_lt k i)
+    where
+      go : (i < k) ⊎ (k ≤ i) → (k < i) ⊎ (i ≤ k) → (i < k) ⊎ (k < i)
+      go (inl low) c = inl low
+      go (inr high) (inl above) = inr above
+      go (inr high) (inr low) = absurd (other (omega arith))
+
+  pub others_stay : (i : ℕ) → (i ≡ trailing_zeros w64 word → ⊥) → bit (without_lowest word) i ≡ bit word i
+  unfolding bit
+  others_stay i other = ap (λ n. n == 1) (stays i (apart i (trailing_zeros w64 word) other))
+
+  -- a bit that is left was there
+  pub was_there : (i : ℕ) → bit (without_lowest word) i ≡ true → bit word i ≡ true
+  was_there i set = go (eqb_tells i (trailing_zeros w64 word))
+    where
+      go : ((i == trailing_zeros w64 word) ≡ true) × (i ≡ trailing_zeros w64 word) ⊎ ((i == trailing_zeros w64 word) ≡ false) × (i ≡ trailing_zeros w64 word → ⊥) → bit word i ≡ true
+      go (inl is) = ap (bit word) is.1 ∙ lowest_set
+      go (inr not_it) = sym (others_stay i not_it.1) ∙ set
+
+  pub less : without_lowest word < word
+  less = omega (arith, and_le_r word (word - 1))
+
+  pub lowest_first : set_bits word ≡ trailing_zeros w64 word ∷ set_bits (without_lowest word)
+  unfolding set_bits
+  lowest_first =
+      filter_first (bit word) (bit (without_lowest word)) (trailing_zeros w64 word) 0 64 (omega arith) (omega (arith, lowest_within)) lowest_set lowest_gone
+      (λ i low below. none_below i below) (λ i low within other. others_stay i other)
 
 pub set_bits_none : set_bits 0 ≡ []
 unfolding set_bits
@@ -75,3 +173,10 @@ length-set_bits word = within (bit word) 0 64
         one : (b : Bool) → length (filter p (range_with_len (a + 1) n)) ≤ n → length (cond b (a ∷ filter p (range_with_len (a + 1) n)) (filter p (range_with_len (a + 1) n))) ≤ suc n
         one true short = omega arith
         one false short = omega arith
+
+-- places that are counted from 0
+pub from_first : (before places : List ℕ) (base : ℕ) → before ++ map (λ i. base + i - 0) places ≡ before ++ map (λ i. base + i) places
+from_first before places base = λ t. before ++ map (λ i. whole (base + i) t) places
+  where
+    whole : (n : ℕ) → n - 0 ≡ n
+    whole n = omega arith

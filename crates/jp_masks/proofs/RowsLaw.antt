@@ -1,8 +1,9 @@
 -- The places of rows are there, also when more come.
-use Rattle.std.proofs.Common.{◌≡◌, ℕ, zero, suc, ◌<◌, ◌≤◌, nat_le, Bool, true, false, ◌&&◌, List, [], ◌∷◌, ◌++◌, length, get_or, cond, refl, sym, ap, ap₂, ◌∙◌, arith, subst}
+use Rattle.std.proofs.Common.{◌≡◌, ℕ, zero, suc, ◌<◌, ◌≤◌, nat_le, Bool, true, false, ◌&&◌, List, [], ◌∷◌, ◌++◌, length, get_or, cond, refl, sym, ap, ap₂, ◌∙◌, arith, subst, Result, Ok, Err}
 use Rattle.std.proofs.lemmas.Bool.Decides.{nat_tests}
 use Rattle.std.proofs.lemmas.List.Folds.{list_all-append}
 use Rattle.std.proofs.lemmas.List.{length-append}
+use Rattle.std.specs.Result.{OnOk, OnErr}
 use Rattle.jp_masks.specs.declared.row.Row.{Row}
 use Rattle.jp_masks.specs.Rows.{rows_within}
 
@@ -59,12 +60,7 @@ pub rows_pushed : (b : Bool) (rows after : List Row) (n start end from to : ℕ)
 rows_pushed true rows after n start end from to e l w h = ap (λ r. rows_within r n) e ∙ more_row rows n start end from to l w h
 rows_pushed false rows after n start end from to e l w h = ap (λ r. rows_within r n) e ∙ h
 
--- a place that comes, or does not
-pub places_pushed : (b : Bool) (rows : List Row) (places after : List ℕ) (place : ℕ) → after ≡ cond b (places ++ place ∷ []) places → rows_within rows (length places) ≡ true → rows_within rows (length after) ≡ true
-places_pushed true rows places after place e h =
-    more_places rows (length places) (length after) (omega (arith, ap length e, length-append places (place ∷ []))) h
-places_pushed false rows places after place e h = ap (λ p. rows_within rows (length p)) e ∙ h
-
-pub order_pushed : (b : Bool) (n : ℕ) (places after : List ℕ) (place : ℕ) → after ≡ cond b (places ++ place ∷ []) places → n ≤ length places → n ≤ length after
-order_pushed true n places after place e h = omega (arith, ap length e, length-append places (place ∷ []))
-order_pushed false n places after place e h = omega (arith, ap length e)
+-- places that come, or do not
+pub places_came : {T E : Type 0} (r : Result T E) (places more after : List ℕ) → OnOk r (after ≡ places ++ more) → OnErr r (after ≡ places) → length places ≤ length after
+places_came (Ok x) places more after ok err = omega (arith, ap length ok, length-append places more)
+places_came (Err e) places more after ok err = omega (arith, ap length err)

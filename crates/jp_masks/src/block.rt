@@ -1,15 +1,18 @@
 //! One block of 64 bytes: its marks, and what the next block has to know.
 
-ghost use Rattle.std.specs.Prelude.{◌≡◌, ◌+◌, slice_index};
+ghost use Rattle.std.specs.Prelude.{◌≡◌, ℕ, ◌+◌, ◌-◌, ◌^◌, ◌<◌, ◌++◌, true, map, slice_index, OnOk, OnErr};
 ghost use Rattle.jp_lanes.specs.Word.{bit, Says};
 ghost use Rattle.jp_masks.specs.Ends.{is_end, ends_word};
 ghost use Rattle.jp_masks.specs.Places.{set_bits};
 ghost use Rattle.jp_masks.specs.Runs.{odd_run, parity, restarted, carried, escaped_at};
 ghost use Rattle.jp_masks.specs.Machine.{before, is_marked};
 
-use arrayvec::ArrayVec;
 use jp_lanes::{Classes, classify};
 use jp_model::Framing;
+use std::alloc::AllocError;
+
+/// How many bytes a block has, and so how many places at most.
+const BLOCK: usize = 64;
 
 /// What is known before a byte: whether a backslash escapes it, whether it is inside a string, and whether a token may
 /// begin there.
@@ -125,6 +128,7 @@ pub struct Found {
 }
 
 /// The marks of one block, by what is known before its first byte, and what is known after its last.
+#[inline(always)]
 pub fn scan_block(bytes: &[u8; 64], framing: Option<Framing>, first: Carry) -> Found
     ensures marks { Says result.marks (λ i. is_marked (before framing first bytes.now i) (slice_index bytes.now i)) }
     ensures ends { Says result.ends (λ i. is_end framing (slice_index bytes.now i)) }
@@ -149,16 +153,24 @@ pub fn scan_block(bytes: &[u8; 64], framing: Option<Framing>, first: Carry) -> F
     Found { marks, ends, next }
 }
 
-/// The places of the set bits, lowest first.
-pub fn places_of(word: u64) -> ArrayVec<u32, 64>
-    ensures { result.items ≡ set_bits word }
+/// Adds the places of the set bits of a block that begins at `base`, lowest first, each counted from `start`. After an
+/// `Err` the places are as before.
+pub fn push_places(
+    places: &mut Vec<u32>,
+    base: u32,
+    start: u32,
+    word: u64,
+) -> Result<(), AllocError>
+    requires { (i : ℕ) → i < 64 → bit word i ≡ true → base + i < 2 ^ 32 }
+    ensures ok { OnOk result (places.new.items ≡ places.old.items ++ map (λ i. base + i - start) (set_bits word)) }
+    ensures err { OnErr result (places.new.items ≡ places.old.items) }
 {
-    let mut places = ArrayVec::new();
+    places.reserve(BLOCK)?;
     let mut rest = word;
     while rest != 0 {
-        let place = rest.trailing_zeros();
-        places.push(place);
-        rest &= !(1 << place);
+        let at = base + rest.trailing_zeros();
+        places.push_reserved(at.saturating_sub(start));
+        rest &= rest - 1;
     }
-    places
+    Ok(())
 }

@@ -1,12 +1,13 @@
 //! The marks of all lines of a collection.
 
-ghost use Rattle.std.specs.Prelude.{◌≡◌, ℕ, ◌+◌, ◌^◌, ◌<◌, ◌≤◌, ◌++◌, ◌∷◌, [], true, take, bit_or, length, slice_get, slice_range, Some, IsTrue, ◌↔◌, IfOk, OnOk, OnErr};
+ghost use Rattle.std.specs.Prelude.{◌≡◌, ℕ, ◌+◌, ◌-◌, ◌^◌, ◌<◌, ◌≤◌, ◌++◌, [], true, map, take, bit_or, length, slice_get, slice_range, Some, IsTrue, ◌↔◌, IfOk, OnOk, OnErr};
 ghost use Rattle.std.specs.Str.{IsUtf8};
 ghost use Rattle.jp_model.specs.Json.Places.{bytes_between};
 ghost use Rattle.jp_masks.specs.Rows.{rows_within};
 
-use crate::block::places_of;
+use crate::block::push_places;
 use crate::framed::is_line;
+use crate::one_line::first_bits;
 use crate::row::Row;
 use jp_model::{Framing, Span};
 use std::alloc::{AllocError, Global};
@@ -139,16 +140,16 @@ impl Marks {
         self.is_utf8 = is_utf8;
     }
 
-    /// Adds a mark of the open line.
-    fn add_mark(&mut self, place: u32) -> Result<(), AllocError>
-        ensures places { OnOk result (self.new.places.items ≡ self.old.places.items ++ place ∷ []) }
+    /// Adds marks of a block that begins at `base`, all of the open line, which begins at `start`.
+    fn add_marks(&mut self, base: u32, start: u32, marks: u64) -> Result<(), AllocError>
+        requires { (i : ℕ) → i < 64 → bit marks i ≡ true → base + i < 2 ^ 32 }
+        ensures places { OnOk result (self.new.places.items ≡ self.old.places.items ++ map (λ i. base + i - start) (set_bits marks)) }
         ensures rows { self.new.rows ≡ self.old.rows }
         ensures before { self.new.places_before ≡ self.old.places_before }
         ensures utf8 { self.new.is_utf8 ≡ self.old.is_utf8 }
         ensures err { OnErr result (IsUnchanged self.old self.new) }
     {
-        self.places.push(place)?;
-        Ok(())
+        push_places(&mut self.places, base, start, marks)
     }
 
     /// Keeps the open line, which ends at `end`.
@@ -203,17 +204,19 @@ impl Marks {
         ensures grown { Grows self.old self.new }
     {
         let mut start = from;
-        let places = places_of(marks | ends);
-        for place in places.as_slice() {
-            let place = *place;
+        let mut later_marks = marks & !ends;
+        let mut later_ends = ends;
+        while later_ends != 0 {
+            let place = later_ends.trailing_zeros();
+            let below = first_bits(place as usize);
             let at = base + place;
-            if (ends >> place) & 1 == 1 {
-                self.close(is_line(framing, start, at), start, at)?;
-                start = at + 1;
-            } else {
-                self.add_mark(at.saturating_sub(start))?;
-            }
+            self.add_marks(base, start, later_marks & below)?;
+            self.close(is_line(framing, start, at), start, at)?;
+            start = at + 1;
+            later_marks &= !below;
+            later_ends &= later_ends - 1;
         }
+        self.add_marks(base, start, later_marks)?;
         Ok(start)
     }
 }

@@ -9,7 +9,7 @@ ghost use Rattle.jp_lanes.specs.Word.{bit, Says};
 ghost use Rattle.jp_masks.specs.OneLine.{HasMarked};
 ghost use Rattle.jp_masks.specs.Places.{set_bits};
 
-use crate::block::{Carry, places_of, scan_block};
+use crate::block::{Carry, push_places, scan_block};
 use jp_lanes::pad;
 use std::alloc::{AllocError, Global};
 
@@ -30,18 +30,6 @@ pub fn first_bits(count: usize) -> u64
     (1 << count) - 1
 }
 
-/// Adds the places of a block that begins at `base`.
-fn push_places(places: &mut Vec<u32>, base: u32, word: u64) -> Result<(), AllocError>
-    requires { (i : ℕ) → i < 64 → bit word i ≡ true → base + i < 2 ^ 32 }
-    ensures { OnOk result (places.new.items ≡ places.old.items ++ map (λ i. base + i) (set_bits word)) }
-{
-    let found = places_of(word);
-    for place in found.as_slice() {
-        places.push(base + *place)?;
-    }
-    Ok(())
-}
-
 /// Adds the marks of a whole block that begins at `base`, and tells what is known behind it.
 fn mark_block(
     places: &mut Vec<u32>,
@@ -54,7 +42,7 @@ fn mark_block(
         → IfOk result (λ next. HasMarked (read ++ block.now) places.new.items next (base + 64)) }
 {
     let found = scan_block(block, None, known);
-    push_places(places, base, found.marks)?;
+    push_places(places, base, 0, found.marks)?;
     Ok(found.next)
 }
 
@@ -76,6 +64,6 @@ pub fn line_marks(alloc: Global, line: &[u8]) -> Result<Vec<u32>, AllocError>
         base += 64;
     }
     let found = scan_block(&pad(rest), None, known);
-    push_places(&mut places, base, found.marks & first_bits(rest.len()))?;
+    push_places(&mut places, base, 0, found.marks & first_bits(rest.len()))?;
     Ok(places)
 }

@@ -41,6 +41,7 @@ impl Progress {
     }
 
     /// Takes in a whole block.
+    #[inline(always)]
     pub fn step(&mut self, block: &[u8; 64], sink: &mut Marks) -> Result<(), AllocError>
         requires { self.old.scanned + 64 < 2 ^ 32 }
         ensures scanned { (framing : Framing) (whole : List ℕ) → InBlocks framing whole self.old sink.old

@@ -8,6 +8,12 @@ use jp_model::{Framing, Span};
 use std::alloc::{AllocError, Global};
 use std::test::Fail;
 
+mod cuts;
+
+/// 21 lines that a string is left open in, and a last one: 64 bytes.
+const SHORT_LINES: &[u8] =
+    b"\"x\n\"x\n\"x\n\"x\n\"x\n\"x\n\"x\n\"x\n\"x\n\"x\n\"x\n\"x\n\"x\n\"x\n\"x\n\"x\n\"x\n\"x\n\"x\n\"x\n\"x\n1";
+
 /// The marks of a collection that comes in two pieces.
 fn scan(alloc: Global, framing: Framing, front: &[u8], back: &[u8]) -> Result<Marks, AllocError>
     requires { length front.now + length back.now < 2 ^ 32 }
@@ -68,9 +74,7 @@ fn each_line_has_its_own_verdict(rt: HostRuntime) -> Result<(), Fail> {
 fn whole_blocks_are_told_at_once(rt: HostRuntime) -> Result<(), Fail> {
     let mut marks = Marks::new(rt.alloc());
     let mut scanner = Scanner::new(Framing::Lines);
-    let text =
-        b"\"x\n\"x\n\"x\n\"x\n\"x\n\"x\n\"x\n\"x\n\"x\n\"x\n\"x\n\"x\n\"x\n\"x\n\"x\n\"x\n\"x\n\"x\n\"x\n\"x\n\"x\n1";
-    scanner.feed(text, &mut marks)?;
+    scanner.feed(SHORT_LINES, &mut marks)?;
     assert_eq!(&rt; marks.line_count(), 21);
     scanner.finish(&mut marks)?;
     assert_eq!(&rt; marks.line_count(), 22);

@@ -9,3 +9,4 @@ pub mod Runs
 pub mod Answers
 pub mod Slices
 pub mod Counts
+pub mod Orders

@@ -14,9 +14,23 @@ use jp_lanes::{equal_bytes, first_special};
 use std::alloc::{AllocError, Global};
 use std::cmp::Ordering;
 
-/// How two bodies are ordered by the scalars that they spell, a proper prefix being less (RFC 9535,
-/// section 2.3.5.2.2).
-pub fn compare(a: &[u8], b: &[u8]) -> Ordering
+// Whether each character stands for itself.
+fn is_plain(body: &[u8]) -> bool
+    ensures { IsTrue result → ArePlain body.now 0 (length body.now) }
+{
+    first_special(body, 0) == body.len()
+}
+
+// Whether each character of both stands for itself.
+fn are_plain(a: &[u8], b: &[u8]) -> bool
+    ensures first { IsTrue result → ArePlain a.now 0 (length a.now) }
+    ensures second { IsTrue result → ArePlain b.now 0 (length b.now) }
+{
+    is_plain(a) && is_plain(b)
+}
+
+// The order, scalar by scalar.
+fn compare_scalars(a: &[u8], b: &[u8]) -> Ordering
     requires first { IsText a.now }
     requires second { IsText b.now }
     ensures { result ≡ slice_cmp nat_cmp (points_of a.now) (points_of b.now) }
@@ -24,11 +38,17 @@ pub fn compare(a: &[u8], b: &[u8]) -> Ordering
     Scalars::new(a).cmp(Scalars::new(b))
 }
 
-// Whether each character stands for itself.
-fn is_plain(body: &[u8]) -> bool
-    ensures { IsTrue result → ArePlain body.now 0 (length body.now) }
+/// How two bodies are ordered by the scalars that they spell, a proper prefix being less (RFC 9535,
+/// section 2.3.5.2.2).
+pub fn compare(a: &[u8], b: &[u8]) -> Ordering
+    requires first { IsText a.now }
+    requires second { IsText b.now }
+    ensures { result ≡ slice_cmp nat_cmp (points_of a.now) (points_of b.now) }
 {
-    first_special(body, 0) == body.len()
+    if are_plain(a, b) {
+        return a.cmp(b);
+    }
+    compare_scalars(a, b)
 }
 
 /// Whether two bodies spell the same scalars.
@@ -40,10 +60,10 @@ pub fn equal(a: &[u8], b: &[u8]) -> bool
     if equal_bytes(a, b) {
         return true;
     }
-    if is_plain(a) && is_plain(b) {
+    if are_plain(a, b) {
         return false;
     }
-    compare(a, b).is_eq()
+    compare_scalars(a, b).is_eq()
 }
 
 // How many characters some bytes have.

@@ -95,3 +95,26 @@ fn scalars_are_yielded(rt: HostRuntime) -> Result<(), Fail> {
     assert_eq!(rt; unescape(rt.alloc(), body)?.as_str(), "x\u{1F600}é/");
     Ok(())
 }
+
+#[test]
+fn plain_bodies_are_ordered_by_scalars(rt: HostRuntime) -> Result<(), Fail> {
+    let bodies = [
+        "",
+        "a",
+        "ab",
+        "b",
+        "\u{e9}",
+        "\u{ffff}",
+        "\u{10000}",
+        "\u{10ffff}",
+    ];
+    for (i, first) in bodies.iter().enumerate() {
+        test_body(first.as_bytes())?;
+        for (j, second) in bodies.iter().enumerate() {
+            test_body(second.as_bytes())?;
+            assert_eq!(rt; compare(first.as_bytes(), second.as_bytes()), i.cmp(&j));
+            assert_eq!(rt; equal(first.as_bytes(), second.as_bytes()), i == j);
+        }
+    }
+    Ok(())
+}

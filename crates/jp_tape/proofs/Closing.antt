@@ -20,7 +20,7 @@ not_special : (b : ℕ) → 0x20 ≤ b → (b ≡ 0x22 → ⊥) → (b ≡ 0x5C 
 not_special b l q s = grind (arith, nat_tests, l, q, s)
 
 -- a character that stands for itself has none
-character_plain : (line : List ℕ) (i j u k : ℕ) → Unescaped line i j u → i ≤ k → k < j → is_special (byte_at line k) ≡ false
+pub character_plain : (line : List ℕ) (i j u k : ℕ) → Unescaped line i j u → i ≤ k → k < j → is_special (byte_at line k) ≡ false
 character_plain line i j u k a l h =
     let rest : drop i line ≡ encode_utf8 u ++ drop j line = reads_rest line i j (encode_utf8 u) a.bytes in
     let e = reads_end line i j (encode_utf8 u) a.bytes in

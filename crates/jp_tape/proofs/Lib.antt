@@ -10,6 +10,9 @@ pub mod Contents
 pub mod Trees
 pub mod Cursors
 -- Lemmas on the walk over a line.
+pub mod Ahead
+pub mod Quotes
+pub mod Bodies
 pub mod Scans
 pub mod Closing
 pub mod NumberEnds

@@ -3,6 +3,7 @@
 ghost use Rattle.std.specs.Prelude.{◌≡◌, ℕ, ◌<◌, ◌↔◌, ◌^◌, true, false, length, IfOk, IfErr, IsTrue, IsUtf8};
 ghost use Rattle.jp_model.specs.Lines.{is_blank};
 ghost use Rattle.jp_model.specs.Json.Faults.{is_truncated as truncated};
+ghost use Rattle.jp_model.specs.Json.Marks.{marks as marks_of};
 ghost use Rattle.jp_model.specs.Json.Tree.{Tree};
 ghost use Rattle.jp_model.specs.Json.Spelling.{Text};
 ghost use Rattle.jp_model.specs.Json.Status.{HasStatus, parsed, fault_of_tree};
@@ -69,7 +70,7 @@ fn fault_of(builder: &Builder<'_>, line: &[u8], framing: Framing) -> Option<Line
 
 /// The tape of a line (RFC 8259, sections 2 to 8), or the line's first fault.
 ///
-/// `is_utf8` is whether the line is UTF-8. The faults are told in this order: `Utf8`; `Grammar`, where the line is no
+/// `marks` are the places of the line's marks, as `jp_masks` finds them, and `is_utf8` is whether the line is UTF-8. The faults are told in this order: `Utf8`; `Grammar`, where the line is no
 /// JSON text; `Truncated`, where a text of a sequence may have lost its end (RFC 7464, section 2.4); `Depth`, where
 /// arrays and objects nest deeper than 512; `Surrogate`, where half of a pair stands alone; `Number`, where an exponent
 /// has more than 15 digits behind its leading zeros; and `Duplicate`, where an object has two equal names (profile). The
@@ -77,11 +78,13 @@ fn fault_of(builder: &Builder<'_>, line: &[u8], framing: Framing) -> Option<Line
 pub fn build(
     alloc: Global,
     line: &[u8],
+    marks: &[u32],
     is_utf8: bool,
     framing: Framing,
 ) -> Result<Tape, BuildFault>
     requires not_blank { is_blank line.now ≡ false }
     requires room { length line.now < 2 ^ 32 }
+    requires marks { marks.now ≡ marks_of line.now }
     requires verdict { IsTrue is_utf8 ↔ IsUtf8 line.now }
     ensures tree { IfOk result (λ tape. (t : Tree) × HasStatus framing line.now (parsed t) × (tape ≡ tape_words t)) }
     ensures only { IfOk result (λ tape. (t : Tree) → Text line.now t → tape ≡ tape_words t) }
@@ -91,7 +94,7 @@ pub fn build(
     if !is_utf8 {
         return Err(BuildFault::Line(LineFault::Utf8));
     }
-    let builder = walk(alloc, line)?;
+    let builder = walk(alloc, line, marks)?;
     match fault_of(&builder, line, framing) {
         Some(fault) => Err(BuildFault::Line(fault)),
         None => Ok(Tape {

@@ -3,8 +3,11 @@
 ghost use Rattle.std.specs.Prelude.{IfOk};
 ghost use Rattle.jp_tape.specs.Tapes.{IsTapeOf};
 
+mod names;
+
 use crate::{BuildFault, Cursor, Kind, Tape, build};
 use jp_decimal::Decimal;
+use jp_masks::line_marks;
 use jp_model::{Framing, LineFault, Span, is_blank};
 use std::alloc::{AllocError, Global};
 
@@ -33,7 +36,10 @@ fn read(alloc: Global, line: &[u8], framing: Framing) -> Result<Tape, BuildFault
         return Err(BuildFault::Memory);
     }
     let is_utf8 = std::str::from_utf8(line).is_ok();
-    build(alloc, line, is_utf8, framing)
+    let Ok(marks) = line_marks(alloc, line) else {
+        return Err(BuildFault::Memory);
+    };
+    build(alloc, line, &marks, is_utf8, framing)
 }
 
 fn fault(alloc: Global, line: &[u8], framing: Framing) -> Option<LineFault> {
@@ -165,6 +171,53 @@ fn depth_is_bounded_and_not_recursive(rt: HostRuntime) -> Result<(), Fail> {
     assert!(rt; is_refused(alloc, &many, LineFault::Depth));
     let open = nested(alloc, 1000000, 0)?;
     assert!(rt; is_refused(alloc, &open, LineFault::Grammar));
+    Ok(())
+}
+
+const WHOLE: [u8; 29] = *b"{\"a\":[{\"b\":1},{\"b\":2}],\"b\":3}";
+
+#[test]
+fn cut_texts_are_refused(rt: HostRuntime) {
+    let line = WHOLE;
+    assert!(rt; has_tape(rt.alloc(), &line));
+    for end in 1..29 {
+        assert!(rt; is_refused(rt.alloc(), &line[..end], LineFault::Grammar));
+    }
+}
+
+#[test]
+fn tokens_that_touch_are_refused(rt: HostRuntime) {
+    let alloc = rt.alloc();
+    assert!(rt; is_refused(alloc, b"[\\\"a\"]", LineFault::Grammar));
+    assert!(rt; is_refused(alloc, b"[1\\\"]", LineFault::Grammar));
+    assert!(rt; is_refused(alloc, b"[12x]", LineFault::Grammar));
+    assert!(rt; is_refused(alloc, b"[01]", LineFault::Grammar));
+    assert!(rt; is_refused(alloc, b"\"a\"b", LineFault::Grammar));
+    assert!(rt; is_refused(alloc, b"[1 2]", LineFault::Grammar));
+    assert!(rt; is_refused(alloc, b"[true\"a\"]", LineFault::Grammar));
+    assert!(rt; has_tape(alloc, b" [ 1 , \"a\" , { } , [ ] , null ] "));
+}
+
+/// An array of a string of 59 letters and so many backslashes, which ends like this.
+fn slashed(alloc: Global, slashes: usize, end: &[u8]) -> Result<Vec<u8>, AllocError> {
+    let mut line = Vec::from_slice(alloc, b"[\"")?;
+    for _ in 0..59 {
+        line.push(b'x')?;
+    }
+    for _ in 0..slashes {
+        line.push(b'\\')?;
+    }
+    line.extend_from_slice(end)?;
+    Ok(line)
+}
+
+#[test]
+fn backslashes_are_counted(rt: HostRuntime) -> Result<(), Fail> {
+    let alloc = rt.alloc();
+    assert!(rt; has_tape(alloc, &slashed(alloc, 4, b"\"]")?));
+    assert!(rt; has_tape(alloc, &slashed(alloc, 5, b"\"\"]")?));
+    assert!(rt; is_refused(alloc, &slashed(alloc, 5, b"\"]")?, LineFault::Grammar));
+    assert!(rt; is_refused(alloc, &slashed(alloc, 4, b"\"\"]")?, LineFault::Grammar));
     Ok(())
 }
 

@@ -1,3 +1,5 @@
+mod queries;
+
 use crate::names::segments_known;
 use crate::typing::segments_typed;
 use jp_model::QueryFault;

@@ -6,6 +6,7 @@ ghost use Rattle.jp_query.specs.View.{literal_view};
 ghost use Rattle.jp_query.specs.Sound.{is_sound};
 
 use super::*;
+use jp_masks::line_marks;
 use jp_model::{Framing, is_blank};
 use jp_query::{CompareOp, Literal};
 use jp_tape::{BuildFault, Cursor, Tape, build};
@@ -37,7 +38,10 @@ fn read(alloc: Global, line: &[u8]) -> Result<Tape, BuildFault>
         return Err(BuildFault::Memory);
     }
     let is_utf8 = std::str::from_utf8(line).is_ok();
-    build(alloc, line, is_utf8, Framing::Lines)
+    let Ok(marks) = line_marks(alloc, line) else {
+        return Err(BuildFault::Memory);
+    };
+    build(alloc, line, &marks, is_utf8, Framing::Lines)
 }
 
 /// Of two texts: whether their values are equal, whether the first is less, and whether the second is.
@@ -97,6 +101,7 @@ fn numbers_are_compared_by_value(rt: HostRuntime) -> Result<(), Fail> {
 fn strings_are_compared_by_scalars(rt: HostRuntime) -> Result<(), Fail> {
     let alloc = rt.alloc();
     assert_eq!(rt; compared(alloc, b"\"\\u0061\\n\"", b"\"a\\u000A\"")?, EQUAL);
+    assert_eq!(rt; compared(alloc, b"\"\\u0061\"", b"\"a\"")?, EQUAL);
     assert_eq!(rt;
         compared(alloc, b"\"\\ud83d\\ude00\"", b"\"\xf0\x9f\x98\x80\"")?,
         EQUAL
@@ -117,6 +122,7 @@ fn kinds_are_apart(rt: HostRuntime) -> Result<(), Fail> {
     assert_eq!(rt; compared(alloc, b"true", b"true")?, EQUAL);
     assert_eq!(rt; compared(alloc, b"false", b"true")?, APART);
     assert_eq!(rt; compared(alloc, b"1", b"\"1\"")?, APART);
+    assert_eq!(rt; compared(alloc, b"1", b"\"a\"")?, APART);
     assert_eq!(rt; compared(alloc, b"null", b"false")?, APART);
     assert_eq!(rt; compared(alloc, b"[]", b"{}")?, APART);
     assert_eq!(rt; compared(alloc, b"[1]", b"1")?, APART);
@@ -149,6 +155,10 @@ fn elements_and_members_are_compared(rt: HostRuntime) -> Result<(), Fail> {
     assert_eq!(rt; compared(alloc, plain, b"{\"a\":1,\"b\":[]}")?, APART);
     assert_eq!(rt; compared(alloc, b"{\"a\":1,\"b\":[]}", plain)?, APART);
     assert_eq!(rt; compared(alloc, b"{\"a\":1}", b"{\"b\":1}")?, APART);
+    assert_eq!(rt;
+        compared(alloc, b"{\"a\":1,\"b\":2}", b"{\"b\":2.0,\"a\":1}")?,
+        EQUAL
+    );
     Ok(())
 }
 
@@ -234,6 +244,21 @@ fn keys_are_ordered_as_values(rt: HostRuntime) -> Result<(), Fail> {
     assert!(rt; key(alloc, b"[1]")?.is_none());
     assert!(rt; key(alloc, b"{}")?.is_none());
     laws::keys_are_ordered_as_values();
+    Ok(())
+}
+
+#[test]
+fn scalars_alone_have_keys_and_copies_are_equal(rt: HostRuntime) -> Result<(), Fail> {
+    let alloc = rt.alloc();
+    assert!(rt; key(alloc, b"[]")?.is_none());
+    assert!(rt; key(alloc, b"null")? == Some(Key::Null));
+    for line in [b"1.0".as_slice(), b"\"a\"", b"true"] {
+        let Some(found) = key(alloc, line)? else {
+            return Err(Fail::Fault(BuildFault::Memory));
+        };
+        let copy = found.copy(alloc)?;
+        assert!(rt; copy == found && copy.is_same(&found));
+    }
     Ok(())
 }
 

@@ -1,6 +1,6 @@
 //! What `check` answers.
 
-use super::running::answered;
+use super::running::{CUTS, answered};
 use std::test::Fail;
 
 const CASES: [(&str, &str, &str); 8] = [
@@ -41,8 +41,10 @@ const CASES: [(&str, &str, &str); 8] = [
 #[test]
 fn refused_lines_are_told_and_all_are_counted(rt: HostRuntime) -> Result<(), Fail> {
     for (collection, script, expected) in CASES {
-        let got = answered(rt.alloc(), collection.as_bytes(), script.as_bytes(), 3)?;
-        assert_eq!(rt; got.as_slice(), expected.as_bytes(), "{script}");
+        for cut in CUTS {
+            let got = answered(rt.alloc(), collection.as_bytes(), script.as_bytes(), cut)?;
+            assert_eq!(rt; got.as_slice(), expected.as_bytes(), "{script} at {cut}");
+        }
     }
     Ok(())
 }

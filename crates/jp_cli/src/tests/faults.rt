@@ -13,7 +13,7 @@ const COLLECTION: &[u8] = b"{\"a\":1}\n";
 
 const OUTPUT: &[u8] = b"1\t$['a']\t1\n= 1\n";
 
-const fn setup(most: u32, script_most: u32) -> Setup
+pub(super) const fn setup(most: u32, script_most: u32) -> Setup
     ensures { result.framing ≡ framings.Lines }
 {
     Setup {

@@ -1,10 +1,8 @@
 //! What scripts answer over collections, with reads cut at every size.
 
-use super::running::answered;
+use super::running::{CUTS, answered};
 use std::alloc::Global;
 use std::test::Fail;
-
-const CUTS: [usize; 5] = [1, 2, 3, 7, 100_000];
 
 const CASES: [(&str, &str, &str); 12] = [
     ("{\"a\":1}\n", "query $.a", "1\t$['a']\t1\n= 1\n"),
@@ -64,7 +62,8 @@ fn scripts_answer_however_they_are_cut(rt: HostRuntime) -> Result<(), Fail> {
     Ok(())
 }
 
-fn nested(alloc: Global, opened: usize, closed: usize) -> Result<Vec<u8>, Fail> {
+/// Arrays in one another, and a line feed behind the last.
+pub(super) fn nested(alloc: Global, opened: usize, closed: usize) -> Result<Vec<u8>, Fail> {
     let mut line = Vec::new(alloc);
     for _ in 0..opened {
         line.push(b'[')?;

@@ -12,6 +12,9 @@ const SETUP: Setup = Setup {
     script_most: u32::MAX,
 };
 
+/// How many bytes a read gives: few, about a block of 64 that is scanned, or all.
+pub(super) const CUTS: [usize; 8] = [1, 2, 3, 7, 63, 64, 65, 100_000];
+
 /// What the script answers, where both are read so many bytes at a time.
 pub(super) fn answered(
     alloc: Global,

@@ -1,6 +1,7 @@
 //! The searches, at each place.
 
 use crate::{equal_bytes, first_special};
+use std::alloc::{AllocError, Global};
 use std::test::Fail;
 
 #[test]
@@ -20,6 +21,32 @@ fn the_first_special_byte_is_found(rt: HostRuntime) -> Result<(), Fail> {
         if i < 199 {
             assert_eq!(rt; first_special(marked.as_slice(), i + 1), 200);
         }
+    }
+    Ok(())
+}
+
+// Whether the special byte at each place of a text of that length is found, and none where there is none.
+fn each_place_is_found(alloc: Global, size: usize) -> Result<bool, AllocError> {
+    let mut bytes = Vec::new(alloc);
+    for _ in 0..size {
+        bytes.push(b'x')?;
+    }
+    let specials = [b'"', b'\\', 0x1f];
+    for place in 0..bytes.len() {
+        bytes[place] = specials[place % 3];
+        let found = first_special(&bytes, 0) == place && first_special(&bytes, place) == place;
+        bytes[place] = b' ';
+        if !found || first_special(&bytes, place) != bytes.len() {
+            return Ok(false);
+        }
+    }
+    Ok(first_special(&bytes, bytes.len()) == bytes.len())
+}
+
+#[test]
+fn a_special_byte_is_found_in_short_texts(rt: HostRuntime) -> Result<(), Fail> {
+    for size in 0..131usize {
+        assert!(rt; each_place_is_found(rt.alloc(), size)?);
     }
     Ok(())
 }

@@ -81,7 +81,7 @@ pub(crate) fn simple_selector(alloc: Global, text: &[char]) -> Result<(Selector,
 pub(crate) fn one<T: Drop>(alloc: Global, item: T) -> Result<Vec<T>, AllocError>
     ensures { IfOk result (λ v. v.items ≡ item ∷ []) }
 {
-    let mut items = Vec::new(alloc);
+    let mut items = Vec::with_capacity(alloc, 1)?;
     items.push(item)?;
     Ok(items)
 }

@@ -4,6 +4,7 @@ ghost use Rattle.std.specs.Prelude.{IfSome};
 ghost use Rattle.jp_tape.specs.Tapes.{IsTapeOf};
 
 use crate::{write_path, write_whole};
+use jp_masks::line_marks;
 use jp_model::{Framing, Watched, is_blank};
 use jp_tape::{Cursor, Tape, build};
 use std::alloc::{AllocError, Global};
@@ -17,7 +18,8 @@ fn tape_of(alloc: Global, line: &[u8]) -> Option<Tape>
         return None;
     }
     let is_utf8 = std::str::from_utf8(line).is_ok();
-    match build(alloc, line, is_utf8, Framing::Lines) {
+    let marks = line_marks(alloc, line).ok()?;
+    match build(alloc, line, &marks, is_utf8, Framing::Lines) {
         Ok(tape) => Some(tape),
         Err(_) => None,
     }

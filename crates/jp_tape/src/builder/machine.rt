@@ -1,14 +1,16 @@
 //! The walk over a line: a machine with a stack of open containers, which writes the words of the nodes.
 
-ghost use Rattle.std.specs.Prelude.{◌≡◌, ℕ, ◌+◌, ◌*◌, ◌^◌, ◌<◌, ◌≤◌, ◌++◌, ◌∷◌, [], max, length, List, true, false, IfOk, IfErr, IsTrue};
+ghost use Rattle.std.specs.Prelude.{◌≡◌, ℕ, ◌+◌, ◌*◌, ◌^◌, ◌<◌, ◌≤◌, ◌++◌, ◌∷◌, [], max, length, List, true, false, IfOk, IfErr, IsTrue, IsUtf8};
 ghost use Rattle.jp_model.specs.Json.Places.{White, Has, byte_at, bytes_between};
 ghost use Rattle.jp_tape.specs.Names.{points};
 ghost use Rattle.jp_strings.specs.Points.{is_text_from, points_of};
 ghost use Rattle.jp_model.specs.Json.Tree.{Tree};
 ghost use Rattle.jp_model.specs.Json.Spelling.{Text, opening, closing};
 ghost use Rattle.jp_model.specs.Json.Status.{IsNoText};
+ghost use Rattle.jp_model.specs.Json.Marks.{marks as marks_of};
 ghost use Rattle.jp_tape.specs.Words.{head_word, span_word, up_word, container_code};
 ghost use Rattle.jp_tape.specs.Places.{Stops};
+ghost use Rattle.jp_tape.specs.Ahead.{IsAhead, IsAheadOf};
 ghost use Rattle.jp_tape.specs.Reading.{body_word, code_of, container_if, NoLabel, OnFault};
 ghost use Rattle.jp_tape.specs.Machine.{State, Stands, Steps, NoStep, IsWithin, IsBehind, Labelled, IsFinished, IsCounted, IsClosed, Holds, next_up};
 ghost use Rattle.jp_tape.specs.declared.builder.machine.Open.{Open};
@@ -17,7 +19,7 @@ ghost use Rattle.jp_tape.specs.declared.builder.machine.Turn.TheVariants as turn
 use super::BuildFault;
 use super::body::Body;
 use super::names::has_equal;
-use super::scan::{is_at, skip_white};
+use super::scan::{is_at, marks_behind, skip_white};
 use super::tokens::{Label, label_at, scalar_at};
 use crate::Kind;
 use jp_model::{LineFault, Span};
@@ -56,6 +58,8 @@ pub(super) struct Builder<'a> {
     opened: Vec<Open>,
     /// The bodies of the names in them.
     names: Vec<Body<'a>>,
+    /// The marks that are to come.
+    marks: &'a [u32],
     pub(super) deepest: usize,
     pub(super) has_surrogate: bool,
     pub(super) has_long_exponent: bool,
@@ -165,24 +169,31 @@ fn kept_body<'a>(line: &'a [u8], span: Span, is_lone: bool) -> Body<'a>
 }
 
 impl<'a> Builder<'a> {
-    fn new(alloc: Global) -> Builder<'a>
-        ensures words { result.words.items ≡ [] }
-        ensures opened { result.opened.items ≡ [] }
-        ensures names { result.names.items ≡ [] }
-        ensures deepest { result.deepest ≡ 0 }
-        ensures surrogate { result.has_surrogate ≡ false }
-        ensures long { result.has_long_exponent ≡ false }
-        ensures duplicate { result.has_duplicate ≡ false }
+    /// Nothing is read yet. An object has more marks than words, so that its words are not moved while they are written.
+    fn new(alloc: Global, marks: &'a [u32]) -> Result<Builder<'a>, BuildFault>
+        ensures words { IfOk result (λ b. b.words.items ≡ []) }
+        ensures opened { IfOk result (λ b. b.opened.items ≡ []) }
+        ensures names { IfOk result (λ b. b.names.items ≡ []) }
+        ensures marks { IfOk result (λ b. b.marks.now ≡ marks.now) }
+        ensures deepest { IfOk result (λ b. b.deepest ≡ 0) }
+        ensures surrogate { IfOk result (λ b. b.has_surrogate ≡ false) }
+        ensures long { IfOk result (λ b. b.has_long_exponent ≡ false) }
+        ensures duplicate { IfOk result (λ b. b.has_duplicate ≡ false) }
+        ensures memory { IfErr result (λ fault. OnFault fault ⊥) }
     {
-        Builder {
-            words: Vec::new(alloc),
+        let Ok(words) = Vec::with_capacity(alloc, marks.len() + 4) else {
+            return Err(BuildFault::Memory);
+        };
+        Ok(Builder {
+            words,
             opened: Vec::new(alloc),
             names: Vec::new(alloc),
+            marks,
             deepest: 0,
             has_surrogate: false,
             has_long_exponent: false,
             has_duplicate: false,
-        }
+        })
     }
 
     /// The fourth word of the next value: it is a child of the innermost container, or the root.
@@ -205,15 +216,19 @@ impl<'a> Builder<'a> {
     ) -> Result<Turn, BuildFault>
         requires within { from ≤ length line.now }
         requires room { length line.now < 2 ^ 32 }
+        requires utf8 { IsUtf8 line.now }
         requires stops { Stops line.now from }
+        requires ahead { IsAhead line.now from self.old.marks.now }
         ensures found { IfOk result (λ turn. Labelled line.now (container_if is_object) from turn self.old self.new) }
+        ensures ahead { IfOk result (λ turn. IsAheadOf line.now turn self.new) }
         ensures stuck { IfErr result (λ fault. OnFault fault (NoLabel line.now (container_if is_object) from)) }
     {
-        let Some(label) = label_at(line, is_object, from) else {
+        let Some(label) = label_at(line, self.marks, is_object, from) else {
             return Err(GRAMMAR);
         };
         self.has_surrogate |= label.is_lone;
         if let Some(span) = label.name {
+            self.marks = marks_behind(self.marks, 3);
             match self.names.push(kept_body(line, span, label.is_lone)) {
                 Ok(()) => {}
                 Err(_) => return Err(BuildFault::Memory),
@@ -232,16 +247,21 @@ impl<'a> Builder<'a> {
     ) -> Result<Turn, BuildFault>
         requires opens { Has line.now at (opening (container_if is_object)) }
         requires room { length line.now < 2 ^ 32 }
+        requires utf8 { IsUtf8 line.now }
         requires few { length self.old.words.items ≤ 4 * at }
+        requires ahead { IsAhead line.now at self.old.marks.now }
         ensures goes_on { IfOk result (λ turn. Steps line.now (turns.Value name at) self.old turn self.new) }
         ensures behind { IfOk result (λ turn. IsBehind line.now at turn self.new) }
+        ensures ahead { IfOk result (λ turn. IsAheadOf line.now turn self.new) }
         ensures stuck { IfErr result (λ fault. OnFault fault (NoStep line.now (turns.Value name at) self.old)) }
     {
-        let inside = skip_white(line, at + 1);
+        self.marks = marks_behind(self.marks, 1);
+        let inside = skip_white(line, self.marks, at + 1);
         let place = self.words.len() / 4;
         let up = self.up();
         self.deepest = larger(self.deepest, self.opened.len() + 1);
         if is_at(line, inside, closing_of(is_object)) {
+            self.marks = marks_behind(self.marks, 1);
             let span = span_to_word(at as u32, (inside + 1) as u32);
             let head = head(container_kind(is_object), place + 1);
             return match write_node(&mut self.words, head, span, name_to_word(name), up) {
@@ -270,9 +290,12 @@ impl<'a> Builder<'a> {
     fn begin(&mut self, line: &'a [u8], at: usize, name: Option<Span>) -> Result<Turn, BuildFault>
         requires within { at ≤ length line.now }
         requires room { length line.now < 2 ^ 32 }
+        requires utf8 { IsUtf8 line.now }
         requires few { length self.old.words.items ≤ 4 * at }
+        requires ahead { IsAhead line.now at self.old.marks.now }
         ensures goes_on { IfOk result (λ turn. Steps line.now (turns.Value name at) self.old turn self.new) }
         ensures behind { IfOk result (λ turn. IsBehind line.now at turn self.new) }
+        ensures ahead { IfOk result (λ turn. IsAheadOf line.now turn self.new) }
         ensures stuck { IfErr result (λ fault. OnFault fault (NoStep line.now (turns.Value name at) self.old)) }
     {
         if at >= line.len() {
@@ -284,9 +307,10 @@ impl<'a> Builder<'a> {
         if is_at(line, at, b'{') {
             return self.enter(line, at, true, name);
         }
-        let Some(scalar) = scalar_at(line, at) else {
+        let Some(scalar) = scalar_at(line, self.marks, at) else {
             return Err(GRAMMAR);
         };
+        self.marks = marks_behind(self.marks, scalar.marks);
         let head = head(scalar.kind, self.words.len() / 4 + 1);
         let span = span_to_word(at as u32, scalar.end as u32);
         let up = self.up();
@@ -307,6 +331,7 @@ impl<'a> Builder<'a> {
         requires few { length self.old.words.items < 4 * end }
         requires room { end < 2 ^ 32 }
         ensures closed { IsClosed container end self.old self.new }
+        ensures marks { self.new.marks.now ≡ self.old.marks.now }
     {
         let place = container.place as usize;
         let kind = container_kind(container.is_object);
@@ -325,6 +350,7 @@ impl<'a> Builder<'a> {
         requires some { 0 < length self.old.opened.items }
         requires room { (outer : List Open) (o : Open) → self.old.opened.items ≡ outer ++ o ∷ [] → o.children + 1 < 2 ^ 32 }
         ensures counted { IsCounted self.old self.new }
+        ensures marks { self.new.marks.now ≡ self.old.marks.now }
     {
         let last = self.opened.len() - 1;
         self.opened[last].children += 1;
@@ -334,13 +360,16 @@ impl<'a> Builder<'a> {
     fn go_on(&mut self, line: &'a [u8], at: usize) -> Result<Turn, BuildFault>
         requires within { at ≤ length line.now }
         requires room { length line.now < 2 ^ 32 }
+        requires utf8 { IsUtf8 line.now }
         requires few { length self.old.words.items ≤ 4 * at }
+        requires ahead { IsAhead line.now at self.old.marks.now }
         requires holds { Holds line.now (turns.After at) self.old }
         ensures goes_on { IfOk result (λ turn. Steps line.now (turns.After at) self.old turn self.new) }
         ensures behind { IfOk result (λ turn. IsBehind line.now at turn self.new) }
+        ensures ahead { IfOk result (λ turn. IsAheadOf line.now turn self.new) }
         ensures stuck { IfErr result (λ fault. OnFault fault (NoStep line.now (turns.After at) self.old)) }
     {
-        let next = skip_white(line, at);
+        let next = skip_white(line, self.marks, at);
         if self.opened.is_empty() {
             return if next == line.len() {
                 Ok(Turn::End)
@@ -350,25 +379,34 @@ impl<'a> Builder<'a> {
         }
         let container = self.opened[self.opened.len() - 1];
         if is_at(line, next, b',') {
+            self.marks = marks_behind(self.marks, 1);
             self.count_child();
-            return self.next_child(line, container.is_object, skip_white(line, next + 1));
+            let child = skip_white(line, self.marks, next + 1);
+            return self.next_child(line, container.is_object, child);
         }
         if !is_at(line, next, closing_of(container.is_object)) {
             return Err(GRAMMAR);
         }
+        self.marks = marks_behind(self.marks, 1);
         self.close(container, next + 1);
         Ok(Turn::After(next + 1))
     }
 }
 
 /// Reads the whole line.
-pub(super) fn walk(alloc: Global, line: &[u8]) -> Result<Builder<'_>, BuildFault>
+pub(super) fn walk<'a>(
+    alloc: Global,
+    line: &'a [u8],
+    marks: &'a [u32],
+) -> Result<Builder<'a>, BuildFault>
     requires room { length line.now < 2 ^ 32 }
+    requires utf8 { IsUtf8 line.now }
+    requires marks { marks.now ≡ marks_of line.now }
     ensures found { IfOk result (λ builder. (t : Tree) × Text line.now t × IsFinished line.now builder t) }
     ensures refused { IfErr result (λ fault. OnFault fault (IsNoText line.now)) }
 {
-    let mut builder = Builder::new(alloc);
-    let mut turn = Turn::Value(None, skip_white(line, 0));
+    let mut builder = Builder::new(alloc, marks)?;
+    let mut turn = Turn::Value(None, skip_white(line, marks, 0));
     loop {
         turn = match turn {
             Turn::Value(name, at) => builder.begin(line, at, name)?,

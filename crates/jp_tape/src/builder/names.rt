@@ -8,8 +8,12 @@ ghost use Rattle.jp_model.specs.Json.Faults.{has_repeated};
 ghost use Rattle.jp_tape.specs.Names.{points, all_points};
 
 use super::body::Body;
-use jp_strings::compare;
+use jp_lanes::equal_bytes;
+use jp_strings::{compare, equal};
 use std::cmp::Ordering;
+
+/// So many bodies are compared by pairs, and more are sorted.
+const MOST_PAIRED: usize = 8;
 
 impl PartialEq for Body<'_> {
     ghost eq = { λ a b. pointwise nat_eq (points a) (points b) };
@@ -17,7 +21,10 @@ impl PartialEq for Body<'_> {
     ghost laws = { on_per points (partial_equiv_from_equiv nat_list_eq_equiv) };
 
     fn eq(&self, other: &Body<'_>) -> bool {
-        self.cmp(other).is_eq()
+        if self.is_plain && other.is_plain {
+            return equal_bytes(self.bytes, other.bytes);
+        }
+        equal(self.bytes, other.bytes)
     }
 }
 
@@ -45,6 +52,9 @@ impl Ord for Body<'_> {
     ghost matches_eq = { λ a b. texts_ties (points a) (points b) };
 
     fn cmp(&self, other: &Body<'_>) -> Ordering {
+        if self.is_plain && other.is_plain {
+            return self.bytes.cmp(other.bytes);
+        }
         compare(self.bytes, other.bytes)
     }
 }
@@ -62,12 +72,24 @@ fn has_equal_neighbours(bodies: &[Body<'_>]) -> bool
     false
 }
 
+/// Whether two bodies are equal, by comparing each with all behind it.
+fn has_equal_pair(bodies: &[Body<'_>]) -> bool
+    ensures { result ≡ has_repeated (all_points bodies.now) }
+{
+    for behind in 1..bodies.len() {
+        if bodies[behind..].contains(&bodies[behind - 1]) {
+            return true;
+        }
+    }
+    false
+}
+
 /// Whether two bodies are equal. It changes their order.
 pub(super) fn has_equal(bodies: &mut [Body<'_>]) -> bool
     ensures { result ≡ has_repeated (all_points bodies.old) }
 {
-    if bodies.len() < 2 {
-        return false;
+    if bodies.len() <= MOST_PAIRED {
+        return has_equal_pair(bodies);
     }
     bodies.sort_unstable();
     has_equal_neighbours(bodies)

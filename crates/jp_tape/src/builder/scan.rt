@@ -1,9 +1,10 @@
 //! Places in a line: where white space, words, numbers and strings end.
 
-ghost use Rattle.std.specs.Prelude.{◌≡◌, ℕ, ◌+◌, ◌<◌, ◌≤◌, true, false, length, List, IfSome, IfNone};
+ghost use Rattle.std.specs.Prelude.{◌≡◌, ℕ, ◌+◌, ◌<◌, ◌≤◌, true, false, length, drop, List, IfSome, IfNone};
 ghost use Rattle.jp_model.specs.Characters.{is_white};
 ghost use Rattle.jp_model.specs.Json.Places.{White, Has, Reads, byte_at};
 ghost use Rattle.jp_tape.specs.Places.{in_number, Ended, Stops};
+ghost use Rattle.jp_tape.specs.Ahead.{IsAhead, IsPassed, IsSolid};
 
 fn is_white_byte(byte: u8) -> bool
     ensures { result ≡ is_white byte }
@@ -22,17 +23,47 @@ fn is_number_byte(byte: u8) -> bool
         || byte == b'-'
 }
 
-/// The first place at or after `from` without white space, or the length.
-pub(super) fn skip_white(line: &[u8], from: usize) -> usize
-    requires { from ≤ length line.now }
+/// Whether white space stands there.
+fn is_white_at(line: &[u8], at: usize) -> bool
+    ensures inside { result ≡ true → at < length line.now }
+    ensures is { result ≡ is_white (byte_at line.now at) }
+{
+    at < line.len() && is_white_byte(line[at])
+}
+
+/// The first place at or after `from` without white space, or the length: the next mark, where white space is at `from`.
+pub(super) fn skip_white(line: &[u8], marks: &[u32], from: usize) -> usize
+    requires within { from ≤ length line.now }
+    requires ahead { IsAhead line.now from marks.now }
     ensures white { White line.now from result }
     ensures stops { Stops line.now result }
+    ensures ahead { IsAhead line.now result marks.now }
 {
-    let mut at = from;
-    while at < line.len() && is_white_byte(line[at]) {
-        at += 1;
+    if !is_white_at(line, from) {
+        return from;
     }
-    at
+    if marks.is_empty() {
+        return line.len();
+    }
+    marks[0] as usize
+}
+
+/// The marks behind the first so many.
+pub(super) fn marks_behind(marks: &[u32], count: usize) -> &[u32]
+    requires { count ≤ length marks.now }
+    ensures { result.now ≡ drop count marks.now }
+{
+    &marks[count..]
+}
+
+/// How many marks a number or a word at `from` has: its first byte is one where a token may begin.
+pub(super) fn own_marks(marks: &[u32], from: usize) -> usize
+    ensures { (line : List ℕ) (to : ℕ) → IsAhead line from marks.now → from < to → to ≤ length line → IsSolid line from to → IsPassed line marks.now result to }
+{
+    if marks.is_empty() {
+        return 0;
+    }
+    if marks[0] as usize == from { 1 } else { 0 }
 }
 
 /// The first place at or after `from` with no byte of a number, or the length.

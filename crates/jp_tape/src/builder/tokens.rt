@@ -1,15 +1,17 @@
 //! The tokens of a line: strings, numbers, words and names.
 
-ghost use Rattle.std.specs.Prelude.{◌≡◌, ℕ, ◌+◌, ◌^◌, ◌<◌, ◌≤◌, true, false, length, List, Some, None, IfSome, IfNone, ℤ};
+ghost use Rattle.std.specs.Prelude.{◌≡◌, ℕ, ◌+◌, ◌^◌, ◌<◌, ◌≤◌, true, false, length, List, Some, None, IfSome, IfNone, IsSome, IsTrue, IsUtf8, ℤ};
+ghost use Rattle.std.specs.List.{list_all};
 ghost use Rattle.jp_model.specs.Json.Places.{White, Has, Reads, byte_at, bytes_between};
 ghost use Rattle.jp_model.specs.Json.Numbers.{SpellsNumber, numeral_of, is_long_exponent};
 ghost use Rattle.jp_model.specs.Json.Strings.{SpellsBody, has_lone_surrogate};
 ghost use Rattle.jp_model.specs.Json.Spelling.{SpellsString, SpellsName};
 ghost use Rattle.jp_model.specs.Json.Tree.{Name, object, array};
-ghost use Rattle.jp_tape.specs.Places.{Ended, Stops, Passes};
+ghost use Rattle.jp_tape.specs.Places.{Ended, Stops};
+ghost use Rattle.jp_tape.specs.Ahead.{IsAhead, IsPassed, IsSolid, in_token, name_marks};
 ghost use Rattle.jp_tape.specs.Reading.{FoundScalar, NoValue, FoundLabel, NoLabel, container_if};
 
-use super::scan::{is_at, number_bytes_end, skip_white, word_end};
+use super::scan::{is_at, marks_behind, number_bytes_end, own_marks, skip_white, word_end};
 use crate::Kind;
 use jp_decimal::{Decimal, NumberFault};
 use jp_lanes::first_special;
@@ -39,6 +41,8 @@ pub(super) struct Scalar {
     pub(super) is_lone: bool,
     /// Its exponent is too long.
     pub(super) is_long: bool,
+    /// How many marks it has.
+    pub(super) marks: usize,
 }
 
 /// What stands before the value of a child: in an object its name, and the place of the value.
@@ -50,40 +54,41 @@ pub(super) struct Label {
     pub(super) value: usize,
 }
 
-/// The quote that closes the body at `from`.
-fn closing_quote(line: &[u8], from: usize) -> Option<usize>
-    requires { from ≤ length line.now }
-    ensures within { IfSome result (λ at. from ≤ at) }
+/// The quote that closes the string at `from`: the mark behind that of its opening quote.
+fn closing_quote(line: &[u8], marks: &[u32], from: usize) -> Option<usize>
+    requires opens { Has line.now from 0x22 }
+    requires ahead { IsAhead line.now from marks.now }
+    ensures within { IfSome result (λ at. from < at) }
     ensures quote { IfSome result (λ at. Has line.now at 0x22) }
-    ensures only { IfSome result (λ at. (to : ℕ) (points : List ℕ) → SpellsBody line.now from to points → Has line.now to 0x22 → to ≡ at) }
-    ensures none { IfNone result ((to : ℕ) (points : List ℕ) → SpellsBody line.now from to points → Has line.now to 0x22 → ⊥) }
+    ensures only { IfSome result (λ at. (to : ℕ) (points : List ℕ) → SpellsBody line.now (from + 1) to points → Has line.now to 0x22 → to ≡ at) }
+    ensures ahead { IfSome result (λ at. IsPassed line.now marks.now 2 (at + 1)) }
+    ensures none { IfNone result ((to : ℕ) (points : List ℕ) → SpellsBody line.now (from + 1) to points → Has line.now to 0x22 → ⊥) }
 {
-    let mut at = from;
-    loop {
-        at = first_special(line, at);
-        if at >= line.len() {
-            return None;
-        }
-        if line[at] == b'"' {
-            return Some(at);
-        }
-        if line[at] != b'\\' || line.len() - at < 2 {
-            return None;
-        }
-        at += 2;
+    if marks.len() < 2 {
+        return None;
     }
+    Some(marks[1] as usize)
 }
 
-/// The end of the string at `from`.
-fn string_end(line: &[u8], from: usize) -> Option<StringEnd>
-    requires { Has line.now from 0x22 }
+/// The end of the string at `from`. A body without special bytes stands for itself.
+fn string_end(line: &[u8], marks: &[u32], from: usize) -> Option<StringEnd>
+    requires opens { Has line.now from 0x22 }
+    requires utf8 { IsUtf8 line.now }
+    requires ahead { IsAhead line.now from marks.now }
     ensures within { IfSome result (λ r. (from + 1 < r.end) × (r.end ≤ length line.now)) }
     ensures found { IfSome result (λ r. (points : List ℕ) × SpellsString line.now from r.end points × (has_lone_surrogate points ≡ r.is_lone)) }
+    ensures ahead { IfSome result (λ r. IsPassed line.now marks.now 2 r.end) }
     ensures none { IfNone result ((to : ℕ) (points : List ℕ) → SpellsString line.now from to points → ⊥) }
 {
-    let Some(last) = closing_quote(line, from + 1) else {
+    let Some(last) = closing_quote(line, marks, from) else {
         return None;
     };
+    if first_special(line, from + 1) == last {
+        return Some(StringEnd {
+            end: last + 1,
+            is_lone: false,
+        });
+    }
     match test_body(&line[from + 1..last]) {
         Ok(()) => Some(StringEnd {
             end: last + 1,
@@ -102,6 +107,7 @@ fn number_end(line: &[u8], from: usize) -> Option<NumberEnd>
     requires inside { from < length line.now }
     requires room { length line.now < 2 ^ 32 }
     ensures within { IfSome result (λ r. (from < r.end) × (r.end ≤ length line.now)) }
+    ensures solid { IfSome result (λ r. IsSolid line.now from r.end) }
     ensures found { IfSome result (λ r. (m e : ℤ) × SpellsNumber line.now from r.end m e × Ended line.now r.end × (is_long_exponent (numeral_of (bytes_between line.now from r.end)) ≡ r.is_long)) }
     ensures none { IfNone result ((to : ℕ) (m e : ℤ) → SpellsNumber line.now from to m e → Ended line.now to → ⊥) }
 {
@@ -117,21 +123,25 @@ fn number_end(line: &[u8], from: usize) -> Option<NumberEnd>
 }
 
 /// The name at `from` and its colon.
-fn name_at(line: &[u8], from: usize) -> Option<Label>
+fn name_at(line: &[u8], marks: &[u32], from: usize) -> Option<Label>
     requires within { from ≤ length line.now }
     requires room { length line.now < 2 ^ 32 }
+    requires utf8 { IsUtf8 line.now }
+    requires ahead { IsAhead line.now from marks.now }
     ensures within { IfSome result (λ r. (from < r.value) × (r.value ≤ length line.now)) }
     ensures stops { IfSome result (λ r. Stops line.now r.value) }
+    ensures ahead { IfSome result (λ r. IsPassed line.now marks.now 3 r.value) }
+    ensures is_named { IfSome result (λ r. IsSome r.name) }
     ensures found { IfSome result (λ r. FoundLabel line.now object from r) }
     ensures none { IfNone result (NoLabel line.now object from) }
 {
     if !is_at(line, from, b'"') {
         return None;
     }
-    let Some(name) = string_end(line, from) else {
+    let Some(name) = string_end(line, marks, from) else {
         return None;
     };
-    let colon = skip_white(line, name.end);
+    let colon = skip_white(line, marks_behind(marks, 2), name.end);
     if !is_at(line, colon, b':') {
         return None;
     }
@@ -142,22 +152,25 @@ fn name_at(line: &[u8], from: usize) -> Option<Label>
     Some(Label {
         name: Some(body),
         is_lone: name.is_lone,
-        value: skip_white(line, colon + 1),
+        value: skip_white(line, marks_behind(marks, 3), colon + 1),
     })
 }
 
 /// What stands before the value of a child.
-pub(super) fn label_at(line: &[u8], is_object: bool, from: usize) -> Option<Label>
+pub(super) fn label_at(line: &[u8], marks: &[u32], is_object: bool, from: usize) -> Option<Label>
     requires within { from ≤ length line.now }
     requires room { length line.now < 2 ^ 32 }
+    requires utf8 { IsUtf8 line.now }
     requires stops { Stops line.now from }
+    requires ahead { IsAhead line.now from marks.now }
     ensures within { IfSome result (λ r. (from ≤ r.value) × (r.value ≤ length line.now)) }
     ensures stops { IfSome result (λ r. Stops line.now r.value) }
+    ensures ahead { IfSome result (λ r. IsPassed line.now marks.now (name_marks r.name) r.value) }
     ensures found { IfSome result (λ r. FoundLabel line.now (container_if is_object) from r) }
     ensures none { IfNone result (NoLabel line.now (container_if is_object) from) }
 {
     if is_object {
-        name_at(line, from)
+        name_at(line, marks, from)
     } else {
         Some(Label {
             name: None,
@@ -168,9 +181,13 @@ pub(super) fn label_at(line: &[u8], is_object: bool, from: usize) -> Option<Labe
 }
 
 /// The word at `from`, as a value of this kind.
-fn word_at(line: &[u8], from: usize, word: &[u8], kind: Kind) -> Option<Scalar>
-    requires { from ≤ length line.now }
+fn word_at(line: &[u8], marks: &[u32], from: usize, word: &[u8], kind: Kind) -> Option<Scalar>
+    requires within { from ≤ length line.now }
+    requires some { 0 < length word.now }
+    requires plain { IsTrue (list_all in_token word.now) }
+    requires ahead { IsAhead line.now from marks.now }
     ensures found { IfSome result (λ r. Reads line.now from r.end word.now × (r.end ≡ from + length word.now) × (r.kind ≡ kind) × (r.is_lone ≡ false) × (r.is_long ≡ false)) }
+    ensures ahead { IfSome result (λ r. IsPassed line.now marks.now r.marks r.end) }
     ensures none { IfNone result ((to : ℕ) → Reads line.now from to word.now → ⊥) }
 {
     match word_end(line, from, word) {
@@ -179,38 +196,43 @@ fn word_at(line: &[u8], from: usize, word: &[u8], kind: Kind) -> Option<Scalar>
             end,
             is_lone: false,
             is_long: false,
+            marks: own_marks(marks, from),
         }),
         None => None,
     }
 }
 
 /// The value at `from`, which is no array or object.
-pub(super) fn scalar_at(line: &[u8], from: usize) -> Option<Scalar>
+pub(super) fn scalar_at(line: &[u8], marks: &[u32], from: usize) -> Option<Scalar>
     requires inside { from < length line.now }
     requires room { length line.now < 2 ^ 32 }
+    requires utf8 { IsUtf8 line.now }
+    requires ahead { IsAhead line.now from marks.now }
     requires no_array { byte_at line.now from ≡ 0x5B → ⊥ }
     requires no_object { byte_at line.now from ≡ 0x7B → ⊥ }
     ensures within { IfSome result (λ r. (from < r.end) × (r.end ≤ length line.now)) }
+    ensures ahead { IfSome result (λ r. IsPassed line.now marks.now r.marks r.end) }
     ensures found { IfSome result (λ r. FoundScalar line.now from r) }
     ensures none { IfNone result (NoValue line.now from) }
 {
     let byte = line[from];
     if byte == b'n' {
-        return word_at(line, from, b"null", Kind::Null);
+        return word_at(line, marks, from, b"null", Kind::Null);
     }
     if byte == b't' {
-        return word_at(line, from, b"true", Kind::True);
+        return word_at(line, marks, from, b"true", Kind::True);
     }
     if byte == b'f' {
-        return word_at(line, from, b"false", Kind::False);
+        return word_at(line, marks, from, b"false", Kind::False);
     }
     if byte == b'"' {
-        return match string_end(line, from) {
+        return match string_end(line, marks, from) {
             Some(string) => Some(Scalar {
                 kind: Kind::Text,
                 end: string.end,
                 is_lone: string.is_lone,
                 is_long: false,
+                marks: 2,
             }),
             None => None,
         };
@@ -221,6 +243,7 @@ pub(super) fn scalar_at(line: &[u8], from: usize) -> Option<Scalar>
             end: number.end,
             is_lone: false,
             is_long: number.is_long,
+            marks: own_marks(marks, from),
         }),
         None => None,
     }

@@ -19,10 +19,10 @@ use Rattle.jp_cli.proofs.store.push_rows.Goals as goal
 
 module _ (c : goal.After-push_nodes) where
   abbrev line : List ℕ
-  line = c.args.line.now.text.items
+  line = c.args.line.now.text.now
 
   abbrev cs : List Cursor
-  cs = c.as_slice-in-Tree.result.now
+  cs = c.as_slice.result.now
 
   abbrev q : Segments
   q = checked_view c.args.query.now
@@ -31,17 +31,17 @@ module _ (c : goal.After-push_nodes) where
   parsed_line = (subst (λ k. IsOfKind k line) c.in-Tree.is c.requires.read).0
 
   root_is : node_of c.root-root.result ≡ root_node (spelled line)
-  root_is = c.root-root.ensures.node ∙ ap (λ l. root_node (spelled l)) c.as_slice.ensures.value
+  root_is = c.root-root.ensures.node
 
   of_line : All (λ d. line_of d ≡ line) cs
   of_line =
-      subst (λ (ds : List Cursor). All (λ d. line_of d ≡ line) ds) (sym c.as_slice-in-Tree.ensures.value)
-      (subst (λ (l : List ℕ). All (λ d. line_of d ≡ l) c.eval_from.new.out.items) (c.root-root.ensures.line ∙ c.as_slice.ensures.value)
+      subst (λ (ds : List Cursor). All (λ d. line_of d ≡ line) ds) (sym c.as_slice.ensures.value)
+      (subst (λ (l : List ℕ). All (λ d. line_of d ≡ l) c.eval_from.new.out.items) c.root-root.ensures.line
       (c.in_ok-eval_from-in-Tree.ensures.lines (all_of_none (line_of c.root-root.result) c.clear.new.self.items c.clear.ensures.items)))
 
   nodes_are : map node_of cs ≡ nodes q (root_node (spelled line) ∷ []) (spelled line)
   nodes_are =
-      ap (map node_of) c.as_slice-in-Tree.ensures.value
+      ap (map node_of) c.as_slice.ensures.value
       ∙ (c.in_ok-eval_from-in-Tree.ensures.ok
       ∙ (ap (λ (ds : List Cursor). map node_of ds ++ nodes (segments_view c.segments.result.now) (node_of c.root-root.result ∷ []) (node_of c.root-root.result).tree) c.clear.ensures.items
       ∙ ap₂ (λ (ss : Segments) (n : Node). nodes ss (n ∷ []) n.tree) c.segments.ensures.value root_is))

@@ -6,12 +6,17 @@ use Rattle.jp_model.specs.Json.Tree.{Children}
 use Rattle.jp_model.specs.Meaning.Nodes.{Node}
 use Rattle.jp_model.specs.Meaning.Slices.{is_name, named}
 use Rattle.jp_tape.specs.declared.cursor.Cursor.{Cursor}
-use Rattle.jp_tape.specs.Cursors.{node_of, name_of, children_from, children_after}
-use Rattle.jp_tape.proofs.Cursors.{sound}
+use Rattle.jp_tape.specs.Cursors.{line_of, node_of, name_of, children_from, children_after}
+use Rattle.jp_tape.proofs.Cursors.{sound, standing}
 use Rattle.jp_eval.proofs.Kept.{line_on, line_of_some}
 use Rattle.jp_eval.proofs.Walks.{Left, at_first, at_next, passed_here, all_chosen}
+use Rattle.jp_eval.proofs.NoMembers.{no_members}
 use Rattle.jp_eval.proofs.Members.{only_one, distinct_children, distinct_behind}
 use Rattle.jp_eval.proofs.children.find_member.Goals as goal
+
+pub returns-then-not-is_object-clause-nodes : goal.returns-then-not-is_object-clause-nodes
+returns-then-not-is_object-clause-nodes c =
+    sym (no_members (line_of c.args.node) (chars c.args.name.now) (node_of c.args.node) (standing c.args.node).spells (c.is_object.ensures c.if-not-is_object.true))
 
 pub loop-next-init : goal.loop-next-init
 loop-next-init c =

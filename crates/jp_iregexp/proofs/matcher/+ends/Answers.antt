@@ -6,7 +6,7 @@ use Rattle.jp_model.specs.Pattern.Tree.{Pattern}
 use Rattle.jp_iregexp.specs.Positions.{AreEnds}
 use Rattle.jp_iregexp.specs.Trees.{tree_of, sequence_list, choice_list}
 use Rattle.jp_iregexp.proofs.Parts.{tree_of_Sequence, tree_of_Choice, drop_item, drop_past, if_ok_map}
-use Rattle.jp_iregexp.proofs.Turns.{sequence_step, sequence_end, gather_step, gather_end, exact_start, exact_step, exact_exit, exact_end, further_start, further_step, further_exit, further_end, times_some, times_none}
+use Rattle.jp_iregexp.proofs.Turns.{sequence_step, sequence_end, gather_step, gather_end, exact_start, exact_step, exact_exit, exact_end, further_start, further_step, further_exit, further_end, times_some, times_none, any_number}
 use Rattle.jp_iregexp.specs.Tables.{Kept, KeptList}
 use Rattle.jp_iregexp.proofs.Keeping.{kept_at, from_Sequence, from_Choice}
 use Rattle.jp_iregexp.proofs.matcher.+ends.Goals as goal
@@ -81,6 +81,14 @@ further_turns-returns t c =
     let member = Language (tree_of c.args.body.now) in
     further_end member (RepeatsWithin member 0 (Some c.args.most)) c.args.text.now c.args.starts.now.words.items c.loop-turn.reached.words.items c.loop-turn.reached.words.items c.args.most c.loop-turn.turn (omega arith) c.loop-turn.invariant
 
+pub any_turns-returns-in_default : goal.any_turns-returns-in_default
+any_turns-returns-in_default t c =
+    let member = Language (tree_of c.args.body.now) in
+    let text = c.args.text.now in
+    let starts = c.args.starts.now.words.items in
+    if_ok_map (λ (out : PositionSet). AreEnds (RepeatsWithin member 0 (Some (length text))) text starts out.words.items) (λ (out : PositionSet). AreEnds (RepeatsWithin member 0 None) text starts out.words.items) c.further_turns.result
+    (λ out b. any_number member text starts out.words.items b) c.further_turns.ensures
+
 pub repeated_ends-returns-in_ok-reached-in-Some : goal.repeated_ends-returns-in_ok-reached-in-Some
 repeated_ends-returns-in_ok-reached-in-Some t c =
     let member = Language (tree_of c.args.body.now) in
@@ -101,9 +109,9 @@ repeated_ends-returns-in_ok-reached-in-None t c =
     let starts = c.args.starts.now.words.items in
     let reached = c.in_ok-reached-in-None.reached.words.items in
     let least = c.args.least in
-    subst (λ (m : Option ℕ). IfOk c.further_turns-in-None.result (λ (out : PositionSet). AreEnds (RepeatsWithin member least m) text starts out.words.items)) (sym c.in-None.is)
-    (if_ok_map (λ (out : PositionSet). AreEnds (RepeatsWithin member 0 (Some (length text))) text reached out.words.items) (λ (out : PositionSet). AreEnds (RepeatsWithin member least None) text starts out.words.items) c.further_turns-in-None.result
-    (λ out b. times_none member least text starts reached out.words.items c.in_ok-reached-in-None.ensures b) c.further_turns-in-None.ensures)
+    subst (λ (m : Option ℕ). IfOk c.any_turns.result (λ (out : PositionSet). AreEnds (RepeatsWithin member least m) text starts out.words.items)) (sym c.in-None.is)
+    (if_ok_map (λ (out : PositionSet). AreEnds (RepeatsWithin member 0 None) text reached out.words.items) (λ (out : PositionSet). AreEnds (RepeatsWithin member least None) text starts out.words.items) c.any_turns.result
+    (λ out b. times_none member least text starts reached out.words.items c.in_ok-reached-in-None.ensures b) c.any_turns.ensures)
 
 pub choice_ends-ends-requires : goal.choice_ends-ends-requires
 choice_ends-ends-requires t c =

@@ -1,6 +1,7 @@
-use Rattle.jp_lanes.proofs.Words.{says_or}
+use Rattle.std.proofs.Common.{Fits, w8, arith}
+use Rattle.std.proofs.lemmas.Simd.{Each1-get_or}
+use Rattle.jp_lanes.proofs.LaneClasses.{structural_say}
 use Rattle.jp_lanes.proofs.classes.structural_of.Goals as goal
 
 pub returns : goal.returns
-returns c =
-    says_or _ _ _ _ (says_or _ _ _ _ (says_or _ _ _ _ (says_or _ _ _ _ (says_or _ _ _ _ c.equal_to.ensures c.equal_to-2.ensures) c.equal_to-3.ensures) c.equal_to-4.ensures) c.equal_to-5.ensures) c.equal_to-6.ensures
+returns c = structural_say c.args.lanes c.fits-lanes.0 (λ i within. (Each1-get_or (Fits w8) c.args.lanes i 0 (omega (arith, c.fits-lanes.0)) c.fits-lanes.1).fits)

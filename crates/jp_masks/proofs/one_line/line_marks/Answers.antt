@@ -6,6 +6,9 @@ use Rattle.jp_masks.specs.Machine.{is_marked, before}
 use Rattle.jp_masks.proofs.LineBlocks.{read-more, last_marked}
 use Rattle.jp_masks.proofs.Scans.{marks_are}
 use Rattle.jp_masks.proofs.TokenLaw.{marks_are_its_tokens}
+use lib.Bits.{bit_and}
+use Rattle.jp_masks.specs.Places.{set_bits}
+use Rattle.jp_masks.proofs.Places.{from_first}
 use Rattle.jp_masks.proofs.one_line.line_marks.Goals as goal
 
 pub loop-block-init : goal.loop-block-init
@@ -30,7 +33,8 @@ returns-clause-marks c =
     let read = flat_map (λ b. b) (take l.block-index blocks) in
     let all : read ≡ flat_map (λ b. b) blocks = ap (flat_map (λ b. b)) (take_all l.block-index blocks (omega arith)) in
     let was = l.invariant.marked in
-    c.in_ok-push_places.ensures
+    c.in_ok-push_places.ensures.ok
+    ∙ from_first l.places.items (set_bits (bit_and c.scan_block-found.result.marks c.first_bits.result)) l.base
     ∙ last_marked read rest l.places.items l.known l.base c.scan_block-found.result.marks c.first_bits.result c.split_blocks.ensures.short was.placed was.knows was.long
     (subst (λ b. Says c.scan_block-found.result.marks (λ i. is_marked (before None l.known b i) (get_or b i 0))) c.pad.ensures c.scan_block-found.ensures.marks) c.first_bits.ensures
     ∙ ap (λ t. marks (t ++ rest)) all ∙ ap marks c.split_blocks.ensures.all

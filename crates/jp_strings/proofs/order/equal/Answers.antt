@@ -12,8 +12,8 @@ same_is_equal : (xs ys : List ℕ) (o : Ordering) → o ≡ slice_cmp nat_cmp xs
 same_is_equal = same_from_slice_cmp nat_cmp is_eq bytes_eq refl (λ _ _. refl) (λ _ _. refl) (λ x y xs ys o h. grind (arith, nat_tests))
 
 pub returns : goal.returns
-returns c = c.is_eq.ensures ∙ same_is_equal (points_of c.args.a.now) (points_of c.args.b.now) _ c.compare.ensures
+returns c = c.is_eq.ensures ∙ same_is_equal (points_of c.args.a.now) (points_of c.args.b.now) _ c.compare_scalars.ensures
 
-pub returns-then-is_plain-2 : goal.returns-then-is_plain-2
-returns-then-is_plain-2 c =
-    sym (plain_differ c.args.a.now c.args.b.now c.requires.first c.requires.second (c.is_plain.ensures c.if-is_plain.true) (c.is_plain-then-is_plain.ensures c.if-is_plain-2.true) (iff_false c.equal_bytes.ensures c.if-equal_bytes.false))
+pub returns-then-are_plain : goal.returns-then-are_plain
+returns-then-are_plain c =
+    sym (plain_differ c.args.a.now c.args.b.now c.requires.first c.requires.second (c.are_plain.ensures.first c.if-are_plain.true) (c.are_plain.ensures.second c.if-are_plain.true) (iff_false c.equal_bytes.ensures c.if-equal_bytes.false))

@@ -1,86 +1,94 @@
-use Rattle.std.proofs.Common.{◌≡◌, ◌+◌, [], ◌∷◌, ◌++◌, drop, get_or, sym, ap, ◌∙◌, arith, append-nil}
-use lib.Bits.{bit_or}
-use Rattle.std.proofs.lemmas.List.{drop_all}
-use Rattle.jp_masks.specs.Sinks.{Sink, row_if, close_at, mark_at, add_place, add_places}
-use Rattle.jp_masks.specs.declared.lines.Marks.{Marks}
-use Rattle.jp_masks.specs.Scanned.{stored, Grows}
+use Rattle.std.proofs.Common.{◌≡◌, ℕ, ◌+◌, ◌-◌, ◌<◌, true, false, ◌++◌, length, map, sym, ap, ◌∙◌, arith, w64}
+use Rattle.std.specs.Int.{trailing_zeros}
+use lib.Bits.{bit_and, bit_or}
+use Rattle.jp_lanes.specs.Word.{bit}
+use Rattle.jp_masks.specs.Places.{set_bits}
+use Rattle.jp_masks.specs.Found.{is_line}
+use Rattle.jp_masks.specs.Sinks.{Sink, row_if, close_at, add_places}
+use Rattle.jp_masks.specs.Scanned.{stored}
+use Rattle.jp_masks.proofs.Bits.{flipped}
 use Rattle.jp_masks.proofs.Growth.{grows_not, grows_by}
-use Rattle.jp_masks.proofs.SetBits.{placed}
-use Rattle.jp_masks.proofs.SinkPlaces.{take_one, at_end, at_mark}
+use Rattle.jp_masks.proofs.Places.{lowest_within, lowest_set, was_there, without_lowest}
+use Rattle.jp_masks.proofs.SinkPlaces.{but, marks_at, same_places, is_no_end, set_left, set_right, no_mark, places_parted, line_taken, marks_taken, marks_alone}
 use Rattle.jp_masks.proofs.lines.Marks.add_block.Goals as goal
-use Rattle.jp_masks.proofs.lines.Marks.add_block.Goals.{then-ends-place-eq1+in_ok-close, else-ends-place-eq1+in_ok-add_mark}
 
-pub overflow_add-at : goal.overflow_add-at
-overflow_add-at c =
-    let there = placed (bit_or c.args.marks c.args.ends) c.loop-place.place-index _ (c.as_slice-place-items.ensures.value ∙ c.places_of-places.ensures) c.loop-place-test.true in
-    let room = c.requires _ there.0 there.1 in
-    record { fits = omega (arith, room) }
-
-pub overflow_add-start : goal.overflow_add-start
-overflow_add-start c =
-    let there = placed (bit_or c.args.marks c.args.ends) c.loop-place.place-index _ (c.as_slice-place-items.ensures.value ∙ c.places_of-places.ensures) c.loop-place-test.true in
-    let room = c.requires _ there.0 there.1 in
-    record { fits = omega (arith, room) }
-
-pub overflow_shr-ends : goal.overflow_shr-ends
-overflow_shr-ends c =
-    let there = placed (bit_or c.args.marks c.args.ends) c.loop-place.place-index _ (c.as_slice-place-items.ensures.value ∙ c.places_of-places.ensures) c.loop-place-test.true in
-    omega (arith, there.0)
-
-pub loop-place-init : goal.loop-place-init
-loop-place-init c =
+pub loop-later_ends-init : goal.loop-later_ends-init
+loop-later_ends-init c =
     let m = c.args.self.now in
     record {
-      added = ap (add_places c.args.framing c.args.ends c.args.base (stored m.rows.items m.places.items m.places_before c.args.from)) (c.as_slice-place-items.ensures.value ∙ c.places_of-places.ensures);
+      added = ap (add_places c.args.framing c.args.ends c.args.base (stored m.rows.items m.places.items m.places_before c.args.from)) (sym (same_places c.args.marks c.args.ends c.ranges.ends.fits));
+      marks_left = λ i within set. is_no_end c.args.marks c.args.ends i c.ranges.ends.fits within set;
+      ends_left = λ i within set. set;
       grown = grows_not m;
     }
 
-pub loop-place-preserved : goal.loop-place-preserved
-loop-place-preserved c =
-    let l = c.loop-place in
-    let items = c.as_slice-place-items.result.now in
-    let old = stored l.self.rows.items l.self.places.items l.self.places_before l.start in
-    let place = get_or items l.place-index 0 in
+pub overflow_add-at : goal.overflow_add-at
+overflow_add-at c =
+    let l = c.loop-later_ends in
+    let some : 0 < l.later_ends = omega arith in
+    let within = lowest_within l.later_ends some l.auto.later_ends-fits.fits in
+    let end = l.invariant.ends_left (trailing_zeros w64 l.later_ends) within (lowest_set l.later_ends some l.auto.later_ends-fits.fits) in
+    let room = c.requires (trailing_zeros w64 l.later_ends) within (set_right c.args.marks c.args.ends (trailing_zeros w64 l.later_ends) end) in
+    record { fits = omega (arith, room) }
+
+pub add_marks-requires : goal.add_marks-requires
+add_marks-requires c i within set =
+    let l = c.loop-later_ends in
+    let room = c.requires i within (l.invariant.marks_left i within (set_left l.later_marks c.first_bits-below.result i set)).0 in
+    omega (arith, room)
+
+pub overflow_add-start : goal.overflow_add-start
+overflow_add-start c =
+    let l = c.loop-later_ends in
+    let some : 0 < l.later_ends = omega arith in
+    let within = lowest_within l.later_ends some l.auto.later_ends-fits.fits in
+    let end = l.invariant.ends_left (trailing_zeros w64 l.later_ends) within (lowest_set l.later_ends some l.auto.later_ends-fits.fits) in
+    let room = c.requires (trailing_zeros w64 l.later_ends) within (set_right c.args.marks c.args.ends (trailing_zeros w64 l.later_ends) end) in
+    record { fits = omega (arith, room) }
+
+pub loop-later_ends-preserved : goal.loop-later_ends-preserved
+loop-later_ends-preserved c =
+    let l = c.loop-later_ends in
+    let some : 0 < l.later_ends = omega arith in
+    let small = l.auto.later_ends-fits.fits in
+    let below = c.first_bits-below.result in
+    let place = trailing_zeros w64 l.later_ends in
     let at = c.args.base + place in
-    let after = c.if-ends-place-eq1.self in
-    let new = stored after.rows.items after.places.items after.places_before c.if-ends-place-eq1.start in
-    let step : new ≡ add_place c.args.framing c.args.ends c.args.base old place =
-    elim c.if-ends-place-eq1.branch [
-      | then-ends-place-eq1+in_ok-close w ↦
-          let rows_are = ap (λ (m : Marks). m.rows.items) w.self-is ∙ w.in_ok-close.ensures.rows ∙ ap (λ is. l.self.rows.items ++ row_if is l.start at l.self.places_before _) w.is_line.ensures in
-          let places_are = ap (λ (m : Marks). m.places.items) w.self-is ∙ ap (λ v. v.items) w.in_ok-close.ensures.places in
-          let before_is = ap (λ (m : Marks). m.places_before) w.self-is ∙ w.in_ok-close.ensures.before in
-          let closed : new ≡ close_at c.args.framing old at = λ t. record { rows = rows_are t; places = places_are t; before = before_is t; start = w.start-is t } in
-          closed ∙ at_end c.args.framing c.args.ends c.args.base old place w.if-ends-place-eq1.true
-      | else-ends-place-eq1+in_ok-add_mark w ↦
-          let rows_are = ap (λ (m : Marks). m.rows.items) w.self-is ∙ ap (λ v. v.items) w.in_ok-add_mark.ensures.rows in
-          let places_are = ap (λ (m : Marks). m.places.items) w.self-is ∙ w.in_ok-add_mark.ensures.places ∙ ap (λ v. l.self.places.items ++ v ∷ []) w.saturating_sub.ensures in
-          let before_is = ap (λ (m : Marks). m.places_before) w.self-is ∙ w.in_ok-add_mark.ensures.before in
-          let marked : new ≡ mark_at old at = λ t. record { rows = rows_are t; places = places_are t; before = before_is t; start = w.start-is t } in
-          marked ∙ at_mark c.args.framing c.args.ends c.args.base old place w.if-ends-place-eq1.false
-    ] in
-    let grown : Grows c.args.self.now after =
-    elim c.if-ends-place-eq1.branch [
-      | then-ends-place-eq1+in_ok-close w ↦
-          grows_by c.args.self.now l.self after (row_if w.is_line.result l.start at l.self.places_before _) [] l.invariant.grown
-          (ap (λ (m : Marks). m.rows.items) w.self-is ∙ w.in_ok-close.ensures.rows)
-          (ap (λ (m : Marks). m.places.items) w.self-is ∙ ap (λ v. v.items) w.in_ok-close.ensures.places ∙ sym (append-nil l.self.places.items))
-          (ap (λ (m : Marks). m.is_utf8) w.self-is ∙ w.in_ok-close.ensures.utf8)
-      | else-ends-place-eq1+in_ok-add_mark w ↦
-          grows_by c.args.self.now l.self after [] (w.saturating_sub.result ∷ []) l.invariant.grown
-          (ap (λ (m : Marks). m.rows.items) w.self-is ∙ ap (λ v. v.items) w.in_ok-add_mark.ensures.rows ∙ sym (append-nil l.self.rows.items))
-          (ap (λ (m : Marks). m.places.items) w.self-is ∙ w.in_ok-add_mark.ensures.places)
-          (ap (λ (m : Marks). m.is_utf8) w.self-is ∙ w.in_ok-add_mark.ensures.utf8)
-    ] in
+    let word = bit_and l.later_marks below in
+    let rest = set_bits (bit_or (but l.later_marks below) (without_lowest l.later_ends)) in
+    let old = stored l.self.rows.items l.self.places.items l.self.places_before l.start in
+    let more = map (λ i. c.args.base + i - l.start) (set_bits word) in
+    let marked = c.in_ok-add_marks.ensures in
+    let closed = c.in_ok-close.ensures in
+    let new = c.close.new.self in
+    let apart : (i : ℕ) → i < 64 → bit word i ≡ true → bit c.args.ends i ≡ false = λ i within set. (l.invariant.marks_left i within (set_left l.later_marks below i set)).1 in
+    let within = lowest_within l.later_ends some small in
+    let end = l.invariant.ends_left place within (lowest_set l.later_ends some small) in
+    let clear = no_mark (bit l.later_marks place) (bit c.args.ends place) (λ set. (l.invariant.marks_left place within set).1) end in
+    let parted = places_parted l.later_marks l.later_ends below some small c.first_bits-below.type_inv c.first_bits-below.ensures clear in
+    let taken = line_taken c.args.framing c.args.ends c.args.base word place apart end rest old in
+    let places_are : new.places.items ≡ l.self.places.items ++ more = ap (λ v. v.items) closed.places ∙ marked.places in
+    let rows_are : new.rows.items ≡ l.self.rows.items ++ row_if (is_line c.args.framing l.start at) l.start at l.self.places_before (length (l.self.places.items ++ more)) =
+    closed.rows ∙ (λ t. (marked.rows t).items ++ row_if (c.is_line.ensures t) l.start at (marked.before t) (length (marked.places t))) in
+    let before_is : new.places_before ≡ length (l.self.places.items ++ more) = closed.before ∙ ap length marked.places in
+    let step : stored new.rows.items new.places.items new.places_before (at + 1) ≡ close_at c.args.framing (marks_at old c.args.base (set_bits word)) at =
+    λ t. record { rows = rows_are t; places = places_are t; before = before_is t; start = at + 1 } in
     record {
-      added = ap (λ (s : Sink). add_places c.args.framing c.args.ends c.args.base s (drop (l.place-index + 1) items)) step
-          ∙ sym (take_one c.args.framing c.args.ends c.args.base old items l.place-index c.loop-place-test.true) ∙ l.invariant.added;
-      grown = grown;
+      added = ap (λ (s : Sink). add_places c.args.framing c.args.ends c.args.base s rest) step
+          ∙ sym taken ∙ sym (ap (add_places c.args.framing c.args.ends c.args.base old) parted) ∙ l.invariant.added;
+      marks_left = λ i within set. l.invariant.marks_left i within (set_left l.later_marks (flipped below) i set);
+      ends_left = λ i within set. l.invariant.ends_left i within (was_there l.later_ends some small i set);
+      grown = grows_by c.args.self.now l.self new _ more l.invariant.grown rows_are places_are (closed.utf8 ∙ marked.utf8);
     }
 
 pub returns-clause-added : goal.returns-clause-added
-unfolding add_places
 returns-clause-added c =
-    let l = c.loop-place in
-    let none = drop_all l.place-index c.as_slice-place-items.result.now (omega arith) in
-    sym (ap (add_places c.args.framing c.args.ends c.args.base (stored l.self.rows.items l.self.places.items l.self.places_before l.start)) none) ∙ l.invariant.added
+    let l = c.loop-later_ends in
+    let none : 0 ≡ l.later_ends = omega arith in
+    let old = stored l.self.rows.items l.self.places.items l.self.places_before l.start in
+    let marked = c.in_ok-add_marks-2.ensures in
+    let new = c.add_marks-2.new.self in
+    let step : stored new.rows.items new.places.items new.places_before l.start ≡ marks_at old c.args.base (set_bits l.later_marks) =
+    λ t. record { rows = (marked.rows t).items; places = marked.places t; before = marked.before t; start = l.start } in
+    step ∙ sym (marks_taken c.args.framing c.args.ends c.args.base l.later_marks (λ i within set. (l.invariant.marks_left i within set).1) old)
+    ∙ sym (ap (add_places c.args.framing c.args.ends c.args.base old) (marks_alone l.later_marks l.later_ends none)) ∙ l.invariant.added

@@ -1,5 +1,7 @@
-use Rattle.std.proofs.Common.{length, [], refl, None, ap, arith}
+use Rattle.std.proofs.Common.{List, ℕ, sym, subst, length, [], refl, None, ap, arith}
 use Rattle.jp_tape.specs.Machine.{Value_at}
+use Rattle.jp_tape.specs.Ahead.{IsAhead}
+use Rattle.jp_tape.proofs.Ahead.{all_ahead}
 use Rattle.jp_tape.specs.Names.{all_points}
 use Rattle.jp_tape.proofs.Steps.{start_forth, start_back}
 use Rattle.jp_tape.proofs.builder.machine.walk.Goals as goal
@@ -8,7 +10,7 @@ pub loop-turn-init : goal.loop-turn-init
 loop-turn-init c =
     let line = c.args.line.now in
     let w = c.skip_white.ensures in
-    let e = c.new-builder.ensures in
+    let e = c.in_ok-builder.ensures in
     let n = ap length e.words in
     record {
       reached = record {
@@ -23,4 +25,8 @@ loop-turn-init c =
         back = start_back line c.skip_white.result w.white;
       };
       within = (w.white.within, omega (arith, n));
+      ahead = subst (λ (ms : List ℕ). IsAhead line c.skip_white.result ms) (sym e.marks) w.ahead;
     }
+
+pub skip_white-requires-clause-ahead : goal.skip_white-requires-clause-ahead
+skip_white-requires-clause-ahead c = all_ahead c.args.line.now c.args.marks.now c.requires.marks

@@ -31,7 +31,7 @@ returns-then-byte-eq102-clause-none c = none_then c.word_at-then-byte-eq102.resu
 pub returns-in-Some-clause-found : goal.returns-in-Some-clause-found
 returns-in-Some-clause-found c =
     let f = c.in-Some.ensures.found in
-    found_string c.args.line.now c.args.from c.in-Some.string.end c.in-Some.string.is_lone f.0 f.1 f.2
+    found_string c.args.line.now c.args.from c.in-Some.string.end 2 c.in-Some.string.is_lone f.0 f.1 f.2
 
 pub returns-in-None-clause-none : goal.returns-in-None-clause-none
 returns-in-None-clause-none c = no_string c.args.line.now c.args.from c.if-byte-eq34.true c.in-None.ensures.none
@@ -39,8 +39,13 @@ returns-in-None-clause-none c = no_string c.args.line.now c.args.from c.if-byte-
 pub returns-in-Some-number_end-clause-found : goal.returns-in-Some-number_end-clause-found
 returns-in-Some-number_end-clause-found c =
     let f = c.in-Some-number_end.ensures.found in
-    found_number c.args.line.now c.args.from c.in-Some-number_end.number.end c.in-Some-number_end.number.is_long f.0 f.1 f.2 f.3 f.4
+    found_number c.args.line.now c.args.from c.in-Some-number_end.number.end c.own_marks.result c.in-Some-number_end.number.is_long f.0 f.1 f.2 f.3 f.4
 
 pub returns-in-None-number_end-clause-none : goal.returns-in-None-number_end-clause-none
 returns-in-None-number_end-clause-none c =
     no_number c.args.line.now c.args.from c.if-byte-eq110.false c.if-byte-eq116.false c.if-byte-eq102.false c.if-byte-eq34.false c.requires.no_array c.requires.no_object c.in-None-number_end.ensures.none
+
+pub returns-in-Some-number_end-clause-ahead : goal.returns-in-Some-number_end-clause-ahead
+returns-in-Some-number_end-clause-ahead c =
+    let e = c.in-Some-number_end.ensures in
+    c.own_marks.ensures c.args.line.now c.in-Some-number_end.number.end c.requires.ahead e.within.0 e.within.1 e.solid

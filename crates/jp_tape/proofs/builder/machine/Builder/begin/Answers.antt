@@ -1,6 +1,7 @@
-use Rattle.std.proofs.Common.{ℕ, ◌+◌, ◌/◌, ap, ◌∙◌, refl}
+use Rattle.std.proofs.Common.{List, sym, subst, ℕ, ◌+◌, ◌/◌, ap, ◌∙◌, refl}
 use Rattle.jp_tape.specs.Reading.{code_of}
 use Rattle.jp_tape.specs.Words.{head_word}
+use Rattle.jp_tape.specs.Ahead.{IsAhead}
 use Rattle.jp_tape.proofs.Walk.{node_is, scalar_goes_on, no_value, no_value_behind}
 use Rattle.jp_tape.proofs.builder.machine.Builder.begin.Goals as goal
 
@@ -24,3 +25,9 @@ returns-clause-goes_on c =
       exponent = refl;
       duplicate = refl;
     })
+
+pub marks_behind-self-requires : goal.marks_behind-self-requires
+marks_behind-self-requires c = c.in-Some.ensures.ahead.within
+
+pub returns-clause-ahead : goal.returns-clause-ahead
+returns-clause-ahead c = subst (λ (ms : List ℕ). IsAhead c.args.line.now c.in-Some.scalar.end ms) (sym c.marks_behind-self.ensures) c.in-Some.ensures.ahead.ahead

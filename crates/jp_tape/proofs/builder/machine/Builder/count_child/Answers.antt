@@ -23,4 +23,5 @@ returns c =
         names = refl;
         duplicate = refl;
       };
+      marks = refl;
     }

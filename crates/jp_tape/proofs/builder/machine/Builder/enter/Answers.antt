@@ -1,10 +1,12 @@
-use Rattle.std.proofs.Common.{◌+◌, ◌++◌, ◌∷◌, [], max, sym, ◌∙◌, ap, subst, refl}
+use Rattle.std.proofs.Common.{List, ℕ, ◌+◌, ◌++◌, ◌∷◌, [], max, sym, ◌∙◌, ap, subst, refl}
 use Rattle.std.proofs.lemmas.Result.{IfOk-weaker, IfErr-weaker}
-use Rattle.jp_model.specs.Json.Places.{Has}
+use Rattle.jp_model.specs.Json.Places.{Has, byte_at}
+use Rattle.jp_tape.specs.Ahead.{IsAhead}
 use Rattle.jp_tape.specs.declared.builder.machine.Builder.{Builder}
 use Rattle.jp_tape.specs.declared.builder.machine.Open.{Open}
 use Rattle.jp_tape.specs.Reading.{container_if}
 use Rattle.jp_tape.proofs.Held.{or_false}
+use Rattle.jp_tape.proofs.Ahead.{passes_structural, bracket_structural, closing_structural}
 use Rattle.jp_tape.proofs.Walk.{node_is, head_is, opened_is, empty_goes_on, enter_goes_on, no_enter, on_fault}
 use Rattle.jp_tape.proofs.builder.machine.Builder.enter.Goals as goal
 
@@ -29,7 +31,7 @@ returns-in-Ok-push-clause-goes_on c =
     let b = c.args.self.now in
     let kind = container_if c.args.is_object in
     let w = c.skip_white-inside.ensures in
-    let mid : Builder = record { words = c.write_node-2.new.words; opened = c.push.new.self; names = b.names; deepest = c.larger-self.result; has_surrogate = b.has_surrogate; has_long_exponent = b.has_long_exponent; has_duplicate = b.has_duplicate } in
+    let mid : Builder = record { words = c.write_node-2.new.words; opened = c.push.new.self; names = b.names; marks = c.marks_behind-self.result; deepest = c.larger-self.result; has_surrogate = b.has_surrogate; has_long_exponent = b.has_long_exponent; has_duplicate = b.has_duplicate } in
     IfOk-weaker c.next_child.result _ _
     (λ turn l. enter_goes_on c.args.line.now c.args.at c.skip_white-inside.result c.args.name b mid c.next_child.new.self turn kind c.requires.opens w.white w.stops
     (λ h. c.is_at.ensures.no c.if-is_at.false (subst (λ x. Has c.args.line.now c.skip_white-inside.result x) (sym c.closing_of.ensures) h))
@@ -53,3 +55,22 @@ returns-in-Ok-push-clause-stuck c =
     (λ fault. on_fault fault (λ l. no_enter c.args.line.now c.args.at c.skip_white-inside.result c.args.name b kind c.requires.opens w.white w.stops
     (λ h. c.is_at.ensures.no c.if-is_at.false (subst (λ x. Has c.args.line.now c.skip_white-inside.result x) (sym c.closing_of.ensures) h)) l))
     c.next_child.ensures.stuck
+
+pub marks_behind-self-requires : goal.marks_behind-self-requires
+marks_behind-self-requires c = (passes_structural c.args.line.now c.args.self.now.marks.now c.args.at c.requires.opens.inside (bracket_structural (container_if c.args.is_object) (byte_at c.args.line.now c.args.at) c.requires.opens.is) c.requires.ahead).within
+
+pub skip_white-inside-requires-clause-ahead : goal.skip_white-inside-requires-clause-ahead
+skip_white-inside-requires-clause-ahead c =
+    let p = passes_structural c.args.line.now c.args.self.now.marks.now c.args.at c.requires.opens.inside (bracket_structural (container_if c.args.is_object) (byte_at c.args.line.now c.args.at) c.requires.opens.is) c.requires.ahead in
+    subst (λ (ms : List ℕ). IsAhead c.args.line.now (c.args.at + 1) ms) (sym c.marks_behind-self.ensures) p.ahead
+
+pub marks_behind-self-requires-then-is_at : goal.marks_behind-self-requires-then-is_at
+marks_behind-self-requires-then-is_at c =
+    let h = subst (λ x. Has c.args.line.now c.skip_white-inside.result x) c.closing_of.ensures (c.is_at.ensures.yes c.if-is_at.true) in
+    (passes_structural c.args.line.now c.marks_behind-self.result.now c.skip_white-inside.result h.inside (closing_structural (container_if c.args.is_object) (byte_at c.args.line.now c.skip_white-inside.result) h.is) c.skip_white-inside.ensures.ahead).within
+
+pub returns-in-Ok-clause-ahead : goal.returns-in-Ok-clause-ahead
+returns-in-Ok-clause-ahead c =
+    let h = subst (λ x. Has c.args.line.now c.skip_white-inside.result x) c.closing_of.ensures (c.is_at.ensures.yes c.if-is_at.true) in
+    let p = passes_structural c.args.line.now c.marks_behind-self.result.now c.skip_white-inside.result h.inside (closing_structural (container_if c.args.is_object) (byte_at c.args.line.now c.skip_white-inside.result) h.is) c.skip_white-inside.ensures.ahead in
+    subst (λ (ms : List ℕ). IsAhead c.args.line.now (c.skip_white-inside.result + 1) ms) (sym c.marks_behind-self-then-is_at.ensures) p.ahead

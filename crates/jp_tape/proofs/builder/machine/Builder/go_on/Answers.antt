@@ -1,8 +1,15 @@
-use Rattle.std.proofs.Common.{ℕ, List, get_or, length, ◌-◌, ◌==◌, ◌<◌, ◌≡◌, false, subst, sym, ap, ◌∙◌, arith}
+use Rattle.std.proofs.Common.{ℕ, List, get_or, length, ◌-◌, ◌==◌, ◌<◌, ◌≡◌, false, subst, sym, ap, ◌∙◌, ◌+◌, arith}
 use Rattle.std.proofs.lemmas.Bool.{eqb-true, eqb-false}
 use Rattle.std.proofs.lemmas.Result.{IfOk-weaker, IfErr-weaker}
-use Rattle.jp_model.specs.Json.Places.{White, Has}
+use Rattle.jp_model.specs.Characters.{is_structural}
+use Rattle.jp_model.specs.Json.Places.{White, Has, byte_at}
+use Rattle.std.proofs.Common.{Bor}
+use Rattle.jp_tape.specs.declared.builder.machine.Builder.{Builder}
 use Rattle.jp_tape.specs.declared.builder.machine.Open.{Open}
+use Rattle.jp_tape.specs.Machine.{IsCounted, IsClosed}
+use Rattle.jp_tape.specs.Ahead.{IsAhead}
+use Rattle.jp_tape.specs.Reading.{container_if}
+use Rattle.jp_tape.proofs.Ahead.{passes_structural, closing_structural}
 use Rattle.jp_tape.proofs.Walk.{on_fault}
 use Rattle.jp_tape.proofs.Held.{last_of}
 use Rattle.jp_tape.proofs.Walk.{is_innermost, innermost_children, innermost_place, innermost_names, comma_goes_on, no_comma, no_neither, close_goes_on, end_goes_on, no_end}
@@ -23,6 +30,13 @@ some_open n m e h = let z : n ≡ 0 → ⊥ = eqb-false n 0 (sym h) in omega (ar
 last_read : (os : List Open) (n m : ℕ) (o : Open) → n ≡ m → m ≡ length os → o ≡ get_or os (n - 1) o → o ≡ get_or os (length os - 1) o
 last_read os n m o e f h = h ∙ ap (λ k. get_or os (k - 1) o) (e ∙ f)
 
+-- what is counted and closed are no marks
+counted_from : (b : Builder) (marks : Bor (List ℕ)) (new : Builder) → IsCounted (record b { marks = marks }) new → IsCounted b new
+counted_from b marks new i = record { outer = i.outer; innermost = i.innermost; before = i.before; after = i.after; words = i.words; deepest = i.deepest; surrogate = i.surrogate; long = i.long; names = i.names; duplicate = i.duplicate }
+
+closed_from : (b : Builder) (marks : Bor (List ℕ)) (new : Builder) (o : Open) (end : ℕ) → IsClosed o end (record b { marks = marks }) new → IsClosed o end b new
+closed_from b marks new o end i = record { words = i.words; opened = i.opened; deepest = i.deepest; surrogate = i.surrogate; long = i.long; names = i.names; duplicate = i.duplicate }
+
 pub count_child-requires-clause-some : goal.count_child-requires-clause-some
 count_child-requires-clause-some c = some_open _ _ c.args.self.now.opened.ok.0 c.if-is_empty.ensures
 
@@ -42,26 +56,26 @@ count_child-requires-clause-room c outer o e =
 pub returns-then-is_at-clause-goes_on : goal.returns-then-is_at-clause-goes_on
 returns-then-is_at-clause-goes_on c =
     let w = c.skip_white-next.ensures in
-    let v = c.skip_white.ensures in
+    let v = c.skip_white-child.ensures in
     let b = c.args.self.now in
     let o = c.index-container.result.now in
     let some = some_open _ _ b.opened.ok.0 c.if-is_empty.ensures in
     let last = last_read b.opened.items _ _ o c.len.ensures b.opened.ok.0 c.index-container.ensures in
     IfOk-weaker c.next_child.result _ _
-    (λ turn l x h. comma_goes_on c.args.line.now c.args.at c.skip_white-next.result c.skip_white.result b c.count_child.new.self c.next_child.new.self turn o w.white (c.is_at.ensures.yes c.if-is_at.true) v.white v.stops c.count_child.ensures.counted l x h
+    (λ turn l x h. comma_goes_on c.args.line.now c.args.at c.skip_white-next.result c.skip_white-child.result b c.count_child.new.self c.next_child.new.self turn o w.white (c.is_at.ensures.yes c.if-is_at.true) v.white v.stops (counted_from b c.marks_behind-self.result c.count_child.new.self c.count_child.ensures.counted) l x h
     (is_innermost c.args.line.now c.args.at b o some last x h))
     c.next_child.ensures.found
 
 pub returns-then-is_at-clause-stuck : goal.returns-then-is_at-clause-stuck
 returns-then-is_at-clause-stuck c =
     let w = c.skip_white-next.ensures in
-    let v = c.skip_white.ensures in
+    let v = c.skip_white-child.ensures in
     let b = c.args.self.now in
     let o = c.index-container.result.now in
     let some = some_open _ _ b.opened.ok.0 c.if-is_empty.ensures in
     let last = last_read b.opened.items _ _ o c.len.ensures b.opened.ok.0 c.index-container.ensures in
     IfErr-weaker c.next_child.result _ _
-    (λ fault. on_fault fault (λ l x h. no_comma c.args.line.now c.args.at c.skip_white-next.result c.skip_white.result b o w.white (c.is_at.ensures.yes c.if-is_at.true) v.white v.stops l x h
+    (λ fault. on_fault fault (λ l x h. no_comma c.args.line.now c.args.at c.skip_white-next.result c.skip_white-child.result b o w.white (c.is_at.ensures.yes c.if-is_at.true) v.white v.stops l x h
     (is_innermost c.args.line.now c.args.at b o some last x h)))
     c.next_child.ensures.stuck
 
@@ -102,5 +116,27 @@ returns-clause-goes_on c x h =
     let o = c.index-container.result.now in
     let some = some_open _ _ b.opened.ok.0 c.if-is_empty.ensures in
     let last = last_read b.opened.items _ _ o c.len.ensures b.opened.ok.0 c.index-container.ensures in
-    close_goes_on c.args.line.now c.args.at c.skip_white-next.result b c.close.new.self o w.white (subst (λ y. Has c.args.line.now c.skip_white-next.result y) c.closing_of.ensures (c.is_at-2.ensures.yes c.if-not-is_at.false)) c.close.ensures.closed x h
+    close_goes_on c.args.line.now c.args.at c.skip_white-next.result b c.close.new.self o w.white (subst (λ y. Has c.args.line.now c.skip_white-next.result y) c.closing_of.ensures (c.is_at-2.ensures.yes c.if-not-is_at.false)) (closed_from b c.marks_behind-self-2.result c.close.new.self o (c.skip_white-next.result + 1) c.close.ensures.closed) x h
     (is_innermost c.args.line.now c.args.at b o some last x h)
+
+pub marks_behind-self-requires : goal.marks_behind-self-requires
+marks_behind-self-requires c = let h = c.is_at.ensures.yes c.if-is_at.true in (passes_structural c.args.line.now c.args.self.now.marks.now c.skip_white-next.result h.inside (ap is_structural h.is) c.skip_white-next.ensures.ahead).within
+
+pub skip_white-child-requires-clause-ahead : goal.skip_white-child-requires-clause-ahead
+skip_white-child-requires-clause-ahead c =
+    let h = c.is_at.ensures.yes c.if-is_at.true in
+    let p = passes_structural c.args.line.now c.args.self.now.marks.now c.skip_white-next.result h.inside (ap is_structural h.is) c.skip_white-next.ensures.ahead in
+    subst (λ (ms : List ℕ). IsAhead c.args.line.now (c.skip_white-next.result + 1) ms) (sym (c.count_child.ensures.marks ∙ c.marks_behind-self.ensures)) p.ahead
+
+pub marks_behind-self-requires-2 : goal.marks_behind-self-requires-2
+marks_behind-self-requires-2 c =
+    let o = c.index-container.result.now in
+    let h = subst (λ y. Has c.args.line.now c.skip_white-next.result y) c.closing_of.ensures (c.is_at-2.ensures.yes c.if-not-is_at.false) in
+    (passes_structural c.args.line.now c.args.self.now.marks.now c.skip_white-next.result h.inside (closing_structural (container_if o.is_object) (byte_at c.args.line.now c.skip_white-next.result) h.is) c.skip_white-next.ensures.ahead).within
+
+pub returns-clause-ahead : goal.returns-clause-ahead
+returns-clause-ahead c =
+    let o = c.index-container.result.now in
+    let h = subst (λ y. Has c.args.line.now c.skip_white-next.result y) c.closing_of.ensures (c.is_at-2.ensures.yes c.if-not-is_at.false) in
+    let p = passes_structural c.args.line.now c.args.self.now.marks.now c.skip_white-next.result h.inside (closing_structural (container_if o.is_object) (byte_at c.args.line.now c.skip_white-next.result) h.is) c.skip_white-next.ensures.ahead in
+    subst (λ (ms : List ℕ). IsAhead c.args.line.now (c.skip_white-next.result + 1) ms) (sym (c.close.ensures.marks ∙ c.marks_behind-self-2.ensures)) p.ahead

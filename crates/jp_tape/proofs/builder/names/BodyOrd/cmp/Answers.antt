@@ -1,17 +1,16 @@
-use Rattle.std.proofs.Common.{◌≡◌, ℕ, true, List, refl, arith}
-use Rattle.jp_model.specs.Json.Strings.{paired}
-use Rattle.jp_strings.specs.Points.{IsText, is_text_from}
-use Rattle.jp_strings.proofs.Reading.{units_found}
-use Rattle.jp_strings.proofs.Texts.{text_units}
+use Rattle.std.proofs.Common.{◌∙◌}
+use Rattle.jp_strings.proofs.Orders.{plain_ordered}
+use Rattle.jp_tape.proofs.Repeated.{text_is}
 use Rattle.jp_tape.proofs.builder.names.BodyOrd.cmp.Goals as goal
-
-text_is : (body : List ℕ) → is_text_from body 0 ≡ true → IsText body
-text_is body h =
-    let u = text_units body 0 h in
-    record { points = paired u.0; spelled = record { order = omega arith; units = u.0; characters = units_found body 0 u.0 u.1; are = refl }; is_whole = u.2 }
 
 pub compare-requires-clause-first : goal.compare-requires-clause-first
 compare-requires-clause-first c = text_is c.args.self.now.bytes.now c.args.self.now.is_text
 
 pub compare-requires-clause-second : goal.compare-requires-clause-second
 compare-requires-clause-second c = text_is c.args.other.now.bytes.now c.args.other.now.is_text
+
+pub returns-then-other : goal.returns-then-other
+returns-then-other c =
+    let a = c.args.self.now in
+    let b = c.args.other.now in
+    c.cmp.ensures ∙ plain_ordered a.bytes.now b.bytes.now (text_is a.bytes.now a.is_text) (text_is b.bytes.now b.is_text) (a.stands_for_itself c.if-self.true) (b.stands_for_itself c.if-other.true)

@@ -1,0 +1,77 @@
+-- Any number of scalars of a class, in one pass.
+use Rattle.std.proofs.Common.{◌≡◌, ℕ, ◌+◌, ◌<◌, ◌≤◌, ◌⊎◌, inl, inr, List, [], length, get_or, arith, refl, sym, ◌∙◌, subst, append-nil, None}
+use Rattle.jp_iregexp.proofs.Bits.{below_or_not}
+use Rattle.jp_iregexp.proofs.Reaching.{nothing_reach, one_reach, one_only, joined, reach_map, closed_under, within_join}
+use Rattle.jp_iregexp.specs.Positions.{Has, IsSetOver, Reach, ReachFrom, AreEnds}
+use Rattle.jp_model.specs.Pattern.Language.{IsOne, Repeats, RepeatsWithin}
+
+-- what is reached has been reached from a start, and before n it has been led on
+pub record RunsBelow (n : ℕ) (P : ℕ → Type 0) (text starts ends : List ℕ) : Type 0 where
+  pub over : IsSetOver (length text) ends
+  pub begun : (q : ℕ) → Has starts q → Has ends q
+  pub sound : (q : ℕ) → Has ends q → ReachFrom (RepeatsWithin (IsOne P) 0 None) text starts q
+  pub closed : (p : ℕ) → p < n → Has ends p → P (get_or text p 0) → Has ends (p + 1)
+
+pub runs_start : (P : ℕ → Type 0) (text starts ends : List ℕ) → IsSetOver (length text) starts → ends ≡ starts → RunsBelow 0 P text starts ends
+runs_start P text starts ends over e = record {
+  over = subst (λ s. IsSetOver (length text) s) (sym e) over;
+  begun = λ q h. subst (λ s. Has s q) (sym e) h;
+  sound = λ q h.
+      (let at : Has starts q = subst (λ s. Has s q) e h in
+      record { start = q; has = at; reach = reach_map (λ x m. record { count = 0; enough = omega arith; few = tt; repeats = m }) text q q (nothing_reach text q (over.within q at)) });
+  closed = λ p l h i. absurd (omega arith);
+}
+
+pub runs_skip : (P : ℕ → Type 0) (text starts ends : List ℕ) (n : ℕ) → RunsBelow n P text starts ends → (Has ends n → P (get_or text n 0) → ⊥) → RunsBelow (n + 1) P text starts ends
+runs_skip P text starts ends n e not = record {
+  over = e.over;
+  begun = e.begun;
+  sound = e.sound;
+  closed = λ p l h i.
+      elim (below_or_not p n) [
+        | inl k ↦ e.closed p k h i
+        | inr k ↦ (let same : p ≡ n = omega arith in
+            absurd (not (subst (λ x. Has ends x) same h) (subst (λ x. P (get_or text x 0)) same i)))
+      ];
+}
+
+-- one scalar more
+led_on : (P : ℕ → Type 0) (text starts : List ℕ) (n : ℕ) → ReachFrom (RepeatsWithin (IsOne P) 0 None) text starts n → n < length text → P (get_or text n 0) → ReachFrom (RepeatsWithin (IsOne P) 0 None) text starts (n + 1)
+led_on P text starts n s inside holds =
+    let r = s.reach in
+    let m = r.member in
+    let first : Reach (Repeats (IsOne P) m.count) text s.start n = record { inside = r.inside; ordered = r.ordered; within = r.within; is = r.is; member = m.repeats } in
+    let last : Reach (RepeatsWithin (IsOne P) 0 None) text n (n + 1) = reach_map (λ x o. record { count = 1; enough = omega arith; few = tt; repeats = record { front = x; rest = []; is = sym (append-nil x); first = o; second = refl } }) text n (n + 1) (one_reach P text n inside holds) in
+    record {
+      start = s.start;
+      has = s.has;
+      reach = reach_map (λ x w. (let j = within_join m.count None tt x w in record { count = j.count; enough = omega arith; few = tt; repeats = j.repeats })) text s.start (n + 1) (joined text s.start n (n + 1) first last);
+    }
+
+pub runs_insert : (P : ℕ → Type 0) (text starts ends more : List ℕ) (n : ℕ) → RunsBelow n P text starts ends → n < length text → Has ends n → P (get_or text n 0) → length more ≡ length ends → Has more (n + 1) → ((q : ℕ) → Has ends q → Has more q) → ((q : ℕ) → Has more q → (q ≡ n + 1) ⊎ Has ends q) → RunsBelow (n + 1) P text starts more
+runs_insert P text starts ends more n e inside has holds len same old new = record {
+  over = record { room = len ∙ e.over.room; within = λ q h. elim (new q h) [ inl i ↦ omega (arith, i) | inr g ↦ e.over.within q g ] };
+  begun = λ q h. old q (e.begun q h);
+  sound = λ q h.
+      elim (new q h) [
+        | inl i ↦ subst (λ x. ReachFrom (RepeatsWithin (IsOne P) 0 None) text starts x) (sym i) (led_on P text starts n (e.sound n has) inside holds)
+        | inr g ↦ e.sound q g
+      ];
+  closed = λ p l h i.
+      elim (below_or_not p n) [
+        | inl k ↦ elim (new p h) [ inl j ↦ absurd (omega (arith, j)) | inr g ↦ old (p + 1) (e.closed p k g i) ]
+        | inr k ↦ (let next : p + 1 ≡ n + 1 = omega arith in subst (λ x. Has more x) (sym next) same)
+      ];
+}
+
+pub runs_all : (P : ℕ → Type 0) (text starts ends : List ℕ) (n : ℕ) → length text ≤ n → RunsBelow n P text starts ends → AreEnds (RepeatsWithin (IsOne P) 0 None) text starts ends
+runs_all P text starts ends n l e = record {
+  over = e.over;
+  sound = e.sound;
+  complete = λ p q h r.
+      (let keeps : (a b : ℕ) → Has ends a → Reach (IsOne P) text a b → Has ends b =
+      λ a b g o. (let only = one_only P text a b o in
+      let within = only.inside in
+      subst (λ x. Has ends x) (sym only.next) (e.closed a (omega arith) g only.passes)) in
+      closed_under text ends keeps r.member.count p q (e.begun p h) (record { inside = r.inside; ordered = r.ordered; within = r.within; is = r.is; member = r.member.repeats }));
+}

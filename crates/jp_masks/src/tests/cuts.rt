@@ -1,0 +1,167 @@
+//! Pieces that are cut anywhere give the lines and marks of each line alone.
+
+ghost use Rattle.std.specs.Prelude.{◌<◌, length};
+
+use super::scan;
+use crate::{Marks, Scanner, line_marks};
+use jp_model::{Framing, Lines, Span};
+use std::alloc::{AllocError, Global};
+use std::process::Abort;
+use std::test::Fail;
+
+/// An array of one string, of letters and then backslashes; `tail` ends both.
+fn text_of(
+    alloc: Global,
+    letters: usize,
+    backslashes: usize,
+    tail: &[u8],
+) -> Result<Vec<u8>, AllocError> {
+    let mut text = Vec::from_slice(alloc, b"[\"")?;
+    for _ in 0..letters {
+        text.push(b'x')?;
+    }
+    for _ in 0..backslashes {
+        text.push(b'\\')?;
+    }
+    text.extend_from_slice(tail)?;
+    Ok(text)
+}
+
+/// Marks of a short line.
+fn has_marks(
+    rt: &impl Abort,
+    alloc: Global,
+    line: &[u8],
+    places: &[u32],
+) -> Result<(), AllocError> {
+    assert!(rt; line.len() < 1000);
+    let marks = line_marks(alloc, line)?;
+    assert_eq!(rt; marks.as_slice(), places);
+    Ok(())
+}
+
+#[test]
+fn marks_of_lines(rt: HostRuntime) -> Result<(), Fail> {
+    let alloc = rt.alloc();
+    has_marks(&rt, alloc, b"{\"a\":1}", &[0, 1, 3, 4, 5, 6])?;
+    has_marks(&rt, alloc, b"[\\\"a\"]", &[0, 1, 4])?;
+    has_marks(&rt, alloc, b"\"a\"b", &[0, 2, 3])?;
+    has_marks(&rt, alloc, b"", &[])?;
+    has_marks(&rt, alloc, b" 12 x", &[1, 4])?;
+    Ok(())
+}
+
+#[test]
+fn backslashes_reach_over_blocks(rt: HostRuntime) -> Result<(), Fail> {
+    let alloc = rt.alloc();
+    let even = text_of(alloc, 59, 4, b"\"]")?;
+    has_marks(&rt, alloc, &even, &[0, 1, 65, 66])?;
+    let odd = text_of(alloc, 59, 5, b"\"]")?;
+    has_marks(&rt, alloc, &odd, &[0, 1])?;
+    let closed = text_of(alloc, 59, 5, b"\"\"]")?;
+    has_marks(&rt, alloc, &closed, &[0, 1, 67, 68])?;
+    Ok(())
+}
+
+/// The lines stand where those of the text do, and each has the marks that it has alone.
+fn are_of_each_line(
+    rt: &impl Abort,
+    alloc: Global,
+    text: &[u8],
+    marks: &Marks,
+) -> Result<(), AllocError> {
+    let mut count = 0;
+    let mut start = 0u32;
+    for line in Lines::new(text) {
+        assert!(rt; count < marks.line_count());
+        assert!(rt; line.len() < 1000);
+        assert!(rt; start < 1000);
+        let end = start + line.len() as u32;
+        let found = marks.line(count);
+        assert_eq!(rt; found.span, Span { start, end });
+        let alone = line_marks(alloc, line)?;
+        assert_eq!(rt; found.positions, alone.as_slice());
+        count += 1;
+        start = end + 1;
+    }
+    assert_eq!(rt; count, marks.line_count());
+    Ok(())
+}
+
+/// The text in two pieces, with each place as the cut.
+fn each_cut(rt: &impl Abort, alloc: Global, text: &[u8]) -> Result<(), AllocError> {
+    assert!(rt; text.len() < 1000);
+    for cut in 0..=text.len() {
+        let (front, back) = text.split_at(cut);
+        let marks = scan(alloc, Framing::Lines, front, back)?;
+        are_of_each_line(rt, alloc, text, &marks)?;
+    }
+    Ok(())
+}
+
+/// The marks of a text that comes in pieces of one length.
+fn scan_pieces(alloc: Global, text: &[u8], size: usize) -> Result<Marks, AllocError>
+    requires { length text.now < 1000 }
+{
+    let mut marks = Marks::new(alloc);
+    let mut scanner = Scanner::new(Framing::Lines);
+    let mut rest = text;
+    for _ in 0..text.len() {
+        let (piece, later) = rest.split_at(size.min(rest.len()));
+        scanner.feed(piece, &mut marks)?;
+        rest = later;
+    }
+    scanner.finish(&mut marks)?;
+    Ok(marks)
+}
+
+fn each_size(rt: &impl Abort, alloc: Global, text: &[u8]) -> Result<(), AllocError> {
+    assert!(rt; text.len() < 1000);
+    for size in [1, 2, 3, 63, 64, 65] {
+        let marks = scan_pieces(alloc, text, size)?;
+        are_of_each_line(rt, alloc, text, &marks)?;
+    }
+    Ok(())
+}
+
+#[test]
+fn strings_are_cut_anywhere(rt: HostRuntime) -> Result<(), Fail> {
+    let alloc = rt.alloc();
+    for inner in 60..65usize {
+        for backslashes in 0..61 {
+            let letters = inner.saturating_sub(backslashes);
+            let text = text_of(alloc, letters, backslashes, b"\"]")?;
+            each_cut(&rt, alloc, &text)?;
+            each_size(&rt, alloc, &text)?;
+        }
+    }
+    Ok(())
+}
+
+/// Lines that end inside a string, behind a backslash or inside a character, at the end of a block and elsewhere.
+fn collections(alloc: Global) -> Result<Vec<Vec<u8>>, AllocError> {
+    let mut all = Vec::new(alloc);
+    all.push(Vec::from_slice(alloc, b"\"abc\n\"def\"\n[\"x")?)?;
+    all.push(Vec::from_slice(alloc, b"\"\xC3\n\"y\"")?)?;
+    all.push(Vec::from_slice(
+        alloc,
+        b"\"xxxxxxxxxxxxxxxxxxxxxxxxxxxxxxxxxxxxxxxxxxxxxxxxxxxxxxxxxxxxxx\n\"y\"",
+    )?)?;
+    all.push(Vec::from_slice(
+        alloc,
+        b"\"xxxxxxxxxxxxxxxxxxxxxxxxxxxxxxxxxxxxxxxxxxxxxxxxxxxxxxxxxxxxx\\\n\"y\"",
+    )?)?;
+    Ok(all)
+}
+
+#[test]
+fn collections_are_cut_anywhere(rt: HostRuntime) -> Result<(), Fail> {
+    let alloc = rt.alloc();
+    for text in collections(alloc)? {
+        each_cut(&rt, alloc, &text)?;
+        each_size(&rt, alloc, &text)?;
+    }
+    each_cut(&rt, alloc, super::SHORT_LINES)?;
+    each_size(&rt, alloc, super::SHORT_LINES)?;
+    Ok(())
+}

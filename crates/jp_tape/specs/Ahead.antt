@@ -1,0 +1,44 @@
+-- The marks that are to come while a line is read.
+use Rattle.std.specs.Prelude.{◌≡◌, ℕ, ◌-◌, ◌<◌, ◌≤◌, Bool, true, false, not, ◌||◌, List, length, drop, Option, Some, None}
+use Rattle.std.specs.List.{filter, range_with_len}
+use Rattle.jp_model.specs.declared.Span.{Span}
+use Rattle.jp_model.specs.Characters.{is_white, is_structural, is_quote, is_backslash}
+use Rattle.jp_model.specs.Json.Places.{byte_at}
+use Rattle.jp_model.specs.Json.Marks.{is_mark, is_inside, is_escaped}
+use Rattle.jp_tape.specs.declared.builder.machine.Builder.{Builder}
+use Rattle.jp_tape.specs.declared.builder.machine.Turn.{Turn}
+use Rattle.jp_tape.specs.declared.builder.machine.Turn.TheVariants as turns
+
+-- the marks of a line from a place on
+unfoldable pub marks_from : List ℕ → ℕ → List ℕ
+marks_from line at = filter (is_mark line) (range_with_len at (length line - at))
+
+-- the place is outside of every string and is not escaped, and these are the marks from there on
+pub record IsAhead (line : List ℕ) (at : ℕ) (marks : List ℕ) : Type 0 where
+  pub outside : is_inside line at ≡ false
+  pub unescaped : is_escaped line at ≡ false
+  pub are : marks ≡ marks_from line at
+
+-- so many of the marks stand before a place, which is outside of every string
+pub record IsPassed (line marks : List ℕ) (count to : ℕ) : Type 0 where
+  pub within : count ≤ length marks
+  pub ahead : IsAhead line to (drop count marks)
+
+-- a byte that may stand in a number or a word
+abbrev pub in_token : ℕ → Bool
+in_token b = not (is_white b || is_structural b || is_quote b || is_backslash b)
+
+-- such bytes stand from a place up to another
+abbrev pub IsSolid : List ℕ → ℕ → ℕ → Type 0
+IsSolid line from to = (k : ℕ) → from ≤ k → k < to → in_token (byte_at line k) ≡ true
+
+-- how many marks a name and its colon have
+abbrev pub name_marks : Option Span → ℕ
+name_marks None = 0
+name_marks (Some body) = 3
+
+-- the marks ahead of a turn
+abbrev pub IsAheadOf : List ℕ → Turn → Builder → Type 0
+IsAheadOf line (turns.Value name at) b = IsAhead line at b.marks.now
+IsAheadOf line (turns.After at) b = IsAhead line at b.marks.now
+IsAheadOf line turns.End b = Unit {0}

@@ -1,0 +1,42 @@
+//! Equal names of objects with few and with many members.
+
+use super::{Fail, has_tape, is_refused};
+use jp_model::LineFault;
+use std::alloc::{AllocError, Global};
+
+/// An object of so many names, of which the last one is given.
+fn object(alloc: Global, count: usize, last: &str) -> Result<Vec<u8>, AllocError> {
+    let mut line = Vec::from_slice(alloc, b"{")?;
+    for number in 1..count {
+        let member = format!(in alloc; "\"n{number}\":0,")?;
+        line.extend_from_slice(member.as_bytes())?;
+    }
+    let member = format!(in alloc; "\"{last}\":0}}")?;
+    line.extend_from_slice(member.as_bytes())?;
+    Ok(line)
+}
+
+#[test]
+fn equal_names_are_found_among_few_and_many(rt: HostRuntime) -> Result<(), Fail> {
+    let alloc = rt.alloc();
+    for count in [2usize, 3, 8, 9, 10, 100] {
+        assert!(rt; has_tape(alloc, &object(alloc, count, "z")?));
+        assert!(rt; has_tape(alloc, &object(alloc, count, "\\u006e")?));
+        assert!(rt; is_refused(alloc, &object(alloc, count, "n1")?, LineFault::Duplicate));
+        assert!(rt;
+            is_refused(
+                alloc,
+                &object(alloc, count, "\\u006e1")?,
+                LineFault::Duplicate
+            )
+        );
+        assert!(rt;
+            is_refused(
+                alloc,
+                &object(alloc, count, "n\\u0031")?,
+                LineFault::Duplicate
+            )
+        );
+    }
+    Ok(())
+}
