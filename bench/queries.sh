@@ -21,3 +21,5 @@ beside() {
 beside '$.level' '.level'
 beside '$..name' '.. | objects | select(has("name")) | .name'
 beside '$.items[?@.price > 20].name' '.items[] | select(.price > 20) | .name'
+beside '$[?match(@.name, "user.*7")]' '.[] | objects | select(.name | strings | test("^(user.*7)$"))'
+beside '$.items[0:1].name' '.items[0:1][] | .name'

@@ -1,22 +1,21 @@
 -- What calls answer, by the names of their functions.
-use Rattle.std.proofs.Common.{◌≡◌, ◌∙◌, ◌<◌, ◌≤◌, ℕ, List, [], ◌∷◌, length, Bool, true, false, if◌then◌else◌, Option, Some, None, codes, sym, ap, ap₂, subst, refl, arith}
+use Rattle.std.proofs.Common.{◌≡◌, ◌∙◌, ◌<◌, ◌≤◌, ℕ, List, [], ◌∷◌, length, Bool, true, false, if◌then◌else◌, Option, Some, None, codes, sym, ap, ap₂, refl, arith}
 use Rattle.std.specs.Prelude.{string_bytes}
 use Rattle.std.specs.Str.{chars, IsUtf8, IsAscii}
 use Rattle.std.proofs.Common.{zero, suc, lit<}
 use Rattle.std.proofs.lemmas.Str.{chars-IsAscii, encodes-chars, encodes-IsAscii}
 use Rattle.std.proofs.lemmas.Bool.{true≢false, and_parts, ltb-true}
 use Rattle.std.specs.List.{list_all}
-use Rattle.std.specs.Prelude.{slice_index, nat_lt, encode_utf8_all}
+use Rattle.std.specs.Prelude.{nat_lt, encode_utf8_all}
 use Rattle.jp_model.specs.Characters.{text_equal}
-use Rattle.jp_model.specs.Json.Tree.{Tree, Value}
+use Rattle.jp_model.specs.Json.Tree.{Tree}
 use Rattle.jp_model.specs.Meaning.Nodes.{Node}
-use Rattle.jp_model.specs.Meaning.Functions.{Given, value_function, logical_function}
+use Rattle.jp_model.specs.Meaning.Functions.{value_function, logical_function}
 use Rattle.jp_model.specs.Meaning.Selecting.{given, call_value, call_truth}
 use Rattle.jp_model.specs.Query.Syntax as syntax
 use Rattle.jp_model.proofs.Seek.{text_same}
-use Rattle.jp_query.specs.View.{call_view, path_view, arguments_view, argument_view, segments_view, origin_view}
+use Rattle.jp_query.specs.View.{call_view, arguments_view}
 use Rattle.jp_query.specs.declared.tree.Call.{Call}
-use Rattle.jp_query.specs.declared.tree.Path.{Path}
 use Rattle.jp_query.specs.declared.tree.Argument.{Argument}
 use Rattle.jp_eval.specs.declared.functions.Function.{Function}
 use Rattle.jp_eval.specs.declared.functions.Function.TheVariants as functions

@@ -1,7 +1,7 @@
 -- How many nodes were added, and which was the only one.
-use Rattle.std.proofs.Common.{◌≡◌, ℕ, zero, suc, ◌+◌, ◌-◌, ◌<◌, ◌≤◌, List, [], ◌∷◌, ◌++◌, length, map, take, drop, get_or, sym, ◌∙◌, ap, subst, refl, arith, Option, Some, None, length-append}
+use Rattle.std.proofs.Common.{◌≡◌, ℕ, ◌+◌, ◌<◌, List, [], ◌∷◌, ◌++◌, length, map, take, drop, get_or, sym, ◌∙◌, ap, refl, arith, Some, None, length-append}
 use Rattle.std.proofs.lemmas.List.{length-map, map-append, drop_at}
-use Rattle.jp_model.specs.Json.Tree.{Value, value_of}
+use Rattle.jp_model.specs.Json.Tree.{value_of}
 use Rattle.jp_model.specs.Meaning.Nodes.{Node}
 use Rattle.jp_model.specs.Meaning.Functions.{single_value}
 use Rattle.jp_tape.specs.declared.cursor.Cursor.{Cursor}

@@ -1,11 +1,11 @@
 -- The element of an index.
-use Rattle.std.proofs.Common.{◌≡◌, ◌∙◌, ℕ, zero, suc, ◌+◌, ◌-◌, ◌<◌, ◌≤◌, ℤ, pos, negsuc, ◌<ℤ◌, List, [], ◌∷◌, length, map, filter, drop, cond, Bool, true, false, ◌&&◌, Option, Some, None, sym, ap, ap₂, subst, refl, arith, ◌⊎◌, inl, inr, leb}
+use Rattle.std.proofs.Common.{◌≡◌, ◌∙◌, ℕ, zero, suc, ◌+◌, ◌-◌, ◌<◌, ◌≤◌, ℤ, pos, negsuc, ◌<ℤ◌, List, [], ◌∷◌, map, filter, drop, cond, true, false, ◌&&◌, Option, Some, None, sym, ap, refl, arith, ◌⊎◌, inl, inr, leb}
 use Rattle.std.specs.Prelude.{option_map}
 use Rattle.std.proofs.lemmas.Int.{ints}
 use Rattle.std.proofs.lemmas.Bool.{cases_lt, le-leb, lt-leb, and_left, and_right}
 use Rattle.jp_model.specs.Steps.{Step, name_step, index_step, same_int}
 use Rattle.jp_model.specs.Json.Tree.{Tree, Children, no_child, child, Name, value_of, count_children}
-use Rattle.jp_model.specs.Meaning.Nodes.{Node, child_of, children, steps_from, steps_in, step_to, children_where}
+use Rattle.jp_model.specs.Meaning.Nodes.{Node, child_of, steps_from, step_to, children_where}
 use Rattle.jp_model.specs.Meaning.Slices.{is_index}
 use Rattle.jp_tape.specs.Spots.{children_in}
 use Rattle.jp_tape.specs.declared.cursor.Cursor.{Cursor}

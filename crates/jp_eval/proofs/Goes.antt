@@ -1,5 +1,5 @@
 -- How far a loop has come that adds nodes as long as there is room.
-use Rattle.std.proofs.Common.{◌≡◌, ℕ, ◌<◌, ◌≤◌, List, [], ◌∷◌, ◌++◌, length, map, take, sym, ◌∙◌, ap, subst, refl, arith, Bool, true, false, cond, filter}
+use Rattle.std.proofs.Common.{◌≡◌, ℕ, ◌≤◌, List, [], ◌∷◌, ◌++◌, length, map, take, sym, ◌∙◌, ap, subst, refl, arith, Bool, true, false, cond, filter}
 use Rattle.jp_model.proofs.Seek.{no_nodes}
 use Rattle.std.proofs.lemmas.List.{length-map}
 use Rattle.jp_model.specs.Json.Tree.{Tree}
@@ -7,8 +7,8 @@ use Rattle.jp_model.specs.Meaning.Nodes.{Node}
 use Rattle.jp_model.specs.Meaning.Selecting.{nodes}
 use Rattle.jp_model.specs.Query.Syntax.{Segments}
 use Rattle.jp_tape.specs.declared.cursor.Cursor.{Cursor}
-use Rattle.jp_tape.specs.Cursors.{line_of, node_of}
-use Rattle.jp_eval.specs.Found.{Adds, AreOf}
+use Rattle.jp_tape.specs.Cursors.{node_of}
+use Rattle.jp_eval.specs.Found.{Adds}
 use Rattle.jp_eval.proofs.Lists.{added, full_at, ended, ended_at, length-take_most}
 use Rattle.jp_eval.proofs.Nodelists.{nodes-append}
 use Rattle.jp_eval.proofs.Kept.{adds_none, adds_more}

@@ -12,3 +12,4 @@ pub mod Calls
 pub mod Descendants
 pub mod Counts
 pub mod NoMembers
+pub mod Slices

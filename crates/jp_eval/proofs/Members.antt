@@ -1,11 +1,11 @@
 -- The member of a name among children whose names differ.
-use Rattle.std.proofs.Common.{◌≡◌, ◌∙◌, ◌+◌, ℕ, List, [], ◌∷◌, map, filter, cond, sym, ap, subst, refl, true, false, Bool, ◌||◌, Option, Some, None}
+use Rattle.std.proofs.Common.{◌≡◌, ◌∙◌, ◌+◌, ℕ, List, [], ◌∷◌, map, filter, cond, sym, ap, subst, refl, true, false, Option, Some, None}
 use Rattle.std.specs.List.{list_any}
 use Rattle.std.proofs.lemmas.Bool.{true≢false, or_parts}
 use Rattle.jp_model.specs.Characters.{text_equal}
 use Rattle.jp_model.specs.Steps.{Step}
 use Rattle.jp_model.specs.Json.Faults.{names, has_repeated, has_duplicate, children_have_duplicate}
-use Rattle.jp_model.specs.Json.Tree.{Tree, node, Value, null, boolean, number, string, container, Children, no_child, child, Name, value_of}
+use Rattle.jp_model.specs.Json.Tree.{Tree, node, null, boolean, number, string, container, Children, no_child, child, Name, value_of}
 use Rattle.jp_model.specs.Meaning.Nodes.{Node, child_of, steps_from, step_to}
 use Rattle.jp_model.specs.Meaning.Slices.{is_name}
 use Rattle.jp_model.proofs.Seek.{text_same}

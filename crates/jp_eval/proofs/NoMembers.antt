@@ -1,5 +1,5 @@
 -- What is no object has no members, and what is no array has no elements.
-use Rattle.std.proofs.Common.{◌≡◌, ◌∙◌, ℕ, ◌+◌, ℤ, List, [], map, filter, Bool, Some, None, ap, refl}
+use Rattle.std.proofs.Common.{◌≡◌, ℕ, ◌+◌, ℤ, List, [], map, filter, Bool, Some, None, ap, refl}
 use Rattle.jp_model.specs.declared.Span.{Span}
 use Rattle.jp_model.specs.Steps.{Step}
 use Rattle.jp_model.specs.Json.Spelling.{Spells, SpellsValue, SpellsFirst, SpellsMore}

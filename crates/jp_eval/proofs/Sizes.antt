@@ -1,6 +1,6 @@
 -- How large a part of a query is: a bound on how often an evaluation goes into it.
 use Rattle.std.proofs.Common.{ℕ, ◌+◌}
-use Rattle.jp_model.specs.Query.Syntax.{Segment, child_segment, descendant_segment, Segments, no_segments, segment, Selector, name_selector, wildcard_selector, index_selector, slice_selector, filter_selector, Selectors, no_selectors, selector, Logical, or_all, and_all, negated, compare, exists, test, Logicals, no_logicals, logical, Comparable, constant, single, result, Argument, constant_argument, nodes_argument, condition, result_argument, Arguments, no_arguments, argument, Path, path, Call, call}
+use Rattle.jp_model.specs.Query.Syntax.{Segment, child_segment, descendant_segment, Segments, no_segments, segment, Selector, filter_selector, Selectors, no_selectors, selector, Logical, or_all, and_all, negated, compare, exists, test, Logicals, no_logicals, logical, Comparable, constant, single, result, Argument, constant_argument, nodes_argument, condition, result_argument, Arguments, no_arguments, argument, Path, path, Call, call}
 
 abbrev mutual
   pub size_of_segments : Segments → ℕ
@@ -8,8 +8,8 @@ abbrev mutual
   size_of_segments (segment s ss) = size_of_segment s + size_of_segments ss
 
   pub size_of_segment : Segment → ℕ
-  size_of_segment (child_segment ss) = size_of_selectors ss + 4
-  size_of_segment (descendant_segment ss) = size_of_selectors ss + 4
+  size_of_segment (child_segment ss) = size_of_selectors ss + 5
+  size_of_segment (descendant_segment ss) = size_of_selectors ss + 5
 
   pub size_of_selectors : Selectors → ℕ
   size_of_selectors no_selectors = 0

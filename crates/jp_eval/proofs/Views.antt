@@ -1,5 +1,5 @@
 -- What values of the program stand for, one level deep.
-use Rattle.std.proofs.Common.{◌≡◌, ◌∙◌, List, ℕ, ℤ, map, sym, ap, refl, Option}
+use Rattle.std.proofs.Common.{◌≡◌, ◌∙◌, ℤ, sym, ap, Option}
 use Rattle.std.specs.Prelude.{string_bytes}
 use Rattle.std.specs.Str.{chars}
 use Rattle.jp_model.specs.Query.Syntax as syntax
@@ -10,7 +10,7 @@ use Rattle.jp_query.specs.declared.tree.CompareOp.{CompareOp}
 use Rattle.jp_query.specs.declared.tree.Comparable.{Comparable}
 use Rattle.jp_query.specs.declared.tree.Selector.{fold-roll-Selector}
 use Rattle.jp_query.specs.declared.tree.Selector.TheVariants as selectors
-use Rattle.jp_query.specs.declared.tree.Argument.{Argument, fold-roll-Argument}
+use Rattle.jp_query.specs.declared.tree.Argument.{fold-roll-Argument}
 use Rattle.jp_query.specs.declared.tree.Argument.TheVariants as arguments
 use Rattle.jp_query.specs.declared.tree.Literal.{Literal}
 use Rattle.jp_query.specs.declared.tree.Logical.{Logical, fold-roll-Logical}

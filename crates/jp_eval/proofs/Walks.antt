@@ -1,11 +1,13 @@
 -- From child to child, with what is left to be chosen.
-use Rattle.std.proofs.Common.{◌≡◌, ℕ, suc, ◌+◌, ◌-◌, ◌<◌, ◌≤◌, List, [], ◌∷◌, ◌++◌, length, map, filter, drop, take, cond, Bool, true, false, Option, Some, None, sym, ◌∙◌, ap, ap₂, subst, refl, arith, drop-drop}
+use Rattle.std.proofs.Common.{◌≡◌, ℕ, suc, ◌+◌, ◌-◌, ◌<◌, ◌≤◌, List, [], ◌∷◌, length, map, filter, drop, cond, Bool, true, false, Option, Some, None, sym, ◌∙◌, ap, ap₂, refl, arith, drop-drop, ◌^◌, length-drop}
 use Rattle.jp_model.specs.Steps.{Step}
-use Rattle.jp_model.specs.Json.Tree.{Tree, node, Value, null, boolean, number, string, container, Children, no_child, child, value_of}
+use Rattle.jp_model.specs.Json.Tree.{Tree, Value, null, boolean, number, string, container, Children, value_of}
 use Rattle.jp_model.specs.Meaning.Nodes.{Node, child_of, children, steps_from, steps_in, step_to, children_where}
 use Rattle.jp_tape.specs.Spots.{children_in}
 use Rattle.jp_tape.specs.declared.cursor.Cursor.{Cursor}
 use Rattle.jp_tape.specs.Cursors.{node_of, name_of, nodes_from, nodes_after, children_from, children_after}
+use Rattle.jp_tape.proofs.Cursors.{children_few}
+use Rattle.std.proofs.lemmas.List.{length-map}
 use Rattle.jp_eval.specs.Walks.{IsAt}
 
 -- those from an index on whose step passes
@@ -75,3 +77,14 @@ at_none parent i place at h =
     let all : List (Step × Tree) = steps_in (value_of parent.tree) in
     let e : i + (place - i) ≡ place = omega (arith, h) in
     record { steps = sym (ap (λ n. drop n all) (sym e) ∙ none_left i (place - i) all at.steps); nodes = refl }
+
+-- the index of a child, and the next, are small
+pub index_fits : (parent : Cursor) (index : ℕ) (c : Cursor) → IsAt (node_of parent) index (Some c) → index + 1 < 2 ^ 32
+index_fits parent index c at =
+    let n : Node = node_of parent in
+    let all : List (Step × Tree) = steps_in (value_of n.tree) in
+    let here : suc (length (steps_from (index + 1) (children_after c))) ≡ length (drop index all) = ap length at.steps in
+    let cut = length-drop index all in
+    let few = children_few parent in
+    let count : length (children n) ≡ length all = length-map all (child_of n) in
+    omega (arith, here, cut, few, count)

@@ -4,7 +4,7 @@ use Rattle.jp_model.specs.Characters.{text_equal}
 use Rattle.jp_model.specs.Pattern.Tree.{Pattern}
 use Rattle.jp_model.specs.Pattern.Membership.{is_in, occurs_in}
 use Rattle.jp_model.specs.Pattern.Reading.{pattern_of}
-use Rattle.jp_model.specs.Json.Tree.{Value, null, boolean, number, string, container}
+use Rattle.jp_model.specs.Json.Tree.{Value, string}
 use Rattle.jp_eval.specs.declared.functions.Function.{Function}
 use Rattle.jp_eval.specs.declared.functions.Function.TheVariants as functions
 
@@ -32,3 +32,8 @@ pattern_in _ = None
 abbrev pub passes_as_string : (Pattern → List ℕ → Bool) → Pattern → Option Value → Bool
 passes_as_string passes r (Some (string x)) = passes r x
 passes_as_string passes r _ = false
+
+-- the same of a pattern that a text spells, where it spells one
+abbrev pub passes_where_read : (Pattern → List ℕ → Bool) → Option Pattern → Option Value → Bool
+passes_where_read passes (Some r) v = passes_as_string passes r v
+passes_where_read passes None v = false

@@ -3,3 +3,5 @@ pub mod Found
 pub mod Expressions
 pub mod Functions
 pub mod Walks
+pub mod Literals
+pub mod Patterns

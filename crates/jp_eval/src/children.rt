@@ -1,18 +1,18 @@
 //! Children that are selected by name or by place (RFC 9535, sections 2.3.1, 2.3.3 and 2.3.4).
 
-ghost use Rattle.std.specs.Prelude.{◌≡◌, ℕ, false, pos, neg_ℤ, ◌-ℤ◌, ◌≤ℤ◌, ◌≢◌, ◌^◌, map, IfOk, IfSome};
+ghost use Rattle.std.specs.Prelude.{◌≡◌, ℕ, false, pos, neg_ℤ, ◌-ℤ◌, ◌<ℤ◌, ◌≤ℤ◌, ◌≢◌, ◌^◌, int_le, int_lt, unwrap_or, map, IfOk, IfSome};
 ghost use Rattle.std.specs.Str.{chars};
 ghost use Rattle.jp_model.specs.Characters.{text_equal};
 ghost use Rattle.jp_model.specs.Meaning.Nodes.{step_to, children_where, child_count as count_of};
 ghost use Rattle.jp_model.specs.Json.Tree.{value_of};
 ghost use Rattle.jp_model.specs.Steps.{same_int};
-ghost use Rattle.jp_model.specs.Meaning.Slices.{named, indexed, sliced, is_name, is_index, normal as normal_of, on_stride, upward, downward};
+ghost use Rattle.jp_model.specs.Meaning.Slices.{named, indexed, sliced, is_name, is_index, normal as normal_of, on_stride, downward};
 ghost use Rattle.jp_strings.specs.Points.{IsText, points_of};
 ghost use Rattle.jp_tape.specs.Cursors.{line_of, node_of, name_of};
 ghost use Rattle.jp_tape.specs.Kinds.{kind_of};
 ghost use Rattle.jp_tape.specs.declared.Kind.TheVariants as kinds;
 ghost use Rattle.jp_eval.specs.Found.{node_list, AreOf};
-ghost use Rattle.jp_eval.specs.Walks.{IsAt, slice_has};
+ghost use Rattle.jp_eval.specs.Walks.{IsAt, rises};
 
 use jp_strings::Scalars;
 use jp_tape::{Cursor, Kind};
@@ -142,19 +142,8 @@ fn is_on_stride(start: i64, step: i64, index: i64) -> bool
     rest <= 0 && 0 <= rest
 }
 
-/// Whether a slice with a step above 0 of an array of so many elements has the element of an index (RFC 9535, section
+/// Whether a slice with a step below 0 of an array of so many elements has the element of an index (RFC 9535, section
 /// 2.3.4.2.2).
-fn has_upward(count: u32, first: Option<i64>, last: Option<i64>, step: i64, index: u32) -> bool
-    requires { step ≢ pos 0 }
-    ensures { result ≡ upward count first last step (pos index) }
-{
-    let (len, index) = (i64::from(count), i64::from(index));
-    let low = normal(count, first.unwrap_or(0)).max(0).min(len);
-    let high = normal(count, last.unwrap_or(len)).max(0).min(len);
-    low <= index && index < high && is_on_stride(low, step, index)
-}
-
-/// The same of one with a step below 0.
 fn has_downward(count: u32, first: Option<i64>, last: Option<i64>, step: i64, index: u32) -> bool
     requires { step ≢ pos 0 }
     ensures { result ≡ downward count first last step (pos index) }
@@ -165,21 +154,6 @@ fn has_downward(count: u32, first: Option<i64>, last: Option<i64>, step: i64, in
     low < index && index <= high && is_on_stride(high, step, index)
 }
 
-/// Whether the slice selects this child, before which so many stand.
-fn selects(child: Cursor<'_>, count: u32, slice: Slice, index: u32) -> bool
-    requires { slice.step ≢ pos 0 }
-    ensures { result ≡ is_index (slice_has count slice.first slice.last slice.step) (step_to index (name_of child.entry)) }
-{
-    if child.name().is_some() {
-        return false;
-    }
-    if slice.step > 0 {
-        has_upward(count, slice.first, slice.last, slice.step, index)
-    } else {
-        has_downward(count, slice.first, slice.last, slice.step, index)
-    }
-}
-
 /// The parts of a slice selector (RFC 9535, section 2.3.4.1).
 #[derive(Clone, Copy)]
 pub(crate) struct Slice {
@@ -188,14 +162,92 @@ pub(crate) struct Slice {
     pub(crate) step: i64,
 }
 
-/// The elements that a slice selects, in their own order.
-fn slice_elements<'a>(
+/// How many children a node has, where one of two bounds is below 0 and so counts from their end. Otherwise 0.
+fn count_for(node: Cursor<'_>, first: i64, last: i64) -> u32
+    ensures first { normal_of result first ≡ normal_of (count_of (node_of node.entry)) first }
+    ensures last { normal_of result last ≡ normal_of (count_of (node_of node.entry)) last }
+{
+    if first < 0 || last < 0 {
+        node.child_count()
+    } else {
+        0
+    }
+}
+
+/// The elements from one index on that stand before another, each a whole number of steps from the first.
+#[derive(Clone, Copy)]
+pub(crate) struct Rising {
+    pub(crate) low: i64,
+    pub(crate) high: i64,
+    pub(crate) step: i64,
+    ghost from_start: { pos 0 ≤ℤ low },
+    ghost goes_up: { pos 0 <ℤ step },
+}
+
+impl Rising {
+    /// The elements of a slice with a step above 0. They are counted only where a bound is below 0 (RFC 9535, section
+    /// 2.3.4.2.2).
+    pub(crate) fn of(node: Cursor<'_>, slice: Slice) -> Rising
+        requires { pos 0 <ℤ slice.step }
+        ensures { children_where (is_index (rises result.low result.high result.step)) (node_of node.entry) ≡ sliced slice.first slice.last slice.step (node_of node.entry) }
+    {
+        let first = slice.first.unwrap_or(0);
+        let last = slice.last.unwrap_or(i64::MAX);
+        let count = count_for(node, first, last);
+        Rising {
+            low: normal(count, first).max(0),
+            high: normal(count, last),
+            step: slice.step,
+        }
+    }
+
+    /// Whether none of them has this index or a higher one.
+    pub(crate) fn ends_before(self, index: u32) -> bool
+        ensures { result ≡ int_le self.high (pos index) }
+    {
+        self.high <= i64::from(index)
+    }
+
+    /// Whether one of them has this index.
+    fn has_index(self, index: u32) -> bool
+        ensures { result ≡ rises self.low self.high self.step (pos index) }
+    {
+        let Rising { low, high, step } = self;
+        let index = i64::from(index);
+        low <= index && index < high && is_on_stride(low, step, index)
+    }
+
+    /// Whether the child, before which so many stand, is one of them.
+    pub(crate) fn has(self, child: Cursor<'_>, index: u32) -> bool
+        ensures { result ≡ is_index (rises self.low self.high self.step) (step_to index (name_of child.entry)) }
+    {
+        child.name().is_none() && self.has_index(index)
+    }
+}
+
+/// Whether a slice with a step below 0 selects the child, before which so many of so many stand.
+fn has_falling(child: Cursor<'_>, count: u32, slice: Slice, index: u32) -> bool
+    requires { slice.step ≢ pos 0 }
+    ensures { result ≡ is_index (downward count slice.first slice.last slice.step) (step_to index (name_of child.entry)) }
+{
+    child.name().is_none() && has_downward(count, slice.first, slice.last, slice.step, index)
+}
+
+/// Whether an index stands behind the first that a slice with a step below 0 selects, of so many.
+fn is_behind(count: u32, first: Option<i64>, index: u32) -> bool
+    ensures { result ≡ int_lt (normal_of count (unwrap_or first (pos count -ℤ pos 1))) (pos index) }
+{
+    normal(count, first.unwrap_or(i64::from(count) - 1)) < i64::from(index)
+}
+
+/// The elements that a slice with a step below 0 selects, in their own order.
+fn falling_elements<'a>(
     alloc: Global,
     node: Cursor<'a>,
     slice: Slice,
 ) -> Result<Vec<Cursor<'a>>, AllocError>
-    requires { slice.step ≢ pos 0 }
-    ensures nodes { IfOk result (λ found. map node_of found.items ≡ children_where (is_index (slice_has (count_of (node_of node.entry)) slice.first slice.last slice.step)) (node_of node.entry)) }
+    requires { slice.step <ℤ pos 0 }
+    ensures nodes { IfOk result (λ found. map node_of found.items ≡ children_where (is_index (downward (count_of (node_of node.entry)) slice.first slice.last slice.step)) (node_of node.entry)) }
     ensures lines { IfOk result (λ found. AreOf (line_of node.entry) found.items) }
 {
     let mut found = Vec::new(alloc);
@@ -203,7 +255,10 @@ fn slice_elements<'a>(
     let mut next = node.first_child();
     let mut index = 0;
     while let Some(child) = next {
-        if selects(child, count, slice, index) {
+        if is_behind(count, slice.first, index) {
+            return Ok(found);
+        }
+        if has_falling(child, count, slice, index) {
             found.push(child)?;
         }
         index += 1;
@@ -212,21 +267,21 @@ fn slice_elements<'a>(
     Ok(found)
 }
 
-/// The elements of a slice, of an array alone, in the order in which they are selected (RFC 9535, section 2.3.4).
-pub(crate) fn find_elements<'a>(
+/// The elements of a slice with a step that is not above 0, of an array alone, from the last to the first. A step of 0
+/// selects none (RFC 9535, section 2.3.4.2.2).
+pub(crate) fn find_falling<'a>(
     alloc: Global,
     node: Cursor<'a>,
     slice: Slice,
 ) -> Result<Vec<Cursor<'a>>, AllocError>
+    requires { slice.step ≤ℤ pos 0 }
     ensures nodes { IfOk result (λ found. map node_of found.items ≡ sliced slice.first slice.last slice.step (node_of node.entry)) }
     ensures lines { IfOk result (λ found. AreOf (line_of node.entry) found.items) }
 {
     if slice.step == 0 {
         return Ok(Vec::new(alloc));
     }
-    let mut found = slice_elements(alloc, node, slice)?;
-    if slice.step < 0 {
-        found.reverse();
-    }
+    let mut found = falling_elements(alloc, node, slice)?;
+    found.reverse();
     Ok(found)
 }

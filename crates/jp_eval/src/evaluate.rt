@@ -5,18 +5,21 @@
 
 ghost use Rattle.std.specs.Prelude.{◌≡◌, ◌≤◌, ◌++◌, ◌==◌, [], ◌∷◌, true, not, map, take, length, filter, flat_map, IfOk, OnOk, OnErr, IsTrue};
 ghost use Rattle.jp_model.specs.Meaning.Functions.{single_value as single_value_of};
-ghost use Rattle.jp_model.specs.Meaning.Nodes.{children, subtree};
+ghost use Rattle.jp_model.specs.Meaning.Nodes.{children, children_where, subtree};
 ghost use Rattle.jp_model.specs.Meaning.Selecting.{nodes, selected, select, truth as truth_of, compared_value, path_nodes, given_by, call_value as call_value_of, call_truth as call_truth_of};
+ghost use Rattle.jp_model.specs.Meaning.Slices.{is_index, sliced};
 ghost use Rattle.jp_model.specs.Query.Limits.{segments_pass, selectors_pass, selector_passes, logical_passes, logicals_pass, comparable_passes, path_passes, call_passes, argument_passes};
 ghost use Rattle.jp_query.specs.Sound.{has_sound_literals, logical_has_sound_literals};
 ghost use Rattle.jp_query.specs.View.{segments_view, selectors_view, selector_view, logical_view, logicals_view, comparable_view, path_view, call_view, argument_view};
 ghost use Rattle.jp_tape.specs.Cursors.{line_of, place_of, node_of};
 ghost use Rattle.jp_eval.specs.Expressions.{readable, all_are};
 ghost use Rattle.jp_eval.specs.Found.{Adds, AreOf};
+ghost use Rattle.jp_eval.specs.Walks.{rises};
 ghost use Rattle.jp_values.specs.Values.{value_view, is_sound_value};
 
-use crate::children::{Slice, find_element, find_elements, find_member};
+use crate::children::{Rising, Slice, find_element, find_falling, find_member};
 use crate::functions::{Function, function_of, in_pattern, length_of};
+use crate::patterns::Patterns;
 use crate::scope::Scope;
 use jp_query::{Argument, Call, Comparable, Logical, Origin, Path, Segment, Selector};
 use jp_tape::Cursor;
@@ -26,7 +29,7 @@ use std::alloc::{AllocError, Global};
 /// Adds what the segments select from a node, as long as `out` has fewer nodes than `most`.
 #[cycle(eval)]
 fn push_nodes<'a>(
-    scope: Scope<'a>,
+    scope: Scope<'_, 'a>,
     segments: &[Segment],
     node: Cursor<'a>,
     most: usize,
@@ -57,7 +60,7 @@ fn push_nodes<'a>(
 /// Adds what the selectors select from the node and from each below it, and the segments from there.
 #[cycle(eval)]
 fn push_descendants<'a>(
-    scope: Scope<'a>,
+    scope: Scope<'_, 'a>,
     selectors: &[Selector],
     rest: &[Segment],
     node: Cursor<'a>,
@@ -83,7 +86,7 @@ fn push_descendants<'a>(
 /// Adds what the selectors select from a node, in their order, and the segments from there.
 #[cycle(eval)]
 fn push_selected<'a>(
-    scope: Scope<'a>,
+    scope: Scope<'_, 'a>,
     selectors: &[Selector],
     rest: &[Segment],
     node: Cursor<'a>,
@@ -106,7 +109,7 @@ fn push_selected<'a>(
 /// Adds what the selector selects from a node, and the segments from there.
 #[cycle(eval)]
 fn push_selector<'a>(
-    scope: Scope<'a>,
+    scope: Scope<'_, 'a>,
     selector: &Selector,
     rest: &[Segment],
     node: Cursor<'a>,
@@ -136,8 +139,7 @@ fn push_selector<'a>(
                 last: *last,
                 step: step.unwrap_or(1),
             };
-            let found = find_elements(scope.alloc, node, parts)?;
-            push_from_each(scope, rest, &found, most, out)
+            push_slice(scope, parts, rest, node, most, out)
         }
         Selector::Filter(expression) => push_filtered(scope, expression, rest, node, most, out),
     }
@@ -146,7 +148,7 @@ fn push_selector<'a>(
 /// Adds what the segments select from each child.
 #[cycle(eval)]
 fn push_children<'a>(
-    scope: Scope<'a>,
+    scope: Scope<'_, 'a>,
     rest: &[Segment],
     node: Cursor<'a>,
     most: usize,
@@ -169,10 +171,64 @@ fn push_children<'a>(
     Ok(())
 }
 
+/// Adds what the segments select from each element of a slice, in the order in which it selects them.
+#[cycle(eval)]
+fn push_slice<'a>(
+    scope: Scope<'_, 'a>,
+    slice: Slice,
+    rest: &[Segment],
+    node: Cursor<'a>,
+    most: usize,
+    out: &mut Vec<Cursor<'a>>,
+) -> Result<(), AllocError>
+    requires line { line_of node ≡ line_of scope.root }
+    requires rest { segments_pass (segments_view rest.now) readable ≡ true }
+    requires room { length out.old.items ≤ most }
+    ensures kept { Adds (line_of scope.entry.root) out.old.items out.new.items }
+    ensures nodes { OnOk result (map node_of out.new.items ≡ take most (map node_of out.old.items ++ nodes (segments_view rest.now) (sliced slice.first slice.last slice.step (node_of node.entry)) (node_of scope.entry.root).tree)) }
+{
+    if slice.step > 0 {
+        return push_rising(scope, Rising::of(node, slice), rest, node, most, out);
+    }
+    let found = find_falling(scope.alloc, node, slice)?;
+    push_from_each(scope, rest, &found, most, out)
+}
+
+/// Adds what the segments select from each element of a slice with a step above 0. It goes no further than the last.
+#[cycle(eval)]
+fn push_rising<'a>(
+    scope: Scope<'_, 'a>,
+    slice: Rising,
+    rest: &[Segment],
+    node: Cursor<'a>,
+    most: usize,
+    out: &mut Vec<Cursor<'a>>,
+) -> Result<(), AllocError>
+    requires line { line_of node ≡ line_of scope.root }
+    requires rest { segments_pass (segments_view rest.now) readable ≡ true }
+    requires room { length out.old.items ≤ most }
+    ensures kept { Adds (line_of scope.entry.root) out.old.items out.new.items }
+    ensures nodes { OnOk result (map node_of out.new.items ≡ take most (map node_of out.old.items ++ nodes (segments_view rest.now) (children_where (is_index (rises slice.low slice.high slice.step)) (node_of node.entry)) (node_of scope.entry.root).tree)) }
+{
+    let mut next = node.first_child();
+    let mut index = 0;
+    while let Some(child) = next {
+        if out.len() == most || slice.ends_before(index) {
+            return Ok(());
+        }
+        if slice.has(child, index) {
+            push_nodes(scope, rest, child, most, out)?;
+        }
+        index += 1;
+        next = child.next_sibling();
+    }
+    Ok(())
+}
+
 /// Adds what the segments select from each of some nodes.
 #[cycle(eval)]
 fn push_from_each<'a>(
-    scope: Scope<'a>,
+    scope: Scope<'_, 'a>,
     rest: &[Segment],
     starts: &[Cursor<'a>],
     most: usize,
@@ -193,7 +249,7 @@ fn push_from_each<'a>(
 /// Adds what the segments select from each child of which the expression holds.
 #[cycle(eval)]
 fn push_filtered<'a>(
-    scope: Scope<'a>,
+    scope: Scope<'_, 'a>,
     expression: &Logical,
     rest: &[Segment],
     node: Cursor<'a>,
@@ -223,7 +279,7 @@ fn push_filtered<'a>(
 /// Whether the expression holds of a node. `out` is as before: it lends its memory for a while.
 #[cycle(eval)]
 fn holds<'a>(
-    scope: Scope<'a>,
+    scope: Scope<'_, 'a>,
     expression: &Logical,
     node: Cursor<'a>,
     out: &mut Vec<Cursor<'a>>,
@@ -251,7 +307,7 @@ fn holds<'a>(
 /// Whether each part is true, or each is false.
 #[cycle(eval)]
 fn are_all<'a>(
-    scope: Scope<'a>,
+    scope: Scope<'_, 'a>,
     parts: &[Logical],
     answer: bool,
     node: Cursor<'a>,
@@ -274,7 +330,7 @@ fn are_all<'a>(
 /// The value of a side of a comparison.
 #[cycle(eval)]
 fn side_value<'v, 'a: 'v>(
-    scope: Scope<'a>,
+    scope: Scope<'_, 'a>,
     side: &'v Comparable,
     node: Cursor<'a>,
     out: &mut Vec<Cursor<'a>>,
@@ -296,7 +352,7 @@ fn side_value<'v, 'a: 'v>(
 /// Adds what a query within a filter selects.
 #[cycle(eval)]
 fn push_path<'a>(
-    scope: Scope<'a>,
+    scope: Scope<'_, 'a>,
     path: &Path,
     node: Cursor<'a>,
     most: usize,
@@ -318,7 +374,7 @@ fn push_path<'a>(
 /// Whether a query within a filter selects a node.
 #[cycle(eval)]
 fn has_node<'a>(
-    scope: Scope<'a>,
+    scope: Scope<'_, 'a>,
     path: &Path,
     node: Cursor<'a>,
     out: &mut Vec<Cursor<'a>>,
@@ -339,7 +395,7 @@ fn has_node<'a>(
 /// How many nodes a query within a filter selects.
 #[cycle(eval)]
 fn count_nodes<'a>(
-    scope: Scope<'a>,
+    scope: Scope<'_, 'a>,
     path: &Path,
     node: Cursor<'a>,
     out: &mut Vec<Cursor<'a>>,
@@ -360,7 +416,7 @@ fn count_nodes<'a>(
 /// The value of the single node that a query within a filter selects, where it selects one.
 #[cycle(eval)]
 fn single_value<'a>(
-    scope: Scope<'a>,
+    scope: Scope<'_, 'a>,
     path: &Path,
     node: Cursor<'a>,
     out: &mut Vec<Cursor<'a>>,
@@ -386,7 +442,7 @@ fn single_value<'a>(
 /// What an argument gives as a value.
 #[cycle(eval)]
 fn argument_value<'v, 'a: 'v>(
-    scope: Scope<'a>,
+    scope: Scope<'_, 'a>,
     argument: &'v Argument,
     node: Cursor<'a>,
     out: &mut Vec<Cursor<'a>>,
@@ -409,7 +465,7 @@ fn argument_value<'v, 'a: 'v>(
 /// What a call answers as a value (RFC 9535, section 2.4).
 #[cycle(eval)]
 fn call_value<'v, 'a: 'v>(
-    scope: Scope<'a>,
+    scope: Scope<'_, 'a>,
     call: &'v Call,
     node: Cursor<'a>,
     out: &mut Vec<Cursor<'a>>,
@@ -451,7 +507,7 @@ fn call_value<'v, 'a: 'v>(
 /// What a call answers as a truth (RFC 9535, section 2.4).
 #[cycle(eval)]
 fn call_truth<'a>(
-    scope: Scope<'a>,
+    scope: Scope<'_, 'a>,
     call: &Call,
     node: Cursor<'a>,
     out: &mut Vec<Cursor<'a>>,
@@ -472,11 +528,12 @@ fn call_truth<'a>(
     };
     let text = argument_value(scope, first, node, out)?;
     let pattern = argument_value(scope, second, node, out)?;
-    in_pattern(scope.alloc, whole, text, pattern)
+    in_pattern(scope.alloc, scope.patterns, whole, text, pattern)
 }
 
 /// Adds the nodelist of the segments from a node on, with duplicates and in its order (RFC 9535, section 2.1.2). In a
-/// filter `@` is the child that is tested, and `$` is `root`, the root of the same line.
+/// filter `@` is the child that is tested, and `$` is `root`, the root of the same line. Each pattern is read anew where
+/// it is asked for: where the same segments are evaluated often, `eval_with` takes those that were read before.
 ///
 /// Where memory is refused the answer is `AllocError`, and `out` is as before.
 pub fn eval_from<'a>(
@@ -493,8 +550,33 @@ pub fn eval_from<'a>(
     ensures err { OnErr result (out.new.items ≡ out.old.items) }
     ensures lines { AreOf (line_of root.entry) out.old.items → AreOf (line_of root.entry) out.new.items }
 {
+    let none = Patterns::none(alloc);
+    eval_with(alloc, segments, &none, start, root, out)
+}
+
+/// The same, with patterns that were read before, as `Patterns::of` reads those of the segments. What it adds does not
+/// depend on them.
+pub fn eval_with<'a>(
+    alloc: Global,
+    segments: &[Segment],
+    patterns: &Patterns,
+    start: Cursor<'a>,
+    root: Cursor<'a>,
+    out: &mut Vec<Cursor<'a>>,
+) -> Result<(), AllocError>
+    requires line { line_of start ≡ line_of root }
+    requires root { place_of root ≡ 0 }
+    requires literals { has_sound_literals (segments_view segments.now) ≡ true }
+    ensures ok { OnOk result (map node_of out.new.items ≡ map node_of out.old.items ++ nodes (segments_view segments.now) (node_of start.entry ∷ []) (node_of root.entry).tree) }
+    ensures err { OnErr result (out.new.items ≡ out.old.items) }
+    ensures lines { AreOf (line_of root.entry) out.old.items → AreOf (line_of root.entry) out.new.items }
+{
     let before = out.len();
-    let scope = Scope { alloc, root };
+    let scope = Scope {
+        alloc,
+        patterns,
+        root,
+    };
     let result = push_nodes(scope, segments, start, usize::MAX, out);
     if result.is_err() {
         out.truncate(before);
@@ -517,6 +599,12 @@ pub fn truth<'a>(
     requires literals { logical_has_sound_literals (logical_view expression.now) ≡ true }
     ensures { IfOk result (λ answer. answer ≡ truth_of (logical_view expression.now) (node_of node.entry) (node_of root.entry).tree) }
 {
+    let none = Patterns::none(alloc);
+    let scope = Scope {
+        alloc,
+        patterns: &none,
+        root,
+    };
     let mut memory = Vec::new(alloc);
-    holds(Scope { alloc, root }, expression, node, &mut memory)
+    holds(scope, expression, node, &mut memory)
 }

@@ -4,8 +4,11 @@
 mod children;
 mod evaluate;
 mod functions;
+mod literals;
+mod patterns;
 mod scope;
 #[cfg(test)]
 mod tests;
 
-pub use evaluate::{eval_from, truth};
+pub use evaluate::{eval_from, eval_with, truth};
+pub use patterns::Patterns;

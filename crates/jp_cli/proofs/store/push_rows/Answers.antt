@@ -36,22 +36,22 @@ module _ (c : goal.After-push_nodes) where
   of_line : All (λ d. line_of d ≡ line) cs
   of_line =
       subst (λ (ds : List Cursor). All (λ d. line_of d ≡ line) ds) (sym c.as_slice.ensures.value)
-      (subst (λ (l : List ℕ). All (λ d. line_of d ≡ l) c.eval_from.new.out.items) c.root-root.ensures.line
-      (c.in_ok-eval_from-in-Tree.ensures.lines (all_of_none (line_of c.root-root.result) c.clear.new.self.items c.clear.ensures.items)))
+      (subst (λ (l : List ℕ). All (λ d. line_of d ≡ l) c.eval_with.new.out.items) c.root-root.ensures.line
+      (c.in_ok-eval_with-in-Tree.ensures.lines (all_of_none (line_of c.root-root.result) c.clear.new.self.items c.clear.ensures.items)))
 
   nodes_are : map node_of cs ≡ nodes q (root_node (spelled line) ∷ []) (spelled line)
   nodes_are =
       ap (map node_of) c.as_slice.ensures.value
-      ∙ (c.in_ok-eval_from-in-Tree.ensures.ok
+      ∙ (c.in_ok-eval_with-in-Tree.ensures.ok
       ∙ (ap (λ (ds : List Cursor). map node_of ds ++ nodes (segments_view c.segments.result.now) (node_of c.root-root.result ∷ []) (node_of c.root-root.result).tree) c.clear.ensures.items
       ∙ ap₂ (λ (ss : Segments) (n : Node). nodes ss (n ∷ []) n.tree) c.segments.ensures.value root_is))
 
-pub returns-in_ok-eval_from-in-Tree-clause-text : goal.returns-in_ok-eval_from-in-Tree-clause-text
-returns-in_ok-eval_from-in-Tree-clause-text c =
+pub returns-in_ok-eval_with-in-Tree-clause-text : goal.returns-in_ok-eval_with-in-Tree-clause-text
+returns-in_ok-eval_with-in-Tree-clause-text c =
     on_ok c.push_nodes.result c.push_nodes.ensures.text
     (λ e. e ∙ ap (λ t. flat_map (found_text framings.Lines) c.args.rows.now.items ++ t) (rows_of_line c.args.number (line c) (q c) (cs c) (parsed_line c) (nodes_are c) (of_line c)))
 
-pub returns-in_ok-eval_from-in-Tree-clause-count : goal.returns-in_ok-eval_from-in-Tree-clause-count
-returns-in_ok-eval_from-in-Tree-clause-count c =
+pub returns-in_ok-eval_with-in-Tree-clause-count : goal.returns-in_ok-eval_with-in-Tree-clause-count
+returns-in_ok-eval_with-in-Tree-clause-count c =
     on_ok c.push_nodes.result c.push_nodes.ensures.count
     (λ e. e ∙ ap (λ k. count_by is_found_node c.args.rows.now.items + k) (count_of_line c.args.number (line c) (q c) (cs c) (parsed_line c) (nodes_are c)))

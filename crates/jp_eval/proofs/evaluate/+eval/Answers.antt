@@ -1,16 +1,16 @@
-use Rattle.std.proofs.Common.{rules, w64, ℤ, Bool, ◌&&◌, ◌≡◌, ◌∙◌, ◌≤◌, ◌<◌, ◌+◌, ◌-◌, ◌++◌, ◌==◌, [], ◌∷◌, List, ℕ, true, false, not, map, take, drop, length, filter, flat_map, sym, ap, ap₂, subst, refl, arith, Some, None, Option, append-nil, Vec, Global}
-use Rattle.std.specs.Prelude.{IfSome, IfOk, OnOk, string_bytes}
+use Rattle.std.proofs.Common.{rules, w64, ℤ, Bool, ◌&&◌, ◌≡◌, ◌∙◌, ◌+◌, ◌-◌, ◌++◌, [], ◌∷◌, List, ℕ, true, false, map, take, drop, length, filter, flat_map, sym, ap, ap₂, subst, arith, Some, Option, Vec, Global}
+use Rattle.std.specs.Prelude.{IfOk, OnOk, string_bytes}
 use Rattle.jp_model.specs.Json.Tree.{Tree, Value}
-use Rattle.jp_model.specs.Meaning.Nodes.{Node, children, subtree}
+use Rattle.jp_model.specs.Meaning.Nodes.{Node, children, children_where, subtree}
+use Rattle.jp_model.specs.Steps.{Step}
 use Rattle.jp_model.specs.Meaning.Selecting.{nodes, selected, select, truth}
 use Rattle.jp_model.specs.Query.Syntax.{Segments}
-use Rattle.jp_query.specs.View.{segments_view, selectors_view, selector_view, logical_view, logicals_view, comparable_view, path_view, call_view, argument_view, arguments_view, origin_view}
+use Rattle.jp_query.specs.View.{segments_view, selectors_view, selector_view, logical_view, path_view, call_view, argument_view, arguments_view, origin_view}
 use Rattle.jp_tape.specs.declared.cursor.Cursor.{Cursor}
 use Rattle.jp_tape.specs.Cursors.{line_of, place_of, node_of, nodes_from, nodes_after}
-use Rattle.jp_eval.specs.Expressions.{readable, all_are}
-use Rattle.jp_eval.specs.Found.{Adds, AreOf}
-use Rattle.jp_values.specs.Values.{value_view, is_sound_value}
-use Rattle.jp_eval.proofs.Goes.{Goes, others_are, goes_from, is_done, now_is, filter_taken, filter_passed, nothing_added}
+use Rattle.jp_eval.specs.Expressions.{readable}
+use Rattle.jp_values.specs.Values.{value_view}
+use Rattle.jp_eval.proofs.Goes.{Goes, others_are, goes_from, is_done, is_full, now_is, filter_taken, filter_passed, nothing_added}
 use Rattle.jp_eval.proofs.Kept.{adds_none, adds_more, cut_back, line_on, line_of_some}
 use Rattle.jp_eval.proofs.Lists.{item_at, one_item, two_items}
 use Rattle.jp_eval.proofs.Descendants.{below_at, root_is}
@@ -25,7 +25,6 @@ use Rattle.jp_query.specs.declared.tree.Selector.{Selector, fold-roll-Selector}
 use Rattle.jp_query.specs.declared.tree.Selector.TheVariants.{rolls-Name}
 use Rattle.jp_query.specs.declared.tree.Argument.TheOpen.{Selector-F}
 use Rattle.jp_query.specs.View.{argument_step, comparable_step, logical_step, segment_step, selector_step, call_step, path_step}
-use Rattle.jp_query.specs.declared.tree.Logical.{Logical}
 use Rattle.jp_query.specs.declared.tree.Argument.{Argument}
 use Rattle.jp_query.specs.declared.tree.Call.{Call}
 use Rattle.jp_query.specs.declared.tree.Path.{Path}
@@ -34,7 +33,10 @@ use Rattle.jp_query.specs.declared.tree.Segment.{Segment}
 use Rattle.jp_values.specs.declared.value.Value.{Value as Side}
 use Rattle.jp_model.specs.Query.Syntax as syntax
 use Rattle.jp_model.specs.Query.Limits.{selectors_pass, logical_passes, call_passes, argument_passes}
-use Rattle.jp_model.specs.Meaning.Slices.{named, indexed, sliced}
+use Rattle.jp_model.specs.Meaning.Slices.{named, indexed, sliced, is_index}
+use Rattle.jp_eval.specs.Walks.{IsAt, rises}
+use Rattle.jp_eval.proofs.Walks.{chosen_from, chosen_here, passed_here, at_next, index_fits}
+use Rattle.jp_eval.proofs.Slices.{none_risen}
 use Rattle.jp_model.specs.Meaning.Selecting.{path_nodes, given_by, call_value, call_truth, start}
 use Rattle.jp_model.specs.Meaning.Functions.{Given, length_of, counted, in_pattern, single_value}
 use Rattle.jp_model.proofs.Seek.{no_nodes}
@@ -43,7 +45,7 @@ use Rattle.std.specs.Str.{chars}
 use Rattle.std.proofs.lemmas.Bool.{and_parts, ltb-true, ltb-false}
 use Rattle.std.proofs.lemmas.List.{drop_all}
 use Rattle.jp_eval.proofs.evaluate.+eval.Goals as goal
-use Rattle.jp_eval.proofs.evaluate.+eval.Goals.{push_filtered-then-branch+in_ok-push_nodes, push_filtered-else-branch, single_value-then-len-before, single_value-else-len-before, call_value-in_default-via-then-as_slice-lt1, call_value-in_default-via-else-as_slice-lt1+else-this-lt2, push_path-in-Root, push_path-in-Current, call_truth-in-Some-Match, call_truth-in-Some-Search}
+use Rattle.jp_eval.proofs.evaluate.+eval.Goals.{push_filtered-then-branch+in_ok-push_nodes, push_filtered-else-branch, single_value-then-len-before, single_value-else-len-before, call_value-in_default-via-then-as_slice-lt1, call_value-in_default-via-else-as_slice-lt1+else-this-lt2, push_path-in-Root, push_path-in-Current, call_truth-in-Some-Match, call_truth-in-Some-Search, push_rising-then-has+in_ok-push_nodes, push_rising-else-has, push_rising-then-len-most-via-then-len-most, push_rising-then-len-most-via-else-len-most+then-ends_before}
 
 -- ---- children
 
@@ -369,14 +371,90 @@ call_value-returns-in-Nodes-argument-clause-value t c =
     let nodes_is = ap (λ (a : syntax.Argument). single_value (given_by a n u).nodes) (ap argument_view c.in-Nodes-argument.is ∙ nodes_viewed c.in-Nodes-argument.path) in
     subst (λ (v : Option Value). IfOk c.single_value.result (λ (r : Side). value_view r ≡ v)) (sym nodes_is ∙ sym (ap (λ (v : syntax.Call). call_value v n u) seen)) c.single_value.ensures.value
 
-pub push_selector-returns-in_ok-found-in-Slice-clause-nodes : goal.push_selector-returns-in_ok-found-in-Slice-clause-nodes
-push_selector-returns-in_ok-found-in-Slice-clause-nodes t c =
+-- ---- slices
+
+pub push_selector-returns-in-Slice-clause-nodes : goal.push_selector-returns-in-Slice-clause-nodes
+push_selector-returns-in-Slice-clause-nodes t c =
     let n : Node = node_of c.args.node in
     let u : Tree = (node_of c.args.scope.root).tree in
     let fits : to_z w64 (of_z w64 c.unwrap_or.result) ≡ c.unwrap_or.result = search rules in
-    let found : map node_of c.in_ok-found-in-Slice.found.items ≡ sliced c.in-Slice.first c.in-Slice.last (to_z w64 (of_z w64 c.unwrap_or.result)) n = c.in_ok-found-in-Slice.ensures.nodes in
     let seen = ap selector_view c.in-Slice.is ∙ slice_viewed c.in-Slice.first c.in-Slice.last c.in-Slice.step in
-    let same : map node_of c.deref.result.now ≡ select (selector_view c.args.selector.now) n u =
-    ap (map node_of) c.deref.ensures.value
-    ∙ (found ∙ (ap (λ (z : ℤ). sliced c.in-Slice.first c.in-Slice.last z n) (fits ∙ c.unwrap_or.ensures) ∙ sym (ap (λ (x : syntax.Selector). select x n u) seen))) in
+    let same : sliced c.in-Slice.first c.in-Slice.last (to_z w64 (of_z w64 c.unwrap_or.result)) n ≡ select (selector_view c.args.selector.now) n u =
+    ap (λ (z : ℤ). sliced c.in-Slice.first c.in-Slice.last z n) (fits ∙ c.unwrap_or.ensures) ∙ sym (ap (λ (x : syntax.Selector). select x n u) seen) in
+    subst (λ (l : List Node). OnOk c.push_slice.result (map node_of c.push_slice.new.out.items ≡ take c.args.most (map node_of c.args.out.now.items ++ nodes (segments_view c.args.rest.now) l u))) same c.push_slice.ensures.nodes
+
+pub push_slice-returns-then-slice-gt0-clause-nodes : goal.push_slice-returns-then-slice-gt0-clause-nodes
+push_slice-returns-then-slice-gt0-clause-nodes t c =
+    let u : Tree = (node_of c.args.scope.root).tree in
+    subst (λ (l : List Node). OnOk c.push_rising.result (map node_of c.push_rising.new.out.items ≡ take c.args.most (map node_of c.args.out.now.items ++ nodes (segments_view c.args.rest.now) l u))) c.of.ensures c.push_rising.ensures.nodes
+
+pub push_slice-returns-clause-nodes : goal.push_slice-returns-clause-nodes
+push_slice-returns-clause-nodes t c =
+    let n : Node = node_of c.args.node in
+    let u : Tree = (node_of c.args.scope.root).tree in
+    let same = ap (map node_of) c.deref.ensures.value ∙ c.in_ok-found.ensures.nodes in
     subst (λ (l : List Node). OnOk c.push_from_each.result (map node_of c.push_from_each.new.out.items ≡ take c.args.most (map node_of c.args.out.now.items ++ nodes (segments_view c.args.rest.now) l u))) same c.push_from_each.ensures.nodes
+
+pub push_rising-returns-in_err-push_nodes-clause-kept : goal.push_rising-returns-in_err-push_nodes-clause-kept
+push_rising-returns-in_err-push_nodes-clause-kept t c = adds_more c.loop-next.invariant.goes.kept c.in_err-push_nodes.ensures.kept
+
+pub push_rising-loop-next-preserved : goal.push_rising-loop-next-preserved
+push_rising-loop-next-preserved t c =
+    let u : Tree = (node_of c.args.scope.root).tree in
+    let ss : Segments = segments_view c.args.rest.now in
+    let n : Node = node_of c.args.node in
+    let passes : Step → Bool = is_index (rises c.args.slice.low c.args.slice.high c.args.slice.step) in
+    let i : ℕ = c.loop-next.index in
+    let child : Cursor = c.in-Some.child in
+    let next : Option Cursor = c.next_sibling-next.result in
+    let kept = c.loop-next.invariant in
+    let total : List Node = nodes ss (children_where passes n) u in
+    let at : IsAt n i (Some child) = subst (λ (o : Option Cursor). IsAt n i o) c.in-Some.is kept.at in
+    let here : Goes (line_of c.args.scope.root) c.args.most c.args.out.now.items c.loop-next.out.items (nodes ss (chosen_from passes n i (Some child)) u) total =
+    others_are (nodes ss (chosen_from passes n i (Some child)) u) (ap (λ (o : Option Cursor). nodes ss (chosen_from passes n i o) u) c.in-Some.is) kept.goes in
+    let goes : Goes (line_of c.args.scope.root) c.args.most c.args.out.now.items c.if-has.out.items (nodes ss (chosen_from passes n (i + 1) next) u) total =
+    elim c.if-has.branch [
+      | push_rising-then-has+in_ok-push_nodes w ↦
+          (let chosen = chosen_here passes n i child next at c.next_sibling-next.ensures.children (sym c.has.ensures ∙ w.if-has.true) in
+          now_is c.if-has.out.items (ap (λ (v : Vec Cursor Global). v.items) w.out-is)
+          (goes_from w.push_nodes.new.out.items ss u (node_of child ∷ []) (chosen_from passes n (i + 1) next)
+          (others_are (nodes ss (node_of child ∷ chosen_from passes n (i + 1) next) u) (ap (λ (l : List Node). nodes ss l u) chosen) here)
+          w.in_ok-push_nodes.ensures.kept w.in_ok-push_nodes.ensures.nodes))
+      | push_rising-else-has w ↦
+          (let passed = passed_here passes n i child next c.next_sibling-next.ensures.children (sym c.has.ensures ∙ w.if-has.false) in
+          now_is c.if-has.out.items (ap (λ (v : Vec Cursor Global). v.items) w.out-is)
+          (others_are (nodes ss (chosen_from passes n (i + 1) next) u) (ap (λ (l : List Node). nodes ss l u) passed) here))
+    ] in
+    record {
+      goes = goes;
+      at = at_next n i child next at c.next_sibling-next.ensures.nodes c.next_sibling-next.ensures.children;
+      line = line_on next _ _ c.next_sibling-next.ensures.line (line_of_some _ child _ c.in-Some.is kept.line);
+    }
+
+pub push_rising-returns-clause-nodes : goal.push_rising-returns-clause-nodes
+push_rising-returns-clause-nodes t c =
+    let u : Tree = (node_of c.args.scope.root).tree in
+    let ss : Segments = segments_view c.args.rest.now in
+    let n : Node = node_of c.args.node in
+    is_done c.loop-next.invariant.goes (ap (λ (o : Option Cursor). nodes ss (chosen_from (is_index (rises c.args.slice.low c.args.slice.high c.args.slice.step)) n c.loop-next.index o) u) c.in_default.is ∙ no_nodes ss u)
+
+pub push_rising-overflow_add-index : goal.push_rising-overflow_add-index
+push_rising-overflow_add-index t c =
+    let n : Node = node_of c.args.node in
+    let i : ℕ = c.loop-next.index in
+    let at : IsAt n i (Some c.in-Some.child) = subst (λ (o : Option Cursor). IsAt n i o) c.in-Some.is c.loop-next.invariant.at in
+    let small = index_fits c.args.node i c.in-Some.child at in
+    omega (arith, small)
+
+pub push_rising-returns-then-len-most-clause-nodes : goal.push_rising-returns-then-len-most-clause-nodes
+push_rising-returns-then-len-most-clause-nodes t c =
+    let u : Tree = (node_of c.args.scope.root).tree in
+    let ss : Segments = segments_view c.args.rest.now in
+    let n : Node = node_of c.args.node in
+    let r = c.args.slice in
+    elim c.then-len-most.branch [
+      | push_rising-then-len-most-via-then-len-most w ↦ is_full c.loop-next.invariant.goes (sym (c.len.ensures ∙ c.loop-next.out.ok.0) ∙ w.if-len-most.true)
+      | push_rising-then-len-most-via-else-len-most+then-ends_before w ↦
+          (let none = none_risen r.low r.high r.step n c.loop-next.index c.loop-next.next (sym w.ends_before.ensures ∙ w.if-ends_before.true) in
+          is_done c.loop-next.invariant.goes (ap (λ (l : List Node). nodes ss l u) none ∙ no_nodes ss u))
+    ]

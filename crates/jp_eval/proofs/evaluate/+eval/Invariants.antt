@@ -1,14 +1,16 @@
 -- How far each loop has come, and how large the part of the query is that each function goes into.
-use Rattle.std.proofs.Common.{◌≡◌, ◌≤◌, ◌+◌, ◌-◌, ◌++◌, true, map, length, filter, flat_map, drop}
+use Rattle.std.proofs.Common.{◌≡◌, ◌≤◌, ◌+◌, ◌-◌, true, map, length, filter, flat_map, drop}
 use Rattle.std.specs.Prelude.{IfSome}
-use Rattle.jp_model.specs.Meaning.Nodes.{Node, children, subtree}
+use Rattle.jp_model.specs.Meaning.Nodes.{Node, children, children_where, subtree}
 use Rattle.jp_model.specs.Meaning.Selecting.{nodes, selected, truth}
+use Rattle.jp_model.specs.Meaning.Slices.{is_index}
 use Rattle.jp_model.specs.Query.Limits.{selectors_pass, logicals_pass}
 use Rattle.jp_query.specs.View.{segments_view, selectors_view, selector_view, logical_view, logicals_view, comparable_view, path_view, call_view, argument_view}
 use Rattle.jp_tape.specs.Cursors.{line_of, place_of, node_of, nodes_from}
 use Rattle.jp_eval.specs.Expressions.{readable, all_are}
-use Rattle.jp_eval.specs.Found.{Adds, AreOf}
+use Rattle.jp_eval.specs.Walks.{IsAt, rises}
 use Rattle.jp_eval.proofs.Goes.{Goes}
+use Rattle.jp_eval.proofs.Walks.{chosen_from}
 use Rattle.jp_eval.proofs.Sizes.{size_of_segments, size_of_selectors, size_of_selector, size_of_logical, size_of_logicals, size_of_comparable, size_of_path, size_of_call, size_of_argument}
 use Rattle.jp_eval.proofs.evaluate.+eval.Given as goal
 
@@ -16,16 +18,22 @@ abbrev pub decreases-push_nodes : goal.decreases-push_nodes
 decreases-push_nodes l = size_of_segments (segments_view l.segments.now)
 
 abbrev pub decreases-push_descendants : goal.decreases-push_descendants
-decreases-push_descendants l = size_of_selectors (selectors_view l.selectors.now) + size_of_segments (segments_view l.rest.now) + 3
+decreases-push_descendants l = size_of_selectors (selectors_view l.selectors.now) + size_of_segments (segments_view l.rest.now) + 4
 
 abbrev pub decreases-push_selected : goal.decreases-push_selected
-decreases-push_selected l = size_of_selectors (selectors_view l.selectors.now) + size_of_segments (segments_view l.rest.now) + 2
+decreases-push_selected l = size_of_selectors (selectors_view l.selectors.now) + size_of_segments (segments_view l.rest.now) + 3
 
 abbrev pub decreases-push_selector : goal.decreases-push_selector
-decreases-push_selector l = size_of_selector (selector_view l.selector.now) + size_of_segments (segments_view l.rest.now) + 1
+decreases-push_selector l = size_of_selector (selector_view l.selector.now) + size_of_segments (segments_view l.rest.now) + 2
 
 abbrev pub decreases-push_children : goal.decreases-push_children
 decreases-push_children l = size_of_segments (segments_view l.rest.now) + 1
+
+abbrev pub decreases-push_slice : goal.decreases-push_slice
+decreases-push_slice l = size_of_segments (segments_view l.rest.now) + 2
+
+abbrev pub decreases-push_rising : goal.decreases-push_rising
+decreases-push_rising l = size_of_segments (segments_view l.rest.now) + 1
 
 abbrev pub decreases-push_from_each : goal.decreases-push_from_each
 decreases-push_from_each l = size_of_segments (segments_view l.rest.now) + 1
@@ -107,6 +115,19 @@ abbrev pub invariant-push_from_each-loop-start : goal.invariant-push_from_each-l
 invariant-push_from_each-loop-start l =
     let t = (node_of l.scope.root).tree in
     Goes (line_of l.scope.root) l.most l.fn.out.items l.out.items (nodes (segments_view l.rest) (map node_of (drop l.start-index l.starts)) t) (nodes (segments_view l.rest) (map node_of l.starts) t)
+
+abbrev pub invariant-push_rising-loop-next : goal.invariant-push_rising-loop-next
+invariant-push_rising-loop-next l =
+    let t = (node_of l.scope.root).tree in
+    let passes = is_index (rises l.slice.low l.slice.high l.slice.step) in
+    record {
+      goes : Goes (line_of l.scope.root) l.most l.fn.out.items l.out.items (nodes (segments_view l.rest) (chosen_from passes (node_of l.node) l.index l.next) t) (nodes (segments_view l.rest) (children_where passes (node_of l.node)) t);
+      at : IsAt (node_of l.node) l.index l.next;
+      line : IfSome l.next (λ c. line_of c ≡ line_of l.scope.root);
+    }
+
+abbrev pub decreases-push_rising-loop-next : goal.decreases-push_rising-loop-next
+decreases-push_rising-loop-next l = length (nodes_from l.next)
 
 abbrev pub invariant-push_selected-loop-selector : goal.invariant-push_selected-loop-selector
 invariant-push_selected-loop-selector l =

@@ -6,7 +6,7 @@ use Rattle.jp_model.specs.Meaning.Selecting.{nodes}
 use Rattle.jp_query.specs.View.{segments_view}
 use Rattle.jp_tape.specs.Cursors.{node_of}
 use Rattle.jp_eval.proofs.Counts.{all_added}
-use Rattle.jp_eval.proofs.evaluate.eval_from.Goals as goal
+use Rattle.jp_eval.proofs.evaluate.eval_with.Goals as goal
 
 on_ok : {A E : Type 0} (r : Result A E) (P Q : Type 0) → (P → Q) → OnOk r P → OnOk r Q
 on_ok (Ok x) P Q f h = f h

@@ -1,17 +1,17 @@
 -- The elements of the slice before the index were found.
 use Rattle.std.proofs.Common.{◌≡◌, ◌++◌, map, length}
 use Rattle.std.specs.Prelude.{IfSome}
-use Rattle.jp_model.specs.Meaning.Slices.{is_index}
+use Rattle.jp_model.specs.Meaning.Slices.{is_index, downward}
 use Rattle.jp_model.specs.Meaning.Nodes.{children_where}
 use Rattle.jp_tape.specs.Cursors.{line_of, node_of, nodes_from}
 use Rattle.jp_eval.specs.Found.{AreOf}
-use Rattle.jp_eval.specs.Walks.{IsAt, slice_has}
+use Rattle.jp_eval.specs.Walks.{IsAt}
 use Rattle.jp_eval.proofs.Walks.{chosen_from}
-use Rattle.jp_eval.proofs.children.slice_elements.Given as goal
+use Rattle.jp_eval.proofs.children.falling_elements.Given as goal
 
 abbrev pub invariant-loop-next : goal.invariant-loop-next
 invariant-loop-next l =
-    let passes = is_index (slice_has l.count l.slice.first l.slice.last l.slice.step) in
+    let passes = is_index (downward l.count l.slice.first l.slice.last l.slice.step) in
     record {
       at : IsAt (node_of l.node) l.index l.next;
       told : map node_of l.found.items ++ chosen_from passes (node_of l.node) l.index l.next ≡ children_where passes (node_of l.node);
