@@ -23,3 +23,9 @@ beside '$..name' '.. | objects | select(has("name")) | .name'
 beside '$.items[?@.price > 20].name' '.items[] | select(.price > 20) | .name'
 beside '$[?match(@.name, "user.*7")]' '.[] | objects | select(.name | strings | test("^(user.*7)$"))'
 beside '$.items[0:1].name' '.items[0:1][] | .name'
+# A filter that asks the root, over one array of 100,000 numbers.
+awk 'BEGIN { printf "["; for (n = 0; n < 100000; n++) printf "%d,", n; print "7]" }' > "$folder/lines.jsonl"
+bytes=$(stat -c %s "$folder/lines.jsonl")
+echo "one line: $bytes bytes"
+beside '$[?@ == $[-1]]' '.[-1] as $last | .[] | select(. == $last)'
+beside '$[?@ < length($) && @ < count($..*)]' 'length as $length | .[] | select(. < $length)'

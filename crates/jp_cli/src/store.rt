@@ -13,7 +13,7 @@ ghost use Rattle.jp_types.specs.Checks.{checked_view};
 ghost use Rattle.jp_cli.specs.Stored.{AreRead, text_of, IsOfKind, IsRead, found_text, cursor_text, is_found_node, line_row_text};
 
 use crate::collection::without_byte_order_mark;
-use jp_eval::{Patterns, eval_with};
+use jp_eval::{Prepared, eval_with};
 use jp_masks::{Marks, Scanner, laws};
 use jp_model::{Framing, LineFault, is_blank};
 use jp_tape::{BuildFault, Cursor, Tape, build};
@@ -151,13 +151,13 @@ impl<'a> Store<'a> {
         ensures count { IfOk result (λ rows. count_by is_found_node rows.items
             ≡ count_by is_node (rows_of (checked_view query.now) (statuses framings.Lines self.now.lines))) }
     {
-        let patterns = Patterns::of(alloc, query.segments())?;
+        let prepared = Prepared::of(alloc, query.segments())?;
         let mut rows = Vec::new(alloc);
         let mut found = Vec::new(alloc);
         let mut number = 0;
         for line in &self.lines {
             number += 1;
-            push_rows(alloc, line, number, query, &patterns, &mut found, &mut rows)?;
+            push_rows(alloc, line, number, query, &prepared, &mut found, &mut rows)?;
         }
         Ok(rows)
     }
@@ -170,7 +170,7 @@ fn push_rows<'a>(
     line: &'a Line<'_>,
     number: u32,
     query: &Checked,
-    patterns: &Patterns,
+    prepared: &Prepared<'_>,
     found: &mut Vec<Cursor<'a>>,
     rows: &mut Vec<Row<'a>>,
 ) -> Result<(), AllocError>
@@ -192,7 +192,7 @@ fn push_rows<'a>(
         LineKind::Tree(tape) => {
             let root = Cursor::root(tape, line.text);
             found.clear();
-            eval_with(alloc, query.segments(), patterns, root, root, found)?;
+            eval_with(alloc, query.segments(), prepared, root, root, found)?;
             push_nodes(number, found.as_slice(), rows)
         }
     }

@@ -13,3 +13,4 @@ pub mod Descendants
 pub mod Counts
 pub mod NoMembers
 pub mod Slices
+pub mod Readable

@@ -40,7 +40,7 @@ abbrev mutual
   size_of_path (path o ss) = size_of_segments ss + 1
 
   pub size_of_call : Call → ℕ
-  size_of_call (call f args) = size_of_arguments args + 1
+  size_of_call (call f args) = size_of_arguments args + 2
 
   pub size_of_arguments : Arguments → ℕ
   size_of_arguments no_arguments = 0

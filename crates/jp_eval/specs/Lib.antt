@@ -5,3 +5,5 @@ pub mod Functions
 pub mod Walks
 pub mod Literals
 pub mod Patterns
+pub mod Asked
+pub mod Answers

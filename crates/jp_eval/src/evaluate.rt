@@ -4,7 +4,7 @@
 //! there. So no list is made in between, and a search for one node stops at the first.
 
 ghost use Rattle.std.specs.Prelude.{◌≡◌, ◌≤◌, ◌++◌, ◌==◌, [], ◌∷◌, true, not, map, take, length, filter, flat_map, IfOk, OnOk, OnErr, IsTrue};
-ghost use Rattle.jp_model.specs.Meaning.Functions.{single_value as single_value_of};
+ghost use Rattle.jp_model.specs.Meaning.Functions.{single_value as single_value_of, length_of as length_of_value};
 ghost use Rattle.jp_model.specs.Meaning.Nodes.{children, children_where, subtree};
 ghost use Rattle.jp_model.specs.Meaning.Selecting.{nodes, selected, select, truth as truth_of, compared_value, path_nodes, given_by, call_value as call_value_of, call_truth as call_truth_of};
 ghost use Rattle.jp_model.specs.Meaning.Slices.{is_index, sliced};
@@ -12,14 +12,18 @@ ghost use Rattle.jp_model.specs.Query.Limits.{segments_pass, selectors_pass, sel
 ghost use Rattle.jp_query.specs.Sound.{has_sound_literals, logical_has_sound_literals};
 ghost use Rattle.jp_query.specs.View.{segments_view, selectors_view, selector_view, logical_view, logicals_view, comparable_view, path_view, call_view, argument_view};
 ghost use Rattle.jp_tape.specs.Cursors.{line_of, place_of, node_of};
+ghost use Rattle.jp_eval.specs.Answers.{HasRightAnswers};
 ghost use Rattle.jp_eval.specs.Expressions.{readable, all_are};
 ghost use Rattle.jp_eval.specs.Found.{Adds, AreOf};
 ghost use Rattle.jp_eval.specs.Walks.{rises};
 ghost use Rattle.jp_values.specs.Values.{value_view, is_sound_value};
 
+use crate::answers::answers_of;
+use crate::asked::Question;
 use crate::children::{Rising, Slice, find_element, find_falling, find_member};
 use crate::functions::{Function, function_of, in_pattern, length_of};
-use crate::patterns::Patterns;
+use crate::prepared::Prepared;
+use crate::recall::recall;
 use crate::scope::Scope;
 use jp_query::{Argument, Call, Comparable, Logical, Origin, Path, Segment, Selector};
 use jp_tape::Cursor;
@@ -29,13 +33,14 @@ use std::alloc::{AllocError, Global};
 /// Adds what the segments select from a node, as long as `out` has fewer nodes than `most`.
 #[cycle(eval)]
 fn push_nodes<'a>(
-    scope: Scope<'_, 'a>,
+    scope: Scope<'_, '_, 'a>,
     segments: &[Segment],
     node: Cursor<'a>,
     most: usize,
     out: &mut Vec<Cursor<'a>>,
 ) -> Result<(), AllocError>
     requires line { line_of node ≡ line_of scope.root }
+    requires answers { HasRightAnswers scope }
     requires literals { segments_pass (segments_view segments.now) readable ≡ true }
     requires room { length out.old.items ≤ most }
     ensures kept { Adds (line_of scope.entry.root) out.old.items out.new.items }
@@ -60,7 +65,7 @@ fn push_nodes<'a>(
 /// Adds what the selectors select from the node and from each below it, and the segments from there.
 #[cycle(eval)]
 fn push_descendants<'a>(
-    scope: Scope<'_, 'a>,
+    scope: Scope<'_, '_, 'a>,
     selectors: &[Selector],
     rest: &[Segment],
     node: Cursor<'a>,
@@ -68,6 +73,7 @@ fn push_descendants<'a>(
     out: &mut Vec<Cursor<'a>>,
 ) -> Result<(), AllocError>
     requires line { line_of node ≡ line_of scope.root }
+    requires answers { HasRightAnswers scope }
     requires literals { selectors_pass (selectors_view selectors.now) readable ≡ true }
     requires rest { segments_pass (segments_view rest.now) readable ≡ true }
     requires room { length out.old.items ≤ most }
@@ -86,7 +92,7 @@ fn push_descendants<'a>(
 /// Adds what the selectors select from a node, in their order, and the segments from there.
 #[cycle(eval)]
 fn push_selected<'a>(
-    scope: Scope<'_, 'a>,
+    scope: Scope<'_, '_, 'a>,
     selectors: &[Selector],
     rest: &[Segment],
     node: Cursor<'a>,
@@ -94,6 +100,7 @@ fn push_selected<'a>(
     out: &mut Vec<Cursor<'a>>,
 ) -> Result<(), AllocError>
     requires line { line_of node ≡ line_of scope.root }
+    requires answers { HasRightAnswers scope }
     requires literals { selectors_pass (selectors_view selectors.now) readable ≡ true }
     requires rest { segments_pass (segments_view rest.now) readable ≡ true }
     requires room { length out.old.items ≤ most }
@@ -109,7 +116,7 @@ fn push_selected<'a>(
 /// Adds what the selector selects from a node, and the segments from there.
 #[cycle(eval)]
 fn push_selector<'a>(
-    scope: Scope<'_, 'a>,
+    scope: Scope<'_, '_, 'a>,
     selector: &Selector,
     rest: &[Segment],
     node: Cursor<'a>,
@@ -117,6 +124,7 @@ fn push_selector<'a>(
     out: &mut Vec<Cursor<'a>>,
 ) -> Result<(), AllocError>
     requires line { line_of node ≡ line_of scope.root }
+    requires answers { HasRightAnswers scope }
     requires literals { selector_passes (selector_view selector.now) readable ≡ true }
     requires rest { segments_pass (segments_view rest.now) readable ≡ true }
     requires room { length out.old.items ≤ most }
@@ -148,13 +156,14 @@ fn push_selector<'a>(
 /// Adds what the segments select from each child.
 #[cycle(eval)]
 fn push_children<'a>(
-    scope: Scope<'_, 'a>,
+    scope: Scope<'_, '_, 'a>,
     rest: &[Segment],
     node: Cursor<'a>,
     most: usize,
     out: &mut Vec<Cursor<'a>>,
 ) -> Result<(), AllocError>
     requires line { line_of node ≡ line_of scope.root }
+    requires answers { HasRightAnswers scope }
     requires rest { segments_pass (segments_view rest.now) readable ≡ true }
     requires room { length out.old.items ≤ most }
     ensures kept { Adds (line_of scope.entry.root) out.old.items out.new.items }
@@ -174,7 +183,7 @@ fn push_children<'a>(
 /// Adds what the segments select from each element of a slice, in the order in which it selects them.
 #[cycle(eval)]
 fn push_slice<'a>(
-    scope: Scope<'_, 'a>,
+    scope: Scope<'_, '_, 'a>,
     slice: Slice,
     rest: &[Segment],
     node: Cursor<'a>,
@@ -182,6 +191,7 @@ fn push_slice<'a>(
     out: &mut Vec<Cursor<'a>>,
 ) -> Result<(), AllocError>
     requires line { line_of node ≡ line_of scope.root }
+    requires answers { HasRightAnswers scope }
     requires rest { segments_pass (segments_view rest.now) readable ≡ true }
     requires room { length out.old.items ≤ most }
     ensures kept { Adds (line_of scope.entry.root) out.old.items out.new.items }
@@ -197,7 +207,7 @@ fn push_slice<'a>(
 /// Adds what the segments select from each element of a slice with a step above 0. It goes no further than the last.
 #[cycle(eval)]
 fn push_rising<'a>(
-    scope: Scope<'_, 'a>,
+    scope: Scope<'_, '_, 'a>,
     slice: Rising,
     rest: &[Segment],
     node: Cursor<'a>,
@@ -205,6 +215,7 @@ fn push_rising<'a>(
     out: &mut Vec<Cursor<'a>>,
 ) -> Result<(), AllocError>
     requires line { line_of node ≡ line_of scope.root }
+    requires answers { HasRightAnswers scope }
     requires rest { segments_pass (segments_view rest.now) readable ≡ true }
     requires room { length out.old.items ≤ most }
     ensures kept { Adds (line_of scope.entry.root) out.old.items out.new.items }
@@ -228,13 +239,14 @@ fn push_rising<'a>(
 /// Adds what the segments select from each of some nodes.
 #[cycle(eval)]
 fn push_from_each<'a>(
-    scope: Scope<'_, 'a>,
+    scope: Scope<'_, '_, 'a>,
     rest: &[Segment],
     starts: &[Cursor<'a>],
     most: usize,
     out: &mut Vec<Cursor<'a>>,
 ) -> Result<(), AllocError>
     requires lines { AreOf (line_of scope.root) starts.now }
+    requires answers { HasRightAnswers scope }
     requires rest { segments_pass (segments_view rest.now) readable ≡ true }
     requires room { length out.old.items ≤ most }
     ensures kept { Adds (line_of scope.entry.root) out.old.items out.new.items }
@@ -249,7 +261,7 @@ fn push_from_each<'a>(
 /// Adds what the segments select from each child of which the expression holds.
 #[cycle(eval)]
 fn push_filtered<'a>(
-    scope: Scope<'_, 'a>,
+    scope: Scope<'_, '_, 'a>,
     expression: &Logical,
     rest: &[Segment],
     node: Cursor<'a>,
@@ -257,6 +269,7 @@ fn push_filtered<'a>(
     out: &mut Vec<Cursor<'a>>,
 ) -> Result<(), AllocError>
     requires line { line_of node ≡ line_of scope.root }
+    requires answers { HasRightAnswers scope }
     requires literals { logical_passes (logical_view expression.now) readable ≡ true }
     requires rest { segments_pass (segments_view rest.now) readable ≡ true }
     requires room { length out.old.items ≤ most }
@@ -279,12 +292,13 @@ fn push_filtered<'a>(
 /// Whether the expression holds of a node. `out` is as before: it lends its memory for a while.
 #[cycle(eval)]
 fn holds<'a>(
-    scope: Scope<'_, 'a>,
+    scope: Scope<'_, '_, 'a>,
     expression: &Logical,
     node: Cursor<'a>,
     out: &mut Vec<Cursor<'a>>,
 ) -> Result<bool, AllocError>
     requires line { line_of node ≡ line_of scope.root }
+    requires answers { HasRightAnswers scope }
     requires literals { logical_passes (logical_view expression.now) readable ≡ true }
     ensures kept { Adds (line_of scope.entry.root) out.old.items out.new.items }
     ensures same { OnOk result (out.new.items ≡ out.old.items) }
@@ -307,13 +321,14 @@ fn holds<'a>(
 /// Whether each part is true, or each is false.
 #[cycle(eval)]
 fn are_all<'a>(
-    scope: Scope<'_, 'a>,
+    scope: Scope<'_, '_, 'a>,
     parts: &[Logical],
     answer: bool,
     node: Cursor<'a>,
     out: &mut Vec<Cursor<'a>>,
 ) -> Result<bool, AllocError>
     requires line { line_of node ≡ line_of scope.root }
+    requires answers { HasRightAnswers scope }
     requires literals { logicals_pass (logicals_view parts.now) readable ≡ true }
     ensures kept { Adds (line_of scope.entry.root) out.old.items out.new.items }
     ensures same { OnOk result (out.new.items ≡ out.old.items) }
@@ -330,12 +345,13 @@ fn are_all<'a>(
 /// The value of a side of a comparison.
 #[cycle(eval)]
 fn side_value<'v, 'a: 'v>(
-    scope: Scope<'_, 'a>,
+    scope: Scope<'_, '_, 'a>,
     side: &'v Comparable,
     node: Cursor<'a>,
     out: &mut Vec<Cursor<'a>>,
 ) -> Result<Value<'v>, AllocError>
     requires line { line_of node ≡ line_of scope.root }
+    requires answers { HasRightAnswers scope }
     requires literals { comparable_passes (comparable_view side.now) readable ≡ true }
     ensures kept { Adds (line_of scope.entry.root) out.old.items out.new.items }
     ensures same { OnOk result (out.new.items ≡ out.old.items) }
@@ -352,13 +368,14 @@ fn side_value<'v, 'a: 'v>(
 /// Adds what a query within a filter selects.
 #[cycle(eval)]
 fn push_path<'a>(
-    scope: Scope<'_, 'a>,
+    scope: Scope<'_, '_, 'a>,
     path: &Path,
     node: Cursor<'a>,
     most: usize,
     out: &mut Vec<Cursor<'a>>,
 ) -> Result<(), AllocError>
     requires line { line_of node ≡ line_of scope.root }
+    requires answers { HasRightAnswers scope }
     requires literals { path_passes (path_view path.now) readable ≡ true }
     requires room { length out.old.items ≤ most }
     ensures kept { Adds (line_of scope.entry.root) out.old.items out.new.items }
@@ -373,18 +390,22 @@ fn push_path<'a>(
 
 /// Whether a query within a filter selects a node.
 #[cycle(eval)]
-fn has_node<'a>(
-    scope: Scope<'_, 'a>,
+pub(crate) fn has_node<'a>(
+    scope: Scope<'_, '_, 'a>,
     path: &Path,
     node: Cursor<'a>,
     out: &mut Vec<Cursor<'a>>,
 ) -> Result<bool, AllocError>
     requires line { line_of node ≡ line_of scope.root }
+    requires answers { HasRightAnswers scope }
     requires literals { path_passes (path_view path.now) readable ≡ true }
     ensures kept { Adds (line_of scope.entry.root) out.old.items out.new.items }
     ensures same { OnOk result (out.new.items ≡ out.old.items) }
     ensures value { IfOk result (λ b. b ≡ not (length (path_nodes (path_view path.now) (node_of node.entry) (node_of scope.entry.root).tree) == 0)) }
 {
+    if let Some(answer) = recall(scope, path, Question::Value) {
+        return Ok(!answer.is_empty);
+    }
     let before = out.len();
     push_path(scope, path, node, before + 1, out)?;
     let found = out.len() > before;
@@ -394,18 +415,24 @@ fn has_node<'a>(
 
 /// How many nodes a query within a filter selects.
 #[cycle(eval)]
-fn count_nodes<'a>(
-    scope: Scope<'_, 'a>,
+pub(crate) fn count_nodes<'a>(
+    scope: Scope<'_, '_, 'a>,
     path: &Path,
     node: Cursor<'a>,
     out: &mut Vec<Cursor<'a>>,
 ) -> Result<u64, AllocError>
     requires line { line_of node ≡ line_of scope.root }
+    requires answers { HasRightAnswers scope }
     requires literals { path_passes (path_view path.now) readable ≡ true }
     ensures kept { Adds (line_of scope.entry.root) out.old.items out.new.items }
     ensures same { OnOk result (out.new.items ≡ out.old.items) }
     ensures value { IfOk result (λ count. count ≡ length (path_nodes (path_view path.now) (node_of node.entry) (node_of scope.entry.root).tree)) }
 {
+    if let Some(answer) = recall(scope, path, Question::Count) {
+        if let Value::Count(count) = answer.value {
+            return Ok(count);
+        }
+    }
     let before = out.len();
     push_path(scope, path, node, usize::MAX, out)?;
     let count = out.len() - before;
@@ -415,19 +442,23 @@ fn count_nodes<'a>(
 
 /// The value of the single node that a query within a filter selects, where it selects one.
 #[cycle(eval)]
-fn single_value<'a>(
-    scope: Scope<'_, 'a>,
+pub(crate) fn single_value<'a>(
+    scope: Scope<'_, '_, 'a>,
     path: &Path,
     node: Cursor<'a>,
     out: &mut Vec<Cursor<'a>>,
 ) -> Result<Value<'a>, AllocError>
     requires line { line_of node ≡ line_of scope.root }
+    requires answers { HasRightAnswers scope }
     requires literals { path_passes (path_view path.now) readable ≡ true }
     ensures kept { Adds (line_of scope.entry.root) out.old.items out.new.items }
     ensures same { OnOk result (out.new.items ≡ out.old.items) }
     ensures sound { IfOk result (λ v. IsTrue (is_sound_value v)) }
     ensures value { IfOk result (λ v. value_view v ≡ single_value_of (path_nodes (path_view path.now) (node_of node.entry) (node_of scope.entry.root).tree)) }
 {
+    if let Some(answer) = recall(scope, path, Question::Value) {
+        return Ok(answer.value);
+    }
     let before = out.len();
     push_path(scope, path, node, before + 2, out)?;
     let value = if out.len() == before + 1 {
@@ -442,12 +473,13 @@ fn single_value<'a>(
 /// What an argument gives as a value.
 #[cycle(eval)]
 fn argument_value<'v, 'a: 'v>(
-    scope: Scope<'_, 'a>,
+    scope: Scope<'_, '_, 'a>,
     argument: &'v Argument,
     node: Cursor<'a>,
     out: &mut Vec<Cursor<'a>>,
 ) -> Result<Value<'v>, AllocError>
     requires line { line_of node ≡ line_of scope.root }
+    requires answers { HasRightAnswers scope }
     requires literals { argument_passes (argument_view argument.now) readable ≡ true }
     ensures kept { Adds (line_of scope.entry.root) out.old.items out.new.items }
     ensures same { OnOk result (out.new.items ≡ out.old.items) }
@@ -462,15 +494,41 @@ fn argument_value<'v, 'a: 'v>(
     }
 }
 
+/// How long the value is that an argument gives (RFC 9535, section 2.4.4).
+#[cycle(eval)]
+fn argument_length<'v, 'a: 'v>(
+    scope: Scope<'_, '_, 'a>,
+    argument: &'v Argument,
+    node: Cursor<'a>,
+    out: &mut Vec<Cursor<'a>>,
+) -> Result<Value<'v>, AllocError>
+    requires line { line_of node ≡ line_of scope.root }
+    requires answers { HasRightAnswers scope }
+    requires literals { argument_passes (argument_view argument.now) readable ≡ true }
+    ensures kept { Adds (line_of scope.entry.root) out.old.items out.new.items }
+    ensures same { OnOk result (out.new.items ≡ out.old.items) }
+    ensures sound { IfOk result (λ v. IsTrue (is_sound_value v)) }
+    ensures value { IfOk result (λ v. value_view v ≡ length_of_value (given_by (argument_view argument.now) (node_of node.entry) (node_of scope.entry.root).tree).value) }
+{
+    if let Argument::Nodes(path) = argument {
+        if let Some(answer) = recall(scope, path, Question::Length) {
+            return Ok(answer.value);
+        }
+    }
+    let value = argument_value(scope, argument, node, out)?;
+    Ok(length_of(value))
+}
+
 /// What a call answers as a value (RFC 9535, section 2.4).
 #[cycle(eval)]
 fn call_value<'v, 'a: 'v>(
-    scope: Scope<'_, 'a>,
+    scope: Scope<'_, '_, 'a>,
     call: &'v Call,
     node: Cursor<'a>,
     out: &mut Vec<Cursor<'a>>,
 ) -> Result<Value<'v>, AllocError>
     requires line { line_of node ≡ line_of scope.root }
+    requires answers { HasRightAnswers scope }
     requires literals { call_passes (call_view call.now) readable ≡ true }
     ensures kept { Adds (line_of scope.entry.root) out.old.items out.new.items }
     ensures same { OnOk result (out.new.items ≡ out.old.items) }
@@ -481,10 +539,7 @@ fn call_value<'v, 'a: 'v>(
         return Ok(Value::Nothing);
     };
     match function_of(call.name.as_str()) {
-        Some(Function::Length) => {
-            let value = argument_value(scope, argument, node, out)?;
-            Ok(length_of(value))
-        }
+        Some(Function::Length) => argument_length(scope, argument, node, out),
         Some(Function::Count) => match argument {
             Argument::Nodes(path) => {
                 let count = count_nodes(scope, path, node, out)?;
@@ -507,12 +562,13 @@ fn call_value<'v, 'a: 'v>(
 /// What a call answers as a truth (RFC 9535, section 2.4).
 #[cycle(eval)]
 fn call_truth<'a>(
-    scope: Scope<'_, 'a>,
+    scope: Scope<'_, '_, 'a>,
     call: &Call,
     node: Cursor<'a>,
     out: &mut Vec<Cursor<'a>>,
 ) -> Result<bool, AllocError>
     requires line { line_of node ≡ line_of scope.root }
+    requires answers { HasRightAnswers scope }
     requires literals { call_passes (call_view call.now) readable ≡ true }
     ensures kept { Adds (line_of scope.entry.root) out.old.items out.new.items }
     ensures same { OnOk result (out.new.items ≡ out.old.items) }
@@ -528,12 +584,37 @@ fn call_truth<'a>(
     };
     let text = argument_value(scope, first, node, out)?;
     let pattern = argument_value(scope, second, node, out)?;
-    in_pattern(scope.alloc, scope.patterns, whole, text, pattern)
+    in_pattern(scope.alloc, &scope.prepared.patterns, whole, text, pattern)
+}
+
+/// Answers what is asked of queries from the root, then adds what the segments select from a node.
+fn push_all<'a>(
+    alloc: Global,
+    segments: &[Segment],
+    prepared: &Prepared<'_>,
+    start: Cursor<'a>,
+    root: Cursor<'a>,
+    out: &mut Vec<Cursor<'a>>,
+) -> Result<(), AllocError>
+    requires line { line_of start ≡ line_of root }
+    requires root { place_of root ≡ 0 }
+    requires literals { segments_pass (segments_view segments.now) readable ≡ true }
+    ensures kept { Adds (line_of root.entry) out.old.items out.new.items }
+    ensures ok { OnOk result (map node_of out.new.items ≡ map node_of out.old.items ++ nodes (segments_view segments.now) (node_of start.entry ∷ []) (node_of root.entry).tree) }
+{
+    let answers = answers_of(alloc, prepared, root, out)?;
+    let scope = Scope {
+        alloc,
+        prepared,
+        answers: &answers,
+        root,
+    };
+    push_nodes(scope, segments, start, usize::MAX, out)
 }
 
 /// Adds the nodelist of the segments from a node on, with duplicates and in its order (RFC 9535, section 2.1.2). In a
-/// filter `@` is the child that is tested, and `$` is `root`, the root of the same line. Each pattern is read anew where
-/// it is asked for: where the same segments are evaluated often, `eval_with` takes those that were read before.
+/// filter `@` is the child that is tested, and `$` is `root`, the root of the same line. Each pattern and each query from the
+/// root is read anew where it is asked for; `eval_with` takes what was read before.
 ///
 /// Where memory is refused the answer is `AllocError`, and `out` is as before.
 pub fn eval_from<'a>(
@@ -550,16 +631,16 @@ pub fn eval_from<'a>(
     ensures err { OnErr result (out.new.items ≡ out.old.items) }
     ensures lines { AreOf (line_of root.entry) out.old.items → AreOf (line_of root.entry) out.new.items }
 {
-    let none = Patterns::none(alloc);
+    let none = Prepared::none(alloc);
     eval_with(alloc, segments, &none, start, root, out)
 }
 
-/// The same, with patterns that were read before, as `Patterns::of` reads those of the segments. What it adds does not
-/// depend on them.
+/// The same, with what was read of the query before, as `Prepared::of` reads it of the segments: each query from the root
+/// is then walked once. What is added does not depend on it.
 pub fn eval_with<'a>(
     alloc: Global,
     segments: &[Segment],
-    patterns: &Patterns,
+    prepared: &Prepared<'_>,
     start: Cursor<'a>,
     root: Cursor<'a>,
     out: &mut Vec<Cursor<'a>>,
@@ -572,12 +653,7 @@ pub fn eval_with<'a>(
     ensures lines { AreOf (line_of root.entry) out.old.items → AreOf (line_of root.entry) out.new.items }
 {
     let before = out.len();
-    let scope = Scope {
-        alloc,
-        patterns,
-        root,
-    };
-    let result = push_nodes(scope, segments, start, usize::MAX, out);
+    let result = push_all(alloc, segments, prepared, start, root, out);
     if result.is_err() {
         out.truncate(before);
     }
@@ -599,10 +675,11 @@ pub fn truth<'a>(
     requires literals { logical_has_sound_literals (logical_view expression.now) ≡ true }
     ensures { IfOk result (λ answer. answer ≡ truth_of (logical_view expression.now) (node_of node.entry) (node_of root.entry).tree) }
 {
-    let none = Patterns::none(alloc);
+    let none = Prepared::none(alloc);
     let scope = Scope {
         alloc,
-        patterns: &none,
+        prepared: &none,
+        answers: &[],
         root,
     };
     let mut memory = Vec::new(alloc);

@@ -3,7 +3,8 @@
 ghost use Rattle.std.specs.Prelude.{◌≡◌, IfOk};
 ghost use Rattle.jp_tape.specs.Tapes.{IsTapeOf};
 
-use crate::{Patterns, eval_from, eval_with, truth};
+use crate::patterns::Patterns;
+use crate::{Prepared, eval_from, eval_with, truth};
 use jp_masks::line_marks;
 use jp_model::Framing;
 use jp_query::{Logical, parse};
@@ -53,13 +54,13 @@ fn selects(
         Ok(query) => query,
         Err(_) => return Err(Fail::Query),
     };
-    let patterns = if before {
-        Patterns::of(alloc, query.segments())?
+    let prepared = if before {
+        Prepared::of(alloc, query.segments())?
     } else {
-        Patterns::none(alloc)
+        Prepared::none(alloc)
     };
     let mut found = Vec::new(alloc);
-    eval_with(alloc, query.segments(), &patterns, root, root, &mut found)?;
+    eval_with(alloc, query.segments(), &prepared, root, root, &mut found)?;
     let mut text = Vec::new(alloc);
     for node in &found {
         text.extend_from_slice(node.source())?;
@@ -206,6 +207,58 @@ const PATTERNS: [(&str, &str, &str); 6] = [
 #[test]
 fn patterns_select_the_same_read_before_and_anew(rt: HostRuntime) -> Result<(), Fail> {
     for (line, query, wanted) in PATTERNS {
+        assert!(&rt; selects(rt.alloc(), line, query, wanted, true)?, "{query}");
+        assert!(&rt; selects(rt.alloc(), line, query, wanted, false)?, "{query}");
+    }
+    Ok(())
+}
+
+/// A line, a query with queries from the root in its filters, and the bytes of the nodes that it selects.
+const ROOTS: [(&str, &str, &str); 13] = [
+    (
+        "{\"x\":2,\"l\":[{\"a\":1},{\"a\":2}]}",
+        "$.l[?@.a==$.x]",
+        "{\"a\":2} ",
+    ),
+    ("[3,1,2]", "$[?@==$[-1]]", "2 "),
+    ("[1,2,3]", "$[?@<count($.*)]", "1 2 "),
+    ("[1,2,3]", "$[?@<length($)]", "1 2 "),
+    ("{\"x\":\"ab\",\"l\":[1,2]}", "$.l[?@==length($.x)]", "2 "),
+    (
+        "{\"p\":\"a+\",\"l\":[\"aa\",\"b\"]}",
+        "$.l[?match(@,$.p)]",
+        "\"aa\" ",
+    ),
+    ("{\"l\":[1,2],\"m\":[2]}", "$.l[?$.m[?@==2]]", "1 2 "),
+    ("{\"l\":[1,2]}", "$.l[?$.m]", ""),
+    ("{\"l\":[1,2]}", "$.l[?!$.m && $.l && !$..x]", "1 2 "),
+    (
+        "{\"l\":[{\"k\":1,\"v\":5},{\"k\":2,\"v\":6}],\"n\":[6,5,4]}",
+        "$.n[?@==value($.l[?@.k==2].v) || @==value($.l[?@.k==1].v)]",
+        "6 5 ",
+    ),
+    (
+        "{\"l\":[{\"k\":1},{\"k\":2}],\"n\":[0,0]}",
+        "$.l[?@.k==value($.l[?@.k==count($.n.*)].k)]",
+        "{\"k\":2} ",
+    ),
+    (
+        "{\"l\":[1,2]}",
+        "$.l[?count($.l)==1 && length($.l)==2 && $.l]",
+        "1 2 ",
+    ),
+    (
+        "[[1,2],[2]]",
+        "$[?count($[?@[?@==$[1][0]]])==2]",
+        "[1,2] [2] ",
+    ),
+];
+
+#[test]
+fn queries_from_the_root_select_the_same_asked_before_and_anew(
+    rt: HostRuntime,
+) -> Result<(), Fail> {
+    for (line, query, wanted) in ROOTS {
         assert!(&rt; selects(rt.alloc(), line, query, wanted, true)?, "{query}");
         assert!(&rt; selects(rt.alloc(), line, query, wanted, false)?, "{query}");
     }

@@ -1,6 +1,6 @@
-use Rattle.std.proofs.Common.{rules, w64, ℤ, Bool, ◌&&◌, ◌≡◌, ◌∙◌, ◌+◌, ◌-◌, ◌++◌, [], ◌∷◌, List, ℕ, true, false, map, take, drop, length, filter, flat_map, sym, ap, ap₂, subst, arith, Some, Option, Vec, Global}
-use Rattle.std.specs.Prelude.{IfOk, OnOk, string_bytes}
-use Rattle.jp_model.specs.Json.Tree.{Tree, Value}
+use Rattle.std.proofs.Common.{rules, w64, ℤ, pos, Bool, ◌&&◌, ◌≡◌, ◌∙◌, ◌+◌, ◌-◌, ◌++◌, [], ◌∷◌, List, ℕ, true, false, map, take, drop, length, filter, flat_map, sym, ap, ap₂, subst, arith, Some, Option, Vec, Global}
+use Rattle.std.specs.Prelude.{IfOk, OnOk, string_bytes, not}
+use Rattle.jp_model.specs.Json.Tree.{Tree, Value, number}
 use Rattle.jp_model.specs.Meaning.Nodes.{Node, children, children_where, subtree}
 use Rattle.jp_model.specs.Steps.{Step}
 use Rattle.jp_model.specs.Meaning.Selecting.{nodes, selected, select, truth}
@@ -279,7 +279,7 @@ holds-side_value-requires-in-Compare t c =
     let seen = ap logical_view c.in-Compare.is ∙ compare_viewed c.in-Compare.left c.in-Compare.op c.in-Compare.right in
     let both = and_parts _ _ (subst (λ (l : syntax.Logical). logical_passes l readable ≡ true) seen c.requires.literals) in
     let size = ap size_of_logical seen in
-    (omega (arith, size, c.decreases), (c.requires.line, both.1))
+    (omega (arith, size, c.decreases), (c.requires.line, (c.requires.answers, both.1)))
 
 -- ---- calls
 
@@ -300,7 +300,7 @@ call_truth-argument_value-requires-2 t c =
     call_viewed call ∙ ap (λ (y : List Argument). syntax.call (chars (string_bytes call.name)) (arguments_view y)) items in
     let passes : (argument_passes one readable && (argument_passes two readable && true)) ≡ true = subst (λ (v : syntax.Call). call_passes v readable ≡ true) seen c.requires.literals in
     let size = ap size_of_call seen in
-    (omega (arith, size, c.decreases), (c.requires.line, (and_parts (argument_passes two readable) true (and_parts (argument_passes one readable) (argument_passes two readable && true) passes).1).0))
+    (omega (arith, size, c.decreases), (c.requires.line, (c.requires.answers, (and_parts (argument_passes two readable) true (and_parts (argument_passes one readable) (argument_passes two readable && true) passes).1).0)))
 
 pub call_truth-returns-clause-value : goal.call_truth-returns-clause-value
 call_truth-returns-clause-value t c =
@@ -335,17 +335,6 @@ call_value-returns-in_default-clause-value t c =
       | call_value-in_default-via-then-as_slice-lt1 w ↦ none_called c.args.call.now c.as_slice.result.now n u c.as_slice.ensures.value (ltb-true (length c.as_slice.result.now) 1 w.if-as_slice-lt1-1.true)
       | call_value-in_default-via-else-as_slice-lt1+else-this-lt2 w ↦ several_called c.args.call.now c.as_slice.result.now n u c.as_slice.ensures.value (ltb-false (length c.as_slice.result.now) 2 w.if-this-lt2-1.false)
     ]
-
-pub call_value-returns-in_ok-value-in-Some-Length-clause-value : goal.call_value-returns-in_ok-value-in-Some-Length-clause-value
-call_value-returns-in_ok-value-in-Some-Length-clause-value t c =
-    let call : Call = c.args.call.now in
-    let n : Node = node_of c.args.node in
-    let u : Tree = (node_of c.args.scope.root).tree in
-    let items : List Argument = c.argument-item.result ∷ [] in
-    let are : items ≡ call.arguments.items = sym (sym c.as_slice.ensures.value ∙ one_item c.as_slice.result.now c.argument-item.result c.argument-item.is c.in-len1.len_at_least c.in-len1.len_below) in
-    let is_length : function_named (chars c.as_str.result.now) ≡ Some functions.Length = sym c.function_of.ensures ∙ (c.in-Some-Length.is ∙ ap (λ (o : Function). Some o) c.in-Some-Length.field-0-is) in
-    let seen = called call c.as_str.result.now items functions.Length c.as_str.ensures.value are is_length in
-    c.length_of.ensures.value ∙ (ap length_of c.in_ok-value-in-Some-Length.ensures.value ∙ sym (ap (λ (v : syntax.Call). call_value v n u) seen))
 
 pub call_value-returns-in_ok-count-in-Nodes-clause-value : goal.call_value-returns-in_ok-count-in-Nodes-clause-value
 call_value-returns-in_ok-count-in-Nodes-clause-value t c =
@@ -458,3 +447,32 @@ push_rising-returns-then-len-most-clause-nodes t c =
           (let none = none_risen r.low r.high r.step n c.loop-next.index c.loop-next.next (sym w.ends_before.ensures ∙ w.if-ends_before.true) in
           is_done c.loop-next.invariant.goes (ap (λ (l : List Node). nodes ss l u) none ∙ no_nodes ss u))
     ]
+
+-- ---- answers that were given before
+
+pub has_node-returns-in-Some-clause-value : goal.has_node-returns-in-Some-clause-value
+has_node-returns-in-Some-clause-value t c = ap not (c.in-Some.ensures (node_of c.args.node)).is_empty
+
+pub single_value-returns-in-Some-clause-sound : goal.single_value-returns-in-Some-clause-sound
+single_value-returns-in-Some-clause-sound t c = (c.in-Some.ensures (node_of c.args.node)).sound
+
+pub single_value-returns-in-Some-clause-value : goal.single_value-returns-in-Some-clause-value
+single_value-returns-in-Some-clause-value t c = (c.in-Some.ensures (node_of c.args.node)).value
+
+-- the number in a value
+abbrev count_in : Option Value → ℕ
+count_in (Some (number (pos n) e)) = n
+count_in _ = 0
+
+pub count_nodes-returns-in-Count-clause-value : goal.count_nodes-returns-in-Count-clause-value
+count_nodes-returns-in-Count-clause-value t c = ap count_in (sym (ap value_view c.in-Count.is) ∙ (c.in-Some.ensures (node_of c.args.node)).value)
+
+pub argument_length-returns-in-Some-clause-sound : goal.argument_length-returns-in-Some-clause-sound
+argument_length-returns-in-Some-clause-sound t c = (c.in-Some.ensures (node_of c.args.node)).sound
+
+pub argument_length-returns-in-Some-clause-value : goal.argument_length-returns-in-Some-clause-value
+argument_length-returns-in-Some-clause-value t c =
+    let n : Node = node_of c.args.node in
+    let u : Tree = (node_of c.args.scope.root).tree in
+    let seen = ap (λ (a : syntax.Argument). length_of (given_by a n u).value) (ap argument_view c.in-Nodes.is ∙ nodes_viewed c.in-Nodes.path) in
+    (c.in-Some.ensures n).value ∙ sym seen

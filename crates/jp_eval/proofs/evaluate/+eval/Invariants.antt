@@ -65,6 +65,9 @@ decreases-single_value l = size_of_path (path_view l.path.now) + 1
 abbrev pub decreases-argument_value : goal.decreases-argument_value
 decreases-argument_value l = size_of_argument (argument_view l.argument.now)
 
+abbrev pub decreases-argument_length : goal.decreases-argument_length
+decreases-argument_length l = size_of_argument (argument_view l.argument.now) + 1
+
 abbrev pub decreases-call_value : goal.decreases-call_value
 decreases-call_value l = size_of_call (call_view l.call.now)
 

@@ -1,0 +1,144 @@
+//! What is asked of queries from the root, and how it is found again.
+
+ghost use Rattle.std.specs.Prelude.{◌≡◌, ◌<◌, ◌^◌, [], true, map, slice_get, All, IfOk, IfSome, Some};
+ghost use Rattle.jp_eval.specs.Asked.{asked_view, asked_in};
+ghost use Rattle.jp_eval.specs.Expressions.{readable};
+ghost use Rattle.jp_eval.specs.declared.asked.Asked.{Asked as One};
+ghost use Rattle.jp_model.specs.Query.Limits.{path_passes};
+ghost use Rattle.jp_query.specs.Sound.{has_sound_literals};
+ghost use Rattle.jp_query.specs.View.{path_view, segments_view};
+
+use crate::asked::{Asked, Question, add_of_segments};
+use crate::same::same_path;
+use jp_query::{Path, Segment, Selector};
+use std::alloc::{AllocError, Global};
+use std::collections::BTreeMap;
+use std::hash::{DefaultHasher, Hasher};
+
+/// In so many places it is looked for.
+const MOST_TRIES: u64 = 8;
+
+/// What is asked of the queries from the root within the filters of a query. What is alike stands there again.
+#[derive(Drop)]
+pub(crate) struct Roots<'q> {
+    pub(crate) asked: Vec<Asked<'q>>,
+    /// The places of those that differ, by the hashes of their outlines.
+    places: BTreeMap<u64, usize>,
+    ghost readable: { ∥ All (λ one. path_passes (path_view one.path.now) readable ≡ true) asked.items ∥₁ },
+}
+
+/// Puts the outline of a selector into a hash.
+fn write_selector(selector: &Selector, state: &mut DefaultHasher) {
+    match selector {
+        Selector::Name(name) => state.write(name.as_str().as_bytes()),
+        Selector::Index(index) => state.write_i64(*index),
+        Selector::Wildcard => state.write_u8(1),
+        Selector::Slice { .. } => state.write_u8(2),
+        Selector::Filter(_) => state.write_u8(3),
+    }
+}
+
+/// Puts the outline of a segment into a hash.
+fn write_segment(segment: &Segment, state: &mut DefaultHasher) {
+    let (Segment::Child(selectors) | Segment::Descendant(selectors)) = segment;
+    state.write_u8(0);
+    for selector in selectors {
+        write_selector(selector, state);
+    }
+}
+
+/// A hash of what is asked, without what stands within filters.
+fn outline(path: &Path, question: Question) -> u64
+    ensures { result < 2 ^ 63 }
+{
+    let mut state = DefaultHasher::new();
+    for segment in &path.segments {
+        write_segment(segment, &mut state);
+    }
+    state.write_u8(match question {
+        Question::Value => 0,
+        Question::Count => 1,
+        Question::Length => 2,
+    });
+    state.finish() >> 1
+}
+
+/// Keeps the place of what is asked, where none of the places for it is free no more.
+fn keep_place(
+    one: Asked<'_>,
+    place: usize,
+    places: &mut BTreeMap<u64, usize>,
+) -> Result<(), AllocError> {
+    let first = outline(one.path, one.question);
+    for key in first..first + MOST_TRIES {
+        if !places.contains_key(&key) {
+            places.insert(key, place)?;
+            return Ok(());
+        }
+    }
+    Ok(())
+}
+
+impl<'q> Roots<'q> {
+    /// Nothing.
+    pub(crate) fn none(alloc: Global) -> Roots<'q>
+        ensures { result.asked.items ≡ [] }
+    {
+        Roots {
+            asked: Vec::new(alloc),
+            places: BTreeMap::new(alloc),
+        }
+    }
+
+    /// What is asked within the filters of a query.
+    pub(crate) fn of(alloc: Global, segments: &'q [Segment]) -> Result<Roots<'q>, AllocError>
+        requires literals { has_sound_literals (segments_view segments.now) ≡ true }
+        ensures { IfOk result (λ roots. map asked_view roots.asked.items ≡ asked_in (segments_view segments.now)) }
+    {
+        let mut asked = Vec::new(alloc);
+        add_of_segments(segments, &mut asked)?;
+        let mut roots = Roots {
+            asked,
+            places: BTreeMap::new(alloc),
+        };
+        roots.keep_places()?;
+        Ok(roots)
+    }
+
+    /// Keeps the places of all that is asked; of what is alike the first.
+    fn keep_places(&mut self) -> Result<(), AllocError>
+        ensures { self.new.asked ≡ self.old.asked }
+    {
+        for place in 0..self.asked.len() {
+            let one = self.asked[place];
+            if self.find(one.path, one.question).is_none() {
+                keep_place(one, place, &mut self.places)?;
+            }
+        }
+        Ok(())
+    }
+
+    /// Whether this is asked there.
+    fn is_at(&self, place: usize, path: &Path, question: Question) -> bool
+        ensures { result ≡ true → (one : One) × (slice_get self.now.asked.items place ≡ Some one) × (path_view one.path.now ≡ path_view path.now) × (one.question ≡ question) }
+    {
+        match self.asked.get(place) {
+            Some(one) => one.question == question && same_path(one.path, path),
+            None => false,
+        }
+    }
+
+    /// The place of what is asked of a query. Where too many have the same outline there may be none.
+    pub(crate) fn find(&self, path: &Path, question: Question) -> Option<usize>
+        ensures { IfSome result (λ place. (one : One) × (slice_get self.now.asked.items place ≡ Some one) × (path_view one.path.now ≡ path_view path.now) × (one.question ≡ question)) }
+    {
+        let first = outline(path, question);
+        for key in first..first + MOST_TRIES {
+            let place = *self.places.get(&key)?;
+            if self.is_at(place, path, question) {
+                return Some(place);
+            }
+        }
+        None
+    }
+}
