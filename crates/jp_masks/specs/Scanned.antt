@@ -1,6 +1,7 @@
 -- What a scanner and its marks hold of the bytes that were fed.
 use Rattle.std.specs.Prelude.{◌≡◌, ℕ, ◌+◌, ◌*◌, ◌/◌, ◌%◌, List, [], ◌++◌, length, take, true, Some}
 use Rattle.std.specs.Str.{IsUtf8}
+use Rattle.std.specs.Vec.{vec_capacity}
 use Rattle.simdutf8.specs.Tracks.{HasRead}
 use Rattle.jp_model.specs.declared.Framing.{Framing}
 use Rattle.jp_masks.specs.Machine.{start, before}
@@ -39,6 +40,11 @@ pub record IsEmpty (sink : Marks) : Type 0 where
   pub rows : sink.rows.items ≡ []
   pub places : sink.places.items ≡ []
   pub places_before : sink.places_before ≡ 0
+
+-- the memory stayed
+pub record HasRoomOf (old new : Marks) : Type 0 where
+  pub rows : vec_capacity new.rows ≡ vec_capacity old.rows
+  pub places : vec_capacity new.places ≡ vec_capacity old.places
 
 -- both hold the same
 pub record IsUnchanged (old new : Marks) : Type 0 where

@@ -55,7 +55,7 @@ impl Marks {
     ghost use Rattle.jp_masks.specs.Places.{set_bits};
     ghost use Rattle.jp_masks.specs.Found.{LineAt, found};
     ghost use Rattle.jp_masks.specs.Sinks.{row_if, add_places};
-    ghost use Rattle.jp_masks.specs.Scanned.{stored, IsEmpty, IsUnchanged, Grows, HasAllOf};
+    ghost use Rattle.jp_masks.specs.Scanned.{stored, IsEmpty, IsUnchanged, HasRoomOf, Grows, HasAllOf};
 
     /// No line. It takes no memory yet.
     pub fn new(alloc: Global) -> Marks
@@ -68,6 +68,18 @@ impl Marks {
             places_before: 0,
             is_utf8: false,
         }
+    }
+
+    /// Forgets all lines and keeps the memory, so that another collection may be scanned into it.
+    pub fn clear(&mut self)
+        ensures empty { IsEmpty self.new }
+        ensures none { found self.new ≡ [] }
+        ensures room { HasRoomOf self.old self.new }
+    {
+        self.rows.clear();
+        self.places.clear();
+        self.places_before = 0;
+        self.is_utf8 = false;
     }
 
     /// How many lines were found.

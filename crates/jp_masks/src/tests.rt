@@ -82,6 +82,23 @@ fn whole_blocks_are_told_at_once(rt: HostRuntime) -> Result<(), Fail> {
 }
 
 #[test]
+fn cleared_marks_are_used_again(rt: HostRuntime) -> Result<(), Fail> {
+    let mut marks = scan(rt.alloc(), Framing::Lines, b"[1]\n\"\xC3\n", b"2")?;
+    assert_eq!(&rt; marks.line_count(), 3);
+    marks.clear();
+    assert_eq!(&rt; marks.line_count(), 0);
+    let mut scanner = Scanner::new(Framing::Lines);
+    scanner.feed(b"{}\n\"y\"", &mut marks)?;
+    scanner.finish(&mut marks)?;
+    assert_eq!(&rt; marks.line_count(), 2);
+    assert_eq!(&rt; marks.line(0).span, Span { start: 0, end: 2 });
+    assert_eq!(&rt; marks.line(0).positions, [0, 1].as_slice());
+    assert_eq!(&rt; marks.line(1).span, Span { start: 3, end: 6 });
+    assert_eq!(&rt; marks.line(1).positions, [0, 2].as_slice());
+    Ok(())
+}
+
+#[test]
 fn marks_of_one_line(rt: HostRuntime) -> Result<(), Fail> {
     let marks = line_marks(rt.alloc(), b"{\"a\\\"\": [tru, 1]}\n 2")?;
     assert_eq!(&rt;
