@@ -63,6 +63,7 @@ fn control_of(lanes: u8x64) -> u64
 }
 
 /// The classes of 64 bytes. Bytes that no class has are in no word.
+#[inline(always)]
 pub fn classify(bytes: &[u8; 64]) -> Classes
     ensures backslash { Says result.backslash (λ i. is_backslash (slice_index bytes.now i)) }
     ensures quote { Says result.quote (λ i. is_quote (slice_index bytes.now i)) }
