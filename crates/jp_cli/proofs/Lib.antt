@@ -4,6 +4,7 @@ mod Ending
 mod FinalReturns
 mod LineSizes
 mod Loading
+mod Parts
 mod Program
 mod RowTexts
 mod NodeRows

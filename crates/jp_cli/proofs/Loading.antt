@@ -1,5 +1,5 @@
 -- The lines of a text, read one by one where they were found.
-use Rattle.std.proofs.Common.{◌≡◌, ◌∙◌, ◌<◌, ◌≤◌, ◌+◌, ◌^◌, ℕ, List, [], ◌∷◌, ◌++◌, length, map, take, sym, ap, subst, arith}
+use Rattle.std.proofs.Common.{◌≡◌, ◌∙◌, ◌<◌, ◌≤◌, ◌+◌, ◌^◌, ℕ, List, [], ◌∷◌, ◌++◌, length, map, take, sym, ap, subst, arith, append_assoc}
 use Rattle.std.specs.Prelude.{Some, slice_get, All}
 use Rattle.std.specs.Option.{option_map}
 use Rattle.std.proofs.lemmas.List.{length-map, map-append, take_more, take_all}
@@ -43,14 +43,15 @@ module _ (text : List ℕ) where
         sym (get_or_from_slice_get all_marks i line.positions [] told) ∙ get_or_from_slice_get all_marks i (marks (bytes_between text line.start line.end)) [] read
 
 -- the text of a line that is read
-pub more_came : (stored after : List Line) (line : Line) (i : ℕ) (all : List (List ℕ)) → after ≡ stored ++ line ∷ [] → slice_get all i ≡ Some line.text.now
-    → map text_of stored ≡ take i all → map text_of after ≡ take (i + 1) all
-more_came stored after line i all e f came =
+pub more_came : (stored after : List Line) (line : Line) (i : ℕ) (before all : List (List ℕ)) → after ≡ stored ++ line ∷ [] → slice_get all i ≡ Some line.text.now
+    → map text_of stored ≡ before ++ take i all → map text_of after ≡ before ++ take (i + 1) all
+more_came stored after line i before all e f came =
     ap (map text_of) e
     ∙ map-append text_of stored (line ∷ [])
     ∙ ap (λ l. l ++ line.text.now ∷ []) came
-    ∙ ap (λ t. take i all ++ t ∷ []) (sym (get_or_from_slice_get all i line.text.now [] f))
-    ∙ sym (take_more all i [] (slice_get_within all i line.text.now f))
+    ∙ append_assoc before (take i all) (line.text.now ∷ [])
+    ∙ ap (λ t. before ++ (take i all ++ t ∷ [])) (sym (get_or_from_slice_get all i line.text.now [] f))
+    ∙ ap (λ l. before ++ l) (sym (take_more all i [] (slice_get_within all i line.text.now f)))
 
 pub none_read : (stored : List Line) → stored ≡ [] → All IsRead stored
 none_read stored e = subst (All IsRead) (sym e) (λ k d l. absurd (omega arith))
@@ -59,8 +60,8 @@ pub one_more_read : (stored after : List Line) (line : Line) → after ≡ store
 one_more_read stored after line e all is = subst (All IsRead) (sym e) (All-append IsRead stored (line ∷ []) all (All-cons IsRead line [] is (λ k d l. absurd (omega arith))))
 
 -- all have come
-pub all_came : (stored : List Line) (i : ℕ) (all : List (List ℕ)) → map text_of stored ≡ take i all → length all ≤ i → map text_of stored ≡ all
-all_came stored i all came l = came ∙ take_all i all l
+pub all_came : (stored : List Line) (i : ℕ) (before all : List (List ℕ)) → map text_of stored ≡ before ++ take i all → length all ≤ i → map text_of stored ≡ before ++ all
+all_came stored i before all came l = came ∙ ap (λ ls. before ++ ls) (take_all i all l)
 
 pub all_read : (stored : List Line) (all : List (List ℕ)) → map text_of stored ≡ all → length all < 2 ^ 32 → All IsRead stored → AreRead stored
 all_read stored all came few read = let size : length (map text_of stored) ≡ length all = ap length came in record { each = read; few = omega (arith, size, few, length-map stored text_of) }

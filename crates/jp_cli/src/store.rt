@@ -1,7 +1,7 @@
 //! The lines of a collection, each read as it was loaded.
 
-ghost use Rattle.std.specs.Prelude.{◌≡◌, ◌↔◌, ◌<◌, ◌+◌, ◌++◌, ◌^◌, ℕ, List, [], Some, map, flat_map, count_by, length, slice_get, IfOk, OnOk, IsTrue, IsUtf8};
-ghost use Rattle.jp_model.specs.Lines.{lines, text_lines};
+ghost use Rattle.std.specs.Prelude.{◌≡◌, ◌↔◌, ◌<◌, ◌≤◌, ◌+◌, ◌++◌, ◌^◌, ℕ, List, [], Some, All, map, flat_map, count_by, length, take, slice_get, IfOk, OnOk, IsTrue, IsUtf8};
+ghost use Rattle.jp_model.specs.Lines.{lines, open_line, text_lines};
 ghost use Rattle.jp_model.specs.declared.Framing.TheVariants as framings;
 ghost use Rattle.jp_model.specs.Json.Marks.{marks as marks_of};
 ghost use Rattle.jp_model.specs.Json.Reader.{status_of};
@@ -18,6 +18,7 @@ use jp_masks::{Marks, Scanner, laws};
 use jp_model::{Framing, LineFault, is_blank};
 use jp_tape::{BuildFault, Cursor, Tape, build};
 use jp_types::Checked;
+use memchr::memchr;
 use std::alloc::{AllocError, Global};
 use std::marker::Model;
 
@@ -66,18 +67,34 @@ impl<'a> Model for Store<'a> {
     ghost invariant = { λ s. AreRead s.lines.items };
 }
 
-/// The marks of all lines of a text.
-fn scan(alloc: Global, text: &[u8]) -> Result<Marks, AllocError>
+/// How many bytes of a collection are scanned at once, where no line goes on behind them.
+const PIECE: usize = 1 << 20;
+
+/// How many bytes at the front are scanned at once: those of a piece and the rest of its last line.
+fn front_length(text: &[u8]) -> usize
+    ensures within { result ≤ length text.now }
+    ensures some { 0 < length text.now → 0 < result }
+    ensures whole { result < length text.now → open_line (take result text.now) ≡ [] }
+{
+    let least = PIECE.min(text.len());
+    match memchr(b'\n', &text[least..]) {
+        Some(place) => least + place + 1,
+        None => text.len(),
+    }
+}
+
+/// Finds the marks of all lines of a text, in the memory of marks that are forgotten.
+fn scan(text: &[u8], marks: &mut Marks) -> Result<(), AllocError>
     requires { length text.now < 2 ^ 32 }
-    ensures all { IfOk result (λ marks. AreAllOf framings.Lines text.now marks) }
-    ensures count { IfOk result (λ marks. length (found marks) ≡ length (text_lines text.now)) }
+    ensures all { OnOk result (AreAllOf framings.Lines text.now marks.new) }
+    ensures count { OnOk result (length (found marks.new) ≡ length (text_lines text.now)) }
 {
     laws::lines_are_those_of_the_text();
-    let mut marks = Marks::new(alloc);
+    marks.clear();
     let mut scanner = Scanner::new(Framing::Lines);
-    scanner.feed(text, &mut marks)?;
-    scanner.finish(&mut marks)?;
-    Ok(marks)
+    scanner.feed(text, marks)?;
+    scanner.finish(marks)?;
+    Ok(())
 }
 
 /// What a line is, with its tape where it has one.
@@ -118,20 +135,40 @@ fn read_line<'a>(
     Ok(Line { text, kind })
 }
 
+/// Puts the lines of a text, each read, behind others. `marks` lends its memory.
+fn read_lines<'a>(
+    alloc: Global,
+    text: &'a [u8],
+    marks: &mut Marks,
+    lines: &mut Vec<Line<'a>>,
+) -> Result<(), AllocError>
+    requires { length text.now < 2 ^ 32 }
+    ensures came { OnOk result (map text_of lines.new.items ≡ map text_of lines.old.items ++ text_lines text.now) }
+    ensures read { All IsRead lines.old.items → OnOk result (All IsRead lines.new.items) }
+{
+    scan(text, marks)?;
+    let count = marks.line_count();
+    lines.reserve(count)?;
+    for index in 0..count {
+        let line = read_line(alloc, text, marks, index)?;
+        lines.push(line)?;
+    }
+    Ok(())
+}
+
 impl<'a> Store<'a> {
-    /// The lines of a collection, each read. The collection is scanned once.
+    /// The lines of a collection, each read. Each byte is scanned once, piece by piece into the same memory.
     pub(crate) fn load(alloc: Global, bytes: &'a [u8]) -> Result<Store<'a>, AllocError>
         requires { length bytes.now < 2 ^ 32 }
         ensures { IfOk result (λ store. store ≡ record { lines = lines framings.Lines bytes.now; paths = [] }) }
     {
-        let text = without_byte_order_mark(bytes);
-        let marks = scan(alloc, text)?;
-        let count = marks.line_count();
+        let mut rest = without_byte_order_mark(bytes);
+        let mut marks = Marks::new(alloc);
         let mut lines = Vec::new(alloc);
-        lines.reserve(count)?;
-        for index in 0..count {
-            let line = read_line(alloc, text, &marks, index)?;
-            lines.push(line)?;
+        while !rest.is_empty() {
+            let (front, later) = rest.split_at(front_length(rest));
+            read_lines(alloc, front, &mut marks, &mut lines)?;
+            rest = later;
         }
         Ok(Store { lines })
     }

@@ -178,3 +178,25 @@ fn lines_fill_a_block(rt: HostRuntime) -> Result<(), Fail> {
     assert!(&rt; answers(rt.alloc(), &collection, "query $", &rows)?);
     Ok(())
 }
+
+/// A line of a string that is longer than what is scanned at once.
+fn push_long_line(text: &mut Vec<u8>) -> Result<(), Fail> {
+    text.push(b'"')?;
+    push_all(text, b'x', 1_100_000)?;
+    text.extend_from_slice(b"\"\n")?;
+    Ok(())
+}
+
+#[test]
+fn lines_go_on_behind_long_ones(rt: HostRuntime) -> Result<(), Fail> {
+    let alloc = rt.alloc();
+    let mut text = Vec::new(alloc);
+    push_long_line(&mut text)?;
+    text.extend_from_slice(b"\"x\n[2]\n")?;
+    push_long_line(&mut text)?;
+    text.extend_from_slice(b"\n[3]")?;
+    let expected = b"2\t!grammar\n3\t$[0]\t2\n6\t$[0]\t3\n= 2\n";
+    let got = answered(alloc, &text, b"query $[0]", 100_000)?;
+    assert_eq!(&rt; got.as_slice(), expected.as_slice());
+    Ok(())
+}

@@ -6,7 +6,7 @@ use Rattle.jp_cli.proofs.store.scan.Goals as goal
 
 pub returns-clause-all : goal.returns-clause-all
 returns-clause-all c =
-    let started = c.new-scanner.ensures.start c.new-marks.result c.new-marks.ensures.empty in
+    let started = c.new-scanner.ensures.start c.clear.new.self c.clear.ensures.empty in
     c.in_ok-finish.ensures.all framings.Lines c.args.text.now (c.in_ok-feed.ensures.scanned framings.Lines [] started)
 
 pub returns-clause-count : goal.returns-clause-count

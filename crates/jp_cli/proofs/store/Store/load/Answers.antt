@@ -1,32 +1,27 @@
--- One line after another is read.
-use Rattle.std.proofs.Common.{◌∙◌, length, map, ap, arith}
-use Rattle.jp_model.specs.Lines.{lines, text_lines}
+-- One part after another is read.
+use Rattle.std.proofs.Common.{◌∙◌, length, map, sym, arith}
+use Rattle.std.proofs.lemmas.Bool.{eqb-true}
+use Rattle.jp_model.specs.Lines.{lines, text_lines, without_byte_order_mark}
 use Rattle.jp_model.specs.declared.Framing.TheVariants as framings
 use Rattle.jp_cli.specs.Stored.{text_of}
-use Rattle.jp_cli.proofs.LineSizes.{lines_few, mark_shorter}
-use Rattle.jp_cli.proofs.Loading.{more_came, none_read, one_more_read, all_came, all_read}
+use Rattle.jp_cli.proofs.LineSizes.{lines_few}
+use Rattle.jp_cli.proofs.Loading.{all_read}
+use Rattle.jp_cli.proofs.Parts.{part_came, all_parts}
 use Rattle.jp_cli.proofs.store.Store.load.Goals as goal
 
-pub scan-requires : goal.scan-requires
-scan-requires c = omega (arith, ap length c.without_byte_order_mark-text.ensures, mark_shorter c.args.bytes.now, c.requires)
-
-pub loop-index-init : goal.loop-index-init
-loop-index-init c =
-    let none = c.in_ok-reserve.ensures.items ∙ c.new-lines.ensures.items in
-    record { came = ap (map text_of) none; read = none_read c.reserve.new.self.items none }
-
-pub read_line-requires-clause-room : goal.read_line-requires-clause-room
-read_line-requires-clause-room c = omega (arith, ap length c.without_byte_order_mark-text.ensures, mark_shorter c.args.bytes.now, c.requires)
-
-pub loop-index-preserved : goal.loop-index-preserved
-loop-index-preserved c = record {
-  came = more_came c.loop-index.lines.items c.push.new.self.items c.in_ok-line.line c.loop-index.index (text_lines c.without_byte_order_mark-text.result.now)
-      c.in_ok-push.ensures.items c.in_ok-line.ensures.text c.loop-index.invariant.came;
-  read = one_more_read c.loop-index.lines.items c.push.new.self.items c.in_ok-line.line c.in_ok-push.ensures.items c.loop-index.invariant.read c.in_ok-line.ensures.read;
-}
+pub loop-rest-preserved : goal.loop-rest-preserved
+loop-rest-preserved c =
+    let l = c.loop-rest in
+    record {
+      came = part_came (map text_of l.lines.items) (map text_of c.read_lines.new.lines.items) c.split_at.result.0.now c.split_at.result.1.now l.rest.now c.front_length.result
+          (text_lines (without_byte_order_mark c.args.bytes.now))
+          c.front_length.ensures.within c.front_length.ensures.whole c.split_at.ensures.front c.split_at.ensures.back c.in_ok-read_lines.ensures.came l.invariant.came;
+      read = c.in_ok-read_lines.ensures.read l.invariant.read;
+      short = omega (arith, c.split_at.ensures.back_len, l.invariant.short);
+    }
 
 pub invariant_of-result : goal.invariant_of-result
 invariant_of-result c =
-    let text = c.without_byte_order_mark-text.result.now in
-    let came = all_came c.loop-index.lines.items c.loop-index.index (text_lines text) c.loop-index.invariant.came (omega (arith, c.loop-index-test.false, c.line_count-count.ensures, c.in_ok-marks.ensures.count)) in
-    all_read c.loop-index.lines.items (lines framings.Lines c.args.bytes.now) (came ∙ ap text_lines c.without_byte_order_mark-text.ensures) (lines_few c.args.bytes.now c.requires) c.loop-index.invariant.read
+    let l = c.loop-rest in
+    all_read l.lines.items (lines framings.Lines c.args.bytes.now) (all_parts (map text_of l.lines.items) l.rest.now (text_lines (without_byte_order_mark c.args.bytes.now)) (eqb-true (length l.rest.now) 0 (sym c.is_empty.ensures ∙ c.loop-rest-test.false)) l.invariant.came)
+    (lines_few c.args.bytes.now c.requires) l.invariant.read
