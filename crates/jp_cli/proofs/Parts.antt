@@ -1,5 +1,5 @@
 -- The lines of a front that ends a line, and then those of the rest, are the lines of the text.
-use Rattle.std.proofs.Common.{◌≡◌, ◌∙◌, ◌<◌, ◌≤◌, ◌+◌, ℕ, List, [], ◌∷◌, ◌++◌, length, take, drop, get_or, refl, sym, ap, ap₂, arith, append_assoc, append-nil, take_all, take-append-drop, ◌⊎◌, inl, inr}
+use Rattle.std.proofs.Common.{◌≡◌, ◌∙◌, ◌<◌, ◌≤◌, ◌+◌, ℕ, List, [], ◌∷◌, ◌++◌, length, take, drop, get_or, sym, ap, ap₂, arith, append_assoc, append-nil, take_all, take-append-drop, ◌⊎◌, inl, inr}
 use Rattle.std.specs.Prelude.{Some, slice_range}
 use Rattle.std.proofs.lemmas.List.{take_more, take_rest, drop_all, length-drop, get_or-drop}
 use Rattle.std.proofs.lemmas.Bool.{cases_lt, eqb-true}

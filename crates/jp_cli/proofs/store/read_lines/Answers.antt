@@ -1,5 +1,5 @@
 -- One line after another is read.
-use Rattle.std.proofs.Common.{◌≡◌, ◌∙◌, List, map, sym, ap, subst, append-nil, arith, All}
+use Rattle.std.proofs.Common.{◌∙◌, List, map, sym, ap, subst, append-nil, arith, All}
 use Rattle.jp_model.specs.Lines.{text_lines}
 use Rattle.jp_cli.specs.declared.store.Line.{Line}
 use Rattle.jp_cli.specs.Stored.{text_of, IsRead}
