@@ -1,13 +1,12 @@
 -- A command line around its first space.
-use Rattle.std.proofs.Common.{◌≡◌, ◌∙◌, ◌+◌, ◌<◌, ℕ, zero, List, [], ◌∷◌, ◌++◌, length, take, drop, get_or, sym, ap, ap₂, subst, refl, arith, true, false, Bool, if◌then◌else◌}
+use Rattle.std.proofs.Common.{◌≡◌, ◌∙◌, ◌+◌, ℕ, zero, List, [], ◌∷◌, length, take, drop, sym, ap, ap₂, refl, arith, true, false, Bool, if◌then◌else◌}
 use Rattle.std.specs.Prelude.{◌==◌, suc, Some, None, codes, slice_range, Option}
-use Rattle.std.proofs.Math.Seq.{split_at}
-use Rattle.std.proofs.lemmas.List.{get_or-take, length-take, take_rest}
+use Rattle.std.proofs.lemmas.List.{take_rest}
 use Rattle.std.proofs.lemmas.Bool.{eqb-false}
 use Rattle.memchr.specs.Find.{IsFirstByte, is_byte}
 use Rattle.jp_model.proofs.Seek.{text_same}
 use Rattle.jp_model.specs.Characters.{text_equal, digits_value}
-use Rattle.jp_model.specs.Script.Commands.{Command, unknown_line, query_line, indexes_line, check_line, first_word, behind_word, command_with, command_of, replace_command, is_line_number, replace_line, explain_line, index_line, drop_line, append_line}
+use Rattle.jp_model.specs.Script.Commands.{Command, unknown_line, query_line, indexes_line, check_line, first_word, behind_word, command_with, replace_command, is_line_number, replace_line, explain_line, index_line, drop_line, append_line}
 use Rattle.jp_cli.specs.Asked.{known, asked_by}
 
 not_true : (b : Bool) → (b ≡ true → ⊥) → b ≡ false

@@ -1,5 +1,5 @@
 -- How a run ends, by how its script ended.
-use Rattle.std.proofs.Common.{◌≡◌, ◌∙◌, ◌≤◌, ◌<◌, ℕ, List, [], ◌∷◌, ◌++◌, length, take, map, sym, ap, subst, refl, Bool, true, false, Option, Some, None, Result, Ok, Err, MatchResult, append-nil, inl, inr}
+use Rattle.std.proofs.Common.{◌≡◌, ◌∙◌, ◌≤◌, ℕ, List, [], ◌∷◌, ◌++◌, length, take, map, sym, ap, subst, refl, Bool, true, Option, Some, None, Result, Ok, Err, MatchResult, append-nil, inr}
 use Rattle.std.specs.Prelude.{OnOk, IfSome}
 use Rattle.std.proofs.lemmas.List.{map-append}
 use Rattle.std.specs.Io.KnownBytes.{Consumes, IsAtEnd}
@@ -11,7 +11,7 @@ use Rattle.jp_model.specs.declared.Framing.{Framing}
 use Rattle.jp_model.specs.declared.Framing.TheVariants as framings
 use Rattle.jp_model.specs.Lines.{text_lines, closed_lines, lines, is_framed}
 use Rattle.jp_model.specs.Query.Status.{QueryStatus}
-use Rattle.jp_model.specs.Script.Commands.{Command, without_final_cr, command_lines, closed_command_lines}
+use Rattle.jp_model.specs.Script.Commands.{without_final_cr, command_lines, closed_command_lines}
 use Rattle.jp_model.specs.Script.Headline.{loaded, MayLoad, Answered, AnsweredInPart, AnsweredFirst, RunEnded, RunStopped}
 use Rattle.jp_model.specs.Script.Machine.{State, Outcome, step, step_unless, run_commands, OnlyForMemory}
 use Rattle.jp_cli.specs.Asked.{asked_by, asked_in}

@@ -1,9 +1,9 @@
 -- The rows of refused lines that are written one after another, and how many such lines there are.
-use Rattle.std.proofs.Common.{◌≡◌, ◌∙◌, ◌+◌, ◌<◌, ◌≤◌, ℕ, zero, suc, List, [], ◌∷◌, ◌++◌, length, map, take, drop, get_or, sym, ap, ap₂, subst, refl, arith, append-nil, append_assoc, take-append-drop, Bool, true, false, decimal, codes}
+use Rattle.std.proofs.Common.{◌≡◌, ◌∙◌, ◌+◌, ◌<◌, ℕ, zero, suc, List, [], ◌∷◌, ◌++◌, length, map, take, drop, get_or, sym, ap, ap₂, subst, refl, arith, append_assoc, take-append-drop, Bool, decimal, codes}
 use Rattle.std.specs.Prelude.{Option, count_by, All, cond}
 use Rattle.std.proofs.Math.Seq.{take-suc}
 use Rattle.std.proofs.lemmas.List.{length-map, map-append, length-take-le}
-use Rattle.std.proofs.KnownBytes.{Appends-trans, Appends-nil}
+use Rattle.std.proofs.KnownBytes.{Appends-trans}
 use Rattle.std.specs.Io.KnownBytes.{Appends}
 use Rattle.jp_rows.proofs.Chains.{Part, part_more, part_behind}
 use Rattle.jp_model.specs.declared.Framing.TheVariants as framings

@@ -1,8 +1,7 @@
 -- The rows of the lines that are left, and those of one line more.
-use Rattle.std.proofs.Common.{◌≡◌, ◌∙◌, ◌+◌, ◌-◌, ◌<◌, ◌≤◌, ℕ, zero, List, [], ◌∷◌, ◌++◌, length, map, flat_map, sym, ap, ap₂, subst, refl, arith, append-nil, append_assoc, drop, take, get_or, true, false, Bool, if◌then◌else◌}
-use Rattle.std.specs.Prelude.{suc, Some, None, slice_get, count_by, cond}
+use Rattle.std.proofs.Common.{◌≡◌, ◌∙◌, ◌+◌, ◌-◌, ◌<◌, ◌≤◌, ℕ, zero, List, [], ◌∷◌, ◌++◌, length, map, flat_map, sym, ap, ap₂, refl, arith, append-nil, append_assoc, drop, get_or, Bool}
+use Rattle.std.specs.Prelude.{suc, Some, slice_get, count_by, cond}
 use Rattle.std.proofs.lemmas.Grind.{flat_map-append}
-use Rattle.std.proofs.lemmas.List.{length-map, map-append}
 use Rattle.std.proofs.Math.Seq.{drop-cons}
 use Rattle.std.proofs.lemmas.List.{drop_all}
 use Rattle.std.proofs.lemmas.List.Sums.{sum_by-append}
@@ -12,7 +11,7 @@ use Rattle.jp_model.specs.Json.Reader.{status_of}
 use Rattle.jp_model.specs.Json.Status.{LineStatus, blank, refused, parsed}
 use Rattle.jp_model.specs.Meaning.Nodes.{Node}
 use Rattle.jp_model.specs.Query.Syntax.{Segments}
-use Rattle.jp_model.specs.Rows.{Row, node_row, refusal_row, status_rows, rows_from, rows, node_text}
+use Rattle.jp_model.specs.Rows.{Row, node_row, status_rows, rows_from, rows, node_text}
 use Rattle.jp_model.specs.Script.Machine.{row_text, is_node, text_or_nothing}
 use Rattle.jp_cli.specs.declared.store.Line.{Line}
 use Rattle.jp_cli.specs.declared.store.Row.{Row as Found}

@@ -2,7 +2,7 @@
 use Rattle.std.specs.Prelude.{◌≡◌, ℕ, ◌<◌, ◌^◌, Bool, true, false, List, All, length, map}
 use Rattle.jp_model.specs.declared.Framing.{Framing}
 use Rattle.jp_model.specs.declared.Framing.TheVariants as framings
-use Rattle.jp_model.specs.Json.Status.{LineStatus, blank, refused, parsed}
+use Rattle.jp_model.specs.Json.Status.{blank, refused, parsed}
 use Rattle.jp_model.specs.Json.Reader.{status_of}
 use Rattle.jp_model.specs.Rows as rows
 use Rattle.jp_model.specs.Script.Machine.{statuses, refusals_from}

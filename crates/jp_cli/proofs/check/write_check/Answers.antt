@@ -1,5 +1,5 @@
 -- The summary stands behind the rows.
-use Rattle.std.proofs.Common.{◌≡◌, refl, subst}
+use Rattle.std.proofs.Common.{refl, subst}
 use Rattle.jp_model.specs.Devices.{Writes}
 use Rattle.jp_rows.proofs.Chains.{ends_behind}
 use Rattle.jp_cli.proofs.RefusalsWritten.{check_text}

@@ -1,7 +1,5 @@
 -- The row of one line more is written, or a beginning of it.
-use Rattle.std.proofs.Common.{◌≡◌, ◌∙◌, ◌+◌, ap, subst, ℕ, List, [], ◌∷◌}
-use Rattle.jp_model.specs.Devices.{Received, Begins}
-use Rattle.jp_cli.specs.Stored.{refusals}
+use Rattle.std.proofs.Common.{◌+◌, ap}
 use Rattle.jp_cli.proofs.RefusalsWritten.{line_written, line_in_part}
 use Rattle.jp_cli.proofs.check.write_refusals.Goals as goal
 

@@ -1,5 +1,5 @@
 -- The first space parts the word and its argument.
-use Rattle.std.proofs.Common.{sym, subst, ap, ◌∙◌, length, take, false}
+use Rattle.std.proofs.Common.{sym, subst, ap, ◌∙◌, length, take}
 use Rattle.memchr.specs.Find.{IsFirstByte, is_byte}
 use Rattle.jp_model.specs.Characters.{text_equal}
 use Rattle.jp_cli.proofs.CommandWords.{asks_nothing, asks_check, asks_query, asks_other, not_empty}

@@ -1,10 +1,8 @@
 -- Where the collection was not loaded, no byte of the script came and none was written; else the run ends as the script does.
-use Rattle.std.proofs.Common.{◌≡◌, ◌∙◌, ◌≤◌, ◌+◌, [], refl, sym, ap, subst, length, inl, List, ℕ, true}
+use Rattle.std.proofs.Common.{◌≡◌, ◌∙◌, [], inl}
 use Rattle.std.proofs.KnownBytes.{Consumes-nil, Appends-nil}
-use Rattle.jp_model.specs.Devices.{HasEnded, Received}
-use Rattle.jp_model.specs.Lines.{lines, is_framed}
-use Rattle.jp_model.specs.Script.Headline.{loaded, MayLoad, RunEnded, RunStopped}
-use Rattle.jp_model.specs.Script.Machine.{State}
+use Rattle.jp_model.specs.Devices.{HasEnded}
+use Rattle.jp_model.specs.Script.Headline.{RunEnded}
 use Rattle.jp_cli.specs.Asked.{asked_by}
 use Rattle.jp_query.specs.Status.{query_of}
 use Rattle.jp_cli.proofs.Ending.{ends, told_of_all, both_ended, loaded_is, framed_lines}

@@ -1,5 +1,5 @@
 -- The machine's step, or its refusal, is the run of one line.
-use Rattle.std.proofs.Common.{◌∙◌, sym, refl, true, false, codes}
+use Rattle.std.proofs.Common.{sym, refl, true, false, codes}
 use Rattle.std.proofs.lemmas.Bool.{false≢true}
 use Rattle.jp_model.specs.Script.Machine.{error}
 use Rattle.jp_cli.specs.Answers.{answer_text}

@@ -1,5 +1,5 @@
 -- The rows behind the old ones are those of all nodes.
-use Rattle.std.proofs.Common.{◌≡◌, ◌∙◌, ◌++◌, ◌≤◌, length, map, ap, arith, List}
+use Rattle.std.proofs.Common.{◌≡◌, ◌∙◌, ◌++◌, map, ap, arith, List}
 use Rattle.jp_cli.specs.declared.store.Row.{Row}
 use Rattle.jp_cli.specs.declared.store.Row.TheVariants as stored
 use Rattle.jp_cli.proofs.NodeRows.{none_left, more_text, more_count}
