@@ -45,7 +45,7 @@ between_quotes line from last u o l c =
     let e : get_or (drop (from + 1) line) (last - (from + 1)) 0 ≡ byte_at line last = get_or-drop (from + 1) line (last - (from + 1)) 0 ∙ ap (byte_at line) (let k : from + 1 + (last - (from + 1)) ≡ last = omega (arith, l) in k) in
     IsUtf8-take (drop (from + 1) line) (last - (from + 1)) rest (IsCharBoundary-before_ascii (drop (from + 1) line) (last - (from + 1)) (omega (arith, d, i, l)) (omega (arith, e, g)))
 
-plain_between : (line : List ℕ) (from to : ℕ) → from ≤ to → to ≤ length line → ((k : ℕ) → from ≤ k → k < to → is_special (byte_at line k) ≡ false) → ArePlain (bytes_between line from to) 0 (length (bytes_between line from to))
+pub plain_between : (line : List ℕ) (from to : ℕ) → from ≤ to → to ≤ length line → ((k : ℕ) → from ≤ k → k < to → is_special (byte_at line k) ≡ false) → ArePlain (bytes_between line from to) 0 (length (bytes_between line from to))
 plain_between line from to o w p k a b =
     let d = length-drop from line in
     let size : length (bytes_between line from to) ≡ to - from = length-take-le (to - from) (drop from line) (omega (arith, d, w)) in

@@ -46,9 +46,9 @@ only_name line from v n h s None place l r = absurd l
 only_name line from v n h s (Some o) place l r = let u = name_unique line from v place n o h s l r in (ap (λ x. Some x) u.0, u.1)
 
 -- a string, a colon and white space are a name
-pub found_name : (line : List ℕ) (from end colon value : ℕ) (b : Bool) (points : List ℕ) → SpellsString line from end points → has_lone_surrogate points ≡ b → White line end colon → Has line colon 0x3A → White line (colon + 1) value → Stops line value →
-    (last : ℕ) → end ≡ last + 1 → FoundLabel line object from (record { name = Some (record { start = from + 1; end = last }); is_lone = b; value = value })
-found_name line from end colon value b points string lone before c after s last e =
+pub found_name : (line : List ℕ) (from end colon value : ℕ) (b p : Bool) (points : List ℕ) → SpellsString line from end points → has_lone_surrogate points ≡ b → White line end colon → Has line colon 0x3A → White line (colon + 1) value → Stops line value →
+    (last : ℕ) → end ≡ last + 1 → FoundLabel line object from (record { name = Some (record { start = from + 1; end = last }); is_lone = b; is_plain = p; value = value })
+found_name line from end colon value b p points string lone before c after s last e =
     let same : string.last ≡ last = omega (arith, string.end, e) in
     let name : Name = record { body = record { start = from + 1; end = last }; points = points } in
     let spelled : SpellsName line from value name = record {

@@ -11,6 +11,7 @@ use Rattle.jp_tape.specs.declared.builder.BuildFault.{BuildFault}
 use Rattle.jp_tape.specs.declared.builder.BuildFault.TheVariants as faults
 use Rattle.jp_tape.specs.declared.builder.tokens.Scalar.{Scalar}
 use Rattle.jp_tape.specs.declared.builder.tokens.Label.{Label}
+use Rattle.jp_strings.specs.Plain.{ArePlain}
 use Rattle.jp_tape.specs.Places.{Ended, Stops}
 use Rattle.jp_tape.specs.Words.{kind_code, value_node_count, words_below, span_word}
 
@@ -63,6 +64,10 @@ pub record FoundLabel (line : List ℕ) (kind : Container) (from : ℕ) (r : Lab
   pub surrogate : r.is_lone ≡ name_has_lone_surrogate name
   pub spelled : SpellsLabel line kind from r.value name
   pub only : (own : Option Name) (place : ℕ) → SpellsLabel line kind from place own → Stops line place → (own ≡ name) × (place ≡ r.value)
+
+-- where the label says so, each byte of the name stands for itself
+abbrev pub IsPlainLabel : List ℕ → Label → Type 0
+IsPlainLabel line r = (body : Span) → r.name ≡ Some body → r.is_plain ≡ true → ArePlain line body.start body.end
 
 -- nothing does
 abbrev pub NoLabel : List ℕ → Container → ℕ → Type 0

@@ -1,10 +1,8 @@
 //! The body of a name.
 
-ghost use Rattle.std.specs.Prelude.{◌≡◌, IsTrue, length};
+ghost use Rattle.std.specs.Prelude.{IsTrue, length};
 ghost use Rattle.jp_strings.specs.Plain.{ArePlain};
 ghost use Rattle.jp_strings.specs.Points.{is_text_from};
-
-use jp_lanes::first_special;
 
 /// What stands between the quotes of a name, where no surrogate stands alone.
 #[derive(Clone, Copy)]
@@ -14,14 +12,4 @@ pub(super) struct Body<'a> {
     pub(super) is_plain: bool,
     ghost is_text: { IsTrue (is_text_from bytes.now 0) },
     ghost stands_for_itself: { IsTrue is_plain → ArePlain bytes.now 0 (length bytes.now) },
-}
-
-impl<'a> Body<'a> {
-    pub(super) fn new(bytes: &'a [u8]) -> Body<'a>
-        requires { IsTrue (is_text_from bytes.now 0) }
-        ensures { result.bytes.now ≡ bytes.now }
-    {
-        let is_plain = first_special(bytes, 0) == bytes.len();
-        Body { bytes, is_plain }
-    }
 }

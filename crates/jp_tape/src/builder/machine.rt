@@ -3,6 +3,7 @@
 ghost use Rattle.std.specs.Prelude.{◌≡◌, ℕ, ◌+◌, ◌*◌, ◌^◌, ◌<◌, ◌≤◌, ◌++◌, ◌∷◌, [], max, length, List, true, false, IfOk, IfErr, IsTrue, IsUtf8};
 ghost use Rattle.jp_model.specs.Json.Places.{White, Has, byte_at, bytes_between};
 ghost use Rattle.jp_tape.specs.Names.{points};
+ghost use Rattle.jp_strings.specs.Plain.{ArePlain};
 ghost use Rattle.jp_strings.specs.Points.{is_text_from, points_of};
 ghost use Rattle.jp_model.specs.Json.Tree.{Tree};
 ghost use Rattle.jp_model.specs.Json.Spelling.{Text, opening, closing};
@@ -66,6 +67,11 @@ pub(super) struct Builder<'a> {
     /// Not kept up where a surrogate stands alone.
     pub(super) has_duplicate: bool,
 }
+
+/// There is room for so many open containers from the start, and for so many names.
+const FEW_OPEN: usize = 8;
+
+const FEW_NAMES: usize = 16;
 
 const GRAMMAR: BuildFault = BuildFault::Line(LineFault::Grammar);
 
@@ -155,21 +161,28 @@ fn write_node(
 }
 
 /// The body of a name; an empty one where a surrogate stands alone in it, since such names are not compared.
-fn kept_body<'a>(line: &'a [u8], span: Span, is_lone: bool) -> Body<'a>
+fn kept_body<'a>(line: &'a [u8], span: Span, is_lone: bool, is_plain: bool) -> Body<'a>
     requires order { span.start ≤ span.end }
     requires within { span.end ≤ length line.now }
     requires text { is_lone ≡ false → IsTrue (is_text_from (bytes_between line.now span.start span.end) 0) }
+    requires plain { is_plain ≡ true → ArePlain line.now span.start span.end }
     ensures { is_lone ≡ false → points result ≡ points_of (bytes_between line.now span.start span.end) }
 {
     if is_lone {
-        Body::new(&line[..0])
-    } else {
-        Body::new(&line[span.start as usize..span.end as usize])
+        return Body {
+            bytes: &line[..0],
+            is_plain: true,
+        };
+    }
+    Body {
+        bytes: &line[span.start as usize..span.end as usize],
+        is_plain,
     }
 }
 
 impl<'a> Builder<'a> {
     /// Nothing is read yet. An object has more marks than words, so that its words are not moved while they are written.
+    /// A name has four marks with its colon and its value, and a container that is not empty has three or more.
     fn new(alloc: Global, marks: &'a [u32]) -> Result<Builder<'a>, BuildFault>
         ensures words { IfOk result (λ b. b.words.items ≡ []) }
         ensures opened { IfOk result (λ b. b.opened.items ≡ []) }
@@ -184,10 +197,16 @@ impl<'a> Builder<'a> {
         let Ok(words) = Vec::with_capacity(alloc, marks.len() + 4) else {
             return Err(BuildFault::Memory);
         };
+        let Ok(opened) = Vec::with_capacity(alloc, (marks.len() / 3).min(FEW_OPEN)) else {
+            return Err(BuildFault::Memory);
+        };
+        let Ok(names) = Vec::with_capacity(alloc, (marks.len() / 4).min(FEW_NAMES)) else {
+            return Err(BuildFault::Memory);
+        };
         Ok(Builder {
             words,
-            opened: Vec::new(alloc),
-            names: Vec::new(alloc),
+            opened,
+            names,
             marks,
             deepest: 0,
             has_surrogate: false,
@@ -229,7 +248,8 @@ impl<'a> Builder<'a> {
         self.has_surrogate |= label.is_lone;
         if let Some(span) = label.name {
             self.marks = marks_behind(self.marks, 3);
-            match self.names.push(kept_body(line, span, label.is_lone)) {
+            let body = kept_body(line, span, label.is_lone, label.is_plain);
+            match self.names.push(body) {
                 Ok(()) => {}
                 Err(_) => return Err(BuildFault::Memory),
             }

@@ -1,7 +1,7 @@
 //! Places in a line: where white space, words, numbers and strings end.
 
 ghost use Rattle.std.specs.Prelude.{◌≡◌, ℕ, ◌+◌, ◌<◌, ◌≤◌, true, false, length, drop, List, IfSome, IfNone};
-ghost use Rattle.jp_model.specs.Characters.{is_white};
+ghost use Rattle.jp_model.specs.Characters.{is_white, is_digit};
 ghost use Rattle.jp_model.specs.Json.Places.{White, Has, Reads, byte_at};
 ghost use Rattle.jp_tape.specs.Places.{in_number, Ended, Stops};
 ghost use Rattle.jp_tape.specs.Ahead.{IsAhead, IsPassed, IsSolid};
@@ -9,13 +9,20 @@ ghost use Rattle.jp_tape.specs.Ahead.{IsAhead, IsPassed, IsSolid};
 fn is_white_byte(byte: u8) -> bool
     ensures { result ≡ is_white byte }
 {
-    byte == b' ' || byte == b'\t' || byte == b'\n' || byte == b'\r'
+    // Most bytes are greater than all four.
+    byte <= b' ' && (byte == b' ' || byte == b'\t' || byte == b'\n' || byte == b'\r')
+}
+
+fn is_digit_byte(byte: u8) -> bool
+    ensures { result ≡ is_digit byte }
+{
+    byte >= b'0' && byte <= b'9'
 }
 
 fn is_number_byte(byte: u8) -> bool
     ensures { result ≡ in_number byte }
 {
-    byte >= b'0' && byte <= b'9'
+    is_digit_byte(byte)
         || byte == b'.'
         || byte == b'e'
         || byte == b'E'
@@ -64,6 +71,27 @@ pub(super) fn own_marks(marks: &[u32], from: usize) -> usize
         return 0;
     }
     if marks[0] as usize == from { 1 } else { 0 }
+}
+
+/// The first place at or after `from` with no digit, or the length.
+pub(super) fn digits_end(line: &[u8], from: usize) -> usize
+    requires { from ≤ length line.now }
+    ensures order { from ≤ result }
+    ensures within { result ≤ length line.now }
+    ensures digits { (k : ℕ) → from ≤ k → k < result → is_digit (byte_at line.now k) ≡ true }
+{
+    let mut at = from;
+    while at < line.len() && is_digit_byte(line[at]) {
+        at += 1;
+    }
+    at
+}
+
+/// Whether a byte of a number stands there.
+pub(super) fn is_number_at(line: &[u8], at: usize) -> bool
+    ensures { result ≡ in_number (byte_at line.now at) }
+{
+    at < line.len() && is_number_byte(line[at])
 }
 
 /// The first place at or after `from` with no byte of a number, or the length.

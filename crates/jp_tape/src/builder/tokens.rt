@@ -1,7 +1,8 @@
 //! The tokens of a line: strings, numbers, words and names.
 
-ghost use Rattle.std.specs.Prelude.{◌≡◌, ℕ, ◌+◌, ◌^◌, ◌<◌, ◌≤◌, true, false, length, List, Some, None, IfSome, IfNone, IsSome, IsTrue, IsUtf8, ℤ};
+ghost use Rattle.std.specs.Prelude.{◌≡◌, ℕ, ◌+◌, ◌-◌, ◌^◌, ◌<◌, ◌≤◌, true, false, length, List, Some, None, IfSome, IfNone, IsSome, IsTrue, IsUtf8, ℤ};
 ghost use Rattle.std.specs.List.{list_all};
+ghost use Rattle.jp_model.specs.Characters.{is_digit};
 ghost use Rattle.jp_model.specs.Json.Places.{White, Has, Reads, byte_at, bytes_between};
 ghost use Rattle.jp_model.specs.Json.Numbers.{SpellsNumber, numeral_of, is_long_exponent};
 ghost use Rattle.jp_model.specs.Json.Strings.{SpellsBody, has_lone_surrogate};
@@ -9,9 +10,10 @@ ghost use Rattle.jp_model.specs.Json.Spelling.{SpellsString, SpellsName};
 ghost use Rattle.jp_model.specs.Json.Tree.{Name, object, array};
 ghost use Rattle.jp_tape.specs.Places.{Ended, Stops};
 ghost use Rattle.jp_tape.specs.Ahead.{IsAhead, IsPassed, IsSolid, in_token, name_marks};
-ghost use Rattle.jp_tape.specs.Reading.{FoundScalar, NoValue, FoundLabel, NoLabel, container_if};
+ghost use Rattle.jp_tape.specs.Reading.{FoundScalar, NoValue, FoundLabel, NoLabel, IsPlainLabel, container_if};
+ghost use Rattle.jp_strings.specs.Plain.{ArePlain};
 
-use super::scan::{is_at, marks_behind, number_bytes_end, own_marks, skip_white, word_end};
+use super::scan::{digits_end, is_at, is_number_at, marks_behind, number_bytes_end, own_marks, skip_white, word_end};
 use crate::Kind;
 use jp_decimal::{Decimal, NumberFault};
 use jp_lanes::first_special;
@@ -23,6 +25,8 @@ use jp_strings::{StringFault, test_body};
 pub(super) struct StringEnd {
     end: usize,
     is_lone: bool,
+    /// Each byte between its quotes stands for itself.
+    is_plain: bool,
 }
 
 /// The end of a number, and whether its exponent is too long.
@@ -51,6 +55,8 @@ pub(super) struct Label {
     pub(super) name: Option<Span>,
     /// A surrogate stands alone in the name.
     pub(super) is_lone: bool,
+    /// Each byte of the name stands for itself.
+    pub(super) is_plain: bool,
     pub(super) value: usize,
 }
 
@@ -77,6 +83,7 @@ fn string_end(line: &[u8], marks: &[u32], from: usize) -> Option<StringEnd>
     requires ahead { IsAhead line.now from marks.now }
     ensures within { IfSome result (λ r. (from + 1 < r.end) × (r.end ≤ length line.now)) }
     ensures found { IfSome result (λ r. (points : List ℕ) × SpellsString line.now from r.end points × (has_lone_surrogate points ≡ r.is_lone)) }
+    ensures plain { IfSome result (λ r. r.is_plain ≡ true → ArePlain line.now (from + 1) (r.end - 1)) }
     ensures ahead { IfSome result (λ r. IsPassed line.now marks.now 2 r.end) }
     ensures none { IfNone result ((to : ℕ) (points : List ℕ) → SpellsString line.now from to points → ⊥) }
 {
@@ -87,23 +94,62 @@ fn string_end(line: &[u8], marks: &[u32], from: usize) -> Option<StringEnd>
         return Some(StringEnd {
             end: last + 1,
             is_lone: false,
+            is_plain: true,
         });
     }
     match test_body(&line[from + 1..last]) {
         Ok(()) => Some(StringEnd {
             end: last + 1,
             is_lone: false,
+            is_plain: false,
         }),
         Err(StringFault::Surrogate) => Some(StringEnd {
             end: last + 1,
             is_lone: true,
+            is_plain: false,
         }),
         Err(StringFault::Shape) => None,
     }
 }
 
-/// The end of the number at `from`, where no byte of a number follows it.
+/// The end of the number at `from`, where it is an int without a sign, and no byte of a number follows it.
+fn int_end(line: &[u8], from: usize) -> Option<usize>
+    requires inside { from < length line.now }
+    ensures within { IfSome result (λ to. (from < to) × (to ≤ length line.now)) }
+    ensures digits { IfSome result (λ to. (k : ℕ) → from ≤ k → k < to → is_digit (byte_at line.now k) ≡ true) }
+    ensures zero { IfSome result (λ to. byte_at line.now from ≡ 0x30 → to ≡ from + 1) }
+    ensures ended { IfSome result (λ to. Ended line.now to) }
+{
+    let end = digits_end(line, from);
+    if end == from || is_number_at(line, end) {
+        return None;
+    }
+    if line[from] == b'0' && end > from + 1 {
+        return None;
+    }
+    Some(end)
+}
+
+/// The end of the number at `from`, where no byte of a number follows it. Most are short ints.
 fn number_end(line: &[u8], from: usize) -> Option<NumberEnd>
+    requires inside { from < length line.now }
+    requires room { length line.now < 2 ^ 32 }
+    ensures within { IfSome result (λ r. (from < r.end) × (r.end ≤ length line.now)) }
+    ensures solid { IfSome result (λ r. IsSolid line.now from r.end) }
+    ensures found { IfSome result (λ r. (m e : ℤ) × SpellsNumber line.now from r.end m e × Ended line.now r.end × (is_long_exponent (numeral_of (bytes_between line.now from r.end)) ≡ r.is_long)) }
+    ensures none { IfNone result ((to : ℕ) (m e : ℤ) → SpellsNumber line.now from to m e → Ended line.now to → ⊥) }
+{
+    if let Some(end) = int_end(line, from) {
+        return Some(NumberEnd {
+            end,
+            is_long: false,
+        });
+    }
+    any_number_end(line, from)
+}
+
+/// The same, of any number.
+fn any_number_end(line: &[u8], from: usize) -> Option<NumberEnd>
     requires inside { from < length line.now }
     requires room { length line.now < 2 ^ 32 }
     ensures within { IfSome result (λ r. (from < r.end) × (r.end ≤ length line.now)) }
@@ -132,6 +178,7 @@ fn name_at(line: &[u8], marks: &[u32], from: usize) -> Option<Label>
     ensures stops { IfSome result (λ r. Stops line.now r.value) }
     ensures ahead { IfSome result (λ r. IsPassed line.now marks.now 3 r.value) }
     ensures is_named { IfSome result (λ r. IsSome r.name) }
+    ensures plain { IfSome result (λ r. IsPlainLabel line.now r) }
     ensures found { IfSome result (λ r. FoundLabel line.now object from r) }
     ensures none { IfNone result (NoLabel line.now object from) }
 {
@@ -152,6 +199,7 @@ fn name_at(line: &[u8], marks: &[u32], from: usize) -> Option<Label>
     Some(Label {
         name: Some(body),
         is_lone: name.is_lone,
+        is_plain: name.is_plain,
         value: skip_white(line, marks_behind(marks, 3), colon + 1),
     })
 }
@@ -166,6 +214,7 @@ pub(super) fn label_at(line: &[u8], marks: &[u32], is_object: bool, from: usize)
     ensures within { IfSome result (λ r. (from ≤ r.value) × (r.value ≤ length line.now)) }
     ensures stops { IfSome result (λ r. Stops line.now r.value) }
     ensures ahead { IfSome result (λ r. IsPassed line.now marks.now (name_marks r.name) r.value) }
+    ensures plain { IfSome result (λ r. IsPlainLabel line.now r) }
     ensures found { IfSome result (λ r. FoundLabel line.now (container_if is_object) from r) }
     ensures none { IfNone result (NoLabel line.now (container_if is_object) from) }
 {
@@ -175,6 +224,7 @@ pub(super) fn label_at(line: &[u8], marks: &[u32], is_object: bool, from: usize)
         Some(Label {
             name: None,
             is_lone: false,
+            is_plain: true,
             value: from,
         })
     }

@@ -21,7 +21,7 @@ returns-clause-found c =
     let v = c.skip_white.ensures in
     let f = c.in-Some.ensures.found in
     let i = c.in-Some.ensures.within.0 in
-    found_name c.args.line.now c.args.from c.in-Some.name.end c.skip_white-colon.result c.skip_white.result c.in-Some.name.is_lone f.0 f.1 f.2 w.white (c.is_at-2.ensures.yes c.if-not-is_at-2.false) v.white v.stops (c.in-Some.name.end - 1) (omega (arith, i))
+    found_name c.args.line.now c.args.from c.in-Some.name.end c.skip_white-colon.result c.skip_white.result c.in-Some.name.is_lone c.in-Some.name.is_plain f.0 f.1 f.2 w.white (c.is_at-2.ensures.yes c.if-not-is_at-2.false) v.white v.stops (c.in-Some.name.end - 1) (omega (arith, i))
 
 colon_passed : (line ms rest : List ℕ) (end colon : ℕ) → IsPassed line ms 2 end → rest ≡ drop 2 ms → IsAhead line colon rest → Has line colon 0x3A → IsPassed line ms 3 (colon + 1)
 colon_passed line ms rest end colon p e a h = passes_next line ms 2 colon p.within (subst (λ (xs : List ℕ). IsAhead line colon xs) e a) h.inside (ap is_structural h.is)
