@@ -144,6 +144,7 @@ fn up_to_word(parent: u32, index: u32) -> u64
 }
 
 /// Writes a node.
+#[inline(always)]
 fn write_node(
     words: &mut Vec<u64>,
     head: u64,
@@ -161,6 +162,7 @@ fn write_node(
 }
 
 /// The body of a name; an empty one where a surrogate stands alone in it, since such names are not compared.
+#[inline(always)]
 fn kept_body<'a>(line: &'a [u8], span: Span, is_lone: bool, is_plain: bool) -> Body<'a>
     requires order { span.start ≤ span.end }
     requires within { span.end ≤ length line.now }
@@ -216,6 +218,7 @@ impl<'a> Builder<'a> {
     }
 
     /// The fourth word of the next value: it is a child of the innermost container, or the root.
+    #[inline(always)]
     fn up(&self) -> u64
         ensures { result ≡ next_up self.now.opened.items }
     {
@@ -227,6 +230,7 @@ impl<'a> Builder<'a> {
     }
 
     /// Reads what stands before a child's value, and keeps its name.
+    #[inline(always)]
     fn next_child(
         &mut self,
         line: &'a [u8],
@@ -307,6 +311,7 @@ impl<'a> Builder<'a> {
     }
 
     /// Reads the value at `at`: all of it, or up to the first child's value.
+    #[inline(always)]
     fn begin(&mut self, line: &'a [u8], at: usize, name: Option<Span>) -> Result<Turn, BuildFault>
         requires within { at ≤ length line.now }
         requires room { length line.now < 2 ^ 32 }
@@ -344,6 +349,7 @@ impl<'a> Builder<'a> {
     }
 
     /// Closes the innermost container, which ends before `end`.
+    #[inline(always)]
     fn close(&mut self, container: Open, end: usize)
         requires place { 4 * container.place + 1 < length self.old.words.items }
         requires last { 0 < length self.old.opened.items }
@@ -377,6 +383,7 @@ impl<'a> Builder<'a> {
     }
 
     /// Reads what follows a value.
+    #[inline(always)]
     fn go_on(&mut self, line: &'a [u8], at: usize) -> Result<Turn, BuildFault>
         requires within { at ≤ length line.now }
         requires room { length line.now < 2 ^ 32 }

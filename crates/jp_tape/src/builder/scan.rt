@@ -39,6 +39,7 @@ fn is_white_at(line: &[u8], at: usize) -> bool
 }
 
 /// The first place at or after `from` without white space, or the length: the next mark, where white space is at `from`.
+#[inline(always)]
 pub(super) fn skip_white(line: &[u8], marks: &[u32], from: usize) -> usize
     requires within { from ≤ length line.now }
     requires ahead { IsAhead line.now from marks.now }
@@ -56,6 +57,7 @@ pub(super) fn skip_white(line: &[u8], marks: &[u32], from: usize) -> usize
 }
 
 /// The marks behind the first so many.
+#[inline(always)]
 pub(super) fn marks_behind(marks: &[u32], count: usize) -> &[u32]
     requires { count ≤ length marks.now }
     ensures { result.now ≡ drop count marks.now }
@@ -64,6 +66,7 @@ pub(super) fn marks_behind(marks: &[u32], count: usize) -> &[u32]
 }
 
 /// How many marks a number or a word at `from` has: its first byte is one where a token may begin.
+#[inline(always)]
 pub(super) fn own_marks(marks: &[u32], from: usize) -> usize
     ensures { (line : List ℕ) (to : ℕ) → IsAhead line from marks.now → from < to → to ≤ length line → IsSolid line from to → IsPassed line marks.now result to }
 {
@@ -74,6 +77,7 @@ pub(super) fn own_marks(marks: &[u32], from: usize) -> usize
 }
 
 /// The first place at or after `from` with no digit, or the length.
+#[inline(always)]
 pub(super) fn digits_end(line: &[u8], from: usize) -> usize
     requires { from ≤ length line.now }
     ensures order { from ≤ result }
@@ -127,6 +131,7 @@ pub(super) fn word_end(line: &[u8], from: usize, word: &[u8]) -> Option<usize>
 }
 
 /// Whether this byte stands there.
+#[inline(always)]
 pub(super) fn is_at(line: &[u8], at: usize, byte: u8) -> bool
     ensures yes { result ≡ true → Has line.now at byte }
     ensures no { result ≡ false → Has line.now at byte → ⊥ }

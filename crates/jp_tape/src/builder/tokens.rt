@@ -61,6 +61,7 @@ pub(super) struct Label {
 }
 
 /// The quote that closes the string at `from`: the mark behind that of its opening quote.
+#[inline(always)]
 fn closing_quote(line: &[u8], marks: &[u32], from: usize) -> Option<usize>
     requires opens { Has line.now from 0x22 }
     requires ahead { IsAhead line.now from marks.now }
@@ -76,7 +77,24 @@ fn closing_quote(line: &[u8], marks: &[u32], from: usize) -> Option<usize>
     Some(marks[1] as usize)
 }
 
+/// Whether a surrogate stands alone in the string from `from` to `last`, where it is one. Few strings come here.
+#[inline(never)]
+fn is_lone_within(line: &[u8], from: usize, last: usize) -> Option<bool>
+    requires order { from < last }
+    requires opens { Has line.now from 0x22 }
+    requires closes { Has line.now last 0x22 }
+    ensures found { IfSome result (λ is_lone. (points : List ℕ) × SpellsString line.now from (last + 1) points × (has_lone_surrogate points ≡ is_lone)) }
+    ensures none { IfNone result ((points : List ℕ) → SpellsBody line.now (from + 1) last points → ⊥) }
+{
+    match test_body(&line[from + 1..last]) {
+        Ok(()) => Some(false),
+        Err(StringFault::Surrogate) => Some(true),
+        Err(StringFault::Shape) => None,
+    }
+}
+
 /// The end of the string at `from`. A body without special bytes stands for itself.
+#[inline(always)]
 fn string_end(line: &[u8], marks: &[u32], from: usize) -> Option<StringEnd>
     requires opens { Has line.now from 0x22 }
     requires utf8 { IsUtf8 line.now }
@@ -97,22 +115,18 @@ fn string_end(line: &[u8], marks: &[u32], from: usize) -> Option<StringEnd>
             is_plain: true,
         });
     }
-    match test_body(&line[from + 1..last]) {
-        Ok(()) => Some(StringEnd {
+    match is_lone_within(line, from, last) {
+        Some(is_lone) => Some(StringEnd {
             end: last + 1,
-            is_lone: false,
+            is_lone,
             is_plain: false,
         }),
-        Err(StringFault::Surrogate) => Some(StringEnd {
-            end: last + 1,
-            is_lone: true,
-            is_plain: false,
-        }),
-        Err(StringFault::Shape) => None,
+        None => None,
     }
 }
 
 /// The end of the number at `from`, where it is an int without a sign, and no byte of a number follows it.
+#[inline(always)]
 fn int_end(line: &[u8], from: usize) -> Option<usize>
     requires inside { from < length line.now }
     ensures within { IfSome result (λ to. (from < to) × (to ≤ length line.now)) }
@@ -131,6 +145,7 @@ fn int_end(line: &[u8], from: usize) -> Option<usize>
 }
 
 /// The end of the number at `from`, where no byte of a number follows it. Most are short ints.
+#[inline(always)]
 fn number_end(line: &[u8], from: usize) -> Option<NumberEnd>
     requires inside { from < length line.now }
     requires room { length line.now < 2 ^ 32 }
@@ -169,6 +184,7 @@ fn any_number_end(line: &[u8], from: usize) -> Option<NumberEnd>
 }
 
 /// The name at `from` and its colon.
+#[inline(always)]
 fn name_at(line: &[u8], marks: &[u32], from: usize) -> Option<Label>
     requires within { from ≤ length line.now }
     requires room { length line.now < 2 ^ 32 }
@@ -205,6 +221,7 @@ fn name_at(line: &[u8], marks: &[u32], from: usize) -> Option<Label>
 }
 
 /// What stands before the value of a child.
+#[inline(always)]
 pub(super) fn label_at(line: &[u8], marks: &[u32], is_object: bool, from: usize) -> Option<Label>
     requires within { from ≤ length line.now }
     requires room { length line.now < 2 ^ 32 }
@@ -253,6 +270,7 @@ fn word_at(line: &[u8], marks: &[u32], from: usize, word: &[u8], kind: Kind) -> 
 }
 
 /// The value at `from`, which is no array or object.
+#[inline(always)]
 pub(super) fn scalar_at(line: &[u8], marks: &[u32], from: usize) -> Option<Scalar>
     requires inside { from < length line.now }
     requires room { length line.now < 2 ^ 32 }
