@@ -155,13 +155,33 @@ fn write_node(
     ensures written { IfOk result (λ _. words.new.items ≡ words.old.items ++ head ∷ span ∷ name ∷ up ∷ []) }
     ensures memory { IfErr result (λ fault. OnFault fault ⊥) }
 {
-    match words.extend_from_slice(&[head, span, name, up]) {
-        Ok(()) => Ok(()),
-        Err(_) => Err(BuildFault::Memory),
+    if words.reserve(4).is_err() {
+        return Err(BuildFault::Memory);
     }
+    words.push_reserved(head);
+    words.push_reserved(span);
+    words.push_reserved(name);
+    words.push_reserved(up);
+    Ok(())
 }
 
-/// The body of a name; an empty one where a surrogate stands alone in it, since such names are not compared.
+/// The bytes of a name; none where a surrogate stands alone in it, since such names are not compared.
+#[inline(always)]
+fn kept_bytes<'a>(line: &'a [u8], span: Span, is_lone: bool) -> &'a [u8]
+    requires order { span.start ≤ span.end }
+    requires within { span.end ≤ length line.now }
+    requires text { is_lone ≡ false → IsTrue (is_text_from (bytes_between line.now span.start span.end) 0) }
+    ensures text { IsTrue (is_text_from result.now 0) }
+    ensures plain { ArePlain line.now span.start span.end → ArePlain result.now 0 (length result.now) }
+    ensures same { is_lone ≡ false → result.now ≡ bytes_between line.now span.start span.end }
+{
+    if is_lone {
+        return &line[..0];
+    }
+    &line[span.start as usize..span.end as usize]
+}
+
+/// The body of a name.
 #[inline(always)]
 fn kept_body<'a>(line: &'a [u8], span: Span, is_lone: bool, is_plain: bool) -> Body<'a>
     requires order { span.start ≤ span.end }
@@ -170,16 +190,8 @@ fn kept_body<'a>(line: &'a [u8], span: Span, is_lone: bool, is_plain: bool) -> B
     requires plain { is_plain ≡ true → ArePlain line.now span.start span.end }
     ensures { is_lone ≡ false → points result ≡ points_of (bytes_between line.now span.start span.end) }
 {
-    if is_lone {
-        return Body {
-            bytes: &line[..0],
-            is_plain: true,
-        };
-    }
-    Body {
-        bytes: &line[span.start as usize..span.end as usize],
-        is_plain,
-    }
+    let bytes = kept_bytes(line, span, is_lone);
+    Body { bytes, is_plain }
 }
 
 impl<'a> Builder<'a> {
