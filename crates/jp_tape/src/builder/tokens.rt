@@ -13,7 +13,10 @@ ghost use Rattle.jp_tape.specs.Ahead.{IsAhead, IsPassed, IsSolid, in_token, name
 ghost use Rattle.jp_tape.specs.Reading.{FoundScalar, NoValue, FoundLabel, NoLabel, IsPlainLabel, container_if};
 ghost use Rattle.jp_strings.specs.Plain.{ArePlain};
 
-use super::scan::{digits_end, is_at, is_number_at, marks_behind, number_bytes_end, own_marks, skip_white, word_end};
+use super::scan::{
+    digits_end, is_at, is_number_at, marks_behind, number_bytes_end, own_marks, skip_white,
+    word_end,
+};
 use crate::Kind;
 use jp_decimal::{Decimal, NumberFault};
 use jp_lanes::first_special;
