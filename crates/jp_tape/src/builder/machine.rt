@@ -265,10 +265,10 @@ impl<'a> Builder<'a> {
         if let Some(span) = label.name {
             self.marks = marks_behind(self.marks, 3);
             let body = kept_body(line, span, label.is_lone, label.is_plain);
-            match self.names.push(body) {
-                Ok(()) => {}
-                Err(_) => return Err(BuildFault::Memory),
+            if self.names.reserve(1).is_err() {
+                return Err(BuildFault::Memory);
             }
+            self.names.push_reserved(body);
         }
         Ok(Turn::Value(label.name, label.value))
     }
@@ -316,10 +316,11 @@ impl<'a> Builder<'a> {
             Ok(()) => {}
             Err(fault) => return Err(fault),
         }
-        match self.opened.push(container) {
-            Ok(()) => self.next_child(line, is_object, inside),
-            Err(_) => Err(BuildFault::Memory),
+        if self.opened.reserve(1).is_err() {
+            return Err(BuildFault::Memory);
         }
+        self.opened.push_reserved(container);
+        self.next_child(line, is_object, inside)
     }
 
     /// Reads the value at `at`: all of it, or up to the first child's value.

@@ -26,18 +26,18 @@ returns-in-Ok-clause-goes_on c =
       duplicate = refl;
     })
 
-pub returns-in-Ok-push-clause-goes_on : goal.returns-in-Ok-push-clause-goes_on
-returns-in-Ok-push-clause-goes_on c =
+pub returns-clause-goes_on : goal.returns-clause-goes_on
+returns-clause-goes_on c =
     let b = c.args.self.now in
     let kind = container_if c.args.is_object in
     let w = c.skip_white-inside.ensures in
-    let mid : Builder = record { words = c.write_node-2.new.words; opened = c.push.new.self; names = b.names; marks = c.marks_behind-self.result; deepest = c.larger-self.result; has_surrogate = b.has_surrogate; has_long_exponent = b.has_long_exponent; has_duplicate = b.has_duplicate } in
+    let mid : Builder = record { words = c.write_node-2.new.words; opened = c.push_reserved.new.self; names = b.names; marks = c.marks_behind-self.result; deepest = c.larger-self.result; has_surrogate = b.has_surrogate; has_long_exponent = b.has_long_exponent; has_duplicate = b.has_duplicate } in
     IfOk-weaker c.next_child.result _ _
     (λ turn l. enter_goes_on c.args.line.now c.args.at c.skip_white-inside.result c.args.name b mid c.next_child.new.self turn kind c.requires.opens w.white w.stops
     (λ h. c.is_at.ensures.no c.if-is_at.false (subst (λ x. Has c.args.line.now c.skip_white-inside.result x) (sym c.closing_of.ensures) h))
     (record {
       words = node_is b.words.items _ _ _ _ _ _ _ _ _ c.in-Ok-write_node.ensures.written refl refl c.name_to_word-2.ensures c.up-up.ensures;
-      opened = c.in-Ok-push.ensures.items ∙ ap (λ (o : Open). b.opened.items ++ o ∷ []) (opened_is c.args.is_object _ _ _ _ c.args.at (c.len-place.ensures ∙ b.words.ok.0) (c.len-2.ensures ∙ b.names.ok.0));
+      opened = (rw c.reserve.ensures.items at c.push_reserved.ensures.items) ∙ ap (λ (o : Open). b.opened.items ++ o ∷ []) (opened_is c.args.is_object _ _ _ _ c.args.at (c.len-place.ensures ∙ b.words.ok.0) (c.len-2.ensures ∙ b.names.ok.0));
       names = refl;
       deepest = c.larger-self.ensures ∙ ap (λ n. max b.deepest (n + 1)) (c.len.ensures ∙ b.opened.ok.0);
       surrogate = refl;
@@ -46,8 +46,8 @@ returns-in-Ok-push-clause-goes_on c =
     }) l)
     c.next_child.ensures.found
 
-pub returns-in-Ok-push-clause-stuck : goal.returns-in-Ok-push-clause-stuck
-returns-in-Ok-push-clause-stuck c =
+pub returns-clause-stuck : goal.returns-clause-stuck
+returns-clause-stuck c =
     let b = c.args.self.now in
     let kind = container_if c.args.is_object in
     let w = c.skip_white-inside.ensures in

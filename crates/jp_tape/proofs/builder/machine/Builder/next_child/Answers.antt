@@ -11,10 +11,10 @@ kept_body-body-requires-clause-text c l = (kept_text c.args.line.now (container_
 pub kept_body-body-requires-clause-plain : goal.kept_body-body-requires-clause-plain
 kept_body-body-requires-clause-plain c p = c.in-Some.ensures.plain c.in-Some-name.span c.in-Some-name.is p
 
-pub returns-in-Ok-clause-found : goal.returns-in-Ok-clause-found
-returns-in-Ok-clause-found c =
+pub returns-else-is_err-clause-found : goal.returns-else-is_err-clause-found
+returns-else-is_err-clause-found c =
     let e = c.in-Some.ensures in
-    labelled_named c.args.line.now (container_if c.args.is_object) c.args.from c.in-Some.label e.found c.args.self.now _ c.in-Some-name.span c.kept_body-body.result c.in-Some-name.is e.within.0 e.within.1 c.kept_body-body.ensures c.in-Ok.ensures.items refl refl refl refl refl refl
+    labelled_named c.args.line.now (container_if c.args.is_object) c.args.from c.in-Some.label e.found c.args.self.now _ c.in-Some-name.span c.kept_body-body.result c.in-Some-name.is e.within.0 e.within.1 c.kept_body-body.ensures (rw c.reserve.ensures.items at c.push_reserved.ensures.items) refl refl refl refl refl refl
 
 pub returns-in_default-name-clause-found : goal.returns-in_default-name-clause-found
 returns-in_default-name-clause-found c =
@@ -30,8 +30,8 @@ marks_of_none line ms name to e p = let q : IsPassed line ms 0 to = subst (λ n.
 pub marks_behind-self-requires : goal.marks_behind-self-requires
 marks_behind-self-requires c = (marks_of_name c.args.line.now c.args.self.now.marks.now c.in-Some.label.name c.in-Some-name.span c.in-Some.label.value c.in-Some-name.is c.in-Some.ensures.ahead).within
 
-pub returns-in-Ok-clause-ahead : goal.returns-in-Ok-clause-ahead
-returns-in-Ok-clause-ahead c =
+pub returns-else-is_err-clause-ahead : goal.returns-else-is_err-clause-ahead
+returns-else-is_err-clause-ahead c =
     let p = marks_of_name c.args.line.now c.args.self.now.marks.now c.in-Some.label.name c.in-Some-name.span c.in-Some.label.value c.in-Some-name.is c.in-Some.ensures.ahead in
     subst (λ (ms : List ℕ). IsAhead c.args.line.now c.in-Some.label.value ms) (sym c.marks_behind-self.ensures) p.ahead
 
