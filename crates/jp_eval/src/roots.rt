@@ -15,7 +15,7 @@ use std::alloc::{AllocError, Global};
 use std::collections::BTreeMap;
 use std::hash::{DefaultHasher, Hasher};
 
-/// In so many places it is looked for.
+/// How many keys, one behind another from its hash on, what is asked may have.
 const MOST_TRIES: u64 = 8;
 
 /// What is asked of the queries from the root within the filters of a query. What is alike stands there again.
@@ -63,7 +63,7 @@ fn outline(path: &Path, question: Question) -> u64
     state.finish() >> 1
 }
 
-/// Keeps the place of what is asked, where none of the places for it is free no more.
+/// Keeps the place of what is asked, unless all the keys that it may have are taken.
 fn keep_place(
     one: Asked<'_>,
     place: usize,
