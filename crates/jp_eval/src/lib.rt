@@ -6,6 +6,7 @@ mod asked;
 mod children;
 mod evaluate;
 mod functions;
+mod hash;
 mod literals;
 mod patterns;
 mod prepared;

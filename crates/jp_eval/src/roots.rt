@@ -1,6 +1,6 @@
 //! What is asked of queries from the root, and how it is found again.
 
-ghost use Rattle.std.specs.Prelude.{◌≡◌, ◌<◌, ◌^◌, [], true, map, slice_get, All, IfOk, IfSome, Some};
+ghost use Rattle.std.specs.Prelude.{◌≡◌, [], true, map, slice_get, All, IfOk, IfSome, Some};
 ghost use Rattle.jp_eval.specs.Asked.{asked_view, asked_in};
 ghost use Rattle.jp_eval.specs.Expressions.{readable};
 ghost use Rattle.jp_eval.specs.declared.asked.Asked.{Asked as One};
@@ -9,11 +9,11 @@ ghost use Rattle.jp_query.specs.Sound.{has_sound_literals};
 ghost use Rattle.jp_query.specs.View.{path_view, segments_view};
 
 use crate::asked::{Asked, Question, add_of_segments};
+use crate::hash::hash_of;
 use crate::same::same_path;
-use jp_query::{Path, Segment, Selector};
+use jp_query::{Path, Segment};
 use std::alloc::{AllocError, Global};
 use std::collections::BTreeMap;
-use std::hash::{DefaultHasher, Hasher};
 
 /// How many keys, one behind another from its hash on, what is asked may have.
 const MOST_TRIES: u64 = 8;
@@ -22,45 +22,9 @@ const MOST_TRIES: u64 = 8;
 #[derive(Drop)]
 pub(crate) struct Roots<'q> {
     pub(crate) asked: Vec<Asked<'q>>,
-    /// The places of those that differ, by the hashes of their outlines.
+    /// The places of those that differ, by their hashes.
     places: BTreeMap<u64, usize>,
     ghost readable: { ∥ All (λ one. path_passes (path_view one.path.now) readable ≡ true) asked.items ∥₁ },
-}
-
-/// Puts the outline of a selector into a hash.
-fn write_selector(selector: &Selector, state: &mut DefaultHasher) {
-    match selector {
-        Selector::Name(name) => state.write(name.as_str().as_bytes()),
-        Selector::Index(index) => state.write_i64(*index),
-        Selector::Wildcard => state.write_u8(1),
-        Selector::Slice { .. } => state.write_u8(2),
-        Selector::Filter(_) => state.write_u8(3),
-    }
-}
-
-/// Puts the outline of a segment into a hash.
-fn write_segment(segment: &Segment, state: &mut DefaultHasher) {
-    let (Segment::Child(selectors) | Segment::Descendant(selectors)) = segment;
-    state.write_u8(0);
-    for selector in selectors {
-        write_selector(selector, state);
-    }
-}
-
-/// A hash of what is asked, without what stands within filters.
-fn outline(path: &Path, question: Question) -> u64
-    ensures { result < 2 ^ 63 }
-{
-    let mut state = DefaultHasher::new();
-    for segment in &path.segments {
-        write_segment(segment, &mut state);
-    }
-    state.write_u8(match question {
-        Question::Value => 0,
-        Question::Count => 1,
-        Question::Length => 2,
-    });
-    state.finish() >> 1
 }
 
 /// Keeps the place of what is asked, unless all the keys that it may have are taken.
@@ -69,7 +33,7 @@ fn keep_place(
     place: usize,
     places: &mut BTreeMap<u64, usize>,
 ) -> Result<(), AllocError> {
-    let first = outline(one.path, one.question);
+    let first = hash_of(one.path, one.question);
     for key in first..first + MOST_TRIES {
         if !places.contains_key(&key) {
             places.insert(key, place)?;
@@ -128,11 +92,11 @@ impl<'q> Roots<'q> {
         }
     }
 
-    /// The place of what is asked of a query. Where too many have the same outline there may be none.
+    /// The place of what is asked of a query. Where the hashes of too many meet there may be none.
     pub(crate) fn find(&self, path: &Path, question: Question) -> Option<usize>
         ensures { IfSome result (λ place. (one : One) × (slice_get self.now.asked.items place ≡ Some one) × (path_view one.path.now ≡ path_view path.now) × (one.question ≡ question)) }
     {
-        let first = outline(path, question);
+        let first = hash_of(path, question);
         for key in first..first + MOST_TRIES {
             let place = *self.places.get(&key)?;
             if self.is_at(place, path, question) {

@@ -214,7 +214,7 @@ fn patterns_select_the_same_read_before_and_anew(rt: HostRuntime) -> Result<(), 
 }
 
 /// A line, a query with queries from the root in its filters, and the bytes of the nodes that it selects.
-const ROOTS: [(&str, &str, &str); 13] = [
+const ROOTS: [(&str, &str, &str); 15] = [
     (
         "{\"x\":2,\"l\":[{\"a\":1},{\"a\":2}]}",
         "$.l[?@.a==$.x]",
@@ -251,6 +251,16 @@ const ROOTS: [(&str, &str, &str); 13] = [
         "[[1,2],[2]]",
         "$[?count($[?@[?@==$[1][0]]])==2]",
         "[1,2] [2] ",
+    ),
+    (
+        "[1,2,3]",
+        "$[?$[?$[?$[?$[?$[?$[?$[?$[?$[?@==3]]]]]]]]]]",
+        "1 2 3 ",
+    ),
+    (
+        "[1,2,3]",
+        "$[?$[?$[?$[?$[?$[?$[?$[?$[?$[?@==9]]]]]]]]]]",
+        "",
     ),
 ];
 
