@@ -24,7 +24,7 @@ impl Read for Giver {
     }
 }
 
-/// Takes one byte a call while it has room, and then none; it fails at a line feed.
+/// Takes one byte a call while it has room, and then none; it fails at a line feed, and at a flush without room.
 #[derive(Drop)]
 struct Taker {
     held: Vec<u8>,
@@ -44,6 +44,9 @@ impl Write for Taker {
     }
 
     fn flush(&mut self) -> io::Result<()> {
+        if self.held.len() >= self.room {
+            return Err(io::ErrorKind::Other.into());
+        }
         Ok(())
     }
 }
@@ -135,8 +138,33 @@ fn reads_are_watched(rt: HostRuntime) -> Result<(), Fail> {
         matches!(reader.read(&mut bytes), Err(error) if error.kind() == io::ErrorKind::Other)
     );
     assert!(rt; reader.failed());
+    assert!(rt; !reader.ended());
     assert_eq!(rt; reader.calls(), 3);
+    assert_eq!(rt; reader.after(), 0);
+    assert!(rt; reader.read(&mut bytes).is_err());
+    assert_eq!(rt; reader.calls(), 4);
+    assert_eq!(rt; reader.after(), 1);
     assert!(rt; reader.into_inner().bytes.is_empty());
+    Ok(())
+}
+
+#[test]
+fn reads_after_the_end_are_counted(rt: HostRuntime) -> Result<(), Fail> {
+    let mut reader = Watched::new(b"ab".as_slice());
+    let mut bytes = [0u8; 4];
+    assert_eq!(rt; reader.read(&mut [])?, 0);
+    assert!(rt; !reader.ended());
+    assert_eq!(rt; reader.read(&mut bytes)?, 2);
+    assert!(rt; !reader.ended());
+    assert_eq!(rt; reader.read(&mut bytes)?, 0);
+    assert!(rt; reader.ended());
+    assert!(rt; !reader.failed());
+    assert_eq!(rt; reader.after(), 0);
+    assert_eq!(rt; reader.read(&mut bytes)?, 0);
+    assert_eq!(rt; reader.read(&mut [])?, 0);
+    assert!(rt; reader.ended());
+    assert_eq!(rt; reader.calls(), 5);
+    assert_eq!(rt; reader.after(), 2);
     Ok(())
 }
 
@@ -153,6 +181,31 @@ fn writes_are_watched(rt: HostRuntime) -> Result<(), Fail> {
     assert_eq!(rt; writer.write(b"c")?, 0);
     assert!(rt; writer.failed());
     assert_eq!(rt; writer.calls(), 4);
+    assert_eq!(rt; writer.after(), 0);
+    assert_eq!(rt; writer.write(b"")?, 0);
+    assert_eq!(rt; writer.after(), 1);
+    assert_eq!(rt; writer.into_inner().held.as_slice(), b"ab".as_slice());
+    Ok(())
+}
+
+#[test]
+fn flushes_are_watched(rt: HostRuntime) -> Result<(), Fail> {
+    let mut writer = Watched::new(Taker {
+        held: Vec::new(rt.alloc()),
+        room: 2,
+    });
+    writer.flush()?;
+    assert_eq!(rt; writer.write(b"ab")?, 1);
+    writer.flush()?;
+    assert!(rt; !writer.failed());
+    assert_eq!(rt; writer.calls(), 3);
+    assert_eq!(rt; writer.write(b"bc")?, 1);
+    assert!(rt; writer.flush().is_err());
+    assert!(rt; writer.failed());
+    assert_eq!(rt; writer.calls(), 5);
+    assert_eq!(rt; writer.after(), 0);
+    assert!(rt; writer.flush().is_err());
+    assert_eq!(rt; writer.after(), 1);
     assert_eq!(rt; writer.into_inner().held.as_slice(), b"ab".as_slice());
     Ok(())
 }
@@ -166,4 +219,7 @@ fn a_write_that_answers_an_error_has_failed(rt: HostRuntime) {
     assert!(rt; matches!(writer.write(b"\n"), Err(error) if error.kind() == io::ErrorKind::Other));
     assert!(rt; writer.failed());
     assert_eq!(rt; writer.calls(), 1);
+    assert_eq!(rt; writer.after(), 0);
+    assert!(rt; writer.flush().is_ok());
+    assert_eq!(rt; writer.after(), 1);
 }

@@ -49,6 +49,7 @@ fn write_scalar<W: Write>(scalar: char, out: &mut Watched<W>) -> Result<(), Writ
     requires { out.old.failed ≡ false }
     ensures text { Writes W.contents out.old out.new result (encode_utf8_all (name_scalar scalar)) }
     ensures fault { out.new.failed ≡ is_err result }
+    ensures after { out.new.after ≡ out.old.after }
 {
     match scalar {
         '\u{8}' => write_whole(b"\\b", out),
@@ -82,6 +83,7 @@ fn write_name<W: Write>(body: &[u8], out: &mut Watched<W>) -> Result<(), WriteFa
     requires working { out.old.failed ≡ false }
     ensures text { Writes W.contents out.old out.new result (name_text (points_of body.now)) }
     ensures fault { out.new.failed ≡ is_err result }
+    ensures after { out.new.after ≡ out.old.after }
 {
     if is_plain(body) {
         return write_whole(body, out);
@@ -98,6 +100,7 @@ pub(crate) fn write_name_step<W: Write>(body: &[u8], out: &mut Watched<W>) -> Re
     requires working { out.old.failed ≡ false }
     ensures text { Writes W.contents out.old out.new result (encode_utf8_all (step_text (name_step (points_of body.now)))) }
     ensures fault { out.new.failed ≡ is_err result }
+    ensures after { out.new.after ≡ out.old.after }
 {
     write_whole(b"['", out)?;
     write_name(body, out)?;
@@ -109,6 +112,7 @@ pub(crate) fn write_index_step<W: Write>(index: u32, out: &mut Watched<W>) -> Re
     requires { out.old.failed ≡ false }
     ensures text { Writes W.contents out.old out.new result (encode_utf8_all (step_text (index_step (pos index)))) }
     ensures fault { out.new.failed ≡ is_err result }
+    ensures after { out.new.after ≡ out.old.after }
 {
     let mut digits = Buffer::new();
     write_whole(b"[", out)?;
@@ -124,6 +128,7 @@ pub(crate) fn write_step<W: Write>(
     requires { out.old.failed ≡ false }
     ensures text { Writes W.contents out.old out.new result (encode_utf8_all (step_text (step_to (index_of child.entry) (name_of child.entry)))) }
     ensures fault { out.new.failed ≡ is_err result }
+    ensures after { out.new.after ≡ out.old.after }
 {
     match child.name_span() {
         Some(body) => write_name_step(&child.line()[body.start as usize..body.end as usize], out),

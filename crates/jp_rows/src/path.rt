@@ -21,6 +21,7 @@ pub fn write_path<W: Write>(cursor: Cursor<'_>, out: &mut Watched<W>) -> Result<
     requires { out.old.failed ≡ false }
     ensures text { Writes W.contents out.old out.new result (path_text (node_of cursor.entry).location) }
     ensures fault { out.new.failed ≡ is_err result }
+    ensures after { out.new.after ≡ out.old.after }
 {
     let Some(parent) = cursor.parent() else {
         return write_whole(b"$", out);

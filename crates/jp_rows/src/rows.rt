@@ -32,6 +32,7 @@ fn write_start<W: Write>(
     requires { out.old.failed ≡ false }
     ensures text { Writes W.contents out.old out.new result (row_start_of framing ++ decimal line ++ tab) }
     ensures fault { out.new.failed ≡ is_err result }
+    ensures after { out.new.after ≡ out.old.after }
 {
     let mut digits = Buffer::new();
     write_whole(row_start(framing), out)?;
@@ -51,6 +52,7 @@ pub fn write_node<W: Write>(
     requires { out.old.failed ≡ false }
     ensures text { Writes W.contents out.old out.new result (node_text framing line (line_of cursor.entry) (node_of cursor.entry)) }
     ensures fault { out.new.failed ≡ is_err result }
+    ensures after { out.new.after ≡ out.old.after }
 {
     write_start(line, framing, out)?;
     write_path(cursor, out)?;
@@ -71,6 +73,7 @@ pub fn write_refusal<W: Write>(
     requires { out.old.failed ≡ false }
     ensures text { Writes W.contents out.old out.new result (refusal_text framing line fault) }
     ensures fault { out.new.failed ≡ is_err result }
+    ensures after { out.new.after ≡ out.old.after }
 {
     write_start(line, framing, out)?;
     write_whole(b"!", out)?;
@@ -85,6 +88,7 @@ pub fn write_count<W: Write>(count: usize, out: &mut Watched<W>) -> Result<(), W
     requires { out.old.failed ≡ false }
     ensures text { Writes W.contents out.old out.new result (count_line count) }
     ensures fault { out.new.failed ≡ is_err result }
+    ensures after { out.new.after ≡ out.old.after }
 {
     let mut digits = Buffer::new();
     write_whole(b"= ", out)?;

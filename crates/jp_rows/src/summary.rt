@@ -18,6 +18,7 @@ fn write_counted<W: Write>(
     requires { out.old.failed ≡ false }
     ensures text { Writes W.contents out.old out.new result (words.now ++ decimal count) }
     ensures fault { out.new.failed ≡ is_err result }
+    ensures after { out.new.after ≡ out.old.after }
 {
     let mut digits = Buffer::new();
     write_whole(words, out)?;
@@ -37,6 +38,7 @@ pub fn write_summary<W: Write>(
     requires { out.old.failed ≡ false }
     ensures text { Writes W.contents out.old out.new result (said (codes "= " ++ decimal lines ++ codes " lines, " ++ decimal refused ++ codes " refused, " ++ decimal blank ++ codes " blank")) }
     ensures fault { out.new.failed ≡ is_err result }
+    ensures after { out.new.after ≡ out.old.after }
 {
     write_counted(b"= ", lines, out)?;
     write_counted(b" lines, ", refused, out)?;

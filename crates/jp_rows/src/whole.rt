@@ -17,6 +17,7 @@ pub fn write_whole<W: Write>(text: &[u8], out: &mut Watched<W>) -> Result<(), Wr
     requires { out.old.failed ≡ false }
     ensures text { Writes W.contents out.old out.new result text.now }
     ensures fault { out.new.failed ≡ is_err result }
+    ensures after { out.new.after ≡ out.old.after }
 {
     let mut at = 0;
     while at < text.len() {

@@ -6,7 +6,7 @@ use Rattle.jp_model.specs.declared.RunFault.TheVariants as faults
 use Rattle.jp_model.specs.Devices.{Device, Received, Begins}
 use Rattle.jp_model.specs.Lines.{lines, is_framed}
 use Rattle.jp_model.specs.Query.Status.{QueryStatus}
-use Rattle.jp_model.specs.Script.Commands.{Command, command_lines, closed_command_lines}
+use Rattle.jp_model.specs.Script.Commands.{Command, command_lines, closed_command_lines, command_lines_so_far}
 use Rattle.jp_model.specs.Script.Machine.{State, run_commands, OnlyForMemory}
 
 -- a collection as it is loaded: its lines, and no index
@@ -35,6 +35,28 @@ is_read_collection _ = false
 abbrev pub OnlyReadScript : RunFault → Bool → Type 0
 OnlyReadScript faults.ReadScript failed = Unit {0}
 OnlyReadScript _ failed = failed ≡ false
+
+-- What the readers of a run gave: the bytes of each, whether each came to its end, and whether a call of the script's
+-- failed.
+pub record Given : Type 0 where
+  pub collection : List ℕ
+  pub collection_ended : Bool
+  pub script : List ℕ
+  pub script_ended : Bool
+  pub script_failed : Bool
+
+-- the collection came to its end, fits and is framed
+abbrev pub WasLoaded : Setup → Given → Type 0
+WasLoaded setup given = (given.collection_ended ≡ true) × MayLoad setup given.collection
+
+-- a script that came to its end did so within its limit
+abbrev pub EndedWithin : Setup → Given → Type 0
+EndedWithin setup given = given.script_ended ≡ true → length given.script ≤ setup.script_most
+
+-- The command lines that came within the limit: those whose line feed came, and the open one behind them only where the
+-- script came to its end.
+abbrev pub lines_within : Setup → Given → List (List ℕ)
+lines_within setup given = command_lines_so_far given.script_ended (take setup.script_most given.script)
 
 -- The status of a query, and what a command line asks for, are parameters.
 module _ (query_of : List ℕ → QueryStatus) (asked : List ℕ → Command) where
@@ -65,18 +87,18 @@ module _ (query_of : List ℕ → QueryStatus) (asked : List ℕ → Command) wh
   RunEnded contents old new setup collection script = MayLoad setup collection × (length script ≤ setup.script_most)
       × Answered contents old new setup (loaded setup collection) (command_lines script)
 
-  -- What the writer received of a run that stopped: by the fault, by whether the script's reader failed, by what it is
-  -- that the collection came to its end, and by the bytes that both readers gave. A collection over which commands ran
-  -- came to its end, fits and is framed; under want of memory it may have come in part, and then nothing was written.
-  abbrev pub RunStopped : {W : Type 0} → (W → Option (List ℕ)) → Device W → Device W → RunFault → Setup → Bool → Type 0 → List ℕ → List ℕ → Type 0
-  RunStopped contents old new faults.ReadCollection setup failed Ended collection script = (length collection ≤ setup.most) × Received contents old new []
-  RunStopped contents old new faults.Size setup failed Ended collection script = (length collection ≡ setup.most + 1) × Received contents old new []
-  RunStopped contents old new faults.Framing setup failed Ended collection script =
-      Ended × (length collection ≤ setup.most) × (is_framed setup.framing collection ≡ false) × Received contents old new []
-  RunStopped contents old new faults.ReadScript setup failed Ended collection script = Ended × MayLoad setup collection
-      × (failed ≡ false → setup.script_most < length script)
-      × Answered contents old new setup (loaded setup collection) (closed_command_lines (take setup.script_most script))
-  RunStopped contents old new faults.Write setup failed Ended collection script = Ended × MayLoad setup collection
-      × AnsweredInPart contents old new setup (loaded setup collection) (command_lines (take setup.script_most script))
-  RunStopped contents old new faults.Memory setup failed Ended collection script = Received contents old new [] ⊎ (Ended × MayLoad setup collection
-      × AnsweredFirst contents old new setup (loaded setup collection) (command_lines (take setup.script_most script)))
+  -- What the writer received of a run that stopped, by the fault and by what the readers gave. A collection over which
+  -- commands ran came to its end, fits and is framed; under want of memory it may have come in part, and then nothing was
+  -- written.
+  abbrev pub RunStopped : {W : Type 0} → (W → Option (List ℕ)) → Device W → Device W → RunFault → Setup → Given → Type 0
+  RunStopped contents old new faults.ReadCollection setup given = (length given.collection ≤ setup.most) × Received contents old new []
+  RunStopped contents old new faults.Size setup given = (length given.collection ≡ setup.most + 1) × Received contents old new []
+  RunStopped contents old new faults.Framing setup given = (given.collection_ended ≡ true) × (length given.collection ≤ setup.most)
+      × (is_framed setup.framing given.collection ≡ false) × Received contents old new []
+  RunStopped contents old new faults.ReadScript setup given = WasLoaded setup given
+      × (given.script_failed ≡ false → setup.script_most < length given.script)
+      × Answered contents old new setup (loaded setup given.collection) (closed_command_lines (take setup.script_most given.script))
+  RunStopped contents old new faults.Write setup given = WasLoaded setup given × EndedWithin setup given
+      × AnsweredInPart contents old new setup (loaded setup given.collection) (lines_within setup given)
+  RunStopped contents old new faults.Memory setup given = Received contents old new [] ⊎ (WasLoaded setup given × EndedWithin setup given
+      × AnsweredFirst contents old new setup (loaded setup given.collection) (lines_within setup given))

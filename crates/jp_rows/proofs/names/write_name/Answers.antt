@@ -29,5 +29,6 @@ loop-scalar-preserved g c =
     record {
       left = all ∙ sym (append_assoc c.loop-scalar.yielded (c.in-Some.scalar ∷ []) (scalars_left c.next.new.self));
       working = c.in_ok-write_scalar.ensures.fault;
+      early = c.in_ok-write_scalar.ensures.after ∙ c.loop-scalar.invariant.early;
       written = rw (name-push c.loop-scalar.yielded c.in-Some.scalar) (Appends-trans _ _ _ _ _ c.loop-scalar.invariant.written c.in_ok-write_scalar.ensures.text);
     }

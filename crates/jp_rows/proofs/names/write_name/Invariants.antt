@@ -10,5 +10,6 @@ abbrev pub invariant-loop-scalar : goal.invariant-loop-scalar
 invariant-loop-scalar g l = record {
   left : points_of l.fn.body ≡ l.yielded ++ scalars_left l.scalar-iterator;
   working : l.out.failed ≡ false;
+  early : l.out.after ≡ l.initial.out.after;
   written : Received g.W.Write.contents l.initial.out l.out (name_text l.yielded);
 }

@@ -7,6 +7,7 @@ abbrev pub invariant-loop-at : goal.invariant-loop-at
 invariant-loop-at g l = record {
   within : l.at ≤ length l.text;
   working : l.out.failed ≡ false;
+  early : l.out.after ≡ l.initial.out.after;
   written : Received g.W.Write.contents l.initial.out l.out (take l.at l.text);
 }
 
