@@ -1,21 +1,24 @@
 -- How a run ends, by how its script ended.
-use Rattle.std.proofs.Common.{◌≡◌, ◌∙◌, ◌≤◌, ℕ, List, [], ◌∷◌, ◌++◌, length, take, map, sym, ap, subst, refl, Bool, true, Option, Some, None, Result, Ok, Err, MatchResult, append-nil, inr}
+use Rattle.std.proofs.Common.{◌≡◌, ◌∙◌, ◌≤◌, ℕ, List, [], ◌∷◌, ◌++◌, length, take, map, sym, ap, subst, refl, Bool, true, false, ◌||◌, Option, Some, None, Result, Ok, Err, MatchResult, append-nil, inr}
 use Rattle.std.specs.Prelude.{OnOk, IfSome}
 use Rattle.std.proofs.lemmas.List.{map-append}
+use Rattle.std.proofs.lemmas.Bool.{false≢true}
+use Rattle.std.proofs.KnownBytes.{Consumes-nil}
 use Rattle.std.specs.Io.KnownBytes.{Consumes, IsAtEnd}
 use Rattle.jp_model.specs.declared.Setup.{Setup}
 use Rattle.jp_model.specs.declared.RunFault.{RunFault}
 use Rattle.jp_model.specs.declared.RunFault.TheVariants as faults
-use Rattle.jp_model.specs.Devices.{Device, Received, Begins}
+use Rattle.jp_model.specs.Devices.{Device, GaveUpTo, HasEnded, Received, Begins}
 use Rattle.jp_model.specs.declared.Framing.{Framing}
 use Rattle.jp_model.specs.declared.Framing.TheVariants as framings
-use Rattle.jp_model.specs.Lines.{text_lines, closed_lines, lines, is_framed}
+use Rattle.jp_model.specs.Lines.{text_lines, closed_lines, lines_so_far, lines, is_framed}
 use Rattle.jp_model.specs.Query.Status.{QueryStatus}
 use Rattle.jp_model.specs.Script.Commands.{without_final_cr, command_lines, closed_command_lines}
-use Rattle.jp_model.specs.Script.Headline.{loaded, MayLoad, Answered, AnsweredInPart, AnsweredFirst, RunEnded, RunStopped}
+use Rattle.jp_model.specs.Script.Headline.{Given, WasLoaded, lines_within, loaded, Answered, AnsweredInPart, AnsweredFirst, RunEnded, RunStopped}
 use Rattle.jp_model.specs.Script.Machine.{State, Outcome, step, step_unless, run_commands, OnlyForMemory}
 use Rattle.jp_cli.specs.Asked.{asked_by, asked_in}
 use Rattle.jp_cli.specs.Runs.{ScriptStopped}
+use Rattle.jp_cli.proofs.ScriptSoFar.{came_so, or_false, or_true, CameToEnd}
 
 module _ (query_of : List ℕ → QueryStatus) (setup : Setup) where
   -- lines as they came ask for what they ask without their final CR
@@ -51,39 +54,56 @@ module _ (query_of : List ℕ → QueryStatus) (setup : Setup) where
         (map without_final_cr h.0, (map without_final_cr h.1.0, ap (map without_final_cr) h.1.1 ∙ map-append without_final_cr h.0 h.1.0), answered_as state h.0 h.2)
 
     -- what is known of the whole run
-    pub ends : (result : Result (Unit {0}) RunFault) (state : State) (failed : Bool) (Ended : Type 0) (collection script : List ℕ)
-        → Ended → MayLoad setup collection → state ≡ loaded setup collection
+    pub ends : (result : Result (Unit {0}) RunFault) (state : State) (given : Given)
+        → WasLoaded setup given.collection → state ≡ loaded setup given.collection.bytes
         → MatchResult result
-        (λ _. (length script ≤ setup.script_most) × Answered query_of asked_in contents old new setup state (text_lines script))
-        (λ fault. ScriptStopped query_of asked_in contents old new fault setup state failed script)
+        (λ _. (given.script.ended ≡ true) × (length given.script.bytes ≤ setup.script_most) × Answered query_of asked_in contents old new setup state (text_lines given.script.bytes))
+        (λ fault. ScriptStopped query_of asked_in contents old new fault setup state given.script)
         → MatchResult result
-        (λ _. RunEnded query_of asked_by contents old new setup collection script)
-        (λ fault. RunStopped query_of asked_by contents old new fault setup failed Ended collection script)
-    ends (Ok x) state failed Ended collection script ended may is h =
-        (may, h.0, subst (λ s. Answered query_of asked_by contents old new setup s (command_lines script)) is (answered_as state (text_lines script) h.1))
-    ends (Err faults.ReadCollection) state failed Ended collection script ended may is h = absurd h
-    ends (Err faults.Size) state failed Ended collection script ended may is h = absurd h
-    ends (Err faults.Framing) state failed Ended collection script ended may is h = absurd h
-    ends (Err faults.ReadScript) state failed Ended collection script ended may is h = (
-      ended,
-      may,
+        (λ _. RunEnded query_of asked_by contents old new setup given.collection.bytes given.script.bytes)
+        (λ fault. RunStopped query_of asked_by contents old new fault setup given)
+    ends (Ok x) state given was is h =
+        (was.1, h.1, subst (λ s. Answered query_of asked_by contents old new setup s (command_lines given.script.bytes)) is (answered_as state (text_lines given.script.bytes) h.2))
+    ends (Err faults.ReadCollection) state given was is h = absurd h
+    ends (Err faults.Size) state given was is h = absurd h
+    ends (Err faults.Framing) state given was is h = absurd h
+    ends (Err faults.ReadScript) state given was is h = (
+      was,
       h.0,
-      subst (λ s. Answered query_of asked_by contents old new setup s (closed_command_lines (take setup.script_most script))) is
-          (answered_as state (closed_lines (take setup.script_most script)) h.1),
+      subst (λ s. Answered query_of asked_by contents old new setup s (closed_command_lines (take setup.script_most given.script.bytes))) is
+          (answered_as state (closed_lines (take setup.script_most given.script.bytes)) h.1),
     )
-    ends (Err faults.Write) state failed Ended collection script ended may is h = (
-      ended,
-      may,
-      subst (λ s. AnsweredInPart query_of asked_by contents old new setup s (command_lines (take setup.script_most script))) is
-          (part_as state (text_lines (take setup.script_most script)) h),
+    ends (Err faults.Write) state given was is h = (
+      was,
+      h.0,
+      subst (λ s. AnsweredInPart query_of asked_by contents old new setup s (lines_within setup given.script)) is
+          (part_as state (lines_so_far given.script.ended (take setup.script_most given.script.bytes)) h.1),
     )
-    ends (Err faults.Memory) state failed Ended collection script ended may is h =
+    ends (Err faults.Memory) state given was is h =
         inr (
-          ended,
-          may,
-          subst (λ s. AnsweredFirst query_of asked_by contents old new setup s (command_lines (take setup.script_most script))) is
-              (first_as state (text_lines (take setup.script_most script)) h),
+          was,
+          h.0,
+          subst (λ s. AnsweredFirst query_of asked_by contents old new setup s (lines_within setup given.script)) is
+              (first_as state (lines_so_far given.script.ended (take setup.script_most given.script.bytes)) h.1),
         )
+
+-- no byte of the script came, and the collection did not come to its end
+abbrev pub only_collection : List ℕ → Bool → Given
+only_collection bytes failed = record { collection = came_so bytes false failed; script = came_so [] false false }
+
+-- no byte of the script came, and the collection came to its end
+abbrev pub whole_collection : List ℕ → Bool → Given
+whole_collection bytes failed = record { collection = came_so bytes true failed; script = came_so [] false false }
+
+pub not_ended : (old new : Bool) → new ≡ (old || false) → new ≡ old
+not_ended old new e = e ∙ sym (or_false old)
+
+-- a reader of which no call was made
+pub nothing_came : {R : Type 0} (remaining : R → Option (List ℕ)) (reader : Device R) → reader.failed ≡ false → GaveUpTo remaining reader reader (came_so [] false false)
+nothing_came remaining reader worked = (Consumes-nil (remaining reader.device), or_false reader.ended, or_false reader.failed, λ e. absurd (false≢true e))
+
+pub was_ended : {R : Type 0} (remaining : R → Option (List ℕ)) (old new : Device R) → old.failed ≡ false → new.ended ≡ (old.ended || true) → HasEnded remaining new → CameToEnd remaining old new
+was_ended remaining old new worked e left = record { worked = worked; ended = e ∙ sym (or_true old.ended); nothing_left = left }
 
 -- the bytes that came are all, where the reader is at its end
 all_came : (old new : Option (List ℕ)) (bytes : List ℕ) → Consumes old new bytes → IsAtEnd new → IfSome old (λ all. bytes ≡ all)

@@ -1,7 +1,7 @@
 -- What has come of a script so far, and what is done with it.
-use Rattle.std.proofs.Common.{◌≡◌, ℕ, ◌+◌, ◌-◌, ◌<◌, ◌≤◌, min, List, [], ◌∷◌, ◌++◌, length, take, Bool, true, false, refl, sym, ap, ◌∙◌, subst, append_assoc, append-nil, arith, length-append}
+use Rattle.std.proofs.Common.{◌≡◌, ℕ, ◌+◌, ◌-◌, ◌<◌, ◌≤◌, min, List, [], ◌∷◌, ◌++◌, length, take, Bool, true, false, ◌||◌, ◌&&◌, eqb, ltb, refl, sym, ap, ap₂, ◌∙◌, subst, append_assoc, append-nil, arith, length-append}
 use Rattle.std.specs.Prelude.{Option, ◌==◌}
-use Rattle.std.proofs.lemmas.Bool.{true≢false, eqb-false}
+use Rattle.std.proofs.lemmas.Bool.{true≢false, false≢true, eqb-false, ne_eqb, eq-eqb, lt-ltb}
 use Rattle.std.proofs.lemmas.List.{take_all, take-take, length-take}
 use Rattle.std.proofs.lemmas.Grind.{common_steps}
 use Rattle.std.proofs.Math.Seq.{take-append-add}
@@ -10,7 +10,7 @@ use Rattle.std.specs.Io.KnownBytes.{Keeps}
 use Rattle.jp_model.specs.declared.Setup.{Setup}
 use Rattle.jp_model.specs.declared.RunFault.{RunFault}
 use Rattle.jp_model.specs.declared.RunFault.TheVariants as faults
-use Rattle.jp_model.specs.Devices.{Device, Gave, one_more, Received, Begins}
+use Rattle.jp_model.specs.Devices.{Device, Gave, HasEnded, Came, GaveUpTo, one_more, Received, Begins}
 use Rattle.jp_model.specs.Lines.{text_lines, closed_lines, open_line, line_unless_empty}
 use Rattle.jp_model.specs.Query.Status.{QueryStatus}
 use Rattle.jp_model.specs.Script.Commands.{Command}
@@ -18,7 +18,7 @@ use Rattle.jp_model.specs.Script.Headline.{Answered, AnsweredInPart}
 use Rattle.jp_model.specs.Script.Machine.{State}
 use Rattle.jp_model.proofs.Pieces.{closed-append, open-append}
 use Rattle.jp_cli.specs.Runs.{MayAnswer, Ran, StoppedIn, ScriptStopped}
-use Rattle.jp_cli.proofs.Answering.{ran_answered, ran_more, answered_more, part_more, part_before, part_of_line}
+use Rattle.jp_cli.proofs.Answering.{ran_answered, ran_more, answered_more, part_more, part_of_line}
 
 -- these bytes came; the lines that they close are run, and the open one is held
 pub record SoFar (query_of : List ℕ → QueryStatus) (asked : List ℕ → Command) (setup : Setup) {R W : Type 0} (remaining : R → Option (List ℕ)) (contents : W → Option (List ℕ)) (script_old script_new : Device R) (out_old out_new : Device W)
@@ -57,14 +57,61 @@ one_more_call first old new count read l e some = omega arith
 pub not_empty : (held line : List ℕ) (n : ℕ) → false ≡ (n == 0) → line ≡ held → length line ≡ n → length held ≡ 0 → ⊥
 not_empty held line n test e counted none = eqb-false n 0 (sym test) (sym counted ∙ ap length e ∙ none)
 
+pub or_false : (b : Bool) → b ≡ (b || false)
+or_false true = refl
+or_false false = refl
+
+pub or_true : (b : Bool) → true ≡ (b || true)
+or_true true = refl
+or_true false = refl
+
+abbrev pub came_so : List ℕ → Bool → Bool → Came
+came_so bytes ended failed = record { bytes = bytes; ended = ended; failed = failed }
+
+-- a read came to the end
+pub record CameToEnd {R : Type 0} (remaining : R → Option (List ℕ)) (s0 s1 : Device R) : Type 0 where
+  pub worked : s0.failed ≡ false
+  pub ended : s1.ended ≡ true
+  pub nothing_left : HasEnded remaining s1
+
+module _ {R : Type 0} (remaining : R → Option (List ℕ)) (s0 s1 : Device R) (bytes : List ℕ) (gave : Gave remaining s0 s1 bytes) where
+  -- a reader that did not come to its end
+  pub goes_on : s0.failed ≡ false → s1.ended ≡ s0.ended → GaveUpTo remaining s0 s1 (came_so bytes false s1.failed)
+  goes_on worked going = (gave, going ∙ or_false s0.ended, ap (λ b. b || s1.failed) (sym worked), λ e. absurd (false≢true e))
+
+  -- a reader that came to its end
+  pub came_whole : CameToEnd remaining s0 s1 → GaveUpTo remaining s0 s1 (came_so bytes true s1.failed)
+  came_whole end = (gave, end.ended ∙ or_true s0.ended, ap (λ b. b || s1.failed) (sym end.worked), λ e. end.nothing_left)
+
+-- a read that did not answer 0
+pub no_end : (taken size : ℕ) → (taken ≡ 0 → ⊥) → (eqb taken 0 && ltb 0 size) ≡ false
+no_end taken size some = ap (λ b. b && ltb 0 size) (ne_eqb taken 0 some)
+
+-- a part of a buffer, cut to one byte more than is left
+pub some_room : (bytes buffer : List ℕ) (room size left : ℕ) → length bytes ≡ length (take room buffer) → room ≡ min (size + 1) (left + 1) → length buffer ≡ size + 1 → 0 < length bytes
+some_room bytes buffer room size left e f g = omega (arith, length-take room buffer)
+
+pub still_going : (first old new ended : Bool) → new ≡ (old || ended) → old ≡ first → ended ≡ false → new ≡ first
+still_going first old new ended e going none = e ∙ ap₂ (λ (a b : Bool). a || b) going none ∙ sym (or_false first)
+
+-- a read of some room that answered 0
+pub at_end : {R : Type 0} (remaining : R → Option (List ℕ)) (s0 s1 : Device R) (old : Bool) (taken : ℕ) (room : List ℕ) → s0.failed ≡ false → s1.ended ≡ (old || (eqb taken 0 && ltb 0 (length room)))
+    → (taken ≡ 0 → 0 < length room → HasEnded remaining s1) → taken ≡ 0 → 0 < length room → CameToEnd remaining s0 s1
+at_end remaining s0 s1 old taken room worked e left none some = record {
+  worked = worked;
+  ended = e ∙ ap (λ b. old || b) (ap₂ (λ (a b : Bool). a && b) (eq-eqb taken 0 none) (lt-ltb 0 (length room) some)) ∙ sym (or_true old);
+  nothing_left = left none some;
+}
+
 module _ (query_of : List ℕ → QueryStatus) (asked : List ℕ → Command) (setup : Setup) {R W : Type 0} (remaining : R → Option (List ℕ)) (contents : W → Option (List ℕ)) where
   -- a read that failed
   pub stopped_read : (s0 s1 s2 : Device R) (o0 o1 : Device W) (old new : State) (held : List ℕ) (count : ℕ)
-      → SoFar query_of asked setup remaining contents s0 s1 o0 o1 old new held count → Keeps (remaining s1.device) (remaining s2.device) → count ≤ setup.script_most → s2.failed ≡ true
-      → (bytes : List ℕ) × Gave remaining s0 s2 bytes × ((s2.failed ≡ false → setup.script_most < length bytes) × Answered query_of asked contents o0 o1 setup old (closed_lines (take setup.script_most bytes)))
-  stopped_read s0 s1 s2 o0 o1 old new held count so keeps within failed = (
-    so.bytes,
-    Consumes-kept _ _ _ so.bytes so.came keeps,
+      → SoFar query_of asked setup remaining contents s0 s1 o0 o1 old new held count → Keeps (remaining s1.device) (remaining s2.device) → count ≤ setup.script_most
+      → s0.failed ≡ false → s2.ended ≡ s0.ended → s2.failed ≡ true
+      → (came : Came) × GaveUpTo remaining s0 s2 came × ((came.failed ≡ false → setup.script_most < length came.bytes) × Answered query_of asked contents o0 o1 setup old (closed_lines (take setup.script_most came.bytes)))
+  stopped_read s0 s1 s2 o0 o1 old new held count so keeps within worked going failed = (
+    came_so so.bytes false s2.failed,
+    goes_on remaining s0 s2 so.bytes (Consumes-kept _ _ _ so.bytes so.came keeps) worked going,
     (
       λ e. absurd (true≢false (sym failed ∙ e)),
       subst (λ t. Answered query_of asked contents o0 o1 setup old (closed_lines t)) (sym (take_all setup.script_most so.bytes (omega (arith, so.counted))))
@@ -96,12 +143,12 @@ module _ (query_of : List ℕ → QueryStatus) (asked : List ℕ → Command) (s
 
   -- the byte past the limit came
   pub too_long : (s0 s1 s2 : Device R) (o0 o1 o2 : Device W) (old mid new : State) (held : List ℕ) (count : ℕ) (got : List ℕ)
-      → SoFar query_of asked setup remaining contents s0 s1 o0 o1 old mid held count → count ≤ setup.script_most → Gave remaining s1 s2 got → setup.script_most - count < length got
-      → Ran query_of asked contents o1 o2 setup mid (closed_lines (held ++ take (setup.script_most - count) got)) new
-      → (bytes : List ℕ) × Gave remaining s0 s2 bytes × ((s2.failed ≡ false → setup.script_most < length bytes) × Answered query_of asked contents o0 o2 setup old (closed_lines (take setup.script_most bytes)))
-  too_long s0 s1 s2 o0 o1 o2 old mid new held count got so within gave long ran = (
-    so.bytes ++ got,
-    Consumes-trans _ _ _ so.bytes got so.came gave,
+      → SoFar query_of asked setup remaining contents s0 s1 o0 o1 old mid held count → count ≤ setup.script_most → Gave remaining s1 s2 got → s0.failed ≡ false → s2.ended ≡ s0.ended
+      → setup.script_most - count < length got → Ran query_of asked contents o1 o2 setup mid (closed_lines (held ++ take (setup.script_most - count) got)) new
+      → (came : Came) × GaveUpTo remaining s0 s2 came × ((came.failed ≡ false → setup.script_most < length came.bytes) × Answered query_of asked contents o0 o2 setup old (closed_lines (take setup.script_most came.bytes)))
+  too_long s0 s1 s2 o0 o1 o2 old mid new held count got so within gave worked going long ran = (
+    came_so (so.bytes ++ got) false s2.failed,
+    goes_on remaining s0 s2 (so.bytes ++ got) (Consumes-trans _ _ _ so.bytes got so.came gave) worked going,
     (
       λ e. omega (arith, so.counted, length-append so.bytes got),
       subst (Answered query_of asked contents o0 o2 setup old) (sym (closed_within s0 s1 o0 o1 old mid held count got so within))
@@ -109,37 +156,36 @@ module _ (query_of : List ℕ → QueryStatus) (asked : List ℕ → Command) (s
     ),
   )
 
-  -- a run that stopped in a piece
-  pub stopped_piece : (s0 s1 s2 : Device R) (o0 o1 o2 : Device W) (old mid : State) (held : List ℕ) (count : ℕ) (got : List ℕ) (failed : Bool) (fault : RunFault)
-      → SoFar query_of asked setup remaining contents s0 s1 o0 o1 old mid held count → count ≤ setup.script_most → Gave remaining s1 s2 got
+  -- a run that stopped in a piece: the script had not come to its end
+  pub stopped_piece : (s0 s1 s2 : Device R) (o0 o1 o2 : Device W) (old mid : State) (held : List ℕ) (count : ℕ) (got : List ℕ) (fault : RunFault)
+      → SoFar query_of asked setup remaining contents s0 s1 o0 o1 old mid held count → count ≤ setup.script_most → Gave remaining s1 s2 got → s0.failed ≡ false → s2.ended ≡ s0.ended
       → StoppedIn query_of asked contents o1 o2 fault setup mid (closed_lines (held ++ take (setup.script_most - count) got))
-      → (bytes : List ℕ) × Gave remaining s0 s2 bytes × ScriptStopped query_of asked contents o0 o2 fault setup old failed bytes
-  stopped_piece s0 s1 s2 o0 o1 o2 old mid held count got failed faults.ReadCollection so within gave stop = absurd stop
-  stopped_piece s0 s1 s2 o0 o1 o2 old mid held count got failed faults.Size so within gave stop = absurd stop
-  stopped_piece s0 s1 s2 o0 o1 o2 old mid held count got failed faults.ReadScript so within gave stop = absurd stop
-  stopped_piece s0 s1 s2 o0 o1 o2 old mid held count got failed faults.Framing so within gave stop = absurd stop
-  stopped_piece s0 s1 s2 o0 o1 o2 old mid held count got failed faults.Write so within gave stop =
-      let bytes = so.bytes ++ got in
+      → (came : Came) × GaveUpTo remaining s0 s2 came × ScriptStopped query_of asked contents o0 o2 fault setup old came
+  stopped_piece s0 s1 s2 o0 o1 o2 old mid held count got faults.ReadCollection so within gave worked going stop = absurd stop
+  stopped_piece s0 s1 s2 o0 o1 o2 old mid held count got faults.Size so within gave worked going stop = absurd stop
+  stopped_piece s0 s1 s2 o0 o1 o2 old mid held count got faults.ReadScript so within gave worked going stop = absurd stop
+  stopped_piece s0 s1 s2 o0 o1 o2 old mid held count got faults.Framing so within gave worked going stop = absurd stop
+  stopped_piece s0 s1 s2 o0 o1 o2 old mid held count got faults.Write so within gave worked going stop =
       let first = closed_lines so.bytes in
-      let more = closed_lines (held ++ take (setup.script_most - count) got) in
-      let e : closed_lines (take setup.script_most bytes) ≡ first ++ more = closed_within s0 s1 o0 o1 old mid held count got so within in
-      let part : AnsweredInPart query_of asked contents o0 o2 setup old (closed_lines (take setup.script_most bytes)) =
-      subst (AnsweredInPart query_of asked contents o0 o2 setup old) (sym e) (part_more query_of asked setup contents o0 o1 o2 old mid first more so.ran stop) in (
-        bytes,
-        Consumes-trans _ _ _ so.bytes got so.came gave,
-        part_before query_of asked setup contents o0 o2 old (closed_lines (take setup.script_most bytes)) (line_unless_empty (open_line (take setup.script_most bytes))) part,
+      let more = closed_lines (held ++ take (setup.script_most - count) got) in (
+        came_so (so.bytes ++ got) false s2.failed,
+        goes_on remaining s0 s2 (so.bytes ++ got) (Consumes-trans _ _ _ so.bytes got so.came gave) worked going,
+        (
+          λ e. absurd (false≢true e),
+          subst (AnsweredInPart query_of asked contents o0 o2 setup old) (sym (closed_within s0 s1 o0 o1 old mid held count got so within))
+              (part_more query_of asked setup contents o0 o1 o2 old mid first more so.ran stop),
+        ),
       )
-  stopped_piece s0 s1 s2 o0 o1 o2 old mid held count got failed faults.Memory so within gave stop =
-      let bytes = so.bytes ++ got in
+  stopped_piece s0 s1 s2 o0 o1 o2 old mid held count got faults.Memory so within gave worked going stop =
       let first = closed_lines so.bytes in
-      let more = closed_lines (held ++ take (setup.script_most - count) got) in
-      let last = line_unless_empty (open_line (take setup.script_most bytes)) in
-      let e : closed_lines (take setup.script_most bytes) ≡ first ++ more = closed_within s0 s1 o0 o1 old mid held count got so within in
-      let split : text_lines (take setup.script_most bytes) ≡ (first ++ stop.0) ++ (stop.1.0 ++ last) =
-      ap (λ l. l ++ last) (e ∙ ap (λ l. first ++ l) stop.1.1 ∙ sym (append_assoc first stop.0 stop.1.0)) ∙ append_assoc (first ++ stop.0) stop.1.0 last in (
-        bytes,
-        Consumes-trans _ _ _ so.bytes got so.came gave,
-        (first ++ stop.0, (stop.1.0 ++ last, split), answered_more query_of asked setup contents o0 o1 o2 old mid first stop.0 so.ran stop.2),
+      let split : closed_lines (take setup.script_most (so.bytes ++ got)) ≡ (first ++ stop.0) ++ stop.1.0 =
+      closed_within s0 s1 o0 o1 old mid held count got so within ∙ ap (λ l. first ++ l) stop.1.1 ∙ sym (append_assoc first stop.0 stop.1.0) in (
+        came_so (so.bytes ++ got) false s2.failed,
+        goes_on remaining s0 s2 (so.bytes ++ got) (Consumes-trans _ _ _ so.bytes got so.came gave) worked going,
+        (
+          λ e. absurd (false≢true e),
+          (first ++ stop.0, (stop.1.0, split), answered_more query_of asked setup contents o0 o1 o2 old mid first stop.0 so.ran stop.2),
+        ),
       )
 
   -- a read at the end brings nothing
@@ -156,24 +202,28 @@ module _ (query_of : List ℕ → QueryStatus) (asked : List ℕ → Command) (s
 
   -- the whole script is run
   pub all_run : (s0 s1 : Device R) (o0 o1 : Device W) (old new : State) (held : List ℕ) (count : ℕ)
-      → SoFar query_of asked setup remaining contents s0 s1 o0 o1 old new held count → count ≤ setup.script_most → length held ≡ 0
-      → (bytes : List ℕ) × Gave remaining s0 s1 bytes × ((length bytes ≤ setup.script_most) × Answered query_of asked contents o0 o1 setup old (text_lines bytes))
-  all_run s0 s1 o0 o1 old new held count so within none =
+      → SoFar query_of asked setup remaining contents s0 s1 o0 o1 old new held count → count ≤ setup.script_most → CameToEnd remaining s0 s1 → length held ≡ 0
+      → (came : Came) × GaveUpTo remaining s0 s1 came × ((came.ended ≡ true) × (length came.bytes ≤ setup.script_most) × Answered query_of asked contents o0 o1 setup old (text_lines came.bytes))
+  all_run s0 s1 o0 o1 old new held count so within end none =
       let e : text_lines so.bytes ≡ closed_lines so.bytes =
-      ap (λ h. closed_lines so.bytes ++ line_unless_empty h) (sym so.open_is) ∙ ap (λ l. closed_lines so.bytes ++ l) (nothing_held held none) ∙ append-nil (closed_lines so.bytes) in
-      (so.bytes, so.came, (omega (arith, so.counted), subst (Answered query_of asked contents o0 o1 setup old) (sym e) (ran_answered query_of asked setup contents o0 o1 old new (closed_lines so.bytes) so.ran)))
+      ap (λ h. closed_lines so.bytes ++ line_unless_empty h) (sym so.open_is) ∙ ap (λ l. closed_lines so.bytes ++ l) (nothing_held held none) ∙ append-nil (closed_lines so.bytes) in (
+        came_so so.bytes true s1.failed,
+        came_whole remaining s0 s1 so.bytes so.came end,
+        (refl, omega (arith, so.counted), subst (Answered query_of asked contents o0 o1 setup old) (sym e) (ran_answered query_of asked setup contents o0 o1 old new (closed_lines so.bytes) so.ran)),
+      )
 
   -- the held line is run last
   pub last_run : (s0 s1 : Device R) (o0 o1 o2 : Device W) (old mid new : State) (held line text : List ℕ) (count : ℕ)
-      → SoFar query_of asked setup remaining contents s0 s1 o0 o1 old mid held count → count ≤ setup.script_most → (length held ≡ 0 → ⊥) → line ≡ held
+      → SoFar query_of asked setup remaining contents s0 s1 o0 o1 old mid held count → count ≤ setup.script_most → CameToEnd remaining s0 s1 → (length held ≡ 0 → ⊥) → line ≡ held
       → MayAnswer query_of asked setup mid (line ∷ []) text new → Received contents o1 o2 text
-      → (bytes : List ℕ) × Gave remaining s0 s1 bytes × ((length bytes ≤ setup.script_most) × Answered query_of asked contents o0 o2 setup old (text_lines bytes))
-  last_run s0 s1 o0 o1 o2 old mid new held line text count so within some is_held answers received =
+      → (came : Came) × GaveUpTo remaining s0 s1 came × ((came.ended ≡ true) × (length came.bytes ≤ setup.script_most) × Answered query_of asked contents o0 o2 setup old (text_lines came.bytes))
+  last_run s0 s1 o0 o1 o2 old mid new held line text count so within end some is_held answers received =
       let e : text_lines so.bytes ≡ closed_lines so.bytes ++ line ∷ [] =
       ap (λ h. closed_lines so.bytes ++ line_unless_empty h) (sym so.open_is) ∙ ap (λ l. closed_lines so.bytes ++ l) (something_held held some ∙ ap (λ h. h ∷ []) (sym is_held)) in (
-        so.bytes,
-        so.came,
+        came_so so.bytes true s1.failed,
+        came_whole remaining s0 s1 so.bytes so.came end,
         (
+          refl,
           omega (arith, so.counted),
           subst (Answered query_of asked contents o0 o2 setup old) (sym e)
               (ran_answered query_of asked setup contents o0 o2 old new _ (ran_more query_of asked setup contents o0 o1 o2 old mid new (closed_lines so.bytes) (line ∷ []) so.ran (text, answers, received))),
@@ -182,15 +232,18 @@ module _ (query_of : List ℕ → QueryStatus) (asked : List ℕ → Command) (s
 
   -- the writer failed in the answer of the held line
   pub last_stopped : (s0 s1 : Device R) (o0 o1 o2 : Device W) (old mid new : State) (held line text part : List ℕ) (count : ℕ)
-      → SoFar query_of asked setup remaining contents s0 s1 o0 o1 old mid held count → count ≤ setup.script_most → (length held ≡ 0 → ⊥) → line ≡ held
+      → SoFar query_of asked setup remaining contents s0 s1 o0 o1 old mid held count → count ≤ setup.script_most → CameToEnd remaining s0 s1 → (length held ≡ 0 → ⊥) → line ≡ held
       → MayAnswer query_of asked setup mid (line ∷ []) text new → Begins part text → Received contents o1 o2 part
-      → (bytes : List ℕ) × Gave remaining s0 s1 bytes × AnsweredInPart query_of asked contents o0 o2 setup old (text_lines (take setup.script_most bytes))
-  last_stopped s0 s1 o0 o1 o2 old mid new held line text part count so within some is_held answers begins received =
+      → (came : Came) × GaveUpTo remaining s0 s1 came × ScriptStopped query_of asked contents o0 o2 faults.Write setup old came
+  last_stopped s0 s1 o0 o1 o2 old mid new held line text part count so within end some is_held answers begins received =
       let e : text_lines so.bytes ≡ closed_lines so.bytes ++ line ∷ [] =
       ap (λ h. closed_lines so.bytes ++ line_unless_empty h) (sym so.open_is) ∙ ap (λ l. closed_lines so.bytes ++ l) (something_held held some ∙ ap (λ h. h ∷ []) (sym is_held)) in (
-        so.bytes,
-        so.came,
-        subst (λ t. AnsweredInPart query_of asked contents o0 o2 setup old (text_lines t)) (sym (take_all setup.script_most so.bytes (omega (arith, so.counted))))
-            (subst (AnsweredInPart query_of asked contents o0 o2 setup old) (sym e)
-            (part_more query_of asked setup contents o0 o1 o2 old mid (closed_lines so.bytes) (line ∷ []) so.ran (part_of_line query_of asked setup contents o1 o2 mid new (line ∷ []) text part answers begins received))),
+        came_so so.bytes true s1.failed,
+        came_whole remaining s0 s1 so.bytes so.came end,
+        (
+          λ _. omega (arith, so.counted),
+          subst (λ t. AnsweredInPart query_of asked contents o0 o2 setup old (text_lines t)) (sym (take_all setup.script_most so.bytes (omega (arith, so.counted))))
+              (subst (AnsweredInPart query_of asked contents o0 o2 setup old) (sym e)
+              (part_more query_of asked setup contents o0 o1 o2 old mid (closed_lines so.bytes) (line ∷ []) so.ran (part_of_line query_of asked setup contents o1 o2 mid new (line ∷ []) text part answers begins received))),
+        ),
       )

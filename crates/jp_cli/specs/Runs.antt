@@ -3,8 +3,8 @@ use Rattle.std.specs.Prelude.{◌≡◌, ℕ, ◌<◌, List, Bool, false, Option
 use Rattle.jp_model.specs.declared.Setup.{Setup}
 use Rattle.jp_model.specs.declared.RunFault.{RunFault}
 use Rattle.jp_model.specs.declared.RunFault.TheVariants as faults
-use Rattle.jp_model.specs.Devices.{Device, Received}
-use Rattle.jp_model.specs.Lines.{text_lines, closed_lines}
+use Rattle.jp_model.specs.Devices.{Device, Came, EndedWithin, Received}
+use Rattle.jp_model.specs.Lines.{closed_lines, lines_so_far}
 use Rattle.jp_model.specs.Query.Status.{QueryStatus}
 use Rattle.jp_model.specs.Script.Commands.{Command}
 use Rattle.jp_model.specs.Script.Headline.{Answered, AnsweredInPart, AnsweredFirst}
@@ -29,12 +29,13 @@ module _ (query_of : List ℕ → QueryStatus) (asked : List ℕ → Command) wh
   StoppedIn contents old new faults.Memory setup state commands = AnsweredFirst query_of asked contents old new setup state commands
   StoppedIn contents old new _ setup state commands = ⊥
 
-  -- What the writer received where a script stopped, by the fault, by whether the script's reader failed, and by the bytes that it gave.
-  abbrev pub ScriptStopped : {W : Type 0} → (W → Option (List ℕ)) → Device W → Device W → RunFault → Setup → State → Bool → List ℕ → Type 0
-  ScriptStopped contents old new faults.ReadScript setup state failed script =
-      (failed ≡ false → setup.script_most < length script) × Answered query_of asked contents old new setup state (closed_lines (take setup.script_most script))
-  ScriptStopped contents old new faults.Write setup state failed script =
-      AnsweredInPart query_of asked contents old new setup state (text_lines (take setup.script_most script))
-  ScriptStopped contents old new faults.Memory setup state failed script =
-      AnsweredFirst query_of asked contents old new setup state (text_lines (take setup.script_most script))
-  ScriptStopped contents old new _ setup state failed script = ⊥
+  -- What the writer received where a script stopped, by the fault and by what its reader gave.
+  abbrev pub ScriptStopped : {W : Type 0} → (W → Option (List ℕ)) → Device W → Device W → RunFault → Setup → State → Came → Type 0
+  ScriptStopped contents old new faults.ReadScript setup state script =
+      (script.failed ≡ false → setup.script_most < length script.bytes)
+      × Answered query_of asked contents old new setup state (closed_lines (take setup.script_most script.bytes))
+  ScriptStopped contents old new faults.Write setup state script = EndedWithin setup.script_most script
+      × AnsweredInPart query_of asked contents old new setup state (lines_so_far script.ended (take setup.script_most script.bytes))
+  ScriptStopped contents old new faults.Memory setup state script = EndedWithin setup.script_most script
+      × AnsweredFirst query_of asked contents old new setup state (lines_so_far script.ended (take setup.script_most script.bytes))
+  ScriptStopped contents old new _ setup state script = ⊥

@@ -87,6 +87,7 @@ fn write_row<W: Write>(row: &Row<'_>, out: &mut Watched<W>) -> Result<(), WriteF
     requires { out.old.failed ≡ false }
     ensures text { Writes W.contents out.old out.new result (found_text framings.Lines row.now) }
     ensures fault { out.new.failed ≡ is_err result }
+    ensures after { out.new.after ≡ out.old.after }
 {
     match row {
         Row::Node { line, cursor } => write_node(*line, *cursor, Framing::Lines, out),
@@ -104,6 +105,7 @@ fn write_rows<W: Write>(rows: &[Row<'_>], out: &mut Watched<W>) -> Result<(), Wr
     requires { out.old.failed ≡ false }
     ensures text { Writes W.contents out.old out.new result (flat_map (found_text framings.Lines) rows.now) }
     ensures fault { out.new.failed ≡ is_err result }
+    ensures after { out.new.after ≡ out.old.after }
 {
     for row in rows {
         if let Err(fault) = write_row(row, out) {
@@ -123,6 +125,7 @@ fn write_rows_and_count<W: Write>(rows: &[Row<'_>], out: &mut Watched<W>) -> Res
     requires { out.old.failed ≡ false }
     ensures text { Writes W.contents out.old out.new result (flat_map (found_text framings.Lines) rows.now ++ count_line (count_by is_found_node rows.now)) }
     ensures fault { out.new.failed ≡ is_err result }
+    ensures after { out.new.after ≡ out.old.after }
 {
     match write_rows(rows, out) {
         Ok(()) => write_count(count_nodes(rows), out),
@@ -134,6 +137,7 @@ fn write_query_fault<W: Write>(fault: QueryFault, out: &mut Watched<W>) -> Resul
     requires { out.old.failed ≡ false }
     ensures text { Writes W.contents out.old out.new result (answer_text (answers.QueryRefused fault)) }
     ensures fault { out.new.failed ≡ is_err result }
+    ensures after { out.new.after ≡ out.old.after }
 {
     write_whole(
         match fault {
@@ -156,6 +160,7 @@ pub(crate) fn write_answer<W: Write>(
     requires { out.old.failed ≡ false }
     ensures text { Writes W.contents out.old out.new result (answer_text answer.now) }
     ensures fault { out.new.failed ≡ is_err result }
+    ensures after { out.new.after ≡ out.old.after }
 {
     match answer {
         Answer::Fixed(words) => write_whole(words, out),

@@ -45,6 +45,7 @@ fn write_if_refused<W: Write>(
     requires read { IsRead line.now }
     ensures text { Writes W.contents out.old out.new result (refusals number (line.now ∷ [])) }
     ensures fault { out.new.failed ≡ is_err result }
+    ensures after { out.new.after ≡ out.old.after }
 {
     match &line.kind {
         LineKind::Refused(fault) => write_refusal(number, *fault, Framing::Lines, out),
@@ -58,6 +59,7 @@ fn write_refusals<W: Write>(lines: &[Line<'_>], out: &mut Watched<W>) -> Result<
     requires read { AreRead lines.now }
     ensures text { Writes W.contents out.old out.new result (refusals 1 lines.now) }
     ensures fault { out.new.failed ≡ is_err result }
+    ensures after { out.new.after ≡ out.old.after }
 {
     let mut number = 0;
     for line in lines {
@@ -77,6 +79,7 @@ pub(crate) fn write_check<W: Write>(
     requires { out.old.failed ≡ false }
     ensures text { Writes W.contents out.old out.new result (check_answer framings.Lines store.now) }
     ensures fault { out.new.failed ≡ is_err result }
+    ensures after { out.new.after ≡ out.old.after }
 {
     let lines = store.lines();
     match write_refusals(lines, out) {

@@ -1,6 +1,6 @@
 //! The bytes of a collection, read up to a limit.
 
-ghost use Rattle.std.specs.Prelude.{◌≡◌, ℕ, ◌+◌, ◌≤◌, List, length, false, OnOk, MatchResult};
+ghost use Rattle.std.specs.Prelude.{◌≡◌, ℕ, ◌+◌, ◌≤◌, ◌||◌, List, length, false, is_ok, OnOk, MatchResult};
 ghost use Rattle.jp_model.specs.Devices.{Gave, HasEnded};
 ghost use Rattle.jp_model.specs.Lines.{without_byte_order_mark as without_mark};
 ghost use Rattle.jp_cli.specs.Collections.{CameBefore, is_read_fault};
@@ -37,6 +37,7 @@ pub(crate) fn without_byte_order_mark(bytes: &[u8]) -> &[u8]
 }
 
 /// Reads to the end, where that comes within `most` bytes. It makes at most one read for each of these bytes, and one more.
+/// No read follows one that answered 0, one that failed, or the byte past the limit.
 pub(crate) fn read_collection<C: Read>(
     alloc: Global,
     most: u32,
@@ -47,10 +48,12 @@ pub(crate) fn read_collection<C: Read>(
         (λ all. (all.items ≡ bytes) × (length bytes ≤ most))
         (λ fault. CameBefore fault most bytes) }
     ensures ended { OnOk result (HasEnded C.remaining reader.new) }
+    ensures end { reader.new.ended ≡ (reader.old.ended || is_ok result) }
     ensures fault { MatchResult result
         (λ _. reader.new.failed ≡ false)
         (λ fault. reader.new.failed ≡ is_read_fault fault) }
     ensures calls { reader.new.calls ≤ reader.old.calls + (most + 1) }
+    ensures after { reader.old.ended ≡ false → reader.new.after ≡ reader.old.after }
 {
     let mut all = Vec::new(alloc);
     let mut piece = [0; PIECE];

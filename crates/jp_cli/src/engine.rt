@@ -2,8 +2,8 @@
 
 ghost use Rattle.std.specs.Prelude.{◌≡◌, ℕ, ◌+◌, ◌≤◌, false, List, OnOk, IfSome, MatchResult};
 ghost use Rattle.jp_model.specs.declared.Framing.TheVariants as framings;
-ghost use Rattle.jp_model.specs.Devices.{Gave, HasEnded};
-ghost use Rattle.jp_model.specs.Script.Headline.{RunEnded, RunStopped, is_write_fault, is_read_collection, OnlyReadScript};
+ghost use Rattle.jp_model.specs.Devices.{GaveUpTo, HasEnded};
+ghost use Rattle.jp_model.specs.Script.Headline.{Given, RunEnded, RunStopped, is_write_fault, is_read_collection, OnlyReadScript};
 ghost use Rattle.jp_cli.specs.Asked.{asked_by};
 ghost use Rattle.jp_query.specs.Status.{query_of};
 
@@ -37,12 +37,12 @@ pub fn run<C: Read, R: Read, W: Write>(
     requires script { script.old.failed ≡ false }
     requires out { out.old.failed ≡ false }
     // The readers gave some bytes. At Ok they gave all, and the writer received the output for them; else what `RunStopped` says.
-    ensures output { (c : List ℕ) × (s : List ℕ)
-        × Gave C.remaining collection.old collection.new c
-        × Gave R.remaining script.old script.new s
+    ensures output { (given : Given)
+        × GaveUpTo C.remaining collection.old collection.new given.collection
+        × GaveUpTo R.remaining script.old script.new given.script
         × MatchResult result
-        (λ _. RunEnded query_of asked_by W.contents out.old out.new setup c s)
-        (λ fault. RunStopped query_of asked_by W.contents out.old out.new fault setup script.new.failed (HasEnded C.remaining collection.new) c s) }
+        (λ _. RunEnded query_of asked_by W.contents out.old out.new setup given.collection.bytes given.script.bytes)
+        (λ fault. RunStopped query_of asked_by W.contents out.old out.new fault setup given) }
     // In short: where the readers tell their bytes, Ok means the output of all of them.
     ensures told { OnOk result (IfSome (C.remaining collection.old.device) (λ c. IfSome (R.remaining script.old.device) (λ s.
         RunEnded query_of asked_by W.contents out.old out.new setup c s))) }
@@ -54,6 +54,10 @@ pub fn run<C: Read, R: Read, W: Write>(
     // It reads at most once for each byte up to a limit, and once more.
     ensures collection_calls { collection.new.calls ≤ collection.old.calls + (setup.most + 1) }
     ensures script_calls { script.new.calls ≤ script.old.calls + (setup.script_most + 1) }
+    // No call follows one that failed, and no read one that answered 0.
+    ensures collection_after { collection.old.ended ≡ false → collection.new.after ≡ collection.old.after }
+    ensures script_after { script.old.ended ≡ false → script.new.after ≡ script.old.after }
+    ensures out_after { out.new.after ≡ out.old.after }
 {
     let bytes = match read_collection(alloc, setup.most, collection) {
         Ok(bytes) => bytes,

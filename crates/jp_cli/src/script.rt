@@ -1,8 +1,8 @@
 //! The run of a script: each command line is answered as its line feed comes.
 
-ghost use Rattle.std.specs.Prelude.{◌≡◌, ℕ, ◌+◌, ◌≤◌, ◌++◌, [], ◌∷◌, false, length, List, OnOk, IfErr, is_err, MatchResult};
+ghost use Rattle.std.specs.Prelude.{◌≡◌, ℕ, ◌+◌, ◌≤◌, ◌++◌, [], ◌∷◌, true, false, length, List, OnOk, IfErr, is_err, MatchResult};
 ghost use Rattle.jp_model.specs.declared.Framing.TheVariants as framings;
-ghost use Rattle.jp_model.specs.Devices.{Gave, HasEnded, Writes};
+ghost use Rattle.jp_model.specs.Devices.{Came, GaveUpTo, HasEnded, Writes};
 ghost use Rattle.jp_model.specs.Lines.{HasNoSeparator, text_lines, closed_lines, open_line};
 ghost use Rattle.jp_model.specs.Script.Headline.{Answered, is_write_fault, OnlyReadScript};
 ghost use Rattle.jp_cli.specs.Asked.{asked_in};
@@ -31,6 +31,7 @@ fn answer_line<W: Write>(
     requires working { out.old.failed ≡ false }
     ensures ran { (text : List ℕ) × MayAnswer query_of asked_in setup store.now (line.now ∷ []) text store.now × Writes W.contents out.old out.new result text }
     ensures fault { out.new.failed ≡ is_err result }
+    ensures after { out.new.after ≡ out.old.after }
 {
     match answer_command(store, alloc, setup, line) {
         Ok(answer) => write_answer(&answer, out),
@@ -56,6 +57,7 @@ fn take_piece<W: Write>(
     ensures fault { MatchResult result
         (λ _. out.new.failed ≡ false)
         (λ fault. out.new.failed ≡ is_write_fault fault) }
+    ensures after { out.new.after ≡ out.old.after }
 {
     for byte in piece {
         if *byte == b'\n' {
@@ -71,7 +73,7 @@ fn take_piece<W: Write>(
 }
 
 /// Answers the lines of a script, each as its line feed comes. It makes at most one read for each byte of the script up to
-/// the limit, and one more.
+/// the limit, and one more. No read follows one that answered 0, one that failed, or the byte past the limit.
 pub(crate) fn run_script<R: Read, W: Write>(
     store: &Store<'_>,
     alloc: Global,
@@ -82,9 +84,9 @@ pub(crate) fn run_script<R: Read, W: Write>(
     requires framing { setup.framing ≡ framings.Lines }
     requires reads { script.old.failed ≡ false }
     requires writes { out.old.failed ≡ false }
-    ensures output { (bytes : List ℕ) × Gave R.remaining script.old script.new bytes × MatchResult result
-        (λ _. (length bytes ≤ setup.script_most) × Answered query_of asked_in W.contents out.old out.new setup store.now (text_lines bytes))
-        (λ fault. ScriptStopped query_of asked_in W.contents out.old out.new fault setup store.now script.new.failed bytes) }
+    ensures output { (came : Came) × GaveUpTo R.remaining script.old script.new came × MatchResult result
+        (λ _. (came.ended ≡ true) × (length came.bytes ≤ setup.script_most) × Answered query_of asked_in W.contents out.old out.new setup store.now (text_lines came.bytes))
+        (λ fault. ScriptStopped query_of asked_in W.contents out.old out.new fault setup store.now came) }
     ensures ended { OnOk result (HasEnded R.remaining script.new) }
     ensures write_fault { MatchResult result
         (λ _. out.new.failed ≡ false)
@@ -93,6 +95,8 @@ pub(crate) fn run_script<R: Read, W: Write>(
         (λ _. script.new.failed ≡ false)
         (λ fault. OnlyReadScript fault script.new.failed) }
     ensures calls { script.new.calls ≤ script.old.calls + (setup.script_most + 1) }
+    ensures reads_after { script.old.ended ≡ false → script.new.after ≡ script.old.after }
+    ensures writes_after { out.new.after ≡ out.old.after }
 {
     let mut held = Vec::new(alloc);
     let mut buffer = [0; PIECE];

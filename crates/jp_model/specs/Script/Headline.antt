@@ -3,7 +3,7 @@ use Rattle.std.specs.Prelude.{◌≡◌, ℕ, ◌+◌, ◌≤◌, ◌<◌, Bool,
 use Rattle.jp_model.specs.declared.Setup.{Setup}
 use Rattle.jp_model.specs.declared.RunFault.{RunFault}
 use Rattle.jp_model.specs.declared.RunFault.TheVariants as faults
-use Rattle.jp_model.specs.Devices.{Device, Received, Begins}
+use Rattle.jp_model.specs.Devices.{Device, Came, EndedWithin, Received, Begins}
 use Rattle.jp_model.specs.Lines.{lines, is_framed}
 use Rattle.jp_model.specs.Query.Status.{QueryStatus}
 use Rattle.jp_model.specs.Script.Commands.{Command, command_lines, closed_command_lines, command_lines_so_far}
@@ -36,27 +36,19 @@ abbrev pub OnlyReadScript : RunFault → Bool → Type 0
 OnlyReadScript faults.ReadScript failed = Unit {0}
 OnlyReadScript _ failed = failed ≡ false
 
--- What the readers of a run gave: the bytes of each, whether each came to its end, and whether a call of the script's
--- failed.
+-- what the readers of a run gave
 pub record Given : Type 0 where
-  pub collection : List ℕ
-  pub collection_ended : Bool
-  pub script : List ℕ
-  pub script_ended : Bool
-  pub script_failed : Bool
+  pub collection : Came
+  pub script : Came
 
 -- the collection came to its end, fits and is framed
-abbrev pub WasLoaded : Setup → Given → Type 0
-WasLoaded setup given = (given.collection_ended ≡ true) × MayLoad setup given.collection
-
--- a script that came to its end did so within its limit
-abbrev pub EndedWithin : Setup → Given → Type 0
-EndedWithin setup given = given.script_ended ≡ true → length given.script ≤ setup.script_most
+abbrev pub WasLoaded : Setup → Came → Type 0
+WasLoaded setup collection = (collection.ended ≡ true) × MayLoad setup collection.bytes
 
 -- The command lines that came within the limit: those whose line feed came, and the open one behind them only where the
 -- script came to its end.
-abbrev pub lines_within : Setup → Given → List (List ℕ)
-lines_within setup given = command_lines_so_far given.script_ended (take setup.script_most given.script)
+abbrev pub lines_within : Setup → Came → List (List ℕ)
+lines_within setup script = command_lines_so_far script.ended (take setup.script_most script.bytes)
 
 -- The status of a query, and what a command line asks for, are parameters.
 module _ (query_of : List ℕ → QueryStatus) (asked : List ℕ → Command) where
@@ -91,14 +83,14 @@ module _ (query_of : List ℕ → QueryStatus) (asked : List ℕ → Command) wh
   -- commands ran came to its end, fits and is framed; under want of memory it may have come in part, and then nothing was
   -- written.
   abbrev pub RunStopped : {W : Type 0} → (W → Option (List ℕ)) → Device W → Device W → RunFault → Setup → Given → Type 0
-  RunStopped contents old new faults.ReadCollection setup given = (length given.collection ≤ setup.most) × Received contents old new []
-  RunStopped contents old new faults.Size setup given = (length given.collection ≡ setup.most + 1) × Received contents old new []
-  RunStopped contents old new faults.Framing setup given = (given.collection_ended ≡ true) × (length given.collection ≤ setup.most)
-      × (is_framed setup.framing given.collection ≡ false) × Received contents old new []
-  RunStopped contents old new faults.ReadScript setup given = WasLoaded setup given
-      × (given.script_failed ≡ false → setup.script_most < length given.script)
-      × Answered contents old new setup (loaded setup given.collection) (closed_command_lines (take setup.script_most given.script))
-  RunStopped contents old new faults.Write setup given = WasLoaded setup given × EndedWithin setup given
-      × AnsweredInPart contents old new setup (loaded setup given.collection) (lines_within setup given)
-  RunStopped contents old new faults.Memory setup given = Received contents old new [] ⊎ (WasLoaded setup given × EndedWithin setup given
-      × AnsweredFirst contents old new setup (loaded setup given.collection) (lines_within setup given))
+  RunStopped contents old new faults.ReadCollection setup given = (length given.collection.bytes ≤ setup.most) × Received contents old new []
+  RunStopped contents old new faults.Size setup given = (length given.collection.bytes ≡ setup.most + 1) × Received contents old new []
+  RunStopped contents old new faults.Framing setup given = (given.collection.ended ≡ true) × (length given.collection.bytes ≤ setup.most)
+      × (is_framed setup.framing given.collection.bytes ≡ false) × Received contents old new []
+  RunStopped contents old new faults.ReadScript setup given = WasLoaded setup given.collection
+      × (given.script.failed ≡ false → setup.script_most < length given.script.bytes)
+      × Answered contents old new setup (loaded setup given.collection.bytes) (closed_command_lines (take setup.script_most given.script.bytes))
+  RunStopped contents old new faults.Write setup given = WasLoaded setup given.collection × EndedWithin setup.script_most given.script
+      × AnsweredInPart contents old new setup (loaded setup given.collection.bytes) (lines_within setup given.script)
+  RunStopped contents old new faults.Memory setup given = Received contents old new [] ⊎ (WasLoaded setup given.collection × EndedWithin setup.script_most given.script
+      × AnsweredFirst contents old new setup (loaded setup given.collection.bytes) (lines_within setup given.script))

@@ -1,4 +1,5 @@
 -- One row more is written, or a beginning of it.
+use Rattle.std.proofs.Common.{◌∙◌}
 use Rattle.jp_model.specs.declared.Framing.TheVariants as framings
 use Rattle.jp_cli.specs.Stored.{found_text}
 use Rattle.jp_cli.proofs.RowsWritten.{row_written, row_in_part}
@@ -12,6 +13,7 @@ returns-in-Err-clause-text g c =
 pub loop-row-preserved : goal.loop-row-preserved
 loop-row-preserved g c = record {
   working = c.in_default.ensures.fault;
+  early = c.in_default.ensures.after ∙ c.loop-row.invariant.early;
   written = row_written (found_text framings.Lines) c.args.rows.now c.loop-row.row-index c.row-item.result c.loop-row-test.true c.row-item.is _ _ _
       c.loop-row.invariant.written c.in_default.ensures.text;
 }

@@ -8,5 +8,6 @@ use Rattle.jp_cli.proofs.answer.write_rows.Given as goal
 abbrev pub invariant-loop-row : goal.invariant-loop-row
 invariant-loop-row g l = record {
   working : l.out.failed ≡ false;
+  early : l.out.after ≡ l.initial.out.after;
   written : Received g.W.Write.contents l.initial.out l.out (flat_map (found_text framings.Lines) (take l.row-index l.rows));
 }

@@ -7,6 +7,8 @@ abbrev pub invariant-loop-count : goal.invariant-loop-count
 invariant-loop-count g l = record {
   within : length l.all.items ≤ l.most;
   working : l.reader.failed ≡ false;
+  going : l.reader.ended ≡ l.fn.reader.ended;
+  early : l.fn.reader.ended ≡ false → l.reader.after ≡ l.fn.reader.after;
   came : Gave g.C.Read.remaining l.fn.reader l.reader l.all.items;
   calls : l.reader.calls ≤ l.fn.reader.calls + length l.all.items;
 }

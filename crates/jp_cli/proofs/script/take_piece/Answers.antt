@@ -1,5 +1,5 @@
 -- Each byte closes the open line, which is then run, or goes on with it.
-use Rattle.std.proofs.Common.{◌≡◌, ◌+◌, ◌++◌, ◌∷◌, [], append-nil, take, get_or, sym, ap, ◌∙◌, subst, if◌then◌else◌}
+use Rattle.std.proofs.Common.{◌≡◌, ◌+◌, ◌++◌, ◌∷◌, [], append-nil, take, get_or, refl, sym, ap, ◌∙◌, subst, if◌then◌else◌}
 use Rattle.jp_cli.proofs.Answering.{ran_none, ran_more, ran_answered, stopped_within}
 use Rattle.jp_model.proofs.Pieces.{closed_clear, open_clear, later_lines, closed_later, closed_through, closed_at_separator, open_at_separator, closed_at_other, open_at_other}
 use Rattle.jp_cli.specs.Runs.{Ran}
@@ -13,6 +13,7 @@ use Rattle.jp_cli.proofs.script.take_piece.Goals.{then-byte-eq10+in-Ok, else-byt
 pub loop-byte-init : goal.loop-byte-init
 loop-byte-init g c = record {
   working = c.requires.working;
+  early = refl;
   ran = ran_none query_of asked_in c.args.setup g.W.Write.contents c.args.out.now _ _ (ap closed_lines (append-nil c.args.held.now.items) ∙ closed_clear 0x0A c.args.held.now.items c.requires.open);
   held = sym (ap open_line (append-nil c.args.held.now.items) ∙ open_clear 0x0A c.args.held.now.items c.requires.open);
 }
@@ -55,6 +56,7 @@ loop-byte-preserved g c =
           closed_at_separator 0x0A before piece i c.loop-byte-test.true w.if-byte-eq10.true ∙ ap (λ o. first ++ o ∷ []) (sym is_open) in
           rw (w.out-is, w.held-is) (record {
             working = w.in-Ok.ensures.fault;
+            early = w.answer_line.ensures.after ∙ c.loop-byte.invariant.early;
             ran = subst (λ l. Ran query_of asked_in g.W.Write.contents c.args.out.now w.answer_line.new.out c.args.setup c.args.store.now l c.args.store.now) (sym e)
                 (ran_more query_of asked_in c.args.setup g.W.Write.contents c.args.out.now c.loop-byte.out w.answer_line.new.out c.args.store.now c.args.store.now c.args.store.now
                 first (line ∷ []) c.loop-byte.invariant.ran ran);
@@ -63,6 +65,7 @@ loop-byte-preserved g c =
       | else-byte-eq10+else-is_err w ↦
           rw (w.out-is, w.held-is) (record {
             working = c.loop-byte.invariant.working;
+            early = c.loop-byte.invariant.early;
             ran = subst (λ l. Ran query_of asked_in g.W.Write.contents c.args.out.now c.loop-byte.out c.args.setup c.args.store.now l c.args.store.now)
                 (sym (closed_at_other 0x0A before piece i c.loop-byte-test.true w.if-byte-eq10.false)) c.loop-byte.invariant.ran;
             held = (w.push.ensures.items ∙ ap (λ b. if b then (c.loop-byte.held.items ++ get_or piece i 0 ∷ []) else c.loop-byte.held.items) w.if-is_err.ensures.negation)

@@ -9,6 +9,7 @@ use Rattle.jp_cli.proofs.script.take_piece.Given as goal
 abbrev pub invariant-loop-byte : goal.invariant-loop-byte
 invariant-loop-byte g l = record {
   working : l.out.failed ≡ false;
+  early : l.out.after ≡ l.fn.out.after;
   ran : Ran query_of asked_in g.W.Write.contents l.fn.out l.out l.setup l.store (closed_lines (l.fn.held.items ++ take l.byte-index l.piece)) l.store;
   held : l.held.items ≡ open_line (l.fn.held.items ++ take l.byte-index l.piece);
 }
