@@ -1,0 +1,11 @@
+-- Lemmas of the store.
+pub mod Kept
+pub mod Renewed
+pub mod Found
+pub mod Built
+pub mod Places
+pub mod Counted
+pub mod Edited
+pub mod Numbered
+pub mod Placed
+pub mod Commits
