@@ -9,3 +9,4 @@ pub mod Edited
 pub mod Numbered
 pub mod Placed
 pub mod Commits
+pub mod Replaced

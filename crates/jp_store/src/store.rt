@@ -274,7 +274,9 @@ impl Store {
             return Err(EditFault::NoLine);
         }
         let place = n as usize - 1;
-        let rest = self.counts.held - text_of(&self.bytes, &self.lines[place]).len() as u64 - 1;
+        let old = &self.lines[place];
+        let had_tree = old.is_tree();
+        let rest = self.counts.held - text_of(&self.bytes, old).len() as u64 - 1;
         let held = match test_edit(self.framing, self.most, rest, text) {
             Ok(held) => held,
             Err(fault) => return Err(fault),
@@ -289,7 +291,6 @@ impl Store {
         let Ok(()) = edit_indexes(self.alloc, &mut self.indexes, 0, n, root) else {
             return Err(EditFault::Memory);
         };
-        let had_tree = self.lines[place].is_tree();
         self.counts.change(held, n, had_tree, &line);
         self.lines[place] = line;
         Ok(())
