@@ -31,9 +31,10 @@ returns-in_default-edit_indexes c =
     let s = c.self.inside in
     let texts : List (List ℕ) = map (stored_text s.bytes.items) s.lines.items in
     let fits : bytes_held texts + (length c.args.text.now + 1) ≤ s.most = omega (arith, c.in-Ok.ensures.0, c.in-Ok.ensures.1, c.self.invariant.counted.held_is) in
-    let shown : List (List Step) → List Line → Collection = λ ps ls. record { framing = s.framing; most = s.most; state = record { lines = map (stored_text s.bytes.items) ls; paths = ps } } in
-    (subst (λ v. append_fault c.args.text.now v ≡ None) c.self.view_is (appends (shown (map path_of s.indexes.items) s.lines.items) c.args.text.now fits c.in-Ok.ensures.2),
-    ap₂ shown (same_paths s.indexes.items c.edit_indexes.new.indexes.items c.in_default-edit_indexes.ensures.err) c.in-Ok-reserve.ensures.items ∙ c.self.view_is)
+    let shown : List (List Step) → List Line → Collection = λ ps ls. record { framing = s.framing; most = s.most; state = record { lines = map (stored_text s.bytes.items) ls; paths = ps } } in (
+      subst (λ v. append_fault c.args.text.now v ≡ None) c.self.view_is (appends (shown (map path_of s.indexes.items) s.lines.items) c.args.text.now fits c.in-Ok.ensures.2),
+      ap₂ shown (same_paths s.indexes.items c.edit_indexes.new.indexes.items c.in_default-edit_indexes.ensures.err) c.in-Ok-reserve.ensures.items ∙ c.self.view_is,
+    )
 
 pub overflow_add-n : goal.overflow_add-n
 overflow_add-n c =
@@ -87,9 +88,10 @@ returns c =
     let texts : List (List ℕ) = map (stored_text s.bytes.items) s.lines.items in
     let line = c.in-Ok-read_edited.line in
     let fits : bytes_held texts + (length text + 1) ≤ s.most = omega (arith, c.in-Ok.ensures.0, c.in-Ok.ensures.1, c.self.invariant.counted.held_is) in
-    let shown : List (List Step) → List (List ℕ) → Collection = λ ps ls. record { framing = s.framing; most = s.most; state = record { lines = ls; paths = ps } } in
-    (subst (λ v. append_fault text v ≡ None) c.self.view_is (appends (shown (map path_of s.indexes.items) texts) text fits c.in-Ok.ensures.2),
-    ap₂ shown (edited_paths (c.len.result + 1) (kind_tree line.kind (stored_text s.bytes.items line)) s.indexes.items c.edit_indexes.new.indexes.items (edited c))
-    (ap (map (stored_text s.bytes.items)) (lines_are c) ∙ map-append (stored_text s.bytes.items) s.lines.items (line ∷ []) ∙ ap (λ t. texts ++ t ∷ []) (text_is c))
-    ∙ ap (λ v. with_lines (appended text v) v) c.self.view_is,
-    omega (arith, c.len.ensures, ap length c.in-Ok-reserve.ensures.items, ap (λ (v : Collection). length v.state.lines) c.self.view_is, length-map s.lines.items (stored_text s.bytes.items)))
+    let shown : List (List Step) → List (List ℕ) → Collection = λ ps ls. record { framing = s.framing; most = s.most; state = record { lines = ls; paths = ps } } in (
+      subst (λ v. append_fault text v ≡ None) c.self.view_is (appends (shown (map path_of s.indexes.items) texts) text fits c.in-Ok.ensures.2),
+      ap₂ shown (edited_paths (c.len.result + 1) (kind_tree line.kind (stored_text s.bytes.items line)) s.indexes.items c.edit_indexes.new.indexes.items (edited c))
+          (ap (map (stored_text s.bytes.items)) (lines_are c) ∙ map-append (stored_text s.bytes.items) s.lines.items (line ∷ []) ∙ ap (λ t. texts ++ t ∷ []) (text_is c))
+          ∙ ap (λ v. with_lines (appended text v) v) c.self.view_is,
+      omega (arith, c.len.ensures, ap length c.in-Ok-reserve.ensures.items, ap (λ (v : Collection). length v.state.lines) c.self.view_is, length-map s.lines.items (stored_text s.bytes.items)),
+    )
