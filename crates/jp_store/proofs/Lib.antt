@@ -10,3 +10,8 @@ pub mod Numbered
 pub mod Placed
 pub mod Commits
 pub mod Replaced
+pub mod Parts
+pub mod LinesRead
+pub mod Sizes
+pub mod Measured
+pub mod Loaded

@@ -4,9 +4,11 @@
 mod collection;
 mod counts;
 mod edits;
+mod framing;
 mod indexes;
 mod line;
 mod loading;
+mod measuring;
 mod reading;
 mod store;
 #[cfg(test)]

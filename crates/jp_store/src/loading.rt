@@ -1,25 +1,36 @@
 //! The lines of the bytes that were read.
 
-ghost use Rattle.std.specs.Prelude.{◌≡◌, ◌+◌, ◌<◌, ◌≤◌, ◌^◌, ◌++◌, List, ℕ, All, take, drop, map, length, slice_get, Some, IfOk, OnOk};
-ghost use Rattle.jp_model.specs.declared.Framing.{Framing};
-ghost use Rattle.jp_model.specs.Lines.{is_framed, without_byte_order_mark as without_mark};
+ghost use Rattle.std.specs.Prelude.{◌≡◌, ◌+◌, ◌<◌, ◌≤◌, ◌^◌, ◌++◌, ℕ, All, take, drop, map, length, slice_get, Some, IfOk, OnOk};
+ghost use Rattle.jp_model.specs.Lines.{lines, without_byte_order_mark as without_mark};
 ghost use Rattle.jp_model.specs.Json.Places.{bytes_between};
 ghost use Rattle.jp_masks.specs.Found.{found, lines_in};
 ghost use Rattle.jp_masks.specs.Scanned.{AreAllOf};
-ghost use Rattle.jp_store.specs.Stored.{AreCounted, IsRead, stored_text};
+ghost use Rattle.jp_store.specs.Stored.{IsRead, stored_text};
 
-use crate::counts::Counts;
-use crate::edits::separator;
+use crate::framing::separator;
 use crate::line::{Line, LineText};
 use crate::reading::judge;
-use crate::text::text_of;
 use jp_masks::{Marks, Scanner, laws};
-use jp_model::{Framing, Span, is_blank};
+use jp_model::{Framing, Span};
 use memchr::memchr;
 use std::alloc::{AllocError, Global};
 
 /// How many bytes of a collection are scanned at once, where no line goes on behind them.
 const PIECE: usize = 1 << 20;
+
+const BYTE_ORDER_MARK: &[u8] = b"\xEF\xBB\xBF";
+
+/// Where the lines begin: behind a byte order mark at the front, or at the first byte (RFC 8259, section 8.1).
+pub(crate) fn lines_start(bytes: &[u8]) -> usize
+    ensures within { result ≤ length bytes.now }
+    ensures rest { drop result bytes.now ≡ without_mark bytes.now }
+{
+    if bytes.starts_with(BYTE_ORDER_MARK) {
+        3
+    } else {
+        0
+    }
+}
 
 /// How many bytes at the front are scanned at once: a piece, and what is left of its last line. A cut stands behind a line
 /// feed, or in front of a record separator.
@@ -29,39 +40,12 @@ fn front_length(framing: Framing, text: &[u8]) -> usize
     ensures parted { lines_in framing text.now ≡ lines_in framing (take result text.now) ++ lines_in framing (drop result text.now) }
 {
     let least = PIECE.min(text.len());
-    match (memchr(separator(framing), &text[least..]), framing) {
-        (Some(place), Framing::Lines) => least + place + 1,
-        (Some(place), Framing::Sequence) => least + place,
-        (None, _) => text.len(),
-    }
-}
-
-/// Whether only white space stands before the first record separator of a sequence.
-pub(crate) fn is_framed_text(framing: Framing, bytes: &[u8]) -> bool
-    ensures { result ≡ is_framed framing bytes.now }
-{
-    match framing {
-        Framing::Lines => true,
-        Framing::Sequence => {
-            let text = without_byte_order_mark(bytes);
-            match memchr(separator(framing), text) {
-                Some(place) => is_blank(&text[..place]),
-                None => is_blank(text),
-            }
-        }
-    }
-}
-
-const BYTE_ORDER_MARK: &[u8] = b"\xEF\xBB\xBF";
-
-/// The bytes behind a byte order mark at the front, or all (RFC 8259, section 8.1).
-pub(crate) fn without_byte_order_mark(bytes: &[u8]) -> &[u8]
-    ensures { result.now ≡ without_mark bytes.now }
-{
-    if bytes.starts_with(BYTE_ORDER_MARK) {
-        &bytes[3..]
-    } else {
-        bytes
+    match memchr(separator(framing), &text[least..]) {
+        Some(place) => match framing {
+            Framing::Lines => least + place + 1,
+            Framing::Sequence => least + place,
+        },
+        None => text.len(),
     }
 }
 
@@ -79,43 +63,66 @@ fn scan(framing: Framing, text: &[u8], marks: &mut Marks) -> Result<(), AllocErr
     Ok(())
 }
 
-/// The line that stands at an index, from 0, of the part of the bytes from a place up to another.
+/// The line that stands at an index, from 0, of a piece of the bytes.
 fn read_line(
     alloc: Global,
     framing: Framing,
     bytes: &[u8],
-    base: usize,
-    end: usize,
+    piece: Span,
     marks: &Marks,
     index: usize,
 ) -> Result<Line, AllocError>
-    requires order { base ≤ end }
-    requires last { end ≤ length bytes.now }
+    requires order { piece.start ≤ piece.end }
+    requires last { piece.end ≤ length bytes.now }
     requires room { length bytes.now < 2 ^ 32 }
-    requires all { AreAllOf framing (bytes_between bytes.now base end) marks.now }
+    requires all { AreAllOf framing (bytes_between bytes.now piece.start piece.end) marks.now }
     requires within { index < length (found marks.now) }
-    ensures text { IfOk result (λ line. slice_get (lines_in framing (bytes_between bytes.now base end)) index ≡ Some (stored_text bytes.now line)) }
+    ensures text { IfOk result (λ line. slice_get (lines_in framing (bytes_between bytes.now piece.start piece.end)) index ≡ Some (stored_text bytes.now line)) }
     ensures read { IfOk result (λ line. IsRead framing bytes.now line) }
 {
     laws::lines_are_those_of_the_text();
-    let text = &bytes[base..end];
+    let text = &bytes[piece.start as usize..piece.end as usize];
     let line = marks.line(index);
     let is_utf8 = marks.line_is_utf8(text, index);
-    let kind = judge(
-        alloc,
-        framing,
-        &text[line.span.start as usize..line.span.end as usize],
-        line.positions,
-        is_utf8,
-    )?;
+    let own = &text[line.span.start as usize..line.span.end as usize];
+    let kind = judge(alloc, framing, own, line.positions, is_utf8)?;
     let span = Span {
-        start: base as u32 + line.span.start,
-        end: base as u32 + line.span.end,
+        start: piece.start + line.span.start,
+        end: piece.start + line.span.end,
     };
     Ok(Line {
         text: LineText::Loaded(span),
         kind,
     })
+}
+
+/// Puts the lines of a piece of the bytes, each read, behind others. `marks` lends its memory.
+fn read_piece(
+    alloc: Global,
+    framing: Framing,
+    bytes: &[u8],
+    piece: Span,
+    marks: &mut Marks,
+    lines: &mut Vec<Line>,
+) -> Result<(), AllocError>
+    requires order { piece.start ≤ piece.end }
+    requires last { piece.end ≤ length bytes.now }
+    requires room { length bytes.now < 2 ^ 32 }
+    ensures came { OnOk result (map (stored_text bytes.now) lines.new.items ≡ map (stored_text bytes.now) lines.old.items ++ lines_in framing (bytes_between bytes.now piece.start piece.end)) }
+    ensures read { All (IsRead framing bytes.now) lines.old.items → OnOk result (All (IsRead framing bytes.now) lines.new.items) }
+{
+    scan(
+        framing,
+        &bytes[piece.start as usize..piece.end as usize],
+        marks,
+    )?;
+    let count = marks.line_count();
+    lines.reserve(count)?;
+    for index in 0..count {
+        let line = read_line(alloc, framing, bytes, piece, marks, index)?;
+        lines.push(line)?;
+    }
+    Ok(())
 }
 
 /// The lines of a collection, each read. Each byte is scanned once, piece by piece into the same memory.
@@ -125,46 +132,20 @@ pub(crate) fn read_lines(
     bytes: &[u8],
 ) -> Result<Vec<Line>, AllocError>
     requires { length bytes.now < 2 ^ 32 }
-    ensures came { IfOk result (λ lines. map (stored_text bytes.now) lines.items ≡ lines_in framing (without_mark bytes.now)) }
-    ensures read { IfOk result (λ lines. All (IsRead framing bytes.now) lines.items) }
+    ensures came { IfOk result (λ ls. map (stored_text bytes.now) ls.items ≡ lines framing bytes.now) }
+    ensures read { IfOk result (λ ls. All (IsRead framing bytes.now) ls.items) }
 {
-    let mut base = bytes.len() - without_byte_order_mark(bytes).len();
+    let mut start = lines_start(bytes);
     let mut marks = Marks::new(alloc);
-    let mut lines = Vec::new(alloc);
-    while base < bytes.len() {
-        let end = base + front_length(framing, &bytes[base..]);
-        scan(framing, &bytes[base..end], &mut marks)?;
-        lines.reserve(marks.line_count())?;
-        for index in 0..marks.line_count() {
-            let line = read_line(alloc, framing, bytes, base, end, &marks, index)?;
-            lines.push(line)?;
-        }
-        base = end;
+    let mut all = Vec::new(alloc);
+    while start < bytes.len() {
+        let end = start + front_length(framing, &bytes[start..]);
+        let piece = Span {
+            start: start as u32,
+            end: end as u32,
+        };
+        read_piece(alloc, framing, bytes, piece, &mut marks, &mut all)?;
+        start = end;
     }
-    Ok(lines)
-}
-
-/// What is counted of lines.
-pub(crate) fn measure(alloc: Global, bytes: &[u8], lines: &[Line]) -> Result<Counts, AllocError>
-    requires few { length lines.now < 2 ^ 32 }
-    requires room { length bytes.now < 2 ^ 32 }
-    requires read { (framing : Framing) × All (IsRead framing bytes.now) lines.now }
-    ensures { (framing : Framing) → All (IsRead framing bytes.now) lines.now
-        → IfOk result (λ counts. AreCounted framing (map (stored_text bytes.now) lines.now) counts) }
-{
-    let mut counts = Counts {
-        held: 0,
-        trees: 0,
-        refused: Vec::new(alloc),
-    };
-    let mut number = 0;
-    for line in lines {
-        number += 1;
-        counts.held += text_of(bytes, line).len() as u64 + 1;
-        counts.trees += u32::from(line.is_tree());
-        if line.is_refused() {
-            counts.refused.push(number)?;
-        }
-    }
-    Ok(counts)
+    Ok(all)
 }
