@@ -14,3 +14,4 @@ pub mod Counts
 pub mod NoMembers
 pub mod Slices
 pub mod Readable
+pub mod Following

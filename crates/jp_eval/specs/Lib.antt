@@ -7,3 +7,4 @@ pub mod Literals
 pub mod Patterns
 pub mod Asked
 pub mod Answers
+pub mod Steps

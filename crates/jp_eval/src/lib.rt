@@ -14,8 +14,10 @@ mod recall;
 mod roots;
 mod same;
 mod scope;
+mod steps;
 #[cfg(test)]
 mod tests;
 
 pub use evaluate::{eval_from, eval_with, truth};
 pub use prepared::Prepared;
+pub use steps::follow;

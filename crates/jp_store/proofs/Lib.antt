@@ -1,0 +1,17 @@
+-- Lemmas of the store.
+pub mod Kept
+pub mod Renewed
+pub mod Found
+pub mod Built
+pub mod Places
+pub mod Counted
+pub mod Edited
+pub mod Numbered
+pub mod Placed
+pub mod Commits
+pub mod Replaced
+pub mod Parts
+pub mod LinesRead
+pub mod Sizes
+pub mod Measured
+pub mod Loaded

@@ -1,0 +1,72 @@
+-- One line more is counted.
+use Rattle.std.proofs.Common.{◌≡◌, ◌∙◌, ◌<◌, ◌≤◌, ◌+◌, ◌^◌, ℕ, List, [], ◌∷◌, ◌++◌, length, map, take, get_or, sym, ap, ap₂, subst, arith, Bool, true, false, refl, append-nil, zero-add, take_all, if◌then◌else◌}
+use Rattle.std.specs.Prelude.{count_by, sum_by, cond, All}
+use Rattle.std.proofs.lemmas.List.{take_more, take-map, map-append, length-map, length-take-le, drop_more}
+use Rattle.std.proofs.lemmas.List.Sums.{sum_by-append, sum_by-take-drop, count_by-le-length}
+use Rattle.jp_model.specs.declared.Framing.{Framing}
+use Rattle.jp_model.specs.Json.Status.{LineStatus, blank, refused, parsed}
+use Rattle.jp_model.specs.Json.Reader.{status_of}
+use Rattle.jp_model.specs.Plans.{is_tree}
+use Rattle.jp_model.specs.Script.Machine.{bytes_held, statuses, is_refused_status}
+use Rattle.jp_store.specs.declared.line.Line.{Line}
+use Rattle.jp_store.specs.declared.line.LineKind.{LineKind}
+use Rattle.jp_store.specs.declared.line.LineKind.TheVariants as kinds
+use Rattle.jp_store.specs.declared.counts.Counts.{Counts}
+use Rattle.jp_store.specs.Numbered.{lines_from}
+use Rattle.jp_store.specs.Stored.{AreCounted, IsRead, IsOfKind, stored_text, is_tree_kind, is_refused_kind}
+use Rattle.jp_store.proofs.Kept.{kind_is_refused, kind_is_tree}
+use Rattle.jp_store.proofs.Numbered.{lines_append}
+
+module _ (bytes : List ℕ) (lines : List Line) (i : ℕ) (line : Line) (within : i < length lines) (here : line ≡ get_or lines i line) where
+  abbrev texts : ℕ → List (List ℕ)
+  texts n = map (stored_text bytes) (take n lines)
+
+  text_more : texts (i + 1) ≡ texts i ++ stored_text bytes line ∷ []
+  text_more =
+      ap (map (stored_text bytes)) (take_more lines i line within ∙ ap (λ l. take i lines ++ l ∷ []) (sym here))
+      ∙ map-append (stored_text bytes) (take i lines) (line ∷ [])
+
+  pub held_more : bytes_held (texts (i + 1)) ≡ bytes_held (texts i) + (length (stored_text bytes line) + 1)
+  held_more = ap bytes_held text_more ∙ sum_by-append (λ l. length l + 1) (texts i) (stored_text bytes line ∷ [])
+      ∙ ap (λ n. bytes_held (texts i) + n) (zero-add (length (stored_text bytes line) + 1))
+
+  module _ (framing : Framing) (all : All (IsRead framing bytes) lines) where
+    read : IsRead framing bytes line
+    read = subst (IsRead framing bytes) (sym here) (all i line within)
+
+    statuses_more : statuses framing (texts (i + 1)) ≡ statuses framing (texts i) ++ status_of framing (stored_text bytes line) ∷ []
+    statuses_more = ap (statuses framing) text_more ∙ map-append (status_of framing) (texts i) (stored_text bytes line ∷ [])
+
+    pub trees_more : count_by is_tree (statuses framing (texts (i + 1))) ≡ count_by is_tree (statuses framing (texts i)) + cond (is_tree_kind line.kind) 1 0
+    trees_more =
+        ap (count_by is_tree) statuses_more
+        ∙ sum_by-append (λ s. cond (is_tree s) 1 0) (statuses framing (texts i)) (status_of framing (stored_text bytes line) ∷ [])
+        ∙ ap (λ n. count_by is_tree (statuses framing (texts i)) + n) (zero-add (cond (is_tree (status_of framing (stored_text bytes line))) 1 0))
+        ∙ ap (λ b. count_by is_tree (statuses framing (texts i)) + cond b 1 0) (sym (kind_is_tree framing line.kind (stored_text bytes line) read.kind))
+
+    pub refused_more : lines_from is_refused_status 1 (statuses framing (texts (i + 1)))
+        ≡ lines_from is_refused_status 1 (statuses framing (texts i)) ++ (if is_refused_kind line.kind then (i + 1) ∷ [] else [])
+    refused_more =
+        let size : length (statuses framing (texts i)) ≡ i =
+        length-map (texts i) (status_of framing) ∙ length-map (take i lines) (stored_text bytes) ∙ length-take-le i lines (omega (arith, within)) in
+        ap (lines_from is_refused_status 1) statuses_more
+        ∙ lines_append is_refused_status 1 (statuses framing (texts i)) (status_of framing (stored_text bytes line)) (i + 1) (omega (arith, size))
+        ∙ ap (λ b. lines_from is_refused_status 1 (statuses framing (texts i)) ++ (if b then (i + 1) ∷ [] else [])) (sym (kind_is_refused framing line.kind (stored_text bytes line) read.kind))
+
+-- what was counted of all
+pub all_counted : (framing : Framing) (bytes : List ℕ) (lines : List Line) (i : ℕ) (counts : Counts) → length lines ≤ i → AreCounted framing (map (stored_text bytes) (take i lines)) counts
+    → AreCounted framing (map (stored_text bytes) lines) counts
+all_counted framing bytes lines i counts past counted = subst (λ ls. AreCounted framing (map (stored_text bytes) ls) counts) (take_all i lines past) counted
+
+-- the lines so far hold no more than all
+pub held_part : (bytes : List ℕ) (lines : List Line) (i : ℕ) → bytes_held (map (stored_text bytes) (take i lines)) ≤ bytes_held (map (stored_text bytes) lines)
+held_part bytes lines i =
+    let f : List ℕ → ℕ = λ l. length l + 1 in
+    let all = map (stored_text bytes) lines in
+    let same : map (stored_text bytes) (take i lines) ≡ take i all = sym (take-map (stored_text bytes) i lines) in
+    omega (arith, ap bytes_held same, sum_by-take-drop f all i)
+
+pub trees_few : (framing : Framing) (bytes : List ℕ) (lines : List Line) (i : ℕ) → i ≤ length lines → count_by is_tree (statuses framing (map (stored_text bytes) (take i lines))) ≤ i
+trees_few framing bytes lines i within =
+    let some = map (stored_text bytes) (take i lines) in
+    omega (arith, count_by-le-length is_tree (statuses framing some), length-map some (status_of framing), length-map (take i lines) (stored_text bytes), length-take-le i lines within)

@@ -1,0 +1,55 @@
+-- One line after another is counted.
+use Rattle.std.proofs.Common.{◌∙◌, ◌+◌, ◌++◌, ◌∷◌, [], ap, ap₂, sym, arith, length, cond, List, ℕ, if◌then◌else◌}
+use Rattle.jp_store.specs.Stored.{is_tree_kind, is_refused_kind}
+use Rattle.jp_store.proofs.Measured.{held_more, held_part, trees_few, trees_more, refused_more, all_counted}
+use Rattle.jp_store.proofs.measuring.measure.Goals as goal
+
+pub count_line-requires-clause-held : goal.count_line-requires-clause-held
+count_line-requires-clause-held c =
+    let counted = c.loop-line.invariant.counted c.requires.read.0 c.requires.read.1 in
+    let bytes = c.args.bytes.now in
+    let lines = c.args.lines.now in
+    omega (
+      arith,
+      counted.held_is,
+      held_more bytes lines c.loop-line.line-index c.line-item.result c.loop-line-test.true c.line-item.is,
+      held_part bytes lines (c.loop-line.line-index + 1),
+      c.requires.room,
+      ap length c.text_of.ensures,
+    )
+
+pub count_line-requires-clause-trees : goal.count_line-requires-clause-trees
+count_line-requires-clause-trees c =
+    let counted = c.loop-line.invariant.counted c.requires.read.0 c.requires.read.1 in
+    omega (
+      arith,
+      counted.trees_is,
+      trees_few c.requires.read.0 c.args.bytes.now c.args.lines.now c.loop-line.line-index (omega (arith, c.loop-line-test.true)),
+      c.loop-line-test.true,
+      c.requires.few,
+    )
+
+pub loop-line-preserved : goal.loop-line-preserved
+loop-line-preserved c =
+    let bytes = c.args.bytes.now in
+    let lines = c.args.lines.now in
+    let i = c.loop-line.line-index in
+    let line = c.line-item.result in
+    let number = ap (λ n. n + 1) c.loop-line.invariant.number in
+    record {
+      counted = λ framing all.
+          let counted = c.loop-line.invariant.counted framing all in
+          let added = c.in_ok-count_line.ensures in
+          record {
+            held_is = added.held ∙ ap₂ (λ (m n : ℕ). m + (n + 1)) counted.held_is (ap length c.text_of.ensures) ∙ sym (held_more bytes lines i line c.loop-line-test.true c.line-item.is);
+            trees_is = added.trees ∙ ap (λ n. n + cond (is_tree_kind line.kind) 1 0) counted.trees_is ∙ sym (trees_more bytes lines i line c.loop-line-test.true c.line-item.is framing all);
+            refused_is =
+                added.refused
+                ∙ ap₂ (λ (ns : List ℕ) (n : ℕ). ns ++ (if is_refused_kind line.kind then n ∷ [] else [])) counted.refused_is number
+                ∙ sym (refused_more bytes lines i line c.loop-line-test.true c.line-item.is framing all);
+          };
+      number = number;
+    }
+
+pub returns : goal.returns
+returns c = λ framing all. all_counted framing c.args.bytes.now c.args.lines.now c.loop-line.line-index c.loop-line.counts (omega (arith, c.loop-line-test.false)) (c.loop-line.invariant.counted framing all)

@@ -1,0 +1,11 @@
+-- The counts so far are those of the lines so far.
+use Rattle.std.proofs.Common.{◌≡◌, ◌≤◌, map, take, All}
+use Rattle.jp_model.specs.declared.Framing.{Framing}
+use Rattle.jp_store.specs.Stored.{AreCounted, IsRead, stored_text}
+use Rattle.jp_store.proofs.measuring.measure.Given as goal
+
+abbrev pub invariant-loop-line : goal.invariant-loop-line
+invariant-loop-line l = record {
+  counted : (framing : Framing) → All (IsRead framing l.bytes) l.lines → AreCounted framing (map (stored_text l.bytes) (take l.line-index l.lines)) l.counts;
+  number : l.number ≡ l.line-index;
+}

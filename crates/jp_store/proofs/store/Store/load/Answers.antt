@@ -1,0 +1,48 @@
+-- The lines are those of the bytes that came, each read, and no index is there.
+use Rattle.std.proofs.Common.{◌≡◌, ◌∙◌, ◌≤◌, ◌<◌, ◌^◌, ℕ, List, length, map, sym, ap, ap₂, subst, arith, All}
+use Rattle.jp_model.specs.Lines.{lines}
+use Rattle.jp_model.specs.Script.Machine.{bytes_held, statuses}
+use Rattle.jp_index.specs.declared.index.ValueIndex.{ValueIndex}
+use Rattle.jp_store.specs.declared.line.Line.{Line}
+use Rattle.jp_store.specs.Stored.{AreCounted, IsOver, IsRead, stored_text}
+use Rattle.jp_store.proofs.Loaded.{few_stored}
+use Rattle.jp_store.proofs.store.Store.load.Goals as goal
+
+pub measure-requires-clause-few : goal.measure-requires-clause-few
+measure-requires-clause-few g c =
+    let came = c.in-Ok.ensures.bytes.2 in
+    let told = subst (λ (b : List ℕ). map (stored_text b) c.in-Ok-read_lines.lines.items ≡ lines c.args.framing b) c.deref-2.ensures.value c.in-Ok-read_lines.ensures.came in
+    let few = few_stored c.args.framing c.in-Ok.bytes.items c.in-Ok-read_lines.lines.items told (omega (arith, ap length came.0, came.1, c.ranges.most.fits)) in
+    omega (arith, few.0, ap length c.deref-4.ensures.value)
+
+pub measure-requires-clause-room : goal.measure-requires-clause-room
+measure-requires-clause-room g c =
+    let came = c.in-Ok.ensures.bytes.2 in
+    let told = subst (λ (b : List ℕ). map (stored_text b) c.in-Ok-read_lines.lines.items ≡ lines c.args.framing b) c.deref-2.ensures.value c.in-Ok-read_lines.ensures.came in
+    let few = few_stored c.args.framing c.in-Ok.bytes.items c.in-Ok-read_lines.lines.items told (omega (arith, ap length came.0, came.1, c.ranges.most.fits)) in
+    omega (arith, few.1, ap₂ (λ (b : List ℕ) (ls : List Line). bytes_held (map (stored_text b) ls)) c.deref-3.ensures.value c.deref-4.ensures.value)
+
+pub measure-requires-clause-read : goal.measure-requires-clause-read
+measure-requires-clause-read g c =
+    let read = subst (λ (b : List ℕ). All (IsRead c.args.framing b) c.in-Ok-read_lines.lines.items) (c.deref-2.ensures.value ∙ sym c.deref-3.ensures.value) c.in-Ok-read_lines.ensures.read in
+    (c.args.framing, subst (λ (ls : List Line). All (IsRead c.args.framing c.deref-3.result.now) ls) (sym c.deref-4.ensures.value) read)
+
+pub invariant_of-result : goal.invariant_of-result
+invariant_of-result g c =
+    let framing = c.args.framing in
+    let bytes = c.in-Ok.bytes.items in
+    let stored = c.in-Ok-read_lines.lines.items in
+    let came = c.in-Ok.ensures.bytes.2 in
+    let told = subst (λ (b : List ℕ). map (stored_text b) stored ≡ lines framing b) c.deref-2.ensures.value c.in-Ok-read_lines.ensures.came in
+    let few = few_stored framing bytes stored told (omega (arith, ap length came.0, came.1, c.ranges.most.fits)) in
+    let read = subst (λ (b : List ℕ). All (IsRead framing b) stored) c.deref-2.ensures.value c.in-Ok-read_lines.ensures.read in
+    let seen = subst (λ (ls : List Line). All (IsRead framing c.deref-3.result.now) ls) (sym c.deref-4.ensures.value) (subst (λ (b : List ℕ). All (IsRead framing b) stored) (sym c.deref-3.ensures.value) read) in
+    let counted = c.in-Ok-measure.ensures framing seen in
+    record {
+      each = read;
+      few = few.0;
+      counted = subst (λ (ls : List Line). AreCounted framing (map (stored_text bytes) ls) c.in-Ok-measure.counts) c.deref-4.ensures.value
+          (subst (λ (b : List ℕ). AreCounted framing (map (stored_text b) c.deref-4.result.now) c.in-Ok-measure.counts) c.deref-3.ensures.value counted);
+      indexed = subst (λ (is : List ValueIndex). All (IsOver (statuses framing (map (stored_text bytes) stored))) is) (sym c.new.ensures.items) (λ k d l. absurd (omega arith));
+      few_indexes = omega (arith, ap length c.new.ensures.items);
+    }

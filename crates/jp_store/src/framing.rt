@@ -1,0 +1,34 @@
+//! How a collection is cut into lines.
+
+ghost use Rattle.std.specs.Prelude.{◌≡◌};
+ghost use Rattle.jp_model.specs.Lines.{is_framed, separator_of};
+
+use crate::loading::lines_start;
+use jp_model::{Framing, is_blank};
+use memchr::memchr;
+
+/// The byte that separates lines: the line feed, or RS in a sequence (RFC 7464, section 2.2).
+pub(crate) fn separator(framing: Framing) -> u8
+    ensures { result ≡ separator_of framing }
+{
+    match framing {
+        Framing::Lines => b'\n',
+        Framing::Sequence => 0x1E,
+    }
+}
+
+/// Whether only white space stands before the first record separator of a sequence.
+pub(crate) fn is_framed_text(framing: Framing, bytes: &[u8]) -> bool
+    ensures { result ≡ is_framed framing bytes.now }
+{
+    match framing {
+        Framing::Lines => true,
+        Framing::Sequence => {
+            let text = &bytes[lines_start(bytes)..];
+            match memchr(separator(framing), text) {
+                Some(place) => is_blank(&text[..place]),
+                None => is_blank(text),
+            }
+        }
+    }
+}

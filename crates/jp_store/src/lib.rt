@@ -1,0 +1,74 @@
+//! A collection in memory: its lines, their tapes, and the indexes over them.
+#![tactic(auto)]
+
+mod collection;
+mod counts;
+mod edits;
+mod framing;
+mod indexes;
+mod line;
+mod loading;
+mod measuring;
+mod reading;
+mod store;
+#[cfg(test)]
+mod tests;
+mod text;
+mod view;
+
+pub use jp_model::Framing;
+use jp_model::LineFault;
+pub use store::Store;
+pub use view::{LineView, Opened};
+
+/// What a line is.
+#[derive(Clone, Copy, Debug, PartialEq, Eq)]
+pub enum Status {
+    /// White space alone, or nothing.
+    Blank,
+    /// No text that is taken.
+    Refused(LineFault),
+    /// A text, which has a tree.
+    Tree,
+}
+
+/// Why a collection is not loaded.
+#[derive(Clone, Copy, Debug, PartialEq, Eq)]
+pub enum LoadFault {
+    /// A read failed.
+    Read = 1,
+    /// It has more bytes than it may.
+    Size = 2,
+    /// Bytes other than white space stand before the first separator of a sequence.
+    Framing = 3,
+    /// A growth was refused.
+    Memory = 4,
+}
+
+/// Why an index is not made.
+#[derive(Clone, Copy, Debug, PartialEq, Eq)]
+pub enum IndexFault {
+    /// There is one of this path.
+    Exists = 1,
+    /// There are sixteen.
+    Limit = 2,
+    /// A growth was refused.
+    Memory = 3,
+}
+
+/// Why a line is not edited.
+#[derive(Clone, Copy, Debug, PartialEq, Eq)]
+pub enum EditFault {
+    /// There is no such line.
+    NoLine = 1,
+    /// The lines would be too large.
+    Size = 2,
+    /// The text holds the byte that separates lines.
+    Separator = 3,
+    /// A growth was refused.
+    Memory = 4,
+}
+
+/// There is no index of this path.
+#[derive(Clone, Copy, Debug, PartialEq, Eq)]
+pub struct Missing;

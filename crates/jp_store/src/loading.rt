@@ -1,0 +1,151 @@
+//! The lines of the bytes that were read.
+
+ghost use Rattle.std.specs.Prelude.{◌≡◌, ◌+◌, ◌<◌, ◌≤◌, ◌^◌, ◌++◌, ℕ, All, take, drop, map, length, slice_get, Some, IfOk, OnOk};
+ghost use Rattle.jp_model.specs.Lines.{lines, without_byte_order_mark as without_mark};
+ghost use Rattle.jp_model.specs.Json.Places.{bytes_between};
+ghost use Rattle.jp_masks.specs.Found.{found, lines_in};
+ghost use Rattle.jp_masks.specs.Scanned.{AreAllOf};
+ghost use Rattle.jp_store.specs.Stored.{IsRead, stored_text};
+
+use crate::framing::separator;
+use crate::line::{Line, LineText};
+use crate::reading::judge;
+use jp_masks::{Marks, Scanner, laws};
+use jp_model::{Framing, Span};
+use memchr::memchr;
+use std::alloc::{AllocError, Global};
+
+/// How many bytes of a collection are scanned at once, where no line goes on behind them.
+const PIECE: usize = 1 << 20;
+
+const BYTE_ORDER_MARK: &[u8] = b"\xEF\xBB\xBF";
+
+/// Where the lines begin: behind a byte order mark at the front, or at the first byte (RFC 8259, section 8.1).
+pub(crate) fn lines_start(bytes: &[u8]) -> usize
+    ensures within { result ≤ length bytes.now }
+    ensures rest { drop result bytes.now ≡ without_mark bytes.now }
+{
+    if bytes.starts_with(BYTE_ORDER_MARK) {
+        3
+    } else {
+        0
+    }
+}
+
+/// How many bytes at the front are scanned at once: a piece, and what is left of its last line. A cut stands behind a line
+/// feed, or in front of a record separator.
+fn front_length(framing: Framing, text: &[u8]) -> usize
+    ensures within { result ≤ length text.now }
+    ensures some { 0 < length text.now → 0 < result }
+    ensures parted { lines_in framing text.now ≡ lines_in framing (take result text.now) ++ lines_in framing (drop result text.now) }
+{
+    let least = PIECE.min(text.len());
+    match memchr(separator(framing), &text[least..]) {
+        Some(place) => match framing {
+            Framing::Lines => least + place + 1,
+            Framing::Sequence => least + place,
+        },
+        None => text.len(),
+    }
+}
+
+/// Finds the marks of all lines of a text, in the memory of marks that are forgotten.
+fn scan(framing: Framing, text: &[u8], marks: &mut Marks) -> Result<(), AllocError>
+    requires { length text.now < 2 ^ 32 }
+    ensures all { OnOk result (AreAllOf framing text.now marks.new) }
+    ensures count { OnOk result (length (found marks.new) ≡ length (lines_in framing text.now)) }
+{
+    laws::lines_are_those_of_the_text();
+    marks.clear();
+    let mut scanner = Scanner::new(framing);
+    scanner.feed(text, marks)?;
+    scanner.finish(marks)?;
+    Ok(())
+}
+
+/// The line that stands at an index, from 0, of a piece of the bytes.
+fn read_line(
+    alloc: Global,
+    framing: Framing,
+    bytes: &[u8],
+    piece: Span,
+    marks: &Marks,
+    index: usize,
+) -> Result<Line, AllocError>
+    requires order { piece.start ≤ piece.end }
+    requires last { piece.end ≤ length bytes.now }
+    requires room { length bytes.now < 2 ^ 32 }
+    requires all { AreAllOf framing (bytes_between bytes.now piece.start piece.end) marks.now }
+    requires within { index < length (found marks.now) }
+    ensures text { IfOk result (λ line. slice_get (lines_in framing (bytes_between bytes.now piece.start piece.end)) index ≡ Some (stored_text bytes.now line)) }
+    ensures read { IfOk result (λ line. IsRead framing bytes.now line) }
+{
+    laws::lines_are_those_of_the_text();
+    let text = &bytes[piece.start as usize..piece.end as usize];
+    let line = marks.line(index);
+    let is_utf8 = marks.line_is_utf8(text, index);
+    let own = &text[line.span.start as usize..line.span.end as usize];
+    let kind = judge(alloc, framing, own, line.positions, is_utf8)?;
+    let span = Span {
+        start: piece.start + line.span.start,
+        end: piece.start + line.span.end,
+    };
+    Ok(Line {
+        text: LineText::Loaded(span),
+        kind,
+    })
+}
+
+/// Puts the lines of a piece of the bytes, each read, behind others. `marks` lends its memory.
+fn read_piece(
+    alloc: Global,
+    framing: Framing,
+    bytes: &[u8],
+    piece: Span,
+    marks: &mut Marks,
+    lines: &mut Vec<Line>,
+) -> Result<(), AllocError>
+    requires order { piece.start ≤ piece.end }
+    requires last { piece.end ≤ length bytes.now }
+    requires room { length bytes.now < 2 ^ 32 }
+    ensures came { OnOk result (map (stored_text bytes.now) lines.new.items ≡ map (stored_text bytes.now) lines.old.items ++ lines_in framing (bytes_between bytes.now piece.start piece.end)) }
+    ensures read { All (IsRead framing bytes.now) lines.old.items → OnOk result (All (IsRead framing bytes.now) lines.new.items) }
+{
+    scan(
+        framing,
+        &bytes[piece.start as usize..piece.end as usize],
+        marks,
+    )?;
+    let count = marks.line_count();
+    lines.reserve(count)?;
+    for index in 0..count {
+        let line = read_line(alloc, framing, bytes, piece, marks, index)?;
+        lines.push(line)?;
+    }
+    Ok(())
+}
+
+/// The lines of a collection, each read. Each byte is scanned once, piece by piece into the same memory.
+pub(crate) fn read_lines(
+    alloc: Global,
+    framing: Framing,
+    bytes: &[u8],
+) -> Result<Vec<Line>, AllocError>
+    requires { length bytes.now < 2 ^ 32 }
+    ensures came { IfOk result (λ ls. map (stored_text bytes.now) ls.items ≡ lines framing bytes.now) }
+    ensures read { IfOk result (λ ls. All (IsRead framing bytes.now) ls.items) }
+{
+    let mut start = lines_start(bytes);
+    let mut marks = Marks::new(alloc);
+    let mut all = Vec::new(alloc);
+    while start < bytes.len() {
+        let end = start + front_length(framing, &bytes[start..]);
+        let piece = Span {
+            start: start as u32,
+            end: end as u32,
+        };
+        read_piece(alloc, framing, bytes, piece, &mut marks, &mut all)?;
+        start = end;
+    }
+    Ok(all)
+}

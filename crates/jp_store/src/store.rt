@@ -1,0 +1,300 @@
+//! The lines of a collection and the indexes over them.
+
+ghost use Rattle.std.specs.Prelude.{◌≡◌, ℕ, ◌+◌, ◌<◌, ◌≤◌, ◌^◌, true, false, List, length, count_by, slice_get, Some, None, is_ok, MatchOption, MatchResult};
+ghost use Rattle.jp_model.specs.Devices.{Gave, HasEnded};
+ghost use Rattle.jp_model.specs.Json.Status.{parsed};
+ghost use Rattle.jp_model.specs.Plans.{is_tree};
+ghost use Rattle.jp_model.specs.Script.Machine.{has_node, has_path, is_refused_status};
+ghost use Rattle.jp_model.specs.Steps.{Step};
+ghost use Rattle.jp_query.specs.SingularPaths.{path_steps};
+ghost use Rattle.jp_store.specs.Collections.{statuses_in, line_text, line_status, loaded, with_lines, with_index, without_index, appended, replaced};
+ghost use Rattle.jp_store.specs.Numbered.{lines_from};
+ghost use Rattle.jp_store.specs.Loads.{LoadStopped, is_read_fault, is_told_at_end};
+ghost use Rattle.jp_store.specs.Faults.{RefusesIndex, index_fault, RefusesEdit, append_fault, replace_fault};
+ghost use Rattle.jp_store.specs.Views.{status_kind, text_of_view, tree_of_view};
+ghost use Rattle.jp_index.specs.Entries.{entries_of};
+ghost use Rattle.jp_index.specs.Indexes.{IsIndexOf};
+
+use crate::collection::{CollectionFault, read_collection};
+use crate::counts::Counts;
+use crate::edits::{root_of_line, test_edit};
+use crate::indexes::{build_index, edit_indexes, has_index, remove_index};
+use crate::line::{Line, LineKind};
+use crate::framing::is_framed_text;
+use crate::loading::read_lines;
+use crate::measuring::measure;
+use crate::reading::read_edited;
+use crate::text::text_of;
+use crate::view::{LineView, Opened};
+use crate::{EditFault, IndexFault, LoadFault, Missing, Status};
+use jp_index::ValueIndex;
+use jp_model::{Framing, Watched};
+use jp_query::SingularPath;
+use jp_tape::Cursor;
+use std::alloc::Global;
+use std::io::Read;
+use std::marker::Model;
+
+/// A collection: its lines, each with its status and tape, and the indexes over them, in the order in which they were made.
+#[derive(Drop)]
+pub struct Store {
+    framing: Framing,
+    most: u32,
+    bytes: Vec<u8>,
+    lines: Vec<Line>,
+    counts: Counts,
+    indexes: Vec<ValueIndex>,
+    alloc: Global,
+}
+
+impl Model for Store {
+    ghost use Rattle.std.specs.Prelude.{map};
+    ghost use Rattle.jp_store.specs.Collections.{Collection};
+
+    ghost Value = { Collection };
+
+    ghost use Rattle.jp_store.specs.Stored.{IsKept, stored_text, path_of};
+
+    ghost view = { λ s. record { framing = s.framing; most = s.most; state = record { lines = map (stored_text s.bytes.items) s.lines.items; paths = map path_of s.indexes.items } } };
+
+    ghost invariant = { λ s. IsKept s.framing s.bytes.items s.lines.items s.counts s.indexes.items };
+}
+
+impl Store {
+    /// The lines of a collection, and no index. It reads to the end, and keeps what it read.
+    ///
+    /// # Errors
+    ///
+    /// `Read` where a read failed, `Size` where byte number `most` + 1 came, whichever is first; `Framing` where bytes other
+    /// than white space stand before the first separator of a sequence; `Memory` where a growth was refused.
+    pub fn load<R: Read>(
+        alloc: Global,
+        framing: Framing,
+        most: u32,
+        reader: &mut Watched<R>,
+    ) -> Result<Store, LoadFault>
+        requires { reader.old.failed ≡ false }
+        ensures bytes { (bytes : List ℕ) × Gave R.remaining reader.old reader.new bytes × MatchResult result
+            (λ store. (length bytes ≤ most) × (store ≡ loaded framing most bytes))
+            (λ fault. LoadStopped fault framing most bytes) }
+        ensures ended { MatchResult result (λ _. HasEnded R.remaining reader.new) (λ fault. is_told_at_end fault ≡ true → HasEnded R.remaining reader.new) }
+        ensures failed { MatchResult result (λ _. reader.new.failed ≡ false) (λ fault. reader.new.failed ≡ is_read_fault fault) }
+        ensures calls { reader.new.calls ≤ reader.old.calls + (most + 1) }
+    {
+        let bytes = match read_collection(alloc, most, reader) {
+            Ok(bytes) => bytes,
+            Err(CollectionFault::Read) => return Err(LoadFault::Read),
+            Err(CollectionFault::Size) => return Err(LoadFault::Size),
+            Err(CollectionFault::Memory) => return Err(LoadFault::Memory),
+        };
+        if !is_framed_text(framing, &bytes) {
+            return Err(LoadFault::Framing);
+        }
+        let Ok(lines) = read_lines(alloc, framing, &bytes) else {
+            return Err(LoadFault::Memory);
+        };
+        let Ok(counts) = measure(alloc, &bytes, &lines) else {
+            return Err(LoadFault::Memory);
+        };
+        Ok(Store {
+            framing,
+            most,
+            bytes,
+            lines,
+            counts,
+            indexes: Vec::new(alloc),
+            alloc,
+        })
+    }
+
+    /// The number of lines.
+    pub fn line_count(&self) -> u32
+        ensures { result ≡ length self.now.state.lines }
+    {
+        self.lines.len() as u32
+    }
+
+    /// The number of lines that have a tree.
+    pub fn tree_count(&self) -> u32
+        ensures { result ≡ count_by is_tree (statuses_in self.now) }
+    {
+        self.counts.trees
+    }
+
+    /// The numbers of the refused lines, from 1, ascending.
+    pub fn refused_lines(&self) -> &[u32]
+        ensures { result.now ≡ lines_from is_refused_status 1 (statuses_in self.now) }
+    {
+        self.counts.refused.as_slice()
+    }
+
+    /// What line `n` is. Lines count from 1.
+    pub fn line_status(&self, n: u32) -> Status
+        requires first { 1 ≤ n }
+        requires last { n ≤ length self.now.state.lines }
+        ensures { result ≡ status_kind (line_status n self.now) }
+    {
+        match &self.lines[n as usize - 1].kind {
+            LineKind::Blank => Status::Blank,
+            LineKind::Refused(fault) => Status::Refused(*fault),
+            LineKind::Tree(_) => Status::Tree,
+        }
+    }
+
+    /// A count of opened lines, at 0.
+    pub fn meter(&mut self) -> Opened
+        ensures count { result ≡ 0 }
+        ensures same { self.new ≡ self.old }
+    {
+        Opened { count: 0 }
+    }
+
+    /// Opens line `n`: gives it with its tape, where it has a tree, and then counts it. Lines count from 1.
+    pub fn view(&self, n: u32, opened: &mut Opened) -> Option<LineView<'_>>
+        requires first { 1 ≤ n }
+        requires last { n ≤ length self.now.state.lines }
+        requires room { opened.old + 1 < 2 ^ 64 }
+        ensures { MatchOption result
+            ((is_tree (line_status n self.now) ≡ false) × (opened.new ≡ opened.old))
+            (λ view. (line_status n self.now ≡ parsed (tree_of_view view)) × (text_of_view view ≡ line_text n self.now) × (opened.new ≡ opened.old + 1)) }
+    {
+        let line = &self.lines[n as usize - 1];
+        match &line.kind {
+            LineKind::Tree(tape) => {
+                opened.count += 1;
+                Some(LineView {
+                    tape,
+                    line: text_of(&self.bytes, line),
+                })
+            }
+            _ => None,
+        }
+    }
+
+    /// Makes an index of a path, the last one, and answers in how many lines the path has a node.
+    ///
+    /// # Errors
+    ///
+    /// `Exists` where there is an index of this path, `Limit` where there are sixteen, `Memory` where a growth was refused.
+    pub fn add_index(&mut self, path: SingularPath) -> Result<u32, IndexFault>
+        ensures { MatchResult result
+            (λ count. (index_fault (path_steps path) self.old ≡ None) × (self.new ≡ with_index (path_steps path) self.old)
+            × (count ≡ count_by (has_node (path_steps path)) (statuses_in self.old)))
+            (λ fault. RefusesIndex fault (index_fault (path_steps path) self.old) × (self.new ≡ self.old)) }
+    {
+        if has_index(&self.indexes, &path) {
+            return Err(IndexFault::Exists);
+        }
+        if self.indexes.len() >= 16 {
+            return Err(IndexFault::Limit);
+        }
+        let Ok(index) = build_index(self.alloc, path, &self.bytes, &self.lines) else {
+            return Err(IndexFault::Memory);
+        };
+        let count = index.count();
+        let Ok(()) = self.indexes.push(index) else {
+            return Err(IndexFault::Memory);
+        };
+        Ok(count)
+    }
+
+    /// Takes the index of a path away. The others keep their order.
+    ///
+    /// # Errors
+    ///
+    /// `Missing` where there is none.
+    pub fn drop_index(&mut self, path: &SingularPath) -> Result<(), Missing>
+        ensures there { is_ok result ≡ has_path (path_steps path.now) self.old.state.paths }
+        ensures rest { self.new ≡ without_index (path_steps path.now) self.old }
+    {
+        let found = has_index(&self.indexes, path);
+        remove_index(&mut self.indexes, path);
+        if found { Ok(()) } else { Err(Missing) }
+    }
+
+    /// The number of indexes.
+    pub fn index_count(&self) -> u32
+        ensures { result ≡ length self.now.state.paths }
+    {
+        self.indexes.len() as u32
+    }
+
+    /// Index `k`, counted from 0 in the order in which they were made. It has the entries of the present lines.
+    pub fn index(&self, k: u32) -> &ValueIndex
+        requires { k < length self.now.state.paths }
+        ensures { (path : List Step) → slice_get self.now.state.paths k ≡ Some path → IsIndexOf result.now path (entries_of path (statuses_in self.now)) }
+    {
+        &self.indexes[k as usize]
+    }
+
+    /// Puts a line behind the others, as it is, and answers its number.
+    ///
+    /// # Errors
+    ///
+    /// `Size` where the lines would be too large, `Separator` where the text holds the byte that separates lines, `Memory`
+    /// where a growth was refused.
+    pub fn append(&mut self, text: &[u8]) -> Result<u32, EditFault>
+        ensures { MatchResult result
+            (λ n. (append_fault text.now self.old ≡ None) × (self.new ≡ with_lines (appended text.now self.old) self.old)
+            × (n ≡ length self.old.state.lines + 1))
+            (λ fault. RefusesEdit fault (append_fault text.now self.old) × (self.new ≡ self.old)) }
+    {
+        let held = match test_edit(self.framing, self.most, self.counts.held, text) {
+            Ok(held) => held,
+            Err(fault) => return Err(fault),
+        };
+        let Ok(line) = read_edited(self.alloc, self.framing, text) else {
+            return Err(EditFault::Memory);
+        };
+        let Ok(()) = self.lines.reserve(1) else {
+            return Err(EditFault::Memory);
+        };
+        let Ok(()) = self.counts.reserve() else {
+            return Err(EditFault::Memory);
+        };
+        let n = self.lines.len() as u32 + 1;
+        let root = root_of_line(&self.bytes, &line);
+        let Ok(()) = edit_indexes(self.alloc, &mut self.indexes, 0, n, root) else {
+            return Err(EditFault::Memory);
+        };
+        self.counts.change(held, n, false, &line);
+        self.lines.push_reserved(line);
+        Ok(n)
+    }
+
+    /// Puts a text, as it is, in the place of line `n`. Lines count from 1.
+    ///
+    /// # Errors
+    ///
+    /// `NoLine` where there is no such line, else as `append`.
+    pub fn replace(&mut self, n: u32, text: &[u8]) -> Result<(), EditFault>
+        ensures { MatchResult result
+            (λ _. (replace_fault n text.now self.old ≡ None) × (self.new ≡ with_lines (replaced n text.now self.old) self.old))
+            (λ fault. RefusesEdit fault (replace_fault n text.now self.old) × (self.new ≡ self.old)) }
+    {
+        if n == 0 || n as usize > self.lines.len() {
+            return Err(EditFault::NoLine);
+        }
+        let place = n as usize - 1;
+        let old = &self.lines[place];
+        let had_tree = old.is_tree();
+        let rest = self.counts.held - text_of(&self.bytes, old).len() as u64 - 1;
+        let held = match test_edit(self.framing, self.most, rest, text) {
+            Ok(held) => held,
+            Err(fault) => return Err(fault),
+        };
+        let Ok(line) = read_edited(self.alloc, self.framing, text) else {
+            return Err(EditFault::Memory);
+        };
+        let Ok(()) = self.counts.reserve() else {
+            return Err(EditFault::Memory);
+        };
+        let root = root_of_line(&self.bytes, &line);
+        let Ok(()) = edit_indexes(self.alloc, &mut self.indexes, 0, n, root) else {
+            return Err(EditFault::Memory);
+        };
+        self.counts.change(held, n, had_tree, &line);
+        self.lines[place] = line;
+        Ok(())
+    }
+}
