@@ -8,7 +8,7 @@ use Rattle.std.specs.Io.KnownBytes.{Consumes, IsAtEnd}
 use Rattle.jp_model.specs.declared.Setup.{Setup}
 use Rattle.jp_model.specs.declared.RunFault.{RunFault}
 use Rattle.jp_model.specs.declared.RunFault.TheVariants as faults
-use Rattle.jp_model.specs.Devices.{Device, GaveUpTo, HasEnded, Received, Begins}
+use Rattle.jp_model.specs.Devices.{Came, Device, Received, Begins}
 use Rattle.jp_model.specs.declared.Framing.{Framing}
 use Rattle.jp_model.specs.declared.Framing.TheVariants as framings
 use Rattle.jp_model.specs.Lines.{text_lines, closed_lines, lines_so_far, lines, is_framed}
@@ -18,7 +18,7 @@ use Rattle.jp_model.specs.Script.Headline.{Given, WasLoaded, lines_within, loade
 use Rattle.jp_model.specs.Script.Machine.{State, Outcome, step, step_unless, run_commands, OnlyForMemory}
 use Rattle.jp_cli.specs.Asked.{asked_by, asked_in}
 use Rattle.jp_cli.specs.Runs.{ScriptStopped}
-use Rattle.jp_cli.proofs.ScriptSoFar.{came_so, or_false, or_true, CameToEnd}
+use Rattle.jp_model.proofs.Devices.{came_so}
 
 module _ (query_of : List ℕ → QueryStatus) (setup : Setup) where
   -- lines as they came ask for what they ask without their final CR
@@ -88,22 +88,8 @@ module _ (query_of : List ℕ → QueryStatus) (setup : Setup) where
         )
 
 -- no byte of the script came, and the collection did not come to its end
-abbrev pub only_collection : List ℕ → Bool → Given
-only_collection bytes failed = record { collection = came_so bytes false failed; script = came_so [] false false }
-
--- no byte of the script came, and the collection came to its end
-abbrev pub whole_collection : List ℕ → Bool → Given
-whole_collection bytes failed = record { collection = came_so bytes true failed; script = came_so [] false false }
-
-pub not_ended : (old new : Bool) → new ≡ (old || false) → new ≡ old
-not_ended old new e = e ∙ sym (or_false old)
-
--- a reader of which no call was made
-pub nothing_came : {R : Type 0} (remaining : R → Option (List ℕ)) (reader : Device R) → reader.failed ≡ false → GaveUpTo remaining reader reader (came_so [] false false)
-nothing_came remaining reader worked = (Consumes-nil (remaining reader.device), or_false reader.ended, or_false reader.failed, λ e. absurd (false≢true e))
-
-pub was_ended : {R : Type 0} (remaining : R → Option (List ℕ)) (old new : Device R) → old.failed ≡ false → new.ended ≡ (old.ended || true) → HasEnded remaining new → CameToEnd remaining old new
-was_ended remaining old new worked e left = record { worked = worked; ended = e ∙ sym (or_true old.ended); nothing_left = left }
+abbrev pub only_collection : Came → Given
+only_collection came = record { collection = came; script = came_so [] false false }
 
 -- the bytes that came are all, where the reader is at its end
 all_came : (old new : Option (List ℕ)) (bytes : List ℕ) → Consumes old new bytes → IsAtEnd new → IfSome old (λ all. bytes ≡ all)
@@ -123,17 +109,6 @@ told_of_all (Err fault) Stops c0 c1 s0 s1 c s P h k ended out = tt
 told_of_all (Ok x) Stops c0 c1 s0 s1 c s P h k ended out =
     if_some (λ all. c ≡ all) (λ c. IfSome s0 (λ s. P c s)) c0 (all_came c0 c1 c h ended.0)
     (λ all e. if_some (λ every. s ≡ every) (λ s. P all s) s0 (all_came s0 s1 s k ended.1) (λ every f. subst (P all) f (subst (λ t. P t s) e out)))
-
--- the lines that are loaded are those of the collection, in its framing
-pub loaded_is : (setup : Setup) (state : State) (bytes collection : List ℕ) → state ≡ record { lines = lines framings.Lines bytes; paths = [] }
-    → bytes ≡ collection → setup.framing ≡ framings.Lines → state ≡ loaded setup collection
-loaded_is setup state bytes collection e f is =
-    e ∙ ap (λ b. let s : State = record { lines = lines framings.Lines b; paths = [] } in s) f
-    ∙ ap (λ (framing : Framing). let s : State = record { lines = lines framing collection; paths = [] } in s) (sym is)
-
--- every collection of lines is framed
-pub framed_lines : (setup : Setup) (collection : List ℕ) → setup.framing ≡ framings.Lines → is_framed setup.framing collection ≡ true
-framed_lines setup collection is = ap (λ (framing : Framing). is_framed framing collection) is
 
 pub both_ended : {X F : Type 0} (result : Result X F) (A B : Type 0) → A → OnOk result B → OnOk result (A × B)
 both_ended (Err fault) A B a b = tt

@@ -2,12 +2,8 @@
 mod CommandWords
 mod Ending
 mod FinalReturns
-mod LineSizes
-mod Loading
-mod Parts
 mod Program
-mod RowTexts
-mod NodeRows
+mod Selected
 mod RowsWritten
 mod RefusalsWritten
 mod Runs

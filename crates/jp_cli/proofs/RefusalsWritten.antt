@@ -1,120 +1,117 @@
 -- The rows of refused lines that are written one after another, and how many such lines there are.
-use Rattle.std.proofs.Common.{◌≡◌, ◌∙◌, ◌+◌, ◌<◌, ℕ, zero, suc, List, [], ◌∷◌, ◌++◌, length, map, take, drop, get_or, sym, ap, ap₂, subst, refl, arith, append_assoc, take-append-drop, Bool, decimal, codes}
-use Rattle.std.specs.Prelude.{Option, count_by, All, cond}
-use Rattle.std.proofs.Math.Seq.{take-suc}
-use Rattle.std.proofs.lemmas.List.{length-map, map-append, length-take-le}
+use Rattle.std.proofs.Common.{◌≡◌, ◌∙◌, ◌+◌, ◌-◌, ◌<◌, ◌≤◌, ℕ, List, [], ◌∷◌, ◌++◌, length, take, drop, get_or, sym, ap, ap₂, subst, refl, arith, append_assoc, take-append-drop, decimal, codes}
+use Rattle.std.specs.Prelude.{Option, count_by, cond, suc, if◌then◌else◌, Bool, true, false}
+use Rattle.std.proofs.lemmas.List.{take_more, length-take-le, length-map}
+use Rattle.std.proofs.lemmas.List.Sums.{sum_by-cons}
 use Rattle.std.proofs.KnownBytes.{Appends-trans}
 use Rattle.std.specs.Io.KnownBytes.{Appends}
 use Rattle.jp_rows.proofs.Chains.{Part, part_more, part_behind}
-use Rattle.jp_model.specs.declared.Framing.TheVariants as framings
+use Rattle.jp_model.specs.declared.Framing.{Framing}
 use Rattle.jp_model.specs.Json.Reader.{status_of}
 use Rattle.jp_model.specs.Json.Status.{LineStatus, blank, refused, parsed}
+use Rattle.jp_model.specs.Plans.{is_tree}
 use Rattle.jp_model.specs.Rows.{refusal_text}
-use Rattle.jp_model.specs.Script.Machine.{State, said, check_answer, refusals_from, statuses, is_refused_status, is_blank_status}
-use Rattle.jp_cli.specs.declared.store.Line.{Line}
-use Rattle.jp_cli.specs.declared.store.LineKind.{LineKind}
-use Rattle.jp_cli.specs.declared.store.LineKind.TheVariants as kinds
-use Rattle.jp_cli.specs.Stored.{text_of, IsRead, IsOfKind, is_refused_kind, is_blank_kind, is_refused_line, is_blank_line, refusals}
-use Rattle.jp_cli.proofs.RowTexts.{count_append}
+use Rattle.jp_model.specs.Script.Machine.{said, check_answer, refusals_from, is_refused_status, is_blank_status}
+use Rattle.jp_store.specs.Collections.{Collection, line_status, statuses_in}
+use Rattle.jp_store.specs.Numbered.{lines_from}
+use Rattle.jp_cli.proofs.Selected.{status_at}
 
-abbrev pub status_at : List ℕ → LineStatus
-status_at text = status_of framings.Lines text
+module _ (f : Framing) where
+  after_status : (n : ℕ) (s : LineStatus) (a b : List LineStatus) → refusals_from f (n + 1) (a ++ b) ≡ refusals_from f (n + 1) a ++ refusals_from f (n + 1 + length a) b
+      → refusals_from f n (s ∷ (a ++ b)) ≡ refusals_from f n (s ∷ a) ++ refusals_from f (n + 1 + length a) b
+  after_status n blank a b h = h
+  after_status n (parsed t) a b h = h
+  after_status n (refused fault) a b h =
+      ap (λ t. refusal_text f n fault ++ t) h ∙ sym (append_assoc (refusal_text f n fault) (refusals_from f (n + 1) a) (refusals_from f (n + 1 + length a) b))
 
-abbrev pub statuses_of : List Line → List LineStatus
-statuses_of lines = statuses framings.Lines (map text_of lines)
+  refusals_append : (n : ℕ) (a b : List LineStatus) → refusals_from f n (a ++ b) ≡ refusals_from f n a ++ refusals_from f (n + length a) b
+  refusals_append n [] b = let e : n ≡ n + 0 = omega arith in ap (λ m. refusals_from f m b) e
+  refusals_append n (s ∷ a) b =
+      let e : n + 1 + length a ≡ n + suc (length a) = omega arith in
+      after_status n s a b (refusals_append (n + 1) a b) ∙ ap (λ m. refusals_from f n (s ∷ a) ++ refusals_from f m b) e
 
-after_status : (n : ℕ) (s : LineStatus) (a b : List LineStatus) → refusals_from framings.Lines (n + 1) (a ++ b) ≡ refusals_from framings.Lines (n + 1) a ++ refusals_from framings.Lines (n + 1 + length a) b
-    → refusals_from framings.Lines n (s ∷ (a ++ b)) ≡ refusals_from framings.Lines n (s ∷ a) ++ refusals_from framings.Lines (n + 1 + length a) b
-after_status n blank a b h = h
-after_status n (parsed t) a b h = h
-after_status n (refused fault) a b h =
-    ap (λ t. refusal_text framings.Lines n fault ++ t) h ∙ sym (append_assoc (refusal_text framings.Lines n fault) (refusals_from framings.Lines (n + 1) a) (refusals_from framings.Lines (n + 1 + length a) b))
+module _ (f : Framing) (c : Collection) (i : ℕ) (within : i < length c.state.lines) where
+  abbrev ss : List LineStatus
+  ss = statuses_in c
 
-append : (n : ℕ) (a b : List LineStatus) → refusals_from framings.Lines n (a ++ b) ≡ refusals_from framings.Lines n a ++ refusals_from framings.Lines (n + length a) b
-append n [] b = let e : n ≡ n + 0 = omega arith in ap (λ m. refusals_from framings.Lines m b) e
-append n (s ∷ a) b =
-    let e : n + 1 + length a ≡ n + suc (length a) = omega arith in
-    after_status n s a b (append (n + 1) a b) ∙ ap (λ m. refusals_from framings.Lines n (s ∷ a) ++ refusals_from framings.Lines m b) e
+  size : length ss ≡ length c.state.lines
+  size = length-map c.state.lines (status_of c.framing)
 
-statuses_append : (a b : List Line) → statuses_of (a ++ b) ≡ statuses_of a ++ statuses_of b
-statuses_append a b = ap (map (status_of framings.Lines)) (map-append text_of a b) ∙ map-append (status_of framings.Lines) (map text_of a) (map text_of b)
-
-length_statuses : (a : List Line) → length (statuses_of a) ≡ length a
-length_statuses a = length-map (map text_of a) (status_of framings.Lines) ∙ length-map a text_of
-
-lines_append : (n : ℕ) (a b : List Line) → refusals n (a ++ b) ≡ refusals n a ++ refusals (n + length a) b
-lines_append n a b =
-    ap (refusals_from framings.Lines n) (statuses_append a b)
-    ∙ (append n (statuses_of a) (statuses_of b) ∙ ap (λ k. refusals n a ++ refusals_from framings.Lines (n + k) (statuses_of b)) (length_statuses a))
-
-module _ (lines : List Line) (i : ℕ) (line : Line) (l : i < length lines) (is : line ≡ get_or lines i line) where
-  before : length (take i lines) ≡ i
-  before = length-take-le i lines (omega (arith, l))
-
-  one_more : refusals 1 (take (i + 1) lines) ≡ refusals 1 (take i lines) ++ refusals (i + 1) (line ∷ [])
+  one_more : refusals_from f 1 (take (i + 1) ss) ≡ refusals_from f 1 (take i ss) ++ refusals_from f (i + 1) (line_status (i + 1) c ∷ [])
   one_more =
-      let next : suc i ≡ i + 1 = omega arith in
-      let place : 1 + i ≡ i + 1 = omega arith in
-      ap (λ n. refusals 1 (take n lines)) (sym next)
-      ∙ (ap (refusals 1) (take-suc lines i line l)
-      ∙ (lines_append 1 (take i lines) (get_or lines i line ∷ [])
-      ∙ (ap (λ k. refusals 1 (take i lines) ++ refusals (1 + k) (get_or lines i line ∷ [])) before
-      ∙ (ap (λ k. refusals 1 (take i lines) ++ refusals k (get_or lines i line ∷ [])) place
-      ∙ ap (λ (d : Line). refusals 1 (take i lines) ++ refusals (i + 1) (d ∷ [])) (sym is)))))
+      let place : 1 + length (take i ss) ≡ i + 1 = omega (arith, length-take-le i ss (omega (arith, size, within))) in
+      ap (refusals_from f 1) (take_more ss i blank (omega (arith, size, within)) ∙ ap (λ s. take i ss ++ s ∷ []) (status_at c i blank within))
+      ∙ refusals_append f 1 (take i ss) (line_status (i + 1) c ∷ [])
+      ∙ ap (λ n. refusals_from f 1 (take i ss) ++ refusals_from f n (line_status (i + 1) c ∷ [])) place
 
-  whole_is : refusals 1 lines ≡ (refusals 1 (take i lines) ++ refusals (i + 1) (line ∷ [])) ++ refusals (1 + length (take (i + 1) lines)) (drop (i + 1) lines)
+  whole_is : refusals_from f 1 ss ≡ (refusals_from f 1 (take i ss) ++ refusals_from f (i + 1) (line_status (i + 1) c ∷ [])) ++ refusals_from f (1 + length (take (i + 1) ss)) (drop (i + 1) ss)
   whole_is =
-      ap (refusals 1) (sym (take-append-drop (i + 1) lines))
-      ∙ (lines_append 1 (take (i + 1) lines) (drop (i + 1) lines) ∙ ap (λ t. t ++ refusals (1 + length (take (i + 1) lines)) (drop (i + 1) lines)) one_more)
+      ap (refusals_from f 1) (sym (take-append-drop (i + 1) ss))
+      ∙ (refusals_append f 1 (take (i + 1) ss) (drop (i + 1) ss) ∙ ap (λ t. t ++ refusals_from f (1 + length (take (i + 1) ss)) (drop (i + 1) ss)) one_more)
 
-  pub line_written : (old mid new : Option (List ℕ)) → Appends old mid (refusals 1 (take i lines)) → Appends mid new (refusals (i + 1) (line ∷ [])) → Appends old new (refusals 1 (take (i + 1) lines))
-  line_written old mid new a b = subst (Appends old new) (sym one_more) (Appends-trans old mid new (refusals 1 (take i lines)) (refusals (i + 1) (line ∷ [])) a b)
+  pub line_written : (old mid new : Option (List ℕ)) → Appends old mid (refusals_from f 1 (take i ss)) → Appends mid new (refusals_from f (i + 1) (line_status (i + 1) c ∷ []))
+      → Appends old new (refusals_from f 1 (take (i + 1) ss))
+  line_written old mid new a b =
+      subst (Appends old new) (sym one_more) (Appends-trans old mid new (refusals_from f 1 (take i ss)) (refusals_from f (i + 1) (line_status (i + 1) c ∷ [])) a b)
 
-  pub line_in_part : (old mid new : Option (List ℕ)) → Appends old mid (refusals 1 (take i lines)) → Part mid new (refusals (i + 1) (line ∷ [])) → Part old new (refusals 1 lines)
+  pub line_in_part : (old mid new : Option (List ℕ)) → Appends old mid (refusals_from f 1 (take i ss)) → Part mid new (refusals_from f (i + 1) (line_status (i + 1) c ∷ []))
+      → Part old new (refusals_from f 1 ss)
   line_in_part old mid new a p =
-      let rest = refusals (1 + length (take (i + 1) lines)) (drop (i + 1) lines) in
-      subst (Part old new) (sym whole_is)
-      (part_more old new (refusals 1 (take i lines) ++ refusals (i + 1) (line ∷ [])) rest (part_behind old mid new (refusals 1 (take i lines)) (refusals (i + 1) (line ∷ [])) a p))
+      let here = refusals_from f (i + 1) (line_status (i + 1) c ∷ []) in
+      let rest = refusals_from f (1 + length (take (i + 1) ss)) (drop (i + 1) ss) in
+      subst (Part old new) (sym whole_is) (part_more old new (refusals_from f 1 (take i ss) ++ here) rest (part_behind old mid new (refusals_from f 1 (take i ss)) here a p))
 
--- the counts by what is stored are those by the statuses
-refused_kind : (k : LineKind) (text : List ℕ) → IsOfKind k text → is_refused_kind k ≡ is_refused_status (status_at text)
-refused_kind kinds.Blank text h = sym (ap is_refused_status h)
-refused_kind (kinds.Refused fault) text h = sym (ap is_refused_status h)
-refused_kind (kinds.Tree tape) text h = sym (ap is_refused_status h.0)
+-- each line is blank, refused, or has a tree
+each_is_one : (s : LineStatus) → cond (is_blank_status s) 1 0 + cond (is_refused_status s) 1 0 + cond (is_tree s) 1 0 ≡ 1
+each_is_one blank = refl
+each_is_one (refused fault) = refl
+each_is_one (parsed t) = refl
 
-blank_kind : (k : LineKind) (text : List ℕ) → IsOfKind k text → is_blank_kind k ≡ is_blank_status (status_at text)
-blank_kind kinds.Blank text h = sym (ap is_blank_status h)
-blank_kind (kinds.Refused fault) text h = sym (ap is_blank_status h)
-blank_kind (kinds.Tree tape) text h = sym (ap is_blank_status h.0)
+all_are_one : (ss : List LineStatus) → count_by is_blank_status ss + count_by is_refused_status ss + count_by is_tree ss ≡ length ss
+all_are_one [] = refl
+all_are_one (s ∷ ss) =
+    omega (
+      arith,
+      each_is_one s,
+      all_are_one ss,
+      sum_by-cons (λ r. cond (is_blank_status r) 1 0) s ss,
+      sum_by-cons (λ r. cond (is_refused_status r) 1 0) s ss,
+      sum_by-cons (λ r. cond (is_tree r) 1 0) s ss,
+    )
 
-abbrev one_if : Bool → ℕ
-one_if b = 0 + cond b 1 0
+length_if : (b : Bool) (n : ℕ) (ns : List ℕ) → length (if b then n ∷ ns else ns) ≡ cond b 1 0 + length ns
+length_if true n ns = omega arith
+length_if false n ns = omega arith
 
-counted_alike : (p : Line → Bool) (q : LineStatus → Bool) → ((line : Line) → IsRead line → p line ≡ q (status_at (text_of line))) → (lines : List Line) → All IsRead lines
-    → count_by p lines ≡ count_by q (statuses_of lines)
-counted_alike p q same [] h = refl
-counted_alike p q same (line ∷ lines) h =
-    count_append p (line ∷ []) lines
-    ∙ (ap₂ (λ (m n : ℕ). m + n) (ap one_if (same line (h zero line (omega arith)))) (counted_alike p q same lines (λ k d l. h (suc k) d (omega arith)))
-    ∙ sym (count_append q (status_at (text_of line) ∷ []) (statuses_of lines)))
+length-lines : (n : ℕ) (ss : List LineStatus) → length (lines_from is_refused_status n ss) ≡ count_by is_refused_status ss
+length-lines n [] = refl
+length-lines n (s ∷ ss) =
+    length_if (is_refused_status s) n (lines_from is_refused_status (n + 1) ss) ∙ ap (λ k. cond (is_refused_status s) 1 0 + k) (length-lines (n + 1) ss)
+    ∙ sym (sum_by-cons (λ r. cond (is_refused_status r) 1 0) s ss)
 
-refused_count : (lines : List Line) → All IsRead lines → count_by is_refused_line lines ≡ count_by is_refused_status (statuses_of lines)
-refused_count = counted_alike is_refused_line is_refused_status (λ line h. refused_kind line.kind line.text.now h)
+-- the counts that are told
+module _ (c : Collection) (lines trees refusals : ℕ) (l : lines ≡ length c.state.lines) (t : trees ≡ count_by is_tree (statuses_in c)) (r : refusals ≡ length (lines_from is_refused_status 1 (statuses_in c))) where
+  all : count_by is_blank_status (statuses_in c) + refusals + trees ≡ lines
+  all = omega (arith, l, t, r, length-lines 1 (statuses_in c), all_are_one (statuses_in c), length-map c.state.lines (status_of c.framing))
 
-blank_count : (lines : List Line) → All IsRead lines → count_by is_blank_line lines ≡ count_by is_blank_status (statuses_of lines)
-blank_count = counted_alike is_blank_line is_blank_status (λ line h. blank_kind line.kind line.text.now h)
+  pub trees_fit : trees ≤ lines
+  trees_fit = omega (arith, all)
 
-by_counts : (n r b m s c : ℕ) → n ≡ m → r ≡ s → b ≡ c
-    → said (codes "= " ++ decimal n ++ codes " lines, " ++ decimal r ++ codes " refused, " ++ decimal b ++ codes " blank")
-    ≡ said (codes "= " ++ decimal m ++ codes " lines, " ++ decimal s ++ codes " refused, " ++ decimal c ++ codes " blank")
-by_counts n r b m s c e f g =
-    ap₂ (λ (x y : ℕ). said (codes "= " ++ decimal x ++ codes " lines, " ++ decimal y ++ codes " refused, " ++ decimal b ++ codes " blank")) e f
-    ∙ ap (λ z. said (codes "= " ++ decimal m ++ codes " lines, " ++ decimal s ++ codes " refused, " ++ decimal z ++ codes " blank")) g
+  pub refusals_fit : refusals ≤ lines - trees
+  refusals_fit = omega (arith, all)
 
--- the rows and the summary are what `check` answers
-pub check_text : (lines : List Line) (state : State) (n r b : ℕ) → map text_of lines ≡ state.lines → All IsRead lines → n ≡ length lines → r ≡ count_by is_refused_line lines → b ≡ count_by is_blank_line lines
-    → refusals 1 lines ++ said (codes "= " ++ decimal n ++ codes " lines, " ++ decimal r ++ codes " refused, " ++ decimal b ++ codes " blank") ≡ check_answer framings.Lines state
-check_text lines state n r b e h en er eb =
-    ap (λ t. refusals 1 lines ++ t) (by_counts n r b (length (statuses_of lines)) (count_by is_refused_status (statuses_of lines)) (count_by is_blank_status (statuses_of lines))
-    (en ∙ sym (length_statuses lines)) (er ∙ refused_count lines h) (eb ∙ blank_count lines h))
-    ∙ ap (λ (ls : List (List ℕ)). check_answer framings.Lines (record { lines = ls; paths = state.paths })) e
+  -- the rows and the summary are what `check` answers
+  pub check_text : (f : Framing) → f ≡ c.framing
+      → refusals_from f 1 (statuses_in c) ++ said (codes "= " ++ decimal lines ++ codes " lines, " ++ decimal refusals ++ codes " refused, " ++ decimal (lines - trees - refusals) ++ codes " blank") ≡ check_answer f c.state
+  check_text f same =
+      let ss = statuses_in c in
+      let line_count : lines ≡ length ss = l ∙ sym (length-map c.state.lines (status_of c.framing)) in
+      let refused_count : refusals ≡ count_by is_refused_status ss = r ∙ length-lines 1 ss in
+      let blank_count : lines - trees - refusals ≡ count_by is_blank_status ss = omega (arith, all) in
+      subst
+      (λ g. refusals_from g 1 ss ++ said (codes "= " ++ decimal lines ++ codes " lines, " ++ decimal refusals ++ codes " refused, " ++ decimal (lines - trees - refusals) ++ codes " blank") ≡ check_answer g c.state)
+      (sym same)
+      (ap (λ t. refusals_from c.framing 1 ss ++ t) (
+        ap₂ (λ (x y : ℕ). said (codes "= " ++ decimal x ++ codes " lines, " ++ decimal y ++ codes " refused, " ++ decimal (lines - trees - refusals) ++ codes " blank")) line_count refused_count
+        ∙ ap (λ z. said (codes "= " ++ decimal (length ss) ++ codes " lines, " ++ decimal (count_by is_refused_status ss) ++ codes " refused, " ++ decimal z ++ codes " blank")) blank_count
+      ))

@@ -6,7 +6,7 @@ use Rattle.std.proofs.lemmas.Grind.{flat_map-append}
 use Rattle.std.proofs.KnownBytes.{Appends-trans}
 use Rattle.std.specs.Io.KnownBytes.{Appends}
 use Rattle.jp_rows.proofs.Chains.{Part, part_more, part_behind}
-use Rattle.jp_cli.specs.declared.store.Row.{Row}
+use Rattle.jp_cli.specs.declared.selection.Row.{Row}
 
 module _ (text : Row → List ℕ) (rows : List Row) (i : ℕ) (row : Row) (l : i < length rows) (is : row ≡ get_or rows i row) where
   one_more : flat_map text (take (i + 1) rows) ≡ flat_map text (take i rows) ++ text row

@@ -16,6 +16,7 @@ use Rattle.jp_model.specs.Query.Status.{QueryStatus}
 use Rattle.jp_model.specs.Script.Commands.{Command}
 use Rattle.jp_model.specs.Script.Headline.{Answered, AnsweredInPart}
 use Rattle.jp_model.specs.Script.Machine.{State}
+use Rattle.jp_model.proofs.Devices.{or_false, or_true, came_so, CameToEnd, goes_on, came_whole}
 use Rattle.jp_model.proofs.Pieces.{closed-append, open-append}
 use Rattle.jp_cli.specs.Runs.{MayAnswer, Ran, StoppedIn, ScriptStopped}
 use Rattle.jp_cli.proofs.Answering.{ran_answered, ran_more, answered_more, part_more, part_of_line}
@@ -56,32 +57,6 @@ one_more_call first old new count read l e some = omega arith
 
 pub not_empty : (held line : List ℕ) (n : ℕ) → false ≡ (n == 0) → line ≡ held → length line ≡ n → length held ≡ 0 → ⊥
 not_empty held line n test e counted none = eqb-false n 0 (sym test) (sym counted ∙ ap length e ∙ none)
-
-pub or_false : (b : Bool) → b ≡ (b || false)
-or_false true = refl
-or_false false = refl
-
-pub or_true : (b : Bool) → true ≡ (b || true)
-or_true true = refl
-or_true false = refl
-
-abbrev pub came_so : List ℕ → Bool → Bool → Came
-came_so bytes ended failed = record { bytes = bytes; ended = ended; failed = failed }
-
--- a read came to the end
-pub record CameToEnd {R : Type 0} (remaining : R → Option (List ℕ)) (s0 s1 : Device R) : Type 0 where
-  pub worked : s0.failed ≡ false
-  pub ended : s1.ended ≡ true
-  pub nothing_left : HasEnded remaining s1
-
-module _ {R : Type 0} (remaining : R → Option (List ℕ)) (s0 s1 : Device R) (bytes : List ℕ) (gave : Gave remaining s0 s1 bytes) where
-  -- a reader that did not come to its end
-  pub goes_on : s0.failed ≡ false → s1.ended ≡ s0.ended → GaveUpTo remaining s0 s1 (came_so bytes false s1.failed)
-  goes_on worked going = (gave, going ∙ or_false s0.ended, ap (λ b. b || s1.failed) (sym worked), λ e. absurd (false≢true e))
-
-  -- a reader that came to its end
-  pub came_whole : CameToEnd remaining s0 s1 → GaveUpTo remaining s0 s1 (came_so bytes true s1.failed)
-  came_whole end = (gave, end.ended ∙ or_true s0.ended, ap (λ b. b || s1.failed) (sym end.worked), λ e. end.nothing_left)
 
 -- a read that did not answer 0
 pub no_end : (taken size : ℕ) → (taken ≡ 0 → ⊥) → (eqb taken 0 && ltb 0 size) ≡ false

@@ -1,10 +1,9 @@
 -- What the contracts of the engine speak of.
 pub mod Answers
 pub mod Asked
-pub mod Collections
 pub mod Commands
 pub mod Ends
+pub mod Found
 pub mod Refusals
 pub mod Runs
-pub mod Stored
 pub mod Words

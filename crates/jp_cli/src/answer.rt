@@ -1,22 +1,21 @@
 //! The answer of a command: it is whole before its first byte is written.
 
-ghost use Rattle.std.specs.Prelude.{◌≡◌, ◌++◌, false, is_err, IfOk, OnErr, flat_map, count_by};
-ghost use Rattle.jp_model.specs.declared.Framing.TheVariants as framings;
+ghost use Rattle.std.specs.Prelude.{◌≡◌, ◌++◌, codes, false, is_err, IfOk, OnErr, flat_map, count_by};
 ghost use Rattle.jp_model.specs.Devices.{Writes};
 ghost use Rattle.jp_model.specs.Script.Commands.{MayWantMemory, without_final_cr as without_cr};
-ghost use Rattle.jp_model.specs.Script.Machine.{step, query_answer, count_line};
+ghost use Rattle.jp_model.specs.Script.Machine.{step, error, query_answer, query_fault_word, count_line};
 ghost use Rattle.jp_cli.specs.Answers.{answer_text};
 ghost use Rattle.jp_cli.specs.Asked.{asked_in};
 ghost use Rattle.jp_query.specs.Status.{query_of};
-ghost use Rattle.jp_cli.specs.Stored.{found_text, is_found_node};
-ghost use Rattle.jp_cli.specs.declared.answer.Answer.TheVariants as answers;
+ghost use Rattle.jp_cli.specs.Found.{found_text, is_found_node};
 
 use crate::check::write_check;
 use crate::command::{Command, read_command};
 use crate::query::{Refusal, read_query};
-use crate::store::{Row, Store};
+use crate::selection::{Row, select_rows};
 use jp_model::{Framing, QueryFault, Setup, Watched};
 use jp_rows::{WriteFault, write_count, write_node, write_refusal, write_whole};
+use jp_store::{Opened, Store};
 use std::alloc::{AllocError, Global};
 use std::io::Write;
 
@@ -30,7 +29,7 @@ pub(crate) enum Answer<'a> {
     /// The rows of a query, and their count.
     Rows(Vec<Row<'a>>),
     /// The refused lines, and how many lines there are.
-    Check(&'a Store<'a>),
+    Check,
 }
 
 /// The line without one final CR.
@@ -47,15 +46,17 @@ fn without_final_cr(line: &[u8]) -> &[u8]
 }
 
 fn answer_query<'a>(
-    store: &'a Store<'_>,
+    store: &'a Store,
     alloc: Global,
     text: &[u8],
+    opened: &mut Opened,
 ) -> Result<Answer<'a>, AllocError>
-    ensures { IfOk result (λ answer. answer_text answer ≡ query_answer framings.Lines store.now (query_of text.now)) }
+    requires { opened.old ≡ 0 }
+    ensures { IfOk result (λ answer. answer_text store.now.framing store.now.state answer ≡ query_answer store.now.framing store.now.state (query_of text.now)) }
 {
     match read_query(alloc, text) {
         Ok(checked) => {
-            let rows = store.rows(alloc, &checked)?;
+            let rows = select_rows(store, alloc, &checked, opened)?;
             Ok(Answer::Rows(rows))
         }
         Err(Refusal::Query(fault)) => Ok(Answer::QueryRefused(fault)),
@@ -65,33 +66,39 @@ fn answer_query<'a>(
 
 /// What a line of the script asks for, answered over the lines of the collection.
 pub(crate) fn answer_command<'a>(
-    store: &'a Store<'_>,
+    store: &'a Store,
     alloc: Global,
     setup: Setup,
     line: &[u8],
+    opened: &mut Opened,
 ) -> Result<Answer<'a>, AllocError>
-    requires { setup.framing ≡ framings.Lines }
-    ensures ok { IfOk result (λ answer. answer_text answer ≡ (step query_of setup store.now (asked_in line.now)).written) }
-    ensures kept { (step query_of setup store.now (asked_in line.now)).after ≡ store.now }
+    requires framing { setup.framing ≡ store.now.framing }
+    requires opened { opened.old ≡ 0 }
+    ensures ok { IfOk result (λ answer. answer_text setup.framing store.now.state answer ≡ (step query_of setup store.now.state (asked_in line.now)).written) }
+    ensures kept { (step query_of setup store.now.state (asked_in line.now)).after ≡ store.now.state }
     ensures err { OnErr result (MayWantMemory (asked_in line.now)) }
 {
     match read_command(without_final_cr(line)) {
         Command::Empty => Ok(Answer::Fixed(b"")),
-        Command::Query(text) => answer_query(store, alloc, text),
-        Command::Check => Ok(Answer::Check(store)),
+        Command::Query(text) => answer_query(store, alloc, text, opened),
+        Command::Check => Ok(Answer::Check),
         Command::Unknown => Ok(Answer::Fixed(b"error: command\n")),
     }
 }
 
-fn write_row<W: Write>(row: &Row<'_>, out: &mut Watched<W>) -> Result<(), WriteFault>
+fn write_row<W: Write>(
+    row: &Row<'_>,
+    framing: Framing,
+    out: &mut Watched<W>,
+) -> Result<(), WriteFault>
     requires { out.old.failed ≡ false }
-    ensures text { Writes W.contents out.old out.new result (found_text framings.Lines row.now) }
+    ensures text { Writes W.contents out.old out.new result (found_text framing row.now) }
     ensures fault { out.new.failed ≡ is_err result }
     ensures after { out.new.after ≡ out.old.after }
 {
     match row {
-        Row::Node { line, cursor } => write_node(*line, *cursor, Framing::Lines, out),
-        Row::Refused { line, fault } => write_refusal(*line, *fault, Framing::Lines, out),
+        Row::Node { line, cursor } => write_node(*line, *cursor, framing, out),
+        Row::Refused { line, fault } => write_refusal(*line, *fault, framing, out),
     }
 }
 
@@ -101,14 +108,18 @@ fn is_node(row: &Row<'_>) -> bool
     matches!(row, Row::Node { .. })
 }
 
-fn write_rows<W: Write>(rows: &[Row<'_>], out: &mut Watched<W>) -> Result<(), WriteFault>
+fn write_rows<W: Write>(
+    rows: &[Row<'_>],
+    framing: Framing,
+    out: &mut Watched<W>,
+) -> Result<(), WriteFault>
     requires { out.old.failed ≡ false }
-    ensures text { Writes W.contents out.old out.new result (flat_map (found_text framings.Lines) rows.now) }
+    ensures text { Writes W.contents out.old out.new result (flat_map (found_text framing) rows.now) }
     ensures fault { out.new.failed ≡ is_err result }
     ensures after { out.new.after ≡ out.old.after }
 {
     for row in rows {
-        if let Err(fault) = write_row(row, out) {
+        if let Err(fault) = write_row(row, framing, out) {
             return Err(fault);
         }
     }
@@ -121,13 +132,17 @@ fn count_nodes(rows: &[Row<'_>]) -> usize
     rows.iter().filter(|row| is_node(row)).count()
 }
 
-fn write_rows_and_count<W: Write>(rows: &[Row<'_>], out: &mut Watched<W>) -> Result<(), WriteFault>
+fn write_rows_and_count<W: Write>(
+    rows: &[Row<'_>],
+    framing: Framing,
+    out: &mut Watched<W>,
+) -> Result<(), WriteFault>
     requires { out.old.failed ≡ false }
-    ensures text { Writes W.contents out.old out.new result (flat_map (found_text framings.Lines) rows.now ++ count_line (count_by is_found_node rows.now)) }
+    ensures text { Writes W.contents out.old out.new result (flat_map (found_text framing) rows.now ++ count_line (count_by is_found_node rows.now)) }
     ensures fault { out.new.failed ≡ is_err result }
     ensures after { out.new.after ≡ out.old.after }
 {
-    match write_rows(rows, out) {
+    match write_rows(rows, framing, out) {
         Ok(()) => write_count(count_nodes(rows), out),
         Err(fault) => Err(fault),
     }
@@ -135,7 +150,7 @@ fn write_rows_and_count<W: Write>(rows: &[Row<'_>], out: &mut Watched<W>) -> Res
 
 fn write_query_fault<W: Write>(fault: QueryFault, out: &mut Watched<W>) -> Result<(), WriteFault>
     requires { out.old.failed ≡ false }
-    ensures text { Writes W.contents out.old out.new result (answer_text (answers.QueryRefused fault)) }
+    ensures text { Writes W.contents out.old out.new result (error (codes "query " ++ query_fault_word fault)) }
     ensures fault { out.new.failed ≡ is_err result }
     ensures after { out.new.after ≡ out.old.after }
 {
@@ -152,20 +167,23 @@ fn write_query_fault<W: Write>(fault: QueryFault, out: &mut Watched<W>) -> Resul
     )
 }
 
-/// Writes the whole answer, or a beginning of it.
+/// Writes the whole answer over the lines of the collection, or a beginning of it.
 pub(crate) fn write_answer<W: Write>(
     answer: &Answer<'_>,
+    store: &Store,
+    framing: Framing,
     out: &mut Watched<W>,
 ) -> Result<(), WriteFault>
-    requires { out.old.failed ≡ false }
-    ensures text { Writes W.contents out.old out.new result (answer_text answer.now) }
+    requires working { out.old.failed ≡ false }
+    requires framing { framing ≡ store.now.framing }
+    ensures text { Writes W.contents out.old out.new result (answer_text framing store.now.state answer.now) }
     ensures fault { out.new.failed ≡ is_err result }
     ensures after { out.new.after ≡ out.old.after }
 {
     match answer {
         Answer::Fixed(words) => write_whole(words, out),
         Answer::QueryRefused(fault) => write_query_fault(*fault, out),
-        Answer::Rows(rows) => write_rows_and_count(rows.as_slice(), out),
-        Answer::Check(store) => write_check(store, out),
+        Answer::Rows(rows) => write_rows_and_count(rows.as_slice(), framing, out),
+        Answer::Check => write_check(store, framing, out),
     }
 }

@@ -1,16 +1,14 @@
 //! The run of a script over a collection.
 
 ghost use Rattle.std.specs.Prelude.{◌≡◌, ℕ, ◌+◌, ◌≤◌, false, List, OnOk, IfSome, MatchResult};
-ghost use Rattle.jp_model.specs.declared.Framing.TheVariants as framings;
 ghost use Rattle.jp_model.specs.Devices.{GaveUpTo, HasEnded};
 ghost use Rattle.jp_model.specs.Script.Headline.{Given, RunEnded, RunStopped, is_write_fault, is_read_collection, OnlyReadScript};
 ghost use Rattle.jp_cli.specs.Asked.{asked_by};
 ghost use Rattle.jp_query.specs.Status.{query_of};
 
-use crate::collection::{CollectionFault, read_collection};
 use crate::script::run_script;
-use crate::store::Store;
 use jp_model::{RunFault, Setup, Watched};
+use jp_store::{LoadFault, Store};
 use std::alloc::Global;
 use std::io::{Read, Write};
 
@@ -23,6 +21,7 @@ use std::io::{Read, Write};
 /// # Errors
 ///
 /// `ReadCollection` and `ReadScript` where a read failed, `Size` where the collection has more than `most` bytes,
+/// `Framing` where bytes other than white space stand before the first separator of a sequence,
 /// `ReadScript` also where the script has more than `script_most` bytes, `Write` where a write failed or took no byte, and
 /// `Memory` where a growth was refused while the collection was loaded or a command line was held.
 pub fn run<C: Read, R: Read, W: Write>(
@@ -32,7 +31,6 @@ pub fn run<C: Read, R: Read, W: Write>(
     script: &mut Watched<R>,
     out: &mut Watched<W>,
 ) -> Result<(), RunFault>
-    requires framing { setup.framing ≡ framings.Lines }
     requires collection { collection.old.failed ≡ false }
     requires script { script.old.failed ≡ false }
     requires out { out.old.failed ≡ false }
@@ -59,14 +57,12 @@ pub fn run<C: Read, R: Read, W: Write>(
     ensures script_after { script.old.ended ≡ false → script.new.after ≡ script.old.after }
     ensures out_after { out.new.after ≡ out.old.after }
 {
-    let bytes = match read_collection(alloc, setup.most, collection) {
-        Ok(bytes) => bytes,
-        Err(CollectionFault::Read) => return Err(RunFault::ReadCollection),
-        Err(CollectionFault::Size) => return Err(RunFault::Size),
-        Err(CollectionFault::Memory) => return Err(RunFault::Memory),
+    let mut store = match Store::load(alloc, setup.framing, setup.most, collection) {
+        Ok(store) => store,
+        Err(LoadFault::Read) => return Err(RunFault::ReadCollection),
+        Err(LoadFault::Size) => return Err(RunFault::Size),
+        Err(LoadFault::Framing) => return Err(RunFault::Framing),
+        Err(LoadFault::Memory) => return Err(RunFault::Memory),
     };
-    let Ok(store) = Store::load(alloc, bytes.as_slice()) else {
-        return Err(RunFault::Memory);
-    };
-    run_script(&store, alloc, setup, script, out)
+    run_script(&mut store, alloc, setup, script, out)
 }

@@ -3,13 +3,12 @@
 
 mod answer;
 mod check;
-mod collection;
 mod command;
 mod end;
 mod engine;
 mod query;
 mod script;
-mod store;
+mod selection;
 mod words;
 
 pub use end::End;

@@ -1,7 +1,6 @@
 //! The run of a script: each command line is answered as its line feed comes.
 
 ghost use Rattle.std.specs.Prelude.{◌≡◌, ℕ, ◌+◌, ◌≤◌, ◌++◌, [], ◌∷◌, true, false, length, List, OnOk, IfErr, is_err, MatchResult};
-ghost use Rattle.jp_model.specs.declared.Framing.TheVariants as framings;
 ghost use Rattle.jp_model.specs.Devices.{Came, GaveUpTo, HasEnded, Writes};
 ghost use Rattle.jp_model.specs.Lines.{HasNoSeparator, text_lines, closed_lines, open_line};
 ghost use Rattle.jp_model.specs.Script.Headline.{Answered, is_write_fault, OnlyReadScript};
@@ -10,9 +9,9 @@ ghost use Rattle.jp_query.specs.Status.{query_of};
 ghost use Rattle.jp_cli.specs.Runs.{MayAnswer, Ran, StoppedIn, ScriptStopped};
 
 use crate::answer::{answer_command, write_answer};
-use crate::store::Store;
 use jp_model::{RunFault, Setup, Watched};
 use jp_rows::{WriteFault, write_whole};
+use jp_store::Store;
 use std::alloc::Global;
 use std::io::{Read, Write};
 
@@ -21,42 +20,45 @@ const PIECE: usize = 4096;
 
 /// Answers one line of the script, and then writes its whole answer.
 fn answer_line<W: Write>(
-    store: &Store<'_>,
+    store: &mut Store,
     alloc: Global,
     setup: Setup,
     line: &[u8],
     out: &mut Watched<W>,
 ) -> Result<(), WriteFault>
-    requires framing { setup.framing ≡ framings.Lines }
+    requires framing { setup.framing ≡ store.old.framing }
     requires working { out.old.failed ≡ false }
-    ensures ran { (text : List ℕ) × MayAnswer query_of asked_in setup store.now (line.now ∷ []) text store.now × Writes W.contents out.old out.new result text }
+    ensures ran { (text : List ℕ) × MayAnswer query_of asked_in setup store.old.state (line.now ∷ []) text store.new.state × Writes W.contents out.old out.new result text }
+    ensures framing { store.new.framing ≡ store.old.framing }
     ensures fault { out.new.failed ≡ is_err result }
     ensures after { out.new.after ≡ out.old.after }
 {
-    match answer_command(store, alloc, setup, line) {
-        Ok(answer) => write_answer(&answer, out),
+    let mut opened = store.meter();
+    match answer_command(store, alloc, setup, line, &mut opened) {
+        Ok(answer) => write_answer(&answer, store, setup.framing, out),
         Err(_) => write_whole(b"error: memory\n", out),
     }
 }
 
 /// Answers each line whose line feed comes with the piece, and holds what stands behind the last one.
 fn take_piece<W: Write>(
-    store: &Store<'_>,
+    store: &mut Store,
     alloc: Global,
     setup: Setup,
     held: &mut Vec<u8>,
     piece: &[u8],
     out: &mut Watched<W>,
 ) -> Result<(), RunFault>
-    requires framing { setup.framing ≡ framings.Lines }
+    requires framing { setup.framing ≡ store.old.framing }
     requires working { out.old.failed ≡ false }
     requires open { HasNoSeparator 0x0A held.old.items }
-    ensures ok { OnOk result (Ran query_of asked_in W.contents out.old out.new setup store.now (closed_lines (held.old.items ++ piece.now)) store.now
+    ensures ok { OnOk result (Ran query_of asked_in W.contents out.old out.new setup store.old.state (closed_lines (held.old.items ++ piece.now)) store.new.state
         × (held.new.items ≡ open_line (held.old.items ++ piece.now))) }
-    ensures err { IfErr result (λ fault. StoppedIn query_of asked_in W.contents out.old out.new fault setup store.now (closed_lines (held.old.items ++ piece.now))) }
+    ensures err { IfErr result (λ fault. StoppedIn query_of asked_in W.contents out.old out.new fault setup store.old.state (closed_lines (held.old.items ++ piece.now))) }
     ensures fault { MatchResult result
         (λ _. out.new.failed ≡ false)
         (λ fault. out.new.failed ≡ is_write_fault fault) }
+    ensures framing { store.new.framing ≡ store.old.framing }
     ensures after { out.new.after ≡ out.old.after }
 {
     for byte in piece {
@@ -75,18 +77,18 @@ fn take_piece<W: Write>(
 /// Answers the lines of a script, each as its line feed comes. It makes at most one read for each byte of the script up to
 /// the limit, and one more. No read follows one that answered 0, one that failed, or the byte past the limit.
 pub(crate) fn run_script<R: Read, W: Write>(
-    store: &Store<'_>,
+    store: &mut Store,
     alloc: Global,
     setup: Setup,
     script: &mut Watched<R>,
     out: &mut Watched<W>,
 ) -> Result<(), RunFault>
-    requires framing { setup.framing ≡ framings.Lines }
+    requires framing { setup.framing ≡ store.old.framing }
     requires reads { script.old.failed ≡ false }
     requires writes { out.old.failed ≡ false }
     ensures output { (came : Came) × GaveUpTo R.remaining script.old script.new came × MatchResult result
-        (λ _. (came.ended ≡ true) × (length came.bytes ≤ setup.script_most) × Answered query_of asked_in W.contents out.old out.new setup store.now (text_lines came.bytes))
-        (λ fault. ScriptStopped query_of asked_in W.contents out.old out.new fault setup store.now came) }
+        (λ _. (came.ended ≡ true) × (length came.bytes ≤ setup.script_most) × Answered query_of asked_in W.contents out.old out.new setup store.old.state (text_lines came.bytes))
+        (λ fault. ScriptStopped query_of asked_in W.contents out.old out.new fault setup store.old.state came) }
     ensures ended { OnOk result (HasEnded R.remaining script.new) }
     ensures write_fault { MatchResult result
         (λ _. out.new.failed ≡ false)

@@ -8,3 +8,4 @@ pub mod Opened
 pub mod Rows
 pub mod Reader
 pub mod LineSteps
+pub mod Devices

@@ -1,15 +1,16 @@
 //! The lines of a collection and the indexes over them.
 
 ghost use Rattle.std.specs.Prelude.{◌≡◌, ℕ, ◌+◌, ◌<◌, ◌≤◌, ◌^◌, true, false, List, length, count_by, slice_get, Some, None, is_ok, MatchOption, MatchResult};
-ghost use Rattle.jp_model.specs.Devices.{Gave, HasEnded};
+ghost use Rattle.jp_model.specs.Devices.{Came, GaveUpTo};
 ghost use Rattle.jp_model.specs.Json.Status.{parsed};
+ghost use Rattle.jp_model.specs.Lines.{is_framed};
 ghost use Rattle.jp_model.specs.Plans.{is_tree};
 ghost use Rattle.jp_model.specs.Script.Machine.{has_node, has_path, is_refused_status};
 ghost use Rattle.jp_model.specs.Steps.{Step};
 ghost use Rattle.jp_query.specs.SingularPaths.{path_steps};
 ghost use Rattle.jp_store.specs.Collections.{statuses_in, line_text, line_status, loaded, with_lines, with_index, without_index, appended, replaced};
 ghost use Rattle.jp_store.specs.Numbered.{lines_from};
-ghost use Rattle.jp_store.specs.Loads.{LoadStopped, is_read_fault, is_told_at_end};
+ghost use Rattle.jp_store.specs.Loads.{LoadStopped, is_read_fault};
 ghost use Rattle.jp_store.specs.Faults.{RefusesIndex, index_fault, RefusesEdit, append_fault, replace_fault};
 ghost use Rattle.jp_store.specs.Views.{status_kind, text_of_view, tree_of_view};
 ghost use Rattle.jp_index.specs.Entries.{entries_of};
@@ -61,7 +62,8 @@ impl Model for Store {
 }
 
 impl Store {
-    /// The lines of a collection, and no index. It reads to the end, and keeps what it read.
+    /// The lines of a collection, and no index. It reads to the end, and keeps what it read. No read follows one that answered
+    /// 0, one that failed, or the byte past the limit.
     ///
     /// # Errors
     ///
@@ -74,12 +76,12 @@ impl Store {
         reader: &mut Watched<R>,
     ) -> Result<Store, LoadFault>
         requires { reader.old.failed ≡ false }
-        ensures bytes { (bytes : List ℕ) × Gave R.remaining reader.old reader.new bytes × MatchResult result
-            (λ store. (length bytes ≤ most) × (store ≡ loaded framing most bytes))
-            (λ fault. LoadStopped fault framing most bytes) }
-        ensures ended { MatchResult result (λ _. HasEnded R.remaining reader.new) (λ fault. is_told_at_end fault ≡ true → HasEnded R.remaining reader.new) }
+        ensures came { (came : Came) × GaveUpTo R.remaining reader.old reader.new came × MatchResult result
+            (λ store. (came.ended ≡ true) × (length came.bytes ≤ most) × (is_framed framing came.bytes ≡ true) × (store ≡ loaded framing most came.bytes))
+            (λ fault. LoadStopped fault framing most came) }
         ensures failed { MatchResult result (λ _. reader.new.failed ≡ false) (λ fault. reader.new.failed ≡ is_read_fault fault) }
         ensures calls { reader.new.calls ≤ reader.old.calls + (most + 1) }
+        ensures after { reader.old.ended ≡ false → reader.new.after ≡ reader.old.after }
     {
         let bytes = match read_collection(alloc, most, reader) {
             Ok(bytes) => bytes,

@@ -1,19 +1,18 @@
 -- One row more is written, or a beginning of it.
 use Rattle.std.proofs.Common.{◌∙◌}
-use Rattle.jp_model.specs.declared.Framing.TheVariants as framings
-use Rattle.jp_cli.specs.Stored.{found_text}
+use Rattle.jp_cli.specs.Found.{found_text}
 use Rattle.jp_cli.proofs.RowsWritten.{row_written, row_in_part}
 use Rattle.jp_cli.proofs.answer.write_rows.Goals as goal
 
 pub returns-in-Err-clause-text : goal.returns-in-Err-clause-text
 returns-in-Err-clause-text g c =
-    row_in_part (found_text framings.Lines) c.args.rows.now c.loop-row.row-index c.row-item.result c.loop-row-test.true c.row-item.is _ _ _
+    row_in_part (found_text c.args.framing) c.args.rows.now c.loop-row.row-index c.row-item.result c.loop-row-test.true c.row-item.is _ _ _
     c.loop-row.invariant.written c.in-Err.ensures.text
 
 pub loop-row-preserved : goal.loop-row-preserved
 loop-row-preserved g c = record {
   working = c.in_default.ensures.fault;
   early = c.in_default.ensures.after ∙ c.loop-row.invariant.early;
-  written = row_written (found_text framings.Lines) c.args.rows.now c.loop-row.row-index c.row-item.result c.loop-row-test.true c.row-item.is _ _ _
+  written = row_written (found_text c.args.framing) c.args.rows.now c.loop-row.row-index c.row-item.result c.loop-row-test.true c.row-item.is _ _ _
       c.loop-row.invariant.written c.in_default.ensures.text;
 }

@@ -13,7 +13,8 @@ invariant-loop-read g l = record {
   going : l.script.ended ≡ l.fn.script.ended;
   reads_early : l.fn.script.ended ≡ false → l.script.after ≡ l.fn.script.after;
   writes_early : l.out.after ≡ l.fn.out.after;
-  so_far : SoFar query_of asked_in l.setup g.R.Read.remaining g.W.Write.contents l.fn.script l.script l.fn.out l.out l.store l.store l.held.items l.count;
+  so_far : SoFar query_of asked_in l.setup g.R.Read.remaining g.W.Write.contents l.fn.script l.script l.fn.out l.out l.fn.store.state l.store.state l.held.items l.count;
+  framing : l.store.framing ≡ l.fn.store.framing;
   calls : l.script.calls ≤ l.fn.script.calls + l.count;
 }
 

@@ -14,6 +14,7 @@ pub loop-byte-init : goal.loop-byte-init
 loop-byte-init g c = record {
   working = c.requires.working;
   early = refl;
+  framing = refl;
   ran = ran_none query_of asked_in c.args.setup g.W.Write.contents c.args.out.now _ _ (ap closed_lines (append-nil c.args.held.now.items) ∙ closed_clear 0x0A c.args.held.now.items c.requires.open);
   held = sym (ap open_line (append-nil c.args.held.now.items) ∙ open_clear 0x0A c.args.held.now.items c.requires.open);
 }
@@ -26,8 +27,8 @@ returns-in-Err-clause-err g c =
     let piece = c.args.piece.now in
     let line = c.as_slice.result.now in
     let e = closed_through 0x0A before piece i line c.loop-byte-test.true c.if-byte-eq10.true (c.as_slice.ensures.value ∙ c.loop-byte.invariant.held) in
-    subst (AnsweredInPart query_of asked_in g.W.Write.contents c.args.out.now c.answer_line.new.out c.args.setup c.args.store.now) (sym e)
-    (stopped_within query_of asked_in c.args.setup g.W.Write.contents c.args.out.now c.loop-byte.out c.answer_line.new.out c.args.store.now c.args.store.now c.args.store.now
+    subst (AnsweredInPart query_of asked_in g.W.Write.contents c.args.out.now c.answer_line.new.out c.args.setup c.args.store.now.state) (sym e)
+    (stopped_within query_of asked_in c.args.setup g.W.Write.contents c.args.out.now c.loop-byte.out c.answer_line.new.out c.args.store.now.state c.loop-byte.store.state c.answer_line.new.store.state
     (closed_lines (before ++ take i piece)) (line ∷ []) (later_lines 0x0A before piece (i + 1)) ran.0 ran.2.0
     c.loop-byte.invariant.ran ran.1 ran.2.1 ran.2.2)
 
@@ -38,7 +39,7 @@ returns-then-is_err-clause-err g c =
     let piece = c.args.piece.now in (
       closed_lines (before ++ take i piece),
       (later_lines 0x0A before piece i, closed_later 0x0A before piece i),
-      ran_answered query_of asked_in c.args.setup g.W.Write.contents c.args.out.now c.loop-byte.out c.args.store.now c.args.store.now (closed_lines (before ++ take i piece)) c.loop-byte.invariant.ran,
+      ran_answered query_of asked_in c.args.setup g.W.Write.contents c.args.out.now c.loop-byte.out c.args.store.now.state c.loop-byte.store.state (closed_lines (before ++ take i piece)) c.loop-byte.invariant.ran,
     )
 
 pub loop-byte-preserved : goal.loop-byte-preserved
@@ -54,19 +55,21 @@ loop-byte-preserved g c =
           let is_open = w.as_slice.ensures.value ∙ c.loop-byte.invariant.held in
           let e : closed_lines (before ++ take (i + 1) piece) ≡ first ++ line ∷ [] =
           closed_at_separator 0x0A before piece i c.loop-byte-test.true w.if-byte-eq10.true ∙ ap (λ o. first ++ o ∷ []) (sym is_open) in
-          rw (w.out-is, w.held-is) (record {
+          rw (w.out-is, w.held-is, w.store-is) (record {
             working = w.in-Ok.ensures.fault;
             early = w.answer_line.ensures.after ∙ c.loop-byte.invariant.early;
-            ran = subst (λ l. Ran query_of asked_in g.W.Write.contents c.args.out.now w.answer_line.new.out c.args.setup c.args.store.now l c.args.store.now) (sym e)
-                (ran_more query_of asked_in c.args.setup g.W.Write.contents c.args.out.now c.loop-byte.out w.answer_line.new.out c.args.store.now c.args.store.now c.args.store.now
+            framing = w.answer_line.ensures.framing ∙ c.loop-byte.invariant.framing;
+            ran = subst (λ l. Ran query_of asked_in g.W.Write.contents c.args.out.now w.answer_line.new.out c.args.setup c.args.store.now.state l w.answer_line.new.store.state) (sym e)
+                (ran_more query_of asked_in c.args.setup g.W.Write.contents c.args.out.now c.loop-byte.out w.answer_line.new.out c.args.store.now.state c.loop-byte.store.state w.answer_line.new.store.state
                 first (line ∷ []) c.loop-byte.invariant.ran ran);
             held = w.clear.ensures.items ∙ sym (open_at_separator 0x0A before piece i c.loop-byte-test.true w.if-byte-eq10.true);
           })
       | else-byte-eq10+else-is_err w ↦
-          rw (w.out-is, w.held-is) (record {
+          rw (w.out-is, w.held-is, w.store-is) (record {
             working = c.loop-byte.invariant.working;
             early = c.loop-byte.invariant.early;
-            ran = subst (λ l. Ran query_of asked_in g.W.Write.contents c.args.out.now c.loop-byte.out c.args.setup c.args.store.now l c.args.store.now)
+            framing = c.loop-byte.invariant.framing;
+            ran = subst (λ l. Ran query_of asked_in g.W.Write.contents c.args.out.now c.loop-byte.out c.args.setup c.args.store.now.state l c.loop-byte.store.state)
                 (sym (closed_at_other 0x0A before piece i c.loop-byte-test.true w.if-byte-eq10.false)) c.loop-byte.invariant.ran;
             held = (w.push.ensures.items ∙ ap (λ b. if b then (c.loop-byte.held.items ++ get_or piece i 0 ∷ []) else c.loop-byte.held.items) w.if-is_err.ensures.negation)
                 ∙ ap (λ l. l ++ get_or piece i 0 ∷ []) c.loop-byte.invariant.held

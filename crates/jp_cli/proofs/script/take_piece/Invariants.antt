@@ -10,6 +10,7 @@ abbrev pub invariant-loop-byte : goal.invariant-loop-byte
 invariant-loop-byte g l = record {
   working : l.out.failed ≡ false;
   early : l.out.after ≡ l.fn.out.after;
-  ran : Ran query_of asked_in g.W.Write.contents l.fn.out l.out l.setup l.store (closed_lines (l.fn.held.items ++ take l.byte-index l.piece)) l.store;
+  ran : Ran query_of asked_in g.W.Write.contents l.fn.out l.out l.setup l.fn.store.state (closed_lines (l.fn.held.items ++ take l.byte-index l.piece)) l.store.state;
+  framing : l.store.framing ≡ l.fn.store.framing;
   held : l.held.items ≡ open_line (l.fn.held.items ++ take l.byte-index l.piece);
 }

@@ -1,12 +1,72 @@
 -- The lines are those of the bytes that came, each read, and no index is there.
-use Rattle.std.proofs.Common.{◌≡◌, ◌∙◌, ◌≤◌, ◌<◌, ◌^◌, ℕ, List, length, map, sym, ap, ap₂, subst, arith, All}
-use Rattle.jp_model.specs.Lines.{lines}
+use Rattle.std.proofs.Common.{◌≡◌, true, false, refl, ◌∙◌, ◌≤◌, ◌<◌, ◌^◌, ℕ, List, length, map, sym, ap, ap₂, subst, arith, All}
+use Rattle.jp_model.proofs.Devices.{came_so, goes_on, came_whole, not_ended, was_ended}
+use Rattle.jp_model.specs.Lines.{is_framed, lines}
+use Rattle.jp_model.specs.Steps.{Step}
 use Rattle.jp_model.specs.Script.Machine.{bytes_held, statuses}
 use Rattle.jp_index.specs.declared.index.ValueIndex.{ValueIndex}
 use Rattle.jp_store.specs.declared.line.Line.{Line}
-use Rattle.jp_store.specs.Stored.{AreCounted, IsOver, IsRead, stored_text}
+use Rattle.jp_store.specs.Stored.{AreCounted, IsOver, IsRead, path_of, stored_text}
+use Rattle.jp_store.specs.Collections.{Collection}
 use Rattle.jp_store.proofs.Loaded.{few_stored}
 use Rattle.jp_store.proofs.store.Store.load.Goals as goal
+
+pub returns-in-Err-Read-clause-came : goal.returns-in-Err-Read-clause-came
+returns-in-Err-Read-clause-came g c =
+    let came = c.in-Err-Read.ensures.bytes in
+    let size = rw c.in-Err-Read.field-0-is at came.2 in
+    (came_so came.0 false c.read_collection.new.reader.failed, goes_on g.R.Read.remaining c.args.reader.now c.read_collection.new.reader came.0 came.1 c.requires (not_ended _ _ c.in-Err-Read.ensures.end), size)
+
+pub returns-in-Err-Size-clause-came : goal.returns-in-Err-Size-clause-came
+returns-in-Err-Size-clause-came g c =
+    let came = c.in-Err-Size.ensures.bytes in
+    let size = rw c.in-Err-Size.field-0-is at came.2 in
+    (came_so came.0 false c.read_collection.new.reader.failed, goes_on g.R.Read.remaining c.args.reader.now c.read_collection.new.reader came.0 came.1 c.requires (not_ended _ _ c.in-Err-Size.ensures.end), size)
+
+pub returns-in-Err-Memory-clause-came : goal.returns-in-Err-Memory-clause-came
+returns-in-Err-Memory-clause-came g c =
+    let came = c.in-Err-Memory.ensures.bytes in
+    let size = rw c.in-Err-Memory.field-0-is at came.2 in
+    (came_so came.0 false c.read_collection.new.reader.failed, goes_on g.R.Read.remaining c.args.reader.now c.read_collection.new.reader came.0 came.1 c.requires (not_ended _ _ c.in-Err-Memory.ensures.end), size)
+
+pub returns-then-not-is_framed_text-clause-came : goal.returns-then-not-is_framed_text-clause-came
+returns-then-not-is_framed_text-clause-came g c =
+    let came = c.in-Ok.ensures.bytes in (
+      came_so came.0 true c.read_collection.new.reader.failed,
+      came_whole g.R.Read.remaining c.args.reader.now c.read_collection.new.reader came.0 came.1 (was_ended g.R.Read.remaining _ _ c.requires c.in-Ok.ensures.end c.in-Ok.ensures.ended),
+      (refl, came.2.1, ap (is_framed c.args.framing) (sym came.2.0 ∙ sym c.deref.ensures.value) ∙ sym c.if-not-is_framed_text.ensures),
+    )
+
+pub returns-in_default-clause-came : goal.returns-in_default-clause-came
+returns-in_default-clause-came g c =
+    let came = c.in-Ok.ensures.bytes in (
+      came_so came.0 true c.read_collection.new.reader.failed,
+      came_whole g.R.Read.remaining c.args.reader.now c.read_collection.new.reader came.0 came.1 (was_ended g.R.Read.remaining _ _ c.requires c.in-Ok.ensures.end c.in-Ok.ensures.ended),
+      came.2.1,
+    )
+
+pub returns-in_default-measure-clause-came : goal.returns-in_default-measure-clause-came
+returns-in_default-measure-clause-came g c =
+    let came = c.in-Ok.ensures.bytes in (
+      came_so came.0 true c.read_collection.new.reader.failed,
+      came_whole g.R.Read.remaining c.args.reader.now c.read_collection.new.reader came.0 came.1 (was_ended g.R.Read.remaining _ _ c.requires c.in-Ok.ensures.end c.in-Ok.ensures.ended),
+      came.2.1,
+    )
+
+pub returns-clause-came : goal.returns-clause-came
+returns-clause-came g c =
+    let came = c.in-Ok.ensures.bytes in (
+      came_so came.0 true c.read_collection.new.reader.failed,
+      came_whole g.R.Read.remaining c.args.reader.now c.read_collection.new.reader came.0 came.1 (was_ended g.R.Read.remaining _ _ c.requires c.in-Ok.ensures.end c.in-Ok.ensures.ended),
+      (
+        refl,
+        came.2.1,
+        ap (is_framed c.args.framing) (sym came.2.0 ∙ sym c.deref.ensures.value) ∙ sym c.if-not-is_framed_text.ensures,
+        ap₂ (λ (ls : List (List ℕ)) (ps : List (List Step)). let whole : Collection = record { framing = c.args.framing; most = c.args.most; state = record { lines = ls; paths = ps } } in whole)
+            (subst (λ (b : List ℕ). map (stored_text b) c.in-Ok-read_lines.lines.items ≡ lines c.args.framing b) c.deref-2.ensures.value c.in-Ok-read_lines.ensures.came ∙ ap (lines c.args.framing) came.2.0)
+            (ap (map path_of) c.new.ensures.items),
+      ),
+    )
 
 pub measure-requires-clause-few : goal.measure-requires-clause-few
 measure-requires-clause-few g c =

@@ -1,0 +1,13 @@
+-- A refused line has one row.
+use Rattle.std.proofs.Common.{sym, subst, [], ◌∷◌, append-nil}
+use Rattle.jp_model.specs.Devices.{Writes}
+use Rattle.jp_model.specs.Rows.{refusal_text}
+use Rattle.jp_model.specs.Script.Machine.{refusals_from}
+use Rattle.jp_cli.proofs.Selected.{told_refused}
+use Rattle.jp_cli.proofs.check.write_if_refused.Goals as goal
+
+pub returns-in-Refused-clause-text : goal.returns-in-Refused-clause-text
+returns-in-Refused-clause-text g c =
+    subst (λ s. Writes g.W.Write.contents c.args.out.now c.write_refusal.new.out c.write_refusal.result (refusals_from c.args.framing c.args.number (s ∷ [])))
+    (sym (told_refused _ c.in-Refused.fault c.in-Refused.ensures))
+    (subst (Writes g.W.Write.contents c.args.out.now c.write_refusal.new.out c.write_refusal.result) (sym (append-nil (refusal_text c.args.framing c.args.number c.in-Refused.fault))) c.write_refusal.ensures.text)

@@ -1,0 +1,22 @@
+-- The rows that are found.
+use Rattle.std.specs.Prelude.{ℕ, Bool, true, false, List}
+use Rattle.jp_model.specs.declared.Framing.{Framing}
+use Rattle.jp_model.specs.Rows as rows
+use Rattle.jp_cli.specs.declared.selection.Row.{Row}
+use Rattle.jp_cli.specs.declared.selection.Row.TheVariants as found
+use Rattle.jp_tape.specs.declared.cursor.Cursor.{Cursor}
+use Rattle.jp_tape.specs.Cursors.{line_of, node_of}
+
+-- the text of a cursor's row, on the line of that number
+abbrev pub cursor_text : Framing → ℕ → Cursor → List ℕ
+cursor_text framing line cursor = rows.node_text framing line (line_of cursor) (node_of cursor)
+
+-- the text of a row that was found
+abbrev pub found_text : Framing → Row → List ℕ
+found_text framing (found.Node line cursor) = cursor_text framing line cursor
+found_text framing (found.Refused line fault) = rows.refusal_text framing line fault
+
+-- the row is of a node
+abbrev pub is_found_node : Row → Bool
+is_found_node (found.Node line cursor) = true
+is_found_node (found.Refused line fault) = false
