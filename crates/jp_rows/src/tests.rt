@@ -120,6 +120,7 @@ fn no_write_follows_a_failed_one(rt: HostRuntime) -> Result<(), Fail> {
             assert_eq!(rt; result.is_err(), room < text.len());
             assert_eq!(rt; out.failed(), room < text.len());
             assert_eq!(rt; out.calls(), (room as u64 + 1).min(12));
+            assert_eq!(rt; out.after(), 0);
             let held = out.into_inner().held;
             assert!(rt; room <= text.len());
             assert_eq!(rt; held.as_slice(), &text[..room]);

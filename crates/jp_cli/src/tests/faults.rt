@@ -39,6 +39,7 @@ fn each_write_fails_once(rt: HostRuntime) -> Result<(), Fail> {
                 &mut out,
             );
             let calls = out.calls();
+            assert_eq!(rt; out.after(), 0);
             let held = out.into_inner().held;
             let received = OUTPUT.get(..n as usize - 1).ok_or("short")?;
             assert_eq!(rt; held.as_slice(), received);
@@ -71,6 +72,7 @@ fn each_read_of_the_collection_fails_once(rt: HostRuntime) -> Result<(), Fail> {
         );
         assert_eq!(rt; ended, Err(RunFault::ReadCollection));
         assert_eq!(rt; collection.calls(), n);
+        assert_eq!(rt; collection.after(), 0);
         assert_eq!(rt; script.calls(), 0);
         assert_eq!(rt; out.calls(), 0);
     }
@@ -93,6 +95,7 @@ fn each_read_of_the_script_fails_once(rt: HostRuntime) -> Result<(), Fail> {
         let held = out.into_inner().held;
         assert_eq!(rt; ended, Err(RunFault::ReadScript));
         assert_eq!(rt; script.calls(), n);
+        assert_eq!(rt; script.after(), 0);
         let received = if n == 11 { OUTPUT } else { b"".as_slice() };
         assert_eq!(rt; held.as_slice(), received);
     }
@@ -155,6 +158,33 @@ fn sizes_are_told(rt: HostRuntime) -> Result<(), Fail> {
         };
         assert_eq!(rt; held.as_slice(), received);
         assert_eq!(rt; ended.err(), fault);
+    }
+    Ok(())
+}
+
+#[test]
+fn a_run_that_ends_well_makes_no_call_too_many(rt: HostRuntime) -> Result<(), Fail> {
+    for (most, collection_calls, script_calls) in [(1, 9, 11), (3, 4, 5), (100, 2, 2)] {
+        let mut collection = Watched::new(Cutting::new(rt.alloc(), COLLECTION, most, NEVER)?);
+        let mut script = Watched::new(Cutting::new(rt.alloc(), b"query $.a\n", most, NEVER)?);
+        let mut out = Watched::new(Taking::new(rt.alloc(), 100, NEVER, NEVER));
+        let ended = run(
+            rt.alloc(),
+            setup(100, 100),
+            &mut collection,
+            &mut script,
+            &mut out,
+        );
+        assert_eq!(rt; ended, Ok(()));
+        assert!(rt; collection.ended());
+        assert!(rt; script.ended());
+        assert_eq!(rt; collection.calls(), collection_calls);
+        assert_eq!(rt; script.calls(), script_calls);
+        assert_eq!(rt; out.calls(), 12);
+        assert_eq!(rt; collection.after(), 0);
+        assert_eq!(rt; script.after(), 0);
+        assert_eq!(rt; out.after(), 0);
+        assert_eq!(rt; out.into_inner().held.as_slice(), OUTPUT);
     }
     Ok(())
 }

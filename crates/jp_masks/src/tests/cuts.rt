@@ -88,23 +88,75 @@ fn are_of_each_line(
     Ok(())
 }
 
+/// The texts stand where those of the sequence do, each behind its separator, and each has the marks that it has alone. An
+/// empty one, and what stands before the first separator, is none.
+fn are_of_each_text(
+    rt: &impl Abort,
+    alloc: Global,
+    sequence: &[u8],
+    marks: &Marks,
+) -> Result<(), AllocError> {
+    let mut count = 0;
+    let mut start = 0u32;
+    for text in sequence.split(|byte| *byte == 0x1E) {
+        assert!(rt; text.len() < 1000);
+        assert!(rt; start < 1000);
+        let end = start + text.len() as u32;
+        if start > 0 && !text.is_empty() {
+            assert!(rt; count < marks.line_count());
+            let found = marks.line(count);
+            assert_eq!(rt; found.span, Span { start, end });
+            let alone = line_marks(alloc, text)?;
+            assert_eq!(rt; found.positions, alone.as_slice());
+            count += 1;
+        }
+        start = end + 1;
+    }
+    assert_eq!(rt; count, marks.line_count());
+    Ok(())
+}
+
+/// The lines of a collection, or the texts of a sequence, are found.
+fn are_found(
+    rt: &impl Abort,
+    alloc: Global,
+    framing: Framing,
+    text: &[u8],
+    marks: &Marks,
+) -> Result<(), AllocError> {
+    match framing {
+        Framing::Lines => are_of_each_line(rt, alloc, text, marks),
+        Framing::Sequence => are_of_each_text(rt, alloc, text, marks),
+    }
+}
+
 /// The text in two pieces, with each place as the cut.
-fn each_cut(rt: &impl Abort, alloc: Global, text: &[u8]) -> Result<(), AllocError> {
+fn each_cut(
+    rt: &impl Abort,
+    alloc: Global,
+    framing: Framing,
+    text: &[u8],
+) -> Result<(), AllocError> {
     assert!(rt; text.len() < 1000);
     for cut in 0..=text.len() {
         let (front, back) = text.split_at(cut);
-        let marks = scan(alloc, Framing::Lines, front, back)?;
-        are_of_each_line(rt, alloc, text, &marks)?;
+        let marks = scan(alloc, framing, front, back)?;
+        are_found(rt, alloc, framing, text, &marks)?;
     }
     Ok(())
 }
 
 /// The marks of a text that comes in pieces of one length.
-fn scan_pieces(alloc: Global, text: &[u8], size: usize) -> Result<Marks, AllocError>
+fn scan_pieces(
+    alloc: Global,
+    framing: Framing,
+    text: &[u8],
+    size: usize,
+) -> Result<Marks, AllocError>
     requires { length text.now < 1000 }
 {
     let mut marks = Marks::new(alloc);
-    let mut scanner = Scanner::new(Framing::Lines);
+    let mut scanner = Scanner::new(framing);
     let mut rest = text;
     for _ in 0..text.len() {
         let (piece, later) = rest.split_at(size.min(rest.len()));
@@ -115,11 +167,16 @@ fn scan_pieces(alloc: Global, text: &[u8], size: usize) -> Result<Marks, AllocEr
     Ok(marks)
 }
 
-fn each_size(rt: &impl Abort, alloc: Global, text: &[u8]) -> Result<(), AllocError> {
+fn each_size(
+    rt: &impl Abort,
+    alloc: Global,
+    framing: Framing,
+    text: &[u8],
+) -> Result<(), AllocError> {
     assert!(rt; text.len() < 1000);
     for size in [1, 2, 3, 63, 64, 65] {
-        let marks = scan_pieces(alloc, text, size)?;
-        are_of_each_line(rt, alloc, text, &marks)?;
+        let marks = scan_pieces(alloc, framing, text, size)?;
+        are_found(rt, alloc, framing, text, &marks)?;
     }
     Ok(())
 }
@@ -131,8 +188,8 @@ fn strings_are_cut_anywhere(rt: HostRuntime) -> Result<(), Fail> {
         for backslashes in 0..61 {
             let letters = inner.saturating_sub(backslashes);
             let text = text_of(alloc, letters, backslashes, b"\"]")?;
-            each_cut(&rt, alloc, &text)?;
-            each_size(&rt, alloc, &text)?;
+            each_cut(&rt, alloc, Framing::Lines, &text)?;
+            each_size(&rt, alloc, Framing::Lines, &text)?;
         }
     }
     Ok(())
@@ -158,10 +215,44 @@ fn collections(alloc: Global) -> Result<Vec<Vec<u8>>, AllocError> {
 fn collections_are_cut_anywhere(rt: HostRuntime) -> Result<(), Fail> {
     let alloc = rt.alloc();
     for text in collections(alloc)? {
-        each_cut(&rt, alloc, &text)?;
-        each_size(&rt, alloc, &text)?;
+        each_cut(&rt, alloc, Framing::Lines, &text)?;
+        each_size(&rt, alloc, Framing::Lines, &text)?;
     }
-    each_cut(&rt, alloc, super::SHORT_LINES)?;
-    each_size(&rt, alloc, super::SHORT_LINES)?;
+    each_cut(&rt, alloc, Framing::Lines, super::SHORT_LINES)?;
+    each_size(&rt, alloc, Framing::Lines, super::SHORT_LINES)?;
+    Ok(())
+}
+
+/// The same collections, each line feed a separator: a string, an escape or a character is cut by it as by a line feed. In
+/// front of the first separator stands a line feed, or nothing, and a second separator stands behind each.
+fn sequences(alloc: Global) -> Result<Vec<Vec<u8>>, AllocError> {
+    let mut all = Vec::new(alloc);
+    for front in [b"".as_slice(), b"\n"] {
+        for text in collections(alloc)? {
+            let mut sequence = Vec::from_slice(alloc, front)?;
+            sequence.push(0x1E)?;
+            for byte in &text {
+                if *byte == b'\n' {
+                    sequence.extend_from_slice(b"\x1E\x1E\n")?;
+                } else {
+                    sequence.push(*byte)?;
+                }
+            }
+            all.push(sequence)?;
+        }
+    }
+    all.push(Vec::from_slice(alloc, b"")?)?;
+    all.push(Vec::from_slice(alloc, b" \n")?)?;
+    all.push(Vec::from_slice(alloc, b"\x1E")?)?;
+    Ok(all)
+}
+
+#[test]
+fn sequences_are_cut_anywhere(rt: HostRuntime) -> Result<(), Fail> {
+    let alloc = rt.alloc();
+    for text in sequences(alloc)? {
+        each_cut(&rt, alloc, Framing::Sequence, &text)?;
+        each_size(&rt, alloc, Framing::Sequence, &text)?;
+    }
     Ok(())
 }
