@@ -1,0 +1,17 @@
+-- The lines that have a key are sorted.
+use Rattle.std.proofs.Common.{subst}
+use Rattle.std.specs.List.Sorted.{IsSortedBy}
+use Rattle.std.specs.Ordering.{is_lt}
+use Rattle.jp_index.specs.ByKey.{line_order}
+use Rattle.jp_index.specs.Cells.{key_at}
+use Rattle.jp_index.proofs.Numbers.{sorted_are}
+use Rattle.jp_index.proofs.builder.IndexBuilder.finish.Goals as goal
+
+pub returns : goal.returns
+returns c = λ path lines entries is.
+    record {
+      path_is = is.path_is;
+      cells_are = is.cells_are;
+      order_is = sorted_are c.args.self.cells.items c.args.self.by_key.items c.sort_by_key.new.lines.items is.keyed_are c.sort_by_key.ensures.permutation
+          (subst (λ cs. IsSortedBy (λ a b. is_lt (line_order (key_at cs) a b)) c.sort_by_key.new.lines.items) c.deref.ensures.value c.sort_by_key.ensures.sorted);
+    }

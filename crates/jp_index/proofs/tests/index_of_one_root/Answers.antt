@@ -1,0 +1,7 @@
+-- One line more was put in.
+use Rattle.jp_index.proofs.tests.index_of_one_root.Goals as goal
+
+pub loop-preserved : goal.loop-preserved
+loop-preserved c =
+    let before = c.loop.invariant in
+    (before.0, _, c.in_ok-push.ensures.ok before.0 c.loop.counter before.1 before.2)

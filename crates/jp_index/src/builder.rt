@@ -1,0 +1,80 @@
+//! An index made of all lines at once.
+
+ghost use Rattle.std.specs.Prelude.{◌≡◌, ℕ, ◌+◌, ◌<◌, ◌^◌, List, [], ◌++◌, length, option_map, OnOk, OnErr};
+ghost use Rattle.jp_model.specs.Steps.{Step};
+ghost use Rattle.jp_query.specs.SingularPaths.{path_steps};
+ghost use Rattle.jp_tape.specs.Cursors.{root_of};
+ghost use Rattle.jp_index.specs.Entries.{Entry, entry_in};
+
+use crate::comparing::has_key;
+use crate::index::ValueIndex;
+use crate::order::sort_by_key;
+use crate::reading::read_root;
+use crate::slot::Slot;
+use jp_query::SingularPath;
+use jp_tape::Cursor;
+use std::alloc::{AllocError, Global};
+
+/// An index in the making. The lines are put in one by one from the first, and their keys are sorted once, at the end.
+#[derive(Drop)]
+pub struct IndexBuilder {
+    pub(crate) path: SingularPath,
+    /// What is kept of line k stands at k - 1.
+    pub(crate) cells: Vec<Option<Slot>>,
+    /// The lines that have a key, in order of line.
+    pub(crate) by_key: Vec<u32>,
+    ghost few: { length cells.items < 2 ^ 32 },
+}
+
+impl IndexBuilder {
+    ghost use Rattle.jp_index.specs.Indexes.{IsIndexOf, IsBuildOf, lines_built};
+
+    /// No line yet. It takes no memory yet.
+    pub fn new(alloc: Global, path: SingularPath) -> IndexBuilder
+        ensures { IsBuildOf result (path_steps path) 0 [] }
+    {
+        IndexBuilder {
+            path,
+            cells: Vec::new(alloc),
+            by_key: Vec::new(alloc),
+        }
+    }
+
+    /// Puts in the next line, which has this root or, where it has no tree, none. After an `Err` the entries are as before.
+    pub fn push(&mut self, alloc: Global, root: Option<Cursor<'_>>) -> Result<(), AllocError>
+        requires { lines_built self.old + 1 < 2 ^ 32 }
+        ensures ok { (path : List Step) (lines : ℕ) (entries : List Entry) → IsBuildOf self.old path lines entries
+            → OnOk result (IsBuildOf self.new path (lines + 1) (entries ++ entry_in path (lines + 1) (option_map root_of root.entry))) }
+        ensures err { (path : List Step) (lines : ℕ) (entries : List Entry) → IsBuildOf self.old path lines entries → OnErr result (IsBuildOf self.new path lines entries) }
+    {
+        let line = self.cells.len() as u32 + 1;
+        let cell = read_root(alloc, &self.path, root)?;
+        self.by_key.reserve(1)?;
+        if has_key(&cell) {
+            self.cells.push(cell)?;
+            let _ = self.by_key.push(line);
+        } else {
+            self.cells.push(cell)?;
+        }
+        Ok(())
+    }
+
+    /// The index of the lines that were put in. It takes no memory.
+    pub fn finish(self) -> ValueIndex
+        ensures { (path : List Step) (lines : ℕ) (entries : List Entry) → IsBuildOf self path lines entries → IsIndexOf result path entries }
+    {
+        let IndexBuilder {
+            path,
+            cells,
+            mut by_key,
+        } = self;
+        sort_by_key(&cells, &mut by_key);
+        let count = cells.iter().filter(|cell| cell.is_some()).count() as u32;
+        ValueIndex {
+            path,
+            cells,
+            by_key,
+            count,
+        }
+    }
+}
