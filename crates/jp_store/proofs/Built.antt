@@ -1,22 +1,16 @@
 -- An index is built line by line.
-use Rattle.std.proofs.Common.{◌≡◌, ◌∙◌, ◌<◌, ◌≤◌, ◌+◌, ◌++◌, ℕ, List, [], ◌∷◌, length, map, take, get_or, Bool, true, false, refl, sym, ap, subst, append-nil, arith}
+use Rattle.std.proofs.Common.{◌≡◌, ◌∙◌, ◌<◌, ◌≤◌, ◌+◌, ◌++◌, ℕ, List, [], ◌∷◌, length, map, take, get_or, Option, sym, ap, arith}
 use Rattle.std.proofs.lemmas.List.{take_more, take_all, length-map, get_or-map, length-take-le}
 use Rattle.jp_model.specs.declared.Framing.{Framing}
-use Rattle.jp_model.specs.Json.Status.{LineStatus, blank, refused, parsed}
+use Rattle.jp_model.specs.Json.Status.{LineStatus}
 use Rattle.jp_model.specs.Json.Tree.{Tree}
 use Rattle.jp_model.specs.Json.Reader.{status_of}
-use Rattle.jp_model.specs.Plans.{is_tree}
 use Rattle.jp_model.specs.Steps.{Step}
 use Rattle.jp_model.specs.Script.Machine.{statuses}
-use Rattle.jp_index.specs.Entries.{entries_of, entries_from, entry_of, status_entry, with_line}
+use Rattle.jp_index.specs.Entries.{entries_of, entry_in, status_entry}
 use Rattle.jp_store.specs.Stored.{stored_text}
 use Rattle.jp_store.specs.declared.line.Line.{Line}
-use Rattle.jp_store.proofs.Renewed.{entries_more, from-append}
-
-no_entry : (p : List Step) (m : ℕ) (s : LineStatus) → is_tree s ≡ false → status_entry p m s ≡ []
-no_entry p m blank e = refl
-no_entry p m (refused fault) e = refl
-no_entry p m (parsed t) e = absurd (cc)
+use Rattle.jp_store.proofs.Renewed.{from-append}
 
 module _ (p : List Step) (f : Framing) (bytes : List ℕ) (lines : List Line) (i : ℕ) (line : Line) (within : i < length lines) (is : line ≡ get_or lines i line) where
   abbrev ss : List LineStatus
@@ -39,18 +33,9 @@ module _ (p : List Step) (f : Framing) (bytes : List ℕ) (lines : List Line) (i
   counted : i + 1 ≡ 1 + length (take i ss)
   counted = omega (arith, length-take-le i ss (omega (arith, within, long)))
 
-  pub tree_more : (t : Tree) (m : ℕ) → m ≡ i + 1 → s ≡ parsed t → with_line m (entry_of p m t) (entries_of p (take i ss)) ≡ entries_of p (take (i + 1) ss)
-  tree_more t m e h =
-      ap (λ r. with_line m r (entries_of p (take i ss))) (sym (ap (status_entry p m) h))
-      ∙ entries_more p 1 (take i ss) m s (omega (arith, e, counted))
-      ∙ ap (entries_of p) (sym taken)
-
-  pub none_more : is_tree s ≡ false → entries_of p (take i ss) ≡ entries_of p (take (i + 1) ss)
-  none_more h =
-      sym (append-nil (entries_of p (take i ss)))
-      ∙ ap (λ r. entries_of p (take i ss) ++ r) (sym (no_entry p (i + 1) s h))
-      ∙ sym (from-append p 1 (take i ss) s (i + 1) counted)
-      ∙ ap (entries_of p) (sym taken)
+  pub line_more : (t : Option Tree) → entry_in p (i + 1) t ≡ status_entry p (i + 1) s → entries_of p (take i ss) ++ entry_in p (i + 1) t ≡ entries_of p (take (i + 1) ss)
+  line_more t e =
+      ap (λ r. entries_of p (take i ss) ++ r) e ∙ sym (from-append p 1 (take i ss) s (i + 1) counted) ∙ ap (entries_of p) (sym taken)
 
 pub all_built : (f : Framing) (bytes : List ℕ) (lines : List Line) (i : ℕ) → length lines ≤ i → take i (statuses f (map (stored_text bytes) lines)) ≡ statuses f (map (stored_text bytes) lines)
 all_built f bytes lines i l =

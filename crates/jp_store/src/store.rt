@@ -28,7 +28,7 @@ use crate::reading::read_edited;
 use crate::text::text_of;
 use crate::view::{LineView, Opened};
 use crate::{EditFault, IndexFault, LoadFault, Missing, Status};
-use jp_index::ValueIndex;
+use jp_index::{ValueIndex, laws};
 use jp_model::{Framing, Watched};
 use jp_query::SingularPath;
 use jp_tape::Cursor;
@@ -184,6 +184,7 @@ impl Store {
             × (count ≡ count_by (has_node (path_steps path)) (statuses_in self.old)))
             (λ fault. RefusesIndex fault (index_fault (path_steps path) self.old) × (self.new ≡ self.old)) }
     {
+        laws::a_line_has_one_entry();
         if has_index(&self.indexes, &path) {
             return Err(IndexFault::Exists);
         }
