@@ -1,5 +1,5 @@
 -- An index is built line by line.
-use Rattle.std.proofs.Common.{◌≡◌, ◌∙◌, ◌<◌, ◌≤◌, ◌+◌, ◌++◌, ℕ, List, [], ◌∷◌, length, map, take, get_or, Bool, true, false, refl, sym, ap, subst, append-nil, arith}
+use Rattle.std.proofs.Common.{◌≡◌, ◌∙◌, ◌<◌, ◌≤◌, ◌+◌, ◌++◌, ℕ, List, [], ◌∷◌, length, map, take, get_or, false, refl, sym, ap, append-nil, arith}
 use Rattle.std.proofs.lemmas.List.{take_more, take_all, length-map, get_or-map, length-take-le}
 use Rattle.jp_model.specs.declared.Framing.{Framing}
 use Rattle.jp_model.specs.Json.Status.{LineStatus, blank, refused, parsed}
@@ -8,7 +8,7 @@ use Rattle.jp_model.specs.Json.Reader.{status_of}
 use Rattle.jp_model.specs.Plans.{is_tree}
 use Rattle.jp_model.specs.Steps.{Step}
 use Rattle.jp_model.specs.Script.Machine.{statuses}
-use Rattle.jp_index.specs.Entries.{entries_of, entries_from, entry_of, status_entry, with_line}
+use Rattle.jp_index.specs.Entries.{entries_of, entry_of, status_entry, with_line}
 use Rattle.jp_store.specs.Stored.{stored_text}
 use Rattle.jp_store.specs.declared.line.Line.{Line}
 use Rattle.jp_store.proofs.Renewed.{entries_more, from-append}

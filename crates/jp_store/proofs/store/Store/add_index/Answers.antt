@@ -1,5 +1,5 @@
 -- The index is of the present lines, and its path is the last.
-use Rattle.std.proofs.Common.{◌≡◌, ◌∙◌, ◌<◌, ◌++◌, [], ◌∷◌, List, length, map, ap, ap₂, sym, subst, arith}
+use Rattle.std.proofs.Common.{◌≡◌, ◌∙◌, ◌<◌, ◌++◌, [], ◌∷◌, List, length, map, ap, sym, subst, arith}
 use Rattle.std.specs.Prelude.{All, count_by, false}
 use Rattle.std.proofs.lemmas.List.{map-append, length-map}
 use Rattle.jp_model.specs.Json.Status.{LineStatus}

@@ -1,5 +1,5 @@
 -- The lines are those of the bytes that came, each read, and no index is there.
-use Rattle.std.proofs.Common.{◌≡◌, ◌∙◌, ◌≤◌, ◌<◌, ◌^◌, ℕ, List, length, map, sym, ap, ap₂, subst, arith, All}
+use Rattle.std.proofs.Common.{◌≡◌, ◌∙◌, ℕ, List, length, map, sym, ap, ap₂, subst, arith, All}
 use Rattle.jp_model.specs.Lines.{lines}
 use Rattle.jp_model.specs.Script.Machine.{bytes_held, statuses}
 use Rattle.jp_index.specs.declared.index.ValueIndex.{ValueIndex}
