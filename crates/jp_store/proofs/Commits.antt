@@ -1,5 +1,5 @@
 -- What is kept after an edit: of the lines with one more at their end, or with another in the place of one.
-use Rattle.std.proofs.Common.{◌≡◌, ◌∙◌, ◌<◌, ◌≤◌, ◌+◌, ◌^◌, ◌++◌, ℕ, zero, suc, List, [], ◌∷◌, length, map, set, get_or, Bool, true, false, refl, sym, ap, subst, arith, zero-add}
+use Rattle.std.proofs.Common.{◌≡◌, ◌∙◌, ◌<◌, ◌≤◌, ◌+◌, ◌^◌, ◌++◌, ℕ, zero, suc, List, [], ◌∷◌, length, map, set, get_or, Bool, true, false, sym, ap, arith, zero-add}
 use Rattle.std.specs.Prelude.{All, count_by, cond}
 use Rattle.std.proofs.lemmas.List.{map-append, map-set, length-map, length-set, get_or-map, length-append}
 use Rattle.std.proofs.lemmas.List.Elements.{All-append, All-cons, All-set}
@@ -8,9 +8,8 @@ use Rattle.jp_model.specs.declared.Framing.{Framing}
 use Rattle.jp_model.specs.Json.Status.{LineStatus}
 use Rattle.jp_model.specs.Json.Reader.{status_of}
 use Rattle.jp_model.specs.Plans.{is_tree}
-use Rattle.jp_model.specs.Steps.{Step}
 use Rattle.jp_model.specs.Script.Machine.{bytes_held, statuses, is_refused_status}
-use Rattle.jp_index.specs.Entries.{entries_of, entry_in, with_line}
+use Rattle.jp_index.specs.Entries.{entries_of, with_line}
 use Rattle.jp_index.specs.declared.index.ValueIndex.{ValueIndex}
 use Rattle.jp_store.specs.Edits.{AreEdited, AreSame}
 use Rattle.jp_store.specs.Numbered.{lines_from, with_number}

@@ -1,6 +1,6 @@
 -- The lines of a text, read one by one where they were found.
-use Rattle.std.proofs.Common.{◌≡◌, ◌∙◌, ◌<◌, ◌≤◌, ◌+◌, ◌-◌, ◌^◌, ℕ, List, [], ◌∷◌, ◌++◌, length, map, take, drop, sym, ap, ap₂, subst, arith, append_assoc, get_or, length-drop}
-use Rattle.std.specs.Prelude.{Some, slice_get, slice_range, All}
+use Rattle.std.proofs.Common.{◌≡◌, ◌∙◌, ◌≤◌, ◌+◌, ◌-◌, ℕ, List, [], ◌∷◌, ◌++◌, length, map, take, drop, sym, ap, subst, arith, append_assoc, length-drop}
+use Rattle.std.specs.Prelude.{Some, slice_get, All}
 use Rattle.std.specs.Option.{option_map}
 use Rattle.std.proofs.lemmas.List.{length-map, map-append, take_more, take_all, length-take-le, take-take, drop-take, drop-drop}
 use Rattle.std.proofs.lemmas.List.Elements.{All-append, All-cons}

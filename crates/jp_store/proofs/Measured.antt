@@ -1,19 +1,16 @@
 -- One line more is counted.
-use Rattle.std.proofs.Common.{◌≡◌, ◌∙◌, ◌<◌, ◌≤◌, ◌+◌, ◌^◌, ℕ, List, [], ◌∷◌, ◌++◌, length, map, take, get_or, sym, ap, ap₂, subst, arith, Bool, true, false, refl, append-nil, zero-add, take_all, if◌then◌else◌}
-use Rattle.std.specs.Prelude.{count_by, sum_by, cond, All}
-use Rattle.std.proofs.lemmas.List.{take_more, take-map, map-append, length-map, length-take-le, drop_more}
+use Rattle.std.proofs.Common.{◌≡◌, ◌∙◌, ◌<◌, ◌≤◌, ◌+◌, ℕ, List, [], ◌∷◌, ◌++◌, length, map, take, get_or, sym, ap, subst, arith, zero-add, take_all, if◌then◌else◌}
+use Rattle.std.specs.Prelude.{count_by, cond, All}
+use Rattle.std.proofs.lemmas.List.{take_more, take-map, map-append, length-map, length-take-le}
 use Rattle.std.proofs.lemmas.List.Sums.{sum_by-append, sum_by-take-drop, count_by-le-length}
 use Rattle.jp_model.specs.declared.Framing.{Framing}
-use Rattle.jp_model.specs.Json.Status.{LineStatus, blank, refused, parsed}
 use Rattle.jp_model.specs.Json.Reader.{status_of}
 use Rattle.jp_model.specs.Plans.{is_tree}
 use Rattle.jp_model.specs.Script.Machine.{bytes_held, statuses, is_refused_status}
 use Rattle.jp_store.specs.declared.line.Line.{Line}
-use Rattle.jp_store.specs.declared.line.LineKind.{LineKind}
-use Rattle.jp_store.specs.declared.line.LineKind.TheVariants as kinds
 use Rattle.jp_store.specs.declared.counts.Counts.{Counts}
 use Rattle.jp_store.specs.Numbered.{lines_from}
-use Rattle.jp_store.specs.Stored.{AreCounted, IsRead, IsOfKind, stored_text, is_tree_kind, is_refused_kind}
+use Rattle.jp_store.specs.Stored.{AreCounted, IsRead, stored_text, is_tree_kind, is_refused_kind}
 use Rattle.jp_store.proofs.Kept.{kind_is_refused, kind_is_tree}
 use Rattle.jp_store.proofs.Numbered.{lines_append}
 

@@ -1,7 +1,6 @@
 -- The numbers of the lines that pass a test, where a line changes or is added.
-use Rattle.std.proofs.Common.{◌≡◌, ◌∙◌, ◌<◌, ◌≤◌, ◌+◌, ℕ, zero, suc, List, [], ◌∷◌, ◌++◌, length, take, drop, set, get_or, Bool, true, false, refl, sym, ap, ap₂, append-nil, append_assoc, arith, if◌then◌else◌}
+use Rattle.std.proofs.Common.{◌≡◌, ◌∙◌, ◌<◌, ◌≤◌, ◌+◌, ℕ, zero, suc, List, [], ◌∷◌, ◌++◌, length, set, get_or, Bool, true, false, refl, sym, ap, ap₂, append-nil, append_assoc, arith, if◌then◌else◌}
 use Rattle.std.specs.Prelude.{filter, nat_lt}
-use Rattle.std.specs.List.{insert, remove}
 use Rattle.std.proofs.lemmas.List.Elements.{filter-append}
 use Rattle.jp_model.specs.Json.Status.{LineStatus}
 use Rattle.jp_store.specs.Numbered.{lines_from, with_number, AreRising}

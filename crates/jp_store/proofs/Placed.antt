@@ -1,5 +1,5 @@
 -- A number that is put among ascending ones, or taken out, at the place where a search finds it.
-use Rattle.std.proofs.Common.{◌≡◌, ◌∙◌, ◌<◌, ◌≤◌, ◌+◌, ℕ, zero, suc, List, [], ◌∷◌, ◌++◌, length, take, drop, get_or, Result, Ok, Err, Bool, true, false, refl, sym, ap, ap₂, append-nil, append_assoc, arith, if◌then◌else◌, ⊎_elim}
+use Rattle.std.proofs.Common.{◌≡◌, ◌∙◌, ◌<◌, ◌≤◌, ℕ, zero, suc, List, [], ◌∷◌, ◌++◌, length, take, drop, get_or, Result, Ok, Err, true, false, refl, sym, ap, ap₂, append-nil, append_assoc, arith, if◌then◌else◌, ⊎_elim}
 use Rattle.std.specs.Prelude.{filter, nat_lt, OnErr}
 use Rattle.std.specs.Result.{is_ok}
 use Rattle.std.proofs.lemmas.Bool.{cases_lt}

@@ -1,5 +1,5 @@
 -- Why a line is not replaced, or that nothing is in the way.
-use Rattle.std.proofs.Common.{◌≡◌, ◌∙◌, ◌<◌, ◌≤◌, ◌+◌, ◌-◌, ℕ, List, length, map, get_or, Bool, true, false, sym, ap, subst, arith, if◌then◌else◌}
+use Rattle.std.proofs.Common.{◌≡◌, ◌∙◌, ◌≤◌, ◌+◌, ◌-◌, ℕ, List, length, map, get_or, true, false, sym, ap, subst, arith, if◌then◌else◌}
 use Rattle.std.specs.Prelude.{None, Some, slice_set, nat_lt, nat_le, ◌&&◌, ◌==◌}
 use Rattle.std.specs.List.{list_any}
 use Rattle.std.proofs.lemmas.List.{length-map, get_or-map}

@@ -1,8 +1,7 @@
 -- The lines of a collection are no more than its bytes, and hold no more than these and one.
-use Rattle.std.proofs.Common.{◌≡◌, ◌∙◌, ◌+◌, ◌<◌, ◌≤◌, ◌^◌, ℕ, List, [], ◌∷◌, ◌++◌, length, take, drop, sym, ap, subst, refl, arith, true, false, Bool, length-drop, if◌then◌else◌}
-use Rattle.std.specs.Prelude.{suc}
+use Rattle.std.proofs.Common.{◌≡◌, ◌∙◌, ◌+◌, ◌≤◌, ℕ, List, [], ◌∷◌, ◌++◌, length, take, drop, sym, ap, subst, refl, arith, true, false, Bool, length-drop, if◌then◌else◌}
 use Rattle.std.specs.List.{onto_first}
-use Rattle.std.proofs.lemmas.List.Sums.{sum_by-cons, sum_by-append}
+use Rattle.std.proofs.lemmas.List.Sums.{sum_by-cons}
 use Rattle.std.proofs.lemmas.List.Splits.{slice_split-cons_yes, slice_split-cons_no}
 use Rattle.jp_model.specs.declared.Framing.{Framing}
 use Rattle.jp_model.specs.declared.Framing.TheVariants as framings

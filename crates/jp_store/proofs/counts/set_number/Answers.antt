@@ -1,9 +1,9 @@
 -- The number is put where the search says that it belongs.
-use Rattle.std.proofs.Common.{◌≡◌, ◌∙◌, Ok, Err, sym, ap, subst}
+use Rattle.std.proofs.Common.{◌∙◌, Ok, Err, sym, ap, subst}
 use Rattle.std.specs.Ordering.{nat_cmp}
 use Rattle.std.proofs.lemmas.List.Sorted.{searched}
 use Rattle.std.specs.List.Sorted.{IsBinarySearchResult}
-use Rattle.jp_store.specs.Numbered.{AreRising, with_number}
+use Rattle.jp_store.specs.Numbered.{with_number}
 use Rattle.jp_store.proofs.Placed.{flat, taken_out, kept_in, put_in, kept_out, has_put}
 use Rattle.jp_store.proofs.counts.set_number.Goals as goal
 

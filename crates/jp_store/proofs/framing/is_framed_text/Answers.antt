@@ -1,7 +1,6 @@
 -- What stands before the first separator is the first piece.
-use Rattle.std.proofs.Common.{◌≡◌, ◌∙◌, List, ℕ, ap, sym, subst}
+use Rattle.std.proofs.Common.{◌∙◌, ap, sym}
 use Rattle.std.proofs.lemmas.List.{take_rest}
-use Rattle.jp_model.specs.declared.Framing.TheVariants as framings
 use Rattle.jp_model.specs.Lines.{is_framed, separator_of}
 use Rattle.jp_store.proofs.Parts.{framed_at, framed_whole}
 use Rattle.jp_store.proofs.framing.is_framed_text.Goals as goal

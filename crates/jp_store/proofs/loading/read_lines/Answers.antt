@@ -1,5 +1,5 @@
 -- One piece after another is read.
-use Rattle.std.proofs.Common.{◌≡◌, ◌∙◌, ◌+◌, ◌++◌, List, ℕ, map, length, drop, sym, ap, subst, arith, length-drop, All}
+use Rattle.std.proofs.Common.{◌∙◌, ◌++◌, List, map, length, drop, sym, ap, subst, arith, length-drop, All}
 use Rattle.std.proofs.lemmas.List.{take_rest}
 use Rattle.jp_model.specs.Lines.{lines}
 use Rattle.jp_masks.specs.Found.{lines_in}

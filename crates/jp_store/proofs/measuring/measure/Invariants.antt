@@ -1,5 +1,5 @@
 -- The counts so far are those of the lines so far.
-use Rattle.std.proofs.Common.{◌≡◌, ◌≤◌, map, take, All}
+use Rattle.std.proofs.Common.{◌≡◌, map, take, All}
 use Rattle.jp_model.specs.declared.Framing.{Framing}
 use Rattle.jp_store.specs.Stored.{AreCounted, IsRead, stored_text}
 use Rattle.jp_store.proofs.measuring.measure.Given as goal

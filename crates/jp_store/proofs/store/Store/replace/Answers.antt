@@ -1,10 +1,9 @@
 -- The line stands in the place of the other, and the counts and the indexes are of it too; after a refusal they are as before.
-use Rattle.std.proofs.Common.{◌≡◌, ◌∙◌, ◌≤◌, ◌<◌, ◌+◌, ◌-◌, List, ℕ, ap, ap₂, sym, refl, subst, arith, length, map, set, get_or}
+use Rattle.std.proofs.Common.{◌≡◌, ◌∙◌, ◌≤◌, ◌-◌, List, ℕ, ap, ap₂, sym, refl, subst, arith, length, map, set, get_or}
 use Rattle.std.specs.Prelude.{None}
-use Rattle.std.proofs.lemmas.List.{length-map, map-set}
+use Rattle.std.proofs.lemmas.List.{map-set}
 use Rattle.jp_model.specs.Script.Machine.{statuses, is_refused_status}
-use Rattle.jp_model.specs.Steps.{Step}
-use Rattle.jp_store.specs.Collections.{Collection, replaced, with_lines}
+use Rattle.jp_store.specs.Collections.{replaced, with_lines}
 use Rattle.jp_store.specs.Edits.{AreEdited}
 use Rattle.jp_store.specs.Faults.{RefusesEdit, replace_fault}
 use Rattle.jp_store.specs.Numbered.{AreRising, with_number}
