@@ -1,6 +1,6 @@
 -- Lists of which each element stands in a relation to those behind it, and where a test of them ends.
-use Rattle.std.proofs.Common.{◌≡◌, ◌≢◌, ◌∙◌, ℕ, zero, suc, ◌+◌, ◌<◌, ◌≤◌, Bool, true, false, List, [], ◌∷◌, ◌++◌, length, get_or, take, drop, refl, sym, ap, ap₂, subst, arith, ◌⊎◌, inl, inr}
-use Rattle.std.specs.Prelude.{All, Contains, insert, remove, IsPermutation}
+use Rattle.std.proofs.Common.{◌≡◌, ◌≢◌, ◌∙◌, ℕ, zero, suc, ◌+◌, ◌<◌, ◌≤◌, Bool, true, false, List, [], ◌∷◌, length, get_or, take, drop, refl, sym, ap, ap₂, subst, arith, ◌⊎◌, inl, inr}
+use Rattle.std.specs.Prelude.{All, Contains, insert, remove}
 use Rattle.std.specs.List.{AllPairs, AllWithin}
 use Rattle.std.specs.List.Sorted.{IsPartitionedBy, IsPartitionPoint}
 use Rattle.std.proofs.lemmas.Bool.{cases_lt}

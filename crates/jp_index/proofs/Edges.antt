@@ -1,9 +1,8 @@
 -- The keys that compare so with a key are those between two places in the order of keys.
-use Rattle.std.proofs.Common.{◌≡◌, ◌≢◌, ◌∙◌, ℕ, ◌<◌, ◌≤◌, ◌==◌, Bool, true, false, not, ◌&&◌, ◌||◌, nat_lt, nat_le, List, Option, Some, None, refl, sym, ap, ap₂, subst, arith, ◌⊎◌, inl, inr, Ordering, Less, Equal, Greater}
-use Rattle.std.specs.Cmp.{IsTotalOrder}
+use Rattle.std.proofs.Common.{◌≡◌, ◌∙◌, ℕ, ◌<◌, ◌≤◌, ◌==◌, Bool, true, false, not, ◌&&◌, ◌||◌, nat_lt, nat_le, Option, Some, None, refl, sym, ap, ap₂, arith, ◌⊎◌, inl, inr, Ordering, Less, Equal, Greater}
 use Rattle.std.specs.Cmp.Lexicographic.{slice_cmp}
 use Rattle.std.specs.Option.{option_cmp}
-use Rattle.std.specs.Ordering.{is_lt, is_le, is_gt, is_eq, nat_cmp, ordering_then, ordering_reverse, then_cmp, on}
+use Rattle.std.specs.Ordering.{is_lt, is_le, is_gt, is_eq, nat_cmp, ordering_then, ordering_reverse}
 use Rattle.std.proofs.lemmas.Bool.Decides.{nat_tests}
 use Rattle.std.proofs.lemmas.Cmp.{ranked, by_ranked, upto}
 use Rattle.std.proofs.lemmas.Map.Keys.{le_from_not_gt}
@@ -15,11 +14,11 @@ use Rattle.jp_values.specs.declared.key.Key.{Key}
 use Rattle.jp_values.specs.declared.key.Key.TheVariants as keys
 use Rattle.jp_values.proofs.KeyOrder.{keys_in_order, values_tie}
 use Rattle.jp_values.proofs.Leaves.{text_less_is}
-use Rattle.jp_index.specs.Edges.{key_in_front, in_front, start_of, end_of, is_between}
+use Rattle.jp_index.specs.Edges.{key_in_front, in_front, is_between}
 use Rattle.jp_index.specs.ByKey.{line_order}
 use Rattle.jp_index.specs.declared.edge.Edge.{Edge}
 use Rattle.jp_index.specs.declared.edge.Edge.TheVariants.{BeforeKey, BehindKey, BeforeKind, BehindKind}
-use Rattle.jp_index.proofs.KeyTotal.{keys_total, by_kind_is, number_part, text_part}
+use Rattle.jp_index.proofs.KeyTotal.{keys_total, by_kind_is}
 
 -- ---- values of one kind
 

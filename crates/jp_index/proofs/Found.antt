@@ -1,5 +1,5 @@
 -- The lines that an index finds, and those that it has.
-use Rattle.std.proofs.Common.{◌≡◌, ◌≢◌, ◌∙◌, ◌↔◌, ℕ, zero, suc, ◌+◌, ◌-◌, ◌^◌, ◌<◌, ◌≤◌, ◌==◌, Bool, true, false, cond, List, [], ◌∷◌, ◌++◌, length, map, get_or, set, drop, Option, Some, None, refl, sym, ap, ap₂, subst, arith, length-append, ◌⊎◌, inl, inr, if◌then◌else◌}
+use Rattle.std.proofs.Common.{◌≡◌, ◌∙◌, ◌↔◌, ℕ, zero, suc, ◌+◌, ◌-◌, ◌^◌, ◌<◌, ◌≤◌, ◌==◌, Bool, true, false, cond, List, [], ◌∷◌, ◌++◌, length, map, get_or, set, drop, Option, Some, None, refl, sym, ap, ap₂, subst, arith, length-append, inl, inr, if◌then◌else◌}
 use Rattle.std.specs.Prelude.{All, Contains, count_by, filter}
 use Rattle.std.specs.List.{AllPairs}
 use Rattle.std.specs.List.Sorted.{IsPermutation, IsSorted, IsStrictlyIncreasing}
@@ -19,7 +19,7 @@ use Rattle.jp_model.specs.Steps.{Step}
 use Rattle.jp_values.specs.Keys.{IsKeyOf}
 use Rattle.jp_values.specs.declared.key.Key.{Key}
 use Rattle.jp_index.specs.ByKey.{Ascend, AreByKey, but}
-use Rattle.jp_index.specs.Cells.{cell_key, key_at, has_key, numbers_where}
+use Rattle.jp_index.specs.Cells.{cell_key, key_at, numbers_where}
 use Rattle.jp_index.specs.Edges.{is_between}
 use Rattle.jp_index.specs.Entries.{Entry, entry_value, lines_where, entries_at}
 use Rattle.jp_index.specs.Indexes.{IsKeyFor, CellIs, CellsAre}

@@ -4,7 +4,7 @@ use Rattle.std.specs.Prelude.{string_bytes}
 use Rattle.std.specs.Cmp.{IsTotalOrder}
 use Rattle.std.specs.Cmp.Lexicographic.{slice_cmp, options_total}
 use Rattle.std.specs.Option.{option_cmp}
-use Rattle.std.specs.Ordering.{nat_cmp, int_cmp, ordering_then, then_cmp, on, flip_args}
+use Rattle.std.specs.Ordering.{nat_cmp, ordering_then, then_cmp, on, flip_args}
 use Rattle.std.proofs.lemmas.Cmp.{nat_cmp_total, int_cmp_total, nat_list_cmp_total, on_total, then_total, back_total}
 use Rattle.jp_decimal.specs.Keys.{size_key_order, key_order as decimal_order}
 use Rattle.jp_decimal.specs.declared.key.KeySize.{KeySize}

@@ -1,24 +1,23 @@
 -- The numbers of the lines whose cells pass a test.
-use Rattle.std.proofs.Common.{◌≡◌, ◌≢◌, ◌∙◌, ◌↔◌, ℕ, zero, suc, ◌+◌, ◌<◌, ◌≤◌, Bool, true, false, List, [], ◌∷◌, ◌++◌, length, get_or, set, take, drop, Option, Some, None, refl, sym, ap, ap₂, subst, arith, ◌⊎◌, inl, inr, eqb, Ordering, Less, Equal, Greater, if◌then◌else◌}
-use Rattle.std.specs.Prelude.{All, Contains, count_by, not, ◌&&◌}
-use Rattle.std.specs.Bool.{Decides}
+use Rattle.std.proofs.Common.{◌≡◌, ◌≢◌, ◌∙◌, ℕ, zero, suc, ◌+◌, ◌<◌, ◌≤◌, Bool, true, false, List, [], ◌∷◌, ◌++◌, length, get_or, Option, None, refl, sym, ap, subst, arith, inl, inr, eqb, Ordering, Less, Equal, Greater, if◌then◌else◌}
+use Rattle.std.specs.Prelude.{Contains}
 use Rattle.std.specs.List.{AllPairs, IsDistinct}
-use Rattle.std.specs.List.Sorted.{IsPermutation, IsSorted, IsSortedBy, IsStrictlyIncreasing}
+use Rattle.std.specs.List.Sorted.{IsPermutation, IsSorted, IsSortedBy}
 use Rattle.std.specs.Option.{is_some}
-use Rattle.std.specs.Ordering.{nat_cmp, is_lt, is_gt, ordering_reverse}
+use Rattle.std.specs.Ordering.{nat_cmp, is_lt, ordering_reverse}
 use Rattle.std.proofs.lemmas.Bool.{cases_lt}
 use Rattle.std.proofs.lemmas.Bool.Decides.{nat_tests, Decides-eqb}
-use Rattle.std.proofs.lemmas.List.{get_or_past, get_or-set_other, get_or_append_left}
+use Rattle.std.proofs.lemmas.List.{get_or_past}
 use Rattle.std.proofs.lemmas.List.Elements.{Contains-get_or}
 use Rattle.std.proofs.lemmas.List.Kept.{AllPairs-cons, AllPairs-from_increasing}
-use Rattle.std.proofs.lemmas.List.Sorted.{All-permutation, Contains-permutation, IsPermutation-sym, IsNonDecreasingBy-from_sort, ranks_by, sorted_far}
+use Rattle.std.proofs.lemmas.List.Sorted.{Contains-permutation, IsPermutation-sym, IsNonDecreasingBy-from_sort, ranks_by, sorted_far}
 use Rattle.std.proofs.lemmas.Map.Keys.{IsDistinct-IsPermutation, IsStrictlyIncreasing-from_distinct}
 use Rattle.std.proofs.lemmas.Map.Made.{AllPairs-from_IsDistinct, IsDistinct-from_AllPairs}
 use Rattle.jp_values.specs.declared.key.Key.{Key}
-use Rattle.jp_index.specs.ByKey.{line_order, Ascend, AreByKey, but}
+use Rattle.jp_index.specs.ByKey.{line_order, Ascend, AreByKey}
 use Rattle.jp_index.specs.Cells.{cell_key, key_at, has_key, numbers_where}
 use Rattle.jp_index.specs.declared.slot.Slot.{Slot}
-use Rattle.jp_index.proofs.Ascending.{Below, rest_of_pairs, same_rising, among_cons, among_first, among_rest, among_none}
+use Rattle.jp_index.proofs.Ascending.{Below, among_cons, among_first, among_rest, among_none}
 use Rattle.jp_index.proofs.ByKey.{lines_total, never, apart}
 
 module _ (test : Option Slot → Bool) where

@@ -40,6 +40,13 @@ impl IndexBuilder {
         }
     }
 
+    /// The number of lines that were put in.
+    pub fn line_count(&self) -> u32
+        ensures { result ≡ lines_built self.now }
+    {
+        self.cells.len() as u32
+    }
+
     /// Puts in the next line, which has this root or, where it has no tree, none. After an `Err` the entries are as before.
     pub fn push(&mut self, alloc: Global, root: Option<Cursor<'_>>) -> Result<(), AllocError>
         requires { lines_built self.old + 1 < 2 ^ 32 }

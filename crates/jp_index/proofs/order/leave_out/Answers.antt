@@ -1,5 +1,5 @@
 -- The line stands where it would be, or is not there.
-use Rattle.std.proofs.Common.{◌≡◌, ◌∙◌, ◌<◌, length, get_or, arith, sym, subst, List, ℕ}
+use Rattle.std.proofs.Common.{◌≡◌, ◌∙◌, ◌<◌, length, get_or, arith, sym, subst}
 use Rattle.std.proofs.lemmas.List.{get_or_default}
 use Rattle.jp_index.specs.ByKey.{Ascend, AreByKey, but}
 use Rattle.jp_index.specs.Cells.{key_at}

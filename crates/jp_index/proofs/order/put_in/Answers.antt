@@ -1,9 +1,9 @@
 -- The line is put in its place.
-use Rattle.std.proofs.Common.{◌≡◌, ◌∙◌, ◌≤◌, length, get_or, arith, refl, sym, subst, ap, List, ℕ, if◌then◌else◌}
+use Rattle.std.proofs.Common.{◌≡◌, ◌∙◌, ◌≤◌, length, refl, sym, subst, ap, if◌then◌else◌}
 use Rattle.std.specs.Prelude.{insert, Option, Some, None, option_copied, true}
 use Rattle.std.specs.Option.{is_some}
 use denote.Ref.{Bor}
-use Rattle.jp_index.specs.ByKey.{Ascend, AreByKey, but}
+use Rattle.jp_index.specs.ByKey.{Ascend, AreByKey}
 use Rattle.jp_index.specs.Cells.{key_at}
 use Rattle.jp_index.proofs.ByKey.{put_in, ascend_in, IsPlaceOf}
 use Rattle.jp_index.proofs.order.put_in.Goals as goal
