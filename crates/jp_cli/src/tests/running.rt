@@ -26,7 +26,9 @@ pub(super) fn answered(
     let mut script = Watched::new(Cutting::new(alloc, script, cut, NEVER)?);
     let mut out = Watched::new(Taking::new(alloc, 100, NEVER, NEVER));
     match run(alloc, SETUP, &mut collection, &mut script, &mut out) {
-        Ok(()) if collection.after() > 0 || script.after() > 0 || out.after() > 0 => Err("a call too many".into()),
+        Ok(()) if collection.after() > 0 || script.after() > 0 || out.after() > 0 => Err(
+            "a call too many".into(),
+        ),
         Ok(()) => Ok(out.into_inner().held),
         Err(_) => Err("the run stopped".into()),
     }
