@@ -1,13 +1,8 @@
 -- The lines are those of the bytes that came, each read, and no index is there.
-<<<<<<< HEAD
 use Rattle.std.proofs.Common.{◌≡◌, true, false, refl, ◌∙◌, ◌≤◌, ◌<◌, ◌^◌, ℕ, List, length, map, sym, ap, ap₂, subst, arith, All}
 use Rattle.jp_model.proofs.Devices.{came_so, goes_on, came_whole, not_ended, was_ended}
 use Rattle.jp_model.specs.Lines.{is_framed, lines}
 use Rattle.jp_model.specs.Steps.{Step}
-=======
-use Rattle.std.proofs.Common.{◌≡◌, ◌∙◌, ℕ, List, length, map, sym, ap, ap₂, subst, arith, All}
-use Rattle.jp_model.specs.Lines.{lines}
->>>>>>> m-store
 use Rattle.jp_model.specs.Script.Machine.{bytes_held, statuses}
 use Rattle.jp_index.specs.declared.index.ValueIndex.{ValueIndex}
 use Rattle.jp_store.specs.declared.line.Line.{Line}
