@@ -112,6 +112,6 @@ module _ (c : Collection) (lines trees refusals : ℕ) (l : lines ≡ length c.s
       (λ g. refusals_from g 1 ss ++ said (codes "= " ++ decimal lines ++ codes " lines, " ++ decimal refusals ++ codes " refused, " ++ decimal (lines - trees - refusals) ++ codes " blank") ≡ check_answer g c.state)
       (sym same)
       (ap (λ t. refusals_from c.framing 1 ss ++ t) (
-        ap₂ (λ (x y : ℕ). said (codes "= " ++ decimal x ++ codes " lines, " ++ decimal y ++ codes " refused, " ++ decimal (lines - trees - refusals) ++ codes " blank")) line_count refused_count
-        ∙ ap (λ z. said (codes "= " ++ decimal (length ss) ++ codes " lines, " ++ decimal (count_by is_refused_status ss) ++ codes " refused, " ++ decimal z ++ codes " blank")) blank_count
+      ap₂ (λ (x y : ℕ). said (codes "= " ++ decimal x ++ codes " lines, " ++ decimal y ++ codes " refused, " ++ decimal (lines - trees - refusals) ++ codes " blank")) line_count refused_count
+      ∙ ap (λ z. said (codes "= " ++ decimal (length ss) ++ codes " lines, " ++ decimal (count_by is_refused_status ss) ++ codes " refused, " ++ decimal z ++ codes " blank")) blank_count
       ))
