@@ -1,4 +1,4 @@
-use Rattle.std.proofs.Common.{rules, ap, sym, refl, arith, ◌≡◌, ◌∙◌, codes, option_map, Ok, Err, [], ◌∷◌}
+use Rattle.std.proofs.Common.{ap, sym, refl, arith, ◌≡◌, ◌∙◌, codes, option_map, Ok, Err, [], ◌∷◌}
 use Rattle.clap.specs.Words.{app_of}
 use Rattle.clap.proofs.CallerLemmas.{required_in_chain, some_of_text}
 use Rattle.jp_cli.specs.Words.{framing_of, program}
