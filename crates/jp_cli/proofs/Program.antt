@@ -1,4 +1,4 @@
--- What the calls of `read_words` come to, by the rules of its two arguments.
+-- What the calls of `read_words` come to, by the rules of its three arguments.
 use Rattle.std.proofs.Common.{ap, ap₂, refl, sym, subst, true, false, codes, zero, suc, List, Result, [], ◌∷◌, ◌≡◌, ◌∙◌, inl, inr, arith, slice_index}
 use Rattle.std.specs.List.{All}
 use Rattle.std.specs.Prelude.{IsErrAnd}
@@ -11,14 +11,16 @@ use Rattle.clap.specs.declared.builder.command.Command.{Command}
 use Rattle.clap.specs.declared.error.Error.{Error}
 use Rattle.clap.specs.declared.parser.matches.ArgMatches.{ArgMatches}
 use Rattle.clap.proofs.WalkLemmas.{first_value-rows}
-use Rattle.jp_cli.specs.Words.{faults_in, file_rule, found_in, program, script_rule}
+use Rattle.jp_cli.specs.Words.{faults_in, file_rule, found_in, program, script_rule, seq_rule}
 
--- the two arguments, added in turn, make the program
-pub is_program : (start one two : Command) (file script : Arg) → app_of start ≡ new_app (codes "jpq")
-    → AddsArg start file one → AddsArg one script two → file.global ≡ false → script.global ≡ false
-    → rule_of file ≡ file_rule → rule_of script ≡ script_rule → app_of two ≡ program
-is_program start one two file script named first second file_local script_local file_is script_is =
-    second.shape script_local ∙ ap₂ with_rule (first.shape file_local ∙ ap₂ with_rule named file_is) script_is
+-- the three arguments, added in turn, make the program
+pub is_program : (start one two three : Command) (file script seq : Arg) → app_of start ≡ new_app (codes "jpq")
+    → AddsArg start file one → AddsArg one script two → AddsArg two seq three
+    → file.global ≡ false → script.global ≡ false → seq.global ≡ false
+    → rule_of file ≡ file_rule → rule_of script ≡ script_rule → rule_of seq ≡ seq_rule → app_of three ≡ program
+is_program start one two three file script seq named first second third file_local script_local seq_local file_is script_is seq_is =
+    third.shape seq_local ∙ ap₂ with_rule (second.shape script_local
+    ∙ ap₂ with_rule (first.shape file_local ∙ ap₂ with_rule named file_is) script_is) seq_is
 
 -- the matches give an argument its value by the written meaning of the words
 pub first_found : (a : App) (words : List Text) (m : ArgMatches) (id : Text) → a ≡ program → HasMatchesOf a words m
@@ -52,21 +54,37 @@ fits_chain a name plain local is named no_help no_version = (
   ]),
 )
 
-pub all_of_two : {X : Type 0} (P : X → Type 0) (x y : X) → P x → P y → All P (x ∷ y ∷ [])
-all_of_two P x y p q zero d lt = p
-all_of_two P x y p q (suc zero) d lt = q
-all_of_two P x y p q (suc (suc n)) d lt = absurd (omega arith)
+pub all_of_three : {X : Type 0} (P : X → Type 0) (x y z : X) → P x → P y → P z → All P (x ∷ y ∷ z ∷ [])
+all_of_three P x y z p q r zero d lt = p
+all_of_three P x y z p q r (suc zero) d lt = q
+all_of_three P x y z p q r (suc (suc zero)) d lt = r
+all_of_three P x y z p q r (suc (suc (suc n))) d lt = absurd (omega arith)
 
--- the two arguments have names of their own
-pub has_distinct_ids : (x y : Arg) → x.id.now ≡ codes "file" → y.id.now ≡ codes "script" → HasDistinctIds (x ∷ y ∷ [])
-has_distinct_ids x y x_is y_is zero zero d e j_lt k_lt same = refl
-has_distinct_ids x y x_is y_is (suc zero) (suc zero) d e j_lt k_lt same = refl
-has_distinct_ids x y x_is y_is zero (suc zero) d e j_lt k_lt same =
+-- the three arguments have names of their own
+pub has_distinct_ids : (x y z : Arg) → x.id.now ≡ codes "file" → y.id.now ≡ codes "script" → z.id.now ≡ codes "seq"
+    → HasDistinctIds (x ∷ y ∷ z ∷ [])
+has_distinct_ids x y z x_is y_is z_is zero zero d e j_lt k_lt same = refl
+has_distinct_ids x y z x_is y_is z_is (suc zero) (suc zero) d e j_lt k_lt same = refl
+has_distinct_ids x y z x_is y_is z_is (suc (suc zero)) (suc (suc zero)) d e j_lt k_lt same = refl
+has_distinct_ids x y z x_is y_is z_is zero (suc zero) d e j_lt k_lt same =
     let bad : bytes_eq (codes "file") (codes "script") ≡ true = rw (x_is, y_is) at same in
     cc
-has_distinct_ids x y x_is y_is (suc zero) zero d e j_lt k_lt same =
+has_distinct_ids x y z x_is y_is z_is (suc zero) zero d e j_lt k_lt same =
     let bad : bytes_eq (codes "script") (codes "file") ≡ true = rw (x_is, y_is) at same in
     cc
-has_distinct_ids x y x_is y_is (suc (suc j)) k d e j_lt k_lt same = absurd (omega arith)
-has_distinct_ids x y x_is y_is zero (suc (suc k)) d e j_lt k_lt same = absurd (omega arith)
-has_distinct_ids x y x_is y_is (suc zero) (suc (suc k)) d e j_lt k_lt same = absurd (omega arith)
+has_distinct_ids x y z x_is y_is z_is zero (suc (suc zero)) d e j_lt k_lt same =
+    let bad : bytes_eq (codes "file") (codes "seq") ≡ true = rw (x_is, z_is) at same in
+    cc
+has_distinct_ids x y z x_is y_is z_is (suc (suc zero)) zero d e j_lt k_lt same =
+    let bad : bytes_eq (codes "seq") (codes "file") ≡ true = rw (x_is, z_is) at same in
+    cc
+has_distinct_ids x y z x_is y_is z_is (suc zero) (suc (suc zero)) d e j_lt k_lt same =
+    let bad : bytes_eq (codes "script") (codes "seq") ≡ true = rw (y_is, z_is) at same in
+    cc
+has_distinct_ids x y z x_is y_is z_is (suc (suc zero)) (suc zero) d e j_lt k_lt same =
+    let bad : bytes_eq (codes "seq") (codes "script") ≡ true = rw (y_is, z_is) at same in
+    cc
+has_distinct_ids x y z x_is y_is z_is (suc (suc (suc j))) k d e j_lt k_lt same = absurd (omega arith)
+has_distinct_ids x y z x_is y_is z_is zero (suc (suc (suc k))) d e j_lt k_lt same = absurd (omega arith)
+has_distinct_ids x y z x_is y_is z_is (suc zero) (suc (suc (suc k))) d e j_lt k_lt same = absurd (omega arith)
+has_distinct_ids x y z x_is y_is z_is (suc (suc zero)) (suc (suc (suc k))) d e j_lt k_lt same = absurd (omega arith)

@@ -11,6 +11,7 @@ mod refused;
 mod rows;
 mod running;
 mod selectors;
+mod sequences;
 mod stopped;
 mod words;
 mod worked;

@@ -1,9 +1,9 @@
 //! What the program's words ask for.
 
-ghost use Rattle.std.specs.Prelude.{◌≡◌, IfOk, Some, codes, map, option_map};
-ghost use Rattle.clap.specs.Words.{FailsBy, first_of};
-ghost use Rattle.jp_model.specs.declared.Framing.TheVariants as framings;
-ghost use Rattle.jp_cli.specs.Words.{faults_in, found_in};
+ghost use Rattle.std.specs.Prelude.{◌≡◌, false, IfOk, Some, codes, map, option_map};
+ghost use Rattle.clap.specs.Built.{IsPlainArg, TakesValue};
+ghost use Rattle.clap.specs.Words.{FailsBy, first_of, rule_of};
+ghost use Rattle.jp_cli.specs.Words.{faults_in, file_rule, found_in, framing_of, script_rule, seq_rule};
 
 use clap::{Arg, ArgAction, Command, Error};
 use jp_model::Framing;
@@ -20,7 +20,7 @@ pub struct Options<'a> {
     pub framing: Framing,
 }
 
-/// Reads the program's words, `jpq FILE [--script FILE]`, of which the first is its own name.
+/// Reads the program's words, `jpq FILE [--script FILE] [--seq]`, of which the first is its own name.
 ///
 /// # Errors
 ///
@@ -30,25 +30,68 @@ pub fn read_words<'a>(alloc: Global, words: &'a [&'a str]) -> Result<Options<'a>
         ≡ Some o.file.now) }
     ensures script { IfOk result (λ o. first_of (codes "script") (found_in (map (λ w. w.now) words.entry.now))
         ≡ option_map (λ s. s.now) o.script) }
-    ensures framing { IfOk result (λ o. o.framing ≡ framings.Lines) }
+    ensures framing { IfOk result (λ o. o.framing
+        ≡ framing_of (first_of (codes "seq") (found_in (map (λ w. w.now) words.entry.now)))) }
     ensures refused { FailsBy (faults_in (map (λ w. w.now) words.entry.now)) result }
 {
-    let file = Arg::new(alloc, "file")
-        .help("The collection: JSON texts, one to a line")
-        .value_name("FILE")
-        .required(true)
-        .action(ArgAction::Set);
-    let script = Arg::new(alloc, "script")
-        .help("The file of commands; standard input where it is left out")
-        .value_name("FILE")
-        .long("script")
-        .action(ArgAction::Set);
-    let command = Command::new(alloc, "jpq").arg(file)?.arg(script)?;
+    let command = Command::new(alloc, "jpq")
+        .arg(file_argument(alloc))?
+        .arg(script_argument(alloc))?
+        .arg(seq_argument(alloc))?;
     let matches = command.try_get_matches_from(words)?;
     let file = matches.get_str("file").unwrap();
     Ok(Options {
         file,
         script: matches.get_str("script"),
-        framing: Framing::Lines,
+        framing: framing_of(matches.get_str("seq")),
     })
+}
+
+/// `FILE`, which has to be there.
+fn file_argument<'a>(alloc: Global) -> Arg<'a>
+    ensures rule { rule_of result ≡ file_rule }
+    ensures id { result.id.now ≡ codes "file" }
+    ensures plain { IsPlainArg result × (result.global ≡ false) }
+    ensures value { TakesValue result }
+{
+    Arg::new(alloc, "file")
+        .help("The collection: JSON texts, one to a line")
+        .value_name("FILE")
+        .required(true)
+        .action(ArgAction::Set)
+}
+
+/// `--script FILE`.
+fn script_argument<'a>(alloc: Global) -> Arg<'a>
+    ensures rule { rule_of result ≡ script_rule }
+    ensures id { result.id.now ≡ codes "script" }
+    ensures plain { IsPlainArg result × (result.global ≡ false) }
+{
+    Arg::new(alloc, "script")
+        .help("The file of commands; standard input where it is left out")
+        .value_name("FILE")
+        .long("script")
+        .action(ArgAction::Set)
+}
+
+/// The flag `--seq`.
+fn seq_argument<'a>(alloc: Global) -> Arg<'a>
+    ensures rule { rule_of result ≡ seq_rule }
+    ensures id { result.id.now ≡ codes "seq" }
+    ensures plain { IsPlainArg result × (result.global ≡ false) }
+{
+    Arg::new(alloc, "seq")
+        .help("The collection is a JSON text sequence (RFC 7464)")
+        .long("seq")
+        .action(ArgAction::SetTrue)
+}
+
+/// The framing that the value of the flag `--seq` asks for.
+fn framing_of(flag: Option<&str>) -> Framing
+    ensures { result ≡ framing_of (option_map (λ s. s.now) flag.entry) }
+{
+    match flag {
+        Some(value) if value == "true" => Framing::Sequence,
+        _ => Framing::Lines,
+    }
 }

@@ -9,9 +9,14 @@ use std::process::ExitCode;
 use std::{env, fs};
 
 /// Runs the script over the collection, and writes to standard output through a buffer.
-fn run_files<C: Read + Drop, R: Read + Drop>(rt: &HostRuntime, collection: C, script: R) -> End {
+fn run_files<C: Read + Drop, R: Read + Drop>(
+    rt: &HostRuntime,
+    framing: Framing,
+    collection: C,
+    script: R,
+) -> End {
     let setup = Setup {
-        framing: Framing::Lines,
+        framing,
         most: u32::MAX,
         script_most: u32::MAX,
     };
@@ -36,10 +41,10 @@ fn run_options(rt: &HostRuntime, options: &Options<'_>) -> End {
         return End::NoCollection;
     };
     let Some(script) = options.script else {
-        return run_files(rt, collection, rt.stdin());
+        return run_files(rt, options.framing, collection, rt.stdin());
     };
     match fs::open(rt, script) {
-        Ok(script) => run_files(rt, collection, script),
+        Ok(script) => run_files(rt, options.framing, collection, script),
         Err(_) => End::NoScript,
     }
 }

@@ -1,7 +1,7 @@
 //! The program's words, and how it ends.
 
 use crate::{End, read_words};
-use jp_model::RunFault;
+use jp_model::{Framing, RunFault};
 use std::test::Fail;
 
 #[test]
@@ -12,6 +12,17 @@ fn reads_the_words(rt: HostRuntime) -> Result<(), Fail> {
     let both = ["jpq", "c.jsonl", "--script", "s"];
     let options = read_words(rt.alloc(), both.as_slice())?;
     assert!(rt; options.file == "c.jsonl" && options.script == Some("s"));
+    Ok(())
+}
+
+#[test]
+fn reads_the_framing(rt: HostRuntime) -> Result<(), Fail> {
+    let sequence = ["jpq", "--seq", "f"];
+    let options = read_words(rt.alloc(), sequence.as_slice())?;
+    assert!(rt; options.file == "f" && options.framing == Framing::Sequence);
+    let lines = ["jpq", "f"];
+    let options = read_words(rt.alloc(), lines.as_slice())?;
+    assert!(rt; options.file == "f" && options.framing == Framing::Lines);
     Ok(())
 }
 
