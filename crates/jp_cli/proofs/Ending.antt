@@ -16,14 +16,15 @@ use Rattle.jp_model.specs.Query.Status.{QueryStatus}
 use Rattle.jp_model.specs.Script.Commands.{without_final_cr, command_lines, closed_command_lines}
 use Rattle.jp_model.specs.Script.Headline.{Given, WasLoaded, lines_within, loaded, Answered, AnsweredInPart, AnsweredFirst, RunEnded, RunStopped}
 use Rattle.jp_model.specs.Script.Machine.{State, Outcome, step, step_unless, run_commands, OnlyForMemory}
-use Rattle.jp_cli.specs.Asked.{asked_by, asked_in}
+use Rattle.jp_model.specs.Script.Commands.{command_of}
+use Rattle.jp_cli.specs.Commands.{asked_in}
 use Rattle.jp_cli.specs.Runs.{ScriptStopped}
 use Rattle.jp_model.proofs.Devices.{came_so}
 
 module _ (query_of : List ℕ → QueryStatus) (setup : Setup) where
   -- lines as they came ask for what they ask without their final CR
   run_as : (state : State) (raws : List (List ℕ)) (flags : List Bool)
-      → run_commands query_of asked_in setup state raws flags ≡ run_commands query_of asked_by setup state (map without_final_cr raws) flags
+      → run_commands query_of asked_in setup state raws flags ≡ run_commands query_of command_of setup state (map without_final_cr raws) flags
   run_as state [] flags = refl
   run_as state (raw ∷ raws) [] =
       let first : Outcome = step query_of setup state (asked_in raw) in
@@ -32,7 +33,7 @@ module _ (query_of : List ℕ → QueryStatus) (setup : Setup) where
       let first : Outcome = step_unless query_of starved setup state (asked_in raw) in
       ap (λ (later : Outcome). let o : Outcome = record { written = first.written ++ later.written; after = later.after } in o) (run_as first.after raws flags)
 
-  only_as : (raws : List (List ℕ)) (flags : List Bool) → OnlyForMemory asked_in raws flags → OnlyForMemory asked_by (map without_final_cr raws) flags
+  only_as : (raws : List (List ℕ)) (flags : List Bool) → OnlyForMemory asked_in raws flags → OnlyForMemory command_of (map without_final_cr raws) flags
   only_as [] [] h = h
   only_as [] (starved ∷ flags) h = h
   only_as (raw ∷ raws) [] h = h
@@ -40,16 +41,16 @@ module _ (query_of : List ℕ → QueryStatus) (setup : Setup) where
 
   module _ {W : Type 0} (contents : W → Option (List ℕ)) (old new : Device W) where
     answered_as : (state : State) (raws : List (List ℕ)) → Answered query_of asked_in contents old new setup state raws
-        → Answered query_of asked_by contents old new setup state (map without_final_cr raws)
+        → Answered query_of command_of contents old new setup state (map without_final_cr raws)
     answered_as state raws h = (h.0, only_as raws h.0 h.1, subst (λ (o : Outcome). Received contents old new o.written) (run_as state raws h.0) h.2)
 
     part_as : (state : State) (raws : List (List ℕ)) → AnsweredInPart query_of asked_in contents old new setup state raws
-        → AnsweredInPart query_of asked_by contents old new setup state (map without_final_cr raws)
+        → AnsweredInPart query_of command_of contents old new setup state (map without_final_cr raws)
     part_as state raws h =
         (h.0, h.1, only_as raws h.0 h.2, subst (λ (o : Outcome). Begins h.1 o.written) (run_as state raws h.0) h.3, h.4)
 
     first_as : (state : State) (raws : List (List ℕ)) → AnsweredFirst query_of asked_in contents old new setup state raws
-        → AnsweredFirst query_of asked_by contents old new setup state (map without_final_cr raws)
+        → AnsweredFirst query_of command_of contents old new setup state (map without_final_cr raws)
     first_as state raws h =
         (map without_final_cr h.0, (map without_final_cr h.1.0, ap (map without_final_cr) h.1.1 ∙ map-append without_final_cr h.0 h.1.0), answered_as state h.0 h.2)
 
@@ -60,30 +61,30 @@ module _ (query_of : List ℕ → QueryStatus) (setup : Setup) where
         (λ _. (given.script.ended ≡ true) × (length given.script.bytes ≤ setup.script_most) × Answered query_of asked_in contents old new setup state (text_lines given.script.bytes))
         (λ fault. ScriptStopped query_of asked_in contents old new fault setup state given.script)
         → MatchResult result
-        (λ _. RunEnded query_of asked_by contents old new setup given.collection.bytes given.script.bytes)
-        (λ fault. RunStopped query_of asked_by contents old new fault setup given)
+        (λ _. RunEnded query_of command_of contents old new setup given.collection.bytes given.script.bytes)
+        (λ fault. RunStopped query_of command_of contents old new fault setup given)
     ends (Ok x) state given was is h =
-        (was.1, h.1, subst (λ s. Answered query_of asked_by contents old new setup s (command_lines given.script.bytes)) is (answered_as state (text_lines given.script.bytes) h.2))
+        (was.1, h.1, subst (λ s. Answered query_of command_of contents old new setup s (command_lines given.script.bytes)) is (answered_as state (text_lines given.script.bytes) h.2))
     ends (Err faults.ReadCollection) state given was is h = absurd h
     ends (Err faults.Size) state given was is h = absurd h
     ends (Err faults.Framing) state given was is h = absurd h
     ends (Err faults.ReadScript) state given was is h = (
       was,
       h.0,
-      subst (λ s. Answered query_of asked_by contents old new setup s (closed_command_lines (take setup.script_most given.script.bytes))) is
+      subst (λ s. Answered query_of command_of contents old new setup s (closed_command_lines (take setup.script_most given.script.bytes))) is
           (answered_as state (closed_lines (take setup.script_most given.script.bytes)) h.1),
     )
     ends (Err faults.Write) state given was is h = (
       was,
       h.0,
-      subst (λ s. AnsweredInPart query_of asked_by contents old new setup s (lines_within setup given.script)) is
+      subst (λ s. AnsweredInPart query_of command_of contents old new setup s (lines_within setup given.script)) is
           (part_as state (lines_so_far given.script.ended (take setup.script_most given.script.bytes)) h.1),
     )
     ends (Err faults.Memory) state given was is h =
         inr (
           was,
           h.0,
-          subst (λ s. AnsweredFirst query_of asked_by contents old new setup s (lines_within setup given.script)) is
+          subst (λ s. AnsweredFirst query_of command_of contents old new setup s (lines_within setup given.script)) is
               (first_as state (lines_so_far given.script.ended (take setup.script_most given.script.bytes)) h.1),
         )
 

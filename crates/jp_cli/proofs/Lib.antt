@@ -1,9 +1,14 @@
 -- Lemmas on runs of command lines.
 mod CommandWords
+mod LineNumbers
 mod Ending
 mod FinalReturns
 mod Program
-mod Selected
+mod Statuses
+mod Dropped
+mod Edited
+mod Replied
+mod RowsTold
 mod RowsWritten
 mod RefusalsWritten
 mod Runs

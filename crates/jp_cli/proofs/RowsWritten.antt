@@ -1,4 +1,4 @@
--- The texts of rows that are written one after another.
+-- The texts of rows, or of other things, that are written one after another.
 use Rattle.std.proofs.Common.{◌≡◌, ◌∙◌, ◌+◌, ◌<◌, ℕ, List, [], ◌∷◌, ◌++◌, length, flat_map, take, drop, get_or, sym, ap, subst, arith, append-nil, take-append-drop, Option}
 use Rattle.std.specs.Prelude.{suc}
 use Rattle.std.proofs.Math.Seq.{take-suc}
@@ -6,9 +6,8 @@ use Rattle.std.proofs.lemmas.Grind.{flat_map-append}
 use Rattle.std.proofs.KnownBytes.{Appends-trans}
 use Rattle.std.specs.Io.KnownBytes.{Appends}
 use Rattle.jp_rows.proofs.Chains.{Part, part_more, part_behind}
-use Rattle.jp_cli.specs.declared.selection.Row.{Row}
 
-module _ (text : Row → List ℕ) (rows : List Row) (i : ℕ) (row : Row) (l : i < length rows) (is : row ≡ get_or rows i row) where
+module _ {X : Type 0} (text : X → List ℕ) (rows : List X) (i : ℕ) (row : X) (l : i < length rows) (is : row ≡ get_or rows i row) where
   one_more : flat_map text (take (i + 1) rows) ≡ flat_map text (take i rows) ++ text row
   one_more =
       let next : suc i ≡ i + 1 = omega arith in
@@ -16,7 +15,7 @@ module _ (text : Row → List ℕ) (rows : List Row) (i : ℕ) (row : Row) (l : 
       ∙ ap (flat_map text) (take-suc rows i row l)
       ∙ flat_map-append text (take i rows) (get_or rows i row ∷ [])
       ∙ ap (λ t. flat_map text (take i rows) ++ t) (append-nil (text (get_or rows i row)))
-      ∙ ap (λ (r : Row). flat_map text (take i rows) ++ text r) (sym is)
+      ∙ ap (λ (r : X). flat_map text (take i rows) ++ text r) (sym is)
 
   whole_is : flat_map text rows ≡ (flat_map text (take i rows) ++ text row) ++ flat_map text (drop (i + 1) rows)
   whole_is =

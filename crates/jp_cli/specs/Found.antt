@@ -2,8 +2,8 @@
 use Rattle.std.specs.Prelude.{ℕ, Bool, true, false, List}
 use Rattle.jp_model.specs.declared.Framing.{Framing}
 use Rattle.jp_model.specs.Rows as rows
-use Rattle.jp_cli.specs.declared.selection.Row.{Row}
-use Rattle.jp_cli.specs.declared.selection.Row.TheVariants as found
+use Rattle.jp_plan.specs.declared.answer.Row.{Row}
+use Rattle.jp_plan.specs.declared.answer.Row.TheVariants as found
 use Rattle.jp_tape.specs.declared.cursor.Cursor.{Cursor}
 use Rattle.jp_tape.specs.Cursors.{line_of, node_of}
 

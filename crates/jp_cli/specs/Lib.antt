@@ -1,9 +1,9 @@
 -- What the contracts of the engine speak of.
-pub mod Answers
-pub mod Asked
 pub mod Commands
 pub mod Ends
 pub mod Found
+pub mod Listed
 pub mod Refusals
+pub mod Replies
 pub mod Runs
 pub mod Words

@@ -3,7 +3,7 @@
 ghost use Rattle.std.specs.Prelude.{◌≡◌, ℕ, ◌+◌, ◌≤◌, false, List, OnOk, IfSome, MatchResult};
 ghost use Rattle.jp_model.specs.Devices.{GaveUpTo, HasEnded};
 ghost use Rattle.jp_model.specs.Script.Headline.{Given, RunEnded, RunStopped, is_write_fault, is_read_collection, OnlyReadScript};
-ghost use Rattle.jp_cli.specs.Asked.{asked_by};
+ghost use Rattle.jp_model.specs.Script.Commands.{command_of};
 ghost use Rattle.jp_query.specs.Status.{query_of};
 
 use crate::script::run_script;
@@ -39,11 +39,11 @@ pub fn run<C: Read, R: Read, W: Write>(
         × GaveUpTo C.remaining collection.old collection.new given.collection
         × GaveUpTo R.remaining script.old script.new given.script
         × MatchResult result
-        (λ _. RunEnded query_of asked_by W.contents out.old out.new setup given.collection.bytes given.script.bytes)
-        (λ fault. RunStopped query_of asked_by W.contents out.old out.new fault setup given) }
+        (λ _. RunEnded query_of command_of W.contents out.old out.new setup given.collection.bytes given.script.bytes)
+        (λ fault. RunStopped query_of command_of W.contents out.old out.new fault setup given) }
     // In short: where the readers tell their bytes, Ok means the output of all of them.
     ensures told { OnOk result (IfSome (C.remaining collection.old.device) (λ c. IfSome (R.remaining script.old.device) (λ s.
-        RunEnded query_of asked_by W.contents out.old out.new setup c s))) }
+        RunEnded query_of command_of W.contents out.old out.new setup c s))) }
     ensures ended { OnOk result (HasEnded C.remaining collection.new × HasEnded R.remaining script.new) }
     // Each device's fault is answered exactly where that device failed.
     ensures collection_fault { MatchResult result (λ _. collection.new.failed ≡ false) (λ fault. collection.new.failed ≡ is_read_collection fault) }

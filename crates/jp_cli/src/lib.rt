@@ -2,13 +2,17 @@
 #![tactic(auto)]
 
 mod answer;
+mod changes;
 mod check;
 mod command;
 mod end;
 mod engine;
+mod explain;
+mod listing;
 mod query;
+mod reply;
+mod rows;
 mod script;
-mod selection;
 mod words;
 
 pub use end::End;

@@ -4,13 +4,14 @@ ghost use Rattle.std.specs.Prelude.{◌≡◌, ℕ, ◌+◌, ◌≤◌, ◌++◌
 ghost use Rattle.jp_model.specs.Devices.{Came, GaveUpTo, HasEnded, Writes};
 ghost use Rattle.jp_model.specs.Lines.{HasNoSeparator, text_lines, closed_lines, open_line};
 ghost use Rattle.jp_model.specs.Script.Headline.{Answered, is_write_fault, OnlyReadScript};
-ghost use Rattle.jp_cli.specs.Asked.{asked_in};
+ghost use Rattle.jp_cli.specs.Commands.{asked_in};
 ghost use Rattle.jp_query.specs.Status.{query_of};
-ghost use Rattle.jp_cli.specs.Runs.{MayAnswer, Ran, StoppedIn, ScriptStopped};
+ghost use Rattle.jp_cli.specs.Runs.{FitsSetup, MayAnswer, Ran, StoppedIn, ScriptStopped};
 
-use crate::answer::{answer_command, write_answer};
+use crate::answer::{answer_command, without_final_cr};
+use crate::command::read_command;
 use jp_model::{RunFault, Setup, Watched};
-use jp_rows::{WriteFault, write_whole};
+use jp_rows::WriteFault;
 use jp_store::Store;
 use std::alloc::Global;
 use std::io::{Read, Write};
@@ -26,18 +27,15 @@ fn answer_line<W: Write>(
     line: &[u8],
     out: &mut Watched<W>,
 ) -> Result<(), WriteFault>
-    requires framing { setup.framing ≡ store.old.framing }
+    requires fits { FitsSetup setup store.old }
     requires working { out.old.failed ≡ false }
     ensures ran { (text : List ℕ) × MayAnswer query_of asked_in setup store.old.state (line.now ∷ []) text store.new.state × Writes W.contents out.old out.new result text }
-    ensures framing { store.new.framing ≡ store.old.framing }
+    ensures fits { FitsSetup setup store.new }
     ensures fault { out.new.failed ≡ is_err result }
     ensures after { out.new.after ≡ out.old.after }
 {
-    let mut opened = store.meter();
-    match answer_command(store, alloc, setup, line, &mut opened) {
-        Ok(answer) => write_answer(&answer, store, setup.framing, out),
-        Err(_) => write_whole(b"error: memory\n", out),
-    }
+    let command = read_command(without_final_cr(line));
+    answer_command(store, alloc, setup, command, out)
 }
 
 /// Answers each line whose line feed comes with the piece, and holds what stands behind the last one.
@@ -49,7 +47,7 @@ fn take_piece<W: Write>(
     piece: &[u8],
     out: &mut Watched<W>,
 ) -> Result<(), RunFault>
-    requires framing { setup.framing ≡ store.old.framing }
+    requires fits { FitsSetup setup store.old }
     requires working { out.old.failed ≡ false }
     requires open { HasNoSeparator 0x0A held.old.items }
     ensures ok { OnOk result (Ran query_of asked_in W.contents out.old out.new setup store.old.state (closed_lines (held.old.items ++ piece.now)) store.new.state
@@ -58,7 +56,7 @@ fn take_piece<W: Write>(
     ensures fault { MatchResult result
         (λ _. out.new.failed ≡ false)
         (λ fault. out.new.failed ≡ is_write_fault fault) }
-    ensures framing { store.new.framing ≡ store.old.framing }
+    ensures fits { FitsSetup setup store.new }
     ensures after { out.new.after ≡ out.old.after }
 {
     for byte in piece {
@@ -83,7 +81,7 @@ pub(crate) fn run_script<R: Read, W: Write>(
     script: &mut Watched<R>,
     out: &mut Watched<W>,
 ) -> Result<(), RunFault>
-    requires framing { setup.framing ≡ store.old.framing }
+    requires fits { FitsSetup setup store.old }
     requires reads { script.old.failed ≡ false }
     requires writes { out.old.failed ≡ false }
     ensures output { (came : Came) × GaveUpTo R.remaining script.old script.new came × MatchResult result

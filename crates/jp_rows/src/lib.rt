@@ -9,7 +9,7 @@ mod whole;
 
 pub use path::write_path;
 pub use rows::{write_count, write_node, write_refusal};
-pub use summary::write_summary;
+pub use summary::{write_numbered, write_summary};
 pub use whole::{WriteFault, write_whole};
 
 #[cfg(test)]

@@ -1,4 +1,4 @@
-//! The line that sums up a collection.
+//! Lines that end with numbers: what a change answers, and what sums up a collection.
 
 ghost use Rattle.std.specs.Prelude.{◌≡◌, ◌++◌, false, is_err, decimal, codes};
 ghost use Rattle.jp_model.specs.Devices.{Writes};
@@ -23,6 +23,23 @@ fn write_counted<W: Write>(
     let mut digits = Buffer::new();
     write_whole(words, out)?;
     write_whole(digits.format(count).as_bytes(), out)
+}
+
+/// Writes a line of some words and a number behind them, in decimal.
+///
+/// After an `Err` the writer received a beginning of the line: no write follows one that failed or took no byte.
+pub fn write_numbered<W: Write>(
+    words: &[u8],
+    number: usize,
+    out: &mut Watched<W>,
+) -> Result<(), WriteFault>
+    requires { out.old.failed ≡ false }
+    ensures text { Writes W.contents out.old out.new result (said (words.now ++ decimal number)) }
+    ensures fault { out.new.failed ≡ is_err result }
+    ensures after { out.new.after ≡ out.old.after }
+{
+    write_counted(words, number, out)?;
+    write_whole(b"\n", out)
 }
 
 /// Writes the line that ends what is told of a whole collection: how many lines it has, how many of them are refused, and

@@ -3,7 +3,7 @@ use Rattle.std.proofs.Common.{sym, subst, [], ◌∷◌, append-nil}
 use Rattle.jp_model.specs.Devices.{Writes}
 use Rattle.jp_model.specs.Rows.{refusal_text}
 use Rattle.jp_model.specs.Script.Machine.{refusals_from}
-use Rattle.jp_cli.proofs.Selected.{told_refused}
+use Rattle.jp_cli.proofs.Statuses.{told_refused}
 use Rattle.jp_cli.proofs.check.write_if_refused.Goals as goal
 
 pub returns-in-Refused-clause-text : goal.returns-in-Refused-clause-text

@@ -4,7 +4,7 @@ use Rattle.std.proofs.KnownBytes.{Appends-nil}
 use Rattle.jp_model.specs.Script.Headline.{Given, RunEnded}
 use Rattle.jp_model.proofs.Devices.{came_so, nothing_came}
 use Rattle.jp_store.specs.Collections.{Collection}
-use Rattle.jp_cli.specs.Asked.{asked_by}
+use Rattle.jp_model.specs.Script.Commands.{command_of}
 use Rattle.jp_query.specs.Status.{query_of}
 use Rattle.jp_cli.proofs.Ending.{only_collection, ends, told_of_all, both_ended}
 use Rattle.jp_cli.proofs.engine.run.Goals as goal
@@ -32,8 +32,10 @@ returns-in-Err-Memory-clause-output g c =
     let came = c.in-Err-Memory.ensures.came in
     (only_collection came.0, came.1, nothing_came g.R.Read.remaining c.args.script.now c.requires.script, inl (Appends-nil (g.W.Write.contents c.args.out.now.device)))
 
-pub run_script-requires-clause-framing : goal.run_script-requires-clause-framing
-run_script-requires-clause-framing g c = sym (ap (λ (s : Collection). s.framing) c.in-Ok.ensures.came.2.3)
+pub run_script-requires-clause-fits : goal.run_script-requires-clause-fits
+run_script-requires-clause-fits g c =
+    let is = c.in-Ok.ensures.came.2.3 in
+    (sym (ap (λ (s : Collection). s.framing) is), sym (ap (λ (s : Collection). s.most) is))
 
 pub returns-clause-output : goal.returns-clause-output
 returns-clause-output g c =
@@ -51,7 +53,7 @@ pub returns-clause-told : goal.returns-clause-told
 returns-clause-told g c =
     let came = c.in-Ok.ensures.came in
     let out = returns-clause-output g c in
-    told_of_all c.run_script.result _ _ _ _ _ out.0.collection.bytes out.0.script.bytes (RunEnded query_of asked_by g.W.Write.contents c.args.out.now c.run_script.new.out c.args.setup) out.1.0 out.2.0
+    told_of_all c.run_script.result _ _ _ _ _ out.0.collection.bytes out.0.script.bytes (RunEnded query_of command_of g.W.Write.contents c.args.out.now c.run_script.new.out c.args.setup) out.1.0 out.2.0
     (both_ended c.run_script.result _ _ (came.1.3 came.2.0) c.run_script.ensures.ended) out.3
 
 pub returns-clause-ended : goal.returns-clause-ended

@@ -6,7 +6,7 @@ use Rattle.jp_model.specs.Lines.{HasNoSeparator, closed_lines, open_line}
 use Rattle.jp_cli.specs.Runs.{Ran, StoppedIn}
 use Rattle.jp_model.proofs.Pieces.{pieces_clear}
 use Rattle.jp_cli.proofs.ScriptSoFar.{still_going, no_end, some_room, at_end, stopped_read, taken, too_long, stopped_piece, cut_piece, min_first, one_more_call, not_empty, ended, all_run, last_run, last_stopped}
-use Rattle.jp_cli.specs.Asked.{asked_in}
+use Rattle.jp_cli.specs.Commands.{asked_in}
 use Rattle.jp_query.specs.Status.{query_of}
 use Rattle.jp_cli.proofs.script.run_script.Goals as goal
 
@@ -62,7 +62,7 @@ loop-read-preserved g c =
       going = still_going _ _ _ _ promised.ended inv.going (no_end c.in-Ok.read _ c.if-read-eq0.false);
       reads_early = λ e. promised.after ∙ (ap (λ b. one_more_where b c.loop-read.script.after) (ap₂ (λ (a b : Bool). a || b) inv.reads (inv.going ∙ e)) ∙ inv.reads_early e);
       writes_early = c.take_piece.ensures.after ∙ inv.writes_early;
-      framing = c.take_piece.ensures.framing ∙ inv.framing;
+      fits = c.take_piece.ensures.fits;
       so_far = taken query_of asked_in c.args.setup g.R.Read.remaining g.W.Write.contents c.args.script.now c.loop-read.script c.read.new.self c.args.out.now c.loop-read.out c.take_piece.new.out
           c.args.store.now.state c.loop-read.store.state c.take_piece.new.store.state c.loop-read.held.items c.take_piece.new.held.items c.loop-read.count c.in-Ok.read got
           inv.so_far promised.bytes.0 (sym promised.bound.1) done.0 done.1;

@@ -5,7 +5,7 @@ use Rattle.jp_model.proofs.Pieces.{closed_clear, open_clear, later_lines, closed
 use Rattle.jp_cli.specs.Runs.{Ran}
 use Rattle.jp_model.specs.Script.Headline.{AnsweredInPart}
 use Rattle.jp_model.specs.Lines.{closed_lines, open_line}
-use Rattle.jp_cli.specs.Asked.{asked_in}
+use Rattle.jp_cli.specs.Commands.{asked_in}
 use Rattle.jp_query.specs.Status.{query_of}
 use Rattle.jp_cli.proofs.script.take_piece.Goals as goal
 use Rattle.jp_cli.proofs.script.take_piece.Goals.{then-byte-eq10+in-Ok, else-byte-eq10+else-is_err}
@@ -14,7 +14,7 @@ pub loop-byte-init : goal.loop-byte-init
 loop-byte-init g c = record {
   working = c.requires.working;
   early = refl;
-  framing = refl;
+  fits = c.requires.fits;
   ran = ran_none query_of asked_in c.args.setup g.W.Write.contents c.args.out.now _ _ (ap closed_lines (append-nil c.args.held.now.items) ∙ closed_clear 0x0A c.args.held.now.items c.requires.open);
   held = sym (ap open_line (append-nil c.args.held.now.items) ∙ open_clear 0x0A c.args.held.now.items c.requires.open);
 }
@@ -58,7 +58,7 @@ loop-byte-preserved g c =
           rw (w.out-is, w.held-is, w.store-is) (record {
             working = w.in-Ok.ensures.fault;
             early = w.answer_line.ensures.after ∙ c.loop-byte.invariant.early;
-            framing = w.answer_line.ensures.framing ∙ c.loop-byte.invariant.framing;
+            fits = w.answer_line.ensures.fits;
             ran = subst (λ l. Ran query_of asked_in g.W.Write.contents c.args.out.now w.answer_line.new.out c.args.setup c.args.store.now.state l w.answer_line.new.store.state) (sym e)
                 (ran_more query_of asked_in c.args.setup g.W.Write.contents c.args.out.now c.loop-byte.out w.answer_line.new.out c.args.store.now.state c.loop-byte.store.state w.answer_line.new.store.state
                 first (line ∷ []) c.loop-byte.invariant.ran ran);
@@ -68,7 +68,7 @@ loop-byte-preserved g c =
           rw (w.out-is, w.held-is, w.store-is) (record {
             working = c.loop-byte.invariant.working;
             early = c.loop-byte.invariant.early;
-            framing = c.loop-byte.invariant.framing;
+            fits = c.loop-byte.invariant.fits;
             ran = subst (λ l. Ran query_of asked_in g.W.Write.contents c.args.out.now c.loop-byte.out c.args.setup c.args.store.now.state l c.loop-byte.store.state)
                 (sym (closed_at_other 0x0A before piece i c.loop-byte-test.true w.if-byte-eq10.false)) c.loop-byte.invariant.ran;
             held = (w.push.ensures.items ∙ ap (λ b. if b then (c.loop-byte.held.items ++ get_or piece i 0 ∷ []) else c.loop-byte.held.items) w.if-is_err.ensures.negation)

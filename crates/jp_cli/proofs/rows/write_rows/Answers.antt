@@ -2,7 +2,7 @@
 use Rattle.std.proofs.Common.{◌∙◌}
 use Rattle.jp_cli.specs.Found.{found_text}
 use Rattle.jp_cli.proofs.RowsWritten.{row_written, row_in_part}
-use Rattle.jp_cli.proofs.answer.write_rows.Goals as goal
+use Rattle.jp_cli.proofs.rows.write_rows.Goals as goal
 
 pub returns-in-Err-clause-text : goal.returns-in-Err-clause-text
 returns-in-Err-clause-text g c =

@@ -2,7 +2,7 @@
 use Rattle.std.proofs.Common.{◌≡◌, false, flat_map, take}
 use Rattle.jp_model.specs.Devices.{Received}
 use Rattle.jp_cli.specs.Found.{found_text}
-use Rattle.jp_cli.proofs.answer.write_rows.Given as goal
+use Rattle.jp_cli.proofs.rows.write_rows.Given as goal
 
 abbrev pub invariant-loop-row : goal.invariant-loop-row
 invariant-loop-row g l = record {

@@ -1,0 +1,56 @@
+-- The rows that were found spell the rows of the definition.
+use Rattle.std.proofs.Common.{◌≡◌, ◌∙◌, ◌+◌, ℕ, zero, suc, List, [], ◌∷◌, ◌++◌, length, map, flat_map, Bool, ap, ap₂, sym, refl, subst, arith}
+use Rattle.std.specs.Prelude.{All, Some, slice_get, count_by, cond, Option, Result, ◌-◌}
+use Rattle.std.proofs.lemmas.List.Sums.{sum_by-append}
+use Rattle.jp_model.specs.declared.Framing.{Framing}
+use Rattle.jp_model.specs.declared.Setup.{Setup}
+use Rattle.jp_model.specs.Devices.{Device, Writes}
+use Rattle.jp_model.specs.Query.Status.{QueryStatus, query}
+use Rattle.jp_model.specs.Query.Syntax.{Segments}
+use Rattle.jp_model.specs.Rows as model
+use Rattle.jp_model.specs.Script.Commands.{query_line}
+use Rattle.jp_model.specs.Script.Machine.{row_text, rows_text, is_node, count_line, text_or_nothing, query_answer, statuses}
+use Rattle.jp_store.specs.Collections.{Collection, statuses_in}
+use Rattle.jp_tape.specs.Cursors.{line_of, node_of}
+use Rattle.jp_plan.specs.Found.{rows_view, row_view, IsOnItsLine, AreOnTheirLines}
+use Rattle.jp_plan.specs.declared.answer.Row.{Row}
+use Rattle.jp_plan.specs.declared.answer.Row.TheVariants as found
+use Rattle.jp_cli.specs.Found.{found_text, is_found_node}
+use Rattle.jp_cli.specs.Runs.{FitsSetup, AnswersOne}
+use Rattle.jp_cli.proofs.Replied.{stepped}
+
+module _ (f : Framing) (lines : List (List ℕ)) where
+  row_told : (r : Row) → IsOnItsLine lines r → found_text f r ≡ row_text f lines (row_view r)
+  row_told (found.Node line cursor) h = ap (λ (o : Option (List ℕ)). model.node_text f line (text_or_nothing o) (node_of cursor)) (sym h)
+  row_told (found.Refused line fault) h = refl
+
+  texts_told : (rows : List Row) → AreOnTheirLines lines rows → flat_map (found_text f) rows ≡ flat_map (row_text f lines) (rows_view rows)
+  texts_told [] h = refl
+  texts_told (r ∷ rows) h = ap₂ (λ (a b : List ℕ). a ++ b) (row_told r (h zero r (omega arith))) (texts_told rows (λ k d l. h (suc k) d (omega arith)))
+
+count_append : {X : Type 0} (p : X → Bool) (xs ys : List X) → count_by p (xs ++ ys) ≡ count_by p xs + count_by p ys
+count_append p xs ys = sum_by-append (λ x. cond (p x) 1 0) xs ys
+
+nodes_told : (rows : List Row) → count_by is_found_node rows ≡ count_by is_node (rows_view rows)
+nodes_told [] = refl
+nodes_told (found.Node line cursor ∷ rows) =
+    omega (arith, nodes_told rows, count_append is_found_node (found.Node line cursor ∷ []) rows, count_append is_node (model.node_row line (node_of cursor) ∷ []) (rows_view rows))
+nodes_told (found.Refused line fault ∷ rows) =
+    omega (arith, nodes_told rows, count_append is_found_node (found.Refused line fault ∷ []) rows, count_append is_node (model.refusal_row line fault ∷ []) (rows_view rows))
+
+module _ (query_of : List ℕ → QueryStatus) (setup : Setup) (c : Collection) (fits : FitsSetup setup c) (text : List ℕ) (q : Segments) (is : query_of text ≡ query q) where
+  -- the rows that were found, and their count, are what a query answers
+  answer_told : (rows : List Row) → rows_view rows ≡ model.rows q (statuses_in c) → AreOnTheirLines c.state.lines rows
+      → flat_map (found_text setup.framing) rows ++ count_line (count_by is_found_node rows) ≡ query_answer setup.framing c.state (query_of text)
+  answer_told rows are on =
+      let whole : rows_view rows ≡ model.rows q (statuses setup.framing c.state.lines) = are ∙ ap (λ (f : Framing). model.rows q (statuses f c.state.lines)) (sym fits.0) in
+      ap₂ (λ (t : List ℕ) (n : ℕ). t ++ count_line n) (texts_told setup.framing c.state.lines rows on) (nodes_told rows)
+      ∙ (ap (rows_text setup.framing c.state.lines) whole ∙ ap (query_answer setup.framing c.state) (sym is))
+
+  pub rows_answered : {W A F : Type 0} (contents : W → Option (List ℕ)) (before after : Device W) (result : Result A F) (new : Collection) (rows : List Row) → new ≡ c
+      → rows_view rows ≡ model.rows q (statuses_in new) → AreOnTheirLines new.state.lines rows
+      → Writes contents before after result (flat_map (found_text setup.framing) rows ++ count_line (count_by is_found_node rows)) → AnswersOne query_of contents before after result setup (query_line text) c.state new.state
+  rows_answered contents before after result new rows same are on w =
+      let here = subst (λ (d : Collection). rows_view rows ≡ model.rows q (statuses_in d)) same are in
+      let there = subst (λ (d : Collection). AreOnTheirLines d.state.lines rows) same on in
+      stepped query_of setup (query_line text) contents before after result c.state new.state _ (answer_told rows here there) (ap (λ (d : Collection). d.state) same) w

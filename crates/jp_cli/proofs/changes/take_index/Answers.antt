@@ -1,0 +1,10 @@
+-- There is no such index.
+use Rattle.std.proofs.Common.{sym, ap, ◌∙◌, option_map}
+use Rattle.jp_query.specs.SingularPaths.{path_steps}
+use Rattle.jp_query.specs.Status.{query_of}
+use Rattle.jp_cli.proofs.Dropped.{missing}
+use Rattle.jp_cli.proofs.changes.take_index.Goals as goal
+
+pub returns-clause-replies : goal.returns-clause-replies
+returns-clause-replies c =
+    missing query_of c.args.setup c.args.store.now c.args.text.now (path_steps c.in-Some.path) (sym c.in_ok-path.ensures ∙ ap (option_map path_steps) c.in-Some.is) (sym c.in-Err.ensures.there) c.drop_index.new.self c.in-Err.ensures.rest

@@ -1,0 +1,64 @@
+//! What a command answers that tells no rows: fixed words, a number behind them, or a text that was made for it.
+
+ghost use Rattle.std.specs.Prelude.{◌≡◌, ◌++◌, false, is_err, codes};
+ghost use Rattle.jp_model.specs.Devices.{Writes};
+ghost use Rattle.jp_model.specs.Script.Machine.{error, query_fault_word};
+ghost use Rattle.jp_cli.specs.Replies.{reply_text, answered_text};
+
+use jp_model::{QueryFault, Watched};
+use jp_rows::{WriteFault, write_numbered, write_whole};
+use std::alloc::AllocError;
+use std::io::Write;
+
+/// What a command answers.
+#[derive(Drop)]
+pub(crate) enum Reply {
+    /// A line that stands fixed.
+    Fixed(&'static [u8]),
+    /// A line of words with a number behind them.
+    Numbered(&'static [u8], usize),
+    /// Lines that were made for this answer.
+    Lines(Vec<u8>),
+}
+
+/// The line that tells why a query is refused.
+pub(crate) fn refusal_line(fault: QueryFault) -> &'static [u8]
+    ensures { result.now ≡ error (codes "query " ++ query_fault_word fault) }
+{
+    match fault {
+        QueryFault::Size => b"error: query size\n".as_slice(),
+        QueryFault::Syntax => b"error: query syntax\n".as_slice(),
+        QueryFault::Integer => b"error: query integer\n".as_slice(),
+        QueryFault::Number => b"error: query number\n".as_slice(),
+        QueryFault::Function => b"error: query function\n".as_slice(),
+        QueryFault::Types => b"error: query types\n".as_slice(),
+    }
+}
+
+/// Says that a growth was refused.
+pub(crate) fn write_refused_growth<W: Write>(out: &mut Watched<W>) -> Result<(), WriteFault>
+    requires { out.old.failed ≡ false }
+    ensures text { Writes W.contents out.old out.new result (error (codes "memory")) }
+    ensures fault { out.new.failed ≡ is_err result }
+    ensures after { out.new.after ≡ out.old.after }
+{
+    write_whole(b"error: memory\n", out)
+}
+
+/// Writes a reply, or that a growth was refused.
+pub(crate) fn write_reply<W: Write>(
+    reply: &Result<Reply, AllocError>,
+    out: &mut Watched<W>,
+) -> Result<(), WriteFault>
+    requires { out.old.failed ≡ false }
+    ensures text { Writes W.contents out.old out.new result (answered_text reply.now) }
+    ensures fault { out.new.failed ≡ is_err result }
+    ensures after { out.new.after ≡ out.old.after }
+{
+    match reply {
+        Ok(Reply::Fixed(words)) => write_whole(words, out),
+        Ok(Reply::Numbered(words, number)) => write_numbered(words, *number, out),
+        Ok(Reply::Lines(lines)) => write_whole(lines.as_slice(), out),
+        Err(_) => write_refused_growth(out),
+    }
+}

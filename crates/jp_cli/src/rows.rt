@@ -1,0 +1,148 @@
+//! What `query` answers: the rows of the selected nodes and of the refused lines, and how many nodes there are.
+
+ghost use Rattle.std.specs.Prelude.{◌≡◌, ◌++◌, false, is_err, map, IfOk, flat_map, count_by};
+ghost use Rattle.jp_model.specs.Devices.{Writes};
+ghost use Rattle.jp_model.specs.Rows.{rows as rows_of};
+ghost use Rattle.jp_model.specs.Script.Commands.{query_line};
+ghost use Rattle.jp_model.specs.Script.Machine.{rows_text, count_line};
+ghost use Rattle.jp_query.specs.Status.{query_of};
+ghost use Rattle.jp_query.specs.Queries.{query_view};
+ghost use Rattle.jp_model.specs.Query.Status.{query};
+ghost use Rattle.jp_types.specs.Checks.{checked_view};
+ghost use Rattle.jp_store.specs.Collections.{statuses_in};
+ghost use Rattle.jp_plan.specs.Found.{rows_view, AreOnTheirLines};
+ghost use Rattle.jp_cli.specs.Found.{found_text, is_found_node};
+ghost use Rattle.jp_cli.specs.Runs.{FitsSetup, AnswersOne};
+
+use crate::query::{Refusal, read_query};
+use crate::reply::{refusal_line, write_refused_growth};
+use jp_model::{Framing, Setup, Watched};
+use jp_plan::{Answer, Plan, Row};
+use jp_rows::{WriteFault, write_count, write_node, write_refusal, write_whole};
+use jp_store::{Opened, Store};
+use jp_types::Checked;
+use std::alloc::{AllocError, Global};
+use std::io::Write;
+
+fn write_row<W: Write>(
+    row: &Row<'_>,
+    framing: Framing,
+    out: &mut Watched<W>,
+) -> Result<(), WriteFault>
+    requires { out.old.failed ≡ false }
+    ensures text { Writes W.contents out.old out.new result (found_text framing row.now) }
+    ensures fault { out.new.failed ≡ is_err result }
+    ensures after { out.new.after ≡ out.old.after }
+{
+    match row {
+        Row::Node { line, cursor } => write_node(*line, *cursor, framing, out),
+        Row::Refused { line, fault } => write_refusal(*line, *fault, framing, out),
+    }
+}
+
+fn is_node(row: &Row<'_>) -> bool
+    ensures { result ≡ is_found_node row.now }
+{
+    matches!(row, Row::Node { .. })
+}
+
+fn write_rows<W: Write>(
+    rows: &[Row<'_>],
+    framing: Framing,
+    out: &mut Watched<W>,
+) -> Result<(), WriteFault>
+    requires { out.old.failed ≡ false }
+    ensures text { Writes W.contents out.old out.new result (flat_map (found_text framing) rows.now) }
+    ensures fault { out.new.failed ≡ is_err result }
+    ensures after { out.new.after ≡ out.old.after }
+{
+    for row in rows {
+        if let Err(fault) = write_row(row, framing, out) {
+            return Err(fault);
+        }
+    }
+    Ok(())
+}
+
+fn count_nodes(rows: &[Row<'_>]) -> usize
+    ensures { result ≡ count_by is_found_node rows.now }
+{
+    rows.iter().filter(|row| is_node(row)).count()
+}
+
+fn write_rows_and_count<W: Write>(
+    rows: &[Row<'_>],
+    framing: Framing,
+    out: &mut Watched<W>,
+) -> Result<(), WriteFault>
+    requires { out.old.failed ≡ false }
+    ensures text { Writes W.contents out.old out.new result (flat_map (found_text framing) rows.now ++ count_line (count_by is_found_node rows.now)) }
+    ensures fault { out.new.failed ≡ is_err result }
+    ensures after { out.new.after ≡ out.old.after }
+{
+    match write_rows(rows, framing, out) {
+        Ok(()) => write_count(count_nodes(rows), out),
+        Err(fault) => Err(fault),
+    }
+}
+
+/// The rows of a query, by the plan that the indexes of the store allow.
+fn find_rows<'s>(
+    alloc: Global,
+    checked: &'s Checked,
+    store: &'s Store,
+    opened: &mut Opened,
+) -> Result<Answer<'s>, AllocError>
+    requires { opened.old ≡ 0 }
+    ensures { IfOk result (λ answer. (rows_view answer.rows.items ≡ rows_of (checked_view checked.now) (statuses_in store.now))
+        × AreOnTheirLines store.now.state.lines answer.rows.items) }
+{
+    let plan = Plan::new(alloc, checked, store)?;
+    plan.answer(opened)
+}
+
+/// Answers a query, whose rows are whole before the first byte is written.
+fn answer_checked<W: Write>(
+    store: &mut Store,
+    alloc: Global,
+    setup: Setup,
+    text: &[u8],
+    checked: &Checked,
+    out: &mut Watched<W>,
+) -> Result<(), WriteFault>
+    requires fits { FitsSetup setup store.old }
+    requires query { query_of text.now ≡ query (checked_view checked.now) }
+    requires working { out.old.failed ≡ false }
+    ensures ran { AnswersOne query_of W.contents out.old out.new result setup (query_line text.now) store.old.state store.new.state }
+    ensures fits { FitsSetup setup store.new }
+    ensures fault { out.new.failed ≡ is_err result }
+    ensures after { out.new.after ≡ out.old.after }
+{
+    let mut opened = store.meter();
+    match find_rows(alloc, checked, store, &mut opened) {
+        Ok(answer) => write_rows_and_count(answer.rows.as_slice(), setup.framing, out),
+        Err(_) => write_refused_growth(out),
+    }
+}
+
+/// Answers the query that a text spells, or tells why it is refused.
+pub(crate) fn answer_query<W: Write>(
+    store: &mut Store,
+    alloc: Global,
+    setup: Setup,
+    text: &[u8],
+    out: &mut Watched<W>,
+) -> Result<(), WriteFault>
+    requires fits { FitsSetup setup store.old }
+    requires working { out.old.failed ≡ false }
+    ensures ran { AnswersOne query_of W.contents out.old out.new result setup (query_line text.now) store.old.state store.new.state }
+    ensures fits { FitsSetup setup store.new }
+    ensures fault { out.new.failed ≡ is_err result }
+    ensures after { out.new.after ≡ out.old.after }
+{
+    match read_query(alloc, text) {
+        Ok(checked) => answer_checked(store, alloc, setup, text, &checked, out),
+        Err(Refusal::Query(fault)) => write_whole(refusal_line(fault), out),
+        Err(Refusal::Memory) => write_refused_growth(out),
+    }
+}
