@@ -1,4 +1,7 @@
 use super::*;
+use crate::parse;
+use smallvec::smallvec;
+use std::test::Fail;
 
 /// A child segment of one selector.
 fn child(alloc: Global, selector: Selector) -> Result<Segment, AllocError> {
@@ -59,16 +62,33 @@ fn steps_are_those_of_the_segments(rt: HostRuntime) -> Result<(), AllocError> {
 fn paths_are_equal_by_their_steps(rt: HostRuntime) -> Result<(), AllocError> {
     let alloc = rt.alloc();
     let index = SingularPath {
-        steps: vec![in alloc; Step::Index(0)]?,
+        steps: smallvec![in alloc; Step::Index(0)]?,
     };
     let same = SingularPath {
-        steps: vec![in alloc; Step::Index(0)]?,
+        steps: smallvec![in alloc; Step::Index(0)]?,
     };
     let named = SingularPath {
-        steps: vec![in alloc; Step::Name(String::from_str(alloc, "0")?)]?,
+        steps: smallvec![in alloc; Step::Name(String::from_str(alloc, "0")?)]?,
     };
     assert!(rt; index == same);
     assert!(rt; index != named);
     assert_eq!(rt; named.steps().len(), 1);
+    Ok(())
+}
+
+#[test]
+fn paths_of_many_steps_are_told(rt: HostRuntime) -> Result<(), Fail> {
+    let alloc = rt.alloc();
+    let query = parse(alloc, b"$.a[0]['b'][-1].c[2].d")?;
+    let path = singular(alloc, &query)?.ok_or("the query is singular")?;
+    assert_eq!(rt; path.steps().len(), 7);
+    assert!(rt; path.steps()[0] == Step::Name(String::from_str(alloc, "a")?));
+    assert!(rt; path.steps()[3] == Step::Index(-1));
+    assert!(rt; path.steps()[6] == Step::Name(String::from_str(alloc, "d")?));
+    let root = parse(alloc, b"$")?;
+    let none = singular(alloc, &root)?.ok_or("no step is singular")?;
+    assert!(rt; none.steps().is_empty());
+    let all = parse(alloc, b"$.a[*]")?;
+    assert!(rt; singular(alloc, &all)?.is_none());
     Ok(())
 }
