@@ -13,7 +13,7 @@ use Rattle.jp_model.specs.Plans.{is_tree}
 use Rattle.jp_model.specs.Rows.{refusal_text}
 use Rattle.jp_model.specs.Script.Machine.{said, check_answer, refusals_from, is_refused_status, is_blank_status}
 use Rattle.jp_store.specs.Collections.{Collection, line_status, statuses_in}
-use Rattle.jp_store.specs.Numbered.{lines_from}
+use Rattle.jp_model.specs.Numbered.{numbers_where}
 use Rattle.jp_cli.proofs.Selected.{status_at}
 
 module _ (f : Framing) where
@@ -83,14 +83,14 @@ length_if : (b : Bool) (n : ℕ) (ns : List ℕ) → length (if b then n ∷ ns 
 length_if true n ns = omega arith
 length_if false n ns = omega arith
 
-length-lines : (n : ℕ) (ss : List LineStatus) → length (lines_from is_refused_status n ss) ≡ count_by is_refused_status ss
+length-lines : (n : ℕ) (ss : List LineStatus) → length (numbers_where is_refused_status n ss) ≡ count_by is_refused_status ss
 length-lines n [] = refl
 length-lines n (s ∷ ss) =
-    length_if (is_refused_status s) n (lines_from is_refused_status (n + 1) ss) ∙ ap (λ k. cond (is_refused_status s) 1 0 + k) (length-lines (n + 1) ss)
+    length_if (is_refused_status s) n (numbers_where is_refused_status (n + 1) ss) ∙ ap (λ k. cond (is_refused_status s) 1 0 + k) (length-lines (n + 1) ss)
     ∙ sym (sum_by-cons (λ r. cond (is_refused_status r) 1 0) s ss)
 
 -- the counts that are told
-module _ (c : Collection) (lines trees refusals : ℕ) (l : lines ≡ length c.state.lines) (t : trees ≡ count_by is_tree (statuses_in c)) (r : refusals ≡ length (lines_from is_refused_status 1 (statuses_in c))) where
+module _ (c : Collection) (lines trees refusals : ℕ) (l : lines ≡ length c.state.lines) (t : trees ≡ count_by is_tree (statuses_in c)) (r : refusals ≡ length (numbers_where is_refused_status 1 (statuses_in c))) where
   all : count_by is_blank_status (statuses_in c) + refusals + trees ≡ lines
   all = omega (arith, l, t, r, length-lines 1 (statuses_in c), all_are_one (statuses_in c), length-map c.state.lines (status_of c.framing))
 

@@ -1,6 +1,6 @@
 //! Singular queries (RFC 9535, section 2.3.5.1).
 
-ghost use Rattle.std.specs.Prelude.{◌≡◌, is_some, option_map, map, None, MatchOption, IfOk};
+ghost use Rattle.std.specs.Prelude.{◌≡◌, is_some, option_map, map, true, None, MatchOption, IfOk};
 ghost use Rattle.jp_model.specs.Query.Singular.{selector_step, singular_step, singular_steps};
 ghost use Rattle.jp_model.specs.Steps.{step_equal, steps_equal};
 ghost use Rattle.std.specs.Cmp.{on_per, partial_equiv_from_equiv};
@@ -79,14 +79,25 @@ fn only_selector(segment: &Segment) -> Option<&Selector>
     }
 }
 
+/// The selector of a segment that is singular: one child segment's only selector, a name or an index (RFC 9535, section
+/// 2.3.5.1).
+pub fn singular_selector(segment: &Segment) -> Option<&Selector>
+    ensures { MatchOption result (singular_step (segment_view segment.now) ≡ None) (λ s. (singular_step (segment_view segment.now) ≡ selector_step (selector_view s.now)) × (is_some (selector_step (selector_view s.now)) ≡ true)) }
+{
+    match only_selector(segment) {
+        Some(selector) => match selector {
+            Selector::Name(_) | Selector::Index(_) => Some(selector),
+            Selector::Wildcard | Selector::Slice { .. } | Selector::Filter(_) => None,
+        },
+        None => None,
+    }
+}
+
 // Whether the segment is singular.
 fn is_singular_segment(segment: &Segment) -> bool
     ensures { result ≡ is_some (singular_step (segment_view segment.now)) }
 {
-    matches!(
-        only_selector(segment),
-        Some(Selector::Name(_) | Selector::Index(_))
-    )
+    singular_selector(segment).is_some()
 }
 
 /// Whether each segment selects one child by its name or index, so that they lead to at most one node (RFC 9535, section

@@ -19,6 +19,8 @@ fn names_and_indexes_are_singular(rt: HostRuntime) -> Result<(), AllocError> {
         child(alloc, Selector::Index(-1))?,
     ]?;
     assert!(rt; is_singular(&both));
+    assert!(rt; matches!(singular_selector(&both[0]), Some(Selector::Name(_))));
+    assert!(rt; matches!(singular_selector(&both[1]), Some(Selector::Index(-1))));
     Ok(())
 }
 
@@ -26,6 +28,7 @@ fn names_and_indexes_are_singular(rt: HostRuntime) -> Result<(), AllocError> {
 fn other_segments_are_not_singular(rt: HostRuntime) -> Result<(), AllocError> {
     let alloc = rt.alloc();
     assert!(rt; !is_singular_segment(&child(alloc, Selector::Wildcard)?));
+    assert!(rt; singular_selector(&child(alloc, Selector::Wildcard)?).is_none());
     let slice = Selector::Slice {
         first: None,
         last: Some(1),
