@@ -11,3 +11,4 @@ pub mod Steps
 pub mod Told
 pub mod Turns
 pub mod Views
+pub mod Walks

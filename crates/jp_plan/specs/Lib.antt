@@ -7,3 +7,4 @@ pub mod PlanViews
 pub mod Planned
 pub mod Routes
 pub mod Turns
+pub mod Walks

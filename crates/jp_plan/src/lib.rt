@@ -9,7 +9,9 @@ mod lines;
 mod plan;
 mod route;
 mod seek;
+mod segments;
 mod singular;
+mod text;
 mod turn;
 
 pub use answer::{Answer, Row};

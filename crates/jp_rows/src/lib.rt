@@ -10,7 +10,7 @@ mod whole;
 
 pub use path::write_path;
 pub use rows::{write_count, write_node, write_refusal};
-pub use singular::{push_quoted, push_steps, write_steps};
+pub use singular::{push_index_step, push_name_step, push_quoted, push_steps, write_steps};
 pub use summary::write_summary;
 pub use whole::{WriteFault, write_whole};
 

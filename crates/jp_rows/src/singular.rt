@@ -3,7 +3,7 @@
 ghost use Rattle.std.specs.Prelude.{◌≡◌, ◌++◌, chars, false, is_err, encode_utf8_all, take, IsOk, IsErr, OnOk, OnErr};
 ghost use Rattle.jp_model.specs.Devices.{Writes};
 ghost use Rattle.jp_model.specs.Meaning.Paths.{path_text, quoted, step_text};
-ghost use Rattle.jp_model.specs.Steps.{name_step};
+ghost use Rattle.jp_model.specs.Steps.{index_step, name_step};
 ghost use Rattle.jp_query.specs.SingularPaths.{path_steps, step_view};
 ghost use Rattle.jp_rows.specs.Names.{name_text};
 
@@ -121,6 +121,39 @@ pub fn push_quoted(text: &str, out: &mut Vec<u8>) -> Result<(), AllocError>
     let held = out.len();
     let mut writer = Watched::new(mem::try_take(out)?);
     let written = write_quoted(text, &mut writer);
+    *out = writer.into_inner();
+    settle(held, written, out)
+}
+
+/// Puts the step to the member of a name behind a text, as a normalized path has it (RFC 9535, section 2.7).
+///
+/// # Errors
+///
+/// Memory ran out. The text is as before.
+pub fn push_name_step(name: &str, out: &mut Vec<u8>) -> Result<(), AllocError>
+    ensures text { OnOk result (out.new.items ≡ out.old.items ++ encode_utf8_all (step_text (name_step (chars name.now)))) }
+    ensures kept { OnErr result (out.new.items ≡ out.old.items) }
+{
+    let held = out.len();
+    let mut writer = Watched::new(mem::try_take(out)?);
+    let written = write_named_step(name, &mut writer);
+    *out = writer.into_inner();
+    settle(held, written, out)
+}
+
+/// Puts the step to the element of an index behind a text, as a normalized path has it (RFC 9535, section 2.7). Below 0 it
+/// counts from the end.
+///
+/// # Errors
+///
+/// Memory ran out. The text is as before.
+pub fn push_index_step(index: i64, out: &mut Vec<u8>) -> Result<(), AllocError>
+    ensures text { OnOk result (out.new.items ≡ out.old.items ++ encode_utf8_all (step_text (index_step index))) }
+    ensures kept { OnErr result (out.new.items ≡ out.old.items) }
+{
+    let held = out.len();
+    let mut writer = Watched::new(mem::try_take(out)?);
+    let written = write_index_step(index, &mut writer);
     *out = writer.into_inner();
     settle(held, written, out)
 }

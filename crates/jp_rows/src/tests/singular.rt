@@ -1,7 +1,7 @@
 //! The paths of indexes, and quoted texts.
 
 use super::with_room;
-use crate::{push_quoted, push_steps, write_steps};
+use crate::{push_index_step, push_name_step, push_quoted, push_steps, write_steps};
 use jp_model::Watched;
 use jp_query::{SingularPath, parse, singular};
 use std::alloc::Global;
@@ -74,5 +74,15 @@ fn texts_are_quoted(rt: HostRuntime) -> Result<(), Fail> {
     );
     push_quoted("", &mut out)?;
     assert!(rt; out.as_slice().ends_with(b"\"'''"));
+    Ok(())
+}
+
+#[test]
+fn steps_are_put_behind_a_text(rt: HostRuntime) -> Result<(), Fail> {
+    let mut out = Vec::from_slice(rt.alloc(), b"walk ")?;
+    push_name_step("it's", &mut out)?;
+    push_index_step(-2, &mut out)?;
+    push_index_step(10, &mut out)?;
+    assert_eq!(rt; out.as_slice(), b"walk ['it\\'s'][-2][10]".as_slice());
     Ok(())
 }
