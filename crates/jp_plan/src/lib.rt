@@ -10,6 +10,8 @@ mod plan;
 mod route;
 mod seek;
 mod singular;
+#[cfg(test)]
+mod tests;
 mod turn;
 
 pub use answer::{Answer, Row};
