@@ -1,5 +1,5 @@
 -- Each cursor stands on the line.
-use Rattle.std.proofs.Common.{◌≡◌, ◌∙◌, ◌++◌, ◌-◌, ℕ, List, Some, slice_get, take, map, ap}
+use Rattle.std.proofs.Common.{◌≡◌, ◌∙◌, ◌++◌, ◌-◌, List, Some, slice_get, take, map, ap}
 use Rattle.std.proofs.lemmas.List.Elements.{All-take}
 use Rattle.jp_tape.specs.Cursors.{line_of}
 use Rattle.jp_plan.specs.Found.{node_row}

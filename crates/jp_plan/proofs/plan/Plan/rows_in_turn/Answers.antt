@@ -1,12 +1,10 @@
 -- One line more is told, and at the end none is left.
-use Rattle.std.proofs.Common.{◌≡◌, ◌∙◌, ◌+◌, ℕ, List, [], length, sym, ap, ap₂, subst, arith, refl}
-use Rattle.jp_model.specs.Rows.{Row}
+use Rattle.std.proofs.Common.{ℕ, List, [], length, ap, subst, arith, refl}
 use Rattle.jp_store.specs.Collections.{statuses_in}
 use Rattle.jp_plan.specs.Found.{rows_view}
-use Rattle.jp_plan.specs.Planned.{Planned}
 use Rattle.jp_plan.specs.PlanViews.{plan_of}
-use Rattle.jp_plan.proofs.Told.{Left, open_now, refuse_now, one_off, one_refusal_off, moved}
-use Rattle.jp_plan.proofs.Turns.{none_left, all_left}
+use Rattle.jp_plan.proofs.Told.{Left, open_now, refuse_now, one_off, moved}
+use Rattle.jp_plan.proofs.Turns.{none_left}
 use Rattle.jp_plan.proofs.plan.Plan.rows_in_turn.Goals as goal
 
 pub push_nodes-requires-clause-line : goal.push_nodes-requires-clause-line
