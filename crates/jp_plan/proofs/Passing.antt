@@ -151,10 +151,6 @@ pub same_pass : (p t : LineStatus → Bool) → ((s : LineStatus) → p s ≡ t 
 same_pass p t agree n [] = refl
 same_pass p t agree n (s ∷ ss) = ap₂ (λ (b : Bool) (rest : List ℕ). if b then n ∷ rest else rest) (agree s) (same_pass p t agree (n + 1) ss)
 
-and_true : (b : Bool) → (b && true) ≡ b
-and_true true = refl
-and_true false = refl
-
 module _ (q : Segments) (paths : List (List Step)) (seek : Option (List Step)) (guard : Option Guard) (e : seek ≡ seek_of paths (leading_steps q)) (f : guard ≡ guard_of paths q) where
   -- a line is opened where the seek has a node and the guard holds
   pub opens_both : (s : LineStatus) → (seek_status seek s && guard_status guard s) ≡ is_opened q paths s
@@ -164,31 +160,6 @@ module _ (q : Segments) (paths : List (List Step)) (seek : Option (List Step)) (
       parts blank = refl
       parts (refused fault) = refl
       parts (parsed t) = refl
-
-module _ (q : Segments) (paths : List (List Step)) where
-  pub opens_seek : (seek : Option (List Step)) → seek ≡ seek_of paths (leading_steps q) → None ≡ guard_of paths q → (s : LineStatus) → seek_status seek s ≡ is_opened q paths s
-  opens_seek seek e f s = alone s ∙ opens_both q paths seek None e f s
-    where
-      alone : (s : LineStatus) → seek_status seek s ≡ (seek_status seek s && guard_status None s)
-      alone blank = refl
-      alone (refused fault) = refl
-      alone (parsed t) = sym (and_true (seek_passes seek t))
-
-  pub opens_guard : (guard : Option Guard) → None ≡ seek_of paths (leading_steps q) → guard ≡ guard_of paths q → (s : LineStatus) → guard_status guard s ≡ is_opened q paths s
-  opens_guard guard e f s = alone s ∙ opens_both q paths None guard e f s
-    where
-      alone : (s : LineStatus) → guard_status guard s ≡ (seek_status None s && guard_status guard s)
-      alone blank = refl
-      alone (refused fault) = refl
-      alone (parsed t) = refl
-
-  pub opens_trees : None ≡ seek_of paths (leading_steps q) → None ≡ guard_of paths q → (s : LineStatus) → is_tree s ≡ is_opened q paths s
-  opens_trees e f s = alone s ∙ opens_both q paths None None e f s
-    where
-      alone : (s : LineStatus) → is_tree s ≡ (seek_status None s && guard_status None s)
-      alone blank = refl
-      alone (refused fault) = refl
-      alone (parsed t) = refl
 
 -- one line more is looked at
 pub trees_more : (c : Collection) (k : ℕ) (b : Bool) → k < length c.state.lines → b ≡ is_tree (line_status (k + 1) c)

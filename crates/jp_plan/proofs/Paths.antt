@@ -66,9 +66,6 @@ path_passed paths k p o whole l e h i =
     ∙ (ap (λ r. is_indexed (r ∷ drop (k + 1) paths) o) (sym here)
     ∙ (sym (at_drop_more (λ ps. is_indexed ps o) paths k p l) ∙ i))
 
-pub none_passed : (paths : List (List Step)) (k : ℕ) (o : Option (List Step)) (whole : Bool) → length paths ≤ k → is_indexed (drop k paths) o ≡ whole → whole ≡ false
-none_passed paths k o whole l i = sym i ∙ (at_drop_all (λ ps. is_indexed ps o) paths k l ∙ none_indexed o)
-
 or_true : (b : Bool) → (b || true) ≡ true
 or_true true = refl
 or_true false = refl

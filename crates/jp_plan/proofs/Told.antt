@@ -44,26 +44,21 @@ one_off turn line os rs next e =
     let g = ap length (first_off os line n.0 n.1) in
     omega (arith, f, g)
 
-pub one_refusal_off : (turn : Turn) (line : ℕ) (os rs : List ℕ) → IsNext turn os rs → turn ≡ turns.Refuse line → length rs ≡ 1 + length (drop 1 rs)
-one_refusal_off turn line os rs next e =
-    let n = subst (λ t. IsNext t os rs) e next in
-    let f = ap length n.1 in
-    let g = ap length (first_off rs line n.0 n.1) in
-    omega (arith, f, g)
-
 pub open_now : (p : Planned) (turn : Turn) (line : ℕ) (os rs : List ℕ) (done : List Row) → IsNext turn os rs → turn ≡ turns.Open line → Left p os rs done → Now p (is_opened p.query p.over.state.paths) line (drop 1 os) rs done
 open_now p turn line os rs done next e left =
     let n = subst (λ t. IsNext t os rs) e next in
     let behind = subst (λ (xs : List ℕ). Left p xs rs done) n.1 left in
-    let told = opens p.query p.over.state.paths (statuses_in p.over) line n.0 rs done behind n.2 in
-    subst (λ (xs : List ℕ). Now p (is_opened p.query p.over.state.paths) line xs rs done) (first_off os line n.0 n.1) (now p (is_opened p.query p.over.state.paths) line n.0 rs done told.s told.first told.is told.passes told.left)
+    let told = opens p.query (statuses_in p.over) line n.0 rs done p.over.state.paths behind n.2 in
+    let left : Left p n.0 rs (done ++ status_rows p.query line told.s) = record { before = line; to_open = told.mine; to_refuse = told.others; so_far = told.so_far } in
+    subst (λ (xs : List ℕ). Now p (is_opened p.query p.over.state.paths) line xs rs done) (first_off os line n.0 n.1) (now p (is_opened p.query p.over.state.paths) line n.0 rs done told.s told.first told.is told.passes left)
 
 pub refuse_now : (p : Planned) (turn : Turn) (line : ℕ) (os rs : List ℕ) (done : List Row) → IsNext turn os rs → turn ≡ turns.Refuse line → Left p os rs done → Now p is_refused_status line os (drop 1 rs) done
 refuse_now p turn line os rs done next e left =
     let n = subst (λ t. IsNext t os rs) e next in
     let behind = subst (λ (xs : List ℕ). Left p os xs done) n.1 left in
-    let told = refuses p.query p.over.state.paths (statuses_in p.over) line n.0 os done behind n.2 in
-    subst (λ (xs : List ℕ). Now p is_refused_status line os xs done) (first_off rs line n.0 n.1) (now p is_refused_status line os n.0 done told.s told.first told.is told.passes told.left)
+    let told = refuses p.query (statuses_in p.over) line n.0 os done p.over.state.paths behind n.2 in
+    let left : Left p os n.0 (done ++ status_rows p.query line told.s) = record { before = line; to_open = told.others; to_refuse = told.mine; so_far = told.so_far } in
+    subst (λ (xs : List ℕ). Now p is_refused_status line os xs done) (first_off rs line n.0 n.1) (now p is_refused_status line os n.0 done told.s told.first told.is told.passes left)
 
 -- the same, by other names
 pub moved : (p : Planned) (os ps rs ts : List ℕ) (done more : List Row) → ps ≡ os → ts ≡ rs → more ≡ done → Left p os rs done → Left p ps ts more

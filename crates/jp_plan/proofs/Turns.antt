@@ -116,19 +116,17 @@ drop_behind [] (suc m) k j e = nothing k ∙ sym (nothing j)
 drop_behind (x ∷ xs) (suc m) k zero e = absurd (omega arith)
 drop_behind (x ∷ xs) (suc m) k (suc j) e = drop_behind xs m k j (omega arith)
 
--- at the start
-pub all_left : (q : Segments) (paths : List (List Step)) (ss : List LineStatus) (os rs : List ℕ) → opened q paths ss ≡ os → numbers_where is_refused_status 1 ss ≡ rs → IsLeft q paths ss os rs []
-all_left q paths ss os rs e f = record { before = zero; to_open = e; to_refuse = f; so_far = refl }
-
--- one line is told next
-pub record Told (q : Segments) (paths : List (List Step)) (ss : List LineStatus) (p : LineStatus → Bool) (o : ℕ) (os rs : List ℕ) (done : List Row) : Type 0 where
+-- a line is told, and what is left is behind it
+pub record Told (q : Segments) (ss : List LineStatus) (p r : LineStatus → Bool) (o : ℕ) (os rs : List ℕ) (done : List Row) : Type 0 where
   pub s : LineStatus
   pub first : 1 ≤ o
   pub is : slice_get ss (o - 1) ≡ Some s
   pub passes : p s ≡ true
-  pub left : IsLeft q paths ss os rs (done ++ status_rows q o s)
+  pub mine : numbers_where p (o + 1) (drop o ss) ≡ os
+  pub others : numbers_where r (o + 1) (drop o ss) ≡ rs
+  pub so_far : (done ++ status_rows q o s) ++ rows_from q (o + 1) (drop o ss) ≡ rows q ss
 
-module _ (q : Segments) (paths : List (List Step)) (ss : List LineStatus) (o : ℕ) (os rs : List ℕ) (done : List Row) where
+module _ (q : Segments) (ss : List LineStatus) (o : ℕ) (os rs : List ℕ) (done : List Row) where
   after : (m k : ℕ) (s : LineStatus) → o ≡ (m + 1) + k → rows_from q (m + 1) (drop m ss) ≡ status_rows q o s ++ rows_from q (o + 1) (drop (suc k) (drop m ss))
       → done ++ rows_from q (m + 1) (drop m ss) ≡ rows q ss → (done ++ status_rows q o s) ++ rows_from q (o + 1) (drop o ss) ≡ rows q ss
   after m k s e found so_far =
@@ -137,10 +135,8 @@ module _ (q : Segments) (paths : List (List Step)) (ss : List LineStatus) (o : �
       ∙ (ap (λ ls. done ++ (status_rows q o s ++ rows_from q (o + 1) ls)) (sym rest)
       ∙ (ap (λ rows. done ++ rows) (sym found) ∙ so_far))
 
-  pub opens : IsLeft q paths ss (o ∷ os) rs done → AtLeast o rs → Told q paths ss (is_opened q paths) o os rs done
-  opens left l =
-      let m = left.before in
-      let t = turn q (is_opened q paths) is_refused_status (neither q paths) (apart q paths) (drop m ss) (m + 1) o os rs left.to_open left.to_refuse l in
+  told : (p r : LineStatus → Bool) (m : ℕ) → Turn q p r (m + 1) (drop m ss) o os rs → done ++ rows_from q (m + 1) (drop m ss) ≡ rows q ss → Told q ss p r o os rs done
+  told p r m t so_far =
       let e = t.at in
       let rest : drop (suc t.k) (drop m ss) ≡ drop o ss = drop_behind ss m (suc t.k) o (omega arith) in
       record {
@@ -148,32 +144,25 @@ module _ (q : Segments) (paths : List (List Step)) (ss : List LineStatus) (o : �
         first = omega arith;
         is = sym (behind_place ss m t.k (o - 1) (omega arith)) ∙ t.here;
         passes = t.passes;
-        left = record {
-          before = o;
-          to_open = ap (numbers_where (is_opened q paths) (o + 1)) (sym rest) ∙ t.mine;
-          to_refuse = ap (numbers_where is_refused_status (o + 1)) (sym rest) ∙ t.others;
-          so_far = after m t.k t.s t.at t.found left.so_far;
-        };
+        mine = ap (numbers_where p (o + 1)) (sym rest) ∙ t.mine;
+        others = ap (numbers_where r (o + 1)) (sym rest) ∙ t.others;
+        so_far = after m t.k t.s t.at t.found so_far;
       }
 
-  pub refuses : IsLeft q paths ss rs (o ∷ os) done → AtLeast o rs → Told q paths ss is_refused_status o rs os done
-  refuses left l =
-      let m = left.before in
-      let t = turn q is_refused_status (is_opened q paths) (λ n s h k. neither q paths n s k h) (λ s h k. apart q paths s k h) (drop m ss) (m + 1) o os rs left.to_refuse left.to_open l in
-      let e = t.at in
-      let rest : drop (suc t.k) (drop m ss) ≡ drop o ss = drop_behind ss m (suc t.k) o (omega arith) in
-      record {
-        s = t.s;
-        first = omega arith;
-        is = sym (behind_place ss m t.k (o - 1) (omega arith)) ∙ t.here;
-        passes = t.passes;
-        left = record {
-          before = o;
-          to_open = ap (numbers_where (is_opened q paths) (o + 1)) (sym rest) ∙ t.others;
-          to_refuse = ap (numbers_where is_refused_status (o + 1)) (sym rest) ∙ t.mine;
-          so_far = after m t.k t.s t.at t.found left.so_far;
-        };
-      }
+  module _ (paths : List (List Step)) where
+    pub opens : IsLeft q paths ss (o ∷ os) rs done → AtLeast o rs → Told q ss (is_opened q paths) is_refused_status o os rs done
+    opens left l =
+        let m = left.before in
+        told (is_opened q paths) is_refused_status m
+        (turn q (is_opened q paths) is_refused_status (neither q paths) (apart q paths) (drop m ss) (m + 1) o os rs left.to_open left.to_refuse l)
+        left.so_far
+
+    pub refuses : IsLeft q paths ss rs (o ∷ os) done → AtLeast o rs → Told q ss is_refused_status (is_opened q paths) o os rs done
+    refuses left l =
+        let m = left.before in
+        told is_refused_status (is_opened q paths) m
+        (turn q is_refused_status (is_opened q paths) (λ n s h k. neither q paths n s k h) (λ s h k. apart q paths s k h) (drop m ss) (m + 1) o os rs left.to_refuse left.to_open l)
+        left.so_far
 
 -- nothing is left
 pub none_left : (q : Segments) (paths : List (List Step)) (ss : List LineStatus) (done : List Row) → IsLeft q paths ss [] [] done → done ≡ rows q ss

@@ -126,24 +126,23 @@ impl<'s> Plan<'s> {
         push_cursors(line, found.as_slice(), rows)
     }
 
-    /// Puts the rows of the lines to be opened, and of the refused lines, behind none.
-    fn push_rows(
+    /// The rows of the lines to be opened, and of the refused lines, in the order of their lines.
+    fn rows_in_turn(
         &self,
         route: Route<'s>,
         lines: &[u32],
         opened: &mut Opened,
-        rows: &mut Vec<Row<'s>>,
-    ) -> Result<(), AllocError>
+    ) -> Result<Vec<Row<'s>>, AllocError>
         requires route { IsRouteOf route (plan_of self.now).query (plan_of self.now).over }
         requires lines { lines.now ≡ lines_opened (plan_of self.now) }
         requires few { length lines.now + 1 < 2 ^ 64 }
         requires count { opened.old ≡ 0 }
-        requires rows { rows.old.items ≡ [] }
-        ensures rows { OnOk result (rows_view rows.new.items ≡ rows_of (plan_of self.now)) }
-        ensures lines { AreOnTheirLines (plan_of self.now).over.state.lines rows.new.items }
+        ensures rows { IfOk result (λ rows. rows_view rows.items ≡ rows_of (plan_of self.now)) }
+        ensures lines { IfOk result (λ rows. AreOnTheirLines (plan_of self.now).over.state.lines rows.items) }
         ensures count { OnOk result (opened.new ≡ length lines.now) }
         ensures most { opened.new ≤ length lines.now }
     {
+        let mut rows = Vec::new(self.alloc);
         let mut found = Vec::new(self.alloc);
         let mut to_open = lines;
         let mut to_refuse = self.store.refused_lines();
@@ -151,15 +150,15 @@ impl<'s> Plan<'s> {
             match turn {
                 Turn::Open(line) => {
                     to_open = behind_first(to_open);
-                    self.push_nodes(route, line, opened, &mut found, rows)?;
+                    self.push_nodes(route, line, opened, &mut found, &mut rows)?;
                 }
                 Turn::Refuse(line) => {
                     to_refuse = behind_first(to_refuse);
-                    self.push_refusal(line, rows)?;
+                    self.push_refusal(line, &mut rows)?;
                 }
             }
         }
-        Ok(())
+        Ok(rows)
     }
 
     /// The rows of the query, line by line: those of the nodes that it selects, and those of the refused lines. It opens the
@@ -177,8 +176,7 @@ impl<'s> Plan<'s> {
     {
         let route = find_route(self.query.segments(), self.store);
         let lines = self.opened_lines(route)?;
-        let mut rows = Vec::new(self.alloc);
-        self.push_rows(route, &lines, opened, &mut rows)?;
+        let rows = self.rows_in_turn(route, &lines, opened)?;
         Ok(Answer { rows })
     }
 }

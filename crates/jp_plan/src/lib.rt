@@ -11,6 +11,8 @@ mod route;
 mod seek;
 mod segments;
 mod singular;
+#[cfg(test)]
+mod tests;
 mod text;
 mod turn;
 

@@ -1,5 +1,5 @@
 -- Where an index tells a place the seek has a node.
-use Rattle.std.proofs.Common.{◌≡◌, ◌∙◌, List, ℕ, Option, Some, [], ◌∷◌, MatchOption, slice_get, sym, ap, subst}
+use Rattle.std.proofs.Common.{◌≡◌, ◌∙◌, List, Option, Some, [], ◌∷◌, MatchOption, slice_get, sym, ap, subst}
 use Rattle.jp_model.specs.Meaning.Nodes.{root_node, subtree}
 use Rattle.jp_model.specs.Steps.{Step}
 use Rattle.jp_index.specs.Entries.{Entry, entries_of}

@@ -1,5 +1,5 @@
 -- The lines that the indexes tell are those to be opened.
-use Rattle.std.proofs.Common.{◌≡◌, ◌∙◌, ℕ, List, Some, Option, Global, Vec, sym, ap}
+use Rattle.std.proofs.Common.{◌∙◌, ℕ, Some, Global, Vec, sym, ap}
 use Rattle.std.specs.Prelude.{filter}
 use Rattle.std.proofs.lemmas.List.Elements.{All-same}
 use Rattle.std.proofs.lemmas.Result.{IfOk-weaker}

@@ -1,5 +1,5 @@
 -- The rows of the nodes that the rest selects from the node of the seek.
-use Rattle.std.proofs.Common.{◌≡◌, ◌∙◌, List, [], ◌∷◌, ◌++◌, map, sym, ap, ap₂}
+use Rattle.std.proofs.Common.{◌≡◌, ◌∙◌, List, [], ◌∷◌, ◌++◌, map, ap}
 use Rattle.std.proofs.lemmas.List.Elements.{All-nil, All-same}
 use Rattle.jp_query.specs.View.{segments_view}
 use Rattle.jp_store.specs.Collections.{line_status}

@@ -1,5 +1,5 @@
 -- The node of the seek stands where the index tells.
-use Rattle.std.proofs.Common.{◌≡◌, ◌∙◌, ℕ, List, [], ◌∷◌, ◌<◌, length, true, Option, Some, IfSome, sym, ap, subst}
+use Rattle.std.proofs.Common.{◌≡◌, ◌∙◌, ℕ, List, [], ◌∷◌, ◌<◌, length, true, Option, IfSome, sym, ap, subst}
 use Rattle.jp_model.specs.Meaning.Nodes.{root_node}
 use Rattle.jp_model.specs.Meaning.Selecting.{nodes}
 use Rattle.jp_model.specs.Query.Singular.{steps_query}

@@ -4,7 +4,7 @@ use Rattle.jp_store.specs.Collections.{statuses_in}
 use Rattle.jp_plan.specs.Found.{rows_view, AreOnTheirLines}
 use Rattle.jp_plan.specs.Turns.{IsLeft}
 use Rattle.jp_plan.specs.PlanViews.{plan_of}
-use Rattle.jp_plan.proofs.plan.Plan.push_rows.Given as goal
+use Rattle.jp_plan.proofs.plan.Plan.rows_in_turn.Given as goal
 
 abbrev pub invariant-loop-turn : goal.invariant-loop-turn
 invariant-loop-turn l = record {

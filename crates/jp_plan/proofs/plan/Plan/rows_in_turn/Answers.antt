@@ -1,13 +1,11 @@
 -- One line more is told, and at the end none is left.
-use Rattle.std.proofs.Common.{◌≡◌, ◌∙◌, ◌+◌, ℕ, List, [], length, sym, ap, ap₂, subst, arith, refl}
-use Rattle.jp_model.specs.Rows.{Row}
+use Rattle.std.proofs.Common.{ℕ, List, [], length, ap, subst, arith, refl}
 use Rattle.jp_store.specs.Collections.{statuses_in}
 use Rattle.jp_plan.specs.Found.{rows_view}
-use Rattle.jp_plan.specs.Planned.{Planned}
 use Rattle.jp_plan.specs.PlanViews.{plan_of}
-use Rattle.jp_plan.proofs.Told.{Left, open_now, refuse_now, one_off, one_refusal_off, moved}
-use Rattle.jp_plan.proofs.Turns.{none_left, all_left}
-use Rattle.jp_plan.proofs.plan.Plan.push_rows.Goals as goal
+use Rattle.jp_plan.proofs.Told.{Left, open_now, refuse_now, one_off, moved}
+use Rattle.jp_plan.proofs.Turns.{none_left}
+use Rattle.jp_plan.proofs.plan.Plan.rows_in_turn.Goals as goal
 
 pub push_nodes-requires-clause-line : goal.push_nodes-requires-clause-line
 push_nodes-requires-clause-line c = (open_now (plan_of c.args.self.now) c.in-Some.turn c.in-Open.line c.loop-turn.to_open.now c.loop-turn.to_refuse.now (rows_view c.loop-turn.rows.items) c.in-Some.ensures c.in-Open.is c.loop-turn.invariant.left).is_line
