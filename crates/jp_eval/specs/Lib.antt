@@ -6,5 +6,6 @@ pub mod Walks
 pub mod Literals
 pub mod Patterns
 pub mod Asked
+pub mod Prepared
 pub mod Answers
 pub mod Steps

@@ -1,9 +1,8 @@
 //! What is read of a query once, and not for each line.
 
-ghost use Rattle.std.specs.Prelude.{◌≡◌, ℕ, List, [], true, false, All, IfOk, map};
-ghost use Rattle.jp_eval.specs.Asked.{asked_view, asked_in};
+ghost use Rattle.std.specs.Prelude.{◌≡◌, ℕ, List, [], true, false, All, IfOk};
+ghost use Rattle.jp_eval.specs.Asked.{asked_in};
 ghost use Rattle.jp_eval.specs.Literals.{patterns_in};
-ghost use Rattle.jp_eval.specs.Patterns.{IsKept, has_text};
 ghost use Rattle.jp_query.specs.Sound.{has_sound_literals};
 ghost use Rattle.jp_query.specs.View.{segments_view};
 
@@ -21,10 +20,12 @@ pub struct Prepared<'q> {
 }
 
 impl<'q> Prepared<'q> {
+    ghost use Rattle.jp_eval.specs.Prepared.{KnowsPattern, knows_text, asked_once};
+
     /// Of no query.
     pub fn none(alloc: Global) -> Prepared<'q>
-        ensures patterns { (text : List ℕ) → has_text result.patterns.kept text ≡ false }
-        ensures roots { result.roots.asked.items ≡ [] }
+        ensures patterns { (text : List ℕ) → knows_text result text ≡ false }
+        ensures roots { asked_once result ≡ [] }
     {
         Prepared {
             patterns: Patterns::none(alloc),
@@ -35,8 +36,8 @@ impl<'q> Prepared<'q> {
     /// Of the query of these segments, at any depth. Where memory is refused the answer is `AllocError`.
     pub fn of(alloc: Global, segments: &'q [Segment]) -> Result<Prepared<'q>, AllocError>
         requires literals { has_sound_literals (segments_view segments.now) ≡ true }
-        ensures patterns { IfOk result (λ prepared. All (IsKept prepared.patterns.kept) (patterns_in (segments_view segments.now))) }
-        ensures roots { IfOk result (λ prepared. map asked_view prepared.roots.asked.items ≡ asked_in (segments_view segments.now)) }
+        ensures patterns { IfOk result (λ prepared. All (KnowsPattern prepared) (patterns_in (segments_view segments.now))) }
+        ensures roots { IfOk result (λ prepared. asked_once prepared ≡ asked_in (segments_view segments.now)) }
     {
         Ok(Prepared {
             patterns: Patterns::of(alloc, segments)?,

@@ -19,7 +19,8 @@ use Rattle.jp_model.specs.Steps.{Step}
 use Rattle.jp_values.specs.Keys.{IsKeyOf}
 use Rattle.jp_values.specs.declared.key.Key.{Key}
 use Rattle.jp_index.specs.ByKey.{Ascend, AreByKey, but}
-use Rattle.jp_index.specs.Cells.{cell_key, key_at, numbers_where}
+use Rattle.jp_model.specs.Numbered.{numbers_where}
+use Rattle.jp_index.specs.Cells.{cell_key, key_at}
 use Rattle.jp_index.specs.Edges.{is_between}
 use Rattle.jp_index.specs.Entries.{Entry, entry_value, lines_where, entries_at}
 use Rattle.jp_index.specs.Indexes.{IsKeyFor, CellIs, CellsAre}

@@ -15,7 +15,8 @@ use Rattle.std.proofs.lemmas.Map.Keys.{IsDistinct-IsPermutation, IsStrictlyIncre
 use Rattle.std.proofs.lemmas.Map.Made.{AllPairs-from_IsDistinct, IsDistinct-from_AllPairs}
 use Rattle.jp_values.specs.declared.key.Key.{Key}
 use Rattle.jp_index.specs.ByKey.{line_order, Ascend, AreByKey}
-use Rattle.jp_index.specs.Cells.{cell_key, key_at, has_key, numbers_where}
+use Rattle.jp_model.specs.Numbered.{numbers_where}
+use Rattle.jp_index.specs.Cells.{cell_key, key_at, has_key}
 use Rattle.jp_index.specs.declared.slot.Slot.{Slot}
 use Rattle.jp_index.proofs.Ascending.{Below, among_cons, among_first, among_rest, among_none}
 use Rattle.jp_index.proofs.ByKey.{lines_total, never, apart}
@@ -70,16 +71,6 @@ module _ (test : Option Slot → Bool) where
       let same : z ≡ n = omega arith in
       subst (Contains (numbers_where test n (c ∷ cs))) (sym same) (step_first (test c) n (numbers_where test (n + 1) cs) t)
   number_in n (c ∷ cs) (suc i) z e l t = step_in (test c) n z (numbers_where test (n + 1) cs) (number_in (n + 1) cs i z (omega (arith, e)) (omega (arith, l)) t)
-
-  step_more : (b : Bool) (n : ℕ) (rest whole tail : List ℕ) → whole ≡ rest ++ tail → (if b then n ∷ whole else whole) ≡ (if b then n ∷ rest else rest) ++ tail
-  step_more true n rest whole tail e = ap (λ (l : List ℕ). n ∷ l) e
-  step_more false n rest whole tail e = e
-
-  -- one cell more
-  pub numbers_more : (n m : ℕ) (cs : List (Option Slot)) (c : Option Slot) → m ≡ n + length cs → numbers_where test n (cs ++ c ∷ []) ≡ numbers_where test n cs ++ (if test c then m ∷ [] else [])
-  numbers_more n m [] c e = let same : m ≡ n = omega arith in ap (λ k. if test c then k ∷ [] else []) (sym same)
-  numbers_more n m (d ∷ cs) c e =
-      step_more (test d) n (numbers_where test (n + 1) cs) (numbers_where test (n + 1) (cs ++ c ∷ [])) (if test c then m ∷ [] else []) (numbers_more (n + 1) m cs c (omega (arith, e)))
 
 -- ---- by their keys
 

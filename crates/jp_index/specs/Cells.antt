@@ -1,5 +1,5 @@
 -- What is kept of lines, cell by cell.
-use Rattle.std.specs.Prelude.{ℕ, zero, suc, ◌+◌, Bool, List, [], ◌∷◌, slice_index_or, Option, Some, None, if◌then◌else◌}
+use Rattle.std.specs.Prelude.{ℕ, zero, suc, Bool, List, slice_index_or, Option, Some, None}
 use Rattle.std.specs.Option.{is_some}
 use Rattle.jp_values.specs.declared.key.Key.{Key}
 use Rattle.jp_index.specs.declared.slot.Slot.{Slot}
@@ -16,8 +16,3 @@ key_at cells (suc i) = cell_key (slice_index_or cells i None)
 
 abbrev pub has_key : Option Slot → Bool
 has_key cell = is_some (cell_key cell)
-
--- the numbers of the lines whose cells pass a test, where the first has number n
-abbrev pub numbers_where : (Option Slot → Bool) → ℕ → List (Option Slot) → List ℕ
-numbers_where test n [] = []
-numbers_where test n (cell ∷ cells) = if test cell then n ∷ numbers_where test (n + 1) cells else numbers_where test (n + 1) cells

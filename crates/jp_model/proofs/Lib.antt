@@ -2,8 +2,10 @@
 pub mod Pieces
 pub mod Json
 pub mod Pattern
+pub mod Steps
 pub mod Seek
 pub mod Guard
+pub mod Numbered
 pub mod Opened
 pub mod Rows
 pub mod Reader

@@ -15,7 +15,7 @@ pub mod worked;
 
 pub use fault::ParseFault;
 pub use parser::parse;
-pub use paths::{SingularPath, Step, is_singular, singular};
+pub use paths::{SingularPath, Step, is_singular, singular, singular_selector};
 pub use query::Query;
 pub use tree::{
     Argument, Call, Comparable, CompareOp, Literal, Logical, Origin, Path, Segment, Selector,

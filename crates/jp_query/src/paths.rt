@@ -1,6 +1,6 @@
 //! Singular queries (RFC 9535, section 2.3.5.1).
 
-ghost use Rattle.std.specs.Prelude.{◌≡◌, is_some, option_map, map, None, MatchOption, IfOk};
+ghost use Rattle.std.specs.Prelude.{◌≡◌, pos, is_some, option_map, map, true, None, MatchOption, IfOk};
 ghost use Rattle.jp_model.specs.Query.Singular.{selector_step, singular_step, singular_steps};
 ghost use Rattle.jp_model.specs.Steps.{step_equal, steps_equal};
 ghost use Rattle.std.specs.Cmp.{on_per, partial_equiv_from_equiv};
@@ -11,6 +11,7 @@ ghost use Rattle.jp_query.specs.View.{segment_view, segments_view, selector_view
 
 use crate::query::Query;
 use crate::tree::{Segment, Selector};
+use smallvec::SmallVec;
 use std::alloc::{AllocError, Global};
 
 #[cfg(test)]
@@ -40,10 +41,24 @@ impl PartialEq for Step {
     }
 }
 
+// A step that fills a place of a path where none has been put.
+impl Default for Step {
+    ghost use Rattle.jp_query.specs.declared.paths.Step.TheVariants.{Index};
+
+    ghost is_default = { λ step. step ≡ Index (pos 0) };
+
+    fn default() -> Step {
+        Step::Index(0)
+    }
+}
+
+// Most singular queries have few steps: so many of them lie in the path itself.
+const INLINE_STEPS: usize = 4;
+
 /// The steps of a singular query, in order. Two are equal where their steps are.
 #[derive(Drop)]
 pub struct SingularPath {
-    steps: Vec<Step>,
+    steps: SmallVec<Step, INLINE_STEPS>,
 }
 
 impl SingularPath {
@@ -51,7 +66,7 @@ impl SingularPath {
     pub fn steps(&self) -> &[Step]
         ensures { map step_view result.now ≡ path_steps self.now }
     {
-        &self.steps
+        self.steps.as_slice()
     }
 }
 
@@ -61,7 +76,7 @@ impl PartialEq for SingularPath {
     ghost laws = { on_per path_steps (partial_equiv_from_equiv steps_equal_equiv) };
 
     fn eq(&self, other: &SingularPath) -> bool {
-        self.steps.as_slice() == other.steps.as_slice()
+        self.steps == other.steps
     }
 }
 
@@ -79,14 +94,25 @@ fn only_selector(segment: &Segment) -> Option<&Selector>
     }
 }
 
+/// The selector of a segment that is singular: one child segment's only selector, a name or an index (RFC 9535, section
+/// 2.3.5.1).
+pub fn singular_selector(segment: &Segment) -> Option<&Selector>
+    ensures { MatchOption result (singular_step (segment_view segment.now) ≡ None) (λ s. (singular_step (segment_view segment.now) ≡ selector_step (selector_view s.now)) × (is_some (selector_step (selector_view s.now)) ≡ true)) }
+{
+    match only_selector(segment) {
+        Some(selector) => match selector {
+            Selector::Name(_) | Selector::Index(_) => Some(selector),
+            Selector::Wildcard | Selector::Slice { .. } | Selector::Filter(_) => None,
+        },
+        None => None,
+    }
+}
+
 // Whether the segment is singular.
 fn is_singular_segment(segment: &Segment) -> bool
     ensures { result ≡ is_some (singular_step (segment_view segment.now)) }
 {
-    matches!(
-        only_selector(segment),
-        Some(Selector::Name(_) | Selector::Index(_))
-    )
+    singular_selector(segment).is_some()
 }
 
 /// Whether each segment selects one child by its name or index, so that they lead to at most one node (RFC 9535, section
@@ -121,7 +147,7 @@ fn singular_step(segment: &Segment) -> Result<Option<Step>, AllocError>
 pub fn singular(alloc: Global, query: &Query) -> Result<Option<SingularPath>, AllocError>
     ensures { IfOk result (λ found. option_map path_steps found ≡ singular_steps (query_view query.now)) }
 {
-    let mut steps = Vec::new(alloc);
+    let mut steps = SmallVec::new(alloc);
     for segment in query.segments() {
         let Some(step) = singular_step(segment)? else {
             return Ok(None);

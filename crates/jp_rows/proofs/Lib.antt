@@ -1,6 +1,7 @@
 mod Transfers
 pub mod Chains
 mod Printed
+mod Turns
 mod Plain
 mod Named
 mod Summaries

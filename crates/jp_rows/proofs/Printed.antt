@@ -1,12 +1,13 @@
 -- The bytes of a path, step by step and scalar by scalar.
-use Rattle.std.proofs.Common.{◌≡◌, ℕ, ◌<◌, ◌^◌, List, [], ◌∷◌, ◌++◌, sym, ◌∙◌, ap, arith, append-nil, append_assoc, decimal, codes, encode_utf8_all, pos}
+use Rattle.std.proofs.Common.{◌≡◌, ℕ, ℤ, List, [], ◌∷◌, ◌++◌, sym, ◌∙◌, ap, append-nil, append_assoc, codes, encode_utf8_all}
 use lib.Utf8.{encode}
 use Rattle.std.specs.List.{flat_map}
 use Rattle.std.proofs.lemmas.Str.{encodes-append, encodes-IsAscii}
 use Rattle.std.proofs.lemmas.List.Concat.{flat_map-append}
-use Rattle.std.proofs.lemmas.Fmt.{IsAscii-decimal}
+use Rattle.std.specs.Fmt.{signed_decimal}
+use Rattle.std.specs.Str.{IsAscii}
 use Rattle.jp_model.specs.Steps.{Step, name_step, index_step}
-use Rattle.jp_model.specs.Meaning.Paths.{name_scalar, step_text, steps_text, path_text}
+use Rattle.jp_model.specs.Meaning.Paths.{name_scalar, quoted, step_text, steps_text, path_text}
 use Rattle.jp_rows.specs.Names.{name_text}
 
 -- ---- names
@@ -36,11 +37,21 @@ named x =
     ap encode_utf8_all (append_assoc own (codes "'") (codes "]")) ∙ encodes-append own (codes "']") in
     ap (λ b. codes "['" ++ b) e
 
-pub indexed : (i : ℕ) → i < 2 ^ 32 → encode_utf8_all (step_text (index_step (pos i))) ≡ codes "[" ++ decimal i ++ codes "]"
+-- a name between single quotes
+pub quotes : (x : List ℕ) → encode_utf8_all (quoted x) ≡ codes "'" ++ name_text x ++ codes "'"
+unfolding encode
+quotes x = ap (λ b. codes "'" ++ b) (encodes-append (flat_map name_scalar x) (codes "'"))
+
+-- and that between brackets
+pub brackets : (x : List ℕ) → encode_utf8_all (step_text (name_step x)) ≡ codes "[" ++ encode_utf8_all (quoted x) ++ codes "]"
+unfolding encode
+brackets x = ap (λ b. codes "[" ++ b) (encodes-append (quoted x) (codes "]"))
+
+pub indexed : (i : ℤ) → IsAscii (signed_decimal i) → encode_utf8_all (step_text (index_step i)) ≡ codes "[" ++ signed_decimal i ++ codes "]"
 unfolding encode
 indexed i h =
-    let e : encode_utf8_all (decimal i ++ codes "]") ≡ decimal i ++ codes "]" =
-    encodes-append (decimal i) (codes "]") ∙ ap (λ b. b ++ codes "]") (encodes-IsAscii (decimal i) (IsAscii-decimal i (omega (arith, h)))) in
+    let e : encode_utf8_all (signed_decimal i ++ codes "]") ≡ signed_decimal i ++ codes "]" =
+    encodes-append (signed_decimal i) (codes "]") ∙ ap (λ b. b ++ codes "]") (encodes-IsAscii (signed_decimal i) h) in
     ap (λ b. codes "[" ++ b) e
 
 -- ---- paths
@@ -52,3 +63,8 @@ path-append xs ys =
 -- one more step
 pub path-push : (xs : List Step) (s : Step) → path_text (xs ++ s ∷ []) ≡ path_text xs ++ encode_utf8_all (step_text s)
 path-push xs s = path-append xs (s ∷ []) ∙ ap (λ b. path_text xs ++ encode_utf8_all b) (append-nil (step_text s))
+
+-- one more step, and others behind it
+pub path-parts : (xs : List Step) (s : Step) (ys : List Step) → path_text (xs ++ s ∷ ys) ≡ (path_text xs ++ encode_utf8_all (step_text s)) ++ encode_utf8_all (steps_text ys)
+path-parts xs s ys =
+    ap path_text (sym (append_assoc xs (s ∷ []) ys)) ∙ (path-append (xs ++ s ∷ []) ys ∙ ap (λ b. b ++ encode_utf8_all (steps_text ys)) (path-push xs s))

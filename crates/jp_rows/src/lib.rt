@@ -4,11 +4,13 @@
 mod names;
 mod path;
 mod rows;
+mod singular;
 mod summary;
 mod whole;
 
 pub use path::write_path;
 pub use rows::{write_count, write_node, write_refusal};
+pub use singular::{push_index_step, push_name_step, push_quoted, push_steps, write_steps};
 pub use summary::{write_numbered, write_summary};
 pub use whole::{WriteFault, write_whole};
 

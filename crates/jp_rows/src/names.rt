@@ -1,6 +1,6 @@
 //! The steps of normalized paths (RFC 9535, section 2.7).
 
-ghost use Rattle.std.specs.Prelude.{◌≡◌, ◌/◌, ◌%◌, ◌<◌, ◌∷◌, ◌++◌, [], pos, false, is_err, codes, encode_utf8_all};
+ghost use Rattle.std.specs.Prelude.{◌≡◌, ◌/◌, ◌%◌, ◌<◌, ◌∷◌, ◌++◌, [], false, is_err, codes, encode_utf8_all};
 ghost use Rattle.std.specs.List.{list_all};
 ghost use Rattle.jp_model.specs.Devices.{Writes};
 ghost use Rattle.jp_model.specs.Steps.{name_step, index_step};
@@ -45,7 +45,7 @@ fn control_escape(control: u8) -> [u8; 6]
 }
 
 /// Writes one scalar of a name (RFC 9535, section 2.7: normal-single-quoted).
-fn write_scalar<W: Write>(scalar: char, out: &mut Watched<W>) -> Result<(), WriteFault>
+pub(crate) fn write_scalar<W: Write>(scalar: char, out: &mut Watched<W>) -> Result<(), WriteFault>
     requires { out.old.failed ≡ false }
     ensures text { Writes W.contents out.old out.new result (encode_utf8_all (name_scalar scalar)) }
     ensures fault { out.new.failed ≡ is_err result }
@@ -107,10 +107,10 @@ pub(crate) fn write_name_step<W: Write>(body: &[u8], out: &mut Watched<W>) -> Re
     write_whole(b"']", out)
 }
 
-/// Writes the step to the element of an index.
-pub(crate) fn write_index_step<W: Write>(index: u32, out: &mut Watched<W>) -> Result<(), WriteFault>
+/// Writes the step to the element of an index. Below 0 it counts from the end.
+pub(crate) fn write_index_step<W: Write>(index: i64, out: &mut Watched<W>) -> Result<(), WriteFault>
     requires { out.old.failed ≡ false }
-    ensures text { Writes W.contents out.old out.new result (encode_utf8_all (step_text (index_step (pos index)))) }
+    ensures text { Writes W.contents out.old out.new result (encode_utf8_all (step_text (index_step index))) }
     ensures fault { out.new.failed ≡ is_err result }
     ensures after { out.new.after ≡ out.old.after }
 {
@@ -132,6 +132,6 @@ pub(crate) fn write_step<W: Write>(
 {
     match child.name_span() {
         Some(body) => write_name_step(&child.line()[body.start as usize..body.end as usize], out),
-        None => write_index_step(child.index(), out),
+        None => write_index_step(i64::from(child.index()), out),
     }
 }

@@ -1,6 +1,7 @@
 //! Rows, and the parts of them, by hand.
 
 mod paths;
+mod singular;
 
 use super::*;
 use crate::names::{write_index_step, write_name_step};
@@ -157,7 +158,12 @@ fn names_are_printed(rt: HostRuntime) -> Result<(), Fail> {
 
 #[test]
 fn indexes_are_printed(rt: HostRuntime) -> Result<(), Fail> {
-    let steps: [(u32, &[u8]); 3] = [(0, b"[0]"), (10, b"[10]"), (4_294_967_295, b"[4294967295]")];
+    let steps: [(i64, &[u8]); 4] = [
+        (0, b"[0]"),
+        (-1, b"[-1]"),
+        (10, b"[10]"),
+        (4_294_967_295, b"[4294967295]"),
+    ];
     for (index, want) in steps {
         let mut out = Watched::new(Vec::new(rt.alloc()));
         assert!(rt; write_index_step(index, &mut out).is_ok());

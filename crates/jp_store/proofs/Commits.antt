@@ -12,7 +12,8 @@ use Rattle.jp_model.specs.Script.Machine.{bytes_held, statuses, is_refused_statu
 use Rattle.jp_index.specs.Entries.{entries_of, with_line}
 use Rattle.jp_index.specs.declared.index.ValueIndex.{ValueIndex}
 use Rattle.jp_store.specs.Edits.{AreEdited, AreSame}
-use Rattle.jp_store.specs.Numbered.{lines_from, with_number}
+use Rattle.jp_model.specs.Numbered.{numbers_where}
+use Rattle.jp_store.specs.Numbered.{with_number}
 use Rattle.jp_store.specs.Stored.{AreCounted, IsKept, IsOver, IsRead, is_refused_kind, is_tree_kind, kind_tree, path_of, stored_text}
 use Rattle.jp_store.specs.declared.counts.Counts.{Counts}
 use Rattle.jp_store.specs.declared.line.Line.{Line}
@@ -147,7 +148,7 @@ module _ (f : Framing) (bytes : List ℕ) (lines : List Line) (line : Line) (rea
             trees_is = count ∙ ap (count_by is_tree) (sym statuses_more);
             refused_is =
                 gone ∙ ap (λ b. with_number n b old.refused.items) refusals ∙ ap (with_number n (is_refused_status s)) c.refused_is
-                ∙ lines_more is_refused_status 1 ss n s (omega (arith, next, many)) ∙ ap (lines_from is_refused_status 1) (sym statuses_more);
+                ∙ lines_more is_refused_status 1 ss n s (omega (arith, next, many)) ∙ ap (numbers_where is_refused_status 1) (sym statuses_more);
           }
 
     -- with one line more
@@ -196,7 +197,7 @@ module _ (f : Framing) (bytes : List ℕ) (lines : List Line) (line : Line) (rea
             trees_is = count ∙ ap (count_by is_tree) (sym statuses_set);
             refused_is =
                 gone ∙ ap (λ b. with_number n b old.refused.items) refusals ∙ ap (with_number n (is_refused_status s)) c.refused_is
-                ∙ lines_set is_refused_status 1 ss i n s (omega (arith, within, many)) (omega (arith, is)) ∙ ap (lines_from is_refused_status 1) (sym statuses_set);
+                ∙ lines_set is_refused_status 1 ss i n s (omega (arith, within, many)) (omega (arith, is)) ∙ ap (numbers_where is_refused_status 1) (sym statuses_set);
           }
 
     -- with another line in the place of one

@@ -9,10 +9,10 @@ use Rattle.jp_model.specs.Plans.{is_tree}
 use Rattle.jp_model.specs.Script.Machine.{bytes_held, statuses, is_refused_status}
 use Rattle.jp_store.specs.declared.line.Line.{Line}
 use Rattle.jp_store.specs.declared.counts.Counts.{Counts}
-use Rattle.jp_store.specs.Numbered.{lines_from}
+use Rattle.jp_model.specs.Numbered.{numbers_where}
 use Rattle.jp_store.specs.Stored.{AreCounted, IsRead, stored_text, is_tree_kind, is_refused_kind}
 use Rattle.jp_store.proofs.Kept.{kind_is_refused, kind_is_tree}
-use Rattle.jp_store.proofs.Numbered.{lines_append}
+use Rattle.jp_model.proofs.Numbered.{numbers_where-append}
 
 module _ (bytes : List ℕ) (lines : List Line) (i : ℕ) (line : Line) (within : i < length lines) (here : line ≡ get_or lines i line) where
   abbrev texts : ℕ → List (List ℕ)
@@ -41,14 +41,14 @@ module _ (bytes : List ℕ) (lines : List Line) (i : ℕ) (line : Line) (within 
         ∙ ap (λ n. count_by is_tree (statuses framing (texts i)) + n) (zero-add (cond (is_tree (status_of framing (stored_text bytes line))) 1 0))
         ∙ ap (λ b. count_by is_tree (statuses framing (texts i)) + cond b 1 0) (sym (kind_is_tree framing line.kind (stored_text bytes line) read.kind))
 
-    pub refused_more : lines_from is_refused_status 1 (statuses framing (texts (i + 1)))
-        ≡ lines_from is_refused_status 1 (statuses framing (texts i)) ++ (if is_refused_kind line.kind then (i + 1) ∷ [] else [])
+    pub refused_more : numbers_where is_refused_status 1 (statuses framing (texts (i + 1)))
+        ≡ numbers_where is_refused_status 1 (statuses framing (texts i)) ++ (if is_refused_kind line.kind then (i + 1) ∷ [] else [])
     refused_more =
         let size : length (statuses framing (texts i)) ≡ i =
         length-map (texts i) (status_of framing) ∙ length-map (take i lines) (stored_text bytes) ∙ length-take-le i lines (omega (arith, within)) in
-        ap (lines_from is_refused_status 1) statuses_more
-        ∙ lines_append is_refused_status 1 (statuses framing (texts i)) (status_of framing (stored_text bytes line)) (i + 1) (omega (arith, size))
-        ∙ ap (λ b. lines_from is_refused_status 1 (statuses framing (texts i)) ++ (if b then (i + 1) ∷ [] else [])) (sym (kind_is_refused framing line.kind (stored_text bytes line) read.kind))
+        ap (numbers_where is_refused_status 1) statuses_more
+        ∙ numbers_where-append is_refused_status 1 (i + 1) (statuses framing (texts i)) (status_of framing (stored_text bytes line)) (omega (arith, size))
+        ∙ ap (λ b. numbers_where is_refused_status 1 (statuses framing (texts i)) ++ (if b then (i + 1) ∷ [] else [])) (sym (kind_is_refused framing line.kind (stored_text bytes line) read.kind))
 
 -- what was counted of all
 pub all_counted : (framing : Framing) (bytes : List ℕ) (lines : List Line) (i : ℕ) (counts : Counts) → length lines ≤ i → AreCounted framing (map (stored_text bytes) (take i lines)) counts

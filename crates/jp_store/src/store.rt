@@ -9,7 +9,7 @@ ghost use Rattle.jp_model.specs.Script.Machine.{has_node, has_path, is_refused_s
 ghost use Rattle.jp_model.specs.Steps.{Step};
 ghost use Rattle.jp_query.specs.SingularPaths.{path_steps};
 ghost use Rattle.jp_store.specs.Collections.{statuses_in, line_text, line_status, loaded, with_lines, with_index, without_index, appended, replaced};
-ghost use Rattle.jp_store.specs.Numbered.{lines_from};
+ghost use Rattle.jp_model.specs.Numbered.{numbers_where};
 ghost use Rattle.jp_store.specs.Loads.{LoadStopped, is_read_fault};
 ghost use Rattle.jp_store.specs.Faults.{RefusesIndex, index_fault, RefusesEdit, append_fault, replace_fault};
 ghost use Rattle.jp_store.specs.Views.{status_kind, text_of_view, tree_of_view};
@@ -125,7 +125,7 @@ impl Store {
 
     /// The numbers of the refused lines, from 1, ascending.
     pub fn refused_lines(&self) -> &[u32]
-        ensures { result.now ≡ lines_from is_refused_status 1 (statuses_in self.now) }
+        ensures { result.now ≡ numbers_where is_refused_status 1 (statuses_in self.now) }
     {
         self.counts.refused.as_slice()
     }

@@ -1,4 +1,7 @@
 use super::*;
+use crate::parse;
+use smallvec::smallvec;
+use std::test::Fail;
 
 /// A child segment of one selector.
 fn child(alloc: Global, selector: Selector) -> Result<Segment, AllocError> {
@@ -19,6 +22,8 @@ fn names_and_indexes_are_singular(rt: HostRuntime) -> Result<(), AllocError> {
         child(alloc, Selector::Index(-1))?,
     ]?;
     assert!(rt; is_singular(&both));
+    assert!(rt; matches!(singular_selector(&both[0]), Some(Selector::Name(_))));
+    assert!(rt; matches!(singular_selector(&both[1]), Some(Selector::Index(-1))));
     Ok(())
 }
 
@@ -26,6 +31,7 @@ fn names_and_indexes_are_singular(rt: HostRuntime) -> Result<(), AllocError> {
 fn other_segments_are_not_singular(rt: HostRuntime) -> Result<(), AllocError> {
     let alloc = rt.alloc();
     assert!(rt; !is_singular_segment(&child(alloc, Selector::Wildcard)?));
+    assert!(rt; singular_selector(&child(alloc, Selector::Wildcard)?).is_none());
     let slice = Selector::Slice {
         first: None,
         last: Some(1),
@@ -56,16 +62,33 @@ fn steps_are_those_of_the_segments(rt: HostRuntime) -> Result<(), AllocError> {
 fn paths_are_equal_by_their_steps(rt: HostRuntime) -> Result<(), AllocError> {
     let alloc = rt.alloc();
     let index = SingularPath {
-        steps: vec![in alloc; Step::Index(0)]?,
+        steps: smallvec![in alloc; Step::Index(0)]?,
     };
     let same = SingularPath {
-        steps: vec![in alloc; Step::Index(0)]?,
+        steps: smallvec![in alloc; Step::Index(0)]?,
     };
     let named = SingularPath {
-        steps: vec![in alloc; Step::Name(String::from_str(alloc, "0")?)]?,
+        steps: smallvec![in alloc; Step::Name(String::from_str(alloc, "0")?)]?,
     };
     assert!(rt; index == same);
     assert!(rt; index != named);
     assert_eq!(rt; named.steps().len(), 1);
+    Ok(())
+}
+
+#[test]
+fn paths_of_many_steps_are_told(rt: HostRuntime) -> Result<(), Fail> {
+    let alloc = rt.alloc();
+    let query = parse(alloc, b"$.a[0]['b'][-1].c[2].d")?;
+    let path = singular(alloc, &query)?.ok_or("the query is singular")?;
+    assert_eq!(rt; path.steps().len(), 7);
+    assert!(rt; path.steps()[0] == Step::Name(String::from_str(alloc, "a")?));
+    assert!(rt; path.steps()[3] == Step::Index(-1));
+    assert!(rt; path.steps()[6] == Step::Name(String::from_str(alloc, "d")?));
+    let root = parse(alloc, b"$")?;
+    let none = singular(alloc, &root)?.ok_or("no step is singular")?;
+    assert!(rt; none.steps().is_empty());
+    let all = parse(alloc, b"$.a[*]")?;
+    assert!(rt; singular(alloc, &all)?.is_none());
     Ok(())
 }

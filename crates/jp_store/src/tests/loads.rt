@@ -20,6 +20,22 @@ fn has_statuses(store: &Store, statuses: &[Status]) -> bool {
     statuses.len() == lines as usize
 }
 
+/// The store of a collection of which each read gives so many bytes at most.
+fn read_by(
+    alloc: Global,
+    framing: Framing,
+    bytes: &'static [u8],
+    most: usize,
+) -> Result<Store, LoadFault> {
+    let mut reader = Watched::new(Giving {
+        bytes,
+        given: 0,
+        most,
+        fails: false,
+    });
+    Store::load(alloc, framing, 1000, &mut reader)
+}
+
 /// Whether a collection has lines of these statuses, however the reads are cut.
 fn is_read_so(
     alloc: Global,
@@ -28,13 +44,7 @@ fn is_read_so(
     statuses: &[Status],
 ) -> Result<bool, Fail> {
     for most in CUTS {
-        let mut reader = Watched::new(Giving {
-            bytes,
-            given: 0,
-            most,
-            fails: false,
-        });
-        let Ok(store) = Store::load(alloc, framing, 1000, &mut reader) else {
+        let Ok(store) = read_by(alloc, framing, bytes, most) else {
             return Ok(false);
         };
         if !has_statuses(&store, statuses) {
@@ -58,6 +68,68 @@ fn lines_end_inside_of_strings(rt: HostRuntime) -> Result<(), Fail> {
     assert!(&rt; is_read_so(alloc, Framing::Lines, text, &statuses)?);
     let statuses = [Status::Refused(LineFault::Utf8), Status::Tree];
     assert!(&rt; is_read_so(alloc, Framing::Lines, b"\"\xC3\n\"y\"", &statuses)?);
+    Ok(())
+}
+
+/// Whether the line has one child, which these bytes spell.
+fn has_one_child(store: &mut Store, n: u32, source: &[u8]) -> bool {
+    if n == 0 || store.line_count() < n {
+        return false;
+    }
+    let mut opened = store.meter();
+    match store.view(n, &mut opened) {
+        Some(line) => match line.root().first_child() {
+            Some(child) => line.root().child_count() == 1 && child.source() == source,
+            None => false,
+        },
+        None => false,
+    }
+}
+
+// The letters end with byte 60, counted from 0, so the backslashes behind them go on into the next block of 64 bytes.
+#[test]
+fn backslashes_go_on_into_the_next_block(rt: HostRuntime) -> Result<(), Fail> {
+    let alloc = rt.alloc();
+    let four = b"[\"xxxxxxxxxxxxxxxxxxxxxxxxxxxxxxxxxxxxxxxxxxxxxxxxxxxxxxxxxxx\\\\\\\\\"]";
+    let five = b"[\"xxxxxxxxxxxxxxxxxxxxxxxxxxxxxxxxxxxxxxxxxxxxxxxxxxxxxxxxxxx\\\\\\\\\\\"]";
+    let closed = b"[\"xxxxxxxxxxxxxxxxxxxxxxxxxxxxxxxxxxxxxxxxxxxxxxxxxxxxxxxxxxx\\\\\\\\\\\"\"]";
+    assert_eq!(&rt; four.len(), 67);
+    assert_eq!(&rt; five.len(), 68);
+    assert_eq!(&rt; closed.len(), 69);
+    for most in CUTS {
+        let mut store = read_by(alloc, Framing::Lines, four, most)?;
+        assert!(&rt; has_statuses(&store, &[Status::Tree]));
+        assert!(&rt; has_one_child(&mut store, 1, &four[1..66]));
+        let store = read_by(alloc, Framing::Lines, five, most)?;
+        assert!(&rt; has_statuses(&store, &[GRAMMAR]));
+        assert_eq!(&rt; store.refused_lines(), [1].as_slice());
+        let mut store = read_by(alloc, Framing::Lines, closed, most)?;
+        assert!(&rt; has_statuses(&store, &[Status::Tree]));
+        assert!(&rt; has_one_child(&mut store, 1, &closed[1..68]));
+    }
+    Ok(())
+}
+
+#[test]
+fn many_open_strings_end_with_their_lines(rt: HostRuntime) -> Result<(), Fail> {
+    let alloc = rt.alloc();
+    let text =
+        b"\"x\n\"x\n\"x\n\"x\n\"x\n\"x\n\"x\n\"x\n\"x\n\"x\n\"x\n\"x\n\"x\n\"x\n\"x\n\"x\n\"x\n\"x\n\"x\n\"x\n\"x\n1";
+    assert_eq!(&rt; text.len(), 64);
+    for most in CUTS {
+        let mut store = read_by(alloc, Framing::Lines, text, most)?;
+        assert_eq!(&rt; store.line_count(), 22);
+        assert_eq!(&rt; store.tree_count(), 1);
+        for n in 1..22 {
+            assert_eq!(&rt; store.line_status(n), GRAMMAR);
+        }
+        assert_eq!(&rt; store.refused_lines().len(), 21);
+        let mut opened = store.meter();
+        let Some(line) = store.view(22, &mut opened) else {
+            return Err("the last line has no tree".into());
+        };
+        assert_eq!(&rt; line.root().source(), b"1".as_slice());
+    }
     Ok(())
 }
 

@@ -1,5 +1,5 @@
 -- The pieces follow one another.
-use Rattle.std.proofs.Common.{ℕ, List, ◌++◌, codes, sym, subst}
+use Rattle.std.proofs.Common.{◌++◌, codes, sym, subst}
 use Rattle.jp_model.specs.Devices.{Writes}
 use Rattle.jp_rows.proofs.Chains.{part_more, part_behind, ends_behind, ends_in_part}
 use Rattle.jp_rows.proofs.Summaries.{counted, summary_is}

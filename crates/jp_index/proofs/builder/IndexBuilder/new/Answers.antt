@@ -1,6 +1,7 @@
 -- There is no cell.
 use Rattle.std.proofs.Common.{◌∙◌, length, ap, sym, refl}
-use Rattle.jp_index.specs.Cells.{has_key, numbers_where}
+use Rattle.jp_model.specs.Numbered.{numbers_where}
+use Rattle.jp_index.specs.Cells.{has_key}
 use Rattle.jp_index.proofs.Cells.{no_cells}
 use Rattle.jp_index.proofs.builder.IndexBuilder.new.Goals as goal
 

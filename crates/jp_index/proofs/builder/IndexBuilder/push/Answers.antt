@@ -2,11 +2,12 @@
 use Rattle.std.proofs.Common.{◌≡◌, ◌∙◌, ◌+◌, ◌++◌, ◌∷◌, [], ap, sym, subst, arith, true, false, append-nil, length-append, length, if◌then◌else◌}
 use Rattle.std.specs.Prelude.{option_map}
 use Rattle.jp_tape.specs.Cursors.{root_of}
-use Rattle.jp_index.specs.Cells.{has_key, numbers_where}
+use Rattle.jp_model.specs.Numbered.{numbers_where}
+use Rattle.jp_index.specs.Cells.{has_key}
 use Rattle.jp_index.specs.Entries.{entry_in}
 use Rattle.jp_index.specs.Indexes.{CellIs, CellsAre}
 use Rattle.jp_index.proofs.Cells.{cells_push}
-use Rattle.jp_index.proofs.Numbers.{numbers_more}
+use Rattle.jp_model.proofs.Numbered.{numbers_where-append}
 use Rattle.jp_index.proofs.builder.IndexBuilder.push.Goals as goal
 
 pub returns-in_ok-push-clause-ok : goal.returns-in_ok-push-clause-ok
@@ -28,7 +29,7 @@ returns-in_ok-push-clause-ok c = λ path lines entries is.
           (cells_push path 1 (lines + 1) cells cell entries (entry_in path (lines + 1) root) is.cells_are next
           (subst (λ p. CellIs p (lines + 1) cell (entry_in p (lines + 1) root)) is.path_is (c.in_ok-cell.ensures (lines + 1))));
       keyed_are = pushed ∙ (ap (λ l. l ++ (lines + 1) ∷ []) is.keyed_are ∙ (ap (λ b. numbers_where has_key 1 cells ++ (if b then (lines + 1) ∷ [] else [])) (sym keyed)
-          ∙ (sym (numbers_more has_key 1 (lines + 1) cells cell next) ∙ ap (numbers_where has_key 1) (sym c.in_ok-push.ensures.items))));
+          ∙ (sym (numbers_where-append has_key 1 (lines + 1) cells cell next) ∙ ap (numbers_where has_key 1) (sym c.in_ok-push.ensures.items))));
     }
 
 pub returns-in_ok-push-2-clause-ok : goal.returns-in_ok-push-2-clause-ok
@@ -45,5 +46,5 @@ returns-in_ok-push-2-clause-ok c = λ path lines entries is.
           (cells_push path 1 (lines + 1) cells cell entries (entry_in path (lines + 1) root) is.cells_are next
           (subst (λ p. CellIs p (lines + 1) cell (entry_in p (lines + 1) root)) is.path_is (c.in_ok-cell.ensures (lines + 1))));
       keyed_are = c.reserve.ensures.items ∙ (is.keyed_are ∙ (sym (append-nil (numbers_where has_key 1 cells)) ∙ (ap (λ b. numbers_where has_key 1 cells ++ (if b then (lines + 1) ∷ [] else [])) (sym keyed)
-          ∙ (sym (numbers_more has_key 1 (lines + 1) cells cell next) ∙ ap (numbers_where has_key 1) (sym c.in_ok-push-2.ensures.items)))));
+          ∙ (sym (numbers_where-append has_key 1 (lines + 1) cells cell next) ∙ ap (numbers_where has_key 1) (sym c.in_ok-push-2.ensures.items)))));
     }

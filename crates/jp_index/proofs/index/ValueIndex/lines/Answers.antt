@@ -1,7 +1,7 @@
 -- All cells were looked at.
 use Rattle.std.proofs.Common.{◌∙◌, ◌+◌, ◌++◌, ap, sym, arith, append-nil}
 use Rattle.std.specs.Option.{is_some}
-use Rattle.jp_index.specs.Cells.{numbers_where}
+use Rattle.jp_model.specs.Numbered.{numbers_where}
 use Rattle.jp_index.proofs.Found.{lines_are, numbers_end}
 use Rattle.jp_index.proofs.index.ValueIndex.lines.Goals as goal
 

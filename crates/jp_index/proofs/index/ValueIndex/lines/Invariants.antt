@@ -1,7 +1,7 @@
 -- The lines so far, and those that are left.
 use Rattle.std.proofs.Common.{◌≡◌, ◌+◌, ◌++◌, drop}
 use Rattle.std.specs.Option.{is_some}
-use Rattle.jp_index.specs.Cells.{numbers_where}
+use Rattle.jp_model.specs.Numbered.{numbers_where}
 use Rattle.jp_index.proofs.index.ValueIndex.lines.Given as goal
 
 abbrev pub invariant-loop-cell : goal.invariant-loop-cell

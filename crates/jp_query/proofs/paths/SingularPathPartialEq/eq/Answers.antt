@@ -3,4 +3,4 @@ use Rattle.jp_query.proofs.SameSteps.{same_paths}
 use Rattle.jp_query.proofs.paths.SingularPathPartialEq.eq.Goals as goal
 
 pub returns : goal.returns
-returns c = c.eq.ensures ∙ rw (c.as_slice.ensures.value, c.as_slice-2.ensures.value) (same_paths c.args.self.now.steps.items c.args.other.now.steps.items)
+returns c = c.eq.ensures ∙ same_paths c.args.self.now.steps.items c.args.other.now.steps.items

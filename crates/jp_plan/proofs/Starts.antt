@@ -1,0 +1,93 @@
+-- The node of a seek, and the rows of a line.
+use Rattle.std.proofs.Common.{◌≡◌, ℕ, ◌-◌, List, [], ◌∷◌, ◌++◌, length, map, not, ◌==◌, true, Option, Some, None, slice_get, refl, sym, ap, ap₂, subst, ◌∙◌}
+use Rattle.jp_model.specs.Json.Status.{LineStatus, blank, refused, parsed}
+use Rattle.jp_model.specs.Json.Tree.{Tree}
+use Rattle.jp_model.specs.declared.LineFault.{LineFault}
+use Rattle.jp_model.specs.Meaning.Nodes.{Node, root_node, subtree}
+use Rattle.jp_model.specs.Meaning.Selecting.{nodes}
+use Rattle.jp_model.specs.Plans.{is_tree, steps_nodes}
+use Rattle.jp_model.specs.Query.Singular.{steps_query}
+use Rattle.jp_model.specs.Query.Syntax.{Segments}
+use Rattle.jp_model.specs.Rows as model
+use Rattle.jp_model.specs.Rows.{status_rows}
+use Rattle.jp_model.specs.Steps.{Step}
+use Rattle.jp_tape.specs.Cursors.{line_of, node_of}
+use Rattle.jp_tape.specs.declared.cursor.Cursor.{Cursor}
+use Rattle.std.specs.Prelude.{Result, Ok, Err, OnOk, All}
+use Rattle.std.proofs.lemmas.List.Elements.{All-append, All-map, All-same, All-weaker}
+use Rattle.jp_plan.specs.Behind.{segments_behind}
+use Rattle.jp_index.specs.Entries.{Entry, entries_at, entries_of, entry_of, status_entry}
+use Rattle.jp_store.specs.Collections.{Collection, statuses_in, line_text, line_status}
+use Rattle.jp_store.specs.Views.{status_kind}
+use Rattle.jp_store.specs.declared.Status.TheVariants as told
+use Rattle.jp_plan.specs.Found.{row_view, rows_view, node_row, IsOnItsLine, AreOnTheirLines}
+use Rattle.jp_plan.specs.Passing.{seek_status, is_told_tree, IsLineOf}
+use Rattle.jp_plan.specs.declared.answer.Row.{Row}
+use Rattle.jp_plan.specs.declared.answer.Row.TheVariants as found
+use Rattle.jp_plan.proofs.Entries.{collection_entry, one_entry, no_entry, text_at}
+use Rattle.jp_plan.proofs.Evaluated.{behind_nodes}
+
+-- the entry of a line with a tree is of its tree, and of the one node of the path
+pub record Starts (path : List Step) (t : Tree) (place : ℕ) (node : Node) : Type 0 where
+  pub at : slice_get (subtree (root_node t)) place ≡ Some node
+  pub only : steps_nodes path t ≡ node ∷ []
+
+pub starts : (c : Collection) (path : List Step) (n : ℕ) (t : Tree) (e : Entry) (place : ℕ) → IsLineOf c n → line_status n c ≡ parsed t
+    → entries_at n (entries_of path (statuses_in c)) ≡ e ∷ [] → slice_get (subtree (root_node e.tree)) place ≡ Some e.node → Starts path t place e.node
+starts c path n t e place is s h k =
+    let here : entry_of path n t ≡ e ∷ [] = ap (status_entry path n) (sym s) ∙ (sym (collection_entry c path n is) ∙ h) in
+    let one = one_entry path n t e here in
+    record { at = subst (λ u. slice_get (subtree (root_node u)) place ≡ Some e.node) one.1 k; only = one.0 }
+
+-- a seek that has a node has an entry
+pub not_sought : (c : Collection) (path : List Step) (n : ℕ) (t : Tree) → IsLineOf c n → line_status n c ≡ parsed t
+    → entries_at n (entries_of path (statuses_in c)) ≡ [] → seek_status (Some path) (line_status n c) ≡ true → ⊥
+not_sought c path n t is s h k =
+    let here : entry_of path n t ≡ [] = ap (status_entry path n) (sym s) ∙ (sym (collection_entry c path n is) ∙ h) in
+    let none = no_entry path n t here in
+    let passes : not (length (steps_nodes path t) == 0) ≡ true = ap (seek_status (Some path)) (sym s) ∙ k in
+    let at_none : not (length {A = Node} [] == 0) ≡ true = subst (λ (ns : List Node). not (length ns == 0) ≡ true) none passes in
+    absurd (cc)
+
+-- rows behind others
+view_append : (xs ys : List Row) → rows_view (xs ++ ys) ≡ rows_view xs ++ rows_view ys
+view_append [] ys = refl
+view_append (x ∷ xs) ys = ap (λ l. row_view x ∷ l) (view_append xs ys)
+
+pub refusal_rows : (q : Segments) (n : ℕ) (s : LineStatus) (fault : LineFault) (old new : List Row) → told.Refused fault ≡ status_kind s → new ≡ old ++ found.Refused n fault ∷ [] → rows_view new ≡ rows_view old ++ status_rows q n s
+refusal_rows q n blank fault old new e h = absurd (cc)
+refusal_rows q n (refused f) fault old new e h =
+    let same : fault ≡ f = cc in
+    ap rows_view h ∙ (view_append old (found.Refused n fault ∷ []) ∙ ap (λ g. rows_view old ++ model.refusal_row n g ∷ []) same)
+refusal_rows q n (parsed t) fault old new e h = absurd (cc)
+
+views : (n : ℕ) (cs : List Cursor) → rows_view (map (node_row n) cs) ≡ map (model.node_row n) (map node_of cs)
+views n [] = refl
+views n (c ∷ cs) = ap (λ l. model.node_row n (node_of c) ∷ l) (views n cs)
+
+-- what the rest selects from the node of the seek are the rows of the line
+pub node_rows : (q rest : Segments) (steps : List Step) (n : ℕ) (s : LineStatus) (t : Tree) (old new : List Row) (cs : List Cursor) (start : Node) → s ≡ parsed t → segments_behind steps q ≡ Some rest
+    → start ∷ [] ≡ nodes (steps_query steps) (root_node t ∷ []) t → map node_of cs ≡ nodes rest (start ∷ []) t → new ≡ old ++ map (node_row n) cs → rows_view new ≡ rows_view old ++ status_rows q n s
+node_rows q rest steps n s t old new cs start e b h k i =
+    let all : map node_of cs ≡ nodes q (root_node t ∷ []) t = k ∙ (ap (λ ns. nodes rest ns t) h ∙ sym (behind_nodes steps q rest (root_node t ∷ []) t b)) in
+    ap rows_view i ∙ (view_append old (map (node_row n) cs)
+    ∙ (ap (λ l. rows_view old ++ l) (views n cs ∙ ap (map (model.node_row n)) all)
+    ∙ ap (λ u. rows_view old ++ status_rows q n u) (sym e)))
+
+pub on_ok : {A E : Type 0} {P Q : Type 0} (r : Result A E) → OnOk r P → (P → Q) → OnOk r Q
+on_ok (Ok x) p f = f p
+on_ok (Err e) p f = p
+
+-- a status tells whether there is a tree
+pub tree_told : (s : LineStatus) → is_told_tree (status_kind s) ≡ is_tree s
+tree_told blank = refl
+tree_told (refused fault) = refl
+tree_told (parsed t) = refl
+
+-- rows of cursors that stand on a line, behind others
+pub on_lines : (lines : List (List ℕ)) (n : ℕ) (cs : List Cursor) (old new : List Row) → new ≡ old ++ map (node_row n) cs → All (λ c. slice_get lines (n - 1) ≡ Some (line_of c)) cs → AreOnTheirLines lines old → AreOnTheirLines lines new
+on_lines lines n cs old new e here all = All-same (IsOnItsLine lines) new (old ++ map (node_row n) cs) e (All-append (IsOnItsLine lines) old (map (node_row n) cs) all (All-map (IsOnItsLine lines) (node_row n) cs here))
+
+-- cursors that were found in a line stand on it
+pub stand_on : (c : Collection) (n : ℕ) (text : List ℕ) (cs : List Cursor) → IsLineOf c n → text ≡ line_text n c → All (λ d. line_of d ≡ text) cs → All (λ d. slice_get c.state.lines (n - 1) ≡ Some (line_of d)) cs
+stand_on c n text cs is e all = All-weaker (λ d. line_of d ≡ text) (λ d. slice_get c.state.lines (n - 1) ≡ Some (line_of d)) (λ d h. text_at c n is ∙ ap Some (sym (h ∙ e))) cs all

@@ -1,0 +1,10 @@
+-- the lines so far are the first ones with a tree
+use Rattle.std.proofs.Common.{◌≡◌, take}
+use Rattle.jp_model.specs.Numbered.{numbers_where}
+use Rattle.jp_model.specs.Plans.{is_tree}
+use Rattle.jp_store.specs.Collections.{statuses_in}
+use Rattle.jp_plan.specs.PlanViews.{plan_of}
+use Rattle.jp_plan.proofs.plan.Plan.tree_lines.Given as goal
+
+abbrev pub invariant-loop-place : goal.invariant-loop-place
+invariant-loop-place l = l.lines.items ≡ numbers_where is_tree 1 (take l.place (statuses_in (plan_of l.self).over))

@@ -1,0 +1,182 @@
+//! The rows of a query: lines that are opened and lines that are refused, in turn.
+
+ghost use Rattle.std.specs.Prelude.{◌≡◌, ℕ, ◌+◌, ◌-◌, ◌<◌, ◌≤◌, ◌++◌, ◌^◌, List, [], ◌∷◌, length, map, true, Some, slice_get, All, IfOk, IfSome, OnOk, OnErr};
+ghost use Rattle.jp_model.specs.Json.Status.{parsed};
+ghost use Rattle.jp_model.specs.Meaning.Nodes.{root_node};
+ghost use Rattle.jp_model.specs.Meaning.Selecting.{nodes};
+ghost use Rattle.jp_model.specs.Plans.{is_opened};
+ghost use Rattle.jp_model.specs.Query.Singular.{steps_query};
+ghost use Rattle.jp_model.specs.Rows.{status_rows};
+ghost use Rattle.jp_model.specs.Script.Machine.{is_refused_status};
+ghost use Rattle.jp_tape.specs.Cursors.{line_of, node_of};
+ghost use Rattle.jp_store.specs.Collections.{line_status};
+ghost use Rattle.jp_store.specs.Views.{text_of_view, tree_of_view};
+ghost use Rattle.jp_plan.specs.Found.{rows_view, node_row, AreOnTheirLines};
+ghost use Rattle.jp_plan.specs.Passing.{seek_status, IsLineOf};
+ghost use Rattle.jp_plan.specs.Paths.{path_at};
+ghost use Rattle.jp_plan.specs.PlanViews.{plan_of};
+ghost use Rattle.jp_plan.specs.Planned.{rows_of, lines_opened};
+ghost use Rattle.jp_plan.specs.Routes.{IsRouteOf, steps_or_none};
+
+use crate::plan::Plan;
+use crate::route::{Route, find_route};
+use crate::turn::{Turn, behind_first, next_turn};
+use jp_eval::eval_with;
+use jp_model::LineFault;
+use jp_store::{LineView, Opened, Status};
+use jp_tape::Cursor;
+use std::alloc::AllocError;
+
+/// A row, with the number of its line, from 1.
+#[derive(Drop)]
+pub enum Row<'s> {
+    /// A node that was selected.
+    Node { line: u32, cursor: Cursor<'s> },
+    /// A line that is refused.
+    Refused { line: u32, fault: LineFault },
+}
+
+/// What a query answers: the rows of the lines, in their order. It borrows the store.
+#[derive(Drop)]
+pub struct Answer<'s> {
+    pub rows: Vec<Row<'s>>,
+}
+
+/// Puts a row of each node of a line behind others.
+fn push_cursors<'s>(
+    line: u32,
+    found: &[Cursor<'s>],
+    rows: &mut Vec<Row<'s>>,
+) -> Result<(), AllocError>
+    ensures ok { OnOk result (rows.new.items ≡ rows.old.items ++ map (node_row line) found.now) }
+    ensures lines { (lines : List (List ℕ)) → All (λ c. slice_get lines (line - 1) ≡ Some (line_of c)) found.now → AreOnTheirLines lines rows.old.items → AreOnTheirLines lines rows.new.items }
+{
+    rows.reserve(found.len())?;
+    for cursor in found {
+        rows.push(Row::Node {
+            line,
+            cursor: *cursor,
+        })?;
+    }
+    Ok(())
+}
+
+impl<'s> Plan<'s> {
+    /// The row of a refused line.
+    fn push_refusal(&self, line: u32, rows: &mut Vec<Row<'s>>) -> Result<(), AllocError>
+        requires line { IsLineOf (plan_of self.now).over line }
+        requires refused { is_refused_status (line_status line (plan_of self.now).over) ≡ true }
+        ensures rows { OnOk result (rows_view rows.new.items ≡ rows_view rows.old.items ++ status_rows (plan_of self.now).query line (line_status line (plan_of self.now).over)) }
+        ensures lines { AreOnTheirLines (plan_of self.now).over.state.lines rows.old.items → AreOnTheirLines (plan_of self.now).over.state.lines rows.new.items }
+    {
+        if let Status::Refused(fault) = self.store.line_status(line) {
+            rows.push(Row::Refused { line, fault })?;
+        }
+        Ok(())
+    }
+
+    /// The node from which the rest of the query is evaluated: that of the seek, or the root.
+    fn start(&self, seek: Option<u32>, line: u32, view: LineView<'s>) -> Cursor<'s>
+        requires seek { IfSome seek (λ k. k < length (plan_of self.now).over.state.paths) }
+        requires sought { seek_status (path_at (plan_of self.now).over.state.paths seek) (line_status line (plan_of self.now).over) ≡ true }
+        requires line { IsLineOf (plan_of self.now).over line }
+        requires tree { line_status line (plan_of self.now).over ≡ parsed (tree_of_view view) }
+        ensures line { line_of result ≡ text_of_view view.entry }
+        ensures node { node_of result ∷ [] ≡ nodes (steps_query (steps_or_none (path_at (plan_of self.now).over.state.paths seek))) (root_node (tree_of_view view.entry) ∷ []) (tree_of_view view.entry) }
+    {
+        match seek {
+            Some(place) => match self.store.index(place).node_of(line) {
+                Some(node) => view.at(node),
+                None => view.root(),
+            },
+            None => view.root(),
+        }
+    }
+
+    /// Opens a line, and puts the rows of its nodes behind others. `found` lends its memory.
+    fn push_nodes(
+        &self,
+        route: Route<'s>,
+        line: u32,
+        opened: &mut Opened,
+        found: &mut Vec<Cursor<'s>>,
+        rows: &mut Vec<Row<'s>>,
+    ) -> Result<(), AllocError>
+        requires route { IsRouteOf route (plan_of self.now).query (plan_of self.now).over }
+        requires line { IsLineOf (plan_of self.now).over line }
+        requires opened { is_opened (plan_of self.now).query (plan_of self.now).over.state.paths (line_status line (plan_of self.now).over) ≡ true }
+        requires room { opened.old + 1 < 2 ^ 64 }
+        ensures count { opened.new ≡ opened.old + 1 }
+        ensures rows { OnOk result (rows_view rows.new.items ≡ rows_view rows.old.items ++ status_rows (plan_of self.now).query line (line_status line (plan_of self.now).over)) }
+        ensures lines { AreOnTheirLines (plan_of self.now).over.state.lines rows.old.items → AreOnTheirLines (plan_of self.now).over.state.lines rows.new.items }
+    {
+        let Some(view) = self.store.view(line, opened) else {
+            return Ok(());
+        };
+        let start = self.start(route.seek, line, view);
+        found.clear();
+        eval_with(
+            self.alloc,
+            route.rest,
+            &self.prepared,
+            start,
+            view.root(),
+            found,
+        )?;
+        push_cursors(line, found.as_slice(), rows)
+    }
+
+    /// The rows of the lines to be opened, and of the refused lines, in the order of their lines.
+    fn rows_in_turn(
+        &self,
+        route: Route<'s>,
+        lines: &[u32],
+        opened: &mut Opened,
+    ) -> Result<Vec<Row<'s>>, AllocError>
+        requires route { IsRouteOf route (plan_of self.now).query (plan_of self.now).over }
+        requires lines { lines.now ≡ lines_opened (plan_of self.now) }
+        requires few { length lines.now + 1 < 2 ^ 64 }
+        requires count { opened.old ≡ 0 }
+        ensures rows { IfOk result (λ rows. rows_view rows.items ≡ rows_of (plan_of self.now)) }
+        ensures lines { IfOk result (λ rows. AreOnTheirLines (plan_of self.now).over.state.lines rows.items) }
+        ensures count { OnOk result (opened.new ≡ length lines.now) }
+        ensures most { opened.new ≤ length lines.now }
+    {
+        let mut rows = Vec::new(self.alloc);
+        let mut found = Vec::new(self.alloc);
+        let mut to_open = lines;
+        let mut to_refuse = self.store.refused_lines();
+        while let Some(turn) = next_turn(to_open, to_refuse) {
+            match turn {
+                Turn::Open(line) => {
+                    to_open = behind_first(to_open);
+                    self.push_nodes(route, line, opened, &mut found, &mut rows)?;
+                }
+                Turn::Refuse(line) => {
+                    to_refuse = behind_first(to_refuse);
+                    self.push_refusal(line, &mut rows)?;
+                }
+            }
+        }
+        Ok(rows)
+    }
+
+    /// The rows of the query, line by line: those of the nodes that it selects, and those of the refused lines. It opens the
+    /// lines that the plan has to open and no other, and counts them.
+    ///
+    /// # Errors
+    ///
+    /// Memory ran out. Some lines may have been opened then, and no more than without that.
+    pub fn answer(&self, opened: &mut Opened) -> Result<Answer<'s>, AllocError>
+        requires { opened.old ≡ 0 }
+        ensures rows { IfOk result (λ answer. rows_view answer.rows.items ≡ rows_of (plan_of self.now)) }
+        ensures lines { IfOk result (λ answer. AreOnTheirLines (plan_of self.now).over.state.lines answer.rows.items) }
+        ensures count { OnOk result (opened.new ≡ length (lines_opened (plan_of self.now))) }
+        ensures most { OnErr result (opened.new ≤ length (lines_opened (plan_of self.now))) }
+    {
+        let route = find_route(self.query.segments(), self.store);
+        let lines = self.opened_lines(route)?;
+        let rows = self.rows_in_turn(route, &lines, opened)?;
+        Ok(Answer { rows })
+    }
+}

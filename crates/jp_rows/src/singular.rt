@@ -1,0 +1,159 @@
+//! The paths of indexes: written, and put behind a text.
+
+ghost use Rattle.std.specs.Prelude.{◌≡◌, ◌++◌, chars, false, is_err, encode_utf8_all, take, IsOk, IsErr, OnOk, OnErr};
+ghost use Rattle.jp_model.specs.Devices.{Writes};
+ghost use Rattle.jp_model.specs.Meaning.Paths.{path_text, quoted, step_text};
+ghost use Rattle.jp_model.specs.Steps.{index_step, name_step};
+ghost use Rattle.jp_query.specs.SingularPaths.{path_steps, step_view};
+ghost use Rattle.jp_rows.specs.Names.{name_text};
+
+use crate::names::{write_index_step, write_scalar};
+use crate::whole::{WriteFault, write_whole};
+use jp_model::Watched;
+use jp_query::{SingularPath, Step};
+use std::alloc::AllocError;
+use std::io::Write;
+use std::mem;
+
+/// Writes what stands between the quotes of a name or a string.
+fn write_scalars<W: Write>(text: &str, out: &mut Watched<W>) -> Result<(), WriteFault>
+    requires { out.old.failed ≡ false }
+    ensures text { Writes W.contents out.old out.new result (name_text (chars text.now)) }
+    ensures fault { out.new.failed ≡ is_err result }
+    ensures after { out.new.after ≡ out.old.after }
+{
+    for scalar in text.chars() {
+        write_scalar(scalar, out)?;
+    }
+    Ok(())
+}
+
+/// Writes a name or a string between single quotes (RFC 9535, section 2.7: normal-name-selector).
+fn write_quoted<W: Write>(text: &str, out: &mut Watched<W>) -> Result<(), WriteFault>
+    requires { out.old.failed ≡ false }
+    ensures text { Writes W.contents out.old out.new result (encode_utf8_all (quoted (chars text.now))) }
+    ensures fault { out.new.failed ≡ is_err result }
+    ensures after { out.new.after ≡ out.old.after }
+{
+    write_whole(b"'", out)?;
+    write_scalars(text, out)?;
+    write_whole(b"'", out)
+}
+
+/// Writes the step to the member of a name.
+fn write_named_step<W: Write>(name: &str, out: &mut Watched<W>) -> Result<(), WriteFault>
+    requires { out.old.failed ≡ false }
+    ensures text { Writes W.contents out.old out.new result (encode_utf8_all (step_text (name_step (chars name.now)))) }
+    ensures fault { out.new.failed ≡ is_err result }
+    ensures after { out.new.after ≡ out.old.after }
+{
+    write_whole(b"[", out)?;
+    write_quoted(name, out)?;
+    write_whole(b"]", out)
+}
+
+/// Writes a step.
+fn write_singular_step<W: Write>(step: &Step, out: &mut Watched<W>) -> Result<(), WriteFault>
+    requires { out.old.failed ≡ false }
+    ensures text { Writes W.contents out.old out.new result (encode_utf8_all (step_text (step_view step.now))) }
+    ensures fault { out.new.failed ≡ is_err result }
+    ensures after { out.new.after ≡ out.old.after }
+{
+    match step {
+        Step::Name(name) => write_named_step(name, out),
+        Step::Index(index) => write_index_step(*index, out),
+    }
+}
+
+/// Writes the path of an index as a normalized path is written (RFC 9535, section 2.7); its indexes may be negative.
+///
+/// After an `Err` the writer received a beginning of the path: no write follows one that failed or took no byte.
+pub fn write_steps<W: Write>(path: &SingularPath, out: &mut Watched<W>) -> Result<(), WriteFault>
+    requires { out.old.failed ≡ false }
+    ensures text { Writes W.contents out.old out.new result (path_text (path_steps path.now)) }
+    ensures fault { out.new.failed ≡ is_err result }
+    ensures after { out.new.after ≡ out.old.after }
+{
+    write_whole(b"$", out)?;
+    for step in path.steps() {
+        write_singular_step(step, out)?;
+    }
+    Ok(())
+}
+
+/// Takes back what was written behind the first bytes of a text, where not all could be written.
+fn settle(held: usize, written: Result<(), WriteFault>, out: &mut Vec<u8>) -> Result<(), AllocError>
+    ensures ok { OnOk result (IsOk written × (out.new.items ≡ out.old.items)) }
+    ensures err { OnErr result (IsErr written × (out.new.items ≡ take held out.old.items)) }
+{
+    if written.is_ok() {
+        return Ok(());
+    }
+    out.truncate(held);
+    Err(AllocError)
+}
+
+/// Puts behind a text what `write_steps` writes.
+///
+/// # Errors
+///
+/// Memory ran out. The text is as before.
+pub fn push_steps(path: &SingularPath, out: &mut Vec<u8>) -> Result<(), AllocError>
+    ensures text { OnOk result (out.new.items ≡ out.old.items ++ path_text (path_steps path.now)) }
+    ensures kept { OnErr result (out.new.items ≡ out.old.items) }
+{
+    let held = out.len();
+    let mut writer = Watched::new(mem::try_take(out)?);
+    let written = write_steps(path, &mut writer);
+    *out = writer.into_inner();
+    settle(held, written, out)
+}
+
+/// Puts a name or a string between single quotes behind a text (RFC 9535, section 2.7: normal-name-selector).
+///
+/// # Errors
+///
+/// Memory ran out. The text is as before.
+pub fn push_quoted(text: &str, out: &mut Vec<u8>) -> Result<(), AllocError>
+    ensures text { OnOk result (out.new.items ≡ out.old.items ++ encode_utf8_all (quoted (chars text.now))) }
+    ensures kept { OnErr result (out.new.items ≡ out.old.items) }
+{
+    let held = out.len();
+    let mut writer = Watched::new(mem::try_take(out)?);
+    let written = write_quoted(text, &mut writer);
+    *out = writer.into_inner();
+    settle(held, written, out)
+}
+
+/// Puts the step to the member of a name behind a text, as a normalized path has it (RFC 9535, section 2.7).
+///
+/// # Errors
+///
+/// Memory ran out. The text is as before.
+pub fn push_name_step(name: &str, out: &mut Vec<u8>) -> Result<(), AllocError>
+    ensures text { OnOk result (out.new.items ≡ out.old.items ++ encode_utf8_all (step_text (name_step (chars name.now)))) }
+    ensures kept { OnErr result (out.new.items ≡ out.old.items) }
+{
+    let held = out.len();
+    let mut writer = Watched::new(mem::try_take(out)?);
+    let written = write_named_step(name, &mut writer);
+    *out = writer.into_inner();
+    settle(held, written, out)
+}
+
+/// Puts the step to the element of an index behind a text, as a normalized path has it (RFC 9535, section 2.7). Below 0 it
+/// counts from the end.
+///
+/// # Errors
+///
+/// Memory ran out. The text is as before.
+pub fn push_index_step(index: i64, out: &mut Vec<u8>) -> Result<(), AllocError>
+    ensures text { OnOk result (out.new.items ≡ out.old.items ++ encode_utf8_all (step_text (index_step index))) }
+    ensures kept { OnErr result (out.new.items ≡ out.old.items) }
+{
+    let held = out.len();
+    let mut writer = Watched::new(mem::try_take(out)?);
+    let written = write_index_step(index, &mut writer);
+    *out = writer.into_inner();
+    settle(held, written, out)
+}
