@@ -12,11 +12,11 @@ use Rattle.jp_store.specs.Collections.{Collection, without_index}
 -- none is left out
 without_absent : (p : List Step) (paths : List (List Step)) → has_path p paths ≡ false → without_path p paths ≡ paths
 without_absent p [] h = refl
-without_absent p (q ∷ qs) h = by_test (steps_equal p q) refl h
+without_absent p (q ∷ qs) h = by_test (steps_equal p q) refl h (without_absent p qs)
   where
-    by_test : (b : Bool) → steps_equal p q ≡ b → b || has_path p qs ≡ false → without_path p (q ∷ qs) ≡ q ∷ qs
-    by_test true e k = absurd (cc)
-    by_test false e k = ap (λ b. if b then without_path p qs else q ∷ without_path p qs) e ∙ ap (λ (rest : List (List Step)). q ∷ rest) (without_absent p qs k)
+    by_test : (b : Bool) → steps_equal p q ≡ b → b || has_path p qs ≡ false → (has_path p qs ≡ false → without_path p qs ≡ qs) → without_path p (q ∷ qs) ≡ q ∷ qs
+    by_test true e k rest = absurd (cc)
+    by_test false e k rest = ap (λ b. if b then without_path p qs else q ∷ without_path p qs) e ∙ ap (λ (ps : List (List Step)). q ∷ ps) (rest k)
 
 module _ (query_of : List ℕ → QueryStatus) (setup : Setup) (c : Collection) (text : List ℕ) (p : List Step) (is : index_path (query_of text) ≡ Some p) (absent : has_path p c.state.paths ≡ false) where
   keeps_is : step query_of setup c.state (drop_line text) ≡ keeps (error (codes "index missing")) c.state

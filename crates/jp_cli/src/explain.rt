@@ -5,8 +5,8 @@ ghost use Rattle.jp_model.specs.Script.Commands.{explain_line};
 ghost use Rattle.jp_query.specs.Status.{query_of};
 ghost use Rattle.jp_cli.specs.Runs.{FitsSetup, RepliesTo};
 
-use crate::query::{Refusal, read_query};
-use crate::reply::{Reply, refusal_line};
+use crate::query::read_query;
+use crate::reply::{Reply, refuse_query};
 use jp_model::Setup;
 use jp_plan::Plan;
 use jp_store::Store;
@@ -24,7 +24,6 @@ pub(crate) fn explain_query(
 {
     match read_query(alloc, text) {
         Ok(checked) => Ok(Reply::Lines(Plan::new(alloc, &checked, store)?.explain()?)),
-        Err(Refusal::Query(fault)) => Ok(Reply::Fixed(refusal_line(fault))),
-        Err(Refusal::Memory) => Err(AllocError),
+        Err(refusal) => refuse_query(refusal),
     }
 }

@@ -3,8 +3,10 @@
 ghost use Rattle.std.specs.Prelude.{◌≡◌, ◌++◌, false, is_err, codes};
 ghost use Rattle.jp_model.specs.Devices.{Writes};
 ghost use Rattle.jp_model.specs.Script.Machine.{error, query_fault_word};
-ghost use Rattle.jp_cli.specs.Replies.{reply_text, answered_text};
+ghost use Rattle.jp_cli.specs.Replies.{answered_text};
+ghost use Rattle.jp_cli.specs.Refusals.{TellsRefusal};
 
+use crate::query::Refusal;
 use jp_model::{QueryFault, Watched};
 use jp_rows::{WriteFault, write_numbered, write_whole};
 use std::alloc::AllocError;
@@ -22,7 +24,7 @@ pub(crate) enum Reply {
 }
 
 /// The line that tells why a query is refused.
-pub(crate) fn refusal_line(fault: QueryFault) -> &'static [u8]
+fn refusal_line(fault: QueryFault) -> &'static [u8]
     ensures { result.now ≡ error (codes "query " ++ query_fault_word fault) }
 {
     match fault {
@@ -32,6 +34,16 @@ pub(crate) fn refusal_line(fault: QueryFault) -> &'static [u8]
         QueryFault::Number => b"error: query number\n".as_slice(),
         QueryFault::Function => b"error: query function\n".as_slice(),
         QueryFault::Types => b"error: query types\n".as_slice(),
+    }
+}
+
+/// Tells why a text gives no query.
+pub(crate) fn refuse_query(refusal: Refusal) -> Result<Reply, AllocError>
+    ensures { TellsRefusal refusal result }
+{
+    match refusal {
+        Refusal::Query(fault) => Ok(Reply::Fixed(refusal_line(fault))),
+        Refusal::Memory => Err(AllocError),
     }
 }
 

@@ -14,11 +14,11 @@ ghost use Rattle.jp_plan.specs.Found.{rows_view, AreOnTheirLines};
 ghost use Rattle.jp_cli.specs.Found.{found_text, is_found_node};
 ghost use Rattle.jp_cli.specs.Runs.{FitsSetup, AnswersOne};
 
-use crate::query::{Refusal, read_query};
-use crate::reply::{refusal_line, write_refused_growth};
+use crate::query::read_query;
+use crate::reply::{refuse_query, write_refused_growth, write_reply};
 use jp_model::{Framing, Setup, Watched};
 use jp_plan::{Answer, Plan, Row};
-use jp_rows::{WriteFault, write_count, write_node, write_refusal, write_whole};
+use jp_rows::{WriteFault, write_count, write_node, write_refusal};
 use jp_store::{Opened, Store};
 use jp_types::Checked;
 use std::alloc::{AllocError, Global};
@@ -142,7 +142,6 @@ pub(crate) fn answer_query<W: Write>(
 {
     match read_query(alloc, text) {
         Ok(checked) => answer_checked(store, alloc, setup, text, &checked, out),
-        Err(Refusal::Query(fault)) => write_whole(refusal_line(fault), out),
-        Err(Refusal::Memory) => write_refused_growth(out),
+        Err(refusal) => write_reply(&refuse_query(refusal), out),
     }
 }

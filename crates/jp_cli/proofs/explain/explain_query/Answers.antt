@@ -16,3 +16,6 @@ returns-in_ok-explain-in-Ok c =
       ∙ ap (explain_answer c.args.setup.framing state) (sym c.in-Ok.ensures.ok))),
       refl,
     )
+
+pub returns-in-Err : goal.returns-in-Err
+returns-in-Err c = explain_refused c.args.setup c.args.store.now.state c.args.text.now c.in-Err.refusal c.refuse_query.result c.in-Err.ensures.err c.refuse_query.ensures
