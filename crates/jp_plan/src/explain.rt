@@ -1,7 +1,7 @@
 //! The text that explains a plan.
 
-ghost use Rattle.std.specs.Prelude.{◌≡◌, ◌++◌, ◌<◌, true, length, OnOk, IfOk, IfSome};
-ghost use Rattle.jp_model.specs.Plans.{guard_text, scan_text, seek_text};
+ghost use Rattle.std.specs.Prelude.{◌≡◌, ◌++◌, ◌<◌, true, codes, decimal, length, OnOk, IfOk, IfSome};
+ghost use Rattle.jp_model.specs.Plans.{guard_text, scan_text, seek_text, told};
 ghost use Rattle.jp_query.specs.Sound.{is_sound};
 ghost use Rattle.jp_query.specs.View.{literal_view};
 ghost use Rattle.jp_plan.specs.Paths.{guard_at, path_at as steps_at};
@@ -34,11 +34,7 @@ fn push_seek(store: &Store, seek: Option<u32>, out: &mut Vec<u8>) -> Result<(), 
 }
 
 /// Puts the line of a guard behind a text, if there is one.
-fn push_guard(
-    store: &Store,
-    guard: Option<Guard<'_>>,
-    out: &mut Vec<u8>,
-) -> Result<(), AllocError>
+fn push_guard(store: &Store, guard: Option<Guard<'_>>, out: &mut Vec<u8>) -> Result<(), AllocError>
     requires within { IfSome guard (λ g. g.index < length store.now.state.paths) }
     requires sound { IfSome guard (λ g. is_sound (literal_view g.literal.now) ≡ true) }
     ensures { OnOk result (out.new.items ≡ out.old.items ++ guard_text (guard_at store.now.state.paths guard.entry)) }
@@ -55,41 +51,58 @@ fn push_guard(
     out.extend_from_slice(b"\n")
 }
 
-impl<'s> Plan<'s> {
-    /// Puts the line of the seek, that of the guard, or that of neither behind a text.
-    fn push_route(&self, route: Route<'s>, out: &mut Vec<u8>) -> Result<(), AllocError>
-        requires { IsRouteOf route (plan_of self.now).query (plan_of self.now).over }
-        ensures { OnOk result (out.new.items ≡ out.old.items
-            ++ (seek_text (steps_at (plan_of self.now).over.state.paths route.seek)
-            ++ guard_text (guard_at (plan_of self.now).over.state.paths route.guard)
-            ++ scan_text (steps_at (plan_of self.now).over.state.paths route.seek) (guard_at (plan_of self.now).over.state.paths route.guard))) }
-    {
-        push_seek(self.store, route.seek, out)?;
-        push_guard(self.store, route.guard, out)?;
-        if route.seek.is_none() && route.guard.is_none() {
-            out.extend_from_slice(b"scan\n")?;
-        }
-        Ok(())
+/// Puts the line that tells of neither a seek nor a guard behind a text, if there is neither.
+fn push_scan(
+    store: &Store,
+    seek: Option<u32>,
+    guard: Option<Guard<'_>>,
+    out: &mut Vec<u8>,
+) -> Result<(), AllocError>
+    requires seek { IfSome seek (λ k. k < length store.now.state.paths) }
+    requires guard { IfSome guard (λ g. g.index < length store.now.state.paths) }
+    ensures { OnOk result (out.new.items ≡ out.old.items ++ scan_text (steps_at store.now.state.paths seek) (guard_at store.now.state.paths guard.entry)) }
+{
+    match seek {
+        Some(_) => Ok(()),
+        None => match guard {
+            Some(_) => Ok(()),
+            None => out.extend_from_slice(b"scan\n"),
+        },
     }
+}
 
+/// Puts the line behind a text that tells how many lines have to be opened, of how many that have a tree.
+fn push_counts(opened: usize, trees: usize, out: &mut Vec<u8>) -> Result<(), AllocError>
+    ensures { OnOk result (out.new.items ≡ out.old.items ++ told (codes "open " ++ decimal opened ++ codes " of " ++ decimal trees)) }
+{
+    out.extend_from_slice(b"open ")?;
+    push_decimal(opened, out)?;
+    out.extend_from_slice(b" of ")?;
+    push_decimal(trees, out)?;
+    out.extend_from_slice(b"\n")
+}
+
+impl<'s> Plan<'s> {
     /// How many lines have to be opened. None is opened.
     fn count_opened(&self, route: Route<'s>) -> Result<usize, AllocError>
         requires { IsRouteOf route (plan_of self.now).query (plan_of self.now).over }
         ensures { IfOk result (λ count. count ≡ length (lines_opened (plan_of self.now))) }
     {
-        if route.guard.is_some() {
-            return Ok(self.opened_lines(route)?.len());
+        match route.guard {
+            Some(_) => Ok(self.opened_lines(route)?.len()),
+            None => match route.seek {
+                Some(place) => {
+                    laws::a_line_has_one_entry();
+                    Ok(self.store.index(place).count() as usize)
+                }
+                None => Ok(self.store.tree_count() as usize),
+            },
         }
-        let Some(place) = route.seek else {
-            return Ok(self.store.tree_count() as usize);
-        };
-        laws::a_line_has_one_entry();
-        Ok(self.store.index(place).count() as usize)
     }
 
-    /// The text that explains the plan: the path that is sought, the comparison that guards, or that all lines are looked
-    /// at; then what is left of the query, segment by segment; and last how many lines of those that have a tree have to be
-    /// opened (profile). It opens no line.
+    /// The text that explains the plan: the path that is sought and the comparison that guards, or that every line is scanned;
+    /// then the segments that are left of the query; and last how many lines have to be opened, of how many that have a
+    /// tree (profile). It opens no line.
     ///
     /// # Errors
     ///
@@ -99,13 +112,12 @@ impl<'s> Plan<'s> {
     {
         let route = find_route(self.query.segments(), self.store);
         let mut out = Vec::new(self.alloc);
-        self.push_route(route, &mut out)?;
+        push_seek(self.store, route.seek, &mut out)?;
+        push_guard(self.store, route.guard, &mut out)?;
+        push_scan(self.store, route.seek, route.guard, &mut out)?;
         push_segments(route.rest, &mut out)?;
-        out.extend_from_slice(b"open ")?;
-        push_decimal(self.count_opened(route)?, &mut out)?;
-        out.extend_from_slice(b" of ")?;
-        push_decimal(self.store.tree_count() as usize, &mut out)?;
-        out.extend_from_slice(b"\n")?;
+        let opened = self.count_opened(route)?;
+        push_counts(opened, self.store.tree_count() as usize, &mut out)?;
         Ok(out)
     }
 }

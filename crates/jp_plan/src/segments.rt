@@ -86,11 +86,7 @@ fn push_step(selector: &Selector, out: &mut Vec<u8>) -> Result<(), AllocError>
 
 /// Puts what tells one segment behind a text, where a run of singular segments is open before it or not. It answers whether
 /// one is open behind it.
-fn push_part(
-    walks: bool,
-    segment: &Segment,
-    out: &mut Vec<u8>,
-) -> Result<bool, AllocError>
+fn push_part(walks: bool, segment: &Segment, out: &mut Vec<u8>) -> Result<bool, AllocError>
     ensures walks { IfOk result (λ goes. goes ≡ is_some (singular_step (segment_view segment.now))) }
     ensures text { OnOk result (out.new.items ≡ out.old.items ++ part_text walks (segment_view segment.now)) }
 {

@@ -1,5 +1,7 @@
 //! Plans over small collections: the rows, and how many lines were opened.
 
+mod explain;
+
 use crate::{Plan, Row};
 use jp_model::{Framing, Watched};
 use jp_query::{SingularPath, parse, singular};
