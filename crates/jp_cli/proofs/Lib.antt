@@ -7,6 +7,7 @@ mod Program
 mod Statuses
 mod Dropped
 mod Edited
+mod Refused
 mod Replied
 mod RowsTold
 mod RowsWritten

@@ -5,6 +5,7 @@ use Rattle.jp_model.specs.Plans.{explain}
 use Rattle.jp_model.specs.Script.Machine.{explain_answer, statuses}
 use Rattle.jp_types.specs.Checks.{checked_view}
 use Rattle.jp_plan.specs.Planned.{explained}
+use Rattle.jp_cli.proofs.Refused.{explain_refused}
 use Rattle.jp_cli.proofs.explain.explain_query.Goals as goal
 
 pub returns-in_ok-explain-in-Ok : goal.returns-in_ok-explain-in-Ok

@@ -1,7 +1,8 @@
 -- A refused query is told by its fault.
 use Rattle.jp_query.specs.Status.{query_of}
 use Rattle.jp_model.specs.Script.Commands.{query_line}
-use Rattle.jp_cli.proofs.Replied.{query_refused, replied}
+use Rattle.jp_cli.proofs.Refused.{query_refused}
+use Rattle.jp_cli.proofs.Replied.{replied}
 use Rattle.jp_cli.proofs.rows.answer_query.Goals as goal
 
 pub returns-in-Err-clause-ran : goal.returns-in-Err-clause-ran

@@ -1,0 +1,26 @@
+-- A query that is refused is told by its fault.
+use Rattle.std.proofs.Common.{ℕ, List, ap, sym, refl, ◌∙◌}
+use Rattle.std.specs.Prelude.{Result, Ok, Err}
+use Rattle.jp_model.specs.declared.Setup.{Setup}
+use Rattle.jp_model.specs.Script.Commands.{query_line, explain_line}
+use Rattle.jp_model.specs.Script.Machine.{State, query_answer, explain_answer}
+use Rattle.jp_query.specs.Status.{query_of}
+use Rattle.jp_cli.specs.Refusals.{RefusesQueryText, TellsRefusal}
+use Rattle.jp_cli.specs.Runs.{RepliesTo}
+use Rattle.jp_cli.specs.declared.query.Refusal.{Refusal}
+use Rattle.jp_cli.specs.declared.query.Refusal.TheVariants as refusals
+use Rattle.jp_cli.specs.declared.reply.Reply.{Reply}
+
+pub query_refused : {E : Type 0} (setup : Setup) (state : State) (text : List ℕ) (refusal : Refusal) (reply : Result Reply E) → RefusesQueryText text refusal → TellsRefusal refusal reply
+    → RepliesTo query_of setup (query_line text) state state reply
+query_refused setup state text (refusals.Query fault) (Ok r) e t = (t ∙ ap (query_answer setup.framing state) (sym e), refl)
+query_refused setup state text (refusals.Query fault) (Err r) e t = absurd t
+query_refused setup state text refusals.Memory (Ok r) e t = absurd t
+query_refused setup state text refusals.Memory (Err r) e t = (tt, refl)
+
+pub explain_refused : {E : Type 0} (setup : Setup) (state : State) (text : List ℕ) (refusal : Refusal) (reply : Result Reply E) → RefusesQueryText text refusal → TellsRefusal refusal reply
+    → RepliesTo query_of setup (explain_line text) state state reply
+explain_refused setup state text (refusals.Query fault) (Ok r) e t = (t ∙ ap (explain_answer setup.framing state) (sym e), refl)
+explain_refused setup state text (refusals.Query fault) (Err r) e t = absurd t
+explain_refused setup state text refusals.Memory (Ok r) e t = absurd t
+explain_refused setup state text refusals.Memory (Err r) e t = (tt, refl)
