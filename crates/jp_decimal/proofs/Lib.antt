@@ -8,4 +8,3 @@ pub mod KeyLaw
 mod Stripped
 mod ReadDigits
 mod Spelled
-mod KeyEqual

@@ -5,3 +5,4 @@ pub mod Reading
 pub mod Keys
 pub mod Magnitudes
 pub mod Steps
+pub mod KeyLaws

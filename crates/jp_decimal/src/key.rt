@@ -16,7 +16,7 @@ pub struct KeySize {
 
 /// One key for all spellings of a number. `==` and the order of keys are those of the values: negative numbers, the
 /// greater sizes first, then zero, then the others.
-#[derive(Debug, PartialEq, Eq, PartialOrd, Ord, Drop)]
+#[derive(Debug, Drop)]
 pub enum DecimalKey {
     Negative(Reverse<KeySize>),
     Zero,

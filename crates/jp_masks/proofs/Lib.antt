@@ -23,3 +23,4 @@ mod LinesLaw
 mod TextLines
 mod Scans
 mod TokenLaw
+mod Unchanged

@@ -74,3 +74,11 @@ pub record AreAllOf (framing : Framing) (text : List ℕ) (sink : Marks) : Type 
 pub record HasAllOf (text : List ℕ) (sink : Marks) : Type 0 where
   pub framing : Framing
   pub all : AreAllOf framing text sink
+
+-- Of these marks all is as before that can be said of them: the lines that were found, what was scanned into them, of which
+-- text they are all, and whether they are of none.
+pub record IsAsBefore (old new : Marks) : Type 0 where
+  pub lines : found new ≡ found old
+  pub scanned : (framing : Framing) (text : List ℕ) (scanner : Scanner) → HasScanned framing text scanner old → HasScanned framing text scanner new
+  pub all : (framing : Framing) (text : List ℕ) → AreAllOf framing text old → AreAllOf framing text new
+  pub empty : IsEmpty old → IsEmpty new

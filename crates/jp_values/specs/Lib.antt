@@ -3,3 +3,4 @@ pub mod Scalars
 pub mod Values
 pub mod Members
 pub mod Keys
+pub mod KeyLaws

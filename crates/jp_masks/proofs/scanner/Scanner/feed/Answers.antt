@@ -1,6 +1,7 @@
-use Rattle.std.proofs.Common.{◌++◌, Result, Ok, Err}
+use Rattle.std.proofs.Common.{◌∙◌, ◌++◌, Result, Ok, Err}
 use Rattle.std.specs.Result.{OnOk}
 use Rattle.jp_masks.proofs.FoundLaw.{found_fed}
+use Rattle.jp_masks.proofs.Unchanged.{also_err, cut_as_before}
 use Rattle.jp_masks.proofs.scanner.Scanner.feed.Goals as goal
 
 on_ok : {T E : Type 0} (r : Result T E) (P Q : Type 0) → (P → Q) → OnOk r P → OnOk r Q
@@ -10,3 +11,9 @@ on_ok (Err e) P Q f p = tt
 pub returns-else-is_err-clause-lines : goal.returns-else-is_err-clause-lines
 returns-else-is_err-clause-lines c framing text was =
     on_ok c.take_in-taken.result _ _ (found_fed framing (text ++ c.args.piece.now) c.take_in-taken.new.self c.take_in-taken.new.sink) (c.take_in-taken.ensures.scanned framing text was)
+
+pub returns-then-is_err-clause-err_sink : goal.returns-then-is_err-clause-err_sink
+returns-then-is_err-clause-err_sink c =
+    let kept = c.cut_back.ensures in
+    let size = c.sizes-rows.ensures in
+    also_err c.take_in-taken.result _ (cut_as_before c.args.sink.now c.take_in-taken.new.sink c.cut_back.new.self _ _ c.take_in-taken.ensures.grown size.rows size.places kept.rows kept.places (kept.before ∙ size.before) kept.utf8)

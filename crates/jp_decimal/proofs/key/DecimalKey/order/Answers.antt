@@ -1,6 +1,0 @@
-use Rattle.std.proofs.Common.{◌∙◌}
-use Rattle.jp_decimal.proofs.KeyLaw.{keys_order}
-use Rattle.jp_decimal.proofs.key.DecimalKey.order.Goals as goal
-
-pub returns : goal.returns
-returns c x y p q = c.listed.ensures ∙ keys_order c.args.self.now c.args.other.now x y p q

@@ -1,6 +1,0 @@
-use Rattle.std.proofs.Common.{◌∙◌}
-use Rattle.jp_values.proofs.KeyOrder.{keys_in_order}
-use Rattle.jp_values.proofs.key.Key.order.Goals as goal
-
-pub returns : goal.returns
-returns c x y p q = c.listed.ensures ∙ keys_in_order c.args.self.now c.args.other.now x y p q
