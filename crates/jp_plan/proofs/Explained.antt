@@ -1,5 +1,5 @@
 -- The lines that explain a plan.
-use Rattle.std.proofs.Common.{◌≡◌, ℕ, ◌+◌, ◌<◌, List, [], ◌∷◌, ◌++◌, length, drop, Bool, true, false, ◌&&◌, cond, Option, Some, None, IfSome, if◌then◌else◌, sym, subst, ap, ◌∙◌, refl, arith, append-nil, append_assoc, codes, decimal, encode_utf8_all}
+use Rattle.std.proofs.Common.{◌≡◌, ℕ, ◌+◌, List, [], ◌∷◌, ◌++◌, length, drop, Bool, true, false, ◌&&◌, cond, Option, Some, None, IfSome, if◌then◌else◌, sym, ap, ◌∙◌, refl, arith, append_assoc, codes, decimal, encode_utf8_all}
 use Rattle.std.specs.Prelude.{count_by}
 use lib.Utf8.{encode}
 use Rattle.std.proofs.lemmas.List.Sums.{sum_by-cons}
@@ -8,7 +8,7 @@ use Rattle.jp_model.specs.Json.Status.{LineStatus, blank, refused, parsed}
 use Rattle.jp_model.specs.Meaning.Paths.{literal_text, op_text, path_text, steps_text}
 use Rattle.jp_model.specs.Numbered.{numbers_where}
 use Rattle.jp_model.specs.Plans.{Guard, explain, guard_of, guard_text, is_tree, leading_steps, opened, scan_text, seek_length, seek_of, seek_passes, seek_text, segments_text, told}
-use Rattle.jp_model.specs.Query.Syntax.{CompareOp, equal, not_equal, less, less_equal, greater, greater_equal, Literal, Segments, segment_list}
+use Rattle.jp_model.specs.Query.Syntax.{CompareOp, equal, not_equal, less, less_equal, greater, greater_equal, Segments, segment_list}
 use Rattle.jp_model.specs.Rows.{line_feed}
 use Rattle.jp_model.specs.Steps.{Step}
 use Rattle.jp_query.specs.Sound.{is_sound}
@@ -16,12 +16,10 @@ use Rattle.jp_query.specs.View.{literal_view}
 use Rattle.jp_store.specs.Collections.{Collection}
 use Rattle.jp_plan.specs.Behind.{segments_behind}
 use Rattle.jp_plan.specs.Passing.{guard_status, seek_status}
-use Rattle.jp_plan.specs.Paths.{guard_at, guard_of_steps, path_at}
 use Rattle.jp_plan.specs.Routes.{IsRouteOf, steps_or_none}
 use Rattle.jp_plan.specs.declared.guard.Guard.{Guard as Guarding}
 use Rattle.jp_plan.specs.declared.route.Route.{Route}
 use Rattle.jp_plan.proofs.Passing.{opens_both, same_pass}
-use Rattle.jp_plan.proofs.Paths.{there_is}
 use Rattle.jp_plan.proofs.Sounds.{route_fit}
 use Rattle.jp_plan.proofs.Walks.{behind_drop}
 

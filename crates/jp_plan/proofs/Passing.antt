@@ -6,12 +6,12 @@ use Rattle.std.proofs.lemmas.List.Elements.{All-nil, All-cons}
 use Rattle.std.proofs.lemmas.Option.{get_or_from_slice_get, same_Some, slice_get_within}
 use Rattle.jp_model.specs.Json.Reader.{status_of}
 use Rattle.jp_model.specs.Json.Status.{LineStatus, blank, refused, parsed}
-use Rattle.jp_model.specs.Json.Tree.{Tree, Value, value_of}
+use Rattle.jp_model.specs.Json.Tree.{Value, value_of}
 use Rattle.jp_model.specs.Meaning.Compare.{compared}
 use Rattle.jp_model.specs.Meaning.Functions.{single_value, literal_value}
 use Rattle.jp_model.specs.Meaning.Nodes.{Node}
 use Rattle.jp_model.specs.Numbered.{numbers_where}
-use Rattle.jp_model.specs.Plans.{Guard, guard_of, is_guard_operator, is_opened, is_tree, leading_steps, seek_of, seek_passes, steps_nodes}
+use Rattle.jp_model.specs.Plans.{Guard, guard_of, is_guard_operator, is_opened, is_tree, leading_steps, seek_of, steps_nodes}
 use Rattle.jp_model.specs.Query.Syntax.{CompareOp, equal, not_equal, less, less_equal, greater, greater_equal, Segments}
 use Rattle.jp_model.specs.Steps.{Step}
 use Rattle.jp_model.proofs.Numbered.{numbers_where-append}
@@ -19,7 +19,7 @@ use Rattle.jp_index.specs.Entries.{Entry, status_entry, entries_from, entries_of
 use Rattle.jp_index.proofs.Taken.{where-append}
 use Rattle.jp_store.specs.Collections.{Collection, statuses_in, line_status}
 use Rattle.jp_store.proofs.Renewed.{entry_at}
-use Rattle.jp_plan.specs.Passing.{seek_status, guard_status, is_told_tree, IsLineOf}
+use Rattle.jp_plan.specs.Passing.{seek_status, guard_status, IsLineOf}
 use Rattle.jp_plan.proofs.Entries.{entries_there, line_there, status_at}
 
 -- ---- what an index tells of each line

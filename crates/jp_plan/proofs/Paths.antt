@@ -1,11 +1,11 @@
 -- The paths of a list, one by one.
-use Rattle.std.proofs.Common.{◌≡◌, ℕ, ◌+◌, ◌<◌, ◌≤◌, zero, suc, List, [], ◌∷◌, length, drop, get_or, map, Bool, true, false, not, ◌&&◌, ◌||◌, ◌-◌, Option, Some, None, slice_get, if◌then◌else◌, nat_lt, refl, sym, ap, ◌∙◌, arith}
+use Rattle.std.proofs.Common.{◌≡◌, ℕ, ◌+◌, ◌<◌, ◌≤◌, zero, suc, List, [], ◌∷◌, length, drop, get_or, Bool, true, false, not, ◌&&◌, ◌||◌, ◌-◌, Option, Some, None, slice_get, if◌then◌else◌, nat_lt, refl, sym, ap, ◌∙◌, arith}
 use Rattle.std.specs.List.{list_any}
 use Rattle.jp_model.proofs.Steps.{steps_same}
 use Rattle.jp_model.specs.Steps.{Step, steps_equal, is_prefix}
 use Rattle.jp_model.specs.Plans.{longer, seek_of}
 use Rattle.jp_plan.specs.Behind.{are_of_steps}
-use Rattle.std.proofs.lemmas.List.{at_drop_more, at_drop_all}
+use Rattle.std.proofs.lemmas.List.{at_drop_more}
 use Rattle.std.proofs.lemmas.Option.{get_or_from_slice_get}
 use Rattle.jp_query.specs.StepEquality.{steps_equal_equiv}
 use Rattle.jp_plan.specs.Paths.{are_as_many, is_better, is_indexed}

@@ -1,9 +1,8 @@
 -- The guard of a query has a guard operator, and a literal of the query.
-use Rattle.std.proofs.Common.{◌≡◌, ℕ, ◌<◌, List, [], ◌∷◌, ◌++◌, length, IfSome, flat_map, Bool, true, false, ◌&&◌, Option, Some, None, if◌then◌else◌, refl, sym, ap, subst, ◌∙◌, ◌⊎◌, inl, inr, ⊎_elim}
+use Rattle.std.proofs.Common.{◌≡◌, ◌<◌, List, [], ◌∷◌, length, IfSome, flat_map, Bool, true, false, ◌&&◌, Option, Some, None, if◌then◌else◌, refl, sym, ap, subst, ◌∙◌, ◌⊎◌, inl, inr, ⊎_elim}
 use Rattle.std.specs.List.{list_any}
 use Rattle.std.proofs.lemmas.Bool.{and_parts}
 use Rattle.jp_model.specs.Plans.{Guard, guard_on, conjunct_guard, first_guard, guard_or, conjuncts, conjuncts_of, only_filter, segment_conjuncts, guard_of, is_guard_operator, mirrored}
-use Rattle.jp_model.specs.Query.Limits.{logical_passes, logicals_pass, segments_pass, segment_passes, selectors_pass}
 use Rattle.jp_model.specs.Query.Singular.{singular_steps}
 use Rattle.jp_model.specs.Query.Syntax.{CompareOp, Literal, root, current, Segment, child_segment, descendant_segment, Segments, no_segments, segment, name_selector, wildcard_selector, index_selector, slice_selector, filter_selector, Selectors, no_selectors, selector, Logical, or_all, and_all, negated, compare, exists, test, Logicals, no_logicals, logical, segment_list, constant, single, result, path}
 use Rattle.jp_model.specs.Steps.{Step, steps_equal}

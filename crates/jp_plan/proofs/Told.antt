@@ -1,5 +1,5 @@
 -- One line more is told.
-use Rattle.std.proofs.Common.{◌≡◌, ℕ, ◌+◌, ◌-◌, ◌≤◌, List, [], ◌∷◌, ◌++◌, length, drop, Bool, true, Some, slice_get, refl, sym, ap, subst, ◌∙◌, arith}
+use Rattle.std.proofs.Common.{◌≡◌, ℕ, ◌+◌, ◌-◌, ◌≤◌, List, ◌∷◌, ◌++◌, length, drop, Bool, true, Some, slice_get, sym, ap, subst, ◌∙◌, arith}
 use Rattle.jp_model.specs.Json.Status.{LineStatus}
 use Rattle.jp_model.specs.Plans.{is_opened}
 use Rattle.jp_model.specs.Rows.{Row, status_rows}
@@ -8,11 +8,11 @@ use Rattle.std.proofs.lemmas.Option.{same_Some}
 use Rattle.jp_store.specs.Collections.{statuses_in, line_status}
 use Rattle.jp_plan.specs.Passing.{IsLineOf}
 use Rattle.jp_plan.specs.Planned.{Planned}
-use Rattle.jp_plan.specs.Turns.{AtLeast, IsLeft, IsNext}
+use Rattle.jp_plan.specs.Turns.{IsLeft, IsNext}
 use Rattle.jp_plan.specs.declared.turn.Turn.{Turn}
 use Rattle.jp_plan.specs.declared.turn.Turn.TheVariants as turns
 use Rattle.jp_plan.proofs.Entries.{status_at, line_there}
-use Rattle.jp_plan.proofs.Turns.{Told, opens, refuses}
+use Rattle.jp_plan.proofs.Turns.{opens, refuses}
 
 -- these lines are left of a plan, behind these rows
 abbrev pub Left : Planned → List ℕ → List ℕ → List Row → Type 0

@@ -1,10 +1,10 @@
 -- Lines that are opened and lines that are refused, in turn.
-use Rattle.std.proofs.Common.{◌≡◌, ℕ, zero, suc, ◌+◌, ◌-◌, ◌<◌, ◌≤◌, List, [], ◌∷◌, ◌++◌, drop, map, Bool, true, false, ◌&&◌, Some, if◌then◌else◌, slice_get, refl, sym, ap, subst, ◌∙◌, arith, append_assoc, append-nil}
+use Rattle.std.proofs.Common.{◌≡◌, ℕ, zero, suc, ◌+◌, ◌-◌, ◌≤◌, List, [], ◌∷◌, ◌++◌, drop, map, Bool, true, false, Some, if◌then◌else◌, slice_get, refl, sym, ap, subst, ◌∙◌, arith, append_assoc, append-nil}
 use Rattle.jp_model.specs.Json.Status.{LineStatus, blank, refused, parsed}
 use Rattle.jp_model.specs.Steps.{Step}
 use Rattle.jp_model.specs.Query.Syntax.{Segments}
 use Rattle.jp_model.specs.Numbered.{numbers_where}
-use Rattle.jp_model.specs.Plans.{is_opened, opened}
+use Rattle.jp_model.specs.Plans.{is_opened}
 use Rattle.jp_model.specs.Rows.{Row, node_row, status_rows, rows_from, rows}
 use Rattle.jp_model.specs.Script.Machine.{is_refused_status}
 use Rattle.jp_model.proofs.Opened.{unopened_has_none}

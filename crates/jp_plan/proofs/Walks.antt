@@ -1,5 +1,5 @@
 -- The text of segments, one after another.
-use Rattle.std.proofs.Common.{◌≡◌, ℕ, List, [], ◌∷◌, ◌++◌, length, map, drop, Bool, true, false, Option, Some, None, is_some, is_ok, Result, Ok, Err, OnOk, get_or, if◌then◌else◌, sym, ap, ◌∙◌, refl, arith, append-nil, append_assoc, codes, decimal, encode_utf8_all}
+use Rattle.std.proofs.Common.{◌≡◌, ℕ, List, [], ◌∷◌, ◌++◌, length, map, drop, Bool, true, false, Option, Some, None, is_some, is_ok, Result, Ok, Err, OnOk, if◌then◌else◌, sym, ap, ◌∙◌, refl, append-nil, append_assoc, codes, decimal, encode_utf8_all}
 use lib.Utf8.{encode}
 use Rattle.std.proofs.lemmas.List.{length-map}
 use Rattle.std.proofs.lemmas.List.Concat.{flat_map-append}
@@ -9,10 +9,10 @@ use Rattle.jp_model.specs.Plans.{run_then, segment_text, segments_text, told, wa
 use Rattle.jp_model.specs.Query.Singular.{singular_step}
 use Rattle.jp_model.specs.Query.Syntax.{Segment, child_segment, descendant_segment, Segments, no_segments, segment, segment_list, Selector, name_selector, wildcard_selector, index_selector, slice_selector, filter_selector, Selectors, no_selectors, selector, selector_list}
 use Rattle.jp_model.specs.Rows.{line_feed}
-use Rattle.jp_model.specs.Steps.{Step, step_equal}
+use Rattle.jp_model.specs.Steps.{Step}
 use Rattle.jp_query.specs.View.{segments_of, selectors_of}
 use Rattle.jp_plan.specs.Behind.{is_of_step, segments_behind}
-use Rattle.jp_plan.specs.Walks.{name_alone, walk_begins, walk_ends, part_text, parts_text}
+use Rattle.jp_plan.specs.Walks.{name_alone, walk_begins, walk_ends, parts_text}
 
 pub segments_listed : (xs : List Segment) → segment_list (segments_of xs) ≡ xs
 segments_listed [] = refl

@@ -1,5 +1,5 @@
 -- The text of segments, one after another.
-use Rattle.std.specs.Prelude.{ℕ, List, [], ◌∷◌, ◌++◌, Bool, true, false, Option, Some, None, is_some, if◌then◌else◌, codes, encode_utf8_all}
+use Rattle.std.specs.Prelude.{ℕ, List, [], ◌∷◌, ◌++◌, Bool, Option, Some, None, is_some, if◌then◌else◌, codes, encode_utf8_all}
 use Rattle.jp_model.specs.Meaning.Paths.{step_text}
 use Rattle.jp_model.specs.Plans.{run_then, segment_text}
 use Rattle.jp_model.specs.Query.Singular.{singular_step}

@@ -3,7 +3,6 @@ use Rattle.std.proofs.Common.{◌≡◌, ◌∙◌, ◌<◌, ℕ, List, Option, 
 use Rattle.std.proofs.lemmas.List.{length-map}
 use Rattle.jp_model.specs.Numbered.{numbers_where}
 use Rattle.jp_model.specs.Plans.{leading_steps, seek_of, guard_of}
-use Rattle.jp_model.specs.Steps.{Step}
 use Rattle.jp_index.specs.Entries.{Entry, entries_of}
 use Rattle.jp_store.specs.Collections.{statuses_in}
 use Rattle.jp_plan.specs.Passing.{seek_status}
