@@ -3,10 +3,12 @@
 mod books;
 mod check;
 mod devices;
+mod edits;
 mod examples;
 mod faults;
 mod filters;
 mod pieces;
+mod plans;
 mod refused;
 mod rows;
 mod running;
