@@ -1,11 +1,11 @@
 -- The order of exact values is total: any three numbers can be brought to one exponent, and compared there.
-use Rattle.std.proofs.Common.{◌≡◌, ℕ, zero, suc, ◌+◌, ◌*◌, ◌^◌, ◌<◌, true, false, sym, ◌∙◌, ap, ap₂, refl, arith, ℤ, pos, negsuc, neg_ℤ, ◌-ℤ◌, ◌*ℤ◌, ◌<ℤ◌, ◌≤ℤ◌, nat_abs, pow-add, Ordering, Less, Equal, Greater}
+use Rattle.std.proofs.Common.{◌≡◌, ℕ, suc, ◌+◌, ◌*◌, ◌^◌, ◌<◌, true, false, sym, ◌∙◌, ap, ap₂, refl, arith, ℤ, pos, negsuc, neg_ℤ, ◌-ℤ◌, ◌*ℤ◌, ◌<ℤ◌, ◌≤ℤ◌, nat_abs, pow-add, Less, Equal}
 use Rattle.std.specs.Cmp.{IsTotalOrder, int_cmp_is}
 use Rattle.std.specs.Ordering.{MatchOrdering, int_cmp, ordering_reverse}
 use Rattle.std.proofs.lemmas.Cmp.{by_ranked, int_ranked, int_cmp_total}
 use Rattle.std.proofs.lemmas.Int.{ints}
 use Rattle.std.proofs.Math.Nat.{one-le-pow, mul-pos, mul-lt-mul_of_pos_right}
-use Rattle.jp_model.specs.Json.Numbers.{smaller, brought_to, power_from, signed}
+use Rattle.jp_model.specs.Json.Numbers.{smaller, brought_to, power_from}
 use Rattle.jp_decimal.specs.Values.{Number, order}
 use Rattle.jp_decimal.proofs.Signs.{signed_times}
 

@@ -1,5 +1,5 @@
 -- Marks that hold the same are as before.
-use Rattle.std.proofs.Common.{◌≡◌, ◌∙◌, ℕ, ◌++◌, length, take, sym, map, Result, Ok, Err}
+use Rattle.std.proofs.Common.{◌≡◌, ◌∙◌, ℕ, length, take, sym, map, Result, Ok, Err}
 use Rattle.std.specs.Result.{OnErr}
 use Rattle.std.proofs.Math.Seq.{take-append_seam}
 use Rattle.jp_masks.specs.declared.lines.Marks.{Marks}
@@ -41,10 +41,10 @@ pub cut_as_before : (old more new : Marks) (rows places : ℕ) → Grows old mor
     → new.rows.items ≡ take rows more.rows.items → new.places.items ≡ take places more.places.items → new.places_before ≡ old.places_before → new.is_utf8 ≡ more.is_utf8
     → IsAsBefore old new
 cut_as_before old more new rows places grown rows_is places_is rows_are places_are before utf8 = as_before old new (record {
-    rows = rows_are ∙ (λ t. take (rows_is t) (grown.rows t)) ∙ take-append_seam old.rows.items grown.more_rows;
-    places = places_are ∙ (λ t. take (places_is t) (grown.places t)) ∙ take-append_seam old.places.items grown.more_places;
-    places_before = before;
-    is_utf8 = utf8 ∙ grown.is_utf8;
+  rows = rows_are ∙ (λ t. take (rows_is t) (grown.rows t)) ∙ take-append_seam old.rows.items grown.more_rows;
+  places = places_are ∙ (λ t. take (places_is t) (grown.places t)) ∙ take-append_seam old.places.items grown.more_places;
+  places_before = before;
+  is_utf8 = utf8 ∙ grown.is_utf8;
 })
 
 -- what follows after an Err from what holds there

@@ -1,7 +1,6 @@
 -- Equality of steps and of paths is equality.
-use Rattle.std.proofs.Common.{◌≡◌, ℤ, List, [], ◌∷◌, Bool, true, refl, sym, ap, subst, le_antisymm, arith, ℕ, pos, negsuc, leb}
+use Rattle.std.proofs.Common.{◌≡◌, ℤ, List, [], ◌∷◌, Bool, true, refl, sym, ap, subst, arith, ℕ, pos, negsuc, leb}
 use Rattle.std.specs.Cmp.{IsEquivalence}
-use Rattle.std.proofs.lemmas.Bool.{and_parts, leb-true}
 use Rattle.std.proofs.lemmas.Bool.Decides.{same_from_decides, nat_tests}
 use Rattle.std.proofs.lemmas.Slice.Eq.{bytes_eq-Decides}
 use Rattle.jp_model.proofs.Steps.{step_same, steps_same}

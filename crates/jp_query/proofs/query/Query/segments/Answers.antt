@@ -1,5 +1,4 @@
 -- Each literal of a well-formed query can be read.
-use Rattle.std.proofs.Common.{◌≡◌, true}
 use Rattle.std.proofs.lemmas.Bool.{true_from_ne_false}
 use Rattle.std.proofs.lemmas.Grind.{not_there}
 use Rattle.jp_query.specs.Sound.{has_sound_literals}
