@@ -1,12 +1,11 @@
 -- A command line around its first space.
-use Rattle.std.proofs.Common.{◌≡◌, ◌∙◌, ◌+◌, ℕ, zero, List, [], ◌∷◌, length, take, drop, sym, ap, ap₂, refl, arith, true, false, Bool, if◌then◌else◌}
-use Rattle.std.specs.Prelude.{◌==◌, suc, Some, None, codes, slice_range, Option}
-use Rattle.std.proofs.lemmas.List.{take_rest}
+use Rattle.std.proofs.Common.{◌≡◌, ◌∙◌, ℕ, zero, List, [], ◌∷◌, length, take, drop, sym, ap, refl, arith, true, false, Bool, if◌then◌else◌}
+use Rattle.std.specs.Prelude.{◌==◌, suc, Some, None, codes}
 use Rattle.std.proofs.lemmas.Bool.{eqb-false}
 use Rattle.memchr.specs.Find.{IsFirstByte, is_byte}
 use Rattle.jp_model.proofs.Seek.{text_same}
 use Rattle.jp_model.specs.Characters.{text_equal}
-use Rattle.jp_model.specs.Script.Commands.{Command, indexes_line, check_line, first_word, behind_word, command_with, command_of}
+use Rattle.jp_model.specs.Script.Commands.{indexes_line, check_line, first_word, behind_word, command_with, command_of}
 
 not_true : (b : Bool) → (b ≡ true → ⊥) → b ≡ false
 not_true true h = absurd (h refl)

@@ -1,11 +1,10 @@
 -- What `drop` answers where there is no such index.
 use Rattle.std.proofs.Common.{◌≡◌, ◌∙◌, ℕ, List, [], ◌∷◌, Bool, true, false, ap, sym, refl, if◌then◌else◌, codes}
-use Rattle.std.specs.Prelude.{Option, Some, ◌||◌}
-use Rattle.std.specs.List.{list_any}
+use Rattle.std.specs.Prelude.{Some, ◌||◌}
 use Rattle.jp_model.specs.declared.Setup.{Setup}
 use Rattle.jp_model.specs.Query.Status.{QueryStatus}
 use Rattle.jp_model.specs.Script.Commands.{drop_line}
-use Rattle.jp_model.specs.Script.Machine.{State, Outcome, step, keeps, error, said, has_path, without_path, index_path, drop_answer}
+use Rattle.jp_model.specs.Script.Machine.{Outcome, step, keeps, error, said, has_path, without_path, index_path, drop_answer}
 use Rattle.jp_model.specs.Steps.{Step, steps_equal}
 use Rattle.jp_store.specs.Collections.{Collection, without_index}
 
@@ -26,8 +25,7 @@ module _ (query_of : List ℕ → QueryStatus) (setup : Setup) (c : Collection) 
 
   pub missing : (new : Collection) → new ≡ without_index p c → (error (codes "index missing") ≡ (step query_of setup c.state (drop_line text)).written) × (new.state ≡ (step query_of setup c.state (drop_line text)).after)
   missing new same =
-      let rest : without_path p c.state.paths ≡ c.state.paths = without_absent p c.state.paths absent in
-      (
+      let rest : without_path p c.state.paths ≡ c.state.paths = without_absent p c.state.paths absent in (
         sym (ap (λ (o : Outcome). o.written) keeps_is),
         ap (λ (d : Collection). d.state) same ∙ (ap (λ (ps : List (List Step)). record c.state { paths = ps }) rest ∙ sym (ap (λ (o : Outcome). o.after) keeps_is)),
       )

@@ -1,6 +1,6 @@
 -- What an edit that is refused answers.
-use Rattle.std.proofs.Common.{◌≡◌, ℕ, List, Bool, true, false, ap, ap₂, sym, refl, subst, if◌then◌else◌, codes, length}
-use Rattle.std.specs.Prelude.{Result, Ok, Err, Option, Some, None, nat_le, nat_lt, ◌&&◌, ◌==◌, ◌-◌, slice_set, decimal, ◌++◌, ◌∷◌, [], ◌+◌}
+use Rattle.std.proofs.Common.{◌≡◌, ℕ, List, Bool, true, false, ap₂, sym, refl, subst, if◌then◌else◌, codes, length}
+use Rattle.std.specs.Prelude.{Result, Ok, Err, Option, Some, None, nat_le, nat_lt, ◌&&◌, ◌==◌, decimal, ◌++◌, ◌+◌}
 use Rattle.std.specs.List.{list_any}
 use Rattle.jp_model.specs.declared.Setup.{Setup}
 use Rattle.jp_model.specs.declared.Framing.{Framing}

@@ -1,17 +1,13 @@
 -- How a run ends, by how its script ended.
-use Rattle.std.proofs.Common.{◌≡◌, ◌∙◌, ◌≤◌, ℕ, List, [], ◌∷◌, ◌++◌, length, take, map, sym, ap, subst, refl, Bool, true, false, ◌||◌, Option, Some, None, Result, Ok, Err, MatchResult, append-nil, inr}
+use Rattle.std.proofs.Common.{◌≡◌, ◌∙◌, ◌≤◌, ℕ, List, [], ◌∷◌, ◌++◌, length, take, map, sym, ap, subst, refl, Bool, true, false, Option, Some, None, Result, Ok, Err, MatchResult, append-nil, inr}
 use Rattle.std.specs.Prelude.{OnOk, IfSome}
 use Rattle.std.proofs.lemmas.List.{map-append}
-use Rattle.std.proofs.lemmas.Bool.{false≢true}
-use Rattle.std.proofs.KnownBytes.{Consumes-nil}
 use Rattle.std.specs.Io.KnownBytes.{Consumes, IsAtEnd}
 use Rattle.jp_model.specs.declared.Setup.{Setup}
 use Rattle.jp_model.specs.declared.RunFault.{RunFault}
 use Rattle.jp_model.specs.declared.RunFault.TheVariants as faults
 use Rattle.jp_model.specs.Devices.{Came, Device, Received, Begins}
-use Rattle.jp_model.specs.declared.Framing.{Framing}
-use Rattle.jp_model.specs.declared.Framing.TheVariants as framings
-use Rattle.jp_model.specs.Lines.{text_lines, closed_lines, lines_so_far, lines, is_framed}
+use Rattle.jp_model.specs.Lines.{text_lines, closed_lines, lines_so_far}
 use Rattle.jp_model.specs.Query.Status.{QueryStatus}
 use Rattle.jp_model.specs.Script.Commands.{without_final_cr, command_lines, closed_command_lines}
 use Rattle.jp_model.specs.Script.Headline.{Given, WasLoaded, lines_within, loaded, Answered, AnsweredInPart, AnsweredFirst, RunEnded, RunStopped}

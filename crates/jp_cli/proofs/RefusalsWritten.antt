@@ -1,5 +1,5 @@
 -- The rows of refused lines that are written one after another, and how many such lines there are.
-use Rattle.std.proofs.Common.{◌≡◌, ◌∙◌, ◌+◌, ◌-◌, ◌<◌, ◌≤◌, ℕ, List, [], ◌∷◌, ◌++◌, length, take, drop, get_or, sym, ap, ap₂, subst, refl, arith, append_assoc, take-append-drop, decimal, codes}
+use Rattle.std.proofs.Common.{◌≡◌, ◌∙◌, ◌+◌, ◌-◌, ◌<◌, ◌≤◌, ℕ, List, [], ◌∷◌, ◌++◌, length, take, drop, sym, ap, ap₂, subst, refl, arith, append_assoc, take-append-drop, decimal, codes}
 use Rattle.std.specs.Prelude.{Option, count_by, cond, suc, if◌then◌else◌, Bool, true, false}
 use Rattle.std.proofs.lemmas.List.{take_more, length-take-le, length-map}
 use Rattle.std.proofs.lemmas.List.Sums.{sum_by-cons}

@@ -1,5 +1,5 @@
 -- A reply, written, is the answer of its command.
-use Rattle.std.proofs.Common.{◌≡◌, ℕ, List, ◌++◌, Bool, true, false, IsTrue, ap, sym, refl, subst, ◌∙◌, codes}
+use Rattle.std.proofs.Common.{◌≡◌, ℕ, List, true, false, subst, codes}
 use Rattle.std.specs.Prelude.{Result, Ok, Err, Option}
 use Rattle.std.proofs.lemmas.Bool.{false≢true}
 use Rattle.jp_model.specs.declared.Setup.{Setup}

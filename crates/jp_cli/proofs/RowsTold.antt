@@ -1,6 +1,6 @@
 -- The rows that were found spell the rows of the definition.
-use Rattle.std.proofs.Common.{◌≡◌, ◌∙◌, ◌+◌, ℕ, zero, suc, List, [], ◌∷◌, ◌++◌, length, map, flat_map, Bool, ap, ap₂, sym, refl, subst, arith}
-use Rattle.std.specs.Prelude.{All, Some, slice_get, count_by, cond, Option, Result, ◌-◌}
+use Rattle.std.proofs.Common.{◌≡◌, ◌∙◌, ◌+◌, ℕ, zero, suc, List, [], ◌∷◌, ◌++◌, flat_map, Bool, ap, ap₂, sym, refl, subst, arith}
+use Rattle.std.specs.Prelude.{count_by, cond, Option, Result}
 use Rattle.std.proofs.lemmas.List.Sums.{sum_by-append}
 use Rattle.jp_model.specs.declared.Framing.{Framing}
 use Rattle.jp_model.specs.declared.Setup.{Setup}
@@ -11,7 +11,7 @@ use Rattle.jp_model.specs.Rows as model
 use Rattle.jp_model.specs.Script.Commands.{query_line}
 use Rattle.jp_model.specs.Script.Machine.{row_text, rows_text, is_node, count_line, text_or_nothing, query_answer, statuses}
 use Rattle.jp_store.specs.Collections.{Collection, statuses_in}
-use Rattle.jp_tape.specs.Cursors.{line_of, node_of}
+use Rattle.jp_tape.specs.Cursors.{node_of}
 use Rattle.jp_plan.specs.Found.{rows_view, row_view, IsOnItsLine, AreOnTheirLines}
 use Rattle.jp_plan.specs.declared.answer.Row.{Row}
 use Rattle.jp_plan.specs.declared.answer.Row.TheVariants as found

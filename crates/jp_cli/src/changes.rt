@@ -70,11 +70,7 @@ fn refuse_edit(fault: EditFault) -> Result<Reply, AllocError>
 }
 
 /// Puts a line behind the others, and tells its number.
-pub(crate) fn append_line(
-    store: &mut Store,
-    setup: Setup,
-    text: &[u8],
-) -> Result<Reply, AllocError>
+pub(crate) fn append_line(store: &mut Store, setup: Setup, text: &[u8]) -> Result<Reply, AllocError>
     requires { FitsSetup setup store.old }
     ensures replies { RepliesTo query_of setup (append_line text.now) store.old.state store.new.state result }
     ensures fits { FitsSetup setup store.new }

@@ -16,7 +16,7 @@ use Rattle.jp_values.specs.Keys.{key_order}
 use Rattle.jp_values.specs.declared.key.Key.{Key}
 use Rattle.jp_index.specs.ByKey.{line_order, Ascend, AreByKey, but}
 use Rattle.jp_index.proofs.Ascending.{pairs_insert, pairs_other, removed_differs, among_cons, among_first, among_rest}
-use Rattle.jp_index.proofs.KeyTotal.{keys_total}
+use Rattle.jp_values.specs.KeyLaws.{keys_total}
 
 equal_numbers : (a b : ℕ) → nat_cmp a b ≡ Equal → a ≡ b
 equal_numbers a b e = grind (arith, nat_tests)

@@ -18,7 +18,8 @@ use Rattle.jp_index.specs.Edges.{key_in_front, in_front, is_between}
 use Rattle.jp_index.specs.ByKey.{line_order}
 use Rattle.jp_index.specs.declared.edge.Edge.{Edge}
 use Rattle.jp_index.specs.declared.edge.Edge.TheVariants.{BeforeKey, BehindKey, BeforeKind, BehindKind}
-use Rattle.jp_index.proofs.KeyTotal.{keys_total, by_kind_is}
+use Rattle.jp_values.specs.KeyLaws.{keys_total}
+use Rattle.jp_index.proofs.ByKind.{by_kind_is}
 
 -- ---- values of one kind
 

@@ -55,10 +55,10 @@ fn a_query_begins_at_the_longest_index(rt: HostRuntime) -> Result<(), Fail> {
     Ok(())
 }
 
-const BOOKS: &str = "{\"kind\":\"book\",\"items\":[{\"p\":1},{\"p\":2}]}\n{\"kind\":\"pen\",\"items\":[{\"p\":1}]}\nx\n";
+const BOOKS: &str =
+    "{\"kind\":\"book\",\"items\":[{\"p\":1},{\"p\":2}]}\n{\"kind\":\"pen\",\"items\":[{\"p\":1}]}\nx\n";
 
-const ORDERED: &str =
-    "{\"p\":1}\n{\"p\":\"a\"}\n{\"p\":2}\n{\"p\":null}\n{\"q\":0}\n{\"p\":[1]}\n";
+const ORDERED: &str = "{\"p\":1}\n{\"p\":\"a\"}\n{\"p\":2}\n{\"p\":null}\n{\"q\":0}\n{\"p\":[1]}\n";
 
 const GUARDED: [(&str, &str, &str); 4] = [
     (
@@ -100,7 +100,9 @@ fn there_are_sixteen_indexes_at_most(rt: HostRuntime) -> Result<(), Fail> {
         expected.extend_from_slice(b"indexed 0\n")?;
     }
     script.extend_from_slice(b"index $['a0']\nindex $.a16\ndrop $.b\nfrob\nquery\nindexes \n")?;
-    expected.extend_from_slice(b"error: index exists\nerror: index limit\nerror: index missing\nerror: command\nerror: command\nerror: command\n")?;
+    expected.extend_from_slice(
+        b"error: index exists\nerror: index limit\nerror: index missing\nerror: command\nerror: command\nerror: command\n",
+    )?;
     let got = answered(alloc, b"{}", &script, 100_000)?;
     assert!(rt; got == expected);
     Ok(())

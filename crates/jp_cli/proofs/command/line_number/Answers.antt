@@ -1,5 +1,5 @@
 -- One digit more is read, or the text is no number.
-use Rattle.std.proofs.Common.{◌≡◌, ◌^◌, ◌<◌, ◌∙◌, ◌*◌, ◌+◌, ap, arith, subst, sym, ℕ}
+use Rattle.std.proofs.Common.{◌∙◌, ◌*◌, ◌+◌, arith, subst, sym, ℕ}
 use Rattle.jp_cli.proofs.LineNumbers.{IsRead, none_read, one_more, all_read, number_if_digits, value_low}
 use Rattle.jp_cli.proofs.command.line_number.Goals as goal
 

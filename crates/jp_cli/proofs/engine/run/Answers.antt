@@ -1,8 +1,8 @@
 -- Where the collection was not loaded, no byte of the script came and none was written; else the run ends as the script does.
-use Rattle.std.proofs.Common.{[], sym, ap, false, inl}
+use Rattle.std.proofs.Common.{sym, ap, inl}
 use Rattle.std.proofs.KnownBytes.{Appends-nil}
 use Rattle.jp_model.specs.Script.Headline.{Given, RunEnded}
-use Rattle.jp_model.proofs.Devices.{came_so, nothing_came}
+use Rattle.jp_model.proofs.Devices.{nothing_came}
 use Rattle.jp_store.specs.Collections.{Collection}
 use Rattle.jp_model.specs.Script.Commands.{command_of}
 use Rattle.jp_query.specs.Status.{query_of}

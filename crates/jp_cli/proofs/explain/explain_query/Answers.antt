@@ -10,11 +10,10 @@ use Rattle.jp_cli.proofs.explain.explain_query.Goals as goal
 
 pub returns-in_ok-explain-in-Ok : goal.returns-in_ok-explain-in-Ok
 returns-in_ok-explain-in-Ok c =
-    let state = c.args.store.now.state in
-    (
+    let state = c.args.store.now.state in (
       c.in_ok-explain-in-Ok.ensures ∙ (ap explained c.in_ok-new-in-Ok.ensures
-      ∙ (ap (λ (f : Framing). explain (checked_view c.in-Ok.checked) state.paths (statuses f state.lines)) (sym c.requires.0)
-      ∙ ap (explain_answer c.args.setup.framing state) (sym c.in-Ok.ensures.ok))),
+          ∙ (ap (λ (f : Framing). explain (checked_view c.in-Ok.checked) state.paths (statuses f state.lines)) (sym c.requires.0)
+          ∙ ap (explain_answer c.args.setup.framing state) (sym c.in-Ok.ensures.ok))),
       refl,
     )
 
