@@ -10,7 +10,7 @@ use Rattle.jp_model.specs.Steps.{Step}
 -- the name of a name selector that stands alone
 abbrev pub name_alone : Selectors → Option (List ℕ)
 name_alone (selector (name_selector x) no_selectors) = Some x
-name_alone selectors = None
+name_alone _ = None
 
 -- the text of a step, if any
 abbrev pub option_step_text : Option Step → List ℕ
