@@ -6,7 +6,8 @@ use Rattle.std.specs.Cmp.Lexicographic.{slice_cmp, nat_list_cmp_total}
 use Rattle.std.specs.Ordering.{nat_cmp, ordering_then, ordering_reverse}
 use Rattle.std.specs.declared.cmp.Ordering.TheVariants.{Less, Equal, Greater}
 use Rattle.std.proofs.lemmas.Bool.{cases_lt, ltb-true, lt-ltb, false_from_ne_true}
-use Rattle.std.proofs.lemmas.Str.{encode_ascii as one, length-encode, len_utf8_bounds}
+use Rattle.std.specs.Str.{chars, IsUtf8}
+use Rattle.std.proofs.lemmas.Str.{encode_ascii as one, length-encode, len_utf8_bounds, encodes-chars}
 use Rattle.jp_strings.specs.Plain.{ArePlain}
 use Rattle.jp_strings.specs.Points.{IsText, points_of}
 use Rattle.jp_strings.proofs.Runs.{plain_bytes}
@@ -129,7 +130,7 @@ none_before c bytes =
     let whole = length-append (encode c) bytes in
     none_first (encode c ++ bytes) (omega (arith, width, some, whole))
 
-encodes_ordered : (cs ds : List ℕ) → order (encodes cs) (encodes ds) ≡ order cs ds
+pub encodes_ordered : (cs ds : List ℕ) → order (encodes cs) (encodes ds) ≡ order cs ds
 encodes_ordered [] [] = refl
 encodes_ordered [] (d ∷ ds) = none_before d (encodes ds)
 encodes_ordered (c ∷ cs) [] = turned (encode c ++ encodes cs) [] (none_before c (encodes cs))
@@ -149,3 +150,11 @@ encodes_ordered (c ∷ cs) (d ∷ ds) =
 -- two bodies with no special byte are ordered by their bytes
 pub plain_ordered : (a b : List ℕ) → IsText a → IsText b → ArePlain a 0 (length a) → ArePlain b 0 (length b) → order a b ≡ order (points_of a) (points_of b)
 plain_ordered a b s t p q = ap₂ order (sym (plain_bytes a s p)) (sym (plain_bytes b t q)) ∙ encodes_ordered (points_of a) (points_of b)
+
+-- so are a body with no special byte and a text
+pub plain_text_ordered : (body text : List ℕ) → IsText body → ArePlain body 0 (length body) → IsUtf8 text → order body text ≡ order (points_of body) (chars text)
+plain_text_ordered body text t p u = ap₂ order (sym (plain_bytes body t p)) (sym (encodes-chars text u)) ∙ encodes_ordered (points_of body) (chars text)
+
+-- so are two texts
+pub texts_ordered : (a b : List ℕ) → IsUtf8 a → IsUtf8 b → order a b ≡ order (chars a) (chars b)
+texts_ordered a b u v = ap₂ order (sym (encodes-chars a u)) (sym (encodes-chars b v)) ∙ encodes_ordered (chars a) (chars b)

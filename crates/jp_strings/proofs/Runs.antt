@@ -1,10 +1,10 @@
 -- Characters that stand for themselves, many at a time.
-use Rattle.std.proofs.Common.{append-nil, ◌==◌, nat_lt, ◌≡◌, ℕ, ◌+◌, ◌-◌, ◌<◌, ◌≤◌, inl, inr, true, false, ◌||◌, List, [], ◌∷◌, ◌++◌, length, drop, take, get_or, sym, ◌∙◌, ap, subst, refl, arith, Option, Some, None, encode_utf8, length-drop, get_or-drop, add-zero, append_assoc, length-append, None, MatchOption, ap₂}
+use Rattle.std.proofs.Common.{append-nil, ◌==◌, nat_lt, ◌≡◌, ℕ, ◌+◌, ◌-◌, ◌<◌, ◌≤◌, inl, inr, true, false, ◌||◌, List, [], ◌∷◌, ◌++◌, length, drop, take, get_or, sym, ◌∙◌, ap, subst, refl, arith, Option, Some, None, encode_utf8, length-drop, get_or-drop, Bool, add-zero, append_assoc, length-append, None, MatchOption, ap₂}
 use lib.Utf8.{scalar, scalars, encodes}
-use Rattle.std.specs.Str.{IsUtf8, IsCharBoundary}
+use Rattle.std.specs.Str.{IsUtf8, IsCharBoundary, chars}
 use Rattle.std.proofs.lemmas.List.{drop_all, drop-drop, drop_at, take_at, take-append-drop, length-take-le}
-use Rattle.std.proofs.lemmas.Bool.{cases_lt, and_parts, or_right, ltb-true, lt-ltb, eqb-true, or_cases, false_from_ne_true}
-use Rattle.std.proofs.lemmas.Str.{IsUtf8-take, IsUtf8-drop, IsCharBoundary-end, IsCharBoundary-before_ascii, byte_from_char, length-encode, len_utf8_bounds}
+use Rattle.std.proofs.lemmas.Bool.{cases_lt, and_parts, or_right, ltb-true, lt-ltb, eqb-true, or_cases, false_from_ne_true, true≢false}
+use Rattle.std.proofs.lemmas.Str.{IsUtf8-take, IsUtf8-drop, IsCharBoundary-end, IsCharBoundary-before_ascii, byte_from_char, length-encode, len_utf8_bounds, encodes-chars, chars_from_encodes}
 use Rattle.std.proofs.lemmas.Slice.Eq.{bytes_eq-Decides}
 use Rattle.jp_lanes.specs.Search.{is_special}
 use Rattle.jp_model.specs.Json.Places.{byte_at}
@@ -216,3 +216,19 @@ plain_bytes body t p =
 pub plain_differ : (a b : List ℕ) → IsText a → IsText b → ArePlain a 0 (length a) → ArePlain b 0 (length b) → (a ≡ b → ⊥) → text_equal (points_of a) (points_of b) ≡ false
 plain_differ a b s t p q n =
     false_from_ne_true _ (λ e. n (sym (plain_bytes a s p) ∙ (ap encodes ((bytes_eq-Decides (points_of a) (points_of b)).0 e) ∙ plain_bytes b t q)))
+
+-- texts that are equal either way
+pub equal_turned : (a b : List ℕ) → text_equal a b ≡ text_equal b a
+equal_turned a b = go (text_equal b a) refl
+  where
+    go : (t : Bool) → text_equal b a ≡ t → text_equal a b ≡ text_equal b a
+    go true e = (bytes_eq-Decides a b).1 (sym ((bytes_eq-Decides b a).0 e)) ∙ sym e
+    go false e = false_from_ne_true _ (λ h. true≢false (sym ((bytes_eq-Decides b a).1 (sym ((bytes_eq-Decides a b).0 h))) ∙ e)) ∙ sym e
+
+-- a test that tells whether such a body is the bytes of a text tells whether it spells it
+pub plain_text_equal : (b : Bool) (body text : List ℕ) → IsText body → ArePlain body 0 (length body) → IsUtf8 text → (b ≡ true → body ≡ text) → (body ≡ text → b ≡ true) → b ≡ text_equal (chars text) (points_of body)
+plain_text_equal true body text t p u f g =
+    let same : points_of body ≡ chars text = chars_from_encodes (points_of body) text u (plain_bytes body t p ∙ f refl) in
+    sym ((bytes_eq-Decides (chars text) (points_of body)).1 (sym same))
+plain_text_equal false body text t p u f g =
+    sym (false_from_ne_true _ (λ e. absurd (true≢false (sym (g (sym (plain_bytes body t p) ∙ (ap encodes (sym ((bytes_eq-Decides (chars text) (points_of body)).0 e)) ∙ encodes-chars text u)))))))

@@ -66,6 +66,45 @@ pub fn equal(a: &[u8], b: &[u8]) -> bool
     compare_scalars(a, b).is_eq()
 }
 
+// The order of a body and a text, scalar by scalar.
+fn compare_text_scalars(body: &[u8], text: &str) -> Ordering
+    requires { IsText body.now }
+    ensures { result ≡ slice_cmp nat_cmp (points_of body.now) (chars text.now) }
+{
+    Scalars::new(body).cmp(text.chars())
+}
+
+/// How the scalars that a body spells are ordered against those of a text, a proper prefix being less (RFC 9535, section
+/// 2.3.5.2.2). Only a body with an escape is decoded.
+pub fn compare_text(body: &[u8], text: &str) -> Ordering
+    requires { IsText body.now }
+    ensures { result ≡ slice_cmp nat_cmp (points_of body.now) (chars text.now) }
+{
+    if is_plain(body) {
+        return body.cmp(text.as_bytes());
+    }
+    compare_text_scalars(body, text)
+}
+
+// Whether a body spells the scalars of a text, scalar by scalar.
+fn spells_by_scalars(body: &[u8], text: &str) -> bool
+    requires { IsText body.now }
+    ensures { result ≡ text_equal (chars text.now) (points_of body.now) }
+{
+    compare_text_scalars(body, text).is_eq()
+}
+
+/// Whether a body spells the scalars of a text. Only a body with an escape is decoded.
+pub fn spells(body: &[u8], text: &str) -> bool
+    requires { IsText body.now }
+    ensures { result ≡ text_equal (chars text.now) (points_of body.now) }
+{
+    if is_plain(body) {
+        return equal_bytes(body, text.as_bytes());
+    }
+    spells_by_scalars(body, text)
+}
+
 // How many characters some bytes have.
 fn char_count(text: &[u8]) -> usize
     ensures { result ≡ count_by begins_character text.now }

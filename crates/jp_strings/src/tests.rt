@@ -75,6 +75,9 @@ fn scalars_are_compared(rt: HostRuntime) -> Result<(), Fail> {
     test_body(escaped)?;
     test_body(letter)?;
     assert!(rt; equal(escaped, letter));
+    assert!(rt; spells(escaped, "a") && spells(letter, "a") && !spells(letter, "b"));
+    assert_eq!(rt; compare_text(escaped, "b"), Ordering::Less);
+    assert_eq!(rt; compare_text(letter, "A"), Ordering::Greater);
     let longer: &[u8] = b"a\\n";
     test_body(longer)?;
     assert_eq!(rt; compare(letter, longer), Ordering::Less);

@@ -11,7 +11,7 @@ use Rattle.jp_model.specs.Meaning.Compare.{values_equal}
 use Rattle.jp_values.specs.declared.key.Key.{Key}
 use Rattle.jp_values.specs.declared.key.Key.TheVariants as keys
 use Rattle.jp_values.specs.Keys.{IsKeyOf, key_order, value_order}
-use Rattle.jp_values.proofs.Utf8Order.{utf8_order}
+use Rattle.jp_strings.proofs.Orders.{encodes_ordered}
 
 along : (v w x y : Value) (o : Ordering) → v ≡ x → w ≡ y → o ≡ value_order x y → o ≡ value_order v w
 along v w x y o e f h = h ∙ sym (ap₂ value_order e f)
@@ -44,7 +44,7 @@ keys_in_order (keys.Text s) (keys.Number l) x y p q = along x y _ _ _ p q.1 refl
 keys_in_order (keys.Text s) (keys.Text t) x y p q =
     let first = encodes-chars (string_bytes s) (IsUtf8-string_bytes s) in
     let second = encodes-chars (string_bytes t) (IsUtf8-string_bytes t) in
-    along x y _ _ _ p q (sym (ap₂ (λ (a b : List ℕ). slice_cmp nat_cmp a b) first second) ∙ utf8_order (chars (string_bytes s)) (chars (string_bytes t)))
+    along x y _ _ _ p q (sym (ap₂ (λ (a b : List ℕ). slice_cmp nat_cmp a b) first second) ∙ encodes_ordered (chars (string_bytes s)) (chars (string_bytes t)))
 
 ties_along : (v w x y : Value) → v ≡ x → w ≡ y → is_eq (value_order x y) ≡ values_equal x y → is_eq (value_order v w) ≡ values_equal v w
 ties_along v w x y e f h = ap is_eq (ap₂ value_order e f) ∙ (h ∙ sym (ap₂ values_equal e f))

@@ -5,5 +5,4 @@ pub mod Lookups
 pub mod Leaves
 pub mod Inside
 pub mod Sides
-pub mod Utf8Order
 pub mod KeyOrder

@@ -4,11 +4,10 @@ ghost use Rattle.std.specs.Prelude.{◌≡◌, chars};
 ghost use Rattle.std.specs.Cmp.Lexicographic.{slice_cmp};
 ghost use Rattle.std.specs.Ordering.{nat_cmp};
 ghost use Rattle.jp_model.specs.Characters.{text_equal};
-ghost use Rattle.jp_strings.specs.Points.{IsText, points_of};
 ghost use Rattle.jp_values.specs.Scalars.{text_points};
 
 use crate::body::Body;
-use jp_strings::{Scalars, compare, equal};
+use jp_strings::{compare, compare_text, equal, spells};
 use std::cmp::Ordering;
 
 /// The scalars of a string: spelled by the body of a JSON string, or as they are in a query.
@@ -18,19 +17,11 @@ pub(crate) enum Text<'a> {
     Plain(&'a str),
 }
 
-/// The order of the scalars of a body and of a text, a proper prefix being less.
-fn compare_with_plain(body: &[u8], plain: &str) -> Ordering
-    requires { IsText body.now }
-    ensures { result ≡ slice_cmp nat_cmp (points_of body.now) (chars plain.now) }
-{
-    Scalars::new(body).cmp(plain.chars())
-}
-
-/// The order of the scalars of two texts.
+/// The order of the scalars of two texts, which is that of their bytes.
 fn compare_plain(plain: &str, other: &str) -> Ordering
     ensures { result ≡ slice_cmp nat_cmp (chars plain.now) (chars other.now) }
 {
-    plain.chars().cmp(other.chars())
+    plain.as_bytes().cmp(other.as_bytes())
 }
 
 impl Text<'_> {
@@ -40,9 +31,9 @@ impl Text<'_> {
     {
         match (self, other) {
             (Text::Body(body), Text::Body(other)) => compare(body.bytes(), other.bytes()),
-            (Text::Body(body), Text::Plain(plain)) => compare_with_plain(body.bytes(), plain),
+            (Text::Body(body), Text::Plain(plain)) => compare_text(body.bytes(), plain),
             (Text::Plain(plain), Text::Body(other)) => {
-                compare_with_plain(other.bytes(), plain).reverse()
+                compare_text(other.bytes(), plain).reverse()
             }
             (Text::Plain(plain), Text::Plain(other)) => compare_plain(plain, other),
         }
@@ -54,7 +45,9 @@ impl Text<'_> {
     {
         match (self, other) {
             (Text::Body(body), Text::Body(other)) => equal(body.bytes(), other.bytes()),
-            _ => self.compare(other).is_eq(),
+            (Text::Body(body), Text::Plain(plain)) => spells(body.bytes(), plain),
+            (Text::Plain(plain), Text::Body(body)) => spells(body.bytes(), plain),
+            (Text::Plain(_), Text::Plain(_)) => self.compare(other).is_eq(),
         }
     }
 }

@@ -1,11 +1,12 @@
-use Rattle.std.proofs.Common.{◌≡◌, ◌∙◌, ap, refl}
+-- Bytes are ordered as the scalars that they spell.
+use Rattle.std.proofs.Common.{◌∙◌, ap₂, List, ℕ}
+use Rattle.std.specs.Cmp.Lexicographic.{slice_cmp}
 use Rattle.std.specs.Ordering.{nat_cmp}
-use Rattle.std.proofs.lemmas.Iterator.Search.{cmp_from_yields_List}
-use Rattle.std.proofs.lemmas.Iterator.{YieldsList-from_chars}
-use Rattle.std.specs.Str.Iter.{chars_rest}
+use Rattle.jp_strings.proofs.Orders.{texts_ordered}
 use Rattle.jp_values.proofs.text.compare_plain.Goals as goal
 
 pub returns : goal.returns
 returns c =
-    cmp_from_yields_List (λ x y. y ≡ x) _ nat_cmp _ c.cmp.ensures.ran (YieldsList-from_chars c.args.plain.now c.utf8.plain c.chars.ensures.rest)
-    (λ it e. YieldsList-from_chars c.args.other.now c.utf8.other (ap chars_rest e ∙ c.chars-2.ensures.rest)) (λ x y. refl)
+    c.cmp.ensures
+    ∙ (ap₂ (λ (a b : List ℕ). slice_cmp nat_cmp a b) c.as_bytes.ensures.value c.as_bytes-2.ensures.value
+    ∙ texts_ordered c.args.plain.now c.args.other.now c.utf8.plain c.utf8.other)

@@ -5,9 +5,9 @@ use Rattle.std.proofs.lemmas.Iterator.Consumers.{YieldsList-from_first}
 use Rattle.std.proofs.lemmas.Iterator.{YieldsList-from_chars}
 use Rattle.std.specs.Str.Iter.{chars_rest}
 use Rattle.jp_strings.specs.Scalars.{scalars_left}
-use Rattle.jp_values.proofs.text.compare_with_plain.Goals as goal
+use Rattle.jp_strings.proofs.order.compare_text_scalars.Goals as goal
 
 pub returns : goal.returns
 returns c =
     cmp_from_yields_List (λ x y. y ≡ x) _ nat_cmp _ c.cmp.ensures.ran (YieldsList-from_first (λ x. x) scalars_left _ c.new.ensures)
-    (λ it e. YieldsList-from_chars c.args.plain.now c.utf8.plain (ap chars_rest e ∙ c.chars.ensures.rest)) (λ x y. refl)
+    (λ it e. YieldsList-from_chars c.args.text.now c.utf8.text (ap chars_rest e ∙ c.chars.ensures.rest)) (λ x y. refl)
