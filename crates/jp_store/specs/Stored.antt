@@ -24,7 +24,7 @@ use Rattle.jp_store.specs.declared.line.LineText.TheVariants as texts
 -- the bytes of a line, of which some stand among those that were loaded
 abbrev pub text_in : List ℕ → LineText → List ℕ
 text_in bytes (texts.Loaded span) = bytes_between bytes span.start span.end
-text_in bytes (texts.Edited text) = text.items
+text_in bytes (texts.Edited text) = text.value.items
 
 -- a span is of the loaded bytes
 abbrev pub IsWithin : List ℕ → LineText → Type 0

@@ -10,8 +10,8 @@ use jp_tape::Tape;
 pub(crate) enum LineText {
     /// Among the bytes that were loaded.
     Loaded(Span),
-    /// On their own: the line was edited.
-    Edited(Vec<u8>),
+    /// On their own: the line was edited. They are boxed, since few lines are, and a record of a line is to be small.
+    Edited(Box<Vec<u8>>),
 }
 
 /// What a line is, with its tape where it has one.

@@ -12,6 +12,7 @@ use crate::line::{Line, LineText};
 use crate::reading::judge;
 use jp_masks::{Marks, Scanner, laws};
 use jp_model::{Framing, Span};
+use jp_tape::Builder;
 use memchr::memchr;
 use std::alloc::{AllocError, Global};
 
@@ -63,13 +64,14 @@ fn scan(framing: Framing, text: &[u8], marks: &mut Marks) -> Result<(), AllocErr
     Ok(())
 }
 
-/// The line that stands at an index, from 0, of a piece of the bytes.
-fn read_line(
+/// The line that stands at an index, from 0, of a piece of the bytes. The builder lends its memory.
+fn read_line<'a>(
     alloc: Global,
+    builder: &mut Builder<'a>,
     framing: Framing,
-    bytes: &[u8],
+    bytes: &'a [u8],
     piece: Span,
-    marks: &Marks,
+    marks: &'a Marks,
     index: usize,
 ) -> Result<Line, AllocError>
     requires order { piece.start ≤ piece.end }
@@ -85,7 +87,7 @@ fn read_line(
     let line = marks.line(index);
     let is_utf8 = marks.line_is_utf8(text, index);
     let own = &text[line.span.start as usize..line.span.end as usize];
-    let kind = judge(alloc, framing, own, line.positions, is_utf8)?;
+    let kind = judge(alloc, builder, framing, own, line.positions, is_utf8)?;
     let span = Span {
         start: piece.start + line.span.start,
         end: piece.start + line.span.end,
@@ -118,8 +120,9 @@ fn read_piece(
     )?;
     let count = marks.line_count();
     lines.reserve(count)?;
+    let mut builder = Builder::new(alloc);
     for index in 0..count {
-        let line = read_line(alloc, framing, bytes, piece, marks, index)?;
+        let line = read_line(alloc, &mut builder, framing, bytes, piece, marks, index)?;
         lines.push(line)?;
     }
     Ok(())

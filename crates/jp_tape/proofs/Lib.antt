@@ -26,3 +26,4 @@ pub mod Repeated
 pub mod Truncated
 pub mod Refused
 pub mod Statuses
+mod Apart

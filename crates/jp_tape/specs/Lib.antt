@@ -7,6 +7,7 @@ pub mod Tapes
 pub mod Cursors
 pub mod Places
 pub mod Names
+pub mod Keys
 pub mod Ahead
 pub mod Reading
 pub mod Machine

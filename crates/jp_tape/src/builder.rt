@@ -1,6 +1,7 @@
 //! The builder of a tape: it reads a line once, and tells its first fault.
 
 ghost use Rattle.std.specs.Prelude.{◌≡◌, ℕ, ◌<◌, ◌↔◌, ◌^◌, true, false, length, IfOk, IfErr, IsTrue, IsUtf8};
+ghost use Rattle.std.specs.Box.{boxed_slice_items};
 ghost use Rattle.jp_model.specs.Lines.{is_blank};
 ghost use Rattle.jp_model.specs.Json.Faults.{is_truncated as truncated};
 ghost use Rattle.jp_model.specs.Json.Marks.{marks as marks_of};
@@ -13,6 +14,7 @@ ghost use Rattle.jp_tape.specs.Machine.{IsFinished};
 ghost use Rattle.jp_tape.specs.Refusals.{IsRefused};
 
 mod body;
+mod keys;
 mod machine;
 mod names;
 mod scan;
@@ -20,8 +22,10 @@ mod tokens;
 
 use crate::tape::Tape;
 use jp_model::{Framing, LineFault};
-use machine::{Builder, walk};
-use std::alloc::Global;
+pub use machine::Builder;
+use machine::walk;
+use std::alloc::{AllocError, Global};
+use std::boxed::BoxedSlice;
 
 /// Why a line has no tape.
 #[derive(Clone, Copy, Debug, PartialEq, Eq)]
@@ -68,6 +72,55 @@ fn fault_of(builder: &Builder<'_>, line: &[u8], framing: Framing) -> Option<Line
     }
 }
 
+/// So many words of a tape are copied, and more are handed over with their memory.
+const MOST_COPIED: usize = 1 << 16;
+
+impl<'a> Builder<'a> {
+    /// The words of the line that was read, in memory of their own.
+    fn tape_words(&mut self, alloc: Global) -> Result<BoxedSlice<u64>, AllocError>
+        ensures { IfOk result (λ words. boxed_slice_items words ≡ self.old.words.items) }
+    {
+        if self.words.len() <= MOST_COPIED {
+            return BoxedSlice::from_slice(alloc, &self.words);
+        }
+        let words = std::mem::replace(&mut self.words, Vec::new(alloc));
+        Ok(words.into_boxed_slice())
+    }
+
+    /// The tape of a line, or the line's first fault, as the function `build` tells them. The tape has memory of its own, and
+    /// that of a short line no more than its words need; the walk over the line has the memory of the lines before, which it
+    /// forgets.
+    pub fn build(
+        &mut self,
+        alloc: Global,
+        line: &'a [u8],
+        marks: &'a [u32],
+        is_utf8: bool,
+        framing: Framing,
+    ) -> Result<Tape, BuildFault>
+        requires not_blank { is_blank line.now ≡ false }
+        requires room { length line.now < 2 ^ 32 }
+        requires marks { marks.now ≡ marks_of line.now }
+        requires verdict { IsTrue is_utf8 ↔ IsUtf8 line.now }
+        ensures tree { IfOk result (λ tape. (t : Tree) × HasStatus framing line.now (parsed t) × (tape ≡ tape_words t)) }
+        ensures only { IfOk result (λ tape. (t : Tree) → Text line.now t → tape ≡ tape_words t) }
+        ensures made { IfOk result (λ tape. IsTapeOf tape line.now) }
+        ensures fault { IfErr result (λ fault. IsRefused framing line.now fault) }
+    {
+        if !is_utf8 {
+            return Err(BuildFault::Line(LineFault::Utf8));
+        }
+        walk(self, line, marks)?;
+        match fault_of(self, line, framing) {
+            Some(fault) => Err(BuildFault::Line(fault)),
+            None => match self.tape_words(alloc) {
+                Ok(words) => Ok(Tape { words }),
+                Err(_) => Err(BuildFault::Memory),
+            },
+        }
+    }
+}
+
 /// The tape of a line (RFC 8259, sections 2 to 8), or the line's first fault.
 ///
 /// `marks` are the places of the line's marks, as `jp_masks` finds them, and `is_utf8` is whether the line is UTF-8. The faults are told in this order: `Utf8`; `Grammar`, where the line is no
@@ -91,14 +144,6 @@ pub fn build(
     ensures made { IfOk result (λ tape. IsTapeOf tape line.now) }
     ensures fault { IfErr result (λ fault. IsRefused framing line.now fault) }
 {
-    if !is_utf8 {
-        return Err(BuildFault::Line(LineFault::Utf8));
-    }
-    let builder = walk(alloc, line, marks)?;
-    match fault_of(&builder, line, framing) {
-        Some(fault) => Err(BuildFault::Line(fault)),
-        None => Ok(Tape {
-            words: builder.words,
-        }),
-    }
+    let mut builder = Builder::new(alloc);
+    builder.build(alloc, line, marks, is_utf8, framing)
 }

@@ -7,7 +7,7 @@ mod tape;
 #[cfg(test)]
 mod tests;
 
-pub use builder::{BuildFault, build};
+pub use builder::{BuildFault, Builder, build};
 pub use cursor::Cursor;
 pub use tape::{Tape, tapes_are_of_lines};
 

@@ -7,12 +7,13 @@ ghost use Rattle.jp_model.specs.Json.Faults.{has_surrogate, has_long_exponent, h
 ghost use Rattle.jp_tape.specs.Tapes.{spelled, IsTapeOf};
 ghost use Rattle.jp_tape.specs.Words.{tape_words};
 
+use std::boxed::BoxedSlice;
 use std::marker::Model;
 
 /// The nodes of one line in packed words, four to a node. A clause sees the list of words.
 #[derive(Drop)]
 pub struct Tape {
-    pub(crate) words: Vec<u64>,
+    pub(crate) words: BoxedSlice<u64>,
 }
 
 impl Model for Tape {
@@ -20,7 +21,9 @@ impl Model for Tape {
 
     ghost Value = { List ℕ };
 
-    ghost view = { λ t. t.words.items };
+    ghost use Rattle.std.specs.Box.{boxed_slice_items};
+
+    ghost view = { λ t. boxed_slice_items t.words };
 }
 
 /// The tape of a line is that of the tree that the line spells, and says what a cursor relies on of that tree.

@@ -5,7 +5,7 @@ ghost use Rattle.jp_tape.specs.Tapes.{IsTapeOf};
 
 mod names;
 
-use crate::{BuildFault, Cursor, Kind, Tape, build};
+use crate::{BuildFault, Builder, Cursor, Kind, Tape, build};
 use jp_decimal::Decimal;
 use jp_masks::line_marks;
 use jp_model::{Framing, LineFault, Span, is_blank};
@@ -40,6 +40,24 @@ fn read(alloc: Global, line: &[u8], framing: Framing) -> Result<Tape, BuildFault
         return Err(BuildFault::Memory);
     };
     build(alloc, line, &marks, is_utf8, framing)
+}
+
+/// Reads a line by a builder that read another before.
+fn read_behind(alloc: Global, before: &[u8], line: &[u8]) -> Result<Tape, Fail> {
+    if is_blank(before)
+        || before.len() > 0xffff_ffff
+        || is_blank(line)
+        || line.len() > 0xffff_ffff
+    {
+        return Err(Fail::Memory);
+    }
+    let marks_before = line_marks(alloc, before)?;
+    let marks = line_marks(alloc, line)?;
+    let is_utf8 = std::str::from_utf8(before).is_ok();
+    let mut builder = Builder::new(alloc);
+    let _tape = builder.build(alloc, before, &marks_before, is_utf8, Framing::Lines);
+    let is_utf8 = std::str::from_utf8(line).is_ok();
+    Ok(builder.build(alloc, line, &marks, is_utf8, Framing::Lines)?)
 }
 
 fn fault(alloc: Global, line: &[u8], framing: Framing) -> Option<LineFault> {
@@ -79,7 +97,23 @@ fn nodes_stand_in_order(rt: HostRuntime) -> Result<(), Fail> {
         0,
         4294967296 + 1,
     ];
-    assert!(rt; tape.words.as_slice() == words.as_slice());
+    assert!(rt; &*tape.words == words.as_slice());
+    Ok(())
+}
+
+#[test]
+fn the_line_before_is_forgotten(rt: HostRuntime) -> Result<(), Fail> {
+    let alloc = rt.alloc();
+    for before in [
+        "[{\"a\":[1,{\"b\":",
+        "[\"\\ud800\",1e9999999999999999,{\"a\":1,\"a\":2}]",
+    ] {
+        for line in ["{\"a\":{\"b\":1}}", "0"] {
+            let alone = read(alloc, line.as_bytes(), Framing::Lines)?;
+            let behind = read_behind(alloc, before.as_bytes(), line.as_bytes())?;
+            assert!(rt; &*behind.words == &*alone.words);
+        }
+    }
     Ok(())
 }
 

@@ -24,7 +24,7 @@ use super::scan::{is_at, marks_behind, skip_white};
 use super::tokens::{Label, label_at, scalar_at};
 use crate::Kind;
 use jp_model::{LineFault, Span};
-use std::alloc::{AllocError, Global};
+use std::alloc::Global;
 
 /// A container that is open.
 #[derive(Clone, Copy)]
@@ -50,15 +50,17 @@ enum Turn {
     End,
 }
 
-/// What has been read of a line.
+/// What has been read of a line, in lists that are lent from line to line: `Builder::build` forgets the line before.
 #[derive(Drop)]
-pub(super) struct Builder<'a> {
+pub struct Builder<'a> {
     /// Four words to a node. The first two of an open container are not known yet.
     pub(super) words: Vec<u64>,
     /// The containers that are open, the innermost last.
     opened: Vec<Open>,
     /// The bodies of the names in them.
     names: Vec<Body<'a>>,
+    /// Memory for their keys.
+    keys: Vec<u64>,
     /// The marks that are to come.
     marks: &'a [u32],
     pub(super) deepest: usize,
@@ -67,11 +69,6 @@ pub(super) struct Builder<'a> {
     /// Not kept up where a surrogate stands alone.
     pub(super) has_duplicate: bool,
 }
-
-/// There is room for so many open containers from the start, and for so many names.
-const FEW_OPEN: usize = 8;
-
-const FEW_NAMES: usize = 16;
 
 const GRAMMAR: BuildFault = BuildFault::Line(LineFault::Grammar);
 
@@ -195,38 +192,50 @@ fn kept_body<'a>(line: &'a [u8], span: Span, is_lone: bool, is_plain: bool) -> B
 }
 
 impl<'a> Builder<'a> {
-    /// Nothing is read yet. An object has more marks than words, so that its words are not moved while they are written.
-    /// A name has four marks with its colon and its value, and a container that is not empty has three or more.
-    fn new(alloc: Global, marks: &'a [u32]) -> Result<Builder<'a>, BuildFault>
-        ensures words { IfOk result (λ b. b.words.items ≡ []) }
-        ensures opened { IfOk result (λ b. b.opened.items ≡ []) }
-        ensures names { IfOk result (λ b. b.names.items ≡ []) }
-        ensures marks { IfOk result (λ b. b.marks.now ≡ marks.now) }
-        ensures deepest { IfOk result (λ b. b.deepest ≡ 0) }
-        ensures surrogate { IfOk result (λ b. b.has_surrogate ≡ false) }
-        ensures long { IfOk result (λ b. b.has_long_exponent ≡ false) }
-        ensures duplicate { IfOk result (λ b. b.has_duplicate ≡ false) }
-        ensures memory { IfErr result (λ fault. OnFault fault ⊥) }
+    /// A builder that has read nothing. Its lists get memory as they grow, and keep it from line to line.
+    pub fn new(alloc: Global) -> Builder<'a>
+        ensures words { result.words.items ≡ [] }
+        ensures opened { result.opened.items ≡ [] }
+        ensures names { result.names.items ≡ [] }
+        ensures keys { result.keys.items ≡ [] }
+        ensures marks { result.marks.now ≡ [] }
+        ensures deepest { result.deepest ≡ 0 }
+        ensures surrogate { result.has_surrogate ≡ false }
+        ensures long { result.has_long_exponent ≡ false }
+        ensures duplicate { result.has_duplicate ≡ false }
     {
-        let Ok(words) = Vec::with_capacity(alloc, marks.len() + 4) else {
-            return Err(BuildFault::Memory);
-        };
-        let Ok(opened) = Vec::with_capacity(alloc, (marks.len() / 3).min(FEW_OPEN)) else {
-            return Err(BuildFault::Memory);
-        };
-        let Ok(names) = Vec::with_capacity(alloc, (marks.len() / 4).min(FEW_NAMES)) else {
-            return Err(BuildFault::Memory);
-        };
-        Ok(Builder {
-            words,
-            opened,
-            names,
-            marks,
+        Builder {
+            words: Vec::new(alloc),
+            opened: Vec::new(alloc),
+            names: Vec::new(alloc),
+            keys: Vec::new(alloc),
+            marks: &[],
             deepest: 0,
             has_surrogate: false,
             has_long_exponent: false,
             has_duplicate: false,
-        })
+        }
+    }
+
+    /// Forgets the line before.
+    fn start(&mut self, marks: &'a [u32])
+        ensures words { self.new.words.items ≡ [] }
+        ensures opened { self.new.opened.items ≡ [] }
+        ensures names { self.new.names.items ≡ [] }
+        ensures marks { self.new.marks.now ≡ marks.now }
+        ensures deepest { self.new.deepest ≡ 0 }
+        ensures surrogate { self.new.has_surrogate ≡ false }
+        ensures long { self.new.has_long_exponent ≡ false }
+        ensures duplicate { self.new.has_duplicate ≡ false }
+    {
+        self.words.clear();
+        self.opened.clear();
+        self.names.clear();
+        self.marks = marks;
+        self.deepest = 0;
+        self.has_surrogate = false;
+        self.has_long_exponent = false;
+        self.has_duplicate = false;
     }
 
     /// The fourth word of the next value: it is a child of the innermost container, or the root.
@@ -363,25 +372,30 @@ impl<'a> Builder<'a> {
 
     /// Closes the innermost container, which ends before `end`.
     #[inline(always)]
-    fn close(&mut self, container: Open, end: usize)
+    fn close(&mut self, container: Open, end: usize) -> Result<(), BuildFault>
         requires place { 4 * container.place + 1 < length self.old.words.items }
         requires last { 0 < length self.old.opened.items }
         requires names { container.names ≤ length self.old.names.items }
         requires few { length self.old.words.items < 4 * end }
         requires room { end < 2 ^ 32 }
-        ensures closed { IsClosed container end self.old self.new }
-        ensures marks { self.new.marks.now ≡ self.old.marks.now }
+        ensures closed { IfOk result (λ _. IsClosed container end self.old self.new) }
+        ensures marks { IfOk result (λ _. self.new.marks.now ≡ self.old.marks.now) }
+        ensures memory { IfErr result (λ fault. OnFault fault ⊥) }
     {
         let place = container.place as usize;
         let kind = container_kind(container.is_object);
         self.words[4 * place] = head(kind, self.words.len() / 4);
         self.words[4 * place + 1] = span_to_word(container.start, end as u32);
         if !self.has_surrogate {
-            let is_repeated = has_equal(&mut self.names[container.names..]);
+            let Ok(is_repeated) = has_equal(&mut self.names[container.names..], &mut self.keys)
+            else {
+                return Err(BuildFault::Memory);
+            };
             self.has_duplicate |= is_repeated;
         }
         self.names.truncate(container.names);
         self.opened.pop();
+        Ok(())
     }
 
     /// Counts a child of the innermost container, which was read.
@@ -428,30 +442,32 @@ impl<'a> Builder<'a> {
             return Err(GRAMMAR);
         }
         self.marks = marks_behind(self.marks, 1);
-        self.close(container, next + 1);
-        Ok(Turn::After(next + 1))
+        match self.close(container, next + 1) {
+            Ok(()) => Ok(Turn::After(next + 1)),
+            Err(fault) => Err(fault),
+        }
     }
 }
 
-/// Reads the whole line.
+/// Reads the whole line, and forgets the line before.
 pub(super) fn walk<'a>(
-    alloc: Global,
+    builder: &mut Builder<'a>,
     line: &'a [u8],
     marks: &'a [u32],
-) -> Result<Builder<'a>, BuildFault>
+) -> Result<(), BuildFault>
     requires room { length line.now < 2 ^ 32 }
     requires utf8 { IsUtf8 line.now }
     requires marks { marks.now ≡ marks_of line.now }
-    ensures found { IfOk result (λ builder. (t : Tree) × Text line.now t × IsFinished line.now builder t) }
+    ensures found { IfOk result (λ _. (t : Tree) × Text line.now t × IsFinished line.now builder.new t) }
     ensures refused { IfErr result (λ fault. OnFault fault (IsNoText line.now)) }
 {
-    let mut builder = Builder::new(alloc, marks)?;
+    builder.start(marks);
     let mut turn = Turn::Value(None, skip_white(line, marks, 0));
     loop {
         turn = match turn {
             Turn::Value(name, at) => builder.begin(line, at, name)?,
             Turn::After(at) => builder.go_on(line, at)?,
-            Turn::End => return Ok(builder),
+            Turn::End => return Ok(()),
         };
     }
 }

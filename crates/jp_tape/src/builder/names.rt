@@ -1,6 +1,6 @@
 //! The names of an object: whether two of them are equal.
 
-ghost use Rattle.std.specs.Prelude.{◌≡◌, ℕ, ◌<◌, ◌≤◌, List, map, length, Some, None, nat_eq, refl, IsSorted};
+ghost use Rattle.std.specs.Prelude.{◌≡◌, ℕ, ◌<◌, ◌≤◌, List, map, length, Some, None, nat_eq, refl, IfOk, IsSorted};
 ghost use Rattle.std.specs.Ordering.{nat_cmp};
 ghost use Rattle.std.specs.Cmp.Lexicographic.{slice_cmp, pointwise, nat_list_eq_equiv, nat_list_cmp_total, texts_po, texts_ties};
 ghost use Rattle.std.specs.Cmp.{on_equiv, on_per, on_po, on_total, partial_equiv_from_equiv};
@@ -8,8 +8,10 @@ ghost use Rattle.jp_model.specs.Json.Faults.{has_repeated};
 ghost use Rattle.jp_tape.specs.Names.{points, all_points};
 
 use super::body::Body;
+use super::keys::are_distinct;
 use jp_lanes::equal_bytes;
 use jp_strings::{compare, equal};
+use std::alloc::AllocError;
 use std::cmp::Ordering;
 
 /// So many bodies are compared by pairs, and more are sorted.
@@ -84,13 +86,16 @@ fn has_equal_pair(bodies: &[Body<'_>]) -> bool
     false
 }
 
-/// Whether two bodies are equal. It changes their order.
-pub(super) fn has_equal(bodies: &mut [Body<'_>]) -> bool
-    ensures { result ≡ has_repeated (all_points bodies.old) }
+/// Whether two bodies are equal. It changes their order. `keys` lends its memory.
+pub(super) fn has_equal(bodies: &mut [Body<'_>], keys: &mut Vec<u64>) -> Result<bool, AllocError>
+    ensures { IfOk result (λ is_repeated. is_repeated ≡ has_repeated (all_points bodies.old)) }
 {
     if bodies.len() <= MOST_PAIRED {
-        return has_equal_pair(bodies);
+        return Ok(has_equal_pair(bodies));
+    }
+    if are_distinct(bodies, keys)? {
+        return Ok(false);
     }
     bodies.sort_unstable();
-    has_equal_neighbours(bodies)
+    Ok(has_equal_neighbours(bodies))
 }

@@ -19,7 +19,7 @@ fn object(alloc: Global, count: usize, last: &str) -> Result<Vec<u8>, AllocError
 #[test]
 fn equal_names_are_found_among_few_and_many(rt: HostRuntime) -> Result<(), Fail> {
     let alloc = rt.alloc();
-    for count in [2usize, 3, 8, 9, 10, 100] {
+    for count in [2usize, 3, 8, 9, 10, 20_000] {
         assert!(rt; has_tape(alloc, &object(alloc, count, "z")?));
         assert!(rt; has_tape(alloc, &object(alloc, count, "\\u006e")?));
         assert!(rt; is_refused(alloc, &object(alloc, count, "n1")?, LineFault::Duplicate));
@@ -38,5 +38,9 @@ fn equal_names_are_found_among_few_and_many(rt: HostRuntime) -> Result<(), Fail>
             )
         );
     }
+    // Two names that are alike at both ends and in length.
+    let alike =
+        b"{\"aaaaaaaa1bbbbbbbb\":0,\"a\":0,\"b\":0,\"c\":0,\"d\":0,\"e\":0,\"f\":0,\"g\":0,\"aaaaaaaa2bbbbbbbb\":0}";
+    assert!(rt; has_tape(alloc, alike));
     Ok(())
 }

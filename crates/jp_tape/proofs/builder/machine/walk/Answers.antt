@@ -10,7 +10,7 @@ pub loop-turn-init : goal.loop-turn-init
 loop-turn-init c =
     let line = c.args.line.now in
     let w = c.skip_white.ensures in
-    let e = c.in_ok-builder.ensures in
+    let e = c.start.ensures in
     let n = ap length e.words in
     record {
       reached = record {

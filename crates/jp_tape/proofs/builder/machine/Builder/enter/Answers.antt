@@ -31,7 +31,7 @@ returns-clause-goes_on c =
     let b = c.args.self.now in
     let kind = container_if c.args.is_object in
     let w = c.skip_white-inside.ensures in
-    let mid : Builder = record { words = c.write_node-2.new.words; opened = c.push_reserved.new.self; names = b.names; marks = c.marks_behind-self.result; deepest = c.larger-self.result; has_surrogate = b.has_surrogate; has_long_exponent = b.has_long_exponent; has_duplicate = b.has_duplicate } in
+    let mid : Builder = record { words = c.write_node-2.new.words; opened = c.push_reserved.new.self; names = b.names; keys = b.keys; marks = c.marks_behind-self.result; deepest = c.larger-self.result; has_surrogate = b.has_surrogate; has_long_exponent = b.has_long_exponent; has_duplicate = b.has_duplicate } in
     IfOk-weaker c.next_child.result _ _
     (λ turn l. enter_goes_on c.args.line.now c.args.at c.skip_white-inside.result c.args.name b mid c.next_child.new.self turn kind c.requires.opens w.white w.stops
     (λ h. c.is_at.ensures.no c.if-is_at.false (subst (λ x. Has c.args.line.now c.skip_white-inside.result x) (sym c.closing_of.ensures) h))

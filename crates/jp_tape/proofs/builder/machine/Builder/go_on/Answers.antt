@@ -109,14 +109,14 @@ close-requires-clause-names c =
     let h = c.requires.holds.1 in
     innermost_names c.args.line.now c.args.at b o x h (is_innermost c.args.line.now c.args.at b o some last x h)
 
-pub returns-clause-goes_on : goal.returns-clause-goes_on
-returns-clause-goes_on c x h =
+pub returns-in-Ok-clause-goes_on : goal.returns-in-Ok-clause-goes_on
+returns-in-Ok-clause-goes_on c x h =
     let w = c.skip_white-next.ensures in
     let b = c.args.self.now in
     let o = c.index-container.result.now in
     let some = some_open _ _ b.opened.ok.0 c.if-is_empty.ensures in
     let last = last_read b.opened.items _ _ o c.len.ensures b.opened.ok.0 c.index-container.ensures in
-    close_goes_on c.args.line.now c.args.at c.skip_white-next.result b c.close.new.self o w.white (subst (λ y. Has c.args.line.now c.skip_white-next.result y) c.closing_of.ensures (c.is_at-2.ensures.yes c.if-not-is_at.false)) (closed_from b c.marks_behind-self-2.result c.close.new.self o (c.skip_white-next.result + 1) c.close.ensures.closed) x h
+    close_goes_on c.args.line.now c.args.at c.skip_white-next.result b c.close.new.self o w.white (subst (λ y. Has c.args.line.now c.skip_white-next.result y) c.closing_of.ensures (c.is_at-2.ensures.yes c.if-not-is_at.false)) (closed_from b c.marks_behind-self-2.result c.close.new.self o (c.skip_white-next.result + 1) c.in-Ok.ensures.closed) x h
     (is_innermost c.args.line.now c.args.at b o some last x h)
 
 pub marks_behind-self-requires : goal.marks_behind-self-requires
@@ -134,9 +134,9 @@ marks_behind-self-requires-2 c =
     let h = subst (λ y. Has c.args.line.now c.skip_white-next.result y) c.closing_of.ensures (c.is_at-2.ensures.yes c.if-not-is_at.false) in
     (passes_structural c.args.line.now c.args.self.now.marks.now c.skip_white-next.result h.inside (closing_structural (container_if o.is_object) (byte_at c.args.line.now c.skip_white-next.result) h.is) c.skip_white-next.ensures.ahead).within
 
-pub returns-clause-ahead : goal.returns-clause-ahead
-returns-clause-ahead c =
+pub returns-in-Ok-clause-ahead : goal.returns-in-Ok-clause-ahead
+returns-in-Ok-clause-ahead c =
     let o = c.index-container.result.now in
     let h = subst (λ y. Has c.args.line.now c.skip_white-next.result y) c.closing_of.ensures (c.is_at-2.ensures.yes c.if-not-is_at.false) in
     let p = passes_structural c.args.line.now c.args.self.now.marks.now c.skip_white-next.result h.inside (closing_structural (container_if o.is_object) (byte_at c.args.line.now c.skip_white-next.result) h.is) c.skip_white-next.ensures.ahead in
-    subst (λ (ms : List ℕ). IsAhead c.args.line.now (c.skip_white-next.result + 1) ms) (sym (c.close.ensures.marks ∙ c.marks_behind-self-2.ensures)) p.ahead
+    subst (λ (ms : List ℕ). IsAhead c.args.line.now (c.skip_white-next.result + 1) ms) (sym (c.in-Ok.ensures.marks ∙ c.marks_behind-self-2.ensures)) p.ahead

@@ -1,0 +1,21 @@
+-- A word that stands for the bytes of a name.
+use Rattle.std.specs.Prelude.{◌≡◌, ◌+◌, ◌-◌, ◌*◌, ◌^◌, ◌%◌, ◌++◌, ◌∷◌, [], ℕ, List, length, map, take, drop, replicate, cond, nat_lt, false}
+use Rattle.std.specs.Int.{w64, from_le_bytes}
+use Rattle.jp_model.specs.Json.Faults.{has_repeated}
+use Rattle.jp_tape.specs.declared.builder.body.Body.{Body}
+
+-- the eight bytes at a place as a number
+unfoldable pub word_at : List ℕ → ℕ → ℕ
+word_at bytes at = from_le_bytes w64 (take 8 (drop at bytes))
+
+-- the first eight bytes, the last eight and the length of a long name, or all of a short one
+unfoldable pub key_of : List ℕ → ℕ
+key_of bytes = cond (nat_lt (length bytes) 8) (from_le_bytes w64 (bytes ++ replicate (8 - length bytes) 0)) (((word_at bytes 0 * 0x9E3779B97F4A7C15) % 2 ^ 64 + word_at bytes (length bytes - 8) + length bytes) % 2 ^ 64)
+
+-- the keys of bodies
+abbrev pub keys_of : List Body → List ℕ
+keys_of bodies = map (λ (b : Body). key_of b.bytes.now) bodies
+
+-- no two numbers are the same
+abbrev pub AreApart : List ℕ → Type 0
+AreApart keys = has_repeated (map (λ (k : ℕ). k ∷ []) keys) ≡ false
