@@ -37,15 +37,15 @@ as_before old new same = record {
 }
 
 -- what was added and is cut off again
-pub cut_as_before : (old more new : Marks) (rows places : ℕ) → Grows old more → rows ≡ length old.rows.items → places ≡ length old.places.items
+pub cut_unchanged : (old more new : Marks) (rows places : ℕ) → Grows old more → rows ≡ length old.rows.items → places ≡ length old.places.items
     → new.rows.items ≡ take rows more.rows.items → new.places.items ≡ take places more.places.items → new.places_before ≡ old.places_before → new.is_utf8 ≡ more.is_utf8
-    → IsAsBefore old new
-cut_as_before old more new rows places grown rows_is places_is rows_are places_are before utf8 = as_before old new (record {
+    → IsUnchanged old new
+cut_unchanged old more new rows places grown rows_is places_is rows_are places_are before utf8 = record {
   rows = rows_are ∙ (λ t. take (rows_is t) (grown.rows t)) ∙ take-append_seam old.rows.items grown.more_rows;
   places = places_are ∙ (λ t. take (places_is t) (grown.places t)) ∙ take-append_seam old.places.items grown.more_places;
   places_before = before;
   is_utf8 = utf8 ∙ grown.is_utf8;
-})
+}
 
 -- what follows after an Err from what holds there
 pub after_err : {T E : Type 0} (r : Result T E) (P Q : Type 0) → (P → Q) → OnErr r P → OnErr r Q

@@ -26,7 +26,7 @@ impl Scanner {
     ghost use Rattle.jp_model.specs.declared.Framing.{Framing};
     ghost use Rattle.jp_masks.specs.declared.lines.Marks.{Marks};
     ghost use Rattle.jp_masks.specs.Found.{found, closed_at};
-    ghost use Rattle.jp_masks.specs.Scanned.{HasScanned, AreAllOf, IsEmpty, IsAsBefore, Grows, bytes_fed, whole_blocks};
+    ghost use Rattle.jp_masks.specs.Scanned.{HasScanned, AreAllOf, IsEmpty, IsUnchanged, IsAsBefore, Grows, bytes_fed, whole_blocks};
 
     /// A scanner at the start of a collection whose byte order mark was dropped.
     pub fn new(framing: Framing) -> Scanner
@@ -98,7 +98,8 @@ impl Scanner {
             → OnOk result (found sink.new ≡ closed_at framing (whole_blocks (text ++ piece.now))) }
         ensures fed { OnOk result (bytes_fed self.new ≡ bytes_fed self.old + length piece.now) }
         ensures err { OnErr result (self.new ≡ self.old) }
-        ensures err_sink { OnErr result (IsAsBefore sink.old sink.new) }
+        ensures err_sink { OnErr result (IsUnchanged sink.old sink.new) }
+        ensures err_told { OnErr result (IsAsBefore sink.old sink.new) }
     {
         let before = *self;
         let (rows, places, places_before) = sink.sizes();
@@ -146,7 +147,8 @@ impl Scanner {
             → OnOk result ((empty : Marks) → IsEmpty empty → HasScanned framing [] self.new empty) }
         ensures fed { OnOk result (bytes_fed self.new ≡ 0) }
         ensures err { OnErr result (self.new ≡ self.old) }
-        ensures err_sink { OnErr result (IsAsBefore sink.old sink.new) }
+        ensures err_sink { OnErr result (IsUnchanged sink.old sink.new) }
+        ensures err_told { OnErr result (IsAsBefore sink.old sink.new) }
     {
         let (rows, places, places_before) = sink.sizes();
         let done = self.last_block(sink);
