@@ -2,7 +2,7 @@
 use Rattle.std.proofs.Common.{◌≡◌, ◌≤◌, length, List, [], ◌∷◌, ◌++◌, refl, sym, ◌∙◌, ap, arith, Option, None, Global, Vec}
 use Rattle.jp_iregexp.specs.declared.node.Node.{Node, Sequence, Choice}
 use Rattle.jp_model.specs.Pattern.Tree.{Pattern, empty, never}
-use Rattle.jp_iregexp.specs.Trees.{tree_of, sequence_list, choice_list}
+use Rattle.jp_iregexp.specs.Nodes.{tree_of, sequence_list, choice_list}
 use Rattle.jp_model.specs.Pattern.Groups.{Group, sequence_onto, choice_onto, at_end}
 use Rattle.jp_iregexp.specs.declared.group.Group.{Group as OpenGroup}
 use Rattle.jp_iregexp.specs.Groups.{latest_onto, latest_first, group_of, groups_onto, groups_latest}

@@ -4,7 +4,7 @@ use Rattle.std.proofs.lemmas.List.{take_more, map-append}
 use Rattle.jp_model.specs.Pattern.Tree.{Pattern, empty, followed_by, never, either_of}
 use Rattle.jp_iregexp.specs.declared.node.Node.{Node, Sequence, Choice, Row_of-Node, end_of-Node, more_of-Node, items-the_row-Node, items_hidden-the_row-Node-0}
 use Rattle.jp_iregexp.specs.Tables.{Kept, KeptParts, KeptList}
-use Rattle.jp_iregexp.specs.Trees.{tree_of, sequence_list, choice_list}
+use Rattle.jp_iregexp.specs.Nodes.{tree_of, sequence_list, choice_list}
 use Rattle.jp_iregexp.proofs.Parts.{row_of, tree_of_Sequence, tree_of_Choice}
 
 list_kept : (text : List ℕ) (n : _) (row : Row_of-Node n) → KeptParts text row → KeptList text (items-the_row-Node n row)

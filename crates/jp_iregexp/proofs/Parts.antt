@@ -3,7 +3,7 @@ use mathlib.Core.Former.{Count}
 use Rattle.std.proofs.Common.{◌≡◌, ℕ, zero, suc, ◌+◌, ◌<◌, ◌≤◌, List, [], ◌∷◌, length, drop, get_or, arith, refl, sym, ◌∙◌, ap, add-one, drop-cons, Global, Vec, Result, Ok, Err, IfOk}
 use Rattle.jp_iregexp.specs.declared.node.Node.{Node, Sequence, Choice, Sequence', Choice', Row_of-Node, end_of-Node, more_of-Node, items-the_row-Node, items_hidden-the_row-Node-0}
 use Rattle.jp_model.specs.Pattern.Tree.{followed_by, either_of}
-use Rattle.jp_iregexp.specs.Trees.{tree_of, sequence_of, choice_of, sequence_list, choice_list}
+use Rattle.jp_iregexp.specs.Nodes.{tree_of, sequence_of, choice_of, sequence_list, choice_list}
 
 sequence_row : (n : _) (row : Row_of-Node n) → sequence_of row ≡ sequence_list (items-the_row-Node n row)
 sequence_row n end_of-Node = refl

@@ -1,7 +1,7 @@
 -- The loops of the matcher: what is reached so far, and what is left to do.
 use Rattle.std.proofs.Common.{◌≡◌, ℕ, zero, suc, ◌+◌, ◌-◌, ◌<◌, ◌≤◌, ◌⊎◌, inl, inr, List, [], ◌∷◌, length, drop, arith, sym, ◌∙◌, subst, Some, None}
 use Rattle.jp_iregexp.specs.declared.node.Node.{Node}
-use Rattle.jp_iregexp.specs.Trees.{tree_of, sequence_list, choice_list}
+use Rattle.jp_iregexp.specs.Nodes.{tree_of, sequence_list, choice_list}
 use Rattle.jp_iregexp.specs.Positions.{Has, IsSetOver, Reach, ReachFrom, AreEnds}
 use Rattle.jp_model.specs.Pattern.Language.{Language, Splits, Repeats, RepeatsWithin}
 use Rattle.jp_iregexp.proofs.Reaching.{ends_nothing, ends_then, ends_same, ends_repeats_closed, ends_within_closed, ends_up_to_one, one_more, one_fewer, cut, uncut, within_join, within_split, reach_map}

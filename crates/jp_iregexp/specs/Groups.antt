@@ -4,7 +4,7 @@ use Rattle.jp_iregexp.specs.declared.node.Node.{Node}
 use Rattle.jp_iregexp.specs.declared.group.Group.{Group}
 use Rattle.jp_iregexp.specs.declared.groups.Groups.{Groups}
 use Rattle.jp_model.specs.Pattern.Tree.{Pattern}
-use Rattle.jp_iregexp.specs.Trees.{tree_of}
+use Rattle.jp_iregexp.specs.Nodes.{tree_of}
 use Rattle.jp_model.specs.Pattern.Groups.{Group as Reading, Groups as ReadingGroups}
 
 -- the patterns of parts, the latest first, in front of others

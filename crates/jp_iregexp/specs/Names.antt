@@ -1,7 +1,7 @@
 -- The names of properties, as the program keeps them.
 use Rattle.std.specs.Prelude.{ℕ, List, [], ◌∷◌, Option, Some, None}
 use Rattle.jp_iregexp.specs.declared.class.Property.{Property}
-use Rattle.jp_iregexp.specs.Trees.{property_of}
+use Rattle.jp_iregexp.specs.Nodes.{property_of}
 use Rattle.jp_model.specs.Pattern.Tree.{Property as TreeProperty}
 
 -- a letter, and another one where there is one

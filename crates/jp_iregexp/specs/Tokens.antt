@@ -6,7 +6,7 @@ use Rattle.std.specs.List.{list_all}
 use Rattle.jp_model.specs.Characters.{is_digit, value_behind}
 use Rattle.jp_iregexp.specs.declared.brackets.Next.{Next}
 use Rattle.jp_iregexp.specs.declared.brackets.Next.TheVariants.{Item as ItemNext, Hyphen as HyphenNext, End as EndNext}
-use Rattle.jp_iregexp.specs.Trees.{item_of, class_of}
+use Rattle.jp_iregexp.specs.Nodes.{item_of, class_of}
 use Rattle.jp_model.specs.Pattern.Reading.{Read, then_read, up_to, with_rest, count_in, read_class, read_escape, one_item, read_item, read_items, read_span, tokens_within}
 use Rattle.jp_model.specs.Pattern.Spelling.{Token as TreeToken, class_token, open_token, close_token, bar_token, count_token, is_normal_char}
 use Rattle.jp_model.specs.Pattern.Groups.{Groups, read_from}

@@ -4,7 +4,7 @@ ghost use Rattle.std.specs.Prelude.{◌≡◌, ◌++◌, ℕ, suc, map, option_m
 ghost use Rattle.jp_model.specs.Pattern.Reading.{then_read, read_items, last_hyphen, read_members, read_class};
 ghost use Rattle.jp_model.specs.Pattern.Spelling.{class_token};
 ghost use Rattle.jp_iregexp.specs.Tokens.{first_of, after_next};
-ghost use Rattle.jp_iregexp.specs.Trees.{item_of, class_of};
+ghost use Rattle.jp_iregexp.specs.Nodes.{item_of, class_of};
 
 use crate::class::{Class, Item};
 use crate::items::read_whole_item;

@@ -3,7 +3,7 @@
 ghost use Rattle.std.specs.Prelude.{◌≡◌, map, IfOk};
 ghost use Rattle.std.specs.List.{list_any};
 ghost use Rattle.jp_model.specs.Pattern.Classes.{in_property, in_item, in_class};
-ghost use Rattle.jp_iregexp.specs.Trees.{property_of, item_of, class_of};
+ghost use Rattle.jp_iregexp.specs.Nodes.{property_of, item_of, class_of};
 
 use std::alloc::{AllocError, Global};
 use unicode::properties::{GeneralCategory, GeneralCategoryGroup};
@@ -35,7 +35,7 @@ pub(crate) enum Class {
     Members { negated: bool, items: Vec<Item> },
 }
 
-fn has_property(property: Property, scalar: char) -> bool
+pub(crate) fn has_property(property: Property, scalar: char) -> bool
     ensures { result ≡ in_property (property_of property) scalar }
 {
     let category = GeneralCategory::for_char(scalar);

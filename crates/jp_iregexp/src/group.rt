@@ -3,7 +3,7 @@
 ghost use Rattle.std.specs.Prelude.{◌≡◌, IfOk, OnOk, Some, None, if◌then◌else◌};
 ghost use Rattle.jp_iregexp.specs.Groups.{group_of, atom_of, latest_first};
 ghost use Rattle.jp_model.specs.Pattern.Groups.{fresh, with_atom, add_atom, add_count, next_branch, whole_of};
-ghost use Rattle.jp_iregexp.specs.Trees.{tree_of};
+ghost use Rattle.jp_iregexp.specs.Nodes.{tree_of};
 
 use crate::node::Node;
 use std::alloc::{AllocError, Global};

@@ -4,7 +4,7 @@ ghost use Rattle.std.specs.Prelude.{◌≡◌, IfOk, OnOk, [], ◌∷◌, Some, 
 ghost use Rattle.jp_model.specs.Pattern.Groups.{fresh, whole_of, close_group, after_token, at_end};
 ghost use Rattle.jp_iregexp.specs.Groups.{groups_of};
 ghost use Rattle.jp_iregexp.specs.Tokens.{token_of};
-ghost use Rattle.jp_iregexp.specs.Trees.{tree_of};
+ghost use Rattle.jp_iregexp.specs.Nodes.{tree_of};
 
 use crate::group::Group;
 use crate::node::Node;

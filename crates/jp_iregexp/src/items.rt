@@ -2,7 +2,7 @@
 
 ghost use Rattle.std.specs.Prelude.{◌≡◌, ◌<◌, ◌+◌, ℕ, List, length, drop, take, option_map, Some, None};
 ghost use Rattle.jp_model.specs.Pattern.Reading.{then_read, up_to, read_category, read_escape, read_item, to_span, read_span};
-ghost use Rattle.jp_iregexp.specs.Trees.{item_of};
+ghost use Rattle.jp_iregexp.specs.Nodes.{item_of};
 
 use crate::class::Item;
 use crate::escapes::{escaped, is_plain_in_class};

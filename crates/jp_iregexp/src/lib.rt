@@ -1,14 +1,18 @@
 //! I-Regexp patterns (RFC 9485): their reading, and the texts that they match.
 #![tactic(auto)]
 
+mod automaton;
 mod brackets;
 mod class;
+mod codes;
+mod compiled;
 mod counts;
 mod escapes;
 mod group;
 mod groups;
 mod items;
 pub mod laws;
+mod layout;
 mod matcher;
 mod names;
 mod node;

@@ -1,16 +1,16 @@
 // Which positions a part of a pattern reaches.
 
-ghost use Rattle.std.specs.Prelude.{◌≡◌, ◌^◌, ℕ, ◌<◌, None, IfOk, length, List};
+ghost use Rattle.std.specs.Prelude.{◌≡◌, ◌^◌, ℕ, ◌<◌, Some, None, IfOk, length, List};
 ghost use Rattle.jp_iregexp.specs.Positions.{IsSetOver, AreEnds};
 ghost use Rattle.jp_model.specs.Pattern.Language.{Language, Repeats, RepeatsWithin};
 ghost use Rattle.jp_iregexp.specs.Tables.{Kept, KeptList, KeptRows};
-ghost use Rattle.jp_iregexp.specs.Trees.{tree_of, class_of, sequence_list, choice_list};
+ghost use Rattle.jp_iregexp.specs.Nodes.{tree_of, class_of, sequence_list, choice_list};
 ghost use Rattle.jp_model.specs.Pattern.Tree.{one_of, times};
 
 use crate::class::Class;
 use crate::node::Node;
 use crate::positions::PositionSet;
-use crate::runs::run_ends;
+use crate::runs::{run_ends, window_ends};
 use crate::table::turn_by;
 use std::alloc::{AllocError, Global};
 
@@ -124,12 +124,34 @@ fn repeated_ends(
                 return PositionSet::empty(alloc, text.len());
             }
             let reached = exact_turns(alloc, body, rows, least, text, starts)?;
-            further_turns(alloc, body, rows, (most - least) as usize, text, &reached)
+            up_to_turns(alloc, body, rows, most - least, text, &reached)
         }
         None => {
             let reached = exact_turns(alloc, body, rows, least, text, starts)?;
             any_turns(alloc, body, rows, text, &reached)
         }
+    }
+}
+
+// The part up to so many times. Scalars of a class take one pass.
+#[cycle(ends)]
+fn up_to_turns(
+    alloc: Global,
+    body: &Node,
+    rows: &[PositionSet],
+    most: u32,
+    text: &[char],
+    starts: &PositionSet,
+) -> Result<PositionSet, AllocError>
+    requires over { IsSetOver (length text.now) starts.now.words.items }
+    requires fits { length text.now < 2 ^ 63 }
+    requires kept { Kept text.now body.now }
+    requires rows { KeptRows text.now body.now rows.now }
+    ensures { IfOk result (λ out. AreEnds (RepeatsWithin (Language (tree_of body.now)) 0 (Some most)) text.now starts.now.words.items out.words.items) }
+{
+    match body {
+        Node::Class(class) => window_ends(alloc, class, text, most, starts),
+        _ => further_turns(alloc, body, rows, most as usize, text, starts),
     }
 }
 

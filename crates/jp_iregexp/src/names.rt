@@ -3,7 +3,7 @@
 ghost use Rattle.std.specs.Prelude.{◌≡◌, option_map, map};
 ghost use Rattle.jp_model.specs.Characters.{text_equal};
 ghost use Rattle.jp_model.specs.Pattern.Classes.{look_up, property_named};
-ghost use Rattle.jp_iregexp.specs.Trees.{property_of};
+ghost use Rattle.jp_iregexp.specs.Nodes.{property_of};
 ghost use Rattle.jp_iregexp.specs.Names.{letters_of, entry_of};
 
 use crate::class::Property;

@@ -4,7 +4,7 @@
 ghost use Rattle.std.specs.Prelude.{◌≡◌, option_map, option_and_then, IfOk, count_by, ◌==◌};
 ghost use Rattle.jp_model.specs.Pattern.Groups.{pattern_of_tokens};
 ghost use Rattle.jp_model.specs.Pattern.Reading.{tokens_of, pattern_of};
-ghost use Rattle.jp_iregexp.specs.Trees.{tree_of};
+ghost use Rattle.jp_iregexp.specs.Nodes.{tree_of};
 
 use crate::groups::Groups;
 use crate::node::Node;

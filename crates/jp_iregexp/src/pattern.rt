@@ -4,8 +4,10 @@ ghost use Rattle.std.specs.Prelude.{◌≡◌, ◌^◌, ◌<◌, IfOk, length, o
 ghost use Rattle.std.specs.Str.{chars};
 ghost use Rattle.jp_model.specs.Pattern.Membership.{is_in, occurs_in};
 ghost use Rattle.jp_model.specs.Pattern.Reading.{pattern_of};
-ghost use Rattle.jp_iregexp.specs.Trees.{tree_of, pattern_view};
+ghost use Rattle.jp_iregexp.specs.Nodes.{tree_of};
+ghost use Rattle.jp_iregexp.specs.Trees.{pattern_view};
 
+use crate::compiled::Compiled;
 use crate::node::Node;
 use crate::parser::read_pattern;
 use crate::positions::PositionSet;
@@ -15,7 +17,7 @@ use std::alloc::{AllocError, Global};
 /// A pattern (RFC 9485, section 3).
 #[derive(Drop)]
 pub struct Pattern {
-    root: Node,
+    pub(crate) compiled: Compiled,
 }
 
 impl Pattern {
@@ -28,7 +30,10 @@ impl Pattern {
         let scalars = scalars_of(alloc, text)?;
         match read_pattern(alloc, scalars.as_slice())? {
             None => Ok(None),
-            Some(root) => Ok(Some(Pattern { root })),
+            Some(root) => {
+                let compiled = Compiled::new(alloc, root)?;
+                Ok(Some(Pattern { compiled }))
+            }
         }
     }
 
@@ -36,8 +41,11 @@ impl Pattern {
     pub fn matches(&self, alloc: Global, text: &str) -> Result<bool, AllocError>
         ensures { IfOk result (λ answer. answer ≡ is_in (pattern_view self.now) (chars text.now)) }
     {
+        if let Some(automaton) = &self.compiled.automaton {
+            return Ok(automaton.accepts(text));
+        }
         let scalars = scalars_of(alloc, text)?;
-        matches_scalars(alloc, &self.root, scalars.as_slice())
+        matches_scalars(alloc, &self.compiled.root, scalars.as_slice())
     }
 
     /// Whether some part of the text, the empty one included, is in the pattern's set. Where memory is refused the answer is
@@ -45,8 +53,11 @@ impl Pattern {
     pub fn occurs(&self, alloc: Global, text: &str) -> Result<bool, AllocError>
         ensures { IfOk result (λ answer. answer ≡ occurs_in (pattern_view self.now) (chars text.now)) }
     {
+        if let Some(automaton) = &self.compiled.automaton {
+            return Ok(automaton.finds(text));
+        }
         let scalars = scalars_of(alloc, text)?;
-        occurs_in_scalars(alloc, &self.root, scalars.as_slice())
+        occurs_in_scalars(alloc, &self.compiled.root, scalars.as_slice())
     }
 }
 
@@ -56,7 +67,7 @@ fn scalars_of(alloc: Global, text: &str) -> Result<Vec<char>, AllocError>
     text.chars().collect(alloc)
 }
 
-fn matches_scalars(alloc: Global, node: &Node, text: &[char]) -> Result<bool, AllocError>
+pub(crate) fn matches_scalars(alloc: Global, node: &Node, text: &[char]) -> Result<bool, AllocError>
     requires { length text.now < 2 ^ 63 }
     ensures { IfOk result (λ answer. answer ≡ is_in (tree_of node.now) text.now) }
 {
@@ -66,7 +77,11 @@ fn matches_scalars(alloc: Global, node: &Node, text: &[char]) -> Result<bool, Al
     Ok(reached.contains(text.len()))
 }
 
-fn occurs_in_scalars(alloc: Global, node: &Node, text: &[char]) -> Result<bool, AllocError>
+pub(crate) fn occurs_in_scalars(
+    alloc: Global,
+    node: &Node,
+    text: &[char],
+) -> Result<bool, AllocError>
     requires { length text.now < 2 ^ 63 }
     ensures { IfOk result (λ answer. answer ≡ occurs_in (tree_of node.now) text.now) }
 {

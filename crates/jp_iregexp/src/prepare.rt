@@ -7,7 +7,7 @@ ghost use Rattle.jp_model.specs.Pattern.Language.{Language};
 ghost use Rattle.jp_model.specs.Pattern.Tree.{times};
 ghost use Rattle.jp_iregexp.specs.Positions.{IsSetOver, AreEnds};
 ghost use Rattle.jp_iregexp.specs.Tables.{Kept, KeptList, KeptRows};
-ghost use Rattle.jp_iregexp.specs.Trees.{tree_of};
+ghost use Rattle.jp_iregexp.specs.Nodes.{tree_of};
 
 use crate::matcher::ends;
 use crate::node::Node;

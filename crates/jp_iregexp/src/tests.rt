@@ -1,4 +1,5 @@
 use super::*;
+use crate::pattern::{matches_scalars, occurs_in_scalars};
 use std::alloc::{AllocError, Global};
 use std::test::Fail;
 
@@ -348,12 +349,83 @@ fn runs_of_a_class_take_one_pass(rt: HostRuntime) -> Result<(), Fail> {
         ("x*y*x*", true, true),
         ("x*y+", false, false),
         ("[a-w]*", false, true),
+        (".{1,100000}", true, true),
+        (".{0,99999}", false, true),
     ] {
         assert_eq!(rt;
             matches(rt.alloc(), pattern, text.as_str())?,
             Some(is_match)
         );
         assert_eq!(rt; occurs(rt.alloc(), pattern, text.as_str())?, Some(is_found));
+    }
+    Ok(())
+}
+
+// Whether the pattern answers for the text as its tree does, position by position.
+fn answers_as_its_tree(alloc: Global, pattern: &str, text: &str) -> Result<bool, AllocError> {
+    let Some(found) = Pattern::parse(alloc, pattern)? else {
+        return Ok(false);
+    };
+    let scalars: Vec<char> = text.chars().collect(alloc)?;
+    let root = &found.compiled.root;
+    let is_match = matches_scalars(alloc, root, scalars.as_slice())?;
+    let is_found = occurs_in_scalars(alloc, root, scalars.as_slice())?;
+    Ok(found.matches(alloc, text)? == is_match && found.occurs(alloc, text)? == is_found)
+}
+
+#[test]
+fn places_answer_as_positions_do(rt: HostRuntime) -> Result<(), Fail> {
+    for (size, end) in [
+        (0usize, ""),
+        (0, "b"),
+        (62, ""),
+        (62, "b"),
+        (62, "aé"),
+        (64, "\n"),
+        (999, "é"),
+    ] {
+        let mut text = repeated(rt.alloc(), "a", size)?;
+        text.push_str(end)?;
+        for pattern in [
+            "",
+            "a|",
+            "a*",
+            "a*[b\n]?",
+            "[^b]*",
+            "(a|é)*",
+            "(a?|b)*é?",
+            "((a*)*b?)*",
+            ".*a.{2}",
+            "a?(\\p{Ll}|\n)+",
+            ".{62,63}",
+            ".{63}",
+            ".{64}",
+            "(aa|a?b){0,31}",
+            "b|a+é",
+        ] {
+            assert!(rt; answers_as_its_tree(rt.alloc(), pattern, text.as_str())?);
+        }
+    }
+    Ok(())
+}
+
+#[test]
+fn small_patterns_have_places(rt: HostRuntime) -> Result<(), Fail> {
+    for (pattern, is_small) in [
+        ("", true),
+        ("((a*)*)+", true),
+        (".{63}", true),
+        (".{64}", false),
+        ("x{60}(y|z|.)", true),
+        ("x{60}(y|z|.)*\\p{L}", false),
+        ("(é?){0,63}", true),
+        ("(){999999999}", false),
+    ] {
+        let is_laid_out = match Pattern::parse(rt.alloc(), pattern)? {
+            None => false,
+            Some(found) => found.compiled.automaton.is_some(),
+        };
+        assert_eq!(rt; is_laid_out, is_small);
     }
     Ok(())
 }

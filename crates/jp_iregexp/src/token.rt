@@ -4,7 +4,7 @@
 ghost use Rattle.std.specs.Prelude.{◌≡◌, option_map, IfOk};
 ghost use Rattle.jp_model.specs.Pattern.Reading.{read_token, one_item};
 ghost use Rattle.jp_iregexp.specs.Tokens.{token_of, read_longer_token};
-ghost use Rattle.jp_iregexp.specs.Trees.{item_of};
+ghost use Rattle.jp_iregexp.specs.Nodes.{item_of};
 
 use crate::brackets::read_brackets;
 use crate::class::{Class, Item};

@@ -2,7 +2,7 @@ use Rattle.std.proofs.Common.{◌≡◌, ◌∷◌, [], ◌-◌, length, List, �
 use Rattle.jp_model.specs.Pattern.Reading.{then_read, read_items}
 use Rattle.jp_model.specs.Pattern.Tree.{Item as TreeItem}
 use Rattle.jp_iregexp.specs.declared.class.Item.{Item}
-use Rattle.jp_iregexp.specs.Trees.{item_of}
+use Rattle.jp_iregexp.specs.Nodes.{item_of}
 use Rattle.jp_iregexp.specs.Tokens.{first_of}
 use Rattle.jp_iregexp.proofs.Readers.{members_read, in_front}
 use Rattle.jp_iregexp.proofs.brackets.read_in_brackets.Goals as goal

@@ -2,7 +2,7 @@ use Rattle.std.proofs.Common.{◌≡◌, ◌∷◌, [], ◌+◌, ◌-◌, map, S
 use Rattle.std.proofs.lemmas.List.{map-append}
 use Rattle.jp_iregexp.specs.declared.class.Item.TheVariants.{Range as RangeItem}
 use Rattle.jp_iregexp.specs.declared.brackets.Next.TheVariants.{Item as ItemNext, Hyphen as HyphenNext, End as EndNext}
-use Rattle.jp_iregexp.specs.Trees.{item_of}
+use Rattle.jp_iregexp.specs.Nodes.{item_of}
 use Rattle.jp_iregexp.proofs.Readers.{turn_taken, item_taken}
 use Rattle.jp_iregexp.proofs.brackets.read_more.Goals as goal
 

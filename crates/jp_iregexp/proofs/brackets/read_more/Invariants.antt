@@ -1,6 +1,6 @@
 use Rattle.std.proofs.Common.{◌≡◌, ◌++◌, ◌-◌, map, Some}
 use Rattle.jp_model.specs.Pattern.Reading.{then_read, read_items}
-use Rattle.jp_iregexp.specs.Trees.{item_of}
+use Rattle.jp_iregexp.specs.Nodes.{item_of}
 use Rattle.jp_iregexp.proofs.brackets.read_more.Given as goal
 
 abbrev pub invariant-loop-turn : goal.invariant-loop-turn

@@ -4,7 +4,7 @@ use Rattle.jp_iregexp.specs.declared.positions.PositionSet.{PositionSet}
 use Rattle.jp_model.specs.Pattern.Language.{Language, Repeats, RepeatsWithin}
 use Rattle.jp_model.specs.Pattern.Tree.{Pattern}
 use Rattle.jp_iregexp.specs.Positions.{AreEnds}
-use Rattle.jp_iregexp.specs.Trees.{tree_of, sequence_list, choice_list}
+use Rattle.jp_iregexp.specs.Nodes.{tree_of, sequence_list, choice_list}
 use Rattle.jp_iregexp.proofs.Parts.{tree_of_Sequence, tree_of_Choice, drop_item, drop_past, if_ok_map}
 use Rattle.jp_iregexp.proofs.Turns.{sequence_step, sequence_end, gather_step, gather_end, exact_start, exact_step, exact_exit, exact_end, further_start, further_step, further_exit, further_end, times_some, times_none, any_number}
 use Rattle.jp_iregexp.specs.Tables.{Kept, KeptList}
@@ -98,9 +98,9 @@ repeated_ends-returns-in_ok-reached-in-Some t c =
     let least = c.args.least in
     let most = c.in-Some.most in
     let enough : least ≤ most = omega arith in
-    subst (λ (m : Option ℕ). IfOk c.further_turns.result (λ (out : PositionSet). AreEnds (RepeatsWithin member least m) text starts out.words.items)) (sym c.in-Some.is)
-    (if_ok_map (λ (out : PositionSet). AreEnds (RepeatsWithin member 0 (Some (most - least))) text reached out.words.items) (λ (out : PositionSet). AreEnds (RepeatsWithin member least (Some most)) text starts out.words.items) c.further_turns.result
-    (λ out b. times_some member least most text starts reached out.words.items enough c.in_ok-reached-in-Some.ensures b) c.further_turns.ensures)
+    subst (λ (m : Option ℕ). IfOk c.up_to_turns.result (λ (out : PositionSet). AreEnds (RepeatsWithin member least m) text starts out.words.items)) (sym c.in-Some.is)
+    (if_ok_map (λ (out : PositionSet). AreEnds (RepeatsWithin member 0 (Some (most - least))) text reached out.words.items) (λ (out : PositionSet). AreEnds (RepeatsWithin member least (Some most)) text starts out.words.items) c.up_to_turns.result
+    (λ out b. times_some member least most text starts reached out.words.items enough c.in_ok-reached-in-Some.ensures b) c.up_to_turns.ensures)
 
 pub repeated_ends-returns-in_ok-reached-in-None : goal.repeated_ends-returns-in_ok-reached-in-None
 repeated_ends-returns-in_ok-reached-in-None t c =

@@ -1,6 +1,6 @@
 use Rattle.std.proofs.Common.{◌-◌, drop, Some}
 use Rattle.jp_model.specs.Pattern.Language.{Language, Repeats, RepeatsWithin}
-use Rattle.jp_iregexp.specs.Trees.{tree_of, sequence_list}
+use Rattle.jp_iregexp.specs.Nodes.{tree_of, sequence_list}
 use Rattle.jp_iregexp.proofs.Turns.{Continues, Gathers}
 use Rattle.jp_iregexp.proofs.matcher.+ends.Given as goal
 

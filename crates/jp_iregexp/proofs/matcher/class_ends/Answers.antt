@@ -1,7 +1,7 @@
 use Rattle.std.proofs.Common.{◌≡◌, ℕ, ◌<◌, length, get_or, IsTrue, true, rules, sym, ◌∙◌, ap}
 use Rattle.std.proofs.lemmas.List.{get_or_read}
 use Rattle.jp_model.specs.Pattern.Classes.{in_class}
-use Rattle.jp_iregexp.specs.Trees.{class_of}
+use Rattle.jp_iregexp.specs.Nodes.{class_of}
 use Rattle.jp_iregexp.proofs.Reaching.{below_insert, below_skip, below_all}
 use Rattle.jp_iregexp.proofs.matcher.class_ends.Goals as goal
 use Rattle.jp_iregexp.proofs.matcher.class_ends.Goals.{then-contains+then-contains-2, else-contains, else-contains-via-then-contains+else-contains-2, else-contains-via-else-contains}

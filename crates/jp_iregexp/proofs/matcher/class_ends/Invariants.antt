@@ -1,6 +1,6 @@
 use Rattle.jp_model.specs.Pattern.Language.{Language}
 use Rattle.jp_model.specs.Pattern.Tree.{one_of}
-use Rattle.jp_iregexp.specs.Trees.{class_of}
+use Rattle.jp_iregexp.specs.Nodes.{class_of}
 use Rattle.jp_iregexp.proofs.Reaching.{EndsBelow}
 use Rattle.jp_iregexp.proofs.matcher.class_ends.Given as goal
 

@@ -3,7 +3,7 @@ use Rattle.jp_model.specs.Pattern.Language.{Language}
 use Rattle.jp_model.specs.Pattern.Membership.{is_in}
 use Rattle.jp_model.proofs.Pattern.Decides.{decides}
 use Rattle.jp_iregexp.specs.Positions.{Has}
-use Rattle.jp_iregexp.specs.Trees.{tree_of}
+use Rattle.jp_iregexp.specs.Nodes.{tree_of}
 use Rattle.jp_iregexp.proofs.Asked.{whole_sound, whole_complete, same_test}
 use Rattle.jp_iregexp.proofs.pattern.matches_scalars.Goals as goal
 

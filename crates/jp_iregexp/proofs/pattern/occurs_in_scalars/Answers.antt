@@ -2,7 +2,7 @@ use Rattle.std.proofs.Common.{◌≡◌, ◌↔◌, true}
 use Rattle.jp_model.specs.Pattern.Language.{Language, Occurs}
 use Rattle.jp_model.specs.Pattern.Membership.{occurs_in}
 use Rattle.jp_model.proofs.Pattern.Occurrences.{occurrence_decided}
-use Rattle.jp_iregexp.specs.Trees.{tree_of}
+use Rattle.jp_iregexp.specs.Nodes.{tree_of}
 use Rattle.jp_iregexp.proofs.Asked.{some_sound, some_complete, same_test}
 use Rattle.jp_iregexp.proofs.pattern.occurs_in_scalars.Goals as goal
 

@@ -1,6 +1,6 @@
 use Rattle.std.proofs.Common.{map, sym, ◌∙◌, ap, subst, arith}
 use Rattle.jp_iregexp.specs.Tables.{KeptList}
-use Rattle.jp_iregexp.specs.Trees.{tree_of}
+use Rattle.jp_iregexp.specs.Nodes.{tree_of}
 use Rattle.jp_iregexp.proofs.Keeping.{to_Sequence, to_Choice, same_sequence, same_choice, kept_push, same_push}
 use Rattle.jp_iregexp.proofs.prepare.+prepare.Goals as goal
 

@@ -1,6 +1,6 @@
 use Rattle.std.proofs.Common.{◌≡◌, take, map}
 use Rattle.jp_iregexp.specs.Tables.{KeptList}
-use Rattle.jp_iregexp.specs.Trees.{tree_of}
+use Rattle.jp_iregexp.specs.Nodes.{tree_of}
 use Rattle.jp_iregexp.proofs.prepare.+prepare.Given as goal
 
 abbrev pub invariant-prepare_parts-loop-part : goal.invariant-prepare_parts-loop-part

@@ -1,6 +1,6 @@
 use Rattle.std.proofs.Common.{IsTrue}
 use Rattle.jp_model.specs.Pattern.Classes.{in_class}
-use Rattle.jp_iregexp.specs.Trees.{class_of}
+use Rattle.jp_iregexp.specs.Nodes.{class_of}
 use Rattle.jp_iregexp.proofs.OnePass.{RunsBelow}
 use Rattle.jp_iregexp.proofs.runs.run_ends.Given as goal
 

@@ -1,7 +1,7 @@
 use Rattle.std.proofs.Common.{◌≡◌, ℕ, inl, inr}
 use Rattle.jp_model.specs.Pattern.Language.{Language}
 use Rattle.jp_iregexp.specs.Positions.{Has}
-use Rattle.jp_iregexp.specs.Trees.{tree_of}
+use Rattle.jp_iregexp.specs.Nodes.{tree_of}
 use Rattle.jp_iregexp.proofs.Rows.{from_one, rows_push}
 use Rattle.jp_iregexp.proofs.table.table.Goals as goal
 

@@ -1,5 +1,5 @@
 use Rattle.jp_model.specs.Pattern.Language.{Language}
-use Rattle.jp_iregexp.specs.Trees.{tree_of}
+use Rattle.jp_iregexp.specs.Nodes.{tree_of}
 use Rattle.jp_iregexp.proofs.Rows.{RowsBelow}
 use Rattle.jp_iregexp.proofs.table.table.Given as goal
 

@@ -1,6 +1,6 @@
 use Rattle.std.proofs.Common.{◌+◌, ◌≤◌, length, arith}
 use Rattle.jp_model.specs.Pattern.Language.{Language}
-use Rattle.jp_iregexp.specs.Trees.{tree_of}
+use Rattle.jp_iregexp.specs.Nodes.{tree_of}
 use Rattle.jp_iregexp.proofs.Rows.{row_skip, row_add, row_all}
 use Rattle.jp_iregexp.proofs.table.turn_by.Goals as goal
 use Rattle.jp_iregexp.proofs.table.turn_by.Goals.{then-contains, else-contains}

@@ -1,0 +1,20 @@
+-- The places of a program's parts.
+use Rattle.std.specs.Prelude.{ℕ, zero, suc, ◌≡◌, Bool, List, ◌++◌, map}
+use Rattle.jp_model.specs.Pattern.Language.{Splits}
+use Rattle.jp_iregexp.specs.declared.automaton.Place.{Place as ProgramPlace}
+use Rattle.jp_iregexp.specs.Places.{Place, IsLaidOut}
+use Rattle.jp_iregexp.specs.Nodes.{class_of}
+
+abbrev pub place_of : ProgramPlace → Place
+place_of p = record { class = class_of p.class; behind = p.after }
+
+-- the part is laid out behind the places that were there
+pub record LaidOnto (old new : List ProgramPlace) (Member : List ℕ → Type 0) (behind first : ℕ) (has_empty : Bool) : Type 0 where
+  pub extra : List ProgramPlace
+  pub grown : new ≡ old ++ extra
+  pub laid : IsLaidOut (map place_of new) Member behind first has_empty
+
+-- so many members, and then a member of the other set
+abbrev pub Turns : (Member Rest : List ℕ → Type 0) → ℕ → List ℕ → Type 0
+Turns Member Rest zero text = Rest text
+Turns Member Rest (suc count) text = Splits Member (Turns Member Rest count) text

@@ -1,0 +1,206 @@
+//! A pattern as places: each place waits for one scalar of its class, and says which places wait behind it. A text runs through
+//! one word, which holds the places that wait.
+
+ghost use Rattle.std.specs.Prelude.{◌≡◌, ◌↔◌, ◌<◌, ◌≤◌, ℕ, IsTrue, IfOk, Some, None, List, length, get_or, map};
+ghost use Rattle.std.specs.Option.{IfSome};
+ghost use Rattle.std.specs.Str.{chars};
+ghost use Rattle.jp_model.specs.Pattern.Language.{Occurs};
+ghost use Rattle.jp_iregexp.specs.Places.{AreMasks, AreSets, Holds, IsPassed, IsStep, Leads, WaitsBehind, waits_for};
+ghost use Rattle.jp_iregexp.specs.Layouts.{place_of};
+
+use crate::class::Class;
+use crate::codes::codes_of;
+use std::alloc::{AllocError, Global};
+
+/// The bit of the end of the text.
+pub(crate) const END: u64 = 1 << 63;
+
+/// As many places as there may be.
+pub(crate) const MOST_PLACES: usize = 63;
+
+/// One place.
+#[derive(Drop)]
+pub(crate) struct Place {
+    pub(crate) class: Class,
+    pub(crate) after: u64,
+}
+
+/// The places of a pattern, and those that wait at the start of a text.
+#[derive(Drop)]
+pub(crate) struct Automaton {
+    pub(crate) places: Vec<Place>,
+    pub(crate) starts: u64,
+    /// By place what waits behind it.
+    after: Vec<u64>,
+    /// By ASCII scalar the places whose class has it.
+    ascii: Vec<u64>,
+    ghost behind: { after.items ≡ map (λ p. p.after) places.items },
+    ghost masks: { AreMasks (map place_of places.items) ascii.items },
+}
+
+impl Automaton {
+    /// Where memory is refused the answer is an error.
+    pub(crate) fn new(
+        alloc: Global,
+        places: Vec<Place>,
+        starts: u64,
+    ) -> Result<Automaton, AllocError>
+        requires { length places.items ≤ 63 }
+        ensures places { IfOk result (λ automaton. automaton.places.items ≡ places.items) }
+        ensures starts { IfOk result (λ automaton. automaton.starts ≡ starts) }
+    {
+        let after = words_after(alloc, places.as_slice())?;
+        let ascii = ascii_masks(alloc, places.as_slice())?;
+        Ok(Automaton {
+            places,
+            starts,
+            after,
+            ascii,
+        })
+    }
+
+    /// What waits behind the scalar.
+    fn step(&self, waiting: u64, scalar: char) -> u64
+        ensures { IsStep (map place_of self.now.places.items) waiting scalar result }
+    {
+        match self.ascii.get(scalar as usize) {
+            Some(having) => behind(self.after.as_slice(), waiting & *having),
+            None => asked_step(self.places.as_slice(), waiting, scalar),
+        }
+    }
+
+    /// Whether the text leads from the start to the end.
+    pub(crate) fn accepts(&self, text: &str) -> bool
+        ensures { IsTrue result ↔ Leads (map place_of self.now.places.items) self.now.starts (chars text.now) }
+    {
+        let mut waiting = self.starts;
+        for scalar in text.chars() {
+            waiting = self.step(waiting, scalar);
+            if waiting == 0 {
+                return false;
+            }
+        }
+        (waiting >> 63) & 1 == 1
+    }
+
+    /// Whether a part of the text leads from the start to the end.
+    pub(crate) fn finds(&self, text: &str) -> bool
+        ensures { IsTrue result ↔ Occurs (Leads (map place_of self.now.places.items) self.now.starts) (chars text.now) }
+    {
+        let mut waiting = self.starts;
+        for scalar in text.chars() {
+            if (waiting >> 63) & 1 == 1 {
+                return true;
+            }
+            waiting = self.step(waiting, scalar) | self.starts;
+        }
+        (waiting >> 63) & 1 == 1
+    }
+}
+
+fn words_after(alloc: Global, places: &[Place]) -> Result<Vec<u64>, AllocError>
+    ensures { IfOk result (λ words. words.items ≡ map (λ p. p.after) places.now) }
+{
+    let mut words = Vec::new(alloc);
+    words.reserve(places.len())?;
+    for place in places {
+        words.push(place.after)?;
+    }
+    Ok(words)
+}
+
+// By ASCII scalar the places that wait for it.
+fn ascii_masks(alloc: Global, places: &[Place]) -> Result<Vec<u64>, AllocError>
+    requires { length places.now ≤ 63 }
+    ensures { IfOk result (λ masks. AreMasks (map place_of places.now) masks.items) }
+{
+    let sets = ascii_sets(alloc, places)?;
+    let mut masks = Vec::new(alloc);
+    masks.reserve(128)?;
+    for code in 0u8..128 {
+        masks.push(having(places, sets.as_slice(), code))?;
+    }
+    Ok(masks)
+}
+
+fn ascii_sets(alloc: Global, places: &[Place]) -> Result<Vec<u128>, AllocError>
+    ensures { IfOk result (λ sets. AreSets (map place_of places.now) sets.items) }
+{
+    let mut sets = Vec::new(alloc);
+    sets.reserve(places.len())?;
+    for place in places {
+        sets.push(codes_of(&place.class))?;
+    }
+    Ok(sets)
+}
+
+// The places that wait for a scalar.
+fn having(_places: &[Place], sets: &[u128], code: u8) -> u64
+    requires few { length sets.now ≤ 63 }
+    requires sets { AreSets (map place_of _places.now) sets.now }
+    requires ascii { code < 128 }
+    ensures { (number : ℕ) → Holds result number ↔ IsTrue (waits_for (map place_of _places.now) number code) }
+{
+    let mut all = 0;
+    for (number, codes) in sets.iter().enumerate() {
+        if (*codes >> code) & 1 == 1 {
+            all |= 1 << number;
+        }
+    }
+    all
+}
+
+// What waits behind any of the places that are ready.
+#[inline(always)]
+fn behind(after: &[u64], ready: u64) -> u64
+    ensures { (q : ℕ) → Holds result q ↔ WaitsBehind after.now ready q }
+{
+    let mut next = 0;
+    let mut rest = ready;
+    while rest != 0 {
+        next |= word_after(after, rest.trailing_zeros() as usize);
+        rest &= rest - 1;
+    }
+    next
+}
+
+#[inline(always)]
+fn word_after(after: &[u64], number: usize) -> u64
+    ensures { result ≡ get_or after.now number 0 }
+{
+    match after.get(number) {
+        Some(word) => *word,
+        None => 0,
+    }
+}
+
+// What waits behind the scalar: each place that waits is asked.
+fn asked_step(places: &[Place], waiting: u64, scalar: char) -> u64
+    ensures { IsStep (map place_of places.now) waiting scalar result }
+{
+    let mut next = 0;
+    let mut rest = waiting;
+    while rest != 0 {
+        if let Some(behind) = asked(places, rest.trailing_zeros() as usize, scalar) {
+            next |= behind;
+        }
+        rest &= rest - 1;
+    }
+    next
+}
+
+// What waits behind a place, where it passes.
+fn asked(places: &[Place], number: usize, scalar: char) -> Option<u64>
+    ensures some { IfSome result (λ behind. IsPassed (map place_of places.now) number scalar behind) }
+    ensures none { result ≡ None → (behind : ℕ) → IsPassed (map place_of places.now) number scalar behind → ⊥ }
+{
+    let Some(place) = places.get(number) else {
+        return None;
+    };
+    let after = place.after;
+    if place.class.contains(scalar) {
+        Some(after)
+    } else {
+        None
+    }
+}
