@@ -14,13 +14,13 @@ use Rattle.jp_model.specs.Meaning.Functions.{value_function, logical_function}
 use Rattle.jp_model.specs.Meaning.Selecting.{given, call_value, call_truth}
 use Rattle.jp_model.specs.Query.Syntax as syntax
 use Rattle.jp_model.proofs.Seek.{text_same}
-use Rattle.jp_query.specs.View.{call_view, arguments_view}
-use Rattle.jp_query.specs.declared.tree.Call.{Call}
-use Rattle.jp_query.specs.declared.tree.Argument.{Argument}
+use Rattle.jp_eval.specs.Programs.{Table, invoked_view, givens_view}
+use Rattle.jp_eval.specs.declared.program.Invoked.{Invoked}
+use Rattle.jp_eval.specs.declared.program.Given.{Given}
 use Rattle.jp_eval.specs.declared.functions.Function.{Function}
 use Rattle.jp_eval.specs.declared.functions.Function.TheVariants as functions
 use Rattle.jp_eval.specs.Functions.{function_named}
-use Rattle.jp_eval.proofs.Views.{call_viewed}
+use Rattle.jp_eval.proofs.Compiled.{invoked_is}
 
 -- the name of a function
 abbrev pub name_of : Function → List ℕ
@@ -52,44 +52,50 @@ named_so f o h = by (text_equal f (codes "length")) (text_equal f (codes "count"
     by false false false false false a b c d e h = absurd (cc)
 
 -- a call of one of the functions, with its arguments
-pub called : (c : Call) (name : List ℕ) (items : List Argument) (o : Function) → name ≡ string_bytes c.name → items ≡ c.arguments.items → function_named (chars name) ≡ Some o
-    → call_view c ≡ syntax.call (name_of o) (arguments_view items)
-called c name items o e f h =
-    call_viewed c
-    ∙ ap₂ (λ (x : List ℕ) (y : List Argument). syntax.call x (arguments_view y)) (ap chars (sym e) ∙ named_so (chars name) o h) (sym f)
+pub called : (table : Table) (c : Invoked) (items : List Given) (o : Function) → items ≡ c.arguments.items → c.named.function ≡ Some o
+    → invoked_view table c ≡ syntax.call (name_of o) (givens_view table items)
+called table c items o f h =
+    invoked_is table c
+    ∙ ap₂ (λ (x : List ℕ) (y : List Given). syntax.call x (givens_view table y)) (named_so (chars (string_bytes c.named.name)) o (sym c.named.known ∙ h)) (sym f)
 
 -- with no function of one argument, or of two
-few : (items : List Argument) (n : Node) (t : Tree) → length items < 2 → (f : List ℕ) → false ≡ logical_function f (given (arguments_view items) n t)
-few [] n t h f = refl
-few (a ∷ []) n t h f = refl
-few (a ∷ b ∷ items) n t h f = absurd (omega (arith, h))
+few : (table : Table) (items : List Given) (n : Node) (t : Tree) → length items < 2 → (f : List ℕ) → false ≡ logical_function f (given (givens_view table items) n t)
+few table [] n t h f = refl
+few table (a ∷ []) n t h f = refl
+few table (a ∷ b ∷ items) n t h f = absurd (omega (arith, h))
 
-many : (items : List Argument) (n : Node) (t : Tree) → 3 ≤ length items → (f : List ℕ) → false ≡ logical_function f (given (arguments_view items) n t)
-many [] n t h f = refl
-many (a ∷ []) n t h f = refl
-many (a ∷ b ∷ []) n t h f = absurd (omega (arith, h))
-many (a ∷ b ∷ d ∷ items) n t h f = refl
+many : (table : Table) (items : List Given) (n : Node) (t : Tree) → 3 ≤ length items → (f : List ℕ) → false ≡ logical_function f (given (givens_view table items) n t)
+many table [] n t h f = refl
+many table (a ∷ []) n t h f = refl
+many table (a ∷ b ∷ []) n t h f = absurd (omega (arith, h))
+many table (a ∷ b ∷ d ∷ items) n t h f = refl
 
-pub few_called : (c : Call) (items : List Argument) (n : Node) (t : Tree) → items ≡ c.arguments.items → length items < 2 → false ≡ call_truth (call_view c) n t
-few_called c items n t e h = few items n t h (chars (string_bytes c.name)) ∙ (ap (λ (y : List Argument). logical_function (chars (string_bytes c.name)) (given (arguments_view y) n t)) e ∙ sym (ap (λ (v : syntax.Call). call_truth v n t) (call_viewed c)))
+by_arguments : (table : Table) (c : Invoked) (items : List Given) (n : Node) (t : Tree) → items ≡ c.arguments.items → logical_function (chars (string_bytes c.named.name)) (given (givens_view table items) n t) ≡ call_truth (invoked_view table c) n t
+by_arguments table c items n t e = ap (λ (y : List Given). logical_function (chars (string_bytes c.named.name)) (given (givens_view table y) n t)) e ∙ sym (ap (λ (v : syntax.Call). call_truth v n t) (invoked_is table c))
 
-pub many_called : (c : Call) (items : List Argument) (n : Node) (t : Tree) → items ≡ c.arguments.items → 3 ≤ length items → false ≡ call_truth (call_view c) n t
-many_called c items n t e h = many items n t h (chars (string_bytes c.name)) ∙ (ap (λ (y : List Argument). logical_function (chars (string_bytes c.name)) (given (arguments_view y) n t)) e ∙ sym (ap (λ (v : syntax.Call). call_truth v n t) (call_viewed c)))
+pub few_called : (table : Table) (c : Invoked) (items : List Given) (n : Node) (t : Tree) → items ≡ c.arguments.items → length items < 2 → false ≡ call_truth (invoked_view table c) n t
+few_called table c items n t e h = few table items n t h (chars (string_bytes c.named.name)) ∙ by_arguments table c items n t e
 
-none_of : (items : List Argument) (n : Node) (t : Tree) → length items < 1 → (f : List ℕ) → None ≡ value_function f (given (arguments_view items) n t)
-none_of [] n t h f = refl
-none_of (a ∷ items) n t h f = absurd (omega (arith, h))
+pub many_called : (table : Table) (c : Invoked) (items : List Given) (n : Node) (t : Tree) → items ≡ c.arguments.items → 3 ≤ length items → false ≡ call_truth (invoked_view table c) n t
+many_called table c items n t e h = many table items n t h (chars (string_bytes c.named.name)) ∙ by_arguments table c items n t e
 
-several : (items : List Argument) (n : Node) (t : Tree) → 2 ≤ length items → (f : List ℕ) → None ≡ value_function f (given (arguments_view items) n t)
-several [] n t h f = refl
-several (a ∷ []) n t h f = absurd (omega (arith, h))
-several (a ∷ b ∷ items) n t h f = refl
+none_of : (table : Table) (items : List Given) (n : Node) (t : Tree) → length items < 1 → (f : List ℕ) → None ≡ value_function f (given (givens_view table items) n t)
+none_of table [] n t h f = refl
+none_of table (a ∷ items) n t h f = absurd (omega (arith, h))
 
-pub none_called : (c : Call) (items : List Argument) (n : Node) (t : Tree) → items ≡ c.arguments.items → length items < 1 → None ≡ call_value (call_view c) n t
-none_called c items n t e h = none_of items n t h (chars (string_bytes c.name)) ∙ (ap (λ (y : List Argument). value_function (chars (string_bytes c.name)) (given (arguments_view y) n t)) e ∙ sym (ap (λ (v : syntax.Call). call_value v n t) (call_viewed c)))
+several : (table : Table) (items : List Given) (n : Node) (t : Tree) → 2 ≤ length items → (f : List ℕ) → None ≡ value_function f (given (givens_view table items) n t)
+several table [] n t h f = refl
+several table (a ∷ []) n t h f = absurd (omega (arith, h))
+several table (a ∷ b ∷ items) n t h f = refl
 
-pub several_called : (c : Call) (items : List Argument) (n : Node) (t : Tree) → items ≡ c.arguments.items → 2 ≤ length items → None ≡ call_value (call_view c) n t
-several_called c items n t e h = several items n t h (chars (string_bytes c.name)) ∙ (ap (λ (y : List Argument). value_function (chars (string_bytes c.name)) (given (arguments_view y) n t)) e ∙ sym (ap (λ (v : syntax.Call). call_value v n t) (call_viewed c)))
+values_by_arguments : (table : Table) (c : Invoked) (items : List Given) (n : Node) (t : Tree) → items ≡ c.arguments.items → value_function (chars (string_bytes c.named.name)) (given (givens_view table items) n t) ≡ call_value (invoked_view table c) n t
+values_by_arguments table c items n t e = ap (λ (y : List Given). value_function (chars (string_bytes c.named.name)) (given (givens_view table y) n t)) e ∙ sym (ap (λ (v : syntax.Call). call_value v n t) (invoked_is table c))
+
+pub none_called : (table : Table) (c : Invoked) (items : List Given) (n : Node) (t : Tree) → items ≡ c.arguments.items → length items < 1 → None ≡ call_value (invoked_view table c) n t
+none_called table c items n t e h = none_of table items n t h (chars (string_bytes c.named.name)) ∙ values_by_arguments table c items n t e
+
+pub several_called : (table : Table) (c : Invoked) (items : List Given) (n : Node) (t : Tree) → items ≡ c.arguments.items → 2 ≤ length items → None ≡ call_value (invoked_view table c) n t
+several_called table c items n t e h = several table items n t h (chars (string_bytes c.named.name)) ∙ values_by_arguments table c items n t e
 
 -- ---- a name in UTF-8
 

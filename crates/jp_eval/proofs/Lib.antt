@@ -13,5 +13,9 @@ pub mod Descendants
 pub mod Counts
 pub mod NoMembers
 pub mod Slices
-pub mod Readable
+pub mod Meanings
+pub mod Compiled
+pub mod Patterns
+pub mod Answered
+pub mod Entered
 pub mod Following

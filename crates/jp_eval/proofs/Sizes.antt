@@ -24,7 +24,7 @@ abbrev mutual
   size_of_logical (and_all ls) = size_of_logicals ls + 1
   size_of_logical (negated l) = size_of_logical l + 1
   size_of_logical (compare a op b) = size_of_comparable a + size_of_comparable b + 1
-  size_of_logical (exists p) = size_of_path p + 2
+  size_of_logical (exists p) = size_of_path p + 3
   size_of_logical (test c) = size_of_call c + 1
 
   pub size_of_logicals : Logicals → ℕ
@@ -33,7 +33,7 @@ abbrev mutual
 
   pub size_of_comparable : Comparable → ℕ
   size_of_comparable (constant c) = 0
-  size_of_comparable (single p) = size_of_path p + 2
+  size_of_comparable (single p) = size_of_path p + 3
   size_of_comparable (result c) = size_of_call c + 1
 
   pub size_of_path : Path → ℕ
@@ -48,6 +48,6 @@ abbrev mutual
 
   pub size_of_argument : Argument → ℕ
   size_of_argument (constant_argument c) = 0
-  size_of_argument (nodes_argument p) = size_of_path p + 2
+  size_of_argument (nodes_argument p) = size_of_path p + 3
   size_of_argument (condition l) = size_of_logical l + 1
   size_of_argument (result_argument c) = size_of_call c + 1

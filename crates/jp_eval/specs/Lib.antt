@@ -3,9 +3,8 @@ pub mod Found
 pub mod Expressions
 pub mod Functions
 pub mod Walks
-pub mod Literals
-pub mod Patterns
-pub mod Asked
-pub mod Prepared
+pub mod Programs
+pub mod Compiled
 pub mod Answers
+pub mod Frames
 pub mod Steps

@@ -1,72 +1,67 @@
-//! The answers to what is asked of queries from the root of a line.
+//! What was answered of queries from the root.
 
-ghost use Rattle.std.specs.Prelude.{◌≡◌, true, IfOk, OnOk};
-ghost use Rattle.jp_eval.specs.Answers.{IsRight, AreRight, HasRightAnswers};
-ghost use Rattle.jp_eval.specs.Expressions.{readable};
-ghost use Rattle.jp_eval.specs.Found.{Adds};
-ghost use Rattle.jp_model.specs.Query.Limits.{path_passes};
-ghost use Rattle.jp_query.specs.View.{path_view};
-ghost use Rattle.jp_tape.specs.Cursors.{line_of, node_of, place_of};
+ghost use Rattle.std.specs.Prelude.{◌≡◌, ◌∷◌, [], slice_get, IfOk, IfSome};
+ghost use Rattle.jp_eval.specs.Answers.{IsAnswer};
+ghost use Rattle.jp_eval.specs.Frames.{table_in, slot_nodes, reached, AreKept};
+ghost use Rattle.jp_eval.specs.Programs.{segments_or_none, steps_view};
+ghost use Rattle.jp_eval.specs.declared.frame.Run.{Run as AnyRun};
+ghost use Rattle.jp_tape.specs.Cursors.{node_of};
 
-use crate::asked::{Answer, Asked, Question};
-use crate::evaluate::{count_nodes, has_node, single_value};
-use crate::functions::length_of;
-use crate::prepared::Prepared;
-use crate::scope::Scope;
-use jp_tape::Cursor;
-use jp_values::Value;
+use crate::frame::{Answer, Frame, Run};
+use crate::program::Step;
 use std::alloc::{AllocError, Global};
 
-/// The answer to what is asked of a query, which begins at the root. `out` is as before: it lends its memory for a while.
-fn answer<'a>(
-    scope: Scope<'_, '_, 'a>,
-    asked: Asked<'_>,
-    out: &mut Vec<Cursor<'a>>,
-) -> Result<Answer<'a>, AllocError>
-    requires answers { HasRightAnswers scope }
-    requires literals { path_passes (path_view asked.path.now) readable ≡ true }
-    ensures kept { Adds (line_of scope.entry.root) out.old.items out.new.items }
-    ensures same { OnOk result (out.new.items ≡ out.old.items) }
-    ensures right { IfOk result (IsRight (node_of scope.entry.root) asked.entry) }
-{
-    let is_empty = !has_node(scope, asked.path, scope.root, out)?;
-    let value = match asked.question {
-        Question::Value => single_value(scope, asked.path, scope.root, out)?,
-        Question::Count => {
-            let count = count_nodes(scope, asked.path, scope.root, out)?;
-            Value::Count(count)
-        }
-        Question::Length => {
-            let value = single_value(scope, asked.path, scope.root, out)?;
-            length_of(value)
-        }
-    };
-    Ok(Answer { value, is_empty })
-}
-
-/// The answers to all that is asked, each with the help of those before it. `out` is as before: it lends its memory for a
-/// while.
-pub(crate) fn answers_of<'a>(
+/// No answer, at so many places.
+pub(crate) fn no_answers<'a>(
     alloc: Global,
-    prepared: &Prepared<'_>,
-    root: Cursor<'a>,
-    out: &mut Vec<Cursor<'a>>,
-) -> Result<Vec<Answer<'a>>, AllocError>
-    requires root { place_of root ≡ 0 }
-    ensures kept { Adds (line_of root.entry) out.old.items out.new.items }
-    ensures same { OnOk result (out.new.items ≡ out.old.items) }
-    ensures right { IfOk result (λ answers. AreRight (node_of root.entry) prepared.now.roots.asked.items answers.items) }
+    count: usize,
+) -> Result<Vec<Option<Answer<'a>>>, AllocError>
+    ensures { (run : AnyRun) → IfOk result (λ answers. AreKept run answers.items) }
 {
-    let mut answers = Vec::new(alloc);
-    for asked in &prepared.roots.asked {
-        let scope = Scope {
-            alloc,
-            prepared,
-            answers: &answers,
-            root,
-        };
-        let one = answer(scope, *asked, out)?;
-        answers.push(one)?;
+    let mut answers = Vec::with_capacity(alloc, count)?;
+    for _place in 0..count {
+        answers.push(None)?;
     }
     Ok(answers)
+}
+
+impl<'p, 'a> Run<'p, 'a> {
+    /// The query from the root at a place: its own slots, and its steps.
+    pub(crate) fn enter(self, place: usize) -> (Run<'p, 'a>, &'p [Step])
+        ensures root { result.0.root ≡ self.entry.root }
+        ensures nodes { reached result.0 result.1.now (node_of self.entry.root ∷ []) ≡ slot_nodes self.entry place }
+        ensures view { steps_view (table_in result.0) result.1.now ≡ segments_or_none (slice_get (table_in self.entry) place) }
+    {
+        match self.slots.get(place) {
+            Some(slot) => {
+                let inner = Run {
+                    alloc: self.alloc,
+                    slots: &slot.slots,
+                    root: self.root,
+                };
+                (inner, &slot.steps)
+            }
+            None => (self, &[]),
+        }
+    }
+
+    /// What was answered of the query of a slot, where it was asked before in the line.
+    pub(crate) fn kept(self, place: usize, frame: &Frame<'a>) -> Option<Answer<'a>>
+        requires { AreKept self frame.now.answers.items }
+        ensures { IfSome result (λ answer. IsAnswer (slot_nodes self.entry place) answer) }
+    {
+        frame.answers.get(place).copied()?
+    }
+
+    /// Keeps what was answered of the query of a slot.
+    pub(crate) fn keep(self, place: usize, answer: Answer<'a>, frame: &mut Frame<'a>)
+        requires kept { AreKept self frame.old.answers.items }
+        requires right { IsAnswer (slot_nodes self place) answer }
+        ensures kept { AreKept self.entry frame.new.answers.items }
+        ensures found { frame.new.found ≡ frame.old.found }
+    {
+        if place < frame.answers.len() {
+            frame.answers[place] = Some(answer);
+        }
+    }
 }

@@ -2,29 +2,19 @@
 
 ghost use Rattle.std.specs.Prelude.{◌≡◌, ℕ, false, pos, neg_ℤ, ◌-ℤ◌, ◌<ℤ◌, ◌≤ℤ◌, ◌≢◌, ◌^◌, int_le, int_lt, unwrap_or, map, IfOk, IfSome};
 ghost use Rattle.std.specs.Str.{chars};
-ghost use Rattle.jp_model.specs.Characters.{text_equal};
 ghost use Rattle.jp_model.specs.Meaning.Nodes.{step_to, children_where, child_count as count_of};
 ghost use Rattle.jp_model.specs.Json.Tree.{value_of};
 ghost use Rattle.jp_model.specs.Steps.{same_int};
 ghost use Rattle.jp_model.specs.Meaning.Slices.{named, indexed, sliced, is_name, is_index, normal as normal_of, on_stride, downward};
-ghost use Rattle.jp_strings.specs.Points.{IsText, points_of};
 ghost use Rattle.jp_tape.specs.Cursors.{line_of, node_of, name_of};
 ghost use Rattle.jp_tape.specs.Kinds.{kind_of};
 ghost use Rattle.jp_tape.specs.declared.Kind.TheVariants as kinds;
 ghost use Rattle.jp_eval.specs.Found.{node_list, AreOf};
 ghost use Rattle.jp_eval.specs.Walks.{IsAt, rises};
 
-use jp_strings::Scalars;
+use jp_strings::spells;
 use jp_tape::{Cursor, Kind};
 use std::alloc::{AllocError, Global};
-
-/// Whether a body spells a text.
-fn spells(body: &[u8], text: &str) -> bool
-    requires { IsText body.now }
-    ensures { result ≡ text_equal (chars text.now) (points_of body.now) }
-{
-    text.chars().cmp(Scalars::new(body)).is_eq()
-}
 
 /// Whether the node is the member of this name.
 fn is_named(node: Cursor<'_>, name: &str) -> bool

@@ -1,6 +1,6 @@
 //! The functions of filters (RFC 9535, section 2.4).
 
-ghost use Rattle.std.specs.Prelude.{◌≡◌, length, Some, IfOk, IfSome, IsTrue, option_map};
+ghost use Rattle.std.specs.Prelude.{◌≡◌, length, Some, IfOk, IsTrue, option_map};
 ghost use Rattle.std.specs.Str.{chars};
 ghost use Rattle.jp_model.specs.Json.Tree.{value_of};
 ghost use Rattle.jp_model.specs.Meaning.Functions.{length_of as length_of_value, in_pattern as in_pattern_of};
@@ -9,7 +9,6 @@ ghost use Rattle.jp_eval.specs.Functions.{function_named, passing, pattern_in, p
 ghost use Rattle.jp_iregexp.specs.Trees.{pattern_view};
 ghost use Rattle.jp_values.specs.Values.{value_view, is_sound_value};
 
-use crate::patterns::Patterns;
 use jp_iregexp::Pattern;
 use jp_query::Literal;
 use jp_strings::{scalar_count, unescape};
@@ -99,18 +98,8 @@ fn value_passes(
     }
 }
 
-/// The pattern that a string of the query spells, where it was read before.
-fn known_pattern<'p>(patterns: &'p Patterns, value: Value<'_>) -> Option<&'p Option<Pattern>>
-    ensures { ∥ IfSome result (λ found. option_map pattern_view found.now ≡ pattern_in (value_view value.entry)) ∥₁ }
-{
-    match value {
-        Value::Constant(Literal::Text(text)) => patterns.find(text.as_str()),
-        _ => None,
-    }
-}
-
 /// Whether the value is a string that passes the pattern that was read, where there is one.
-fn read_passes(
+pub(crate) fn read_passes(
     alloc: Global,
     read: &Option<Pattern>,
     whole: bool,
@@ -125,23 +114,17 @@ fn read_passes(
 }
 
 /// Whether both are strings, the second spells a pattern, and all or a part of the first passes it (RFC 9535,
-/// sections 2.4.6 and 2.4.7). A pattern that was not read before is read now.
+/// sections 2.4.6 and 2.4.7).
 pub(crate) fn in_pattern(
     alloc: Global,
-    patterns: &Patterns,
     whole: bool,
     value: Value<'_>,
     pattern: Value<'_>,
 ) -> Result<bool, AllocError>
     ensures { IfOk result (λ b. b ≡ in_pattern_of (passing whole) (value_view value.entry) (value_view pattern.entry)) }
 {
-    match known_pattern(patterns, pattern) {
-        Some(known) => read_passes(alloc, known, whole, value),
-        None => {
-            let read = read_pattern(alloc, pattern)?;
-            read_passes(alloc, &read, whole, value)
-        }
-    }
+    let read = read_pattern(alloc, pattern)?;
+    read_passes(alloc, &read, whole, value)
 }
 
 /// The five functions.

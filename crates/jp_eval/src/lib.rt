@@ -2,22 +2,17 @@
 #![tactic(auto)]
 
 mod answers;
-mod asked;
 mod children;
+mod compile;
 mod evaluate;
+mod frame;
 mod functions;
-mod hash;
-mod literals;
-mod patterns;
-mod prepared;
-mod recall;
-mod roots;
-mod same;
-mod scope;
+mod leaves;
+mod program;
+mod run;
 mod steps;
 #[cfg(test)]
 mod tests;
 
-pub use evaluate::{eval_from, eval_with, truth};
-pub use prepared::Prepared;
+pub use evaluate::{Program, eval_from, truth};
 pub use steps::follow;

@@ -3,8 +3,7 @@
 ghost use Rattle.std.specs.Prelude.{◌≡◌, IfOk};
 ghost use Rattle.jp_tape.specs.Tapes.{IsTapeOf};
 
-use crate::patterns::Patterns;
-use crate::{Prepared, eval_from, eval_with, truth};
+use crate::{Program, eval_from, truth};
 use jp_masks::line_marks;
 use jp_model::Framing;
 use jp_query::{Logical, parse};
@@ -38,15 +37,9 @@ fn read(alloc: Global, line: &[u8]) -> Result<Tape, Fail>
     }
 }
 
-/// Whether the query selects nodes of these bytes, which are given one behind another, each with a blank behind it. The
-/// patterns are read before, or each where it is asked for.
-fn selects(
-    alloc: Global,
-    line: &str,
-    query: &str,
-    wanted: &str,
-    before: bool,
-) -> Result<bool, Fail> {
+/// Whether the query selects nodes of these bytes, which are given one behind another, each with a blank behind it. It runs
+/// over another line first.
+fn selects(alloc: Global, line: &str, query: &str, wanted: &str) -> Result<bool, Fail> {
     let line = line.as_bytes();
     let tape = read(alloc, line)?;
     let root = Cursor::root(&tape, line);
@@ -54,13 +47,12 @@ fn selects(
         Ok(query) => query,
         Err(_) => return Err(Fail::Query),
     };
-    let prepared = if before {
-        Prepared::of(alloc, query.segments())?
-    } else {
-        Prepared::none(alloc)
-    };
+    let program = Program::compile(alloc, query.segments())?;
+    let other = read(alloc, b"[[7],{\"x\":7}]")?;
+    let other = Cursor::root(&other, b"[[7],{\"x\":7}]");
+    program.run(alloc, other, other, &mut Vec::new(alloc))?;
     let mut found = Vec::new(alloc);
-    eval_with(alloc, query.segments(), &prepared, root, root, &mut found)?;
+    program.run(alloc, root, root, &mut found)?;
     let mut text = Vec::new(alloc);
     for node in &found {
         text.extend_from_slice(node.source())?;
@@ -142,7 +134,7 @@ const CASES: [(&str, &str, &str); 34] = [
 #[test]
 fn queries_select_their_nodes(rt: HostRuntime) -> Result<(), Fail> {
     for (line, query, wanted) in CASES {
-        assert!(&rt; selects(rt.alloc(), line, query, wanted, false)?, "{query}");
+        assert!(&rt; selects(rt.alloc(), line, query, wanted)?, "{query}");
     }
     Ok(())
 }
@@ -174,10 +166,7 @@ const SLICES: [(&str, &str); 20] = [
 #[test]
 fn slices_select_their_elements(rt: HostRuntime) -> Result<(), Fail> {
     for (query, wanted) in SLICES {
-        assert!(&rt;
-            selects(rt.alloc(), "[0,1,2,3]", query, wanted, false)?,
-            "{query}"
-        );
+        assert!(&rt; selects(rt.alloc(), "[0,1,2,3]", query, wanted)?, "{query}");
     }
     Ok(())
 }
@@ -205,10 +194,9 @@ const PATTERNS: [(&str, &str, &str); 6] = [
 ];
 
 #[test]
-fn patterns_select_the_same_read_before_and_anew(rt: HostRuntime) -> Result<(), Fail> {
+fn patterns_select_what_passes_them(rt: HostRuntime) -> Result<(), Fail> {
     for (line, query, wanted) in PATTERNS {
-        assert!(&rt; selects(rt.alloc(), line, query, wanted, true)?, "{query}");
-        assert!(&rt; selects(rt.alloc(), line, query, wanted, false)?, "{query}");
+        assert!(&rt; selects(rt.alloc(), line, query, wanted)?, "{query}");
     }
     Ok(())
 }
@@ -265,42 +253,15 @@ const ROOTS: [(&str, &str, &str); 15] = [
 ];
 
 #[test]
-fn queries_from_the_root_select_the_same_asked_before_and_anew(
-    rt: HostRuntime,
-) -> Result<(), Fail> {
+fn queries_from_the_root_are_asked_of_their_line(rt: HostRuntime) -> Result<(), Fail> {
     for (line, query, wanted) in ROOTS {
-        assert!(&rt; selects(rt.alloc(), line, query, wanted, true)?, "{query}");
-        assert!(&rt; selects(rt.alloc(), line, query, wanted, false)?, "{query}");
+        assert!(&rt; selects(rt.alloc(), line, query, wanted)?, "{query}");
     }
     Ok(())
 }
 
-/// Whether the text is among the literal patterns of the query, and whether it is a pattern.
-fn is_known(alloc: Global, query: &str, text: &str) -> Result<(bool, bool), Fail> {
-    let query = match parse(alloc, query.as_bytes()) {
-        Ok(query) => query,
-        Err(_) => return Err(Fail::Query),
-    };
-    let patterns = Patterns::of(alloc, query.segments())?;
-    match patterns.find(text) {
-        Some(found) => Ok((true, found.is_some())),
-        None => Ok((false, false)),
-    }
-}
-
 #[test]
-fn literal_patterns_are_known_at_any_depth(rt: HostRuntime) -> Result<(), Fail> {
-    let query =
-        "$[?match(@.a,'x.*') || search(@.b,'x.*') && search(@,'[')]..[?@[?match(@,@.p)] || count(@[?match('t','u')])>0]";
-    assert!(&rt; is_known(rt.alloc(), query, "x.*")? == (true, true));
-    assert!(&rt; is_known(rt.alloc(), query, "[")? == (true, false));
-    assert!(&rt; is_known(rt.alloc(), query, "u")? == (true, true));
-    assert!(&rt; is_known(rt.alloc(), query, "t")? == (false, false));
-    Ok(())
-}
-
-#[test]
-fn a_query_selects_its_nodes_without_patterns(rt: HostRuntime) -> Result<(), Fail> {
+fn segments_select_their_nodes(rt: HostRuntime) -> Result<(), Fail> {
     let tape = read(rt.alloc(), b"[\"a\",\"b\"]")?;
     let root = Cursor::root(&tape, b"[\"a\",\"b\"]");
     let query = match parse(rt.alloc(), b"$[?match(@,'a')]") {

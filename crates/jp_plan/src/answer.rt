@@ -8,6 +8,8 @@ ghost use Rattle.jp_model.specs.Plans.{is_opened};
 ghost use Rattle.jp_model.specs.Query.Singular.{steps_query};
 ghost use Rattle.jp_model.specs.Rows.{status_rows};
 ghost use Rattle.jp_model.specs.Script.Machine.{is_refused_status};
+ghost use Rattle.jp_eval.specs.Compiled.{program_view};
+ghost use Rattle.jp_query.specs.View.{segments_view};
 ghost use Rattle.jp_tape.specs.Cursors.{line_of, node_of};
 ghost use Rattle.jp_store.specs.Collections.{line_status};
 ghost use Rattle.jp_store.specs.Views.{text_of_view, tree_of_view};
@@ -21,7 +23,7 @@ ghost use Rattle.jp_plan.specs.Routes.{IsRouteOf, steps_or_none};
 use crate::plan::Plan;
 use crate::route::{Route, find_route};
 use crate::turn::{Turn, behind_first, next_turn};
-use jp_eval::eval_with;
+use jp_eval::Program;
 use jp_model::LineFault;
 use jp_store::{LineView, Opened, Status};
 use jp_tape::Cursor;
@@ -97,12 +99,14 @@ impl<'s> Plan<'s> {
     fn push_nodes(
         &self,
         route: Route<'s>,
+        program: &Program,
         line: u32,
         opened: &mut Opened,
         found: &mut Vec<Cursor<'s>>,
         rows: &mut Vec<Row<'s>>,
     ) -> Result<(), AllocError>
         requires route { IsRouteOf route (plan_of self.now).query (plan_of self.now).over }
+        requires program { program_view program.now ≡ segments_view route.rest.now }
         requires line { IsLineOf (plan_of self.now).over line }
         requires opened { is_opened (plan_of self.now).query (plan_of self.now).over.state.paths (line_status line (plan_of self.now).over) ≡ true }
         requires room { opened.old + 1 < 2 ^ 64 }
@@ -115,14 +119,7 @@ impl<'s> Plan<'s> {
         };
         let start = self.start(route.seek, line, view);
         found.clear();
-        eval_with(
-            self.alloc,
-            route.rest,
-            &self.prepared,
-            start,
-            view.root(),
-            found,
-        )?;
+        program.run(self.alloc, start, view.root(), found)?;
         push_cursors(line, found.as_slice(), rows)
     }
 
@@ -130,10 +127,12 @@ impl<'s> Plan<'s> {
     fn rows_in_turn(
         &self,
         route: Route<'s>,
+        program: &Program,
         lines: &[u32],
         opened: &mut Opened,
     ) -> Result<Vec<Row<'s>>, AllocError>
         requires route { IsRouteOf route (plan_of self.now).query (plan_of self.now).over }
+        requires program { program_view program.now ≡ segments_view route.rest.now }
         requires lines { lines.now ≡ lines_opened (plan_of self.now) }
         requires few { length lines.now + 1 < 2 ^ 64 }
         requires count { opened.old ≡ 0 }
@@ -150,7 +149,7 @@ impl<'s> Plan<'s> {
             match turn {
                 Turn::Open(line) => {
                     to_open = behind_first(to_open);
-                    self.push_nodes(route, line, opened, &mut found, &mut rows)?;
+                    self.push_nodes(route, program, line, opened, &mut found, &mut rows)?;
                 }
                 Turn::Refuse(line) => {
                     to_refuse = behind_first(to_refuse);
@@ -175,8 +174,9 @@ impl<'s> Plan<'s> {
         ensures most { OnErr result (opened.new ≤ length (lines_opened (plan_of self.now))) }
     {
         let route = find_route(self.query.segments(), self.store);
+        let program = Program::compile(self.alloc, route.rest)?;
         let lines = self.opened_lines(route)?;
-        let rows = self.rows_in_turn(route, &lines, opened)?;
+        let rows = self.rows_in_turn(route, &program, &lines, opened)?;
         Ok(Answer { rows })
     }
 }

@@ -1,6 +1,5 @@
 //! A query over a store.
 
-use jp_eval::Prepared;
 use jp_store::Store;
 use jp_types::Checked;
 use std::alloc::{AllocError, Global};
@@ -11,7 +10,6 @@ use std::alloc::{AllocError, Global};
 pub struct Plan<'s> {
     pub(crate) query: &'s Checked,
     pub(crate) store: &'s Store,
-    pub(crate) prepared: Prepared<'s>,
     pub(crate) alloc: Global,
 }
 
@@ -28,11 +26,9 @@ impl<'s> Plan<'s> {
     pub fn new(alloc: Global, query: &'s Checked, store: &'s Store) -> Result<Plan<'s>, AllocError>
         ensures { IfOk result (λ plan. plan_of plan ≡ record { query = checked_view query.now; over = store.now }) }
     {
-        let prepared = Prepared::of(alloc, query.segments())?;
         Ok(Plan {
             query,
             store,
-            prepared,
             alloc,
         })
     }

@@ -1,0 +1,33 @@
+-- Answers at their places.
+use Rattle.std.proofs.Common.{◌≡◌, ℕ, zero, suc, List, [], ◌∷◌, ◌++◌, slice_set, Option, Some, None, sym, ◌∙◌, ap, refl}
+use Rattle.std.specs.Prelude.{slice_get}
+use Rattle.jp_eval.specs.declared.frame.Answer.{Answer}
+
+-- no answer is there
+pub record HasNone (answers : List (Option Answer)) : Type 0 where
+  pub none : (place : ℕ) (answer : Answer) → slice_get answers place ≡ Some (Some answer) → ⊥
+
+pub none_at_all : HasNone []
+none_at_all = record { none = go }
+  where
+    go : (place : ℕ) (answer : Answer) → slice_get [] place ≡ Some (Some answer) → ⊥
+    go zero answer e = cc
+    go (suc place) answer e = cc
+
+pub none_more : (answers new : List (Option Answer)) → new ≡ answers ++ None ∷ [] → HasNone answers → HasNone new
+none_more answers new e h = record { none = λ place answer f. go answers h.none place answer (ap (λ (l : List (Option Answer)). slice_get l place) (sym e) ∙ f) }
+  where
+    go : (l : List (Option Answer)) → ((place : ℕ) (answer : Answer) → slice_get l place ≡ Some (Some answer) → ⊥) → (place : ℕ) (answer : Answer) → slice_get (l ++ None ∷ []) place ≡ Some (Some answer) → ⊥
+    go [] h zero answer e = cc
+    go [] h (suc zero) answer e = cc
+    go [] h (suc (suc place)) answer e = cc
+    go (o ∷ l) h zero answer e = h zero answer e
+    go (o ∷ l) h (suc place) answer e = go l (λ p a f. h (suc p) a f) place answer e
+
+-- what stands in a list in which one item was set
+pub got : {A B : Type 0} (l : List A) (i j : ℕ) (x y : A) → slice_get (slice_set l i x) j ≡ Some y → (i ≡ j → x ≡ y → B) → (slice_get l j ≡ Some y → B) → B
+got [] i j x y h f g = g h
+got (z ∷ l) zero zero x y h f g = f refl (cc)
+got (z ∷ l) zero (suc j) x y h f g = g h
+got (z ∷ l) (suc i) zero x y h f g = g h
+got (z ∷ l) (suc i) (suc j) x y h f g = got l i j x y h (λ e k. f (ap suc e) k) g

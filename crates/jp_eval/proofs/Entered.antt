@@ -1,0 +1,39 @@
+-- The query from the root at a place, read by its own slots.
+use Rattle.std.proofs.Common.{◌≡◌, ℕ, zero, suc, List, [], ◌∷◌, map, Option, Some, None, sym, ◌∙◌, ap, refl}
+use Rattle.std.specs.Prelude.{slice_get}
+use Rattle.jp_model.specs.Query.Syntax.{Segments}
+use Rattle.jp_model.specs.Meaning.Nodes.{Node}
+use Rattle.jp_model.specs.Meaning.Selecting.{nodes}
+use Rattle.jp_tape.specs.declared.cursor.Cursor.{Cursor}
+use Rattle.jp_tape.specs.Cursors.{node_of}
+use Rattle.jp_eval.specs.Frames.{table_in, tree_in, reached, slot_nodes}
+use Rattle.jp_eval.specs.Programs.{table_of, slot_view, steps_view, segments_or_none}
+use Rattle.jp_eval.specs.declared.frame.Run.{Run}
+use Rattle.jp_eval.specs.declared.program.Slot.{Slot}
+use Rattle.jp_eval.specs.declared.program.Slot.TheViews.{out-Slot}
+use Rattle.jp_eval.specs.declared.program.Step.{Step}
+use Rattle.jp_eval.proofs.Descendants.{root_is}
+use Rattle.jp_eval.proofs.Meanings.{slot_viewed}
+
+get_map : {A B : Type 0} (f : A → B) (l : List A) (place : ℕ) (x : A) → slice_get l place ≡ Some x → slice_get (map f l) place ≡ Some (f x)
+get_map f [] place x e = absurd (cc)
+get_map f (y ∷ l) zero x e = let same : y ≡ x = cc in ap (λ z. Some (f z)) same
+get_map f (y ∷ l) (suc place) x e = get_map f l place x e
+
+none_map : {A B : Type 0} (f : A → B) (l : List A) (place : ℕ) → slice_get l place ≡ None → slice_get (map f l) place ≡ None
+none_map f [] place e = refl
+none_map f (y ∷ l) zero e = absurd (cc)
+none_map f (y ∷ l) (suc place) e = none_map f l place e
+
+pub one_entered : (slots : List Slot) (place : ℕ) (slot : Slot) → slice_get slots place ≡ Some slot → steps_view (table_of (out-Slot slot).slots.items) (out-Slot slot).steps.items ≡ segments_or_none (slice_get (table_of slots) place)
+one_entered slots place slot e = sym (slot_viewed slot) ∙ ap segments_or_none (sym (get_map slot_view slots place slot e))
+
+pub none_entered : (slots : List Slot) (place : ℕ) → slice_get slots place ≡ None → steps_view (table_of slots) [] ≡ segments_or_none (slice_get (table_of slots) place)
+none_entered slots place e = ap segments_or_none (sym (none_map slot_view slots place e))
+
+pub entered : (run inner : Run) (steps : List Step) (place : ℕ) → inner.root ≡ run.root → steps_view (table_in inner) steps ≡ segments_or_none (slice_get (table_in run) place) → reached inner steps (node_of run.root ∷ []) ≡ slot_nodes run place
+entered run inner steps place r e =
+    let found : Segments = segments_or_none (slice_get (table_in run) place) in
+    ap (λ (ss : Segments). nodes ss (node_of run.root ∷ []) (tree_in inner)) e
+    ∙ (ap (λ (c : Cursor). nodes found (node_of run.root ∷ []) (node_of c).tree) r
+    ∙ ap (λ (m : Node). nodes found (m ∷ []) (tree_in run)) (sym (root_is run.root run.at_root)))

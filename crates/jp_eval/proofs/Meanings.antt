@@ -1,0 +1,103 @@
+-- What was compiled keeps its meaning as slots are added.
+use Rattle.std.proofs.Common.{◌≡◌, ℕ, ◌+◌, List, [], ◌∷◌, ◌++◌, length, map, drop, sym, ◌∙◌, ap, ap₂, subst, refl, arith, append_assoc, append-nil, Option, Some, None}
+use Rattle.std.specs.Prelude.{slice_get}
+use Rattle.jp_model.specs.Query.Syntax as syntax
+use Rattle.std.proofs.lemmas.List.{length-map}
+use Rattle.jp_eval.specs.declared.program.Slot.{Slot, fold_out-Slot, fold-roll-Slot}
+use Rattle.jp_eval.specs.declared.program.Slot.TheOpen.{Slot-F}
+use Rattle.jp_eval.specs.declared.program.Slot.TheViews.{out-Slot, roll-Slot}
+use Rattle.jp_eval.specs.Programs.{Table, Means, Grows, steps_view, table_of, slot_view, slot_step, slot_in, segments_or_none}
+
+pub grows_not : (old : List Slot) → Grows old old
+grows_not old = ([], sym (append-nil (table_of old)))
+
+pub grows_on : (old mid new : List Slot) → Grows old mid → Grows mid new → Grows old new
+grows_on old mid new a b = (a.0 ++ b.0, b.1 ∙ (ap (λ (x : Table). x ++ b.0) a.1 ∙ append_assoc (table_of old) a.0 b.0))
+
+-- nothing was added
+pub means_so : {A : Type 0} (old new : List Slot) (v : Table → A) (x : A) → new ≡ old → ((table : Table) → v table ≡ x) → Means old new v x
+means_so {A} old new v x e h = record { grows = ([], ap table_of e ∙ sym (append-nil (table_of old))); is = λ more. h (table_of new ++ more) }
+
+-- a part of it is what was compiled
+pub means_by : {A B : Type 0} {old new : List Slot} {v : Table → A} {x : A} (f : A → B) (w : Table → B) (y : B) → ((table : Table) → w table ≡ f (v table)) → y ≡ f x → Means old new v x → Means old new w y
+means_by {A} {B} {old} {new} {v} {x} f w y h e m = record { grows = m.grows; is = λ more. h (table_of new ++ more) ∙ (ap f (m.is more) ∙ sym e) }
+
+-- what was compiled before, behind more slots
+pub later : {A : Type 0} {old mid : List Slot} {v : Table → A} {x : A} (new : List Slot) → Means old mid v x → Grows mid new → (more : Table) → v (table_of new ++ more) ≡ x
+later {A} {old} {mid} {v} {x} new m g more =
+    ap v (ap (λ (t : Table). t ++ more) g.1 ∙ append_assoc (table_of mid) g.0 more) ∙ m.is (g.0 ++ more)
+
+-- two parts, one behind the other
+pub both_mean : {A B D : Type 0} {old mid new : List Slot} {v : Table → A} {x : A} {w : Table → B} {y : B} (f : A → B → D) (u : Table → D) (z : D)
+    → ((table : Table) → u table ≡ f (v table) (w table)) → z ≡ f x y → Means old mid v x → Means mid new w y → Means old new u z
+both_mean {A} {B} {D} {old} {mid} {new} {v} {x} {w} {y} f u z h e a b = record {
+  grows = grows_on old mid new a.grows b.grows;
+  is = λ more. h (table_of new ++ more) ∙ (ap₂ f (later new a b.grows more) (b.is more) ∙ sym e);
+}
+
+map_last : {A B : Type 0} (f : A → B) (done : List A) (c : A) → map f (done ++ c ∷ []) ≡ map f done ++ f c ∷ []
+map_last f [] c = refl
+map_last f (d ∷ done) c = ap (λ l. f d ∷ l) (map_last f done c)
+
+-- one part more
+pub one_more : {A B : Type 0} {old mid new : List Slot} {ahead : List A} {all : List A} (f : Table → B → A) (done : List B) (c : B) (x : A) (rest : List A) (now : List B)
+    → ahead ≡ x ∷ rest → now ≡ done ++ c ∷ [] → Means old mid (λ t. map (f t) done ++ ahead) all → Means mid new (λ t. f t c) x → Means old new (λ t. map (f t) now ++ rest) all
+one_more {A} {B} {old} {mid} {new} {ahead} {all} f done c x rest now e d a b = record {
+  grows = grows_on old mid new a.grows b.grows;
+  is = λ more.
+      let t : Table = table_of new ++ more in
+      ap (λ (l : List B). map (f t) l ++ rest) d
+      ∙ (ap (λ (l : List A). l ++ rest) (map_last (f t) done c)
+      ∙ (append_assoc (map (f t) done) (f t c ∷ []) rest
+      ∙ (ap (λ (y : A). map (f t) done ++ y ∷ rest) (b.is more)
+      ∙ (ap (λ (l : List A). map (f t) done ++ l) (sym e)
+      ∙ later new a b.grows more))));
+}
+
+-- none is left
+pub none_more : {A B D : Type 0} {old new : List Slot} {ahead : List A} {all : List A} (f : Table → B → A) (done : List B) (g : List A → D)
+    → ahead ≡ [] → Means old new (λ t. map (f t) done ++ ahead) all → Means old new (λ t. g (map (f t) done)) (g all)
+none_more {A} {B} {D} {old} {new} {ahead} {all} f done g e a = record {
+  grows = a.grows;
+  is = λ more.
+      let t : Table = table_of new ++ more in
+      ap g (sym (append-nil (map (f t) done)) ∙ (ap (λ (l : List A). map (f t) done ++ l) (sym e) ∙ a.is more));
+}
+
+-- ---- slots
+
+map-append : {A B : Type 0} (f : A → B) (xs ys : List A) → map f (xs ++ ys) ≡ map f xs ++ map f ys
+map-append f [] ys = refl
+map-append f (x ∷ xs) ys = ap (λ l. f x ∷ l) (map-append f xs ys)
+
+-- what stands behind a list of this length
+get_behind : {A : Type 0} (l : List A) (x : A) (more : List A) (place : ℕ) → place ≡ length l → slice_get ((l ++ x ∷ []) ++ more) place ≡ Some x
+get_behind {A} l x more place e = ap (slice_get ((l ++ x ∷ []) ++ more)) e ∙ go l
+  where
+    go : (l : List A) → slice_get ((l ++ x ∷ []) ++ more) (length l) ≡ Some x
+    go [] = refl
+    go (y ∷ l) = go l
+
+-- a slot was added, and the part is its query
+pub slot_means : (old new : List Slot) (s : Slot) (u : Table → syntax.Path) (place : ℕ) (x : syntax.Segments) (y : syntax.Path)
+    → ((table : Table) → u table ≡ slot_in table place) → y ≡ syntax.path syntax.root x → slot_view s ≡ x → new ≡ old ++ s ∷ [] → place ≡ length old → Means old new u y
+slot_means old new s u place x y h e m g p =
+    let grown : table_of new ≡ table_of old ++ slot_view s ∷ [] = ap table_of g ∙ map-append slot_view old (s ∷ []) in
+    let size : place ≡ length (table_of old) = p ∙ sym (length-map old slot_view) in
+    record {
+      grows = (slot_view s ∷ [], grown);
+      is = λ more.
+          let found : slice_get (table_of new ++ more) place ≡ Some (slot_view s) = ap (λ (l : Table). slice_get (l ++ more) place) grown ∙ get_behind (table_of old) (slot_view s) more place size in
+          h (table_of new ++ more) ∙ (ap (λ o. syntax.path syntax.root (segments_or_none o)) found ∙ (ap (syntax.path syntax.root) m ∙ sym e));
+    }
+
+-- the query of a slot is read by its own slots
+pub slot_viewed : (s : Slot) → slot_view s ≡ steps_view (table_of (out-Slot s).slots.items) (out-Slot s).steps.items
+slot_viewed s = fold_out-Slot syntax.Segments slot_step s
+
+pub slot_made : (s : Slot-F Slot) → slot_view (roll-Slot s) ≡ steps_view (table_of s.slots.items) s.steps.items
+slot_made s = fold-roll-Slot syntax.Segments slot_step s
+
+-- with no more slots
+pub whole : {A : Type 0} {v : Table → A} {x : A} (old new : List Slot) → Means old new v x → v (table_of new) ≡ x
+whole {A} {v} {x} old new m = ap v (sym (append-nil (table_of new))) ∙ m.is []

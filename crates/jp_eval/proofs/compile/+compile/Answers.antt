@@ -1,0 +1,180 @@
+-- What was compiled means what it was made of.
+use Rattle.std.proofs.Common.{rules, arith, ◌≡◌, ◌∙◌, ℕ, ◌+◌, true, List, [], ◌∷◌, map, drop, sym, ap, ap₂, subst, chars, string_bytes, Vec, Global, Box}
+use Rattle.std.proofs.lemmas.Bool.{and_parts}
+use Rattle.jp_model.specs.Query.Syntax as syntax
+use Rattle.jp_model.specs.Query.Limits.{segments_pass, selectors_pass, logicals_pass, arguments_pass, logical_passes, comparable_passes}
+use Rattle.jp_query.specs.View.{origin_view, op_view, segments_of, selectors_of, logicals_of, arguments_of, segments_view, segment_view, selectors_view, selector_view, logicals_view, logical_view, comparable_view, path_view, call_view, arguments_view, argument_view}
+use Rattle.jp_query.specs.declared.tree.Segment.{Segment}
+use Rattle.jp_query.specs.declared.tree.Selector.{Selector}
+use Rattle.jp_query.specs.declared.tree.Logical.{Logical}
+use Rattle.jp_query.specs.declared.tree.Argument.{Argument}
+use Rattle.jp_query.specs.declared.tree.Origin.{Origin}
+use Rattle.jp_eval.specs.Expressions.{readable}
+use Rattle.jp_eval.specs.Programs.{Table, Means, step_view, choice_view, condition_view, given_view, nodes_view, side_view, invoked_view, steps_view, givens_view}
+use Rattle.jp_eval.specs.declared.program.Step.TheVariants as steps
+use Rattle.jp_eval.specs.declared.program.Choice.TheVariants as choices
+use Rattle.jp_eval.specs.declared.program.Condition.TheVariants as conditions
+use Rattle.jp_eval.specs.declared.program.Side.TheVariants as sides
+use Rattle.jp_eval.specs.declared.program.Given.TheVariants as givens
+use Rattle.jp_eval.specs.declared.program.Nodes.TheVariants as paths
+use Rattle.jp_eval.specs.declared.program.Invoked.{Invoked}
+use Rattle.jp_eval.specs.declared.program.Slot.{Slot}
+use Rattle.jp_eval.specs.declared.program.Slot.TheOpen.{Slot-F}
+use Rattle.jp_eval.specs.declared.program.Slot.TheViews.{roll-Slot}
+use Rattle.std.proofs.lemmas.List.{drop_all}
+use Rattle.std.proofs.lemmas.Grind.{common_steps}
+use Rattle.jp_eval.proofs.Lists.{item_at}
+use Rattle.jp_eval.proofs.Sizes.{size_of_segments, size_of_selectors, size_of_logical, size_of_logicals, size_of_arguments}
+use Rattle.jp_eval.proofs.Views.{path_viewed, call_viewed, compare_viewed, nodes_viewed, condition_viewed, result_viewed}
+use Rattle.jp_eval.proofs.Compiled.{child_seen, descendant_seen, filter_seen, or_seen, and_seen, not_seen, exists_seen, test_seen, single_seen, result_seen, child_is, descendant_is, filter_is, or_is, and_is, not_is, compare_is, exists_is, test_is, single_is, result_is, nodes_given, condition_given, result_given, slot_is, current_is, invoked_is}
+use Rattle.jp_eval.proofs.Meanings.{means_by, both_mean, one_more, none_more, slot_means, slot_made, whole}
+use Rattle.jp_eval.proofs.compile.+compile.Goals as goal
+
+pub compile_segment-returns-in_ok-choices-in-Child : goal.compile_segment-returns-in_ok-choices-in-Child
+compile_segment-returns-in_ok-choices-in-Child t c = means_by syntax.child_segment (λ (table : Table). step_view table (steps.Child c.in_ok-choices-in-Child.choices)) (segment_view c.args.segment.now) (λ table. child_is table c.in_ok-choices-in-Child.choices) (ap segment_view c.in-Child.is ∙ (child_seen c.in-Child.selectors ∙ ap (λ (l : List Selector). syntax.child_segment (selectors_view l)) (sym c.deref.ensures.value))) c.in_ok-choices-in-Child.ensures
+
+pub compile_segment-returns-in_ok-choices-in-Descendant : goal.compile_segment-returns-in_ok-choices-in-Descendant
+compile_segment-returns-in_ok-choices-in-Descendant t c = means_by syntax.descendant_segment (λ (table : Table). step_view table (steps.Descendant c.in_ok-choices-in-Descendant.choices)) (segment_view c.args.segment.now) (λ table. descendant_is table c.in_ok-choices-in-Descendant.choices) (ap segment_view c.in-Descendant.is ∙ (descendant_seen c.in-Descendant.selectors ∙ ap (λ (l : List Selector). syntax.descendant_segment (selectors_view l)) (sym c.deref-in-Descendant.ensures.value))) c.in_ok-choices-in-Descendant.ensures
+
+pub compile_selector-returns-in_ok-condition-in-Filter : goal.compile_selector-returns-in_ok-condition-in-Filter
+compile_selector-returns-in_ok-condition-in-Filter t c = means_by syntax.filter_selector (λ (table : Table). choice_view table (choices.Filter c.in_ok-condition-in-Filter.condition)) (selector_view c.args.selector.now) (λ table. filter_is table c.in_ok-condition-in-Filter.condition) (ap selector_view c.in-Filter.is ∙ filter_seen c.in-Filter.expression) c.in_ok-condition-in-Filter.ensures
+
+pub compile_logical-returns-in_ok-parts-in-Or : goal.compile_logical-returns-in_ok-parts-in-Or
+compile_logical-returns-in_ok-parts-in-Or t c = means_by syntax.or_all (λ (table : Table). condition_view table (conditions.Or c.in_ok-parts-in-Or.parts)) (logical_view c.args.expression.now) (λ table. or_is table c.in_ok-parts-in-Or.parts) (ap logical_view c.in-Or.is ∙ (or_seen c.in-Or.parts ∙ ap (λ (l : List Logical). syntax.or_all (logicals_view l)) (sym c.deref.ensures.value))) c.in_ok-parts-in-Or.ensures
+
+pub compile_logical-returns-in_ok-parts-in-And : goal.compile_logical-returns-in_ok-parts-in-And
+compile_logical-returns-in_ok-parts-in-And t c = means_by syntax.and_all (λ (table : Table). condition_view table (conditions.And c.in_ok-parts-in-And.parts)) (logical_view c.args.expression.now) (λ table. and_is table c.in_ok-parts-in-And.parts) (ap logical_view c.in-And.is ∙ (and_seen c.in-And.parts ∙ ap (λ (l : List Logical). syntax.and_all (logicals_view l)) (sym c.deref-in-And.ensures.value))) c.in_ok-parts-in-And.ensures
+
+pub compile_logical-returns-in_ok-nodes-in-Exists : goal.compile_logical-returns-in_ok-nodes-in-Exists
+compile_logical-returns-in_ok-nodes-in-Exists t c = means_by syntax.exists (λ (table : Table). condition_view table (conditions.Exists c.in_ok-nodes-in-Exists.nodes)) (logical_view c.args.expression.now) (λ table. exists_is table c.in_ok-nodes-in-Exists.nodes) (ap logical_view c.in-Exists.is ∙ exists_seen c.in-Exists.path) c.in_ok-nodes-in-Exists.ensures
+
+pub compile_logical-returns-in_ok-invoked-in-Test : goal.compile_logical-returns-in_ok-invoked-in-Test
+compile_logical-returns-in_ok-invoked-in-Test t c = means_by syntax.test (λ (table : Table). condition_view table (conditions.Test c.in_ok-invoked-in-Test.invoked)) (logical_view c.args.expression.now) (λ table. test_is table c.in_ok-invoked-in-Test.invoked) (ap logical_view c.in-Test.is ∙ test_seen c.in-Test.call) c.in_ok-invoked-in-Test.ensures
+
+pub compile_side-returns-in_ok-nodes-in-Single : goal.compile_side-returns-in_ok-nodes-in-Single
+compile_side-returns-in_ok-nodes-in-Single t c = means_by syntax.single (λ (table : Table). side_view table (sides.Single c.in_ok-nodes-in-Single.nodes)) (comparable_view c.args.side.now) (λ table. single_is table c.in_ok-nodes-in-Single.nodes) (ap comparable_view c.in-Single.is ∙ single_seen c.in-Single.path) c.in_ok-nodes-in-Single.ensures
+
+pub compile_side-returns-in_ok-invoked-in-Result : goal.compile_side-returns-in_ok-invoked-in-Result
+compile_side-returns-in_ok-invoked-in-Result t c = means_by syntax.result (λ (table : Table). side_view table (sides.Result c.in_ok-invoked-in-Result.invoked)) (comparable_view c.args.side.now) (λ table. result_is table c.in_ok-invoked-in-Result.invoked) (ap comparable_view c.in-Result.is ∙ result_seen c.in-Result.call) c.in_ok-invoked-in-Result.ensures
+
+pub compile_argument-returns-in_ok-nodes-in-Nodes : goal.compile_argument-returns-in_ok-nodes-in-Nodes
+compile_argument-returns-in_ok-nodes-in-Nodes t c = means_by syntax.nodes_argument (λ (table : Table). given_view table (givens.Nodes c.in_ok-nodes-in-Nodes.nodes)) (argument_view c.args.argument.now) (λ table. nodes_given table c.in_ok-nodes-in-Nodes.nodes) (ap argument_view c.in-Nodes.is ∙ nodes_viewed c.in-Nodes.path) c.in_ok-nodes-in-Nodes.ensures
+
+pub compile_argument-returns-in_ok-condition-in-Condition : goal.compile_argument-returns-in_ok-condition-in-Condition
+compile_argument-returns-in_ok-condition-in-Condition t c = means_by syntax.condition (λ (table : Table). given_view table (givens.Condition c.in_ok-condition-in-Condition.condition)) (argument_view c.args.argument.now) (λ table. condition_given table c.in_ok-condition-in-Condition.condition) (ap argument_view c.in-Condition.is ∙ condition_viewed c.in-Condition.expression) c.in_ok-condition-in-Condition.ensures
+
+pub compile_argument-returns-in_ok-invoked-in-Result : goal.compile_argument-returns-in_ok-invoked-in-Result
+compile_argument-returns-in_ok-invoked-in-Result t c = means_by syntax.result_argument (λ (table : Table). given_view table (givens.Result c.in_ok-invoked-in-Result.invoked)) (argument_view c.args.argument.now) (λ table. result_given table c.in_ok-invoked-in-Result.invoked) (ap argument_view c.in-Result.is ∙ result_viewed c.in-Result.call) c.in_ok-invoked-in-Result.ensures
+
+pub compile_logical-returns-in_ok-new-in-Not : goal.compile_logical-returns-in_ok-new-in-Not
+compile_logical-returns-in_ok-new-in-Not t c =
+    means_by syntax.negated (λ (table : Table). condition_view table (conditions.Not c.in_ok-new-in-Not.field-0)) (logical_view c.args.expression.now)
+    (λ table. not_is table c.in_ok-new-in-Not.field-0 ∙ search (rules, c.in_ok-new-in-Not.ensures))
+    (ap logical_view c.in-Not.is ∙ (not_seen c.in-Not.inner ∙ ap (λ (l : Logical). syntax.negated (logical_view l)) (sym c.deref-in-Not.ensures))) c.in_ok-inner-in-Not.ensures
+
+pub compile_logical-returns-in_ok-right-in-Compare : goal.compile_logical-returns-in_ok-right-in-Compare
+compile_logical-returns-in_ok-right-in-Compare t c =
+    let op = c.in-Compare.op in
+    both_mean (λ (a b : syntax.Comparable). syntax.compare a (op_view op) b) (λ (table : Table). condition_view table (conditions.Compare c.in_ok-left-in-Compare.left op c.in_ok-right-in-Compare.right)) (logical_view c.args.expression.now)
+    (λ table. compare_is table c.in_ok-left-in-Compare.left op c.in_ok-right-in-Compare.right)
+    (ap logical_view c.in-Compare.is ∙ compare_viewed c.in-Compare.left op c.in-Compare.right)
+    c.in_ok-left-in-Compare.ensures c.in_ok-right-in-Compare.ensures
+
+pub compile_path-returns-in_ok-push-in-Root : goal.compile_path-returns-in_ok-push-in-Root
+compile_path-returns-in_ok-push-in-Root t c =
+    let made : Slot-F Slot = record { slots = c.compile_segments.new.slots; steps = c.in_ok-steps-in-Root.steps } in
+    slot_means c.args.slots.now.items c.push.new.self.items (roll-Slot made) (λ (table : Table). nodes_view table (paths.Slot c.len-place.result)) c.len-place.result (segments_view c.args.path.now.segments.items) (path_view c.args.path.now)
+    (λ table. slot_is table c.len-place.result)
+    (path_viewed c.args.path.now ∙ ap (λ (o : Origin). syntax.path (origin_view o) (segments_view c.args.path.now.segments.items)) c.in-Root.is)
+    (slot_made made ∙ (whole _ _ c.in_ok-steps-in-Root.ensures ∙ ap segments_view c.deref.ensures.value)) c.in_ok-push-in-Root.ensures.items (c.len-place.ensures ∙ c.args.slots.now.ok.0)
+
+pub compile_path-returns-in_ok-steps-in-Current : goal.compile_path-returns-in_ok-steps-in-Current
+compile_path-returns-in_ok-steps-in-Current t c =
+    means_by (syntax.path syntax.current) (λ (table : Table). nodes_view table (paths.Current c.in_ok-steps-in-Current.steps)) (path_view c.args.path.now)
+    (λ table. current_is table c.in_ok-steps-in-Current.steps)
+    (path_viewed c.args.path.now ∙ (ap (λ (o : Origin). syntax.path (origin_view o) (segments_view c.args.path.now.segments.items)) c.in-Current.is ∙ ap (λ (l : List Segment). syntax.path syntax.current (segments_view l)) (sym c.deref-in-Current.ensures.value)))
+    c.in_ok-steps-in-Current.ensures
+
+pub compile_logical-compile_side-requires-in-Compare : goal.compile_logical-compile_side-requires-in-Compare
+compile_logical-compile_side-requires-in-Compare t c =
+    let seen = ap logical_view c.in-Compare.is ∙ compare_viewed c.in-Compare.left c.in-Compare.op c.in-Compare.right in
+    let both = and_parts (comparable_passes (comparable_view c.in-Compare.left) readable) (comparable_passes (comparable_view c.in-Compare.right) readable) (subst (λ (l : syntax.Logical). logical_passes l readable ≡ true) seen c.requires.literals) in
+    let size = ap size_of_logical seen in
+    (omega (arith, size, c.decreases), both.1)
+
+pub compile_call-returns : goal.compile_call-returns
+compile_call-returns t c =
+    let made : Invoked = record { named = c.in_ok-named.named; arguments = c.in_ok-arguments.arguments } in
+    let name : List ℕ = string_bytes c.args.call.now.name in
+    means_by (syntax.call (chars name)) (λ (table : Table). invoked_view table made) (call_view c.args.call.now)
+    (λ table. invoked_is table made ∙ ap (λ (x : List ℕ). syntax.call (chars x) (givens_view table made.arguments.items)) (c.in_ok-named.ensures ∙ c.deref.ensures))
+    (call_viewed c.args.call.now ∙ ap (λ (l : List Argument). syntax.call (chars name) (arguments_view l)) (sym c.deref-2.ensures.value))
+    c.in_ok-arguments.ensures
+
+pub compile_segments-loop-segment-preserved : goal.compile_segments-loop-segment-preserved
+compile_segments-loop-segment-preserved t c =
+    let i : ℕ = c.loop-segment.segment-index in
+    let all : List Segment = c.args.segments.now in
+    let first : Segment = c.segment-item.result in
+    let here : drop i all ≡ first ∷ drop (i + 1) all = item_at all i first c.loop-segment-test.true c.segment-item.is in
+    let size = ap (λ (l : List Segment). size_of_segments (segments_view l)) here in
+    let before = c.loop-segment.invariant.size in
+    record {
+      means = one_more step_view c.loop-segment.compiled.items c.in_ok-one.one (segment_view first) (map segment_view (drop (i + 1) all)) c.push.new.self.items (ap (map segment_view) here) c.in_ok-push.ensures.items c.loop-segment.invariant.means c.in_ok-one.ensures;
+      literals = (and_parts _ _ (subst (λ (l : List Segment). segments_pass (segments_view l) readable ≡ true) here c.loop-segment.invariant.literals)).1;
+      size = omega (arith, size, before);
+    }
+
+pub compile_segments-returns : goal.compile_segments-returns
+compile_segments-returns t c = none_more step_view c.loop-segment.compiled.items segments_of (ap (map segment_view) (drop_all c.loop-segment.segment-index c.args.segments.now c.loop-segment-test.false)) c.loop-segment.invariant.means
+
+pub compile_selectors-loop-selector-preserved : goal.compile_selectors-loop-selector-preserved
+compile_selectors-loop-selector-preserved t c =
+    let i : ℕ = c.loop-selector.selector-index in
+    let all : List Selector = c.args.selectors.now in
+    let first : Selector = c.selector-item.result in
+    let here : drop i all ≡ first ∷ drop (i + 1) all = item_at all i first c.loop-selector-test.true c.selector-item.is in
+    let size = ap (λ (l : List Selector). size_of_selectors (selectors_view l)) here in
+    let before = c.loop-selector.invariant.size in
+    record {
+      means = one_more choice_view c.loop-selector.compiled.items c.in_ok-one.one (selector_view first) (map selector_view (drop (i + 1) all)) c.push.new.self.items (ap (map selector_view) here) c.in_ok-push.ensures.items c.loop-selector.invariant.means c.in_ok-one.ensures;
+      literals = (and_parts _ _ (subst (λ (l : List Selector). selectors_pass (selectors_view l) readable ≡ true) here c.loop-selector.invariant.literals)).1;
+      size = omega (arith, size, before);
+    }
+
+pub compile_selectors-returns : goal.compile_selectors-returns
+compile_selectors-returns t c = none_more choice_view c.loop-selector.compiled.items selectors_of (ap (map selector_view) (drop_all c.loop-selector.selector-index c.args.selectors.now c.loop-selector-test.false)) c.loop-selector.invariant.means
+
+pub compile_logicals-loop-part-preserved : goal.compile_logicals-loop-part-preserved
+compile_logicals-loop-part-preserved t c =
+    let i : ℕ = c.loop-part.part-index in
+    let all : List Logical = c.args.parts.now in
+    let first : Logical = c.part-item.result in
+    let here : drop i all ≡ first ∷ drop (i + 1) all = item_at all i first c.loop-part-test.true c.part-item.is in
+    let size = ap (λ (l : List Logical). size_of_logicals (logicals_view l)) here in
+    let before = c.loop-part.invariant.size in
+    record {
+      means = one_more condition_view c.loop-part.compiled.items c.in_ok-one.one (logical_view first) (map logical_view (drop (i + 1) all)) c.push.new.self.items (ap (map logical_view) here) c.in_ok-push.ensures.items c.loop-part.invariant.means c.in_ok-one.ensures;
+      literals = (and_parts _ _ (subst (λ (l : List Logical). logicals_pass (logicals_view l) readable ≡ true) here c.loop-part.invariant.literals)).1;
+      size = omega (arith, size, before);
+    }
+
+pub compile_logicals-returns : goal.compile_logicals-returns
+compile_logicals-returns t c = none_more condition_view c.loop-part.compiled.items logicals_of (ap (map logical_view) (drop_all c.loop-part.part-index c.args.parts.now c.loop-part-test.false)) c.loop-part.invariant.means
+
+pub compile_arguments-loop-argument-preserved : goal.compile_arguments-loop-argument-preserved
+compile_arguments-loop-argument-preserved t c =
+    let i : ℕ = c.loop-argument.argument-index in
+    let all : List Argument = c.args.arguments.now in
+    let first : Argument = c.argument-item.result in
+    let here : drop i all ≡ first ∷ drop (i + 1) all = item_at all i first c.loop-argument-test.true c.argument-item.is in
+    let size = ap (λ (l : List Argument). size_of_arguments (arguments_view l)) here in
+    let before = c.loop-argument.invariant.size in
+    record {
+      means = one_more given_view c.loop-argument.compiled.items c.in_ok-one.one (argument_view first) (map argument_view (drop (i + 1) all)) c.push.new.self.items (ap (map argument_view) here) c.in_ok-push.ensures.items c.loop-argument.invariant.means c.in_ok-one.ensures;
+      literals = (and_parts _ _ (subst (λ (l : List Argument). arguments_pass (arguments_view l) readable ≡ true) here c.loop-argument.invariant.literals)).1;
+      size = omega (arith, size, before);
+    }
+
+pub compile_arguments-returns : goal.compile_arguments-returns
+compile_arguments-returns t c = none_more given_view c.loop-argument.compiled.items arguments_of (ap (map argument_view) (drop_all c.loop-argument.argument-index c.args.arguments.now c.loop-argument-test.false)) c.loop-argument.invariant.means

@@ -1,0 +1,22 @@
+-- The condition means the expression. No answer was there.
+use Rattle.std.proofs.Common.{rules, ◌≡◌, ◌∙◌, ap, subst, List}
+use Rattle.std.specs.Prelude.{IfOk}
+use Rattle.jp_model.specs.Meaning.Selecting.{truth}
+use Rattle.jp_model.specs.Query.Syntax.{Logical}
+use Rattle.jp_query.specs.View.{logical_view}
+use Rattle.jp_tape.specs.Cursors.{node_of}
+use Rattle.jp_eval.specs.Programs.{table_of, condition_view}
+use Rattle.jp_eval.specs.declared.program.Slot.{Slot}
+use Rattle.jp_eval.proofs.Meanings.{whole}
+use Rattle.jp_eval.proofs.evaluate.truth.Goals as goal
+
+pub holds-requires : goal.holds-requires
+holds-requires c = record {
+  line = c.requires.line;
+  kept = c.in_ok-answers.ensures (record { alloc = c.args.alloc; slots = c.deref.result; root = c.args.root; at_root = c.requires.root });
+}
+
+pub returns : goal.returns
+returns c =
+    let seen = ap (λ (slots : List Slot). condition_view (table_of slots) c.in_ok-condition.condition) c.deref.ensures.value ∙ whole _ _ c.in_ok-condition.ensures in
+    subst (λ (l : Logical). IfOk c.holds.result (λ answer. answer ≡ truth l (node_of c.args.node) (node_of c.args.root).tree)) seen c.holds.ensures.value

@@ -1,0 +1,465 @@
+-- What was added is what the steps select, and what was answered is what the parts of a filter mean.
+use Rattle.std.proofs.Common.{rules, w64, ℤ, pos, Bool, ◌≡◌, ◌∙◌, ◌+◌, ◌-◌, ◌++◌, [], ◌∷◌, List, ℕ, true, false, refl, map, take, drop, length, filter, flat_map, sym, ap, ap₂, subst, arith, Some, Option}
+use Rattle.std.specs.Prelude.{IfOk, OnOk, not}
+use Rattle.jp_model.specs.Json.Tree.{Tree, Value}
+use Rattle.jp_model.specs.Meaning.Nodes.{Node, children, children_where, subtree}
+use Rattle.jp_model.specs.Steps.{Step}
+use Rattle.jp_model.specs.Meaning.Selecting.{nodes, selected, select, truth, path_nodes, given_by, call_value, call_truth}
+use Rattle.jp_model.specs.Meaning.Slices.{named, indexed, sliced, is_index}
+use Rattle.jp_model.specs.Meaning.Functions.{Given, length_of, counted, in_pattern, single_value, literal_value}
+use Rattle.jp_model.specs.Query.Syntax as syntax
+use Rattle.jp_model.specs.Query.Syntax.{Segments}
+use Rattle.jp_model.proofs.Seek.{no_nodes}
+use Rattle.jp_tape.specs.declared.cursor.Cursor.{Cursor}
+use Rattle.jp_tape.specs.Cursors.{line_of, place_of, node_of, nodes_from, nodes_after}
+use Rattle.jp_values.specs.declared.value.Value.{Value as Side}
+use Rattle.jp_values.specs.Values.{value_view}
+use Rattle.jp_eval.specs.Frames.{table_in, tree_in, reached, slot_nodes, AreKept}
+use Rattle.jp_eval.specs.Functions.{passing}
+use Rattle.jp_eval.specs.Programs.{steps_view, choices_view, choice_view, condition_view, nodes_view, invoked_view, given_view}
+use Rattle.jp_eval.specs.Walks.{IsAt, rises}
+use Rattle.jp_eval.specs.declared.frame.Frame.{Frame}
+use Rattle.jp_eval.specs.declared.functions.Function.{Function}
+use Rattle.jp_eval.specs.declared.functions.Function.TheVariants as functions
+use Rattle.jp_query.specs.View.{literal_view}
+use Rattle.std.proofs.Math.Logic.{∥∥₁_elim}
+use Rattle.jp_eval.specs.declared.leaves.LiteralPattern.{LiteralPattern}
+use Rattle.jp_eval.specs.declared.program.Choice.{Choice}
+use Rattle.jp_eval.specs.declared.program.Given.{Given as Held}
+use Rattle.jp_eval.specs.declared.program.Invoked.{Invoked}
+use Rattle.jp_eval.proofs.Calls.{called, few_called, many_called, none_called, several_called}
+use Rattle.jp_eval.proofs.Compiled.{name_is, index_is, slice_is, nodes_given, pattern_given}
+use Rattle.jp_eval.proofs.Counts.{counted_so, single_found, none_single}
+use Rattle.jp_eval.proofs.Descendants.{below_at}
+use Rattle.jp_eval.proofs.Goes.{Goes, others_are, goes_from, is_done, is_full, now_is, filter_taken, filter_passed, nothing_added}
+use Rattle.jp_eval.proofs.Kept.{adds_none, adds_more, cut_back, line_on, line_of_some}
+use Rattle.jp_eval.proofs.Lists.{item_at, one_item, two_items}
+use Rattle.jp_eval.proofs.Patterns.{told, one_proof}
+use Rattle.jp_eval.proofs.Sizes.{size_of_selectors}
+use Rattle.jp_eval.proofs.Slices.{none_risen}
+use Rattle.jp_eval.proofs.Walks.{chosen_from, chosen_here, passed_here, at_next, index_fits}
+use Rattle.std.proofs.lemmas.Bool.{ltb-true, ltb-false}
+use Rattle.std.proofs.lemmas.List.{drop_all}
+use Rattle.std.specs.Str.{chars}
+use mir.Val.{to_z, of_z}
+use Rattle.jp_eval.proofs.run.+eval.Goals as goal
+use Rattle.jp_eval.proofs.run.+eval.Goals.{push_filtered-then-branch+in_ok-push_steps, push_filtered-else-branch, single_reached-then-len-before, single_reached-else-len-before, call_value-in_default-via-then-as_slice-lt1, call_value-in_default-via-else-as_slice-lt1+else-this-lt2, call_truth-in-Some-Match, call_truth-in-Some-Search, push_rising-then-has+in_ok-push_steps, push_rising-else-has, push_rising-then-len-most-via-then-len-most, push_rising-then-len-most-via-else-len-most+then-ends_before}
+
+-- ---- children
+
+pub push_children-returns-in_err-push_steps : goal.push_children-returns-in_err-push_steps
+push_children-returns-in_err-push_steps t c = record { adds = adds_more c.loop-next.invariant.goes.kept c.in_err-push_steps.ensures.adds; kept = c.in_err-push_steps.ensures.kept; nodes = search rules }
+
+pub push_children-loop-next-preserved : goal.push_children-loop-next-preserved
+push_children-loop-next-preserved t c =
+    let u : Tree = (node_of c.args.run.root).tree in
+    let ss : Segments = steps_view (table_in c.args.run) c.args.rest.now in
+    let child : Cursor = c.in-Some.child in
+    let kept = c.loop-next.invariant in
+    record {
+      goes = others_are (nodes ss (nodes_from c.next_sibling-next.result) u) (ap (λ (l : List Node). nodes ss l u) (sym c.next_sibling-next.ensures.nodes))
+          (goes_from c.push_steps.new.frame.found.items ss u (node_of child ∷ []) (nodes_after child)
+          (others_are (nodes ss (nodes_from (Some child)) u) (ap (λ (o : Option Cursor). nodes ss (nodes_from o) u) c.in-Some.is) kept.goes)
+          c.in_ok-push_steps.ensures.adds c.in_ok-push_steps.ensures.nodes);
+      kept = c.in_ok-push_steps.ensures.kept;
+      line = line_on c.next_sibling-next.result _ _ c.next_sibling-next.ensures.line (line_of_some _ child _ c.in-Some.is kept.line);
+    }
+
+pub push_children-returns : goal.push_children-returns
+push_children-returns t c =
+    let u : Tree = (node_of c.args.run.root).tree in
+    let ss : Segments = steps_view (table_in c.args.run) c.args.rest.now in
+    record { adds = c.loop-next.invariant.goes.kept; kept = c.loop-next.invariant.kept; nodes = is_done c.loop-next.invariant.goes (ap (λ (o : Option Cursor). nodes ss (nodes_from o) u) c.in_default.is ∙ no_nodes ss u) }
+
+-- ---- descendants
+
+pub push_descendants-returns-in_err-push_choices : goal.push_descendants-returns-in_err-push_choices
+push_descendants-returns-in_err-push_choices t c = record { adds = adds_more c.loop-place.invariant.goes.kept c.in_err-push_choices.ensures.adds; kept = c.in_err-push_choices.ensures.kept; nodes = search rules }
+
+pub push_descendants-loop-place-preserved : goal.push_descendants-loop-place-preserved
+push_descendants-loop-place-preserved t c =
+    let u : Tree = (node_of c.args.run.root).tree in
+    let ss : Segments = steps_view (table_in c.args.run) c.args.rest.now in
+    let f = λ (d : Node). selected (choices_view (table_in c.args.run) c.args.choices.now) d u in
+    let n : Cursor = c.args.node in
+    let d : Cursor = c.go_to.result in
+    let place : ℕ = c.loop-place.place in
+    let all : List Node = subtree (node_of n) in
+    let low = c.loop-place.auto.place in
+    let start = c.place-place.ensures.value in
+    let stop = c.after-place-end.ensures.value in
+    let here : drop (place - place_of n) all ≡ node_of d ∷ drop (place + 1 - place_of n) all =
+    below_at n d place c.go_to.ensures.line c.go_to.ensures.place (omega (arith, low, start)) (omega (arith, c.loop-place-test.true, stop)) in
+    record {
+      goes = goes_from c.push_choices.new.frame.found.items ss u (f (node_of d)) (flat_map f (drop (place + 1 - place_of n) all))
+          (others_are (nodes ss (f (node_of d) ++ flat_map f (drop (place + 1 - place_of n) all)) u) (ap (λ (l : List Node). nodes ss (flat_map f l) u) here) c.loop-place.invariant.goes)
+          c.in_ok-push_choices.ensures.adds c.in_ok-push_choices.ensures.nodes;
+      kept = c.in_ok-push_choices.ensures.kept;
+    }
+
+pub push_descendants-returns : goal.push_descendants-returns
+push_descendants-returns t c =
+    let u : Tree = (node_of c.args.run.root).tree in
+    let ss : Segments = steps_view (table_in c.args.run) c.args.rest.now in
+    let f = λ (d : Node). selected (choices_view (table_in c.args.run) c.args.choices.now) d u in
+    let n : Cursor = c.args.node in
+    let all : List Node = subtree (node_of n) in
+    let stop = c.after-place-end.ensures.value in
+    let none : drop (c.loop-place.place - place_of n) all ≡ [] = drop_all (c.loop-place.place - place_of n) all (omega (arith, stop, c.loop-place-test.false)) in
+    record { adds = c.loop-place.invariant.goes.kept; kept = c.loop-place.invariant.kept; nodes = is_done c.loop-place.invariant.goes (ap (λ (l : List Node). nodes ss (flat_map f l) u) none ∙ no_nodes ss u) }
+
+-- ---- filters
+
+pub push_filtered-returns-in_err-holds : goal.push_filtered-returns-in_err-holds
+push_filtered-returns-in_err-holds t c = record { adds = adds_more c.loop-next.invariant.goes.kept c.in_err-holds.ensures.lends.adds; kept = c.in_err-holds.ensures.lends.kept; nodes = search rules }
+
+pub push_filtered-returns-in_err-push_steps : goal.push_filtered-returns-in_err-push_steps
+push_filtered-returns-in_err-push_steps t c = record { adds = adds_more c.loop-next.invariant.goes.kept (adds_more c.in_ok-holds.ensures.lends.adds c.in_err-push_steps.ensures.adds); kept = c.in_err-push_steps.ensures.kept; nodes = search rules }
+
+pub push_filtered-loop-next-preserved : goal.push_filtered-loop-next-preserved
+push_filtered-loop-next-preserved t c =
+    let u : Tree = (node_of c.args.run.root).tree in
+    let ss : Segments = steps_view (table_in c.args.run) c.args.rest.now in
+    let p = λ (n : Node). truth (condition_view (table_in c.args.run) c.args.condition.now) n u in
+    let child : Cursor = c.in-Some.child in
+    let kept = c.loop-next.invariant in
+    let next : Option Cursor = c.next_sibling-next.result in
+    let here : Goes (line_of c.args.run.root) c.args.most c.args.frame.now.found.items c.holds.new.frame.found.items (nodes ss (filter p (node_of child ∷ nodes_after child)) u) (nodes ss (filter p (children (node_of c.args.node))) u) =
+    now_is c.holds.new.frame.found.items c.in_ok-holds.ensures.lends.same (others_are (nodes ss (filter p (nodes_from (Some child))) u) (ap (λ (o : Option Cursor). nodes ss (filter p (nodes_from o)) u) c.in-Some.is) kept.goes) in
+    let goes : Goes (line_of c.args.run.root) c.args.most c.args.frame.now.found.items c.if-branch.frame.found.items (nodes ss (filter p (nodes_after child)) u) (nodes ss (filter p (children (node_of c.args.node))) u) =
+    elim c.if-branch.branch [
+      | push_filtered-then-branch+in_ok-push_steps w ↦
+          (let taken : p (node_of child) ≡ true = sym c.in_ok-holds.ensures.value ∙ w.if-branch.true in
+          now_is c.if-branch.frame.found.items (ap (λ (v : Frame). v.found.items) w.frame-is)
+          (goes_from w.push_steps.new.frame.found.items ss u (node_of child ∷ []) (filter p (nodes_after child))
+          (others_are (nodes ss (node_of child ∷ filter p (nodes_after child)) u) (ap (λ (l : List Node). nodes ss l u) (filter_taken p (node_of child) (nodes_after child) taken)) here)
+          w.in_ok-push_steps.ensures.adds w.in_ok-push_steps.ensures.nodes))
+      | push_filtered-else-branch w ↦
+          (let passed : p (node_of child) ≡ false = sym c.in_ok-holds.ensures.value ∙ w.if-branch.false in
+          now_is c.if-branch.frame.found.items (ap (λ (v : Frame). v.found.items) w.frame-is)
+          (others_are (nodes ss (filter p (nodes_after child)) u) (ap (λ (l : List Node). nodes ss l u) (filter_passed p (node_of child) (nodes_after child) passed)) here))
+    ] in
+    record {
+      goes = others_are (nodes ss (filter p (nodes_from next)) u) (ap (λ (l : List Node). nodes ss (filter p l) u) (sym c.next_sibling-next.ensures.nodes)) goes;
+      kept = elim c.if-branch.branch [
+        | push_filtered-then-branch+in_ok-push_steps w ↦ subst (λ (f : Frame). AreKept c.args.run f.answers.items) (sym w.frame-is) w.in_ok-push_steps.ensures.kept
+        | push_filtered-else-branch w ↦ subst (λ (f : Frame). AreKept c.args.run f.answers.items) (sym w.frame-is) c.in_ok-holds.ensures.lends.kept
+      ];
+      line = line_on next _ _ c.next_sibling-next.ensures.line (line_of_some _ child _ c.in-Some.is kept.line);
+    }
+
+pub push_filtered-returns : goal.push_filtered-returns
+push_filtered-returns t c =
+    let u : Tree = (node_of c.args.run.root).tree in
+    let ss : Segments = steps_view (table_in c.args.run) c.args.rest.now in
+    let p = λ (n : Node). truth (condition_view (table_in c.args.run) c.args.condition.now) n u in
+    record { adds = c.loop-next.invariant.goes.kept; kept = c.loop-next.invariant.kept; nodes = is_done c.loop-next.invariant.goes (ap (λ (o : Option Cursor). nodes ss (filter p (nodes_from o)) u) c.in_default.is ∙ no_nodes ss u) }
+
+-- ---- from each of some nodes
+
+pub push_from_each-returns-in_err-push_steps : goal.push_from_each-returns-in_err-push_steps
+push_from_each-returns-in_err-push_steps t c = record { adds = adds_more c.loop-start.invariant.goes.kept c.in_err-push_steps.ensures.adds; kept = c.in_err-push_steps.ensures.kept; nodes = search rules }
+
+pub push_from_each-loop-start-preserved : goal.push_from_each-loop-start-preserved
+push_from_each-loop-start-preserved t c =
+    let u : Tree = (node_of c.args.run.root).tree in
+    let ss : Segments = steps_view (table_in c.args.run) c.args.rest.now in
+    let i : ℕ = c.loop-start.start-index in
+    let starts : List Cursor = c.args.starts.now in
+    let start : Cursor = c.start-item.result in
+    let here : drop i starts ≡ start ∷ drop (i + 1) starts = item_at starts i start c.loop-start-test.true c.start-item.is in
+    record {
+      goes = goes_from c.push_steps.new.frame.found.items ss u (node_of start ∷ []) (map node_of (drop (i + 1) starts))
+          (others_are (nodes ss (node_of start ∷ map node_of (drop (i + 1) starts)) u) (ap (λ (l : List Cursor). nodes ss (map node_of l) u) here) c.loop-start.invariant.goes)
+          c.in_ok-push_steps.ensures.adds c.in_ok-push_steps.ensures.nodes;
+      kept = c.in_ok-push_steps.ensures.kept;
+    }
+
+pub push_from_each-returns : goal.push_from_each-returns
+push_from_each-returns t c =
+    let u : Tree = (node_of c.args.run.root).tree in
+    let ss : Segments = steps_view (table_in c.args.run) c.args.rest.now in
+    let starts : List Cursor = c.args.starts.now in
+    record { adds = c.loop-start.invariant.goes.kept; kept = c.loop-start.invariant.kept; nodes = is_done c.loop-start.invariant.goes (ap (λ (l : List Cursor). nodes ss (map node_of l) u) (drop_all c.loop-start.start-index starts c.loop-start-test.false) ∙ no_nodes ss u) }
+
+-- ---- selectors
+
+pub push_choices-returns-in_err-push_choice : goal.push_choices-returns-in_err-push_choice
+push_choices-returns-in_err-push_choice t c = record { adds = adds_more c.loop-choice.invariant.goes.kept c.in_err-push_choice.ensures.adds; kept = c.in_err-push_choice.ensures.kept; nodes = search rules }
+
+pub push_choices-loop-choice-preserved : goal.push_choices-loop-choice-preserved
+push_choices-loop-choice-preserved t c =
+    let u : Tree = (node_of c.args.run.root).tree in
+    let ss : Segments = steps_view (table_in c.args.run) c.args.rest.now in
+    let n : Node = node_of c.args.node in
+    let i : ℕ = c.loop-choice.choice-index in
+    let all : List Choice = c.args.choices.now in
+    let first : Choice = c.choice-item.result in
+    let others : List Choice = drop (i + 1) all in
+    let kept = c.loop-choice.invariant in
+    let here : drop i all ≡ first ∷ others = item_at all i first c.loop-choice-test.true c.choice-item.is in
+    let size = ap (λ (l : List Choice). size_of_selectors (choices_view (table_in c.args.run) l)) here in
+    let before = kept.size in
+    record {
+      goes = goes_from c.push_choice.new.frame.found.items ss u (select (choice_view (table_in c.args.run) first) n u) (selected (choices_view (table_in c.args.run) others) n u)
+          (others_are (nodes ss (select (choice_view (table_in c.args.run) first) n u ++ selected (choices_view (table_in c.args.run) others) n u) u) (ap (λ (l : List Choice). nodes ss (selected (choices_view (table_in c.args.run) l) n u) u) here) kept.goes)
+          c.in_ok-push_choice.ensures.adds c.in_ok-push_choice.ensures.nodes;
+      kept = c.in_ok-push_choice.ensures.kept;
+      size = omega (arith, size, before);
+    }
+
+pub push_choices-returns : goal.push_choices-returns
+push_choices-returns t c =
+    let u : Tree = (node_of c.args.run.root).tree in
+    let ss : Segments = steps_view (table_in c.args.run) c.args.rest.now in
+    let n : Node = node_of c.args.node in
+    let all : List Choice = c.args.choices.now in
+    record { adds = c.loop-choice.invariant.goes.kept; kept = c.loop-choice.invariant.kept; nodes = is_done c.loop-choice.invariant.goes (ap (λ (l : List Choice). nodes ss (selected (choices_view (table_in c.args.run) l) n u) u) (drop_all c.loop-choice.choice-index all c.loop-choice-test.false) ∙ no_nodes ss u) }
+
+pub push_choice-returns-in-None : goal.push_choice-returns-in-None
+push_choice-returns-in-None t c =
+    let u : Tree = (node_of c.args.run.root).tree in
+    let ss : Segments = steps_view (table_in c.args.run) c.args.rest.now in
+    let n : Node = node_of c.args.node in
+    let none : select (choice_view (table_in c.args.run) c.args.choice.now) n u ≡ [] =
+    ap (λ (x : Choice). select (choice_view (table_in c.args.run) x) n u) c.in-Name.is ∙ (ap (λ (x : syntax.Selector). select x n u) (name_is (table_in c.args.run) c.in-Name.name) ∙ (ap (λ (x : List ℕ). named (chars x) n) (sym c.as_str.ensures.value) ∙ sym c.in-None.ensures.nodes)) in
+    record { adds = adds_none (line_of c.args.run.root) c.args.frame.now.found.items c.args.frame.now.found.items refl; kept = c.requires.stands.kept; nodes = nothing_added c.args.most c.args.frame.now.found.items ss u (select (choice_view (table_in c.args.run) c.args.choice.now) n u) c.requires.room none }
+
+pub push_choice-returns-in-None-find_element : goal.push_choice-returns-in-None-find_element
+push_choice-returns-in-None-find_element t c =
+    let u : Tree = (node_of c.args.run.root).tree in
+    let ss : Segments = steps_view (table_in c.args.run) c.args.rest.now in
+    let n : Node = node_of c.args.node in
+    let there : indexed c.in-Index.index n ≡ [] = search (rules, c.in-None-find_element.ensures.nodes) in
+    let none : select (choice_view (table_in c.args.run) c.args.choice.now) n u ≡ [] = ap (λ (x : Choice). select (choice_view (table_in c.args.run) x) n u) c.in-Index.is ∙ (ap (λ (x : syntax.Selector). select x n u) (index_is (table_in c.args.run) c.in-Index.index) ∙ there) in
+    record { adds = adds_none (line_of c.args.run.root) c.args.frame.now.found.items c.args.frame.now.found.items refl; kept = c.requires.stands.kept; nodes = nothing_added c.args.most c.args.frame.now.found.items ss u (select (choice_view (table_in c.args.run) c.args.choice.now) n u) c.requires.room none }
+
+-- ---- what some steps reach
+
+pub count_reached-returns-clause-lends : goal.count_reached-returns-clause-lends
+count_reached-returns-clause-lends t c =
+    let same = c.truncate.ensures.items ∙ cut_back c.len-before.result c.in_ok-push_steps.ensures.adds (sym (c.len-before.ensures ∙ c.args.frame.now.found.ok.0)) in
+    record { adds = adds_none _ _ _ same; kept = c.in_ok-push_steps.ensures.kept; same = same }
+
+pub count_reached-returns-clause-value : goal.count_reached-returns-clause-value
+count_reached-returns-clause-value t c =
+    let new = c.push_steps.new.frame.found in
+    let found : List Node = reached c.args.run c.args.steps.now (node_of c.args.start ∷ []) in
+    let size = new.ok in
+    let small = new.small in
+    let old = c.args.frame.now.found.ok.0 in
+    let sum = counted_so 18446744073709551615 c.args.frame.now.found.items new.items found c.in_ok-push_steps.ensures.nodes (omega (arith, size, small)) in
+    omega (arith, sum, size, old, c.len.ensures, c.len-before.ensures)
+
+pub single_reached-returns-clause-lends : goal.single_reached-returns-clause-lends
+single_reached-returns-clause-lends t c =
+    let same = c.truncate.ensures.items ∙ cut_back c.len-before.result c.in_ok-push_steps.ensures.adds (sym (c.len-before.ensures ∙ c.args.frame.now.found.ok.0)) in
+    record { adds = adds_none _ _ _ same; kept = c.in_ok-push_steps.ensures.kept; same = same }
+
+pub single_reached-returns-clause-value : goal.single_reached-returns-clause-value
+single_reached-returns-clause-value t c =
+    let new = c.push_steps.new.frame.found in
+    let found : List Node = reached c.args.run c.args.steps.now (node_of c.args.start ∷ []) in
+    let old : length c.args.frame.now.found.items ≡ c.len-before.result = sym (c.len-before.ensures ∙ c.args.frame.now.found.ok.0) in
+    let now : c.len.result ≡ length new.items = c.len.ensures ∙ new.ok.0 in
+    elim c.if-len-before.branch [
+      | single_reached-then-len-before w ↦
+          (ap value_view w.value-is
+          ∙ single_found _ c.args.frame.now.found.items new.items c.len-before.result found w.index.result.now c.in_ok-push_steps.ensures.adds old c.in_ok-push_steps.ensures.nodes (sym now ∙ w.if-len-before.true) (sym w.index.ensures))
+      | single_reached-else-len-before w ↦
+          (ap value_view w.value-is ∙ none_single _ c.args.frame.now.found.items new.items c.len-before.result found c.in_ok-push_steps.ensures.adds old c.in_ok-push_steps.ensures.nodes (λ e. w.if-len-before.false (now ∙ e)))
+    ]
+
+pub has_reached-returns-clause-lends : goal.has_reached-returns-clause-lends
+has_reached-returns-clause-lends t c =
+    let same = c.truncate.ensures.items ∙ cut_back c.len-before.result c.in_ok-push_steps.ensures.adds (sym (c.len-before.ensures ∙ c.args.frame.now.found.ok.0)) in
+    record { adds = adds_none _ _ _ same; kept = c.in_ok-push_steps.ensures.kept; same = same }
+
+-- ---- calls
+
+pub call_truth-returns-in_default-clause-value : goal.call_truth-returns-in_default-clause-value
+call_truth-returns-in_default-clause-value t c = few_called (table_in c.args.run) c.args.invoked.now c.as_slice.result.now (node_of c.args.node) (node_of c.args.run.root).tree c.as_slice.ensures.value c.in_default.len_below
+
+pub call_truth-returns-in_default-2-clause-value : goal.call_truth-returns-in_default-2-clause-value
+call_truth-returns-in_default-2-clause-value t c = many_called (table_in c.args.run) c.args.invoked.now c.as_slice.result.now (node_of c.args.node) (node_of c.args.run.root).tree c.as_slice.ensures.value c.in_default.len_at_least
+
+pub call_truth-returns-clause-value : goal.call_truth-returns-clause-value
+call_truth-returns-clause-value t c =
+    let call : Invoked = c.args.invoked.now in
+    let n : Node = node_of c.args.node in
+    let u : Tree = (node_of c.args.run.root).tree in
+    let items : List Held = c.first-item.result ∷ c.second-item.result ∷ [] in
+    let are : items ≡ call.arguments.items = sym (sym c.as_slice.ensures.value ∙ two_items c.as_slice.result.now c.first-item.result c.second-item.result c.first-item.is c.second-item.is c.in-len2.len_at_least c.in-len2.len_below) in
+    let one : Given = given_by (given_view (table_in c.args.run) c.first-item.result) n u in
+    let two : Given = given_by (given_view (table_in c.args.run) c.second-item.result) n u in
+    let same : in_pattern (passing c.match-which-2.whole) (value_view c.in_ok-text.text) (value_view c.in_ok-pattern.pattern) ≡ in_pattern (passing c.match-which-2.whole) one.value two.value =
+    ap₂ (λ (a b : Option Value). in_pattern (passing c.match-which-2.whole) a b) c.in_ok-text.ensures.value c.in_ok-pattern.ensures.value in
+    let answer : in_pattern (passing c.match-which-2.whole) one.value two.value ≡ call_truth (invoked_view (table_in c.args.run) call) n u =
+    elim c.match-which-2.branch [
+      | call_truth-in-Some-Match w ↦
+          (let so : call.named.function ≡ Some functions.Match = cc in
+          ap (λ (b : Bool). in_pattern (passing b) one.value two.value) w.whole-is
+          ∙ sym (ap (λ (v : syntax.Call). call_truth v n u) (called (table_in c.args.run) call items functions.Match are so)))
+      | call_truth-in-Some-Search w ↦
+          (let so : call.named.function ≡ Some functions.Search = cc in
+          ap (λ (b : Bool). in_pattern (passing b) one.value two.value) w.whole-is
+          ∙ sym (ap (λ (v : syntax.Call). call_truth v n u) (called (table_in c.args.run) call items functions.Search are so)))
+    ] in
+    subst (λ (v : Bool). IfOk c.in_pattern.result (λ b. b ≡ v)) (same ∙ answer) c.in_pattern.ensures
+
+pub call_truth-returns-in-Pattern-clause-value : goal.call_truth-returns-in-Pattern-clause-value
+call_truth-returns-in-Pattern-clause-value t c =
+    let call : Invoked = c.args.invoked.now in
+    let n : Node = node_of c.args.node in
+    let u : Tree = (node_of c.args.run.root).tree in
+    let items : List Held = c.first-item.result ∷ c.second-item.result ∷ [] in
+    let are : items ≡ call.arguments.items = sym (sym c.as_slice.ensures.value ∙ two_items c.as_slice.result.now c.first-item.result c.second-item.result c.first-item.is c.second-item.is c.in-len2.len_at_least c.in-len2.len_below) in
+    let one : Given = given_by (given_view (table_in c.args.run) c.first-item.result) n u in
+    let two : Given = given_by (given_view (table_in c.args.run) c.second-item.result) n u in
+    let pattern : LiteralPattern = c.in-Pattern.pattern in
+    let spelled : Option Value = Some (literal_value (literal_view pattern.constant.literal)) in
+    let second : two.value ≡ spelled = ap (λ (x : Held). (given_by (given_view (table_in c.args.run) x) n u).value) c.in-Pattern.is ∙ ap (λ (a : syntax.Argument). (given_by a n u).value) (pattern_given (table_in c.args.run) pattern) in
+    let same : in_pattern (passing c.match-which-2.whole) (value_view c.in_ok-text.text) spelled ≡ in_pattern (passing c.match-which-2.whole) one.value two.value =
+    ap₂ (λ (a b : Option Value). in_pattern (passing c.match-which-2.whole) a b) c.in_ok-text.ensures.value (sym second) in
+    let answer : in_pattern (passing c.match-which-2.whole) one.value two.value ≡ call_truth (invoked_view (table_in c.args.run) call) n u =
+    elim c.match-which-2.branch [
+      | call_truth-in-Some-Match w ↦
+          (let so : call.named.function ≡ Some functions.Match = cc in
+          ap (λ (b : Bool). in_pattern (passing b) one.value two.value) w.whole-is
+          ∙ sym (ap (λ (v : syntax.Call). call_truth v n u) (called (table_in c.args.run) call items functions.Match are so)))
+      | call_truth-in-Some-Search w ↦
+          (let so : call.named.function ≡ Some functions.Search = cc in
+          ap (λ (b : Bool). in_pattern (passing b) one.value two.value) w.whole-is
+          ∙ sym (ap (λ (v : syntax.Call). call_truth v n u) (called (table_in c.args.run) call items functions.Search are so)))
+    ] in
+    ∥∥₁_elim pattern.spelled (one_proof c.read_passes.result _)
+    (λ e. subst (λ (v : Bool). IfOk c.read_passes.result (λ b. b ≡ v)) (same ∙ answer) (told c.read_passes.result (passing c.match-which-2.whole) _ (value_view c.in_ok-text.text) spelled e c.read_passes.ensures))
+
+pub call_value-returns-in_default-clause-value : goal.call_value-returns-in_default-clause-value
+call_value-returns-in_default-clause-value t c =
+    let n : Node = node_of c.args.node in
+    let u : Tree = (node_of c.args.run.root).tree in
+    elim c.in_default.branch [
+      | call_value-in_default-via-then-as_slice-lt1 w ↦ none_called (table_in c.args.run) c.args.invoked.now c.as_slice.result.now n u c.as_slice.ensures.value (ltb-true (length c.as_slice.result.now) 1 w.if-as_slice-lt1-1.true)
+      | call_value-in_default-via-else-as_slice-lt1+else-this-lt2 w ↦ several_called (table_in c.args.run) c.args.invoked.now c.as_slice.result.now n u c.as_slice.ensures.value (ltb-false (length c.as_slice.result.now) 2 w.if-this-lt2-1.false)
+    ]
+
+pub call_value-returns-in_ok-count-in-Nodes-clause-value : goal.call_value-returns-in_ok-count-in-Nodes-clause-value
+call_value-returns-in_ok-count-in-Nodes-clause-value t c =
+    let call : Invoked = c.args.invoked.now in
+    let n : Node = node_of c.args.node in
+    let u : Tree = (node_of c.args.run.root).tree in
+    let items : List Held = c.given-item.result ∷ [] in
+    let are : items ≡ call.arguments.items = sym (sym c.as_slice.ensures.value ∙ one_item c.as_slice.result.now c.given-item.result c.given-item.is c.in-len1.len_at_least c.in-len1.len_below) in
+    let is_count : call.named.function ≡ Some functions.Count = sym c.which.ensures ∙ (c.in-Some-Count.is ∙ ap (λ (o : Function). Some o) c.in-Some-Count.field-0-is) in
+    let seen = called (table_in c.args.run) call items functions.Count are is_count in
+    let nodes_is = ap (λ (a : syntax.Argument). length (given_by a n u).nodes) (ap (given_view (table_in c.args.run)) c.in-Nodes.is ∙ nodes_given (table_in c.args.run) c.in-Nodes.nodes) in
+    ap (λ (k : ℕ). Some (counted k)) (c.in_ok-count-in-Nodes.ensures.value ∙ sym nodes_is) ∙ sym (ap (λ (v : syntax.Call). call_value v n u) seen)
+
+pub call_value-returns-in-Nodes-given-clause-value : goal.call_value-returns-in-Nodes-given-clause-value
+call_value-returns-in-Nodes-given-clause-value t c =
+    let call : Invoked = c.args.invoked.now in
+    let n : Node = node_of c.args.node in
+    let u : Tree = (node_of c.args.run.root).tree in
+    let items : List Held = c.given-item.result ∷ [] in
+    let are : items ≡ call.arguments.items = sym (sym c.as_slice.ensures.value ∙ one_item c.as_slice.result.now c.given-item.result c.given-item.is c.in-len1.len_at_least c.in-len1.len_below) in
+    let is_value : call.named.function ≡ Some functions.Value = sym c.which.ensures ∙ (c.in-Some-Value.is ∙ ap (λ (o : Function). Some o) c.in-Some-Value.field-0-is) in
+    let seen = called (table_in c.args.run) call items functions.Value are is_value in
+    let nodes_is = ap (λ (a : syntax.Argument). single_value (given_by a n u).nodes) (ap (given_view (table_in c.args.run)) c.in-Nodes-given.is ∙ nodes_given (table_in c.args.run) c.in-Nodes-given.nodes) in
+    subst (λ (v : Option Value). IfOk c.single_value.result (λ (r : Side). value_view r ≡ v)) (sym nodes_is ∙ sym (ap (λ (v : syntax.Call). call_value v n u) seen)) c.single_value.ensures.value
+
+-- ---- slices
+
+pub push_choice-returns-in-Slice : goal.push_choice-returns-in-Slice
+push_choice-returns-in-Slice t c =
+    let n : Node = node_of c.args.node in
+    let u : Tree = (node_of c.args.run.root).tree in
+    let fits : to_z w64 (of_z w64 c.unwrap_or.result) ≡ c.unwrap_or.result = search rules in
+    let seen = ap (choice_view (table_in c.args.run)) c.in-Slice.is ∙ slice_is (table_in c.args.run) c.in-Slice.first c.in-Slice.last c.in-Slice.step in
+    let same : sliced c.in-Slice.first c.in-Slice.last (to_z w64 (of_z w64 c.unwrap_or.result)) n ≡ select (choice_view (table_in c.args.run) c.args.choice.now) n u =
+    ap (λ (z : ℤ). sliced c.in-Slice.first c.in-Slice.last z n) (fits ∙ c.unwrap_or.ensures) ∙ sym (ap (λ (x : syntax.Selector). select x n u) seen) in
+    record { adds = c.push_slice.ensures.adds; kept = c.push_slice.ensures.kept; nodes = subst (λ (l : List Node). OnOk c.push_slice.result (map node_of c.push_slice.new.frame.found.items ≡ take c.args.most (map node_of c.args.frame.now.found.items ++ nodes (steps_view (table_in c.args.run) c.args.rest.now) l u))) same c.push_slice.ensures.nodes }
+
+pub push_slice-returns-then-slice-gt0 : goal.push_slice-returns-then-slice-gt0
+push_slice-returns-then-slice-gt0 t c =
+    let u : Tree = (node_of c.args.run.root).tree in
+    record { adds = c.push_rising.ensures.adds; kept = c.push_rising.ensures.kept; nodes = subst (λ (l : List Node). OnOk c.push_rising.result (map node_of c.push_rising.new.frame.found.items ≡ take c.args.most (map node_of c.args.frame.now.found.items ++ nodes (steps_view (table_in c.args.run) c.args.rest.now) l u))) c.of.ensures c.push_rising.ensures.nodes }
+
+pub push_slice-returns : goal.push_slice-returns
+push_slice-returns t c =
+    let n : Node = node_of c.args.node in
+    let u : Tree = (node_of c.args.run.root).tree in
+    let same = ap (map node_of) c.deref.ensures.value ∙ c.in_ok-found.ensures.nodes in
+    record { adds = c.push_from_each.ensures.adds; kept = c.push_from_each.ensures.kept; nodes = subst (λ (l : List Node). OnOk c.push_from_each.result (map node_of c.push_from_each.new.frame.found.items ≡ take c.args.most (map node_of c.args.frame.now.found.items ++ nodes (steps_view (table_in c.args.run) c.args.rest.now) l u))) same c.push_from_each.ensures.nodes }
+
+pub push_rising-returns-in_err-push_steps : goal.push_rising-returns-in_err-push_steps
+push_rising-returns-in_err-push_steps t c = record { adds = adds_more c.loop-next.invariant.goes.kept c.in_err-push_steps.ensures.adds; kept = c.in_err-push_steps.ensures.kept; nodes = search rules }
+
+pub push_rising-loop-next-preserved : goal.push_rising-loop-next-preserved
+push_rising-loop-next-preserved t c =
+    let u : Tree = (node_of c.args.run.root).tree in
+    let ss : Segments = steps_view (table_in c.args.run) c.args.rest.now in
+    let n : Node = node_of c.args.node in
+    let passes : Step → Bool = is_index (rises c.args.slice.low c.args.slice.high c.args.slice.step) in
+    let i : ℕ = c.loop-next.index in
+    let child : Cursor = c.in-Some.child in
+    let next : Option Cursor = c.next_sibling-next.result in
+    let kept = c.loop-next.invariant in
+    let total : List Node = nodes ss (children_where passes n) u in
+    let at : IsAt n i (Some child) = subst (λ (o : Option Cursor). IsAt n i o) c.in-Some.is kept.at in
+    let here : Goes (line_of c.args.run.root) c.args.most c.args.frame.now.found.items c.loop-next.frame.found.items (nodes ss (chosen_from passes n i (Some child)) u) total =
+    others_are (nodes ss (chosen_from passes n i (Some child)) u) (ap (λ (o : Option Cursor). nodes ss (chosen_from passes n i o) u) c.in-Some.is) kept.goes in
+    let goes : Goes (line_of c.args.run.root) c.args.most c.args.frame.now.found.items c.if-has.frame.found.items (nodes ss (chosen_from passes n (i + 1) next) u) total =
+    elim c.if-has.branch [
+      | push_rising-then-has+in_ok-push_steps w ↦
+          (let chosen = chosen_here passes n i child next at c.next_sibling-next.ensures.children (sym c.has.ensures ∙ w.if-has.true) in
+          now_is c.if-has.frame.found.items (ap (λ (v : Frame). v.found.items) w.frame-is)
+          (goes_from w.push_steps.new.frame.found.items ss u (node_of child ∷ []) (chosen_from passes n (i + 1) next)
+          (others_are (nodes ss (node_of child ∷ chosen_from passes n (i + 1) next) u) (ap (λ (l : List Node). nodes ss l u) chosen) here)
+          w.in_ok-push_steps.ensures.adds w.in_ok-push_steps.ensures.nodes))
+      | push_rising-else-has w ↦
+          (let passed = passed_here passes n i child next c.next_sibling-next.ensures.children (sym c.has.ensures ∙ w.if-has.false) in
+          now_is c.if-has.frame.found.items (ap (λ (v : Frame). v.found.items) w.frame-is)
+          (others_are (nodes ss (chosen_from passes n (i + 1) next) u) (ap (λ (l : List Node). nodes ss l u) passed) here))
+    ] in
+    record {
+      goes = goes;
+      kept = elim c.if-has.branch [
+        | push_rising-then-has+in_ok-push_steps w ↦ subst (λ (f : Frame). AreKept c.args.run f.answers.items) (sym w.frame-is) w.in_ok-push_steps.ensures.kept
+        | push_rising-else-has w ↦ subst (λ (f : Frame). AreKept c.args.run f.answers.items) (sym w.frame-is) kept.kept
+      ];
+      at = at_next n i child next at c.next_sibling-next.ensures.nodes c.next_sibling-next.ensures.children;
+      line = line_on next _ _ c.next_sibling-next.ensures.line (line_of_some _ child _ c.in-Some.is kept.line);
+    }
+
+pub push_rising-returns : goal.push_rising-returns
+push_rising-returns t c =
+    let u : Tree = (node_of c.args.run.root).tree in
+    let ss : Segments = steps_view (table_in c.args.run) c.args.rest.now in
+    let n : Node = node_of c.args.node in
+    record { adds = c.loop-next.invariant.goes.kept; kept = c.loop-next.invariant.kept; nodes = is_done c.loop-next.invariant.goes (ap (λ (o : Option Cursor). nodes ss (chosen_from (is_index (rises c.args.slice.low c.args.slice.high c.args.slice.step)) n c.loop-next.index o) u) c.in_default.is ∙ no_nodes ss u) }
+
+pub push_rising-overflow_add-index : goal.push_rising-overflow_add-index
+push_rising-overflow_add-index t c =
+    let n : Node = node_of c.args.node in
+    let i : ℕ = c.loop-next.index in
+    let at : IsAt n i (Some c.in-Some.child) = subst (λ (o : Option Cursor). IsAt n i o) c.in-Some.is c.loop-next.invariant.at in
+    let small = index_fits c.args.node i c.in-Some.child at in
+    omega (arith, small)
+
+pub push_rising-returns-then-len-most : goal.push_rising-returns-then-len-most
+push_rising-returns-then-len-most t c =
+    let u : Tree = (node_of c.args.run.root).tree in
+    let ss : Segments = steps_view (table_in c.args.run) c.args.rest.now in
+    let n : Node = node_of c.args.node in
+    let r = c.args.slice in
+    record {
+      adds = c.loop-next.invariant.goes.kept;
+      kept = c.loop-next.invariant.kept;
+      nodes = elim c.then-len-most.branch [
+        | push_rising-then-len-most-via-then-len-most w ↦ is_full c.loop-next.invariant.goes (sym (c.len.ensures ∙ c.loop-next.frame.found.ok.0) ∙ w.if-len-most.true)
+        | push_rising-then-len-most-via-else-len-most+then-ends_before w ↦
+            (let none = none_risen r.low r.high r.step n c.loop-next.index c.loop-next.next (sym w.ends_before.ensures ∙ w.if-ends_before.true) in
+            is_done c.loop-next.invariant.goes (ap (λ (l : List Node). nodes ss l u) none ∙ no_nodes ss u))
+      ];
+    }

@@ -1,0 +1,51 @@
+-- What a call promises of the frame that it is lent.
+use Rattle.std.specs.Prelude.{◌≡◌, ℕ, ◌≤◌, List, [], ◌∷◌, ◌++◌, length, map, take, Option, Some, Result, OnOk, slice_get}
+use Rattle.jp_model.specs.Json.Tree.{Tree}
+use Rattle.jp_model.specs.Meaning.Nodes.{Node}
+use Rattle.jp_model.specs.Meaning.Selecting.{nodes, path_nodes}
+use Rattle.jp_eval.specs.Answers.{IsAnswer}
+use Rattle.jp_eval.specs.Found.{Adds}
+use Rattle.jp_eval.specs.Programs.{Table, table_of, slot_in, steps_view}
+use Rattle.jp_eval.specs.declared.frame.Run.{Run}
+use Rattle.jp_eval.specs.declared.frame.Answer.{Answer}
+use Rattle.jp_eval.specs.declared.frame.Frame.{Frame}
+use Rattle.jp_eval.specs.declared.program.Step.{Step}
+use Rattle.jp_tape.specs.declared.cursor.Cursor.{Cursor}
+use Rattle.jp_tape.specs.Cursors.{line_of, node_of}
+
+-- the meanings of the slots
+abbrev pub table_in : Run → Table
+table_in run = table_of run.slots.now
+
+-- the line's tree
+abbrev pub tree_in : Run → Tree
+tree_in run = (node_of run.root).tree
+
+-- what some steps select from some nodes
+abbrev pub reached : Run → List Step → List Node → List Node
+reached run steps starts = nodes (steps_view (table_in run) steps) starts (tree_in run)
+
+-- what the query of a slot selects
+abbrev pub slot_nodes : Run → ℕ → List Node
+slot_nodes run place = path_nodes (slot_in (table_in run) place) (node_of run.root) (tree_in run)
+
+-- each answer that was kept is right
+abbrev pub AreKept : Run → List (Option Answer) → Type 0
+AreKept run answers = (place : ℕ) (answer : Answer) → slice_get answers place ≡ Some (Some answer) → IsAnswer (slot_nodes run place) answer
+
+-- a node of the line, and a frame whose answers are right
+pub record Stands (run : Run) (node : Cursor) (frame : Frame) : Type 0 where
+  pub line : line_of node ≡ line_of run.root
+  pub kept : AreKept run frame.answers.items
+
+-- these nodes were added, as long as there were fewer than `most`
+pub record Pushes {E : Type 0} {U : Type 0} (run : Run) (most : ℕ) (old new : Frame) (result : Result U E) (found : List Node) : Type 0 where
+  pub adds : Adds (line_of run.root) old.found.items new.found.items
+  pub kept : AreKept run new.answers.items
+  pub nodes : OnOk result (map node_of new.found.items ≡ take most (map node_of old.found.items ++ found))
+
+-- the frame was lent, and has the nodes that it had
+pub record Lends {E : Type 0} {A : Type 0} (run : Run) (old new : Frame) (result : Result A E) : Type 0 where
+  pub adds : Adds (line_of run.root) old.found.items new.found.items
+  pub kept : AreKept run new.answers.items
+  pub same : OnOk result (new.found.items ≡ old.found.items)

@@ -1,0 +1,123 @@
+-- What a compiled query means: the segments that it was made of. The meaning of slots is given by a table.
+use Rattle.std.specs.Prelude.{◌≡◌, ℕ, List, [], ◌∷◌, ◌++◌, map, chars, string_bytes, Option, Some, None, slice_get}
+use Rattle.jp_model.specs.Query.Syntax as syntax
+use Rattle.jp_query.specs.View.{segments_of, selectors_of, logicals_of, arguments_of, literal_view, op_view}
+use Rattle.jp_eval.specs.declared.program.Step.{Step, fold-Step}
+use Rattle.jp_eval.specs.declared.program.Choice.{Choice, fold-Choice}
+use Rattle.jp_eval.specs.declared.program.Condition.{Condition, fold-Condition}
+use Rattle.jp_eval.specs.declared.program.Side.{Side, fold-Side}
+use Rattle.jp_eval.specs.declared.program.Given.{Given, fold-Given}
+use Rattle.jp_eval.specs.declared.program.Nodes.{Nodes, fold-Nodes}
+use Rattle.jp_eval.specs.declared.program.Invoked.{Invoked, fold-Invoked}
+use Rattle.jp_eval.specs.declared.program.Slot.{Slot, fold-Slot}
+use Rattle.jp_eval.specs.declared.program.Slot.TheOpen.{Slot-F}
+use Rattle.jp_eval.specs.declared.program.Choice.TheOpen.{Choice-F, Condition-F, Given-F, Nodes-F, Side-F, Step-F, Invoked-F}
+
+-- the segments of each slot
+abbrev pub Table : Type 0
+Table = List syntax.Segments
+
+abbrev pub segments_or_none : Option syntax.Segments → syntax.Segments
+segments_or_none None = syntax.no_segments
+segments_or_none (Some ss) = ss
+
+-- the query of a slot
+abbrev pub slot_in : Table → ℕ → syntax.Path
+slot_in table place = syntax.path syntax.root (segments_or_none (slice_get table place))
+
+-- ---- one level, with what is inside already seen
+
+abbrev pub choice_step : Choice-F syntax.Selector syntax.Logical syntax.Argument syntax.Path syntax.Comparable syntax.Segment syntax.Call → syntax.Selector
+choice_step (Choice-F.Name x) = syntax.name_selector (chars (string_bytes x))
+choice_step Choice-F.Wildcard = syntax.wildcard_selector
+choice_step (Choice-F.Index i) = syntax.index_selector i
+choice_step (Choice-F.Slice first last step) = syntax.slice_selector first last step
+choice_step (Choice-F.Filter l) = syntax.filter_selector l
+
+abbrev pub condition_step : Condition-F syntax.Selector syntax.Logical syntax.Argument syntax.Path syntax.Comparable syntax.Segment syntax.Call → syntax.Logical
+condition_step (Condition-F.Or ls) = syntax.or_all (logicals_of ls.items)
+condition_step (Condition-F.And ls) = syntax.and_all (logicals_of ls.items)
+condition_step (Condition-F.Not l) = syntax.negated l.value
+condition_step (Condition-F.Compare a op b) = syntax.compare a (op_view op) b
+condition_step (Condition-F.Exists p) = syntax.exists p
+condition_step (Condition-F.Test c) = syntax.test c
+
+abbrev pub given_step : Given-F syntax.Selector syntax.Logical syntax.Argument syntax.Path syntax.Comparable syntax.Segment syntax.Call → syntax.Argument
+given_step (Given-F.Given::Constant c) = syntax.constant_argument (literal_view c.literal)
+given_step (Given-F.Pattern p) = syntax.constant_argument (literal_view p.constant.literal)
+given_step (Given-F.Nodes p) = syntax.nodes_argument p
+given_step (Given-F.Condition l) = syntax.condition l
+given_step (Given-F.Given::Result c) = syntax.result_argument c
+
+abbrev pub nodes_step : Table → Nodes-F syntax.Selector syntax.Logical syntax.Argument syntax.Path syntax.Comparable syntax.Segment syntax.Call → syntax.Path
+nodes_step table (Nodes-F.Slot place) = slot_in table place
+nodes_step table (Nodes-F.Current ss) = syntax.path syntax.current (segments_of ss.items)
+
+abbrev pub side_step : Side-F syntax.Selector syntax.Logical syntax.Argument syntax.Path syntax.Comparable syntax.Segment syntax.Call → syntax.Comparable
+side_step (Side-F.Side::Constant c) = syntax.constant (literal_view c.literal)
+side_step (Side-F.Single p) = syntax.single p
+side_step (Side-F.Side::Result c) = syntax.result c
+
+abbrev pub step_step : Step-F syntax.Selector syntax.Logical syntax.Argument syntax.Path syntax.Comparable syntax.Segment syntax.Call → syntax.Segment
+step_step (Step-F.Child ss) = syntax.child_segment (selectors_of ss.items)
+step_step (Step-F.Descendant ss) = syntax.descendant_segment (selectors_of ss.items)
+
+abbrev pub invoked_step : Invoked-F syntax.Selector syntax.Logical syntax.Argument syntax.Path syntax.Comparable syntax.Segment syntax.Call → syntax.Call
+invoked_step c = syntax.call (chars (string_bytes c.named.name)) (arguments_of c.arguments.items)
+
+-- ---- a value of each type
+
+abbrev pub choice_view : Table → Choice → syntax.Selector
+choice_view table = fold-Choice syntax.Selector syntax.Logical syntax.Argument syntax.Path syntax.Comparable syntax.Segment syntax.Call choice_step condition_step given_step (nodes_step table) side_step step_step invoked_step
+
+abbrev pub condition_view : Table → Condition → syntax.Logical
+condition_view table = fold-Condition syntax.Selector syntax.Logical syntax.Argument syntax.Path syntax.Comparable syntax.Segment syntax.Call choice_step condition_step given_step (nodes_step table) side_step step_step invoked_step
+
+abbrev pub given_view : Table → Given → syntax.Argument
+given_view table = fold-Given syntax.Selector syntax.Logical syntax.Argument syntax.Path syntax.Comparable syntax.Segment syntax.Call choice_step condition_step given_step (nodes_step table) side_step step_step invoked_step
+
+abbrev pub nodes_view : Table → Nodes → syntax.Path
+nodes_view table = fold-Nodes syntax.Selector syntax.Logical syntax.Argument syntax.Path syntax.Comparable syntax.Segment syntax.Call choice_step condition_step given_step (nodes_step table) side_step step_step invoked_step
+
+abbrev pub side_view : Table → Side → syntax.Comparable
+side_view table = fold-Side syntax.Selector syntax.Logical syntax.Argument syntax.Path syntax.Comparable syntax.Segment syntax.Call choice_step condition_step given_step (nodes_step table) side_step step_step invoked_step
+
+abbrev pub step_view : Table → Step → syntax.Segment
+step_view table = fold-Step syntax.Selector syntax.Logical syntax.Argument syntax.Path syntax.Comparable syntax.Segment syntax.Call choice_step condition_step given_step (nodes_step table) side_step step_step invoked_step
+
+abbrev pub invoked_view : Table → Invoked → syntax.Call
+invoked_view table = fold-Invoked syntax.Selector syntax.Logical syntax.Argument syntax.Path syntax.Comparable syntax.Segment syntax.Call choice_step condition_step given_step (nodes_step table) side_step step_step invoked_step
+
+-- steps, choices, parts and arguments, in order
+abbrev pub steps_view : Table → List Step → syntax.Segments
+steps_view table ss = segments_of (map (step_view table) ss)
+
+abbrev pub choices_view : Table → List Choice → syntax.Selectors
+choices_view table ss = selectors_of (map (choice_view table) ss)
+
+abbrev pub conditions_view : Table → List Condition → syntax.Logicals
+conditions_view table ls = logicals_of (map (condition_view table) ls)
+
+abbrev pub givens_view : Table → List Given → syntax.Arguments
+givens_view table args = arguments_of (map (given_view table) args)
+
+-- ---- slots
+
+-- the segments of a query from the root, whose own slots are seen already
+abbrev pub slot_step : Slot-F syntax.Segments → syntax.Segments
+slot_step s = steps_view s.slots.items s.steps.items
+
+abbrev pub slot_view : Slot → syntax.Segments
+slot_view = fold-Slot syntax.Segments slot_step
+
+abbrev pub table_of : List Slot → Table
+table_of slots = map slot_view slots
+
+-- from the old slots it came to these
+abbrev pub Grows : List Slot → List Slot → Type 0
+Grows old new = (more : Table) × (table_of new ≡ table_of old ++ more)
+
+-- From the old slots it came to these, and what was compiled means this, whatever slots come behind them.
+pub record Means {A : Type 0} (old new : List Slot) (view : Table → A) (meaning : A) : Type 0 where
+  pub grows : Grows old new
+  pub is : (more : Table) → view (table_of new ++ more) ≡ meaning

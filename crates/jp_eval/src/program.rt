@@ -1,0 +1,89 @@
+//! A compiled query: the steps from nodes to nodes, with all that is the same for each line found beforehand.
+
+use crate::leaves::{Constant, LiteralPattern, Named};
+use jp_query::CompareOp;
+
+/// A step from nodes to nodes (RFC 9535, section 2.5).
+#[cycle(program)]
+#[derive(Drop)]
+pub(crate) enum Step {
+    Child(Vec<Choice>),
+    Descendant(Vec<Choice>),
+}
+
+/// Which children are selected (RFC 9535, section 2.3).
+#[cycle(program)]
+#[derive(Drop)]
+pub(crate) enum Choice {
+    Name(String),
+    Wildcard,
+    Index(i64),
+    Slice {
+        first: Option<i64>,
+        last: Option<i64>,
+        step: Option<i64>,
+    },
+    Filter(Condition),
+}
+
+/// What is true or false of a node (RFC 9535, section 2.3.5).
+#[cycle(program)]
+#[derive(Drop)]
+pub(crate) enum Condition {
+    Or(Vec<Condition>),
+    And(Vec<Condition>),
+    Not(Box<Condition>),
+    Compare {
+        left: Side,
+        op: CompareOp,
+        right: Side,
+    },
+    Exists(Nodes),
+    Test(Invoked),
+}
+
+/// A side of a comparison (RFC 9535, section 2.3.5.1).
+#[cycle(program)]
+#[derive(Drop)]
+pub(crate) enum Side {
+    Constant(Constant),
+    Single(Nodes),
+    Result(Invoked),
+}
+
+/// An argument of a function (RFC 9535, section 2.4).
+#[cycle(program)]
+#[derive(Drop)]
+pub(crate) enum Given {
+    Constant(Constant),
+    /// A text where a pattern is wanted.
+    Pattern(LiteralPattern),
+    Nodes(Nodes),
+    Condition(Condition),
+    Result(Invoked),
+}
+
+/// A query within a filter (RFC 9535, section 2.3.5.1).
+#[cycle(program)]
+#[derive(Drop)]
+pub(crate) enum Nodes {
+    /// The query from the root that has this place among the slots around it.
+    Slot(usize),
+    /// From the node that is filtered.
+    Current(Vec<Step>),
+}
+
+/// A call of a function (RFC 9535, section 2.4).
+#[cycle(program)]
+#[derive(Drop)]
+pub(crate) struct Invoked {
+    pub(crate) named: Named,
+    pub(crate) arguments: Vec<Given>,
+}
+
+/// A query from the root within a filter, and those within its own filters.
+#[derive(Drop)]
+pub(crate) struct Slot {
+    pub(crate) slots: Vec<Slot>,
+    pub(crate) steps: Vec<Step>,
+}

@@ -1,0 +1,656 @@
+//! A compiled query is run over a line (RFC 9535, sections 2.1 to 2.5).
+//!
+//! The nodes are found node by node: for each child that the first step selects, the other steps go on from there. So no
+//! list is made in between, and a search for one node stops at the first.
+
+ghost use Rattle.std.specs.Prelude.{◌≡◌, ◌≤◌, [], ◌∷◌, ◌==◌, not, map, length, filter, flat_map, IfOk, IsTrue};
+ghost use Rattle.jp_model.specs.Meaning.Functions.{single_value as single_value_of, length_of as length_of_value};
+ghost use Rattle.jp_model.specs.Meaning.Nodes.{children, children_where, subtree};
+ghost use Rattle.jp_model.specs.Meaning.Selecting.{selected, select, truth as truth_of, compared_value, path_nodes, given_by, call_value as call_value_of, call_truth as call_truth_of};
+ghost use Rattle.jp_model.specs.Meaning.Slices.{is_index, sliced};
+ghost use Rattle.jp_tape.specs.Cursors.{line_of, node_of};
+ghost use Rattle.jp_eval.specs.Expressions.{all_are};
+ghost use Rattle.jp_eval.specs.Found.{AreOf};
+ghost use Rattle.jp_eval.specs.Frames.{table_in, tree_in, reached, slot_nodes, AreKept, Stands, Pushes, Lends};
+ghost use Rattle.jp_eval.specs.Programs.{choices_view, choice_view, conditions_view, condition_view, side_view, nodes_view, invoked_view, given_view};
+ghost use Rattle.jp_eval.specs.Walks.{rises};
+ghost use Rattle.jp_values.specs.Values.{value_view, is_sound_value};
+
+use crate::answers::no_answers;
+use crate::children::{Rising, Slice, find_element, find_falling, find_member};
+use crate::frame::{Answer, Frame, Run};
+use crate::functions::{Function, in_pattern, length_of, read_passes};
+use crate::program::{Choice, Condition, Given, Invoked, Nodes, Side, Step};
+use jp_tape::Cursor;
+use jp_values::{Value, compare};
+use std::alloc::AllocError;
+
+/// Adds what the steps select from a node, as long as fewer nodes than `most` were found.
+#[cycle(eval)]
+pub(crate) fn push_steps<'a>(
+    run: Run<'_, 'a>,
+    steps: &[Step],
+    node: Cursor<'a>,
+    most: usize,
+    frame: &mut Frame<'a>,
+) -> Result<(), AllocError>
+    requires stands { Stands run node frame.old }
+    requires room { length frame.old.found.items ≤ most }
+    ensures { Pushes run.entry most frame.old frame.new result (reached run.entry steps.now (node_of node.entry ∷ [])) }
+{
+    match steps.split_first() {
+        None => {
+            if frame.found.len() < most {
+                frame.found.push(node)?;
+            }
+            Ok(())
+        }
+        Some((Step::Child(choices), rest)) => push_choices(run, choices, rest, node, most, frame),
+        Some((Step::Descendant(choices), rest)) => {
+            push_descendants(run, choices, rest, node, most, frame)
+        }
+    }
+}
+
+/// Adds what the choices select from the node and from each below it, and the steps from there.
+#[cycle(eval)]
+fn push_descendants<'a>(
+    run: Run<'_, 'a>,
+    choices: &[Choice],
+    rest: &[Step],
+    node: Cursor<'a>,
+    most: usize,
+    frame: &mut Frame<'a>,
+) -> Result<(), AllocError>
+    requires stands { Stands run node frame.old }
+    requires room { length frame.old.found.items ≤ most }
+    ensures { Pushes run.entry most frame.old frame.new result (reached run.entry rest.now (flat_map (λ d. selected (choices_view (table_in run.entry) choices.now) d (tree_in run.entry)) (subtree (node_of node.entry)))) }
+{
+    for place in node.place()..node.after() {
+        if frame.found.len() == most {
+            return Ok(());
+        }
+        push_choices(run, choices, rest, node.go_to(place), most, frame)?;
+    }
+    Ok(())
+}
+
+/// Adds what the choices select from a node, in their order, and the steps from there.
+#[cycle(eval)]
+fn push_choices<'a>(
+    run: Run<'_, 'a>,
+    choices: &[Choice],
+    rest: &[Step],
+    node: Cursor<'a>,
+    most: usize,
+    frame: &mut Frame<'a>,
+) -> Result<(), AllocError>
+    requires stands { Stands run node frame.old }
+    requires room { length frame.old.found.items ≤ most }
+    ensures { Pushes run.entry most frame.old frame.new result (reached run.entry rest.now (selected (choices_view (table_in run.entry) choices.now) (node_of node.entry) (tree_in run.entry))) }
+{
+    for choice in choices {
+        push_choice(run, choice, rest, node, most, frame)?;
+    }
+    Ok(())
+}
+
+/// Adds what the choice selects from a node, and the steps from there.
+#[cycle(eval)]
+fn push_choice<'a>(
+    run: Run<'_, 'a>,
+    choice: &Choice,
+    rest: &[Step],
+    node: Cursor<'a>,
+    most: usize,
+    frame: &mut Frame<'a>,
+) -> Result<(), AllocError>
+    requires stands { Stands run node frame.old }
+    requires room { length frame.old.found.items ≤ most }
+    ensures { Pushes run.entry most frame.old frame.new result (reached run.entry rest.now (select (choice_view (table_in run.entry) choice.now) (node_of node.entry) (tree_in run.entry))) }
+{
+    match choice {
+        Choice::Name(name) => match find_member(node, name.as_str()) {
+            Some(child) => push_steps(run, rest, child, most, frame),
+            None => Ok(()),
+        },
+        Choice::Index(index) => match find_element(node, *index) {
+            Some(child) => push_steps(run, rest, child, most, frame),
+            None => Ok(()),
+        },
+        Choice::Wildcard => push_children(run, rest, node, most, frame),
+        Choice::Slice { first, last, step } => {
+            let parts = Slice {
+                first: *first,
+                last: *last,
+                step: step.unwrap_or(1),
+            };
+            push_slice(run, parts, rest, node, most, frame)
+        }
+        Choice::Filter(condition) => push_filtered(run, condition, rest, node, most, frame),
+    }
+}
+
+/// Adds what the steps select from each child.
+#[cycle(eval)]
+fn push_children<'a>(
+    run: Run<'_, 'a>,
+    rest: &[Step],
+    node: Cursor<'a>,
+    most: usize,
+    frame: &mut Frame<'a>,
+) -> Result<(), AllocError>
+    requires stands { Stands run node frame.old }
+    requires room { length frame.old.found.items ≤ most }
+    ensures { Pushes run.entry most frame.old frame.new result (reached run.entry rest.now (children (node_of node.entry))) }
+{
+    let mut next = node.first_child();
+    while let Some(child) = next {
+        if frame.found.len() == most {
+            return Ok(());
+        }
+        push_steps(run, rest, child, most, frame)?;
+        next = child.next_sibling();
+    }
+    Ok(())
+}
+
+/// Adds what the steps select from each element of a slice, in the order in which it selects them.
+#[cycle(eval)]
+fn push_slice<'a>(
+    run: Run<'_, 'a>,
+    slice: Slice,
+    rest: &[Step],
+    node: Cursor<'a>,
+    most: usize,
+    frame: &mut Frame<'a>,
+) -> Result<(), AllocError>
+    requires stands { Stands run node frame.old }
+    requires room { length frame.old.found.items ≤ most }
+    ensures { Pushes run.entry most frame.old frame.new result (reached run.entry rest.now (sliced slice.first slice.last slice.step (node_of node.entry))) }
+{
+    if slice.step > 0 {
+        return push_rising(run, Rising::of(node, slice), rest, node, most, frame);
+    }
+    let found = find_falling(run.alloc, node, slice)?;
+    push_from_each(run, rest, &found, most, frame)
+}
+
+/// Adds what the steps select from each element of a slice with a step above 0. It goes no further than the last.
+#[cycle(eval)]
+fn push_rising<'a>(
+    run: Run<'_, 'a>,
+    slice: Rising,
+    rest: &[Step],
+    node: Cursor<'a>,
+    most: usize,
+    frame: &mut Frame<'a>,
+) -> Result<(), AllocError>
+    requires stands { Stands run node frame.old }
+    requires room { length frame.old.found.items ≤ most }
+    ensures { Pushes run.entry most frame.old frame.new result (reached run.entry rest.now (children_where (is_index (rises slice.low slice.high slice.step)) (node_of node.entry))) }
+{
+    let mut next = node.first_child();
+    let mut index = 0;
+    while let Some(child) = next {
+        if frame.found.len() == most || slice.ends_before(index) {
+            return Ok(());
+        }
+        if slice.has(child, index) {
+            push_steps(run, rest, child, most, frame)?;
+        }
+        index += 1;
+        next = child.next_sibling();
+    }
+    Ok(())
+}
+
+/// Adds what the steps select from each of some nodes.
+#[cycle(eval)]
+fn push_from_each<'a>(
+    run: Run<'_, 'a>,
+    rest: &[Step],
+    starts: &[Cursor<'a>],
+    most: usize,
+    frame: &mut Frame<'a>,
+) -> Result<(), AllocError>
+    requires lines { AreOf (line_of run.root) starts.now }
+    requires kept { AreKept run frame.old.answers.items }
+    requires room { length frame.old.found.items ≤ most }
+    ensures { Pushes run.entry most frame.old frame.new result (reached run.entry rest.now (map node_of starts.now)) }
+{
+    for start in starts {
+        push_steps(run, rest, *start, most, frame)?;
+    }
+    Ok(())
+}
+
+/// Adds what the steps select from each child of which the condition holds.
+#[cycle(eval)]
+fn push_filtered<'a>(
+    run: Run<'_, 'a>,
+    condition: &Condition,
+    rest: &[Step],
+    node: Cursor<'a>,
+    most: usize,
+    frame: &mut Frame<'a>,
+) -> Result<(), AllocError>
+    requires stands { Stands run node frame.old }
+    requires room { length frame.old.found.items ≤ most }
+    ensures { Pushes run.entry most frame.old frame.new result (reached run.entry rest.now (filter (λ c. truth_of (condition_view (table_in run.entry) condition.now) c (tree_in run.entry)) (children (node_of node.entry)))) }
+{
+    let mut next = node.first_child();
+    while let Some(child) = next {
+        if frame.found.len() == most {
+            return Ok(());
+        }
+        if holds(run, condition, child, frame)? {
+            push_steps(run, rest, child, most, frame)?;
+        }
+        next = child.next_sibling();
+    }
+    Ok(())
+}
+
+/// Whether the condition holds of a node. It stops at what decides.
+#[cycle(eval)]
+pub(crate) fn holds<'a>(
+    run: Run<'_, 'a>,
+    condition: &Condition,
+    node: Cursor<'a>,
+    frame: &mut Frame<'a>,
+) -> Result<bool, AllocError>
+    requires { Stands run node frame.old }
+    ensures lends { Lends run.entry frame.old frame.new result }
+    ensures value { IfOk result (λ b. b ≡ truth_of (condition_view (table_in run.entry) condition.now) (node_of node.entry) (tree_in run.entry)) }
+{
+    match condition {
+        Condition::Or(parts) => Ok(!are_all(run, parts, false, node, frame)?),
+        Condition::And(parts) => are_all(run, parts, true, node, frame),
+        Condition::Not(inner) => Ok(!holds(run, inner, node, frame)?),
+        Condition::Compare { left, op, right } => {
+            let left = side_value(run, left, node, frame)?;
+            let right = side_value(run, right, node, frame)?;
+            Ok(compare(*op, left, right))
+        }
+        Condition::Exists(nodes) => has_node(run, nodes, node, frame),
+        Condition::Test(invoked) => call_truth(run, invoked, node, frame),
+    }
+}
+
+/// Whether each part is true, or each is false.
+#[cycle(eval)]
+fn are_all<'a>(
+    run: Run<'_, 'a>,
+    parts: &[Condition],
+    answer: bool,
+    node: Cursor<'a>,
+    frame: &mut Frame<'a>,
+) -> Result<bool, AllocError>
+    requires { Stands run node frame.old }
+    ensures lends { Lends run.entry frame.old frame.new result }
+    ensures value { IfOk result (λ b. b ≡ all_are answer (conditions_view (table_in run.entry) parts.now) (node_of node.entry) (tree_in run.entry)) }
+{
+    for part in parts {
+        if holds(run, part, node, frame)? != answer {
+            return Ok(false);
+        }
+    }
+    Ok(true)
+}
+
+/// The value of a side of a comparison.
+#[cycle(eval)]
+fn side_value<'v, 'a: 'v>(
+    run: Run<'_, 'a>,
+    side: &'v Side,
+    node: Cursor<'a>,
+    frame: &mut Frame<'a>,
+) -> Result<Value<'v>, AllocError>
+    requires { Stands run node frame.old }
+    ensures lends { Lends run.entry frame.old frame.new result }
+    ensures sound { IfOk result (λ v. IsTrue (is_sound_value v)) }
+    ensures value { IfOk result (λ v. value_view v ≡ compared_value (side_view (table_in run.entry) side.now) (node_of node.entry) (tree_in run.entry)) }
+{
+    match side {
+        Side::Constant(constant) => Ok(Value::Constant(&constant.literal)),
+        Side::Single(nodes) => single_value(run, nodes, node, frame),
+        Side::Result(invoked) => call_value(run, invoked, node, frame),
+    }
+}
+
+/// Whether some steps select a node from another. The first decides.
+#[cycle(eval)]
+fn has_reached<'a>(
+    run: Run<'_, 'a>,
+    steps: &[Step],
+    start: Cursor<'a>,
+    frame: &mut Frame<'a>,
+) -> Result<bool, AllocError>
+    requires { Stands run start frame.old }
+    ensures lends { Lends run.entry frame.old frame.new result }
+    ensures value { IfOk result (λ b. b ≡ not (length (reached run.entry steps.now (node_of start.entry ∷ [])) == 0)) }
+{
+    let before = frame.found.len();
+    push_steps(run, steps, start, before + 1, frame)?;
+    let found = frame.found.len() > before;
+    frame.found.truncate(before);
+    Ok(found)
+}
+
+/// How many nodes some steps select from a node.
+#[cycle(eval)]
+fn count_reached<'a>(
+    run: Run<'_, 'a>,
+    steps: &[Step],
+    start: Cursor<'a>,
+    frame: &mut Frame<'a>,
+) -> Result<u64, AllocError>
+    requires { Stands run start frame.old }
+    ensures lends { Lends run.entry frame.old frame.new result }
+    ensures value { IfOk result (λ count. count ≡ length (reached run.entry steps.now (node_of start.entry ∷ []))) }
+{
+    let before = frame.found.len();
+    push_steps(run, steps, start, usize::MAX, frame)?;
+    let count = frame.found.len() - before;
+    frame.found.truncate(before);
+    Ok(count as u64)
+}
+
+/// The value of the single node that some steps select from a node, where they select one. The second decides.
+#[cycle(eval)]
+fn single_reached<'a>(
+    run: Run<'_, 'a>,
+    steps: &[Step],
+    start: Cursor<'a>,
+    frame: &mut Frame<'a>,
+) -> Result<Value<'a>, AllocError>
+    requires { Stands run start frame.old }
+    ensures lends { Lends run.entry frame.old frame.new result }
+    ensures sound { IfOk result (λ v. IsTrue (is_sound_value v)) }
+    ensures value { IfOk result (λ v. value_view v ≡ single_value_of (reached run.entry steps.now (node_of start.entry ∷ []))) }
+{
+    let before = frame.found.len();
+    push_steps(run, steps, start, before + 2, frame)?;
+    let value = if frame.found.len() == before + 1 {
+        Value::Node(frame.found[before])
+    } else {
+        Value::Nothing
+    };
+    frame.found.truncate(before);
+    Ok(value)
+}
+
+/// Whether the query from the root at a place selects a node.
+#[cycle(eval)]
+fn slot_exists<'a>(
+    run: Run<'_, 'a>,
+    place: usize,
+    frame: &mut Frame<'a>,
+) -> Result<bool, AllocError>
+    requires { AreKept run frame.old.answers.items }
+    ensures lends { Lends run.entry frame.old frame.new result }
+    ensures value { IfOk result (λ b. b ≡ not (length (slot_nodes run.entry place) == 0)) }
+{
+    if let Some(Answer::Exists(some)) = run.kept(place, frame) {
+        return Ok(some);
+    }
+    let (inner, steps) = run.enter(place);
+    let mut answers = no_answers(run.alloc, inner.slots.len())?;
+    std::mem::swap(&mut frame.answers, &mut answers);
+    let result = has_reached(inner, steps, run.root, frame);
+    std::mem::swap(&mut frame.answers, &mut answers);
+    let some = result?;
+    run.keep(place, Answer::Exists(some), frame);
+    Ok(some)
+}
+
+/// How many nodes the query from the root at a place selects.
+#[cycle(eval)]
+fn slot_count<'a>(run: Run<'_, 'a>, place: usize, frame: &mut Frame<'a>) -> Result<u64, AllocError>
+    requires { AreKept run frame.old.answers.items }
+    ensures lends { Lends run.entry frame.old frame.new result }
+    ensures value { IfOk result (λ count. count ≡ length (slot_nodes run.entry place)) }
+{
+    if let Some(Answer::Count(count)) = run.kept(place, frame) {
+        return Ok(count);
+    }
+    let (inner, steps) = run.enter(place);
+    let mut answers = no_answers(run.alloc, inner.slots.len())?;
+    std::mem::swap(&mut frame.answers, &mut answers);
+    let result = count_reached(inner, steps, run.root, frame);
+    std::mem::swap(&mut frame.answers, &mut answers);
+    let count = result?;
+    run.keep(place, Answer::Count(count), frame);
+    Ok(count)
+}
+
+/// The value of the single node that the query from the root at a place selects, where it selects one.
+#[cycle(eval)]
+fn slot_single<'a>(
+    run: Run<'_, 'a>,
+    place: usize,
+    frame: &mut Frame<'a>,
+) -> Result<Value<'a>, AllocError>
+    requires { AreKept run frame.old.answers.items }
+    ensures lends { Lends run.entry frame.old frame.new result }
+    ensures sound { IfOk result (λ v. IsTrue (is_sound_value v)) }
+    ensures value { IfOk result (λ v. value_view v ≡ single_value_of (slot_nodes run.entry place)) }
+{
+    if let Some(Answer::Single(value)) = run.kept(place, frame) {
+        return Ok(value);
+    }
+    let (inner, steps) = run.enter(place);
+    let mut answers = no_answers(run.alloc, inner.slots.len())?;
+    std::mem::swap(&mut frame.answers, &mut answers);
+    let result = single_reached(inner, steps, run.root, frame);
+    std::mem::swap(&mut frame.answers, &mut answers);
+    let value = result?;
+    run.keep(place, Answer::Single(value), frame);
+    Ok(value)
+}
+
+/// How long the value of the single node is that the query from the root at a place selects (RFC 9535, section 2.4.4).
+#[cycle(eval)]
+fn slot_length<'a>(
+    run: Run<'_, 'a>,
+    place: usize,
+    frame: &mut Frame<'a>,
+) -> Result<Value<'a>, AllocError>
+    requires { AreKept run frame.old.answers.items }
+    ensures lends { Lends run.entry frame.old frame.new result }
+    ensures sound { IfOk result (λ v. IsTrue (is_sound_value v)) }
+    ensures value { IfOk result (λ v. value_view v ≡ length_of_value (single_value_of (slot_nodes run.entry place))) }
+{
+    if let Some(Answer::Length(value)) = run.kept(place, frame) {
+        return Ok(value);
+    }
+    let (inner, steps) = run.enter(place);
+    let mut answers = no_answers(run.alloc, inner.slots.len())?;
+    std::mem::swap(&mut frame.answers, &mut answers);
+    let result = single_reached(inner, steps, run.root, frame);
+    std::mem::swap(&mut frame.answers, &mut answers);
+    let value = length_of(result?);
+    run.keep(place, Answer::Length(value), frame);
+    Ok(value)
+}
+
+/// Whether a query within a filter selects a node.
+#[cycle(eval)]
+fn has_node<'a>(
+    run: Run<'_, 'a>,
+    nodes: &Nodes,
+    node: Cursor<'a>,
+    frame: &mut Frame<'a>,
+) -> Result<bool, AllocError>
+    requires { Stands run node frame.old }
+    ensures lends { Lends run.entry frame.old frame.new result }
+    ensures value { IfOk result (λ b. b ≡ not (length (path_nodes (nodes_view (table_in run.entry) nodes.now) (node_of node.entry) (tree_in run.entry)) == 0)) }
+{
+    match nodes {
+        Nodes::Slot(place) => slot_exists(run, *place, frame),
+        Nodes::Current(steps) => has_reached(run, steps, node, frame),
+    }
+}
+
+/// How many nodes a query within a filter selects.
+#[cycle(eval)]
+fn count_nodes<'a>(
+    run: Run<'_, 'a>,
+    nodes: &Nodes,
+    node: Cursor<'a>,
+    frame: &mut Frame<'a>,
+) -> Result<u64, AllocError>
+    requires { Stands run node frame.old }
+    ensures lends { Lends run.entry frame.old frame.new result }
+    ensures value { IfOk result (λ count. count ≡ length (path_nodes (nodes_view (table_in run.entry) nodes.now) (node_of node.entry) (tree_in run.entry))) }
+{
+    match nodes {
+        Nodes::Slot(place) => slot_count(run, *place, frame),
+        Nodes::Current(steps) => count_reached(run, steps, node, frame),
+    }
+}
+
+/// The value of the single node that a query within a filter selects, where it selects one.
+#[cycle(eval)]
+fn single_value<'a>(
+    run: Run<'_, 'a>,
+    nodes: &Nodes,
+    node: Cursor<'a>,
+    frame: &mut Frame<'a>,
+) -> Result<Value<'a>, AllocError>
+    requires { Stands run node frame.old }
+    ensures lends { Lends run.entry frame.old frame.new result }
+    ensures sound { IfOk result (λ v. IsTrue (is_sound_value v)) }
+    ensures value { IfOk result (λ v. value_view v ≡ single_value_of (path_nodes (nodes_view (table_in run.entry) nodes.now) (node_of node.entry) (tree_in run.entry))) }
+{
+    match nodes {
+        Nodes::Slot(place) => slot_single(run, *place, frame),
+        Nodes::Current(steps) => single_reached(run, steps, node, frame),
+    }
+}
+
+/// How long the value of the single node is that a query within a filter selects (RFC 9535, section 2.4.4).
+#[cycle(eval)]
+fn single_length<'a>(
+    run: Run<'_, 'a>,
+    nodes: &Nodes,
+    node: Cursor<'a>,
+    frame: &mut Frame<'a>,
+) -> Result<Value<'a>, AllocError>
+    requires { Stands run node frame.old }
+    ensures lends { Lends run.entry frame.old frame.new result }
+    ensures sound { IfOk result (λ v. IsTrue (is_sound_value v)) }
+    ensures value { IfOk result (λ v. value_view v ≡ length_of_value (single_value_of (path_nodes (nodes_view (table_in run.entry) nodes.now) (node_of node.entry) (tree_in run.entry)))) }
+{
+    match nodes {
+        Nodes::Slot(place) => slot_length(run, *place, frame),
+        Nodes::Current(steps) => {
+            let value = single_reached(run, steps, node, frame)?;
+            Ok(length_of(value))
+        }
+    }
+}
+
+/// What an argument gives as a value.
+#[cycle(eval)]
+fn given_value<'v, 'a: 'v>(
+    run: Run<'_, 'a>,
+    given: &'v Given,
+    node: Cursor<'a>,
+    frame: &mut Frame<'a>,
+) -> Result<Value<'v>, AllocError>
+    requires { Stands run node frame.old }
+    ensures lends { Lends run.entry frame.old frame.new result }
+    ensures sound { IfOk result (λ v. IsTrue (is_sound_value v)) }
+    ensures value { IfOk result (λ v. value_view v ≡ (given_by (given_view (table_in run.entry) given.now) (node_of node.entry) (tree_in run.entry)).value) }
+{
+    match given {
+        Given::Constant(constant) => Ok(Value::Constant(&constant.literal)),
+        Given::Pattern(pattern) => Ok(Value::Constant(&pattern.constant.literal)),
+        Given::Nodes(nodes) => single_value(run, nodes, node, frame),
+        Given::Condition(_) => Ok(Value::Nothing),
+        Given::Result(invoked) => call_value(run, invoked, node, frame),
+    }
+}
+
+/// How long the value is that an argument gives (RFC 9535, section 2.4.4).
+#[cycle(eval)]
+fn given_length<'v, 'a: 'v>(
+    run: Run<'_, 'a>,
+    given: &'v Given,
+    node: Cursor<'a>,
+    frame: &mut Frame<'a>,
+) -> Result<Value<'v>, AllocError>
+    requires { Stands run node frame.old }
+    ensures lends { Lends run.entry frame.old frame.new result }
+    ensures sound { IfOk result (λ v. IsTrue (is_sound_value v)) }
+    ensures value { IfOk result (λ v. value_view v ≡ length_of_value (given_by (given_view (table_in run.entry) given.now) (node_of node.entry) (tree_in run.entry)).value) }
+{
+    if let Given::Nodes(nodes) = given {
+        return single_length(run, nodes, node, frame);
+    }
+    let value = given_value(run, given, node, frame)?;
+    Ok(length_of(value))
+}
+
+/// What a call answers as a value (RFC 9535, section 2.4).
+#[cycle(eval)]
+fn call_value<'v, 'a: 'v>(
+    run: Run<'_, 'a>,
+    invoked: &'v Invoked,
+    node: Cursor<'a>,
+    frame: &mut Frame<'a>,
+) -> Result<Value<'v>, AllocError>
+    requires { Stands run node frame.old }
+    ensures lends { Lends run.entry frame.old frame.new result }
+    ensures sound { IfOk result (λ v. IsTrue (is_sound_value v)) }
+    ensures value { IfOk result (λ v. value_view v ≡ call_value_of (invoked_view (table_in run.entry) invoked.now) (node_of node.entry) (tree_in run.entry)) }
+{
+    let [given] = invoked.arguments.as_slice() else {
+        return Ok(Value::Nothing);
+    };
+    match invoked.named.which() {
+        Some(Function::Length) => given_length(run, given, node, frame),
+        Some(Function::Count) => match given {
+            Given::Nodes(nodes) => {
+                let count = count_nodes(run, nodes, node, frame)?;
+                Ok(Value::Count(count))
+            }
+            _ => Ok(Value::Count(0)),
+        },
+        Some(Function::Value) => match given {
+            Given::Nodes(nodes) => single_value(run, nodes, node, frame),
+            _ => Ok(Value::Nothing),
+        },
+        _ => Ok(Value::Nothing),
+    }
+}
+
+/// What a call answers as a truth (RFC 9535, section 2.4).
+#[cycle(eval)]
+fn call_truth<'a>(
+    run: Run<'_, 'a>,
+    invoked: &Invoked,
+    node: Cursor<'a>,
+    frame: &mut Frame<'a>,
+) -> Result<bool, AllocError>
+    requires { Stands run node frame.old }
+    ensures lends { Lends run.entry frame.old frame.new result }
+    ensures value { IfOk result (λ b. b ≡ call_truth_of (invoked_view (table_in run.entry) invoked.now) (node_of node.entry) (tree_in run.entry)) }
+{
+    let [first, second] = invoked.arguments.as_slice() else {
+        return Ok(false);
+    };
+    let whole = match invoked.named.which() {
+        Some(Function::Match) => true,
+        Some(Function::Search) => false,
+        _ => return Ok(false),
+    };
+    let text = given_value(run, first, node, frame)?;
+    if let Given::Pattern(pattern) = second {
+        return read_passes(run.alloc, &pattern.read, whole, text);
+    }
+    let pattern = given_value(run, second, node, frame)?;
+    in_pattern(run.alloc, whole, text, pattern)
+}
