@@ -14,7 +14,7 @@ use Rattle.std.proofs.lemmas.List.Quantifiers.{all_pairs_remove}
 use Rattle.std.proofs.lemmas.List.Sorted.{All-permutation, Contains-permutation, IsPermutation-insert, IsPermutation-remove}
 use Rattle.jp_values.specs.Keys.{key_order}
 use Rattle.jp_values.specs.declared.key.Key.{Key}
-use Rattle.jp_index.specs.ByKey.{line_order, Ascend, AreByKey, but}
+use Rattle.jp_index.specs.ByKey.{line_order, Ascend, AreByKey, IsPlaceOf, but}
 use Rattle.jp_index.proofs.Ascending.{pairs_insert, pairs_other, removed_differs, among_cons, among_first, among_rest}
 use Rattle.jp_values.specs.KeyLaws.{keys_total}
 
@@ -43,7 +43,7 @@ none_is : (o : Option Key) → (is_some o ≡ true → ⊥) → o ≡ None
 none_is None n = refl
 none_is (Some k) n = absurd (n refl)
 
-same_or_not : (a b : ℕ) → (a ≡ b) ⊎ (a ≢ b)
+pub same_or_not : (a b : ℕ) → (a ≡ b) ⊎ (a ≢ b)
 same_or_not a b = elim (cases_lt a b) [
   | inl low ↦ inr (λ e. omega arith)
   | inr high ↦ elim (cases_lt b a) [ inl above ↦ inr (λ e. omega arith) | inr low ↦ inl (omega arith) ]
@@ -151,6 +151,3 @@ module _ (keys : ℕ → Option Key) where
 
 pub before_falls : (keys : ℕ → Option Key) (line a b : ℕ) → line_order keys a b ≡ Less → is_lt (line_order keys b line) ≡ true → is_lt (line_order keys a line) ≡ true
 before_falls keys line a b e f = ap is_lt ((lines_total keys).trans a b line e (less_is (line_order keys b line) f))
-
-abbrev pub IsPlaceOf : (ℕ → Option Key) → ℕ → List ℕ → ℕ → Type 0
-IsPlaceOf keys line lines i = IsPartitionPoint (λ a. is_lt (line_order keys a line) ≡ true) (λ a. is_lt (line_order keys a line) ≡ false) lines i

@@ -1,10 +1,10 @@
 //! The lines of an index in order of their keys.
 
-ghost use Rattle.std.specs.Prelude.{◌≡◌, ◌↔◌, ℕ, ◌<◌, ◌≤◌, true, false, Contains, IsPermutation, length, vec_len, vec_capacity};
+ghost use Rattle.std.specs.Prelude.{◌≡◌, ◌↔◌, ℕ, ◌<◌, ◌≤◌, true, false, Contains, IfSome, IsPermutation, insert, length, remove, vec_len, vec_capacity};
 ghost use Rattle.std.specs.List.Sorted.{IsPartitionPoint, IsSortedBy};
 ghost use Rattle.std.specs.Ordering.{is_lt};
 ghost use Rattle.jp_query.specs.View.{op_view};
-ghost use Rattle.jp_index.specs.ByKey.{line_order, Ascend, AreByKey, but};
+ghost use Rattle.jp_index.specs.ByKey.{line_order, Ascend, AreByKey, IsPlaceOf, but, taken_out};
 ghost use Rattle.jp_index.specs.Cells.{key_at};
 ghost use Rattle.jp_index.specs.Edges.{in_front, is_between};
 
@@ -17,8 +17,7 @@ use jp_values::Key;
 /// How many of the lines, which are in order, stand in front of a line.
 fn place_of(cells: &[Option<Slot>], lines: &[u32], line: u32) -> usize
     ensures within { result ≤ length lines.now }
-    ensures place { Ascend (key_at cells.now) lines.now
-        → IsPartitionPoint (λ a. is_lt (line_order (key_at cells.now) a line) ≡ true) (λ a. is_lt (line_order (key_at cells.now) a line) ≡ false) lines.now result }
+    ensures place { Ascend (key_at cells.now) lines.now → IsPlaceOf (key_at cells.now) line lines.now result }
 {
     lines.partition_point(|other| compare_lines(cells, *other, line).is_lt())
 }
@@ -47,25 +46,91 @@ pub(crate) fn run_of<'a>(
     &behind[..edge_of(cells, behind, Edge::end(op), key)]
 }
 
-/// Leaves a line out, where it is there.
-pub(crate) fn leave_out(cells: &[Option<Slot>], lines: &mut Vec<u32>, line: u32)
-    ensures order { AreByKey (key_at cells.now) lines.old.items → AreByKey (but line (key_at cells.now)) lines.new.items }
-    ensures room { vec_len lines.old < vec_capacity lines.old → vec_len lines.new < vec_capacity lines.new }
+/// Where a line stands, if it is there.
+pub(crate) fn find_line(cells: &[Option<Slot>], lines: &[u32], line: u32) -> Option<usize>
+    ensures found { IfSome result (λ place. place < length lines.now) }
+    ensures order { AreByKey (key_at cells.now) lines.now → AreByKey (but line (key_at cells.now)) (taken_out result lines.now) }
 {
     let place = place_of(cells, lines, line);
     if place < lines.len() && lines[place] == line {
-        lines.remove(place);
+        Some(place)
+    } else {
+        None
     }
 }
 
-/// Puts a line in its place, where it has a key.
-pub(crate) fn put_in(cells: &[Option<Slot>], lines: &mut Vec<u32>, line: u32)
-    requires { vec_len lines.old < vec_capacity lines.old }
-    ensures { AreByKey (but line (key_at cells.now)) lines.old.items → AreByKey (key_at cells.now) lines.new.items }
+/// How many of the lines, which are in order but for the one at a place, stand in front of a line, that one left out.
+fn place_without(cells: &[Option<Slot>], lines: &[u32], from: usize, line: u32) -> usize
+    requires { from < length lines.now }
+    ensures within { result < length lines.now }
+    ensures place { Ascend (key_at cells.now) (remove lines.now from) → IsPlaceOf (key_at cells.now) line (remove lines.now from) result }
 {
-    if key_of_line(cells, line).is_some() {
-        let place = place_of(cells, lines, line);
-        let _ = lines.insert(place, line);
+    let front = place_of(cells, &lines[..from], line);
+    if front < from {
+        front
+    } else {
+        from + place_of(cells, &lines[from + 1..], line)
+    }
+}
+
+/// Moves the line at one place to one behind it. What stands between them moves by one place.
+fn move_up(lines: &mut [u32], from: usize, to: usize, line: u32)
+    requires up { from < to }
+    requires to { to < length lines.old }
+    ensures { lines.new ≡ insert (remove lines.old from) to line }
+{
+    lines.copy_within(from + 1..to + 1, from);
+    lines[to] = line;
+}
+
+/// Moves the line at one place to one in front of it, or leaves it. What stands between them moves by one place.
+fn move_down(lines: &mut [u32], from: usize, to: usize, line: u32)
+    requires down { to ≤ from }
+    requires from { from < length lines.old }
+    ensures { lines.new ≡ insert (remove lines.old from) to line }
+{
+    lines.copy_within(to..from, to + 1);
+    lines[to] = line;
+}
+
+/// Moves the line at one place to another.
+fn move_line(lines: &mut [u32], from: usize, to: usize, line: u32)
+    requires from { from < length lines.old }
+    requires to { to < length lines.old }
+    ensures { lines.new ≡ insert (remove lines.old from) to line }
+{
+    if from < to {
+        move_up(lines, from, to, line);
+    } else {
+        move_down(lines, from, to, line);
+    }
+}
+
+/// Puts a line in its place, where it has a key, in place of where it was found.
+pub(crate) fn put_line(
+    cells: &[Option<Slot>],
+    lines: &mut Vec<u32>,
+    found: Option<usize>,
+    line: u32,
+)
+    requires room { vec_len lines.old < vec_capacity lines.old }
+    requires found { IfSome found (λ place. place < vec_len lines.old) }
+    ensures { AreByKey (but line (key_at cells.now)) (taken_out found lines.old.items) → AreByKey (key_at cells.now) lines.new.items }
+{
+    let has_key = key_of_line(cells, line).is_some();
+    match found {
+        Some(from) if has_key => {
+            let to = place_without(cells, lines, from, line);
+            move_line(lines, from, to, line);
+        }
+        Some(from) => {
+            lines.remove(from);
+        }
+        None if has_key => {
+            let place = place_of(cells, lines, line);
+            let _ = lines.insert(place, line);
+        }
+        None => {}
     }
 }
 
