@@ -1,7 +1,8 @@
 -- What the writer received over one run of command lines after another.
 use Rattle.std.proofs.Common.{◌≡◌, ℕ, List, [], ◌++◌, length, drop, sym, ap, ◌∙◌, append-nil, append_assoc, subst, take-append-drop}
-use Rattle.std.proofs.KnownBytes.{Appends-trans, Appends-nil}
+use Rattle.std.proofs.KnownBytes.{Appends-trans, Appends-nil, Appends-kept}
 use Rattle.std.proofs.Math.Seq.{take-append_seam}
+use Rattle.std.specs.Io.KnownBytes.{Keeps}
 use Rattle.std.specs.Prelude.{Option}
 use Rattle.jp_model.specs.declared.Setup.{Setup}
 use Rattle.jp_model.specs.Devices.{Device, Received, Begins}
@@ -85,3 +86,18 @@ module _ (query_of : List ℕ → QueryStatus) (asked : List ℕ → Command) (s
       → AnsweredInPart query_of asked contents a c setup old ((first ++ line) ++ rest)
   stopped_within a b c old mid new first line rest text part p q h r =
       part_before a c old (first ++ line) rest (part_more a b c old mid first line p (part_of_line b c mid new line text part q h r))
+
+  -- what was received stays behind a flush
+  pub ran_kept : (a b c : Device W) (old new : State) (lines : List (List ℕ)) → Ran query_of asked contents a b setup old lines new → Keeps (contents b.device) (contents c.device) → Ran query_of asked contents a c setup old lines new
+  ran_kept a b c old new lines p k = (p.0, p.1, Appends-kept (contents a.device) (contents b.device) (contents c.device) p.0 p.2 k)
+
+  -- the whole answer is a beginning of it
+  pub ran_in_part : (a b : Device W) (old new : State) (lines : List (List ℕ)) → Ran query_of asked contents a b setup old lines new → AnsweredInPart query_of asked contents a b setup old lines
+  ran_in_part a b old new lines p =
+      let text = (run_commands query_of asked setup old lines p.1.flags).written in (
+        p.1.flags,
+        text,
+        p.1.only,
+        subst (Begins text) (append-nil text) (take-append_seam text []),
+        subst (Received contents a b) p.1.text_is p.2,
+      )

@@ -1,20 +1,60 @@
 -- What the calls of `read_words` come to, by the rules of its three arguments.
 use Rattle.std.proofs.Common.{ap, ap₂, refl, sym, subst, true, false, codes, zero, suc, List, Result, [], ◌∷◌, ◌≡◌, ◌∙◌, inl, inr, arith, slice_index}
 use Rattle.std.specs.List.{All}
-use Rattle.std.specs.Prelude.{IsErrAnd}
+use Rattle.std.specs.Prelude.{IsErrAnd, Option, Some}
+use Rattle.std.specs.Option.{is_some}
+use denote.Ref.{Bor}
 use Rattle.std.specs.Str.{bytes_eq}
 use Rattle.std.proofs.lemmas.Result.{err_from_is_err_and}
 use Rattle.clap.specs.Built.{FitsChain, HasDistinctIds, IsPlainArg}
+use Rattle.clap.specs.Facts.{args_of, groups_of}
 use Rattle.clap.specs.Words.{AddsArg, App, FailsBy, HasKind, HasMatchesOf, Kinds, Text, app_of, fault_of, first_of, first_value, found_of, is_simple, is_simple_and_free, matches_of, new_app, rule_of, with_rule}
 use Rattle.clap.specs.declared.builder.arg.Arg.{Arg}
 use Rattle.clap.specs.declared.builder.command.Command.{Command}
+use Rattle.clap.specs.Simple.{app_of_fields}
+use Rattle.clap.specs.declared.builder.command.Command.TheViews.{out-Command as fields_of}
+use Rattle.clap.specs.declared.builder.command.Command.TheOpen.{Command-F}
 use Rattle.clap.specs.declared.error.Error.{Error}
 use Rattle.clap.specs.declared.parser.matches.ArgMatches.{ArgMatches}
 use Rattle.clap.proofs.WalkLemmas.{first_value-rows}
-use Rattle.jp_cli.specs.Words.{faults_in, file_rule, found_in, program, script_rule, seq_rule}
+use Rattle.jp_cli.specs.Words.{faults_in, file_rule, found_in, program, script_rule, seq_rule, with_version}
+
+-- A command that was given a version and a text behind its help: all else is as before.
+pub record IsTold (new told : Command) : Type 0 where
+  pub version : Option (Bor Text)
+  pub behind : Option (Bor Text)
+  pub is : fields_of told ≡ record (fields_of new) { version = version; after_help = behind }
+  pub some : is_some version ≡ true
+
+-- so it is the same app, but for its version
+pub told_app : (new told : Command) (name : Text) → IsTold new told → app_of new ≡ new_app name → app_of told ≡ with_version (new_app name)
+told_app new told name h e =
+    ap app_of_fields h.is ∙ ap (λ b. record (app_of new) { top = record (app_of new).top { has_version = b } }) h.some ∙ ap with_version e
+
+pub told_by : (new versioned told : Command) (version behind : Bor Text) → fields_of versioned ≡ record (fields_of new) { version = Some version }
+    → fields_of told ≡ record (fields_of versioned) { after_help = Some behind } → IsTold new told
+told_by new versioned told version behind first second = record {
+  version = Some version;
+  behind = Some behind;
+  is = second ∙ ap {A = Command-F Command} (λ f. record f { after_help = Some behind }) first;
+  some = refl;
+}
+
+-- nor has it other arguments
+pub told_args : (new told : Command) → IsTold new told → args_of new ≡ [] → args_of told ≡ []
+told_args new told h e = ap (λ f. f.args.items) h.is ∙ e
+
+pub told_groups : (new told : Command) → IsTold new told → groups_of new ≡ [] → groups_of told ≡ []
+told_groups new told h e = ap (λ f. f.groups.items) h.is ∙ e
+
+pub told_local : (new told : Command) → IsTold new told → (fields_of new).has_globals ≡ false → (fields_of told).has_globals ≡ false
+told_local new told h e = ap (λ f. f.has_globals) h.is ∙ e
+
+pub told_negates : (new told : Command) → IsTold new told → (fields_of new).subcommand_negates_reqs ≡ false → (fields_of told).subcommand_negates_reqs ≡ false
+told_negates new told h e = ap (λ f. f.subcommand_negates_reqs) h.is ∙ e
 
 -- the three arguments, added in turn, make the program
-pub is_program : (start one two three : Command) (file script seq : Arg) → app_of start ≡ new_app (codes "jpq")
+pub is_program : (start one two three : Command) (file script seq : Arg) → app_of start ≡ with_version (new_app (codes "jpq"))
     → AddsArg start file one → AddsArg one script two → AddsArg two seq three
     → file.global ≡ false → script.global ≡ false → seq.global ≡ false
     → rule_of file ≡ file_rule → rule_of script ≡ script_rule → rule_of seq ≡ seq_rule → app_of three ≡ program

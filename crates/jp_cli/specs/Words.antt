@@ -23,8 +23,12 @@ script_rule = record (new_rule (codes "script")) {
 abbrev pub seq_rule : Rule
 seq_rule = record (new_rule (codes "seq")) { long = Some (codes "seq"); action = Some SetTrue }
 
+-- a command that tells its version where it is asked for it
+abbrev pub with_version : App → App
+with_version app = record app { top = record app.top { has_version = true } }
+
 abbrev pub program : App
-program = with_rule (with_rule (with_rule (new_app (codes "jpq")) file_rule) script_rule) seq_rule
+program = with_rule (with_rule (with_rule (with_version (new_app (codes "jpq"))) file_rule) script_rule) seq_rule
 
 -- what the words give each argument, the first word being the program's own name
 unfoldable pub found_in : List Text → List Row

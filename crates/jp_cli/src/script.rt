@@ -39,7 +39,7 @@ fn answer_line<W: Write>(
 }
 
 /// Answers each line whose line feed comes with the piece, and holds what stands behind the last one.
-fn take_piece<W: Write>(
+fn answer_lines<W: Write>(
     store: &mut Store,
     alloc: Global,
     setup: Setup,
@@ -68,6 +68,36 @@ fn take_piece<W: Write>(
         } else if held.push(*byte).is_err() {
             return Err(RunFault::Memory);
         }
+    }
+    Ok(())
+}
+
+/// Answers each line whose line feed comes with the piece, holds what stands behind the last one, and flushes the writer where
+/// something was written: whoever waits for the answers has them before the next read.
+fn take_piece<W: Write>(
+    store: &mut Store,
+    alloc: Global,
+    setup: Setup,
+    held: &mut Vec<u8>,
+    piece: &[u8],
+    out: &mut Watched<W>,
+) -> Result<(), RunFault>
+    requires fits { FitsSetup setup store.old }
+    requires working { out.old.failed ≡ false }
+    requires open { HasNoSeparator 0x0A held.old.items }
+    ensures ok { OnOk result (Ran query_of asked_in W.contents out.old out.new setup store.old.state (closed_lines (held.old.items ++ piece.now)) store.new.state
+        × (held.new.items ≡ open_line (held.old.items ++ piece.now))) }
+    ensures err { IfErr result (λ fault. StoppedIn query_of asked_in W.contents out.old out.new fault setup store.old.state (closed_lines (held.old.items ++ piece.now))) }
+    ensures fault { MatchResult result
+        (λ _. out.new.failed ≡ false)
+        (λ fault. out.new.failed ≡ is_write_fault fault) }
+    ensures fits { FitsSetup setup store.new }
+    ensures after { out.new.after ≡ out.old.after }
+{
+    let calls = out.calls();
+    answer_lines(store, alloc, setup, held, piece, out)?;
+    if out.calls() > calls && out.flush().is_err() {
+        return Err(RunFault::Write);
     }
     Ok(())
 }

@@ -20,11 +20,29 @@ pub struct Options<'a> {
     pub framing: Framing,
 }
 
+/// The program's version.
+const VERSION: &str = "0.2.0";
+
+/// What stands behind the options in the program's help.
+const COMMANDS: &str = "Commands of a script, one to a line:
+  query Q      the nodes that the query Q of RFC 9535 selects
+  check        each refused line, and how many lines there are
+  index P      makes an index by the value at the path of a singular query
+  drop P       takes it away
+  indexes      lists the indexes
+  explain Q    by which indexes Q is answered, and how many lines it opens
+  append T     puts the line T behind the others, in memory alone
+  replace N T  puts T in the place of line N, counted from 1
+
+Examples:
+  echo 'query $..[?@.price > 20].title' | jpq log.jsonl
+  jpq log.jsonl --script commands.txt";
+
 /// Reads the program's words, `jpq FILE [--script FILE] [--seq]`, of which the first is its own name.
 ///
 /// # Errors
 ///
-/// The words are refused, they ask for help, or memory runs out: the error's kind says which.
+/// The words are refused, they ask for help or for the version, or memory runs out: the error's kind says which.
 pub fn read_words<'a>(alloc: Global, words: &'a [&'a str]) -> Result<Options<'a>, Error>
     ensures file { IfOk result (λ o. first_of (codes "file") (found_in (map (λ w. w.now) words.entry.now))
         ≡ Some o.file.now) }
@@ -35,6 +53,8 @@ pub fn read_words<'a>(alloc: Global, words: &'a [&'a str]) -> Result<Options<'a>
     ensures refused { FailsBy (faults_in (map (λ w. w.now) words.entry.now)) result }
 {
     let command = Command::new(alloc, "jpq")
+        .version(VERSION)
+        .after_help(COMMANDS)
         .arg(file_argument(alloc))?
         .arg(script_argument(alloc))?
         .arg(seq_argument(alloc))?;
@@ -55,7 +75,7 @@ fn file_argument<'a>(alloc: Global) -> Arg<'a>
     ensures value { TakesValue result }
 {
     Arg::new(alloc, "file")
-        .help("The collection: JSON texts, one to a line")
+        .help("The collection: JSON texts, one to a line, or a sequence of them")
         .value_name("FILE")
         .required(true)
         .action(ArgAction::Set)

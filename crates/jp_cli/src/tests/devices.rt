@@ -81,10 +81,12 @@ impl Read for Endless {
     }
 }
 
-/// Takes at most so many bytes a call; one call fails, or takes nothing.
+/// Takes at most so many bytes a call; one call fails, or takes nothing. It counts the flushes, of which one may fail.
 #[derive(Drop)]
 pub(crate) struct Taking {
     pub(crate) held: Vec<u8>,
+    pub(crate) flushes: u64,
+    pub(crate) failing_flush: u64,
     most: usize,
     fails_in: u64,
     takes_none_in: u64,
@@ -94,6 +96,8 @@ impl Taking {
     pub(crate) fn new(alloc: Global, most: usize, fails_in: u64, takes_none_in: u64) -> Taking {
         Taking {
             held: Vec::new(alloc),
+            flushes: 0,
+            failing_flush: NEVER,
             most,
             fails_in,
             takes_none_in,
@@ -119,6 +123,10 @@ impl Write for Taking {
     }
 
     fn flush(&mut self) -> io::Result<()> {
+        self.flushes = self.flushes.saturating_add(1);
+        if self.flushes == self.failing_flush {
+            return Err(io::ErrorKind::Other.into());
+        }
         Ok(())
     }
 }

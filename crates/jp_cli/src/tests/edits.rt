@@ -49,21 +49,22 @@ fn an_edit_changes_one_line(rt: HostRuntime) -> Result<(), Fail> {
     Ok(())
 }
 
-/// What the script answers over a collection of a framing, with at most so many bytes.
+/// What the script answers over a collection of a framing, with at most so many bytes, where both are read so many at a time.
 fn bounded(
     alloc: Global,
     framing: Framing,
     most: u32,
     collection: &[u8],
     script: &[u8],
+    cut: usize,
 ) -> Result<Vec<u8>, Fail> {
     let setup = Setup {
         framing,
         most,
         script_most: u32::MAX,
     };
-    let mut collection = Watched::new(Cutting::new(alloc, collection, 64, NEVER)?);
-    let mut script = Watched::new(Cutting::new(alloc, script, 64, NEVER)?);
+    let mut collection = Watched::new(Cutting::new(alloc, collection, cut, NEVER)?);
+    let mut script = Watched::new(Cutting::new(alloc, script, cut, NEVER)?);
     let mut out = Watched::new(Taking::new(alloc, 100, NEVER, NEVER));
     match run(alloc, setup, &mut collection, &mut script, &mut out) {
         Ok(()) => Ok(out.into_inner().held),
@@ -73,42 +74,48 @@ fn bounded(
 
 #[test]
 fn the_lines_stay_within_the_limit(rt: HostRuntime) -> Result<(), Fail> {
-    let lines = Framing::Lines;
-    let got = bounded(
-        rt.alloc(),
-        lines,
-        8,
-        b"{\"a\":1}\n",
-        b"append 1\nreplace 1 {}\nappend 1\nquery $",
-    )?;
-    assert!(&rt;
-        got.as_slice()
-            == b"error: size\nreplaced 1\nappended 2\n1\t$\t{}\n2\t$\t1\n= 2\n".as_slice()
-    );
-    let got = bounded(
-        rt.alloc(),
-        lines,
-        7,
-        b"{\"a\":1}",
-        b"replace 1 {\"a\":1}\nquery $",
-    )?;
-    assert!(rt; got.as_slice() == b"error: size\n1\t$\t{\"a\":1}\n= 1\n".as_slice());
+    for cut in CUTS {
+        let got = bounded(
+            rt.alloc(),
+            Framing::Lines,
+            8,
+            b"{\"a\":1}\n",
+            b"append 1\nreplace 1 {}\nappend 1\nquery $",
+            cut,
+        )?;
+        assert!(&rt;
+            got.as_slice()
+                == b"error: size\nreplaced 1\nappended 2\n1\t$\t{}\n2\t$\t1\n= 2\n".as_slice()
+        );
+        let got = bounded(
+            rt.alloc(),
+            Framing::Lines,
+            7,
+            b"{\"a\":1}",
+            b"replace 1 {\"a\":1}\nquery $",
+            cut,
+        )?;
+        assert!(&rt; got.as_slice() == b"error: size\n1\t$\t{\"a\":1}\n= 1\n".as_slice());
+    }
     Ok(())
 }
 
 #[test]
 fn a_text_of_a_sequence_holds_no_separator(rt: HostRuntime) -> Result<(), Fail> {
-    let got = bounded(
-        rt.alloc(),
-        Framing::Sequence,
-        20,
-        b"",
-        b"append 12\nappend 12 \nappend \x1E\nappend \x1E\x1E\x1E\x1E\x1E\x1E\x1E\x1E\x1E\x1E\x1E\x1E\x1E\x1E\x1E\ncheck",
-    )?;
-    assert!(rt;
-        got.as_slice()
-            == b"appended 1\nappended 2\nerror: separator\nerror: size\n\x1E1\t!truncated\n= 2 lines, 1 refused, 0 blank\n".as_slice()
-    );
+    for cut in CUTS {
+        let got = bounded(
+            rt.alloc(),
+            Framing::Sequence,
+            20,
+            b"",
+            b"append 12\nappend 12 \nappend \x1E\nappend \x1E\x1E\x1E\x1E\x1E\x1E\x1E\x1E\x1E\x1E\x1E\x1E\x1E\x1E\x1E\ncheck",
+            cut,
+        )?;
+        assert!(&rt;
+            got.as_slice()
+                == b"appended 1\nappended 2\nerror: separator\nerror: size\n\x1E1\t!truncated\n= 2 lines, 1 refused, 0 blank\n".as_slice()
+        );
+    }
     Ok(())
 }
 

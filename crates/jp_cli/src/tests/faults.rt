@@ -180,11 +180,65 @@ fn a_run_that_ends_well_makes_no_call_too_many(rt: HostRuntime) -> Result<(), Fa
         assert!(rt; script.ended());
         assert_eq!(rt; collection.calls(), collection_calls);
         assert_eq!(rt; script.calls(), script_calls);
-        assert_eq!(rt; out.calls(), 12);
+        assert_eq!(rt; out.calls(), 13);
         assert_eq!(rt; collection.after(), 0);
         assert_eq!(rt; script.after(), 0);
         assert_eq!(rt; out.after(), 0);
         assert_eq!(rt; out.into_inner().held.as_slice(), OUTPUT);
     }
+    Ok(())
+}
+
+/// Runs a script whose reads bring so many bytes each, and tells the end, the flushes, the bytes that were received, and the
+/// calls of the writer after one that failed.
+fn flushed(
+    alloc: Global,
+    script: &[u8],
+    piece: usize,
+    failing_flush: u64,
+) -> Result<(Result<(), RunFault>, u64, usize, u64), Fail> {
+    let mut collection = Watched::new(Cutting::new(alloc, COLLECTION, 100, NEVER)?);
+    let mut script = Watched::new(Cutting::new(alloc, script, piece, NEVER)?);
+    let mut taking = Taking::new(alloc, 100, NEVER, NEVER);
+    taking.failing_flush = failing_flush;
+    let mut out = Watched::new(taking);
+    let ended = run(
+        alloc,
+        setup(100, 100),
+        &mut collection,
+        &mut script,
+        &mut out,
+    );
+    let after = out.after();
+    let taking = out.into_inner();
+    Ok((ended, taking.flushes, taking.held.len(), after))
+}
+
+#[test]
+fn answers_are_flushed_before_the_next_read(rt: HostRuntime) -> Result<(), Fail> {
+    let script = b"query $.a\nquery $.a\n\n";
+    // The first answer has 15 bytes, and both have 30.
+    for (piece, failing_flush, flushes, bytes) in [
+        (10, NEVER, 2, 30),
+        (1, NEVER, 2, 30),
+        (100, NEVER, 1, 30),
+        (10, 1, 1, 15),
+        (100, 1, 1, 30),
+    ] {
+        let (ended, count, received, after) = flushed(rt.alloc(), script, piece, failing_flush)?;
+        let wanted = if failing_flush == NEVER {
+            Ok(())
+        } else {
+            Err(RunFault::Write)
+        };
+        assert_eq!(rt; ended, wanted);
+        assert_eq!(rt; count, flushes);
+        assert_eq!(rt; received, bytes);
+        assert_eq!(rt; after, 0);
+    }
+    let (ended, count, received, _) = flushed(rt.alloc(), b"\n\n", 1, NEVER)?;
+    assert_eq!(rt; ended, Ok(()));
+    assert_eq!(rt; count, 0);
+    assert_eq!(rt; received, 0);
     Ok(())
 }

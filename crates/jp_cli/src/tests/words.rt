@@ -1,6 +1,7 @@
 //! The program's words, and how it ends.
 
 use crate::{End, read_words};
+use clap::error::ErrorKind;
 use jp_model::{Framing, RunFault};
 use std::test::Fail;
 
@@ -42,6 +43,11 @@ fn refuses_words(rt: HostRuntime) {
     match read_words(rt.alloc(), help.as_slice()) {
         Ok(_) => assert!(rt; false),
         Err(error) => assert!(rt; error.exit_code() == 0),
+    }
+    let version = ["jpq", "--version"];
+    match read_words(rt.alloc(), version.as_slice()) {
+        Ok(_) => assert!(rt; false),
+        Err(error) => assert!(rt; error.kind() == ErrorKind::DisplayVersion),
     }
 }
 

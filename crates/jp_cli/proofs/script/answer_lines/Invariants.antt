@@ -4,7 +4,7 @@ use Rattle.jp_model.specs.Lines.{closed_lines, open_line}
 use Rattle.jp_cli.specs.Runs.{FitsSetup, Ran}
 use Rattle.jp_cli.specs.Commands.{asked_in}
 use Rattle.jp_query.specs.Status.{query_of}
-use Rattle.jp_cli.proofs.script.take_piece.Given as goal
+use Rattle.jp_cli.proofs.script.answer_lines.Given as goal
 
 abbrev pub invariant-loop-byte : goal.invariant-loop-byte
 invariant-loop-byte g l = record {

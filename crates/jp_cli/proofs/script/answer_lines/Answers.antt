@@ -7,8 +7,8 @@ use Rattle.jp_model.specs.Script.Headline.{AnsweredInPart}
 use Rattle.jp_model.specs.Lines.{closed_lines, open_line}
 use Rattle.jp_cli.specs.Commands.{asked_in}
 use Rattle.jp_query.specs.Status.{query_of}
-use Rattle.jp_cli.proofs.script.take_piece.Goals as goal
-use Rattle.jp_cli.proofs.script.take_piece.Goals.{then-byte-eq10+in-Ok, else-byte-eq10+else-is_err}
+use Rattle.jp_cli.proofs.script.answer_lines.Goals as goal
+use Rattle.jp_cli.proofs.script.answer_lines.Goals.{then-byte-eq10+in-Ok, else-byte-eq10+else-is_err}
 
 pub loop-byte-init : goal.loop-byte-init
 loop-byte-init g c = record {
