@@ -7,7 +7,9 @@ run without. What is stated of a run is computed by `script_model`, with the com
 and for a run without a refusal it is also written out below.
 
 A run has to end with status 16 and the answers of the first commands before one, of none where the growth was refused while
-loading; or with status 0 where one command answered `error: memory`, one that may, and all others as without it. A growth
+loading; or with status 0 where one command answered `error: memory`, one that may, and all others as without it. Status 16
+behind the loading is for a command line that could not be held: the memory that holds one serves those behind it and doubles
+where it is short, so there are as many such runs as doublings, and a growth of the command itself is told by it. A growth
 that is refused to `collect` of the library is asked for again at once, since it may have been asked for with too high a hint.
 Such a run may answer all commands, and then a second one, in which it is refused both times, has to end as above.
 """
@@ -288,6 +290,18 @@ def answers_of(collection, commands, refused=None):
     return answers
 
 
+def held_growths(commands):
+    """How often the memory of a held command line grows for each command, the most; for one behind the last, never."""
+    room, growths = 0, []
+    for command in commands:
+        before = len(growths)
+        growths.append(0)
+        while room < len(command.encode()):
+            room = max(8, 2 * room)
+            growths[before] += 1
+    return [*growths, 0]
+
+
 class Checks:
     """How many checks passed and failed. The first failures are told at once."""
 
@@ -322,6 +336,7 @@ class Script:
         self.whole = answers_of(collection, self.commands)
         self.without = {place: answers_of(collection, self.commands, place)
                         for place, command in enumerate(self.commands) if wants_memory(command)}
+        self.held = held_growths(self.commands)
         self.begun = {"".join(self.whole[:count]): count for count in reversed(range(len(self.commands) + 1))}
         self.left_out = {"".join(answers): place for place, answers in self.without.items()}
 
@@ -378,6 +393,7 @@ class Script:
         """Refuses each growth in turn, until a run meets no refusal, and tells how many were refused."""
         run = self.run(0)
         growths = run.growths()
+        unheld = [0] * len(self.held)
         loading = Run(self.collection, "", 0, self.by_file).growths()
         number, place, within, again = 1, 0, 0, 0
         while time.monotonic() < END:
@@ -391,6 +407,10 @@ class Script:
                 run, name = self.run(number, next_too=True), f"{name}, and again"
             fault, place = self.refused_fault(run, number <= loading, place)
             within += run.status == 0
+            if run.status == 16 and number > loading:
+                unheld[place] += 1
+                if unheld[place] > self.held[place]:
+                    fault = f"status 16 in front of command {place + 1} once more than the {self.held[place]} growths of its line"
             checks.check(name, fault)
             number += 1
         refused = number - 1

@@ -1,0 +1,208 @@
+"""Runs the program on hostile texts and at its limits, and tells whether each run ended as stated.
+
+    limits.py PROGRAM FOLDER
+
+FOLDER is for files. Every run has the usual stack of 8 MB, and a time within which it has to end: what costs the square of its
+input does not. What needs more memory than the machine has free is left out, and told.
+"""
+import os
+import subprocess
+import sys
+import time
+
+PROGRAM, FOLDER = sys.argv[1:]
+MILLION = 1_000_000
+MOST_BYTES = 2**32 - 1
+SECONDS = 20
+CHECKED = "= {} lines, {} refused, 0 blank\n"
+
+
+class Checks:
+    """How many checks passed and failed."""
+
+    passed = 0
+    failed = 0
+
+    def check(self, name, got, stated):
+        """Compares what a run gave with what is stated of it."""
+        if got == stated:
+            self.passed += 1
+            return
+        self.failed += 1
+        print(f"{name}: NOT AS STATED: {shortened(got)} for {shortened(stated)}")
+
+
+def shortened(value):
+    text = repr(value)
+    return text if len(text) < 300 else f"{text[:140]} .. {text[-140:]}"
+
+
+def file_of(name, text):
+    path = os.path.join(FOLDER, name)
+    with open(path, "wb") as file:
+        file.write(text.encode())
+    return path
+
+
+def ended(words, standard_input):
+    """Status and output of a run, or that it did not end in time."""
+    try:
+        run = subprocess.run([PROGRAM, *words], stdin=standard_input, capture_output=True, timeout=SECONDS)
+    except subprocess.TimeoutExpired:
+        return "it did not end", ""
+    return run.returncode, run.stdout.decode()
+
+
+def answered(collection, script):
+    """Status and output of a script over a collection."""
+    lines = file_of("lines", collection)
+    with open(file_of("script", script), "rb") as commands:
+        return ended([lines], commands)
+
+
+def rows(places, value):
+    """The rows of one node each, and their count."""
+    return "".join(f"{line}\t{path}\t{value}\n" for line, path in places) + f"= {len(places)}\n"
+
+
+def texts_of_brackets(checks):
+    """Nesting at most 512 deep, told only of a text that the grammar has."""
+    deep = {depth: "[" * depth + "]" * depth for depth in (512, 513, MILLION)}
+    lines = [deep[512], deep[513], deep[MILLION], "[" * 513, "[" * MILLION, '{"a":' * 513 + "1" + "}" * 513]
+    stated = "2\t!depth\n3\t!depth\n4\t!grammar\n5\t!grammar\n6\t!depth\n" + CHECKED.format(6, 5)
+    checks.check("brackets", answered("\n".join(lines) + "\n", "check\n"), (0, stated))
+
+
+def texts_cut_short(checks):
+    """No beginning of a text is a text."""
+    text = '{"a":[{"b":1},{"b":2}],"b":3}'
+    fronts = [text[:count] for count in range(1, len(text))]
+    stated = "".join(f"{line}\t!grammar\n" for line in range(1, len(text))) + CHECKED.format(len(text), len(text) - 1)
+    checks.check("beginnings of a text", answered("\n".join(fronts + [text]) + "\n", "check\n"), (0, stated))
+
+
+def texts_of_backslashes(checks):
+    """A quote behind an even number of backslashes ends its string, wherever the blocks of 64 bytes are cut."""
+    lines, refused = [], []
+    for last_quote in range(62, 67):
+        for backslashes in range(0, 61):
+            lines.append('["' + "x" * (last_quote - 2 - backslashes) + "\\" * backslashes + '"]')
+            if backslashes % 2:
+                refused.append(len(lines))
+    stated = "".join(f"{line}\t!grammar\n" for line in refused) + CHECKED.format(len(lines), len(refused))
+    checks.check("backslashes before a quote", answered("\n".join(lines) + "\n", "check\n"), (0, stated))
+
+
+def texts_of_numbers(checks):
+    """Numbers are exact, whatever their digits; an exponent has at most 15 digits behind its leading zeros."""
+    digits = "1" + "0" * MILLION
+    checks.check("a number of a million digits", answered(f"[{digits}]\n", f"query $[?@==1e{MILLION}]\n"), (0, rows([(1, "$[0]")], digits)))
+    lines = [f"[1e{'9' * 15}]", f"[1e{'0' * 99}{'9' * 15}]", f"[1e{'9' * 16}]", "[0e-" + "1" * 16 + "]"]
+    checks.check("exponents", answered("\n".join(lines) + "\n", "check\n"), (0, "3\t!number\n4\t!number\n" + CHECKED.format(4, 2)))
+    script = f"query $[?@==1e{'9' * 15}]\nquery $[?@==1e{'9' * 16}]\n"
+    checks.check("exponents of a query", answered("[1]\n", script), (0, "= 0\nerror: query number\n"))
+
+
+def texts_of_names(checks):
+    """Many names, and many alike: told in the time of a sort."""
+    count = 200_000
+    names = [f'"{number}{"x" * 16}":0' for number in range(count)]
+    apart, alike = "{" + ",".join(names) + "}", "{" + ",".join(names) + ',"199999' + "x" * 16 + '":1}'
+    checks.check("many names", answered(f"{apart}\n{alike}\n", "check\n"), (0, "2\t!duplicate\n" + CHECKED.format(2, 1)))
+
+
+def queries(checks):
+    """A query of at most 65,535 bytes and 512 brackets; integers within the exact ones of I-JSON."""
+    at_most = "$." + "a" * (65_535 - 2)
+    checks.check("bytes of a query", answered("{}\n", f"query {at_most}\nquery {at_most}a\n"), (0, "= 0\nerror: query size\n"))
+    nested = {count: "$" + "[?@" * count + "]" * count for count in (512, 513)}
+    checks.check("filters within filters", answered("[" * 510 + "1" + "]" * 510 + "\n", f"query {nested[512]}\nquery {nested[513]}\n"),
+                 (0, "= 0\nerror: query size\n"))
+    in_brackets = {count: "$[?" + "(" * (count - 1) + "@" + ")" * (count - 1) + "]" for count in (512, 513)}
+    checks.check("parentheses of a query", answered("[1]\n", f"query {in_brackets[512]}\nquery {in_brackets[513]}\n"),
+                 (0, rows([(1, "$[0]")], "1") + "error: query size\n"))
+    script = f"query $[{2**53 - 1}]\nquery $[-{2**53 - 1}]\nquery $[{2**53}]\nquery $[-{2**53}]\n"
+    checks.check("integers of a query", answered("[1]\n", script), (0, "= 0\n= 0\nerror: query integer\nerror: query integer\n"))
+    kept = "".join(f"index $.a{number}\n" for number in range(17)) + "index $.a0\n"
+    checks.check("indexes", answered("{}\n", kept), (0, "indexed 0\n" * 16 + "error: index limit\nerror: index exists\n"))
+
+
+def patterns(checks):
+    """A pattern of at most 256 parentheses and counts of at most 999,999,999; counts within counts take no time of their own."""
+    def matched(text, pattern):
+        return answered(f'["{text}"]\n', f"query $[?match(@,'{pattern}')]\n")
+
+    found, none = (lambda text: (0, rows([(1, "$[0]")], f'"{text}"'))), (0, "= 0\n")
+    cases = [("aaa", "(a{0,999999999}){999999999}", True), ("aaaa", "(a{2}){999999999}", False),
+             ("aaaa", "(a{2}){2,999999999}", True), ("aaaaa", "(a{2}){2,999999999}", False), ("", "(){999999999}", True),
+             ("a", "a{0,999999999}", True), ("a", "a{0,1000000000}", False),
+             ("a", "(" * 256 + "a" + ")" * 256, True), ("a", "(" * 257 + "a" + ")" * 257, False)]
+    nested = "(" * 40 + "a" + "){0,9}" * 40
+    cases += [("aaa", nested, True), ("aab", nested, False)]
+    for text, pattern, matches in cases:
+        checks.check(f"{pattern[:40]} on {text!r}", matched(text, pattern), found(text) if matches else none)
+
+
+def long_texts(checks):
+    """Long texts under patterns and comparisons that may not cost the square of them."""
+    long = "a" * MILLION
+    script = "query $[?match(@,'a*')]\nquery $[?search(@,'b')]\nquery $[?@==$[0]]\nquery $[?length(@)==1000000]\n"
+    row = rows([(1, "$[0]")], f'"{long}"')
+    checks.check("a string of a million scalars", answered(f'["{long}"]\n', script), (0, row + "= 0\n" + row + row))
+    many = "[" + ",".join(["1"] * 100_000) + "]"
+    checks.check("each element against the last", answered(f"{many}\n", "query $[?@ != $[-1]]\n"), (0, "= 0\n"))
+
+
+def devices(checks):
+    """A script that comes byte by byte, and an answer before the next command is sent."""
+    lines = file_of("lines", '{"a":1}\n')
+    row = b"1\t$['a']\t1\n= 1\n"
+    with subprocess.Popen([PROGRAM, lines], stdin=subprocess.PIPE, stdout=subprocess.PIPE, bufsize=0) as run:
+        for byte in b"query $.a\nquery $.a":
+            run.stdin.write(bytes([byte]))
+        run.stdin.close()
+        checks.check("a script byte by byte", run.stdout.read(), row * 2)
+    with subprocess.Popen([PROGRAM, lines], stdin=subprocess.PIPE, stdout=subprocess.PIPE, bufsize=0) as run:
+        for turn in range(3):
+            run.stdin.write(b"query $.a\n")
+            os.set_blocking(run.stdout.fileno(), False)
+            got, until = b"", time.monotonic() + SECONDS
+            while len(got) < len(row) and time.monotonic() < until:
+                got += run.stdout.read(len(row)) or b""
+                time.sleep(0.001)
+            checks.check(f"answer {turn + 1} before the next command", got, row)
+        run.stdin.close()
+
+
+def available_memory():
+    """The bytes of memory that a program may take here."""
+    with open("/proc/meminfo", encoding="ascii") as file:
+        words = dict(line.split(":") for line in file)
+    return int(words["MemAvailable"].split()[0]) * 1024
+
+
+def sizes(checks):
+    """A collection and a script of at most 2^32 - 1 bytes. Behind their first line the
+    files are one of zeros, with no block on the disk."""
+    if available_memory() < 14 * 2**30:
+        print("left out: a collection and a script of 2^32 bytes, as less than 14 GiB of memory are free")
+        return
+    small, large = file_of("small", "1\n"), file_of("large", "check\n")
+    os.truncate(large, MOST_BYTES + 1)
+    checks.check("a collection of 2^32 bytes", ended([large, "--script", file_of("check", "check\n")], subprocess.DEVNULL), (12, ""))
+    checks.check("a script of 2^32 bytes", ended([small, "--script", large], subprocess.DEVNULL), (14, CHECKED.format(1, 0)))
+    os.truncate(large, MOST_BYTES)
+    checks.check("a script of 2^32 - 1 bytes", ended([small, "--script", large], subprocess.DEVNULL), (0, CHECKED.format(1, 0) + "error: command\n"))
+    os.remove(large)
+
+
+def main():
+    checks = Checks()
+    for part in (texts_of_brackets, texts_cut_short, texts_of_backslashes, texts_of_numbers, texts_of_names, queries, patterns,
+                 long_texts, devices, sizes):
+        part(checks)
+    print(f"{checks.passed} passed, {checks.failed} failed")
+    return 1 if checks.failed else 0
+
+
+sys.exit(main())
