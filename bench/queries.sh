@@ -29,3 +29,14 @@ bytes=$(stat -c %s "$folder/lines.jsonl")
 echo "one line: $bytes bytes"
 beside '$[?@ == $[-1]]' '.[-1] as $last | .[] | select(. == $last)'
 beside '$[?@ < length($) && @ < count($..*)]' 'length as $length | .[] | select(. < $length)'
+# Twenty look-ups without an index, and no query: the difference is theirs.
+awk 'BEGIN { for (n = 0; n < 85800; n++) {
+    printf "{\"key\":\"k%d\",\"user\":{\"name\":\"user %d\",\"age\":%d},\"items\":[", n, n % 1000, n % 90
+    for (m = 0; m < 12; m++) printf "%s{\"name\":\"pen %d\",\"price\":%d.5}", (m ? "," : ""), m, (n + m) % 29
+    print "]}" } }' > "$folder/lines.jsonl"
+bytes=$(stat -c %s "$folder/lines.jsonl")
+echo "collection: $bytes bytes, $(wc -l < "$folder/lines.jsonl") lines"
+: > "$folder/script"
+timed "jpq  no query" "$bytes" "$program" "$folder/lines.jsonl" --script "$folder/script"
+for ((number = 0; number < 20; number += 1)); do echo "query \$[?\$.key=='k$((number * 4000))']"; done > "$folder/script"
+timed "jpq  \$[?\$.key=='..'], twenty times" "$bytes" "$program" "$folder/lines.jsonl" --script "$folder/script"
