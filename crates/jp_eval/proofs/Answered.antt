@@ -1,7 +1,17 @@
 -- Answers at their places.
-use Rattle.std.proofs.Common.{◌≡◌, ℕ, zero, suc, List, [], ◌∷◌, ◌++◌, slice_set, Option, Some, None, sym, ◌∙◌, ap, refl}
-use Rattle.std.specs.Prelude.{slice_get}
+use Rattle.std.proofs.Common.{◌≡◌, ℕ, zero, suc, List, [], ◌∷◌, ◌++◌, slice_set, Option, Some, None, sym, ◌∙◌, ap, refl, subst}
+use Rattle.std.specs.Prelude.{slice_get, IfSome}
+use Rattle.jp_model.specs.Meaning.Nodes.{Node}
+use Rattle.jp_model.specs.Meaning.Selecting.{path_nodes}
+use Rattle.jp_eval.specs.Answers.{IsAnswer}
+use Rattle.jp_eval.specs.Frames.{table_in, tree_in, slot_nodes}
+use Rattle.jp_model.specs.Query.Syntax.{Path}
+use Rattle.jp_eval.specs.Programs.{nodes_view}
+use Rattle.jp_eval.proofs.Compiled.{slot_is}
 use Rattle.jp_eval.specs.declared.frame.Answer.{Answer}
+use Rattle.jp_eval.specs.declared.frame.Run.{Run}
+use Rattle.jp_eval.specs.declared.program.Nodes.{Nodes}
+use Rattle.jp_eval.specs.declared.program.Nodes.TheVariants as slots
 
 -- no answer is there
 pub record HasNone (answers : List (Option Answer)) : Type 0 where
@@ -31,3 +41,11 @@ got (z ∷ l) zero zero x y h f g = f refl (cc)
 got (z ∷ l) zero (suc j) x y h f g = g h
 got (z ∷ l) (suc i) zero x y h f g = g h
 got (z ∷ l) (suc i) (suc j) x y h f g = got l i j x y h (λ e k. f (ap suc e) k) g
+
+-- a kept answer is that of the nodes, from whatever node a filter looks
+pub told_before : (run : Run) (asked : Nodes) (n : Node) (result : Option Answer) (answer : Answer) → IfSome result (λ a. (m : Node) → IsAnswer (path_nodes (nodes_view (table_in run) asked) m (tree_in run)) a) → result ≡ Some answer → IsAnswer (path_nodes (nodes_view (table_in run) asked) n (tree_in run)) answer
+told_before run asked n result answer told is = (subst (λ r. IfSome r (λ a. (m : Node) → IsAnswer (path_nodes (nodes_view (table_in run) asked) m (tree_in run)) a)) is told) n
+
+-- the answer of the query of a slot, from whatever node a filter looks
+pub told_from : (run : Run) (asked : Nodes) (place : ℕ) (n : Node) (answer : Answer) → asked ≡ slots.Slot place → IsAnswer (slot_nodes run place) answer → IsAnswer (path_nodes (nodes_view (table_in run) asked) n (tree_in run)) answer
+told_from run asked place n answer is told = subst (λ (p : Path). IsAnswer (path_nodes p n (tree_in run)) answer) (sym (ap (nodes_view (table_in run)) is ∙ slot_is (table_in run) place)) told

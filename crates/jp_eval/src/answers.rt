@@ -1,14 +1,17 @@
 //! What was answered of queries from the root.
 
-ghost use Rattle.std.specs.Prelude.{◌≡◌, ◌∷◌, [], slice_get, IfOk, IfSome};
+ghost use Rattle.std.specs.Prelude.{◌≡◌, ◌∷◌, [], ℕ, slice_get, IfOk, IfSome};
+ghost use Rattle.jp_model.specs.Meaning.Nodes.{Node};
+ghost use Rattle.jp_model.specs.Meaning.Selecting.{path_nodes};
 ghost use Rattle.jp_eval.specs.Answers.{IsAnswer};
-ghost use Rattle.jp_eval.specs.Frames.{table_in, slot_nodes, reached, AreKept};
-ghost use Rattle.jp_eval.specs.Programs.{segments_or_none, steps_view};
+ghost use Rattle.jp_eval.specs.Frames.{table_in, tree_in, slot_nodes, reached, AreKept};
+ghost use Rattle.jp_eval.specs.Programs.{nodes_view, segments_or_none, steps_view};
 ghost use Rattle.jp_eval.specs.declared.frame.Run.{Run as AnyRun};
+ghost use Rattle.jp_eval.specs.declared.program.Nodes.TheVariants as slots;
 ghost use Rattle.jp_tape.specs.Cursors.{node_of};
 
 use crate::frame::{Answer, Frame, Run};
-use crate::program::Step;
+use crate::program::{Nodes, Step};
 use std::alloc::{AllocError, Global};
 
 /// No answer, at so many places.
@@ -46,22 +49,35 @@ impl<'p, 'a> Run<'p, 'a> {
     }
 
     /// What was answered of the query of a slot, where it was asked before in the line.
-    pub(crate) fn kept(self, place: usize, frame: &Frame<'a>) -> Option<Answer<'a>>
+    fn kept_at(self, place: usize, frame: &Frame<'a>) -> Option<Answer<'a>>
         requires { AreKept self frame.now.answers.items }
         ensures { IfSome result (λ answer. IsAnswer (slot_nodes self.entry place) answer) }
     {
         frame.answers.get(place).copied()?
     }
 
-    /// Keeps what was answered of the query of a slot.
-    pub(crate) fn keep(self, place: usize, answer: Answer<'a>, frame: &mut Frame<'a>)
+    /// What was answered of a query within a filter, where it begins at the root and was asked before in the line.
+    pub(crate) fn kept(self, nodes: &Nodes, frame: &Frame<'a>) -> Option<Answer<'a>>
+        requires { AreKept self frame.now.answers.items }
+        ensures { IfSome result (λ answer. (node : Node) → IsAnswer (path_nodes (nodes_view (table_in self.entry) nodes.now) node (tree_in self.entry)) answer) }
+    {
+        match nodes {
+            Nodes::Slot(place) => self.kept_at(*place, frame),
+            Nodes::Current(_) => None,
+        }
+    }
+
+    /// Keeps what was answered of a query within a filter, where it begins at the root.
+    pub(crate) fn keep(self, nodes: &Nodes, answer: Answer<'a>, frame: &mut Frame<'a>)
         requires kept { AreKept self frame.old.answers.items }
-        requires right { IsAnswer (slot_nodes self place) answer }
+        requires right { (place : ℕ) → nodes.now ≡ slots.Slot place → IsAnswer (slot_nodes self place) answer }
         ensures kept { AreKept self.entry frame.new.answers.items }
         ensures found { frame.new.found ≡ frame.old.found }
     {
-        if place < frame.answers.len() {
-            frame.answers[place] = Some(answer);
+        if let Nodes::Slot(place) = nodes {
+            if *place < frame.answers.len() {
+                frame.answers[*place] = Some(answer);
+            }
         }
     }
 }

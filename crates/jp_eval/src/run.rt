@@ -11,7 +11,7 @@ ghost use Rattle.jp_model.specs.Meaning.Slices.{is_index, sliced};
 ghost use Rattle.jp_tape.specs.Cursors.{line_of, node_of};
 ghost use Rattle.jp_eval.specs.Expressions.{all_are};
 ghost use Rattle.jp_eval.specs.Found.{AreOf};
-ghost use Rattle.jp_eval.specs.Frames.{table_in, tree_in, reached, slot_nodes, AreKept, Stands, Pushes, Lends};
+ghost use Rattle.jp_eval.specs.Frames.{table_in, tree_in, reached, AreKept, Stands, Pushes, Lends};
 ghost use Rattle.jp_eval.specs.Programs.{choices_view, choice_view, conditions_view, condition_view, side_view, nodes_view, invoked_view, given_view};
 ghost use Rattle.jp_eval.specs.Walks.{rises};
 ghost use Rattle.jp_values.specs.Values.{value_view, is_sound_value};
@@ -319,59 +319,85 @@ fn side_value<'v, 'a: 'v>(
     }
 }
 
-/// Whether some steps select a node from another. The first decides.
+/// Adds what a query within a filter selects, as long as fewer nodes than `most` were found. One from the root is read by its own
+/// slots, which the answers that it finds are kept for.
 #[cycle(eval)]
-fn has_reached<'a>(
+fn push_nodes<'a>(
     run: Run<'_, 'a>,
-    steps: &[Step],
-    start: Cursor<'a>,
+    nodes: &Nodes,
+    node: Cursor<'a>,
+    most: usize,
+    frame: &mut Frame<'a>,
+) -> Result<(), AllocError>
+    requires stands { Stands run node frame.old }
+    requires room { length frame.old.found.items ≤ most }
+    ensures { Pushes run.entry most frame.old frame.new result (path_nodes (nodes_view (table_in run.entry) nodes.now) (node_of node.entry) (tree_in run.entry)) }
+{
+    let place = match nodes {
+        Nodes::Slot(place) => *place,
+        Nodes::Current(steps) => return push_steps(run, steps, node, most, frame),
+    };
+    let (inner, steps) = run.enter(place);
+    let mut answers = no_answers(run.alloc, inner.slots.len())?;
+    std::mem::swap(&mut frame.answers, &mut answers);
+    let result = push_steps(inner, steps, run.root, most, frame);
+    std::mem::swap(&mut frame.answers, &mut answers);
+    result
+}
+
+/// Whether a query within a filter selects a node. The first decides.
+#[cycle(eval)]
+fn find_any<'a>(
+    run: Run<'_, 'a>,
+    nodes: &Nodes,
+    node: Cursor<'a>,
     frame: &mut Frame<'a>,
 ) -> Result<bool, AllocError>
-    requires { Stands run start frame.old }
+    requires { Stands run node frame.old }
     ensures lends { Lends run.entry frame.old frame.new result }
-    ensures value { IfOk result (λ b. b ≡ not (length (reached run.entry steps.now (node_of start.entry ∷ [])) == 0)) }
+    ensures value { IfOk result (λ b. b ≡ not (length (path_nodes (nodes_view (table_in run.entry) nodes.now) (node_of node.entry) (tree_in run.entry)) == 0)) }
 {
     let before = frame.found.len();
-    push_steps(run, steps, start, before + 1, frame)?;
+    push_nodes(run, nodes, node, before + 1, frame)?;
     let found = frame.found.len() > before;
     frame.found.truncate(before);
     Ok(found)
 }
 
-/// How many nodes some steps select from a node.
+/// How many nodes a query within a filter selects.
 #[cycle(eval)]
-fn count_reached<'a>(
+fn find_count<'a>(
     run: Run<'_, 'a>,
-    steps: &[Step],
-    start: Cursor<'a>,
+    nodes: &Nodes,
+    node: Cursor<'a>,
     frame: &mut Frame<'a>,
 ) -> Result<u64, AllocError>
-    requires { Stands run start frame.old }
+    requires { Stands run node frame.old }
     ensures lends { Lends run.entry frame.old frame.new result }
-    ensures value { IfOk result (λ count. count ≡ length (reached run.entry steps.now (node_of start.entry ∷ []))) }
+    ensures value { IfOk result (λ count. count ≡ length (path_nodes (nodes_view (table_in run.entry) nodes.now) (node_of node.entry) (tree_in run.entry))) }
 {
     let before = frame.found.len();
-    push_steps(run, steps, start, usize::MAX, frame)?;
+    push_nodes(run, nodes, node, usize::MAX, frame)?;
     let count = frame.found.len() - before;
     frame.found.truncate(before);
     Ok(count as u64)
 }
 
-/// The value of the single node that some steps select from a node, where they select one. The second decides.
+/// The value of the single node that a query within a filter selects, where it selects one. The second decides.
 #[cycle(eval)]
-fn single_reached<'a>(
+fn find_single<'a>(
     run: Run<'_, 'a>,
-    steps: &[Step],
-    start: Cursor<'a>,
+    nodes: &Nodes,
+    node: Cursor<'a>,
     frame: &mut Frame<'a>,
 ) -> Result<Value<'a>, AllocError>
-    requires { Stands run start frame.old }
+    requires { Stands run node frame.old }
     ensures lends { Lends run.entry frame.old frame.new result }
     ensures sound { IfOk result (λ v. IsTrue (is_sound_value v)) }
-    ensures value { IfOk result (λ v. value_view v ≡ single_value_of (reached run.entry steps.now (node_of start.entry ∷ []))) }
+    ensures value { IfOk result (λ v. value_view v ≡ single_value_of (path_nodes (nodes_view (table_in run.entry) nodes.now) (node_of node.entry) (tree_in run.entry))) }
 {
     let before = frame.found.len();
-    push_steps(run, steps, start, before + 2, frame)?;
+    push_nodes(run, nodes, node, before + 2, frame)?;
     let value = if frame.found.len() == before + 1 {
         Value::Node(frame.found[before])
     } else {
@@ -381,101 +407,7 @@ fn single_reached<'a>(
     Ok(value)
 }
 
-/// Whether the query from the root at a place selects a node.
-#[cycle(eval)]
-fn slot_exists<'a>(
-    run: Run<'_, 'a>,
-    place: usize,
-    frame: &mut Frame<'a>,
-) -> Result<bool, AllocError>
-    requires { AreKept run frame.old.answers.items }
-    ensures lends { Lends run.entry frame.old frame.new result }
-    ensures value { IfOk result (λ b. b ≡ not (length (slot_nodes run.entry place) == 0)) }
-{
-    if let Some(Answer::Exists(some)) = run.kept(place, frame) {
-        return Ok(some);
-    }
-    let (inner, steps) = run.enter(place);
-    let mut answers = no_answers(run.alloc, inner.slots.len())?;
-    std::mem::swap(&mut frame.answers, &mut answers);
-    let result = has_reached(inner, steps, run.root, frame);
-    std::mem::swap(&mut frame.answers, &mut answers);
-    let some = result?;
-    run.keep(place, Answer::Exists(some), frame);
-    Ok(some)
-}
-
-/// How many nodes the query from the root at a place selects.
-#[cycle(eval)]
-fn slot_count<'a>(run: Run<'_, 'a>, place: usize, frame: &mut Frame<'a>) -> Result<u64, AllocError>
-    requires { AreKept run frame.old.answers.items }
-    ensures lends { Lends run.entry frame.old frame.new result }
-    ensures value { IfOk result (λ count. count ≡ length (slot_nodes run.entry place)) }
-{
-    if let Some(Answer::Count(count)) = run.kept(place, frame) {
-        return Ok(count);
-    }
-    let (inner, steps) = run.enter(place);
-    let mut answers = no_answers(run.alloc, inner.slots.len())?;
-    std::mem::swap(&mut frame.answers, &mut answers);
-    let result = count_reached(inner, steps, run.root, frame);
-    std::mem::swap(&mut frame.answers, &mut answers);
-    let count = result?;
-    run.keep(place, Answer::Count(count), frame);
-    Ok(count)
-}
-
-/// The value of the single node that the query from the root at a place selects, where it selects one.
-#[cycle(eval)]
-fn slot_single<'a>(
-    run: Run<'_, 'a>,
-    place: usize,
-    frame: &mut Frame<'a>,
-) -> Result<Value<'a>, AllocError>
-    requires { AreKept run frame.old.answers.items }
-    ensures lends { Lends run.entry frame.old frame.new result }
-    ensures sound { IfOk result (λ v. IsTrue (is_sound_value v)) }
-    ensures value { IfOk result (λ v. value_view v ≡ single_value_of (slot_nodes run.entry place)) }
-{
-    if let Some(Answer::Single(value)) = run.kept(place, frame) {
-        return Ok(value);
-    }
-    let (inner, steps) = run.enter(place);
-    let mut answers = no_answers(run.alloc, inner.slots.len())?;
-    std::mem::swap(&mut frame.answers, &mut answers);
-    let result = single_reached(inner, steps, run.root, frame);
-    std::mem::swap(&mut frame.answers, &mut answers);
-    let value = result?;
-    run.keep(place, Answer::Single(value), frame);
-    Ok(value)
-}
-
-/// How long the value of the single node is that the query from the root at a place selects (RFC 9535, section 2.4.4).
-#[cycle(eval)]
-fn slot_length<'a>(
-    run: Run<'_, 'a>,
-    place: usize,
-    frame: &mut Frame<'a>,
-) -> Result<Value<'a>, AllocError>
-    requires { AreKept run frame.old.answers.items }
-    ensures lends { Lends run.entry frame.old frame.new result }
-    ensures sound { IfOk result (λ v. IsTrue (is_sound_value v)) }
-    ensures value { IfOk result (λ v. value_view v ≡ length_of_value (single_value_of (slot_nodes run.entry place))) }
-{
-    if let Some(Answer::Length(value)) = run.kept(place, frame) {
-        return Ok(value);
-    }
-    let (inner, steps) = run.enter(place);
-    let mut answers = no_answers(run.alloc, inner.slots.len())?;
-    std::mem::swap(&mut frame.answers, &mut answers);
-    let result = single_reached(inner, steps, run.root, frame);
-    std::mem::swap(&mut frame.answers, &mut answers);
-    let value = length_of(result?);
-    run.keep(place, Answer::Length(value), frame);
-    Ok(value)
-}
-
-/// Whether a query within a filter selects a node.
+/// Whether a query within a filter selects a node. What is found of one from the root is kept.
 #[cycle(eval)]
 fn has_node<'a>(
     run: Run<'_, 'a>,
@@ -487,13 +419,15 @@ fn has_node<'a>(
     ensures lends { Lends run.entry frame.old frame.new result }
     ensures value { IfOk result (λ b. b ≡ not (length (path_nodes (nodes_view (table_in run.entry) nodes.now) (node_of node.entry) (tree_in run.entry)) == 0)) }
 {
-    match nodes {
-        Nodes::Slot(place) => slot_exists(run, *place, frame),
-        Nodes::Current(steps) => has_reached(run, steps, node, frame),
+    if let Some(Answer::Exists(some)) = run.kept(nodes, frame) {
+        return Ok(some);
     }
+    let some = find_any(run, nodes, node, frame)?;
+    run.keep(nodes, Answer::Exists(some), frame);
+    Ok(some)
 }
 
-/// How many nodes a query within a filter selects.
+/// How many nodes a query within a filter selects. What is found of one from the root is kept.
 #[cycle(eval)]
 fn count_nodes<'a>(
     run: Run<'_, 'a>,
@@ -505,13 +439,16 @@ fn count_nodes<'a>(
     ensures lends { Lends run.entry frame.old frame.new result }
     ensures value { IfOk result (λ count. count ≡ length (path_nodes (nodes_view (table_in run.entry) nodes.now) (node_of node.entry) (tree_in run.entry))) }
 {
-    match nodes {
-        Nodes::Slot(place) => slot_count(run, *place, frame),
-        Nodes::Current(steps) => count_reached(run, steps, node, frame),
+    if let Some(Answer::Count(count)) = run.kept(nodes, frame) {
+        return Ok(count);
     }
+    let count = find_count(run, nodes, node, frame)?;
+    run.keep(nodes, Answer::Count(count), frame);
+    Ok(count)
 }
 
-/// The value of the single node that a query within a filter selects, where it selects one.
+/// The value of the single node that a query within a filter selects, where it selects one. What is found of one from the root
+/// is kept.
 #[cycle(eval)]
 fn single_value<'a>(
     run: Run<'_, 'a>,
@@ -524,10 +461,12 @@ fn single_value<'a>(
     ensures sound { IfOk result (λ v. IsTrue (is_sound_value v)) }
     ensures value { IfOk result (λ v. value_view v ≡ single_value_of (path_nodes (nodes_view (table_in run.entry) nodes.now) (node_of node.entry) (tree_in run.entry))) }
 {
-    match nodes {
-        Nodes::Slot(place) => slot_single(run, *place, frame),
-        Nodes::Current(steps) => single_reached(run, steps, node, frame),
+    if let Some(Answer::Single(value)) = run.kept(nodes, frame) {
+        return Ok(value);
     }
+    let value = find_single(run, nodes, node, frame)?;
+    run.keep(nodes, Answer::Single(value), frame);
+    Ok(value)
 }
 
 /// How long the value of the single node is that a query within a filter selects (RFC 9535, section 2.4.4).
@@ -543,13 +482,13 @@ fn single_length<'a>(
     ensures sound { IfOk result (λ v. IsTrue (is_sound_value v)) }
     ensures value { IfOk result (λ v. value_view v ≡ length_of_value (single_value_of (path_nodes (nodes_view (table_in run.entry) nodes.now) (node_of node.entry) (tree_in run.entry)))) }
 {
-    match nodes {
-        Nodes::Slot(place) => slot_length(run, *place, frame),
-        Nodes::Current(steps) => {
-            let value = single_reached(run, steps, node, frame)?;
-            Ok(length_of(value))
-        }
+    if let Some(Answer::Length(value)) = run.kept(nodes, frame) {
+        return Ok(value);
     }
+    let value = find_single(run, nodes, node, frame)?;
+    let value = length_of(value);
+    run.keep(nodes, Answer::Length(value), frame);
+    Ok(value)
 }
 
 /// What an argument gives as a value.

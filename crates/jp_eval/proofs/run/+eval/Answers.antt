@@ -14,10 +14,11 @@ use Rattle.jp_tape.specs.declared.cursor.Cursor.{Cursor}
 use Rattle.jp_tape.specs.Cursors.{line_of, place_of, node_of, nodes_from, nodes_after}
 use Rattle.jp_values.specs.declared.value.Value.{Value as Side}
 use Rattle.jp_values.specs.Values.{value_view}
-use Rattle.jp_eval.specs.Frames.{table_in, tree_in, reached, slot_nodes, AreKept}
+use Rattle.jp_eval.specs.Frames.{table_in, tree_in, AreKept}
 use Rattle.jp_eval.specs.Functions.{passing}
 use Rattle.jp_eval.specs.Programs.{steps_view, choices_view, choice_view, condition_view, nodes_view, invoked_view, given_view}
 use Rattle.jp_eval.specs.Walks.{IsAt, rises}
+use Rattle.jp_eval.specs.declared.frame.Answer.{Answer}
 use Rattle.jp_eval.specs.declared.frame.Frame.{Frame}
 use Rattle.jp_eval.specs.declared.functions.Function.{Function}
 use Rattle.jp_eval.specs.declared.functions.Function.TheVariants as functions
@@ -27,6 +28,7 @@ use Rattle.jp_eval.specs.declared.leaves.LiteralPattern.{LiteralPattern}
 use Rattle.jp_eval.specs.declared.program.Choice.{Choice}
 use Rattle.jp_eval.specs.declared.program.Given.{Given as Held}
 use Rattle.jp_eval.specs.declared.program.Invoked.{Invoked}
+use Rattle.jp_eval.proofs.Answered.{told_before}
 use Rattle.jp_eval.proofs.Calls.{called, few_called, many_called, none_called, several_called}
 use Rattle.jp_eval.proofs.Compiled.{name_is, index_is, slice_is, nodes_given, pattern_given}
 use Rattle.jp_eval.proofs.Counts.{counted_so, single_found, none_single}
@@ -43,7 +45,7 @@ use Rattle.std.proofs.lemmas.List.{drop_all}
 use Rattle.std.specs.Str.{chars}
 use mir.Val.{to_z, of_z}
 use Rattle.jp_eval.proofs.run.+eval.Goals as goal
-use Rattle.jp_eval.proofs.run.+eval.Goals.{push_filtered-then-branch+in_ok-push_steps, push_filtered-else-branch, single_reached-then-len-before, single_reached-else-len-before, call_value-in_default-via-then-as_slice-lt1, call_value-in_default-via-else-as_slice-lt1+else-this-lt2, call_truth-in-Some-Match, call_truth-in-Some-Search, push_rising-then-has+in_ok-push_steps, push_rising-else-has, push_rising-then-len-most-via-then-len-most, push_rising-then-len-most-via-else-len-most+then-ends_before}
+use Rattle.jp_eval.proofs.run.+eval.Goals.{push_filtered-then-branch+in_ok-push_steps, push_filtered-else-branch, call_value-in_default-via-then-as_slice-lt1, call_value-in_default-via-else-as_slice-lt1+else-this-lt2, call_truth-in-Some-Match, call_truth-in-Some-Search, push_rising-then-has+in_ok-push_steps, push_rising-else-has, push_rising-then-len-most-via-then-len-most, push_rising-then-len-most-via-else-len-most+then-ends_before, find_single-then-len-before, find_single-else-len-before}
 
 -- ---- children
 
@@ -234,46 +236,70 @@ push_choice-returns-in-None-find_element t c =
     let none : select (choice_view (table_in c.args.run) c.args.choice.now) n u ≡ [] = ap (λ (x : Choice). select (choice_view (table_in c.args.run) x) n u) c.in-Index.is ∙ (ap (λ (x : syntax.Selector). select x n u) (index_is (table_in c.args.run) c.in-Index.index) ∙ there) in
     record { adds = adds_none (line_of c.args.run.root) c.args.frame.now.found.items c.args.frame.now.found.items refl; kept = c.requires.stands.kept; nodes = nothing_added c.args.most c.args.frame.now.found.items ss u (select (choice_view (table_in c.args.run) c.args.choice.now) n u) c.requires.room none }
 
--- ---- what some steps reach
+-- ---- queries within filters
 
-pub count_reached-returns-clause-lends : goal.count_reached-returns-clause-lends
-count_reached-returns-clause-lends t c =
-    let same = c.truncate.ensures.items ∙ cut_back c.len-before.result c.in_ok-push_steps.ensures.adds (sym (c.len-before.ensures ∙ c.args.frame.now.found.ok.0)) in
-    record { adds = adds_none _ _ _ same; kept = c.in_ok-push_steps.ensures.kept; same = same }
+pub find_any-returns-clause-lends : goal.find_any-returns-clause-lends
+find_any-returns-clause-lends t c =
+    let same = c.truncate.ensures.items ∙ cut_back c.len-before.result c.in_ok-push_nodes.ensures.adds (sym (c.len-before.ensures ∙ c.args.frame.now.found.ok.0)) in
+    record { adds = adds_none _ _ _ same; kept = c.in_ok-push_nodes.ensures.kept; same = same }
 
-pub count_reached-returns-clause-value : goal.count_reached-returns-clause-value
-count_reached-returns-clause-value t c =
-    let new = c.push_steps.new.frame.found in
-    let found : List Node = reached c.args.run c.args.steps.now (node_of c.args.start ∷ []) in
+pub find_count-returns-clause-lends : goal.find_count-returns-clause-lends
+find_count-returns-clause-lends t c =
+    let same = c.truncate.ensures.items ∙ cut_back c.len-before.result c.in_ok-push_nodes.ensures.adds (sym (c.len-before.ensures ∙ c.args.frame.now.found.ok.0)) in
+    record { adds = adds_none _ _ _ same; kept = c.in_ok-push_nodes.ensures.kept; same = same }
+
+pub find_single-returns-clause-lends : goal.find_single-returns-clause-lends
+find_single-returns-clause-lends t c =
+    let same = c.truncate.ensures.items ∙ cut_back c.len-before.result c.in_ok-push_nodes.ensures.adds (sym (c.len-before.ensures ∙ c.args.frame.now.found.ok.0)) in
+    record { adds = adds_none _ _ _ same; kept = c.in_ok-push_nodes.ensures.kept; same = same }
+
+pub has_node-returns-in-Some-Exists-clause-value : goal.has_node-returns-in-Some-Exists-clause-value
+has_node-returns-in-Some-Exists-clause-value t c =
+    told_before c.args.run c.args.nodes.now (node_of c.args.node) c.kept.result _ c.kept.ensures (c.in-Some-Exists.is ∙ ap (λ (a : Answer). Some a) c.in-Some-Exists.field-0-is)
+
+pub count_nodes-returns-in-Some-Count-clause-value : goal.count_nodes-returns-in-Some-Count-clause-value
+count_nodes-returns-in-Some-Count-clause-value t c =
+    told_before c.args.run c.args.nodes.now (node_of c.args.node) c.kept.result _ c.kept.ensures (c.in-Some-Count.is ∙ ap (λ (a : Answer). Some a) c.in-Some-Count.field-0-is)
+
+pub find_count-returns-clause-value : goal.find_count-returns-clause-value
+find_count-returns-clause-value t c =
+    let new = c.push_nodes.new.frame.found in
+    let found : List Node = path_nodes (nodes_view (table_in c.args.run) c.args.nodes.now) (node_of c.args.node) (node_of c.args.run.root).tree in
     let size = new.ok in
     let small = new.small in
     let old = c.args.frame.now.found.ok.0 in
-    let sum = counted_so 18446744073709551615 c.args.frame.now.found.items new.items found c.in_ok-push_steps.ensures.nodes (omega (arith, size, small)) in
+    let sum = counted_so 18446744073709551615 c.args.frame.now.found.items new.items found c.in_ok-push_nodes.ensures.nodes (omega (arith, size, small)) in
     omega (arith, sum, size, old, c.len.ensures, c.len-before.ensures)
 
-pub single_reached-returns-clause-lends : goal.single_reached-returns-clause-lends
-single_reached-returns-clause-lends t c =
-    let same = c.truncate.ensures.items ∙ cut_back c.len-before.result c.in_ok-push_steps.ensures.adds (sym (c.len-before.ensures ∙ c.args.frame.now.found.ok.0)) in
-    record { adds = adds_none _ _ _ same; kept = c.in_ok-push_steps.ensures.kept; same = same }
-
-pub single_reached-returns-clause-value : goal.single_reached-returns-clause-value
-single_reached-returns-clause-value t c =
-    let new = c.push_steps.new.frame.found in
-    let found : List Node = reached c.args.run c.args.steps.now (node_of c.args.start ∷ []) in
+pub find_single-returns-clause-value : goal.find_single-returns-clause-value
+find_single-returns-clause-value t c =
+    let new = c.push_nodes.new.frame.found in
+    let found : List Node = path_nodes (nodes_view (table_in c.args.run) c.args.nodes.now) (node_of c.args.node) (node_of c.args.run.root).tree in
     let old : length c.args.frame.now.found.items ≡ c.len-before.result = sym (c.len-before.ensures ∙ c.args.frame.now.found.ok.0) in
     let now : c.len.result ≡ length new.items = c.len.ensures ∙ new.ok.0 in
     elim c.if-len-before.branch [
-      | single_reached-then-len-before w ↦
+      | find_single-then-len-before w ↦
           (ap value_view w.value-is
-          ∙ single_found _ c.args.frame.now.found.items new.items c.len-before.result found w.index.result.now c.in_ok-push_steps.ensures.adds old c.in_ok-push_steps.ensures.nodes (sym now ∙ w.if-len-before.true) (sym w.index.ensures))
-      | single_reached-else-len-before w ↦
-          (ap value_view w.value-is ∙ none_single _ c.args.frame.now.found.items new.items c.len-before.result found c.in_ok-push_steps.ensures.adds old c.in_ok-push_steps.ensures.nodes (λ e. w.if-len-before.false (now ∙ e)))
+          ∙ single_found _ c.args.frame.now.found.items new.items c.len-before.result found w.index.result.now c.in_ok-push_nodes.ensures.adds old c.in_ok-push_nodes.ensures.nodes (sym now ∙ w.if-len-before.true) (sym w.index.ensures))
+      | find_single-else-len-before w ↦
+          (ap value_view w.value-is ∙ none_single _ c.args.frame.now.found.items new.items c.len-before.result found c.in_ok-push_nodes.ensures.adds old c.in_ok-push_nodes.ensures.nodes (λ e. w.if-len-before.false (now ∙ e)))
     ]
 
-pub has_reached-returns-clause-lends : goal.has_reached-returns-clause-lends
-has_reached-returns-clause-lends t c =
-    let same = c.truncate.ensures.items ∙ cut_back c.len-before.result c.in_ok-push_steps.ensures.adds (sym (c.len-before.ensures ∙ c.args.frame.now.found.ok.0)) in
-    record { adds = adds_none _ _ _ same; kept = c.in_ok-push_steps.ensures.kept; same = same }
+pub single_value-returns-in-Some-Single-clause-sound : goal.single_value-returns-in-Some-Single-clause-sound
+single_value-returns-in-Some-Single-clause-sound t c =
+    (told_before c.args.run c.args.nodes.now (node_of c.args.node) c.kept.result _ c.kept.ensures (c.in-Some-Single.is ∙ ap (λ (a : Answer). Some a) c.in-Some-Single.field-0-is)).sound
+
+pub single_value-returns-in-Some-Single-clause-value : goal.single_value-returns-in-Some-Single-clause-value
+single_value-returns-in-Some-Single-clause-value t c =
+    (told_before c.args.run c.args.nodes.now (node_of c.args.node) c.kept.result _ c.kept.ensures (c.in-Some-Single.is ∙ ap (λ (a : Answer). Some a) c.in-Some-Single.field-0-is)).value
+
+pub single_length-returns-in-Some-Length-clause-sound : goal.single_length-returns-in-Some-Length-clause-sound
+single_length-returns-in-Some-Length-clause-sound t c =
+    (told_before c.args.run c.args.nodes.now (node_of c.args.node) c.kept.result _ c.kept.ensures (c.in-Some-Length.is ∙ ap (λ (a : Answer). Some a) c.in-Some-Length.field-0-is)).sound
+
+pub single_length-returns-in-Some-Length-clause-value : goal.single_length-returns-in-Some-Length-clause-value
+single_length-returns-in-Some-Length-clause-value t c =
+    (told_before c.args.run c.args.nodes.now (node_of c.args.node) c.kept.result _ c.kept.ensures (c.in-Some-Length.is ∙ ap (λ (a : Answer). Some a) c.in-Some-Length.field-0-is)).value
 
 -- ---- calls
 

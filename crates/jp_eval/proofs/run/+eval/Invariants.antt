@@ -1,13 +1,13 @@
 -- How far each loop has come, and how large the part of the query is that each function goes into.
 use Rattle.std.proofs.Common.{◌≡◌, ◌≤◌, ◌+◌, ◌-◌, true, map, length, filter, flat_map, drop}
-use Rattle.std.specs.Prelude.{IfSome, slice_get}
+use Rattle.std.specs.Prelude.{IfSome}
 use Rattle.jp_model.specs.Meaning.Nodes.{Node, children, children_where, subtree}
 use Rattle.jp_model.specs.Meaning.Selecting.{nodes, selected, truth}
 use Rattle.jp_model.specs.Meaning.Slices.{is_index}
 use Rattle.jp_tape.specs.Cursors.{line_of, place_of, node_of, nodes_from}
 use Rattle.jp_eval.specs.Expressions.{all_are}
 use Rattle.jp_eval.specs.Frames.{table_in, tree_in, AreKept}
-use Rattle.jp_eval.specs.Programs.{steps_view, choices_view, choice_view, conditions_view, condition_view, side_view, nodes_view, invoked_view, given_view, segments_or_none}
+use Rattle.jp_eval.specs.Programs.{steps_view, choices_view, choice_view, conditions_view, condition_view, side_view, nodes_view, invoked_view, given_view}
 use Rattle.jp_eval.specs.Walks.{IsAt, rises}
 use Rattle.jp_eval.proofs.Goes.{Goes}
 use Rattle.jp_eval.proofs.Walks.{chosen_from}
@@ -50,26 +50,17 @@ decreases-are_all l = size_of_logicals (conditions_view (table_in l.run) l.parts
 abbrev pub decreases-side_value : goal.decreases-side_value
 decreases-side_value l = size_of_comparable (side_view (table_in l.run) l.side.now)
 
-abbrev pub decreases-has_reached : goal.decreases-has_reached
-decreases-has_reached l = size_of_segments (steps_view (table_in l.run) l.steps.now) + 1
+abbrev pub decreases-push_nodes : goal.decreases-push_nodes
+decreases-push_nodes l = size_of_path (nodes_view (table_in l.run) l.nodes.now)
 
-abbrev pub decreases-count_reached : goal.decreases-count_reached
-decreases-count_reached l = size_of_segments (steps_view (table_in l.run) l.steps.now) + 1
+abbrev pub decreases-find_any : goal.decreases-find_any
+decreases-find_any l = size_of_path (nodes_view (table_in l.run) l.nodes.now) + 1
 
-abbrev pub decreases-single_reached : goal.decreases-single_reached
-decreases-single_reached l = size_of_segments (steps_view (table_in l.run) l.steps.now) + 1
+abbrev pub decreases-find_count : goal.decreases-find_count
+decreases-find_count l = size_of_path (nodes_view (table_in l.run) l.nodes.now) + 1
 
-abbrev pub decreases-slot_exists : goal.decreases-slot_exists
-decreases-slot_exists l = size_of_segments (segments_or_none (slice_get (table_in l.run) l.place)) + 2
-
-abbrev pub decreases-slot_count : goal.decreases-slot_count
-decreases-slot_count l = size_of_segments (segments_or_none (slice_get (table_in l.run) l.place)) + 2
-
-abbrev pub decreases-slot_single : goal.decreases-slot_single
-decreases-slot_single l = size_of_segments (segments_or_none (slice_get (table_in l.run) l.place)) + 2
-
-abbrev pub decreases-slot_length : goal.decreases-slot_length
-decreases-slot_length l = size_of_segments (segments_or_none (slice_get (table_in l.run) l.place)) + 2
+abbrev pub decreases-find_single : goal.decreases-find_single
+decreases-find_single l = size_of_path (nodes_view (table_in l.run) l.nodes.now) + 1
 
 abbrev pub decreases-has_node : goal.decreases-has_node
 decreases-has_node l = size_of_path (nodes_view (table_in l.run) l.nodes.now) + 2
