@@ -21,7 +21,7 @@ use crate::Kind;
 use jp_decimal::{Decimal, NumberFault};
 use jp_lanes::first_special;
 use jp_model::Span;
-use jp_strings::{StringFault, test_body};
+use jp_strings::{StringFault, test_utf8_body};
 
 /// The end of a string, and whether a surrogate stands alone in it.
 #[derive(Clone, Copy)]
@@ -86,10 +86,11 @@ fn is_lone_within(line: &[u8], from: usize, last: usize) -> Option<bool>
     requires order { from < last }
     requires opens { Has line.now from 0x22 }
     requires closes { Has line.now last 0x22 }
+    requires utf8 { IsUtf8 line.now }
     ensures found { IfSome result (λ is_lone. (points : List ℕ) × SpellsString line.now from (last + 1) points × (has_lone_surrogate points ≡ is_lone)) }
     ensures none { IfNone result ((points : List ℕ) → SpellsBody line.now (from + 1) last points → ⊥) }
 {
-    match test_body(&line[from + 1..last]) {
+    match test_utf8_body(&line[from + 1..last]) {
         Ok(()) => Some(false),
         Err(StringFault::Surrogate) => Some(true),
         Err(StringFault::Shape) => None,
