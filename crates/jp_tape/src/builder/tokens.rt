@@ -171,7 +171,7 @@ fn fraction_end(line: &[u8], from: usize) -> Option<usize>
 }
 
 /// The end of the number at `from`, where it has no exponent, and no byte of a number follows it.
-#[inline(always)]
+#[inline(never)]
 fn plain_number_end(line: &[u8], from: usize) -> Option<usize>
     requires inside { from < length line.now }
     ensures within { IfSome result (λ to. (from < to) × (to ≤ length line.now)) }
