@@ -67,15 +67,15 @@ fn advance(body: &[u8], at: usize, seen: Halves) -> Option<(usize, Halves)>
     ensures { MatchOption result (units_from body.now at ≡ None)
         (λ next. Advances body.now at seen next.0 next.1) }
 {
-    let end = first_special(body, at);
-    if at < end {
-        return Some((end, seen.with_scalars()));
+    if body[at] == b'\\' {
+        let (unit, end) = read_escape(body, at)?;
+        return Some((end, seen.with_unit(unit)));
     }
-    if body[at] != b'\\' {
+    let end = first_special(body, at);
+    if at == end {
         return None;
     }
-    let (unit, end) = read_escape(body, at)?;
-    Some((end, seen.with_unit(unit)))
+    Some((end, seen.with_scalars()))
 }
 
 /// Tells whether bytes are a body (RFC 8259, section 7), and one in which no half of a surrogate
@@ -87,6 +87,14 @@ pub fn test_body(body: &[u8]) -> Result<(), StringFault>
     if !is_utf8(body) {
         return Err(StringFault::Shape);
     }
+    test_utf8_body(body)
+}
+
+/// The same as `test_body`, of bytes that are known to be UTF-8: a body within a line that was tested.
+pub fn test_utf8_body(body: &[u8]) -> Result<(), StringFault>
+    requires { IsUtf8 body.now }
+    ensures { MatchResult result (λ _. IsText body.now) (HasFault body.now) }
+{
     let mut seen = Halves {
         after_high: false,
         is_lone: false,

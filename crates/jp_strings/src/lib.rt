@@ -9,7 +9,7 @@ pub mod laws;
 mod order;
 mod scalars;
 
-pub use checks::test_body;
+pub use checks::{test_body, test_utf8_body};
 pub use fault::StringFault;
 pub use order::{compare, compare_text, equal, scalar_count, spells, unescape};
 pub use scalars::Scalars;

@@ -47,6 +47,16 @@ fn faults_are_told(rt: HostRuntime) {
 }
 
 #[test]
+fn bodies_of_utf8_are_tested(rt: HostRuntime) {
+    assert_eq!(rt; test_utf8_body("é\\n\\ud834\\udd1e".as_bytes()), Ok(()));
+    assert_eq!(rt; test_utf8_body("é\\q".as_bytes()), Err(StringFault::Shape));
+    assert_eq!(rt;
+        test_utf8_body("\\ud834é".as_bytes()),
+        Err(StringFault::Surrogate)
+    );
+}
+
+#[test]
 fn escapes_stand_anywhere(rt: HostRuntime) -> Result<(), Fail> {
     for size in [0usize, 63, 64, 65] {
         for place in 0..=size {

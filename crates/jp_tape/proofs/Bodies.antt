@@ -35,7 +35,7 @@ plain_alone body u p =
     ]
 
 -- what stands between two quotes is UTF-8
-between_quotes : (line : List ℕ) (from last : ℕ) → IsUtf8 line → Has line from 0x22 → from < last → Has line last 0x22 → IsUtf8 (bytes_between line (from + 1) last)
+pub between_quotes : (line : List ℕ) (from last : ℕ) → IsUtf8 line → Has line from 0x22 → from < last → Has line last 0x22 → IsUtf8 (bytes_between line (from + 1) last)
 between_quotes line from last u o l c =
     let f = o.is in
     let g = c.is in

@@ -16,6 +16,7 @@ pub mod Bodies
 pub mod Scans
 pub mod Closing
 pub mod NumberEnds
+pub mod PlainNumbers
 pub mod Labels
 pub mod Scalars
 pub mod Steps

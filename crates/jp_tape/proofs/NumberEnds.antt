@@ -1,8 +1,7 @@
 -- Where a number ends: at the first byte with which no number goes on.
-use Rattle.std.proofs.Common.{◌≡◌, ℕ, zero, suc, ◌+◌, ◌-◌, ◌<◌, ◌≤◌, ◌==◌, inl, inr, Bool, true, false, cond, List, [], ◌∷◌, ◌++◌, length, drop, get_or, get_or-take, get_or-drop, sym, ◌∙◌, ap, refl, arith, Option, Some, None, le_antisymm, add-zero, append-nil, ℤ}
+use Rattle.std.proofs.Common.{◌≡◌, ℕ, zero, suc, ◌+◌, ◌-◌, ◌<◌, ◌≤◌, ◌==◌, inl, inr, Bool, true, false, cond, List, [], ◌∷◌, ◌++◌, length, drop, get_or, get_or-take, get_or-drop, sym, ◌∙◌, ap, refl, arith, Option, Some, None, le_antisymm, ℤ}
 use Rattle.std.specs.Bool.{⊤}
 use Rattle.std.proofs.lemmas.Bool.{cases_lt, cases_Bool, eqb-true}
-use Rattle.std.proofs.lemmas.List.Edits.{length-between}
 use Rattle.jp_model.specs.Characters.{is_digit}
 use Rattle.jp_model.specs.Json.Places.{byte_at, bytes_between}
 use Rattle.jp_model.specs.Json.Numbers.{Numeral, Exponent, Sign, no_sign, plus_sign, minus_sign, AreDigits, IsInt, IsNumeral, IsExponent, minus_bytes, fraction_bytes, sign_bytes, exponent_bytes, numeral_bytes, numeral_of, is_long_exponent, SpellsNumber, mantissa, scale}
@@ -11,7 +10,7 @@ use Rattle.jp_model.proofs.Reader.Numbers.{digit_in_number, int_digits, some_dig
 use Rattle.jp_model.proofs.Json.Parts.{parts_read}
 use Rattle.jp_tape.specs.Places.{in_number, Ended}
 
-byte_between : (line : List ℕ) (s e k : ℕ) → k < e - s → byte_at (bytes_between line s e) k ≡ byte_at line (s + k)
+pub byte_between : (line : List ℕ) (s e k : ℕ) → k < e - s → byte_at (bytes_between line s e) k ≡ byte_at line (s + k)
 byte_between line s e k l = get_or-take (e - s) (drop s line) k 0 l ∙ get_or-drop s line k 0
 
 -- all are bytes of a number
@@ -58,7 +57,7 @@ numeral-in n c =
     in-append (minus_bytes n.negative) _ (minus-in n.negative)
     (in-append n.int _ (digits-in n.int (int_digits n.int c.int)) (in-append (fraction_bytes n.fraction) (exponent_bytes n.exponent) (fraction-in n.fraction c.fraction) (exponent-in n.exponent c.exponent)))
 
-inside : (line : List ℕ) (from to k : ℕ) (m e : ℤ) → SpellsNumber line from to m e → from ≤ k → k < to → in_number (byte_at line k) ≡ true
+pub inside : (line : List ℕ) (from to k : ℕ) (m e : ℤ) → SpellsNumber line from to m e → from ≤ k → k < to → in_number (byte_at line k) ≡ true
 inside line from to k m e s a b =
     let bytes = numeral_bytes s.numeral in
     let l : to ≡ from + length bytes = reads_end line from to bytes s.bytes in
@@ -88,32 +87,16 @@ minus_long true int rest l = omega arith
 minus_long false [] rest l = absurd (omega (arith, l))
 minus_long false (d ∷ ds) rest l = omega arith
 
--- ---- ints without a sign
+-- ---- digits
 
 zero_alone : (d : ℕ) (rest : ℕ) → (d ≡ 0x30 → rest + 2 ≡ 1) → (d == 0x30) ≡ false
 zero_alone d rest z = elim (cases_Bool (d == 0x30)) [ inl t ↦ absurd (omega (arith, z (eqb-true d 0x30 t))) | inr f ↦ f ]
 
-all_digits : (ds : List ℕ) → ((k : ℕ) → k < length ds → is_digit (get_or ds k 0) ≡ true) → AreDigits ds
+pub all_digits : (ds : List ℕ) → ((k : ℕ) → k < length ds → is_digit (get_or ds k 0) ≡ true) → AreDigits ds
 all_digits [] h = tt
 all_digits (d ∷ ds) h = (h 0 (omega arith), all_digits ds (λ k l. h (suc k) (omega (arith, l))))
 
-int_of : (ds : List ℕ) → 0 < length ds → AreDigits ds → (get_or ds 0 0 ≡ 0x30 → length ds ≡ 1) → IsInt ds
+pub int_of : (ds : List ℕ) → 0 < length ds → AreDigits ds → (get_or ds 0 0 ≡ 0x30 → length ds ≡ 1) → IsInt ds
 int_of [] l a z = absurd (omega (arith, l))
 int_of (d ∷ []) l a z = a.0
 int_of (d ∷ e ∷ ds) l a z = (a.0, zero_alone d (length ds) (λ h. omega (arith, z h)), a.1)
-
--- digits that are an int are a number
-pub int_there : (line : List ℕ) (from to : ℕ) → from < to → to ≤ length line → ((k : ℕ) → from ≤ k → k < to → is_digit (byte_at line k) ≡ true) → (byte_at line from ≡ 0x30 → to ≡ from + 1) → Ended line to →
-    (m e : ℤ) × SpellsNumber line from to m e × Ended line to × (is_long_exponent (numeral_of (bytes_between line from to)) ≡ false)
-int_there line from to l w h z d =
-    let ds = bytes_between line from to in
-    let size : length ds ≡ to - from = length-between line from to w in
-    let at : (k : ℕ) → k < length ds → is_digit (get_or ds k 0) ≡ true = λ k b. ap is_digit (byte_between line from to k (omega (arith, size, b))) ∙ h (from + k) (omega arith) (omega (arith, size, b, l)) in
-    let first : get_or ds 0 0 ≡ byte_at line from = byte_between line from to 0 (omega (arith, l)) ∙ ap (byte_at line) (add-zero from) in
-    let n : Numeral = record { negative = false; int = ds; fraction = []; exponent = None } in
-    let correct : IsNumeral n = record { int = int_of ds (omega (arith, size, l)) (all_digits ds at) (λ e. omega (arith, size, z (sym first ∙ e))); fraction = tt; exponent = tt } in
-    number_there line from to false n (omega (arith, l)) w d correct (append-nil ds) refl
-
--- they are bytes of a number
-pub int_solid : (line : List ℕ) (from to : ℕ) → ((k : ℕ) → from ≤ k → k < to → is_digit (byte_at line k) ≡ true) → (k : ℕ) → from ≤ k → k < to → in_number (byte_at line k) ≡ true
-int_solid line from to h k a b = digit_in_number (byte_at line k) (h k a b)

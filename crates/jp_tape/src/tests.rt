@@ -168,6 +168,17 @@ fn faults_are_told(rt: HostRuntime) {
 }
 
 #[test]
+fn numbers_are_read_to_their_ends(rt: HostRuntime) {
+    let alloc = rt.alloc();
+    assert!(rt; has_tape(alloc, b"[0,-0,10,-1.5,0.25,-0.0, 1.5e3,1E-2]"));
+    for line in [
+        "-", "[-]", "1.", "[1.]", "-.5", ".5", "1.5.2", "1.5e", "-01.5", "--1", "1-", "1.5x",
+    ] {
+        assert!(rt; is_refused(alloc, line.as_bytes(), LineFault::Grammar));
+    }
+}
+
+#[test]
 fn equal_names_of_two_objects_are_no_fault(rt: HostRuntime) {
     assert!(rt; has_tape(rt.alloc(), b"{\"a\":{\"a\":1},\"b\":[{\"a\":2},{\"a\":3}]}"));
 }

@@ -1,10 +1,9 @@
 //! The tokens of a line: strings, numbers, words and names.
 
-ghost use Rattle.std.specs.Prelude.{◌≡◌, ℕ, ◌+◌, ◌-◌, ◌^◌, ◌<◌, ◌≤◌, true, false, length, List, Some, None, IfSome, IfNone, IsSome, IsTrue, IsUtf8, ℤ};
+ghost use Rattle.std.specs.Prelude.{◌≡◌, ℕ, ◌+◌, ◌-◌, ◌^◌, ◌<◌, ◌≤◌, Bool, true, false, length, List, Some, None, IfSome, IfNone, IsSome, IsTrue, IsUtf8, ℤ};
 ghost use Rattle.std.specs.List.{list_all};
-ghost use Rattle.jp_model.specs.Characters.{is_digit};
 ghost use Rattle.jp_model.specs.Json.Places.{White, Has, Reads, byte_at, bytes_between};
-ghost use Rattle.jp_model.specs.Json.Numbers.{SpellsNumber, numeral_of, is_long_exponent};
+ghost use Rattle.jp_model.specs.Json.Numbers.{AreDigits, IsInt, SpellsNumber, minus_bytes, fraction_bytes, numeral_of, is_long_exponent};
 ghost use Rattle.jp_model.specs.Json.Strings.{SpellsBody, has_lone_surrogate};
 ghost use Rattle.jp_model.specs.Json.Spelling.{SpellsString, SpellsName};
 ghost use Rattle.jp_model.specs.Json.Tree.{Name, object, array};
@@ -21,7 +20,7 @@ use crate::Kind;
 use jp_decimal::{Decimal, NumberFault};
 use jp_lanes::first_special;
 use jp_model::Span;
-use jp_strings::{StringFault, test_body};
+use jp_strings::{StringFault, test_utf8_body};
 
 /// The end of a string, and whether a surrogate stands alone in it.
 #[derive(Clone, Copy)]
@@ -86,10 +85,11 @@ fn is_lone_within(line: &[u8], from: usize, last: usize) -> Option<bool>
     requires order { from < last }
     requires opens { Has line.now from 0x22 }
     requires closes { Has line.now last 0x22 }
+    requires utf8 { IsUtf8 line.now }
     ensures found { IfSome result (λ is_lone. (points : List ℕ) × SpellsString line.now from (last + 1) points × (has_lone_surrogate points ≡ is_lone)) }
     ensures none { IfNone result ((points : List ℕ) → SpellsBody line.now (from + 1) last points → ⊥) }
 {
-    match test_body(&line[from + 1..last]) {
+    match test_utf8_body(&line[from + 1..last]) {
         Ok(()) => Some(false),
         Err(StringFault::Surrogate) => Some(true),
         Err(StringFault::Shape) => None,
@@ -128,17 +128,24 @@ fn string_end(line: &[u8], marks: &[u32], from: usize) -> Option<StringEnd>
     }
 }
 
-/// The end of the number at `from`, where it is an int without a sign, and no byte of a number follows it.
+/// The place behind a minus sign at `from`, or `from` where none stands there.
+#[inline(always)]
+fn behind_minus(line: &[u8], from: usize) -> usize
+    requires inside { from < length line.now }
+    ensures { (negative : Bool) × Reads line.now from result (minus_bytes negative) }
+{
+    if line[from] == b'-' { from + 1 } else { from }
+}
+
+/// The end of the int at `from`, which has no sign.
 #[inline(always)]
 fn int_end(line: &[u8], from: usize) -> Option<usize>
-    requires inside { from < length line.now }
-    ensures within { IfSome result (λ to. (from < to) × (to ≤ length line.now)) }
-    ensures digits { IfSome result (λ to. (k : ℕ) → from ≤ k → k < to → is_digit (byte_at line.now k) ≡ true) }
-    ensures zero { IfSome result (λ to. byte_at line.now from ≡ 0x30 → to ≡ from + 1) }
-    ensures ended { IfSome result (λ to. Ended line.now to) }
+    requires within { from ≤ length line.now }
+    ensures some { IfSome result (λ to. from < to) }
+    ensures found { IfSome result (λ to. (digits : List ℕ) × IsInt digits × Reads line.now from to digits) }
 {
     let end = digits_end(line, from);
-    if end == from || is_number_at(line, end) {
+    if end == from {
         return None;
     }
     if line[from] == b'0' && end > from + 1 {
@@ -147,7 +154,44 @@ fn int_end(line: &[u8], from: usize) -> Option<usize>
     Some(end)
 }
 
-/// The end of the number at `from`, where no byte of a number follows it. Most are short ints.
+/// The end of the fraction part at `from`, or `from` where no point stands there.
+#[inline(always)]
+fn fraction_end(line: &[u8], from: usize) -> Option<usize>
+    requires within { from ≤ length line.now }
+    ensures { IfSome result (λ to. (digits : List ℕ) × AreDigits digits × Reads line.now from to (fraction_bytes digits)) }
+{
+    if !is_at(line, from, b'.') {
+        return Some(from);
+    }
+    let end = digits_end(line, from + 1);
+    if end == from + 1 {
+        return None;
+    }
+    Some(end)
+}
+
+/// The end of the number at `from`, where it has no exponent, and no byte of a number follows it.
+#[inline(never)]
+fn plain_number_end(line: &[u8], from: usize) -> Option<usize>
+    requires inside { from < length line.now }
+    ensures within { IfSome result (λ to. (from < to) × (to ≤ length line.now)) }
+    ensures solid { IfSome result (λ to. IsSolid line.now from to) }
+    ensures found { IfSome result (λ to. (m e : ℤ) × SpellsNumber line.now from to m e × Ended line.now to × (is_long_exponent (numeral_of (bytes_between line.now from to)) ≡ false)) }
+{
+    let start = behind_minus(line, from);
+    let Some(point) = int_end(line, start) else {
+        return None;
+    };
+    let Some(end) = fraction_end(line, point) else {
+        return None;
+    };
+    if is_number_at(line, end) {
+        return None;
+    }
+    Some(end)
+}
+
+/// The end of the number at `from`, where no byte of a number follows it. Few have an exponent.
 #[inline(always)]
 fn number_end(line: &[u8], from: usize) -> Option<NumberEnd>
     requires inside { from < length line.now }
@@ -157,7 +201,7 @@ fn number_end(line: &[u8], from: usize) -> Option<NumberEnd>
     ensures found { IfSome result (λ r. (m e : ℤ) × SpellsNumber line.now from r.end m e × Ended line.now r.end × (is_long_exponent (numeral_of (bytes_between line.now from r.end)) ≡ r.is_long)) }
     ensures none { IfNone result ((to : ℕ) (m e : ℤ) → SpellsNumber line.now from to m e → Ended line.now to → ⊥) }
 {
-    if let Some(end) = int_end(line, from) {
+    if let Some(end) = plain_number_end(line, from) {
         return Some(NumberEnd {
             end,
             is_long: false,

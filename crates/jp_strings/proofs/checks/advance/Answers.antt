@@ -1,26 +1,25 @@
-use Rattle.std.proofs.Common.{◌≡◌, ◌∙◌, sym, arith, subst, Some, true}
+use Rattle.std.proofs.Common.{◌≡◌, ◌∙◌, ◌<◌, sym, arith, subst, Some, true}
 use Rattle.jp_lanes.specs.Search.{is_special}
 use Rattle.jp_model.specs.Json.Places.{byte_at}
 use Rattle.jp_model.specs.Json.Reader.{character_at}
 use Rattle.jp_strings.proofs.Runs.{run_advances, escape_advances, special_stops, no_units, at_none}
 use Rattle.jp_strings.proofs.checks.advance.Goals as goal
 
-pub returns-then-at-end : goal.returns-then-at-end
-returns-then-at-end c =
-    let run = c.first_special-end.ensures in
-    run_advances c.args.body.now c.args.at c.first_special-end.result c.args.seen c.with_scalars.result c.if-at-end.true run.within c.requires.utf8 run.plain run.stops c.with_scalars.ensures.high c.with_scalars.ensures.first
-
-pub returns-then-body-at-ne92 : goal.returns-then-body-at-ne92
-returns-then-body-at-ne92 c =
-    let order = c.first_special-end.ensures.order in
-    let here : c.first_special-end.result ≡ c.args.at = omega (arith, order) in
-    let special : is_special (byte_at c.args.body.now c.args.at) ≡ true = subst (λ k. is_special (byte_at c.args.body.now k) ≡ true) here (c.first_special-end.ensures.stops (omega arith)) in
-    special_stops c.args.body.now c.args.at c.requires.inside special c.if-body-at-ne92.true
-
 pub returns-in_err-unit : goal.returns-in_err-unit
 returns-in_err-unit c = at_none c.from_residual.result _ _ c.from_residual.ensures (no_units c.args.body.now c.args.at c.requires.inside (sym c.read_escape.ensures ∙ c.in_err-unit.was))
 
-pub returns : goal.returns
-returns c =
+pub returns-then-body-at-eq92 : goal.returns-then-body-at-eq92
+returns-then-body-at-eq92 c =
     let character : character_at c.args.body.now c.args.at ≡ Some (c.in_ok-unit.unit, c.in_ok-unit.end) = sym c.read_escape.ensures ∙ c.in_ok-unit.was in
     escape_advances c.args.body.now c.args.at c.in_ok-unit.unit c.in_ok-unit.end c.args.seen c.with_unit.result c.requires.inside c.requires.utf8 character c.with_unit.ensures
+
+pub returns-then-at-end : goal.returns-then-at-end
+returns-then-at-end c =
+    let special : is_special (byte_at c.args.body.now c.args.at) ≡ true = subst (λ k. is_special (byte_at c.args.body.now k) ≡ true) (sym c.if-at-end.true) (c.first_special-end.ensures.stops (omega arith)) in
+    special_stops c.args.body.now c.args.at c.requires.inside special c.if-body-at-eq92.false
+
+pub returns : goal.returns
+returns c =
+    let run = c.first_special-end.ensures in
+    let some : c.args.at < c.first_special-end.result = omega (arith, run.order) in
+    run_advances c.args.body.now c.args.at c.first_special-end.result c.args.seen c.with_scalars.result some run.within c.requires.utf8 run.plain run.stops c.with_scalars.ensures.high c.with_scalars.ensures.first

@@ -1,21 +1,6 @@
-use Rattle.std.proofs.Common.{◌≡◌, ◌∙◌, sym, arith, length, true, false}
 use Rattle.std.proofs.lemmas.Bool.{iff_false}
-use Rattle.jp_strings.proofs.Answers.{no_body, no_text, reached}
+use Rattle.jp_strings.proofs.Answers.{no_text}
 use Rattle.jp_strings.proofs.checks.test_body.Goals as goal
 
 pub returns-then-not-is_utf8 : goal.returns-then-not-is_utf8
 returns-then-not-is_utf8 c points spelled = iff_false c.is_utf8.ensures c.if-not-is_utf8.true (no_text c.args.body.now points spelled)
-
-pub returns-then-has_lone : goal.returns-then-has_lone
-returns-then-has_lone c =
-    let end : c.loop-at.at ≡ length c.args.body.now = (let w = c.loop-at.invariant.within in omega arith) in
-    reached c.args.body.now c.loop-at.at c.loop-at.seen true c.loop-at.invariant.same end (sym c.has_lone.ensures ∙ c.if-has_lone.true)
-
-pub returns : goal.returns
-returns c =
-    let end : c.loop-at.at ≡ length c.args.body.now = (let w = c.loop-at.invariant.within in omega arith) in
-    let found = reached c.args.body.now c.loop-at.at c.loop-at.seen false c.loop-at.invariant.same end (sym c.has_lone.ensures ∙ c.if-has_lone.false) in
-    record { points = found.0; spelled = found.1; is_whole = found.2 }
-
-pub returns-in_default : goal.returns-in_default
-returns-in_default c = no_body c.args.body.now c.loop-at.at c.loop-at.seen c.loop-at.invariant.same c.in_default.ensures

@@ -3,6 +3,7 @@ use Rattle.jp_model.specs.Json.Places.{Has, bytes_between}
 use Rattle.jp_model.specs.Json.Strings.{SpellsBody, has_lone_surrogate}
 use Rattle.jp_model.specs.Json.Spelling.{SpellsString}
 use Rattle.jp_strings.proofs.Slices.{body_of_slice, body_in_line}
+use Rattle.jp_tape.proofs.Bodies.{between_quotes}
 use Rattle.jp_tape.proofs.builder.tokens.is_lone_within.Goals as goal
 
 string_of : (line : List ℕ) (from last : ℕ) (b : Bool) (points : List ℕ) → Has line from 0x22 → Has line last 0x22 → from + 1 ≤ last → SpellsBody (bytes_between line (from + 1) last) 0 (length (bytes_between line (from + 1) last)) points → has_lone_surrogate points ≡ b →
@@ -26,3 +27,6 @@ returns-in-Err-Shape-clause-none c points h =
     let t = rw c.in-Err-Shape.field-0-is at c.in-Err-Shape.ensures in
     let i = c.requires.closes.inside in
     t points (body_of_slice c.args.line.now points (c.args.from + 1) c.args.last (omega (arith, i)) h)
+
+pub test_utf8_body-requires : goal.test_utf8_body-requires
+test_utf8_body-requires c = between_quotes c.args.line.now c.args.from c.args.last c.requires.utf8 c.requires.opens c.requires.order c.requires.closes

@@ -2,7 +2,7 @@ use Rattle.std.proofs.Common.{length, ◌-◌, ◌≡◌, ◌≤◌, drop}
 use Rattle.std.specs.Str.{IsUtf8}
 use Rattle.jp_strings.specs.Points.{units_from}
 use Rattle.jp_strings.specs.Halves.{answer}
-use Rattle.jp_strings.proofs.checks.test_body.Given as goal
+use Rattle.jp_strings.proofs.checks.test_utf8_body.Given as goal
 
 abbrev pub invariant-loop-at : goal.invariant-loop-at
 invariant-loop-at l = record {
