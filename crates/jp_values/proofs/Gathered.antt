@@ -79,9 +79,9 @@ gathered_named whole c members m d n e g =
       complete = λ x v h. elim (g.complete x v h) [
         | inl old ↦ inl (old.0, Contains-append_left members (m ∷ []) old.0 old.1, old.2)
         | inr r ↦ elim (cases_Bool (has_name x (name_of c))) [
-            | inl t ↦ inl (m, Contains-append_right members (m ∷ []) m (0, omega arith, refl), is_its_name (points m) x (name_of c) e t)
-            | inr f ↦ inr (sym (other_member x (name_of c) (node_of c).tree (children_after c) f) ∙ r)
-          ]
+          | inl t ↦ inl (m, Contains-append_right members (m ∷ []) m (0, omega arith, refl), is_its_name (points m) x (name_of c) e t)
+          | inr f ↦ inr (sym (other_member x (name_of c) (node_of c).tree (children_after c) f) ∙ r)
+        ]
       ];
     }
 

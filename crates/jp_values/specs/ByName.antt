@@ -2,7 +2,8 @@
 use Rattle.std.specs.Prelude.{◌≡◌, ℕ, ◌<◌, List, length, Some, Contains, IsSorted}
 use Rattle.std.specs.declared.cmp.Ordering.{Ordering}
 use Rattle.std.specs.Ordering.{nat_cmp}
-use Rattle.std.specs.Cmp.Lexicographic.{slice_cmp}
+use Rattle.std.specs.Cmp.{IsTotalOrder, on_total}
+use Rattle.std.specs.Cmp.Lexicographic.{slice_cmp, nat_list_cmp_total}
 use Rattle.jp_model.specs.Json.Tree.{Value, Children, value_of}
 use Rattle.jp_strings.specs.Points.{points_of}
 use Rattle.jp_tape.specs.Cursors.{node_of, children_after}
@@ -16,6 +17,10 @@ points m = points_of m.name.now
 -- members are ordered by the scalars of their names
 abbrev pub by_name : Member → Member → Ordering
 by_name a b = slice_cmp nat_cmp (points a) (points b)
+
+-- that order is total
+pub names_total : IsTotalOrder by_name
+names_total = on_total points nat_list_cmp_total
 
 -- these are the members of an object that have a name, in some order
 pub record AreMembers (children : Children) (members : List Member) : Type 0 where

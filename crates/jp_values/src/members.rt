@@ -1,16 +1,15 @@
 //! The members of an object in the order of their names, and a search among them.
 
 ghost use Rattle.std.specs.Prelude.{◌≡◌, ◌<◌, Some, IfOk, IfSome, refl, length};
-ghost use Rattle.std.specs.Ordering.{nat_cmp};
-ghost use Rattle.std.specs.Cmp.Lexicographic.{slice_cmp, pointwise, nat_list_eq_equiv, nat_list_cmp_total, texts_po, texts_ties};
-ghost use Rattle.std.specs.Cmp.{on_equiv, on_per, on_po, on_total, partial_equiv_from_equiv};
-ghost use Rattle.std.specs.Prelude.{nat_eq};
+ghost use Rattle.std.specs.Ordering.{nat_cmp, is_eq};
+ghost use Rattle.std.specs.Cmp.{eq_by_cmp_equiv, partial_equiv_from_equiv, po};
+ghost use Rattle.std.specs.Cmp.Lexicographic.{slice_cmp};
 ghost use Rattle.jp_model.specs.Json.Tree.{Children, value_of};
 ghost use Rattle.jp_strings.specs.Points.{IsText, points_of};
 ghost use Rattle.jp_tape.specs.Cursors.{node_of, children_from, children_after};
 ghost use Rattle.jp_tape.specs.Spots.{children_in};
 ghost use Rattle.jp_values.specs.Members.{member_named, found_value, EndsWith};
-ghost use Rattle.jp_values.specs.ByName.{points, AreMembers, AreByName, AreKept};
+ghost use Rattle.jp_values.specs.ByName.{points, by_name, names_total, AreMembers, AreByName, AreKept};
 
 use crate::equality::{find_member, is_named};
 use crate::member::Member;
@@ -32,23 +31,23 @@ fn compare_scalars(name: &[u8], other: &[u8]) -> Ordering
 }
 
 impl PartialEq for Member<'_> {
-    ghost eq = { λ a b. pointwise nat_eq (points a) (points b) };
+    ghost eq = { λ a b. is_eq (by_name a b) };
 
-    ghost laws = { on_per points (partial_equiv_from_equiv nat_list_eq_equiv) };
+    ghost laws = { partial_equiv_from_equiv (eq_by_cmp_equiv names_total) };
 
     fn eq(&self, other: &Member<'_>) -> bool {
-        jp_strings::equal(self.name, other.name)
+        self.cmp(other).is_eq()
     }
 }
 
 impl Eq for Member<'_> {
-    ghost laws = { on_equiv points nat_list_eq_equiv };
+    ghost laws = { eq_by_cmp_equiv names_total };
 }
 
 impl PartialOrd for Member<'_> {
-    ghost partial_cmp = { λ a b. Some (slice_cmp nat_cmp (points a) (points b)) };
+    ghost partial_cmp = { λ a b. Some (by_name a b) };
 
-    ghost laws = { on_po points texts_po };
+    ghost laws = { po names_total (λ a b. refl) };
 
     fn partial_cmp(&self, other: &Member<'_>) -> Option<Ordering> {
         Some(self.cmp(other))
@@ -56,13 +55,13 @@ impl PartialOrd for Member<'_> {
 }
 
 impl Ord for Member<'_> {
-    ghost cmp = { λ a b. slice_cmp nat_cmp (points a) (points b) };
+    ghost cmp = { by_name };
 
-    ghost total = { on_total points nat_list_cmp_total };
+    ghost total = { names_total };
 
     ghost matches_partial_cmp = { λ a b. refl };
 
-    ghost matches_eq = { λ a b. texts_ties (points a) (points b) };
+    ghost matches_eq = { λ a b. refl };
 
     fn cmp(&self, other: &Member<'_>) -> Ordering {
         if self.is_plain && other.is_plain {
