@@ -63,12 +63,7 @@ fn has_members_in<'a>(
 ) -> Result<bool, AllocError>
     ensures { IfOk result (λ b. b ≡ members_within (children_in (value_of (node_of left.entry).tree)) (children_in (value_of (node_of right.entry).tree))) }
 {
-    let mut searched = Searched {
-        alloc,
-        object: right,
-        count,
-        sorted: Vec::new(alloc),
-    };
+    let mut searched = Searched::new(alloc, right, count);
     let mut next = left.first_child();
     let mut likely = right.first_child();
     while let Some(member) = next {

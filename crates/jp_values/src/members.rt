@@ -118,15 +118,28 @@ fn find_sorted<'a>(members: &[Member<'a>], wanted: &Member<'a>) -> Option<Cursor
 /// An object in which members are looked for.
 #[derive(Drop)]
 pub(crate) struct Searched<'a> {
-    pub alloc: Global,
-    pub object: Cursor<'a>,
-    /// About so many members it has.
-    pub count: u32,
+    alloc: Global,
+    object: Cursor<'a>,
+    /// It has about so many members.
+    count: u32,
     /// Its members in the order of their names, once that was needed.
-    pub sorted: Vec<Member<'a>>,
+    sorted: Vec<Member<'a>>,
 }
 
 impl<'a> Searched<'a> {
+    /// An object with about so many members. No member is listed yet.
+    pub fn new(alloc: Global, object: Cursor<'a>, count: u32) -> Searched<'a>
+        ensures object { result.object ≡ object.entry }
+        ensures kept { AreKept (children_in (value_of (node_of object.entry).tree)) result.sorted.items }
+    {
+        Searched {
+            alloc,
+            object,
+            count,
+            sorted: Vec::new(alloc),
+        }
+    }
+
     /// The member of this name, which is the name of another object's member. Where it is not at the likely place and there
     /// are many, the members are sorted once.
     pub fn find(

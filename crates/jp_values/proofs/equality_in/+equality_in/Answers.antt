@@ -1,4 +1,4 @@
-use Rattle.std.proofs.Common.{rules, ◌≡◌, ◌&&◌, ◌<◌, true, false, List, length, sym, ◌∙◌, ap, ap₂, subst, arith, Option, Some, None, IfSome}
+use Rattle.std.proofs.Common.{rules, ◌≡◌, ◌&&◌, true, false, sym, ◌∙◌, ap, ap₂, subst, arith, Option, Some, None, IfSome}
 use Rattle.jp_model.specs.Json.Tree.{Children, Value, value_of}
 use Rattle.jp_model.specs.Meaning.Compare.{members_within}
 use Rattle.jp_strings.specs.Points.{points_of}
@@ -8,9 +8,8 @@ use Rattle.jp_tape.specs.Cursors.{node_of, name_of, children_from, children_afte
 use Rattle.jp_tape.specs.Spots.{children_in}
 use Rattle.jp_tape.specs.Words.{children_node_count}
 use Rattle.jp_tape.proofs.Places.{count-in, some_node}
-use Rattle.jp_values.specs.declared.member.Member.{Member}
 use Rattle.jp_values.specs.declared.members.Searched.{Searched}
-use Rattle.jp_values.specs.ByName.{AreKept, AreByName}
+use Rattle.jp_values.specs.ByName.{AreKept}
 use Rattle.jp_values.specs.Members.{EndsWith, found_value, member_named}
 use Rattle.jp_values.specs.Scalars.{scalars_equal}
 use Rattle.jp_values.proofs.Inside.{leaves_equal, none_found, one_found, members_unnamed}
@@ -42,13 +41,12 @@ has_members_in-loop-next-init t c =
     let r = inside c.args.right in
     let count = count-in l in
     let size = ap children_node_count c.first_child-next.ensures.children in
-    let none = ap length c.new.ensures.items in
     record {
       same = sym (ap (λ (k : Children). members_within k r) c.first_child-next.ensures.children);
       fewer = omega (arith, count, size);
       ends = subst (λ (k : Children). EndsWith r k) (sym c.first_child-likely.ensures.children) (ends_here r);
-      object = search rules;
-      kept = λ h. absurd (omega (arith, none, h));
+      object = c.new-searched.ensures.object;
+      kept = c.new-searched.ensures.kept;
     }
 
 pub has_members_in-returns-in_default-2 : goal.has_members_in-returns-in_default-2

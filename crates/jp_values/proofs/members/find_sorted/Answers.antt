@@ -1,5 +1,5 @@
 -- What stands at the place that was found has the name, and where none is found none has it.
-use Rattle.std.proofs.Common.{◌≡◌, sym, get_or}
+use Rattle.std.proofs.Common.{sym, get_or}
 use Rattle.std.proofs.lemmas.List.{get_or_default}
 use Rattle.jp_values.proofs.Gathered.{found_sorted, missing_sorted}
 use Rattle.jp_values.proofs.members.find_sorted.Goals as goal

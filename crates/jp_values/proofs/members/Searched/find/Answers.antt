@@ -1,5 +1,5 @@
 -- The member at the likely place is the one of its name.
-use Rattle.std.proofs.Common.{◌≡◌, ◌∙◌, sym, subst, Some, Option}
+use Rattle.std.proofs.Common.{◌∙◌, sym, subst, Some, Option}
 use Rattle.jp_model.specs.Json.Tree.{value_of}
 use Rattle.jp_strings.specs.Points.{points_of}
 use Rattle.jp_tape.specs.declared.cursor.Cursor.{Cursor}
