@@ -22,7 +22,7 @@ use crate::frame::{Answer, Frame, Run};
 use crate::functions::{Function, in_pattern, length_of, read_passes};
 use crate::program::{Choice, Condition, Given, Invoked, Nodes, Side, Step};
 use jp_tape::Cursor;
-use jp_values::{Value, compare};
+use jp_values::{Value, compare_in};
 use std::alloc::AllocError;
 
 /// Adds what the steps select from a node, as long as fewer nodes than `most` were found.
@@ -271,7 +271,7 @@ pub(crate) fn holds<'a>(
         Condition::Compare { left, op, right } => {
             let left = side_value(run, left, node, frame)?;
             let right = side_value(run, right, node, frame)?;
-            Ok(compare(*op, left, right))
+            compare_in(run.alloc, *op, left, right)
         }
         Condition::Exists(nodes) => has_node(run, nodes, node, frame),
         Condition::Test(invoked) => call_truth(run, invoked, node, frame),

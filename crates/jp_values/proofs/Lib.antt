@@ -6,3 +6,4 @@ pub mod Leaves
 pub mod Inside
 pub mod Sides
 pub mod KeyOrder
+pub mod Gathered

@@ -2,5 +2,6 @@
 pub mod Scalars
 pub mod Values
 pub mod Members
+pub mod ByName
 pub mod Keys
 pub mod KeyLaws

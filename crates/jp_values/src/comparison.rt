@@ -1,6 +1,6 @@
 //! Comparisons of values and of Nothing.
 
-ghost use Rattle.std.specs.Prelude.{◌≡◌, IsTrue};
+ghost use Rattle.std.specs.Prelude.{◌≡◌, IsTrue, IfOk};
 ghost use Rattle.jp_model.specs.Json.Tree.{value_of};
 ghost use Rattle.jp_model.specs.Meaning.Compare.{value_less, both_equal as both_equal_values, is_less as is_less_value, compared};
 ghost use Rattle.jp_query.specs.View.{op_view};
@@ -8,10 +8,12 @@ ghost use Rattle.jp_tape.specs.Cursors.{node_of};
 ghost use Rattle.jp_values.specs.Values.{value_view, is_sound_value};
 
 use crate::equality::equal;
+use crate::equality_in::equal_in;
 use crate::scalar::Scalar;
 use crate::value::Value;
 use jp_query::CompareOp;
 use jp_tape::Cursor;
+use std::alloc::{AllocError, Global};
 
 /// Whether the value of the first node is less: both are numbers or both strings, numbers by their exact value and
 /// strings by their scalars, a proper prefix being less (RFC 9535, section 2.3.5.2.2). It takes no memory.
@@ -60,5 +62,39 @@ pub fn compare(op: CompareOp, left: Value<'_>, right: Value<'_>) -> bool
         CompareOp::LessEqual => is_less(left, right) || both_equal(left, right),
         CompareOp::Greater => is_less(right, left),
         CompareOp::GreaterEqual => is_less(right, left) || both_equal(left, right),
+    }
+}
+
+/// Whether both sides are Nothing, or equal values. It may take memory for large objects.
+fn both_equal_in(alloc: Global, left: Value<'_>, right: Value<'_>) -> Result<bool, AllocError>
+    requires left { IsTrue (is_sound_value left) }
+    requires right { IsTrue (is_sound_value right) }
+    ensures { IfOk result (λ b. b ≡ both_equal_values (value_view left.entry) (value_view right.entry)) }
+{
+    match (left, right) {
+        (Value::Node(node), Value::Node(other)) => equal_in(alloc, node, other),
+        _ => Ok(both_equal(left, right)),
+    }
+}
+
+/// What `compare` answers. Where two large objects are compared whose members stand in different orders it takes memory,
+/// and its time is that of a sort, not the square of their number.
+pub fn compare_in(
+    alloc: Global,
+    op: CompareOp,
+    left: Value<'_>,
+    right: Value<'_>,
+) -> Result<bool, AllocError>
+    requires left { IsTrue (is_sound_value left) }
+    requires right { IsTrue (is_sound_value right) }
+    ensures { IfOk result (λ b. b ≡ compared (op_view op) (value_view left.entry) (value_view right.entry)) }
+{
+    match op {
+        CompareOp::Equal => both_equal_in(alloc, left, right),
+        CompareOp::NotEqual => Ok(!both_equal_in(alloc, left, right)?),
+        CompareOp::Less => Ok(is_less(left, right)),
+        CompareOp::LessEqual => Ok(is_less(left, right) || both_equal_in(alloc, left, right)?),
+        CompareOp::Greater => Ok(is_less(right, left)),
+        CompareOp::GreaterEqual => Ok(is_less(right, left) || both_equal_in(alloc, left, right)?),
     }
 }

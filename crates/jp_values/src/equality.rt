@@ -12,7 +12,7 @@ use crate::scalar::Scalar;
 use jp_tape::{Cursor, Kind};
 
 /// Whether a node is a member of this name, which is compared by its scalars.
-fn is_named(member: Cursor<'_>, name: &[u8]) -> bool
+pub(crate) fn is_named(member: Cursor<'_>, name: &[u8]) -> bool
     requires { IsText name.now }
     ensures { result ≡ has_name (points_of name.now) (name_of member.entry) }
 {
@@ -39,7 +39,7 @@ fn find_from<'a>(from: Option<Cursor<'a>>, name: &[u8]) -> Option<Cursor<'a>>
 }
 
 /// The member of this name, which is looked for from a member on first.
-fn find_member<'a>(
+pub(crate) fn find_member<'a>(
     object: Cursor<'a>,
     likely: Option<Cursor<'a>>,
     name: &[u8],

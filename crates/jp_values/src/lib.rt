@@ -4,9 +4,12 @@
 mod body;
 mod comparison;
 mod equality;
+mod equality_in;
 mod key;
 mod keys;
 pub mod laws;
+mod member;
+mod members;
 mod number;
 mod scalar;
 #[cfg(test)]
@@ -14,8 +17,9 @@ mod tests;
 mod text;
 mod value;
 
-pub use comparison::{compare, less};
+pub use comparison::{compare, compare_in, less};
 pub use equality::equal;
+pub use equality_in::equal_in;
 pub use key::Key;
 pub use keys::{key_of, key_of_literal};
 pub use value::Value;

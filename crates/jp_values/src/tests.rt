@@ -281,3 +281,138 @@ fn literals_have_the_keys_of_their_values(rt: HostRuntime) -> Result<(), Fail> {
     assert!(rt; !written.is_same(&Key::True));
     Ok(())
 }
+
+/// What is written of an object of 101 members `"k0":0` to `"k100":100`.
+#[derive(Clone, Copy)]
+struct Written {
+    /// So many numbers lie between two members.
+    step: u32,
+    /// This one has its name by an escape.
+    escaped: u32,
+    /// This one has another value.
+    other: u32,
+    /// This one has another name.
+    renamed: u32,
+}
+
+/// In order, and as it is.
+const PLAIN: Written = Written {
+    step: 1,
+    escaped: 101,
+    other: 101,
+    renamed: 101,
+};
+
+/// A name's first letter, and a value.
+fn parts(written: &Written, number: u32) -> (&'static str, &'static str) {
+    let letter = if number == written.renamed {
+        "j"
+    } else if number == written.escaped {
+        "\\u006b"
+    } else {
+        "k"
+    };
+    (
+        letter,
+        if number == written.other {
+            "[]"
+        } else {
+            "[1.0]"
+        },
+    )
+}
+
+/// The text of such an object, as the value of a member beside another.
+fn large(alloc: Global, written: &Written, before: &str, behind: &str) -> Result<String, Fail> {
+    let mut text = String::from_str(alloc, before)?;
+    for turn in 0..101u32 {
+        let number = turn.wrapping_mul(written.step) % 101;
+        let (letter, value) = parts(written, number);
+        let comma = if turn == 0 { "{" } else { "," };
+        let member = format!(in alloc; "{comma}\"{letter}{number}\":{value}")?;
+        text.push_str(&member)?;
+    }
+    text.push('}')?;
+    text.push_str(behind)?;
+    Ok(text)
+}
+
+/// Of two texts: what `equal_in` tells of their values, where `equal` tells the same.
+fn both_tell(alloc: Global, left: &str, right: &str) -> Result<Option<bool>, Fail> {
+    let left_tape = read(alloc, left.as_bytes())?;
+    let right_tape = read(alloc, right.as_bytes())?;
+    let left = Cursor::root(&left_tape, left.as_bytes());
+    let right = Cursor::root(&right_tape, right.as_bytes());
+    let answer = equal_in(alloc, left, right)?;
+    let (node, other) = (Value::Node(left), Value::Node(right));
+    let same = compare_in(alloc, CompareOp::LessEqual, node, other)? == answer
+        && compare_in(alloc, CompareOp::NotEqual, node, other)? != answer
+        && equal(left, right) == answer;
+    Ok(if same { Some(answer) } else { None })
+}
+
+#[test]
+fn large_objects_are_equal_in_any_order(rt: HostRuntime) -> Result<(), Fail> {
+    let alloc = rt.alloc();
+    let plain = large(alloc, &PLAIN, "", "")?;
+    for step in [1, 100, 2, 37] {
+        let turned = large(
+            alloc,
+            &Written {
+                step,
+                escaped: 70,
+                ..PLAIN
+            },
+            "",
+            "",
+        )?;
+        assert_eq!(rt; both_tell(alloc, &plain, &turned)?, Some(true));
+        assert_eq!(rt; both_tell(alloc, &turned, &plain)?, Some(true));
+    }
+    Ok(())
+}
+
+#[test]
+fn large_objects_differ_by_one_member(rt: HostRuntime) -> Result<(), Fail> {
+    let alloc = rt.alloc();
+    let plain = large(alloc, &PLAIN, "", "")?;
+    for number in [0, 50, 100] {
+        let other = Written {
+            step: 100,
+            other: number,
+            ..PLAIN
+        };
+        let renamed = Written {
+            step: 37,
+            renamed: number,
+            ..PLAIN
+        };
+        for written in [other, renamed] {
+            let turned = large(alloc, &written, "", "")?;
+            assert_eq!(rt; both_tell(alloc, &plain, &turned)?, Some(false));
+            assert_eq!(rt; both_tell(alloc, &turned, &plain)?, Some(false));
+        }
+    }
+    Ok(())
+}
+
+#[test]
+fn large_objects_are_compared_within_others(rt: HostRuntime) -> Result<(), Fail> {
+    let alloc = rt.alloc();
+    let turned = Written { step: 100, ..PLAIN };
+    let other = Written {
+        step: 2,
+        other: 33,
+        ..PLAIN
+    };
+    let left = large(alloc, &PLAIN, "[{\"a\":1,\"b\":", "}]")?;
+    let right = large(alloc, &turned, "[{\"b\":", ",\"a\":1e0}]")?;
+    let apart = large(alloc, &other, "[{\"b\":", ",\"a\":1}]")?;
+    assert_eq!(rt; both_tell(alloc, &left, &right)?, Some(true));
+    assert_eq!(rt; both_tell(alloc, &left, &apart)?, Some(false));
+    assert_eq!(rt;
+        both_tell(alloc, &left, "[{\"a\":1,\"b\":{}}]")?,
+        Some(false)
+    );
+    Ok(())
+}
