@@ -90,7 +90,8 @@ pub fn test_body(body: &[u8]) -> Result<(), StringFault>
     test_utf8_body(body)
 }
 
-/// The same as `test_body`, of bytes that are known to be UTF-8: a body within a line that was tested.
+/// Tells the same as `test_body` of bytes that are known to be UTF-8 (RFC 8259, sections 7 and 8.1),
+/// as those of a body within a line of UTF-8 are: it looks at characters and escapes alone.
 pub fn test_utf8_body(body: &[u8]) -> Result<(), StringFault>
     requires { IsUtf8 body.now }
     ensures { MatchResult result (λ _. IsText body.now) (HasFault body.now) }
