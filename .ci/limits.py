@@ -13,7 +13,7 @@ import time
 PROGRAM, FOLDER = sys.argv[1:]
 MILLION = 1_000_000
 MOST_BYTES = 2**32 - 1
-SECONDS = 20
+SECONDS = 60
 CHECKED = "= {} lines, {} refused, 0 blank\n"
 
 
@@ -149,8 +149,29 @@ def long_texts(checks):
     script = "query $[?match(@,'a*')]\nquery $[?search(@,'b')]\nquery $[?@==$[0]]\nquery $[?length(@)==1000000]\n"
     row = rows([(1, "$[0]")], f'"{long}"')
     checks.check("a string of a million scalars", answered(f'["{long}"]\n', script), (0, row + "= 0\n" + row + row))
+    cases = [("(.|\\\\n)*", True), ("a{64}b*a*", True), (".{0,99999}", False)]
+    for pattern, matches in cases:
+        script = f"query $[?match(@,'{pattern}')]\n"
+        checks.check(f"{pattern} on a million scalars", answered(f'["{long}"]\n', script), (0, row if matches else "= 0\n"))
     many = "[" + ",".join(["1"] * 100_000) + "]"
     checks.check("each element against the last", answered(f"{many}\n", "query $[?@ != $[-1]]\n"), (0, "= 0\n"))
+
+
+def objects_turned(checks):
+    """Objects of many members in opposite orders are compared in the time of a sort."""
+    count = 100_000
+    members = [f'"{number}":{number}' for number in range(count)]
+    one, other = "{" + ",".join(members) + "}", "{" + ",".join(reversed(members)) + "}"
+    for name, last, places in (("equal", other, [(1, "$[0]['c']")]), ("unlike", other[:-2] + "1}", [])):
+        line = f'[{{"a":{one},"b":{last},"c":true}}]\n'
+        checks.check(f"{name} objects in opposite orders", answered(line, "query $[?@.a==@.b].c\n"), (0, rows(places, "true")))
+
+
+def filters_from_the_root(checks):
+    """A filter within a filter that asks of the root is answered once, and not once for each node of those around it."""
+    nested = "$" + "[?$" * 255 + "]" * 255
+    elements = [(1, f"$[{index}]") for index in range(1000)]
+    checks.check("filters from the root", answered("[" + ",".join(["1"] * 1000) + "]\n", f"query {nested}\n"), (0, rows(elements, "1")))
 
 
 def devices(checks):
@@ -199,7 +220,7 @@ def sizes(checks):
 def main():
     checks = Checks()
     for part in (texts_of_brackets, texts_cut_short, texts_of_backslashes, texts_of_numbers, texts_of_names, queries, patterns,
-                 long_texts, devices, sizes):
+                 long_texts, objects_turned, filters_from_the_root, devices, sizes):
         part(checks)
     print(f"{checks.passed} passed, {checks.failed} failed")
     return 1 if checks.failed else 0

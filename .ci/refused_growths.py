@@ -422,28 +422,44 @@ class Script:
               f" {again} asked for again at once, and refused again")
 
 
-def edit_growths(lines, made):
-    """How many growths `replace 1 2` has on so many lines `1`, with what was made before it."""
-    runs = [Run("1\n" * lines, made + script, 0) for script in ("", "replace 1 2\n")]
-    stated = [answers_of("1\n" * lines, lines_of(made + script)) for script in ("", "replace 1 2\n")]
-    for run, answers in zip(runs, stated):
-        if run.status != 0 or run.out != "".join(answers):
+def command_growths(line, lines, made, command, stated):
+    """How many growths a command has on so many lines that are alike, with what was made before it."""
+    runs = [Run(f"{line}\n" * lines, made + script, 0) for script in ("", command)]
+    for run, out in zip(runs, stated):
+        if run.status != 0 or run.out != out:
             return None
     return runs[1].growths() - runs[0].growths()
 
 
-def check_edits(checks):
-    """The growths of an edit do not come with the number of lines."""
-    for name, made in (("an edit of 200 lines", ""), ("an edit of 200 lines with an index", "index $\n")):
-        one, many = edit_growths(1, made), edit_growths(200, made)
+def edit_growths(lines, made):
+    """How many growths `replace 1 2` has on so many lines `1`."""
+    scripts = (made, made + "replace 1 2\n")
+    return command_growths("1", lines, made, "replace 1 2\n", ["".join(answers_of("1\n" * lines, lines_of(it))) for it in scripts])
+
+
+def pattern_growths(lines, condition):
+    """How many growths a query has by which each text of so many lines is selected."""
+    answer = "".join(f'{line + 1}\t$[0]\t"abab1"\n' for line in range(lines)) + f"= {lines}\n"
+    return command_growths('["abab1"]', lines, "", f"query $[?{condition}]\n", ["", answer])
+
+
+def check_growths(checks):
+    """The growths of an edit do not come with the number of lines. A query has one for the list of a line's nodes; a text that runs
+    through the places of a pattern has none."""
+    cases = [("an edit", 0, lambda lines: edit_growths(lines, "")),
+             ("an edit with an index", 0, lambda lines: edit_growths(lines, "index $\n")),
+             ("a pattern", 1, lambda lines: pattern_growths(lines, r"match(@,'((a*)*b?)*\\p{Nd}')")),
+             ("a search", 1, lambda lines: pattern_growths(lines, "search(@,'(a|b){3,30}[0-9]+')"))]
+    for name, by_line, growths in cases:
+        one, many = growths(1), growths(200)
         fault = None
         if one is None or many is None:
             fault = "it was not answered as stated"
-        elif not 0 < many <= one + 20:
+        elif not 0 < many <= one + 20 + 199 * by_line:
             fault = f"{many} growths, and {one} on one line"
         else:
-            print(f"{name}: {many} growths, and {one} on one line")
-        checks.check(name, fault)
+            print(f"{name} on 200 lines: {many} growths, and {one} on one line")
+        checks.check(f"{name} on 200 lines", fault)
 
 
 def main():
@@ -451,14 +467,14 @@ def main():
     scripts = [(Script("books", BOOKS, BOOKS_SCRIPT, False), BOOKS_OUTPUT),
                (Script("kinds", KINDS, KINDS_SCRIPT, True), KINDS_OUTPUT)]
     if not LIBRARY:
-        print("left out: every refusal and the growths of an edit, as there is no `cc` to build what refuses and counts them")
+        print("left out: every refusal and the growths of single commands, as there is no `cc` to build what refuses and counts them")
     for script, stated in scripts:
         if LIBRARY:
             script.each_refused(checks, stated)
         else:
             checks.check(f"{script.name}, no growth refused", script.whole_fault(script.run(0), stated))
     if LIBRARY:
-        check_edits(checks)
+        check_growths(checks)
     print(f"{checks.passed} passed, {checks.failed} failed")
     return 1 if checks.failed else 0
 

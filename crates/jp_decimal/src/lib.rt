@@ -10,8 +10,6 @@ pub mod laws;
 mod ordering;
 mod parts;
 mod reading;
-#[cfg(test)]
-mod tests;
 
 pub use decimal::Decimal;
 pub use fault::NumberFault;

@@ -11,8 +11,6 @@ mod leaves;
 mod program;
 mod run;
 mod steps;
-#[cfg(test)]
-mod tests;
 
 pub use evaluate::{Program, eval_from, truth};
 pub use steps::follow;

@@ -26,5 +26,3 @@ mod token;
 
 pub use pattern::Pattern;
 
-#[cfg(test)]
-mod tests;

@@ -8,8 +8,6 @@ mod limits;
 mod parser;
 mod paths;
 mod query;
-#[cfg(test)]
-mod tests;
 mod tree;
 pub mod worked;
 

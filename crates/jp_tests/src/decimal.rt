@@ -1,4 +1,4 @@
-use crate::{Decimal, NumberFault, laws};
+use jp_decimal::{Decimal, NumberFault, laws};
 use std::alloc::AllocError;
 use std::cmp::Ordering;
 

@@ -1,6 +1,6 @@
 //! The examples of RFC 9535, and the trees that they spell.
 
-use crate::{
+use jp_query::{
     Argument, Call, Comparable, CompareOp, Literal, Logical, Origin, Path, Segment, Selector, parse,
 };
 use std::alloc::{AllocError, Global};

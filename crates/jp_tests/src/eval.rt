@@ -3,7 +3,7 @@
 ghost use Rattle.std.specs.Prelude.{◌≡◌, IfOk};
 ghost use Rattle.jp_tape.specs.Tapes.{IsTapeOf};
 
-use crate::{Program, eval_from, truth};
+use jp_eval::{Program, eval_from, truth};
 use jp_masks::line_marks;
 use jp_model::Framing;
 use jp_query::{Logical, parse};

@@ -1,4 +1,4 @@
-use super::*;
+use jp_query::{ParseFault, parse};
 use jp_model::QueryFault;
 use std::alloc::{AllocError, Global};
 use std::test::Fail;

@@ -1,5 +1,4 @@
-use super::*;
-use crate::pattern::{matches_scalars, occurs_in_scalars};
+use jp_iregexp::{Pattern, laws};
 use std::alloc::{AllocError, Global};
 use std::test::Fail;
 
@@ -361,16 +360,13 @@ fn runs_of_a_class_take_one_pass(rt: HostRuntime) -> Result<(), Fail> {
     Ok(())
 }
 
-// Whether the pattern answers for the text as its tree does, position by position.
-fn answers_as_its_tree(alloc: Global, pattern: &str, text: &str) -> Result<bool, AllocError> {
-    let Some(found) = Pattern::parse(alloc, pattern)? else {
-        return Ok(false);
-    };
-    let scalars: Vec<char> = text.chars().collect(alloc)?;
-    let root = &found.compiled.root;
-    let is_match = matches_scalars(alloc, root, scalars.as_slice())?;
-    let is_found = occurs_in_scalars(alloc, root, scalars.as_slice())?;
-    Ok(found.matches(alloc, text)? == is_match && found.occurs(alloc, text)? == is_found)
+// Whether the pattern answers for the text as a pattern that has one choice more. The text does not hold that choice, and its
+// 64 places are more than one word takes, so it is matched position by position.
+fn answers_as_by_positions(alloc: Global, pattern: &str, text: &str) -> Result<bool, AllocError> {
+    let mut longer = String::from_str(alloc, pattern)?;
+    longer.push_str("|\u{10FFFF}{64}")?;
+    Ok(matches(alloc, pattern, text)? == matches(alloc, longer.as_str(), text)?
+        && occurs(alloc, pattern, text)? == occurs(alloc, longer.as_str(), text)?)
 }
 
 #[test]
@@ -403,29 +399,8 @@ fn places_answer_as_positions_do(rt: HostRuntime) -> Result<(), Fail> {
             "(aa|a?b){0,31}",
             "b|a+é",
         ] {
-            assert!(rt; answers_as_its_tree(rt.alloc(), pattern, text.as_str())?);
+            assert!(rt; answers_as_by_positions(rt.alloc(), pattern, text.as_str())?);
         }
-    }
-    Ok(())
-}
-
-#[test]
-fn small_patterns_have_places(rt: HostRuntime) -> Result<(), Fail> {
-    for (pattern, is_small) in [
-        ("", true),
-        ("((a*)*)+", true),
-        (".{63}", true),
-        (".{64}", false),
-        ("x{60}(y|z|.)", true),
-        ("x{60}(y|z|.)*\\p{L}", false),
-        ("(é?){0,63}", true),
-        ("(){999999999}", false),
-    ] {
-        let is_laid_out = match Pattern::parse(rt.alloc(), pattern)? {
-            None => false,
-            Some(found) => found.compiled.automaton.is_some(),
-        };
-        assert_eq!(rt; is_laid_out, is_small);
     }
     Ok(())
 }
