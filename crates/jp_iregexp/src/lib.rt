@@ -25,4 +25,3 @@ mod table;
 mod token;
 
 pub use pattern::Pattern;
-

@@ -365,8 +365,10 @@ fn runs_of_a_class_take_one_pass(rt: HostRuntime) -> Result<(), Fail> {
 fn answers_as_by_positions(alloc: Global, pattern: &str, text: &str) -> Result<bool, AllocError> {
     let mut longer = String::from_str(alloc, pattern)?;
     longer.push_str("|\u{10FFFF}{64}")?;
-    Ok(matches(alloc, pattern, text)? == matches(alloc, longer.as_str(), text)?
-        && occurs(alloc, pattern, text)? == occurs(alloc, longer.as_str(), text)?)
+    Ok(
+        matches(alloc, pattern, text)? == matches(alloc, longer.as_str(), text)?
+            && occurs(alloc, pattern, text)? == occurs(alloc, longer.as_str(), text)?,
+    )
 }
 
 #[test]

@@ -1,5 +1,5 @@
-use jp_query::{ParseFault, parse};
 use jp_model::QueryFault;
+use jp_query::{ParseFault, parse};
 use std::alloc::{AllocError, Global};
 use std::test::Fail;
 
