@@ -153,6 +153,9 @@ def long_texts(checks):
     for pattern, matches in cases:
         script = f"query $[?match(@,'{pattern}')]\n"
         checks.check(f"{pattern} on a million scalars", answered(f'["{long}"]\n', script), (0, row if matches else "= 0\n"))
+    short = ",".join(['"a"', '"\\u0061"'] * 100_000)
+    script = "query $[?@==$[-1]]\nquery $[?@>$[-1]]\n"
+    checks.check("short strings against a long one", answered(f'[{short},"{long * 4}"]\n', script), (0, rows([(1, "$[200000]")], f'"{long * 4}"') + "= 0\n"))
     many = "[" + ",".join(["1"] * 100_000) + "]"
     checks.check("each element against the last", answered(f"{many}\n", "query $[?@ != $[-1]]\n"), (0, "= 0\n"))
 

@@ -21,12 +21,18 @@ fn is_plain(body: &[u8]) -> bool
     first_special(body, 0) == body.len()
 }
 
-// Whether each character of both stands for itself.
+// Whether neither body is much longer than the other. To read a long one for each of many short ones would cost the square of
+// a line.
+fn are_alike_long(a: &[u8], b: &[u8]) -> bool {
+    a.len() / 4 <= b.len().max(16) && b.len() / 4 <= a.len().max(16)
+}
+
+// Whether each character of both stands for itself, as far as that is told by reading little more than the shorter one.
 fn are_plain(a: &[u8], b: &[u8]) -> bool
     ensures first { IsTrue result → ArePlain a.now 0 (length a.now) }
     ensures second { IsTrue result → ArePlain b.now 0 (length b.now) }
 {
-    is_plain(a) && is_plain(b)
+    are_alike_long(a, b) && is_plain(a) && is_plain(b)
 }
 
 // The order, scalar by scalar.
