@@ -20,5 +20,3 @@ pub use engine::run;
 pub use jp_model::{Framing, RunFault, Setup};
 pub use words::{Options, read_words};
 
-#[cfg(test)]
-mod tests;

@@ -4,7 +4,7 @@ ghost use Rattle.std.specs.Prelude.{◌≡◌};
 ghost use Rattle.jp_model.specs.declared.Framing.TheVariants as framings;
 
 use super::devices::{Cutting, Endless, NEVER, Taking};
-use crate::run;
+use jp_cli::run;
 use jp_model::{Framing, RunFault, Setup, Watched};
 use std::alloc::Global;
 use std::test::Fail;

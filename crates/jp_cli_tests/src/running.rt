@@ -1,7 +1,7 @@
 //! Runs of scripts over collections in memory.
 
 use super::devices::{Cutting, NEVER, Taking};
-use crate::run;
+use jp_cli::run;
 use jp_model::{Framing, Setup, Watched};
 use std::alloc::Global;
 use std::test::Fail;

@@ -2,7 +2,7 @@
 
 use super::devices::{Cutting, NEVER, Taking};
 use super::faults::setup;
-use crate::run;
+use jp_cli::run;
 use jp_model::{RunFault, Watched};
 use std::alloc::Global;
 use std::test::Fail;

@@ -1,7 +1,7 @@
 //! The program's words, and how it ends.
 
-use crate::{End, read_words};
 use clap::error::ErrorKind;
+use jp_cli::{End, read_words};
 use jp_model::{Framing, RunFault};
 use std::test::Fail;
 

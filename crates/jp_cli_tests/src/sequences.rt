@@ -2,7 +2,7 @@
 
 use super::devices::{Cutting, NEVER, Taking};
 use super::running::CUTS;
-use crate::run;
+use jp_cli::run;
 use jp_model::{Framing, RunFault, Setup, Watched};
 use std::alloc::Global;
 use std::test::Fail;
