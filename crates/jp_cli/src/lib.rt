@@ -19,4 +19,3 @@ pub use end::End;
 pub use engine::run;
 pub use jp_model::{Framing, RunFault, Setup};
 pub use words::{Options, read_words};
-
