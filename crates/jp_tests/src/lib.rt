@@ -1,7 +1,7 @@
 //! What the public functions of those crates answer whose proof takes long, by examples.
 //!
-//! A crate's own tests are proved safe together with all of the crate. Here they stand over what is proved already, so that no
-//! long proof is made twice.
+//! A crate's own tests are proved safe together with all of the crate. Here they stand over what is proved already, so that
+//! they need no second proof of it.
 #![tactic(auto)]
 
 #[cfg(test)]
