@@ -149,15 +149,36 @@ def long_texts(checks):
     script = "query $[?match(@,'a*')]\nquery $[?search(@,'b')]\nquery $[?@==$[0]]\nquery $[?length(@)==1000000]\n"
     row = rows([(1, "$[0]")], f'"{long}"')
     checks.check("a string of a million scalars", answered(f'["{long}"]\n', script), (0, row + "= 0\n" + row + row))
-    cases = [("(.|\\\\n)*", True), ("a{64}b*a*", True), (".{0,99999}", False)]
-    for pattern, matches in cases:
-        script = f"query $[?match(@,'{pattern}')]\n"
-        checks.check(f"{pattern} on a million scalars", answered(f'["{long}"]\n', script), (0, row if matches else "= 0\n"))
+    cases = [("match", "(.|\\\\n)*", True), ("match", "a{64}b*a*", True), ("match", ".{0,99999}", False),
+             ("match", ".{99999}", False), ("search", ".{99999}", True), ("search", "a{1000000}", True), ("search", "a{1000001}", False),
+             ("match", "(.|\\\\n)*|x{64}", True), ("search", "(.|\\\\n)*|x{64}", True),
+             ("match", "(a{64}|b)*", True), ("match", "(a{63}|b)*", False), ("search", "(a{64}|c)*b", False)]
+    for function, pattern, is_found in cases:
+        script = f"query $[?{function}(@,'{pattern}')]\n"
+        checks.check(f"{function} of {pattern} on a million scalars", answered(f'["{long}"]\n', script), (0, row if is_found else "= 0\n"))
+    shorter = "a" * 50_000
+    script = "query $[?match(@,'.{99999}')]\nquery $[?search(@,'.{99999}')]\n"
+    checks.check("a count beyond the text", answered(f'["{shorter}"]\n', script), (0, "= 0\n= 0\n"))
     short = ",".join(['"a"', '"\\u0061"'] * 100_000)
     script = "query $[?@==$[-1]]\nquery $[?@>$[-1]]\n"
     checks.check("short strings against a long one", answered(f'[{short},"{long * 4}"]\n', script), (0, rows([(1, "$[200000]")], f'"{long * 4}"') + "= 0\n"))
     many = "[" + ",".join(["1"] * 100_000) + "]"
     checks.check("each element against the last", answered(f"{many}\n", "query $[?@ != $[-1]]\n"), (0, "= 0\n"))
+
+
+def long_numbers(checks):
+    """A long number is read once a line, and compared with each short one no further than that one goes."""
+    count = 100_000
+    zeros = "0" * MILLION
+    cases = [("an integer", "1" * MILLION, "1", "<"), ("an integer of zeros", "1" + zeros, f"1e{MILLION}", "=="),
+             ("a fraction of zeros", f"0.{zeros}1", f"1e-{MILLION + 1}", "=="), ("a far exponent", f"0.{zeros}1e{MILLION + 1}", "1", "=="),
+             ("a long end", f"1.{zeros}1", "1.0", "<"), ("nothing but zeros", f"-0.{zeros}", "0e7", "==")]
+    for name, long, short, holds in cases:
+        line = f'{{"long":{long},"short":[{",".join([short] * count)}]}}\n'
+        all_rows = rows([(1, f"$['short'][{index}]") for index in range(count)], short)
+        script = "query $.short[?@==$.long]\nquery $.short[?$.long>@]\n"
+        stated = all_rows + "= 0\n" if holds == "==" else "= 0\n" + all_rows
+        checks.check(f"short numbers against {name}", answered(line, script), (0, stated))
 
 
 def objects_turned(checks):
@@ -223,7 +244,7 @@ def sizes(checks):
 def main():
     checks = Checks()
     for part in (texts_of_brackets, texts_cut_short, texts_of_backslashes, texts_of_numbers, texts_of_names, queries, patterns,
-                 long_texts, objects_turned, filters_from_the_root, devices, sizes):
+                 long_texts, long_numbers, objects_turned, filters_from_the_root, devices, sizes):
         part(checks)
     print(f"{checks.passed} passed, {checks.failed} failed")
     return 1 if checks.failed else 0

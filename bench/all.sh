@@ -1,11 +1,32 @@
 #!/usr/bin/env bash
-# Runs the benchmarks of the whole program, one after another, as docs/BENCHMARKS.md shows them. It wants a quiet machine, some
-# minutes and a built program: (cd crates/jpq && rt run -- /dev/null < /dev/null)
+# Runs the benchmarks of the whole program, one after another, and prints docs/BENCHMARKS.md. It wants a quiet machine, a quarter
+# of an hour and a built program: (cd crates/jpq && rt run -- /dev/null < /dev/null)
+#
+#     bench/all.sh > docs/BENCHMARKS.md
 set -euo pipefail
 cd "$(dirname "${BASH_SOURCE[0]}")/.."
-date -u '+%Y-%m-%d'
-for script in load queries plans edits; do
+section() {
     echo
-    echo "$script.sh"
-    bash "bench/$script.sh"
-done
+    echo "## $1"
+    echo
+    echo "$2"
+    echo
+    bash "bench/$3.sh" | grep -v '^machine:'
+}
+cat << TEXT
+# Benchmarks
+
+Made on $(date -u '+%Y-%m-%d') by \`bench/all.sh\`, in one run, on a machine with $(nproc) processors
+($(sed -n 's/^model name[^:]*: //p' /proc/cpuinfo | head -1), $(uname -sr)), beside
+$(jq --version 2> /dev/null || echo 'no jq'), $(gojq --version 2> /dev/null | head -1 || echo 'no gojq'), sqlite3 $(sqlite3 --version 2> /dev/null | cut -d ' ' -f 1) and simdjson $(dpkg-query -W -f '${Version}' libsimdjson-dev 2> /dev/null || echo 'of none').
+Times are seconds by the clock: of jpq and of what has an index the shortest of three runs, of the others one run.
+
+What the tables do not show: a machine of another kind, or one with other work; files that do not fit in memory; how the others do when they
+are set up for the task by somebody who knows them well. jpq keeps all lines and their trees in memory and refuses lines with
+equal names, lone surrogates and deep nesting; the program on simdjson keeps nothing and tests none of these. jq and gojq write values
+without a line number or a path. Nothing here is proved, and no test asks for it.
+TEXT
+section Loading '`check`: every line is read and kept, and the refused ones are listed. In brackets: the time of jpq, as a multiple of the other'"'"'s.' load
+section Queries 'The seconds of the whole program, and in brackets those beyond its loading.' queries
+section 'Look-ups by an index' 'An index on a member, and 1,000 look-ups by it.' plans
+section 'Edits under an index' 'Each line is replaced once, under an index on a member.' edits

@@ -1,38 +1,37 @@
 #!/usr/bin/env bash
-# Times `check` over about 50 MB of each of seven kinds of lines, and tells the memory at the peak: beside a program that parses
-# line by line into trees of simdjson's and keeps none (where g++ and Debian's libsimdjson-dev are installed), `sqlite3` (where it
-# is installed: all lines into a table in memory, then `json_valid`) and `jq empty`. A ratio is of the time of jpq to the other's.
-# It says its machine and makes no claim. Build the program first: (cd crates/jpq && rt run -- /dev/null < /dev/null)
+# Times `check` over about 50 MB (or as many as the first argument says) of each of seven kinds of lines, and tells the memory at
+# the peak: beside a program that parses line by line into trees of simdjson's and keeps none (where g++ and Debian's
+# libsimdjson-dev are installed), `sqlite3` (all lines into a table in memory, then `json_valid`) and `jq empty`, where they are
+# installed. It says its machine and makes no claim. Build the program first: (cd crates/jpq && rt run -- /dev/null < /dev/null)
 set -euo pipefail
 cd "$(dirname "${BASH_SOURCE[0]}")/.."
 . bench/timing.sh
 megabytes=${1:-50}
-tell_machine
+lines=$folder/lines.jsonl
 echo 'check' > "$folder/check"
 has_dom=
-if command -v g++ > /dev/null && g++ -O2 -o "$folder/dom" bench/load/dom.cpp -lsimdjson 2> /dev/null; then has_dom=1; fi
-# Seconds by the clock and the memory at the peak in MB, the best of three runs.
+if has g++ && g++ -O2 -o "$folder/dom" bench/load/dom.cpp -lsimdjson 2> /dev/null; then has_dom=1; fi
+# Seconds by the clock and the memory at the peak in KB, of the shortest of three runs.
 measured() {
     for _ in 1 2 3; do /usr/bin/time -f '%e %M' "$@" 2>&1 > /dev/null | tail -1; done | sort -n | head -1
 }
+times_own() { awk -v own="$1" -v other="$2" 'BEGIN { printf "%.2f (%.1f)", other, own / other }'; }
 row() {
-    local name=$1 seconds=$2 peak=$3
-    awk -v name="$name" -v bytes="$bytes" -v seconds="$seconds" -v peak="$peak" -v own="$own" 'BEGIN {
-        printf "    %-12s %8.1f MB/s %7.2f s %8.1f MB at the peak, %5.2f times the file   ratio %5.2f\n", name, bytes / 1e6 / seconds, seconds, peak * 1024 / 1e6, peak * 1024 / bytes, own / seconds }'
-}
-for kind in log posts numbers wide array escapes tiny; do
-    lines=$folder/$kind.jsonl
+    local kind=$1 bytes own peak dom=- sqlite=- jq=- seconds
     bench/load/lines.sh "$kind" $((megabytes * 1000000)) > "$lines"
     bytes=$(stat -c %s "$lines")
-    echo "$kind: $bytes bytes, $(wc -l < "$lines") lines"
     read -r own peak <<< "$(measured "$program" "$lines" --script "$folder/check")"
-    row jpq "$own" "$peak"
-    if [ "$has_dom" ]; then row simdjson $(measured "$folder/dom" "$lines"); fi
-    if command -v sqlite3 > /dev/null; then
+    if [ "$has_dom" ]; then read -r seconds _ <<< "$(measured "$folder/dom" "$lines")"; dom=$(times_own "$own" "$seconds"); fi
+    if has sqlite3; then
         # No line holds the bytes that separate columns here.
         printf '.mode ascii\n.separator "\\037" "\\n"\nCREATE TABLE lines (line TEXT);\n.import %s lines\nSELECT sum(json_valid(line)) FROM lines;\n' "$lines" > "$folder/sql"
-        row sqlite3 $(measured sqlite3 -init "$folder/sql" :memory: .quit)
+        sqlite=$(times_own "$own" "$(RUNS=1 least sqlite3 -init "$folder/sql" :memory: .quit)")
     fi
-    if command -v jq > /dev/null; then row 'jq empty' $(measured jq empty "$lines"); fi
-    rm "$lines"
-done
+    if has jq; then jq=$(times_own "$own" "$(RUNS=1 least jq empty "$lines")"); fi
+    awk -v kind="$kind" -v what="$(tell_collection "$lines")" -v seconds="$own" -v bytes="$bytes" -v peak="$peak" -v others="$dom | $sqlite | $jq" 'BEGIN {
+        printf "| %s: %s | %.2f | %.0f | %.1f | %s |\n", kind, what, seconds, bytes / 1e6 / seconds, peak * 1024 / bytes, others }'
+}
+tell_machine
+echo '| lines | jpq, seconds | MB/s | memory at the peak, times the file | simdjson | sqlite3 | jq |'
+echo '|---|---|---|---|---|---|---|'
+for kind in log posts numbers wide array escapes tiny; do row "$kind"; done

@@ -1,42 +1,60 @@
 #!/usr/bin/env bash
-# Times queries over about 50 MB of lines, beside `jq` and, where it is installed (Debian has it), `gojq`. Each time is of the
-# whole program, the loading too. It says its machine and makes no claim. Build the program first:
-# (cd crates/jpq && rt run -- /dev/null < /dev/null)
+# Times queries over about 50 MB of orders, beside `jq`, `gojq` and `sqlite3` where they are installed (Debian has them). A cell
+# tells the seconds of the whole program by the clock, and in brackets those beyond its loading: for jpq beyond a script of no
+# command, for `jq` and `gojq` beyond `empty`, for `sqlite3` beyond a table in memory with a line a row. It says its machine and
+# makes no claim. Build the program first: (cd crates/jpq && rt run -- /dev/null < /dev/null)
 set -euo pipefail
 cd "$(dirname "${BASH_SOURCE[0]}")/.."
 . bench/timing.sh
-awk 'BEGIN { for (n = 0; n < 350000; n++)
-    printf "{\"id\":%d,\"level\":\"%s\",\"user\":{\"name\":\"user %d\",\"age\":%d},\"items\":[{\"name\":\"pen\",\"price\":%d},{\"name\":\"book\",\"price\":%d.5,\"tags\":[\"a\",\"b\"]}]}\n", n, n % 7 ? "info" : "error", n % 1000, n % 90, n % 13, n % 29 }' > "$folder/lines.jsonl"
-bytes=$(stat -c %s "$folder/lines.jsonl")
-tell_machine
-echo "collection: $bytes bytes, $(wc -l < "$folder/lines.jsonl") lines"
-beside() {
-    local query=$1 filter=$2 tool
-    echo "query $query" > "$folder/script"
-    timed "jpq  $query" "$bytes" "$program" "$folder/lines.jsonl" --script "$folder/script"
-    for tool in jq gojq; do
-        if command -v "$tool" > /dev/null; then timed "$tool  $filter" "$bytes" "$tool" -c "$filter" "$folder/lines.jsonl"; fi
-    done
+lines=$folder/lines.jsonl
+orders() {
+    awk 'BEGIN {
+        split("open paid sent late", status); split("Oslo Rome Graz Bern Lodz", city)
+        for (n = 0; n < 85800; n++) {
+            printf "{\"key\":\"k%d\",\"status\":\"%s\",\"customer\":{\"name\":\"customer %d\",\"city\":\"%s\"},\"total\":%d.%02d,", n, status[n % 4 + 1], n % 1000, city[n % 5 + 1], n % 700, n % 100
+            printf "\"currency\":\"EUR\",\"paid\":%s,\"created\":\"2026-%02d-%02dT10:%02d:00Z\",\"weight\":%d,\"note\":\"order number %d, please ring twice\",\"items\":[", n % 3 ? "true" : "false", n % 12 + 1, n % 28 + 1, n % 60, n % 90, n
+            for (m = 0; m < 6; m++) printf "%s{\"name\":\"pen %d\",\"price\":%d.5,\"count\":%d}", (m ? "," : ""), m, (n + m * 17) % 100, m + 1
+            print "]}" } }'
 }
-beside '$.level' '.level'
-beside '$..name' '.. | objects | select(has("name")) | .name'
-beside '$.items[?@.price > 20].name' '.items[] | select(.price > 20) | .name'
-beside '$[?match(@.name, "user.*7")]' '.[] | objects | select(.name | strings | test("^(user.*7)$"))'
-beside '$.items[0:1].name' '.items[0:1][] | .name'
-# A filter that asks the root, over one array of 100,000 numbers.
-awk 'BEGIN { printf "["; for (n = 0; n < 100000; n++) printf "%d,", n; print "7]" }' > "$folder/lines.jsonl"
-bytes=$(stat -c %s "$folder/lines.jsonl")
-echo "one line: $bytes bytes"
-beside '$[?@ == $[-1]]' '.[-1] as $last | .[] | select(. == $last)'
-beside '$[?@ < length($) && @ < count($..*)]' 'length as $length | .[] | select(. < $length)'
-# Twenty look-ups without an index, and no query: the difference is theirs.
-awk 'BEGIN { for (n = 0; n < 85800; n++) {
-    printf "{\"key\":\"k%d\",\"user\":{\"name\":\"user %d\",\"age\":%d},\"items\":[", n, n % 1000, n % 90
-    for (m = 0; m < 12; m++) printf "%s{\"name\":\"pen %d\",\"price\":%d.5}", (m ? "," : ""), m, (n + m) % 29
-    print "]}" } }' > "$folder/lines.jsonl"
-bytes=$(stat -c %s "$folder/lines.jsonl")
-echo "collection: $bytes bytes, $(wc -l < "$folder/lines.jsonl") lines"
-: > "$folder/script"
-timed "jpq  no query" "$bytes" "$program" "$folder/lines.jsonl" --script "$folder/script"
+script() { printf '%s\n' "$@" > "$folder/script"; }
+sql() {
+    { printf '.mode ascii\n.separator "\\037" "\\n"\nCREATE TABLE lines (line TEXT);\n.import %s lines\n.mode list\n' "$lines"; printf '%s\n' "$@"; } > "$folder/sql"
+}
+run_jpq() { "$program" "$lines" --script "$folder/script"; }
+run_sql() { sqlite3 :memory: ".read $folder/sql"; }
+tell_bases() {
+    : > "$folder/script"; jpq_base=$(least run_jpq)
+    if has jq; then jq_base=$(RUNS=1 least jq empty "$lines"); fi
+    if has gojq; then gojq_base=$(RUNS=1 least gojq empty "$lines"); fi
+    if has sqlite3; then sql ''; sqlite_base=$(RUNS=1 least run_sql); fi
+    echo "| loading alone | $jpq_base | ${jq_base:--} | ${gojq_base:--} | ${sqlite_base:--} |"
+}
+row() {
+    local query=$1 filter=$2 statement=$3 jpq jq=- gojq=- sqlite=-
+    script "query $query"
+    jpq=$(beside "$(least run_jpq)" "$jpq_base")
+    if has jq && [ "$filter" ]; then jq=$(beside "$(RUNS=1 least jq -c "$filter" "$lines")" "$jq_base"); fi
+    if has gojq && [ "$filter" ]; then gojq=$(beside "$(RUNS=1 least gojq -c "$filter" "$lines")" "$gojq_base"); fi
+    if has sqlite3 && [ "$statement" ]; then sql "$statement"; sqlite=$(beside "$(RUNS=1 least run_sql)" "$sqlite_base"); fi
+    echo "| \`${query//|/\\|}\` | $jpq | $jq | $gojq | $sqlite |"
+}
+head_of_table() { printf '| %s | jpq | jq | gojq | sqlite3 |\n|---|---|---|---|---|\n' "$1"; }
+tell_machine
+orders > "$lines"
+head_of_table "orders: $(tell_collection "$lines")"
+tell_bases
+row '$.total' '.total' "SELECT json_extract(line, '\$.total') FROM lines;"
+row '$[?$.status=='"'late'"']' 'select(.status == "late") | .[]' "SELECT value FROM lines, json_each(line) WHERE json_extract(line, '\$.status') = 'late';"
+row '$.items[?@.price>90].name' '.items[] | select(.price > 90) | .name' "SELECT json_extract(value, '\$.name') FROM lines, json_each(line, '\$.items') WHERE json_extract(value, '\$.price') > 90;"
+row '$..name' '.. | objects | select(has("name")) | .name' "SELECT value FROM lines, json_tree(line) WHERE key = 'name';"
+row '$.items[?match(@.name,"pen [0-3]")].price' '.items[] | select(.name | test("^(pen [0-3])$")) | .price' ''
+row '$[?search(@,"(twice|thrice)")]' '.[] | strings | select(test("(twice|thrice)"))' ''
 for ((number = 0; number < 20; number += 1)); do echo "query \$[?\$.key=='k$((number * 4000))']"; done > "$folder/script"
-timed "jpq  \$[?\$.key=='..'], twenty times" "$bytes" "$program" "$folder/lines.jsonl" --script "$folder/script"
+echo "| \`\$[?\$.key=='..']\`, twenty times | $(beside "$(least run_jpq)" "$jpq_base") | - | - | - |"
+echo
+# A filter that asks the root, over one array of 100,000 numbers.
+awk 'BEGIN { printf "["; for (n = 0; n < 100000; n++) printf "%d,", n; print "7]" }' > "$lines"
+head_of_table "one array of numbers: $(tell_collection "$lines")"
+tell_bases
+row '$[?@ == $[-1]]' '.[-1] as $last | .[] | select(. == $last)' ''
+row '$[?@ < length($) && @ < count($..*)]' 'length as $length | .[] | select(. < $length)' ''

@@ -1,17 +1,22 @@
 # Read by the scripts here that time the whole program: `program` is its path, `folder` is for their files and goes at their
-# end, `tell_machine` prints what they run on, and `timed NAME BYTES COMMAND..` how long a command takes over so many bytes.
+# end, `tell_machine` prints what they run on, `least COMMAND..` is the shortest time of a command in seconds by the clock, of as
+# many runs as RUNS says (three), and `beside SECONDS BASE` is a cell of a table: the seconds, and in brackets those beyond BASE.
 program=${JPQ:-$PWD/crates/jpq/out/jpq}
 [ -x "$program" ] || { echo "build the program first: (cd crates/jpq && rt run -- /dev/null < /dev/null)"; exit 1; }
 folder=$(mktemp -d)
 trap 'rm -rf "$folder"' EXIT
+has() { command -v "$1" > /dev/null; }
 tell_machine() {
     echo "machine: $(nproc) processors, $(sed -n 's/^model name[^:]*: //p' /proc/cpuinfo | head -1), $(uname -sr)"
 }
-timed() {
-    local name=$1 bytes=$2 start end
-    shift 2
-    start=$(date +%s%N)
-    "$@" > /dev/null 2>&1
-    end=$(date +%s%N)
-    awk -v name="$name" -v bytes="$bytes" -v nanos=$((end - start)) 'BEGIN { printf "%-46s %8.1f MB/s  %6.3f s\n", name, bytes / 1e6 / (nanos / 1e9), nanos / 1e9 }'
+least() {
+    local run start end
+    for ((run = 0; run < ${RUNS:-3}; run += 1)); do
+        start=$(date +%s%N)
+        "$@" > /dev/null 2>&1 || true
+        end=$(date +%s%N)
+        echo $((end - start))
+    done | sort -n | awk 'NR == 1 { printf "%.3f\n", $1 / 1e9 }'
 }
+beside() { awk -v seconds="$1" -v base="$2" 'BEGIN { printf "%.2f (%.2f)", seconds, seconds - base }'; }
+tell_collection() { echo "$(awk -v bytes="$(stat -c %s "$1")" 'BEGIN { printf "%.1f", bytes / 1e6 }') MB, $(wc -l < "$1") lines"; }

@@ -27,6 +27,7 @@ seq_rule = record (new_rule (codes "seq")) { long = Some (codes "seq"); action =
 abbrev pub with_version : App → App
 with_version app = record app { top = record app.top { has_version = true } }
 
+-- the words that the program takes
 abbrev pub program : App
 program = with_rule (with_rule (with_rule (with_version (new_app (codes "jpq"))) file_rule) script_rule) seq_rule
 

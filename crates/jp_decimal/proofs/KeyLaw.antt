@@ -12,7 +12,7 @@ use Rattle.jp_model.specs.Json.Numbers.{AreDigits, signed}
 use Rattle.jp_decimal.specs.Values.{Number, order}
 use Rattle.jp_model.specs.Json.Numbers.{number_order, smaller}
 use Rattle.jp_decimal.specs.Keys.{IsSignedSizeOf, IsKeyOf, key_order, size_key_order}
-use Rattle.jp_decimal.proofs.Digits.{digits_from_test}
+use Rattle.jp_model.proofs.Reader.Numbers.{digits_found}
 use Rattle.jp_decimal.proofs.Law.{lower_place}
 use Rattle.jp_decimal.proofs.Sizes.{balance, leads, nat_less, nat_greater, nat_same}
 use Rattle.jp_decimal.proofs.Signs.{signed_times, order_plus, order_minus, order_apart, order_apart_turned, zero_from_times}
@@ -25,7 +25,7 @@ key_value : KeySize → ℕ
 key_value k = digits_value k.digits.items
 
 key_digits : (k : KeySize) → AreDigits k.digits.items
-key_digits k = digits_from_test k.digits.items k.are_digits
+key_digits k = digits_found k.digits.items k.are_digits
 
 key_leads : (k : KeySize) → 0x30 < get_or k.digits.items 0 0x30
 key_leads k = leads k.digits.items 0 (key_digits k) k.first

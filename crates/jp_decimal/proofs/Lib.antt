@@ -1,4 +1,3 @@
-mod Digits
 mod Law
 mod Sizes
 mod Signs

@@ -10,9 +10,9 @@ use Rattle.jp_decimal.specs.declared.fault.NumberFault.{NumberFault}
 use Rattle.jp_decimal.specs.declared.fault.NumberFault.TheVariants.{Shape, Exponent as TooLong}
 use Rattle.std.proofs.lemmas.Bool.{ne_eqb, eq-eqb}
 use Rattle.jp_decimal.specs.Steps.{SpellsExponent, ExponentIs, letter, RefusesExponent, SpellsBehindInt, BehindIntIs, RefusesBehindInt, SpellsUnsigned, MagnitudeIs, RefusesUnsigned}
-use Rattle.jp_decimal.specs.Reading.{Spells, ReadsAs, Refuses}
-use Rattle.jp_model.specs.Json.Numbers.{IsNumeral, numeral_bytes, numeral_of}
-use Rattle.jp_model.proofs.Json.Parts.{parts_read}
+use Rattle.jp_decimal.specs.Reading.{SpellsNumeral, ReadsAs, RefusesNumber}
+use Rattle.jp_model.specs.Json.Numbers.{IsNumeral, numeral_bytes, head_of, numeral_of}
+use Rattle.jp_model.proofs.Reader.Numbers.{parts_read}
 use Rattle.jp_decimal.proofs.ReadDigits.{digit_in, without_zeros_value}
 
 true_or_false : (b : Bool) → b ≡ true → b ≡ false → ⊥
@@ -58,9 +58,6 @@ exponent_is text rest digits kept b s negative v z e f a k short m i g = record 
 
 pub longer : (kept digits : List ℕ) → kept ≡ without_leading_zeros digits → 15 < length kept → nat_lt 15 (length (without_leading_zeros digits)) ≡ true
 longer kept digits e h = rw (← e) (grind (arith, nat_tests))
-
-abbrev head_of : List ℕ → ℕ
-head_of xs = get_or xs 0 0
 
 -- digits before what is no digit
 pub digits_same : (ds es r s : List ℕ) → AreDigits ds → AreDigits es → is_digit (head_of r) ≡ false → is_digit (head_of s) ≡ false → ds ++ r ≡ es ++ s → (ds ≡ es) × (r ≡ s)
@@ -200,7 +197,7 @@ without_minus true bytes int tail n p = absurd (n (sym (ap head_of p)))
 without_minus false bytes int tail n p = p
 
 -- a numeral that the bytes spell is the one that they are read as
-spells_only : (bytes : List ℕ) (n : Numeral) → IsNumeral n → numeral_bytes n ≡ bytes → Spells bytes n
+spells_only : (bytes : List ℕ) (n : Numeral) → IsNumeral n → numeral_bytes n ≡ bytes → SpellsNumeral bytes n
 spells_only bytes n i e = record { correct = i; spelled = e; only = ap numeral_of (sym e) ∙ parts_read n i }
 
 abbrev with_minus : Bool → Numeral → Numeral
@@ -218,7 +215,7 @@ signed_is negative bytes rest m e h = record {
   is_scale = ap₂ (λ z (ys : List ℕ). z -ℤ pos (length ys)) h.exponent h.fraction;
 }
 
-pub minus_refused : (fault : NumberFault) (bytes rest : List ℕ) → 0x2D ∷ rest ≡ bytes → RefusesUnsigned rest fault → Refuses bytes fault
+pub minus_refused : (fault : NumberFault) (bytes rest : List ℕ) → 0x2D ∷ rest ≡ bytes → RefusesUnsigned rest fault → RefusesNumber bytes fault
 minus_refused Shape bytes rest e h = λ n i p. h n (record { correct = i; spelled = behind_minus n.negative bytes rest n.int _ e i.int p })
 minus_refused TooLong bytes rest e h = record {
   numeral = with_minus true h.0;
@@ -226,7 +223,7 @@ minus_refused TooLong bytes rest e h = record {
   long = h.2;
 }
 
-pub plain_refused : (fault : NumberFault) (bytes : List ℕ) → head_of bytes ≢ 0x2D → RefusesUnsigned bytes fault → Refuses bytes fault
+pub plain_refused : (fault : NumberFault) (bytes : List ℕ) → head_of bytes ≢ 0x2D → RefusesUnsigned bytes fault → RefusesNumber bytes fault
 plain_refused Shape bytes e h = λ n i p. h n (record { correct = i; spelled = without_minus n.negative bytes n.int _ e p })
 plain_refused TooLong bytes e h = record {
   numeral = with_minus false h.0;

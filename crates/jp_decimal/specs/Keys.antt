@@ -17,11 +17,13 @@ pub record IsSizeOf (key : KeySize) (mantissa : ℕ) (scale : ℤ) : Type 0 wher
   pub is_mantissa : mantissa ≡ digits_value key.digits.items * 10 ^ zeros
   pub is_scale : scale +ℤ pos zeros ≡ key.power -ℤ pos (length key.digits.items)
 
+-- with this sign
 pub record IsSignedSizeOf (key : KeySize) (negative : Bool) (x : Number) : Type 0 where
   pub unsigned : ℕ
   pub is_signed : x.mantissa ≡ signed negative unsigned
   pub is_size : IsSizeOf key unsigned x.scale
 
+-- the key of a value
 abbrev pub IsKeyOf : DecimalKey → Number → Type 0
 IsKeyOf (Negative key) x = IsSignedSizeOf key.0 true x
 IsKeyOf Zero x = x.mantissa ≡ pos 0

@@ -6,7 +6,7 @@ use Rattle.jp_model.specs.Json.Numbers.{Numeral, IsNumeral, numeral_bytes, numer
 use Rattle.jp_decimal.specs.Values.{Number}
 
 -- the bytes spell these parts, and no others
-pub record Spells (bytes : List ℕ) (numeral : Numeral) : Type 0 where
+pub record SpellsNumeral (bytes : List ℕ) (numeral : Numeral) : Type 0 where
   pub correct : IsNumeral numeral
   pub spelled : numeral_bytes numeral ≡ bytes
   pub only : numeral_of bytes ≡ numeral
@@ -14,7 +14,7 @@ pub record Spells (bytes : List ℕ) (numeral : Numeral) : Type 0 where
 -- they spell a number whose exponent is short enough, and this is its value
 pub record ReadsAs (bytes : List ℕ) (x : Number) : Type 0 where
   pub numeral : Numeral
-  pub spells : Spells bytes numeral
+  pub spells : SpellsNumeral bytes numeral
   pub short : is_long_exponent numeral ≡ false
   pub is_mantissa : mantissa numeral ≡ x.mantissa
   pub is_scale : scale numeral ≡ x.scale
@@ -22,10 +22,10 @@ pub record ReadsAs (bytes : List ℕ) (x : Number) : Type 0 where
 -- they spell a number whose exponent is too long (profile)
 pub record SpellsTooLong (bytes : List ℕ) : Type 0 where
   pub numeral : Numeral
-  pub spells : Spells bytes numeral
+  pub spells : SpellsNumeral bytes numeral
   pub long : is_long_exponent numeral ≡ true
 
 -- the bytes are no number, or one whose exponent is too long
-abbrev pub Refuses : List ℕ → NumberFault → Type 0
-Refuses bytes Shape = (n : Numeral) → IsNumeral n → numeral_bytes n ≡ bytes → ⊥
-Refuses bytes Exponent = SpellsTooLong bytes
+abbrev pub RefusesNumber : List ℕ → NumberFault → Type 0
+RefusesNumber bytes Shape = (n : Numeral) → IsNumeral n → numeral_bytes n ≡ bytes → ⊥
+RefusesNumber bytes Exponent = SpellsTooLong bytes

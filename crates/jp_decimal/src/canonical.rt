@@ -1,30 +1,16 @@
-ghost use Rattle.std.specs.Prelude.{◌≡◌, ◌≢◌, ℕ, ◌-◌, ◌<◌, ◌≤◌, length, slice_index_or, slice_range, IfOk};
-ghost use Rattle.jp_decimal.specs.Magnitudes.{digits, unsigned_mantissa, exponent_behind, BeginsWithZeros};
+ghost use Rattle.std.specs.Prelude.{◌≡◌, ◌<◌, ◌≤◌, length, slice_range, IfOk};
+ghost use Rattle.jp_decimal.specs.Decimals.{number_of};
+ghost use Rattle.jp_decimal.specs.Magnitudes.{digits, unsigned_mantissa, exponent_behind};
 ghost use Rattle.jp_decimal.specs.Keys.{IsKeyOf, IsSizeOf};
 
 use crate::decimal::Decimal;
 use crate::key::{DecimalKey, KeySize};
+use crate::measured::Measured;
 use crate::parts::Magnitude;
 use std::alloc::{AllocError, Global};
 use std::cmp::Reverse;
 
 impl Magnitude<'_> {
-    /// The place behind the last digit that is not zero.
-    fn end_of_digits(&self) -> usize
-        ensures within { result ≤ length (digits self.now) }
-        ensures zeros { (j : ℕ) → result ≤ j → slice_index_or (digits self.now) j 0x30 ≡ 0x30 }
-        ensures last { 0 < result → slice_index_or (digits self.now) (result - 1) 0x30 ≢ 0x30 }
-    {
-        let mut end = self.count();
-        while end > 0 {
-            if self.digit(end - 1) != b'0' {
-                return end;
-            }
-            end -= 1;
-        }
-        end
-    }
-
     /// The digits from a place up to another.
     fn digits_between(&self, alloc: Global, from: usize, to: usize) -> Result<Vec<u8>, AllocError>
         requires order { from ≤ to }
@@ -37,19 +23,18 @@ impl Magnitude<'_> {
         }
         Ok(found)
     }
+}
 
-    /// The key of a number whose first digit that is not zero stands at a place.
-    fn key_size(&self, alloc: Global, skipped: usize) -> Result<KeySize, AllocError>
-        requires within { skipped < length (digits self.now) }
-        requires zeros { BeginsWithZeros (digits self.now) skipped }
-        requires lead { 0x30 < slice_index_or (digits self.now) skipped 0x30 }
-        ensures { IfOk result (λ key. IsSizeOf key (unsigned_mantissa self.now) (exponent_behind self.now)) }
+impl Measured<'_> {
+    /// The key of a number that is not zero.
+    fn key_size(&self, alloc: Global) -> Result<KeySize, AllocError>
+        requires { self.now.first < length (digits self.now.magnitude) }
+        ensures { IfOk result (λ key. IsSizeOf key (unsigned_mantissa self.now.magnitude) (exponent_behind self.now.magnitude)) }
     {
-        let end = self.end_of_digits();
-        prove!(skipped < end);
+        prove!(self.first < self.end);
         Ok(KeySize {
-            power: self.power_behind(skipped),
-            digits: self.digits_between(alloc, skipped, end)?,
+            power: self.magnitude.power_behind(self.first),
+            digits: self.magnitude.digits_between(alloc, self.first, self.end)?,
         })
     }
 }
@@ -57,13 +42,12 @@ impl Magnitude<'_> {
 impl Decimal<'_> {
     /// The key of the exact value: all spellings of a value have equal keys.
     pub fn canonical(&self, alloc: Global) -> Result<DecimalKey, AllocError>
-        ensures { IfOk result (λ key. IsKeyOf key self.now) }
+        ensures { IfOk result (λ key. IsKeyOf key (number_of self.now)) }
     {
-        let skipped = self.magnitude.leading_zeros();
-        if skipped == self.magnitude.count() {
+        if self.size.first == self.size.magnitude.count() {
             return Ok(DecimalKey::Zero);
         }
-        let size = self.magnitude.key_size(alloc, skipped)?;
+        let size = self.size.key_size(alloc)?;
         if self.negative {
             Ok(DecimalKey::Negative(Reverse(size)))
         } else {

@@ -1,5 +1,6 @@
 ghost use Rattle.std.specs.Prelude.{◌≡◌, true, ◌≢◌, ◌-◌, length, slice_index_or};
-ghost use Rattle.jp_decimal.specs.Digits.{are_digits};
+ghost use Rattle.std.specs.List.{list_all};
+ghost use Rattle.jp_model.specs.Characters.{is_digit};
 
 use std::cmp::Reverse;
 
@@ -9,7 +10,7 @@ use std::cmp::Reverse;
 pub struct KeySize {
     pub power: i64,
     pub digits: Vec<u8>,
-    ghost are_digits: { are_digits digits.items ≡ true },
+    ghost are_digits: { list_all is_digit digits.items ≡ true },
     ghost first: { slice_index_or digits.items 0 0x30 ≢ 0x30 },
     ghost last: { slice_index_or digits.items (length digits.items - 1) 0x30 ≢ 0x30 },
 }

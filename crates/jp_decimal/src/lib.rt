@@ -7,10 +7,14 @@ mod fault;
 mod key;
 mod keys;
 pub mod laws;
+mod measured;
+mod numeral;
 mod ordering;
+mod owned;
 mod parts;
 mod reading;
 
 pub use decimal::Decimal;
 pub use fault::NumberFault;
 pub use key::{DecimalKey, KeySize};
+pub use numeral::Numeral;

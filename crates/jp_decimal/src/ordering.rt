@@ -1,7 +1,8 @@
-ghost use Rattle.std.specs.Prelude.{◌≡◌, ℕ, ◌+◌, ◌<◌, ◌≤◌, ◌+ℤ◌, ◌-ℤ◌, ◌↔◌, pos, length, IsTrue, slice_index_or};
+ghost use Rattle.std.specs.Prelude.{◌≡◌, ◌≢◌, ℕ, ◌+◌, ◌-◌, ◌<◌, ◌≤◌, ◌+ℤ◌, ◌-ℤ◌, ◌↔◌, pos, length, IsTrue, slice_index_or};
 ghost use Rattle.jp_decimal.specs.Values.{size_order};
-ghost use Rattle.jp_decimal.specs.Magnitudes.{digits, unsigned_mantissa, exponent_behind, BeginsWithZeros};
+ghost use Rattle.jp_decimal.specs.Magnitudes.{digits, unsigned_mantissa, exponent_behind, power_above, BeginsWithZeros, EndsWithZeros};
 
+use crate::measured::Measured;
 use crate::parts::Magnitude;
 use std::cmp::Ordering;
 
@@ -41,77 +42,103 @@ impl Magnitude<'_> {
         count
     }
 
+    /// The place behind the last digit that is not zero, and no place before the first.
+    pub fn end_of_digits(&self, first: usize) -> usize
+        requires { first ≤ length (digits self.now) }
+        ensures order { first ≤ result }
+        ensures within { result ≤ length (digits self.now) }
+        ensures behind { EndsWithZeros (digits self.now) result }
+        ensures last { first < result → slice_index_or (digits self.now) (result - 1) 0x30 ≢ 0x30 }
+    {
+        let mut end = self.count();
+        while end > first {
+            if self.digit(end - 1) != b'0' {
+                return end;
+            }
+            end -= 1;
+        }
+        end
+    }
+
     /// The power of ten above the digit behind this many digits.
     pub fn power_behind(&self, skipped: usize) -> i64
         requires { skipped ≤ length (digits self.now) }
-        ensures { result ≡ self.now.exponent +ℤ pos (length self.now.int.now) -ℤ pos skipped }
+        ensures { result ≡ power_above self.now skipped }
     {
         self.exponent + self.int.len() as i64 - skipped as i64
     }
+}
 
+impl<'a> Measured<'a> {
+    /// Finds the first and the last digit that are not zero.
+    pub fn of(magnitude: Magnitude<'a>) -> Measured<'a>
+        ensures { result.magnitude ≡ magnitude.entry }
+    {
+        let first = magnitude.leading_zeros();
+        let end = magnitude.end_of_digits(first);
+        Measured {
+            magnitude,
+            first,
+            end,
+        }
+    }
+}
+
+impl Measured<'_> {
     /// Whether all digits are zeros.
     pub fn is_zero(&self) -> bool
-        ensures { IsTrue result ↔ (unsigned_mantissa self.now ≡ 0) }
+        ensures { IsTrue result ↔ (unsigned_mantissa self.now.magnitude ≡ 0) }
     {
-        self.leading_zeros() == self.count()
+        self.first == self.magnitude.count()
     }
 
     /// Whether all digits of both are zeros.
-    pub fn are_both_zero(&self, other: &Magnitude<'_>) -> bool
-        ensures { IsTrue result ↔ ((unsigned_mantissa self.now ≡ 0) × (unsigned_mantissa other.now ≡ 0)) }
+    pub fn are_both_zero(&self, other: &Measured<'_>) -> bool
+        ensures { IsTrue result ↔ ((unsigned_mantissa self.now.magnitude ≡ 0) × (unsigned_mantissa other.now.magnitude ≡ 0)) }
     {
         self.is_zero() && other.is_zero()
     }
 
-    /// The order of two whose first digits stand at one power of ten.
-    pub fn compare_from(
-        &self,
-        skipped: usize,
-        other: &Magnitude<'_>,
-        other_skipped: usize,
-    ) -> Ordering
-        requires within { skipped ≤ length (digits self.now) }
-        requires other_within { other_skipped ≤ length (digits other.now) }
-        requires zeros { BeginsWithZeros (digits self.now) skipped }
-        requires other_zeros { BeginsWithZeros (digits other.now) other_skipped }
-        requires same { self.now.exponent +ℤ pos (length self.now.int.now) -ℤ pos skipped ≡ other.now.exponent +ℤ pos (length other.now.int.now) -ℤ pos other_skipped }
-        ensures { result ≡ size_order (unsigned_mantissa self.now) (exponent_behind self.now) (unsigned_mantissa other.now) (exponent_behind other.now) }
+    /// The order of two whose first digits that are not zero stand at one power of ten. Where the digits of one are the first of
+    /// the other, the longer is greater, since its last digit is not zero.
+    fn compare_digits(&self, other: &Measured<'_>) -> Ordering
+        requires same { power_above self.now.magnitude self.now.first ≡ power_above other.now.magnitude other.now.first }
+        ensures { result ≡ size_order (unsigned_mantissa self.now.magnitude) (exponent_behind self.now.magnitude) (unsigned_mantissa other.now.magnitude) (exponent_behind other.now.magnitude) }
     {
-        let most = (self.count() - skipped).max(other.count() - other_skipped);
-        for place in 0..most {
-            let digit = self.digit(skipped + place);
-            let other_digit = other.digit(other_skipped + place);
+        let length = self.end - self.first;
+        let other_length = other.end - other.first;
+        for place in 0..length.min(other_length) {
+            let digit = self.magnitude.digit(self.first + place);
+            let other_digit = other.magnitude.digit(other.first + place);
             if digit != other_digit {
                 return digit.cmp(&other_digit);
             }
         }
-        Ordering::Equal
+        length.cmp(&other_length)
     }
 
     /// The order of the values.
-    pub fn compare(&self, other: &Magnitude<'_>) -> Ordering
-        ensures { result ≡ size_order (unsigned_mantissa self.now) (exponent_behind self.now) (unsigned_mantissa other.now) (exponent_behind other.now) }
+    pub fn compare(&self, other: &Measured<'_>) -> Ordering
+        ensures { result ≡ size_order (unsigned_mantissa self.now.magnitude) (exponent_behind self.now.magnitude) (unsigned_mantissa other.now.magnitude) (exponent_behind other.now.magnitude) }
     {
-        let skipped = self.leading_zeros();
-        let other_skipped = other.leading_zeros();
-        if skipped == self.count() {
-            return if other_skipped == other.count() {
+        if self.is_zero() {
+            return if other.is_zero() {
                 Ordering::Equal
             } else {
                 Ordering::Less
             };
         }
-        if other_skipped == other.count() {
+        if other.is_zero() {
             return Ordering::Greater;
         }
-        let power = self.power_behind(skipped);
-        let other_power = other.power_behind(other_skipped);
+        let power = self.magnitude.power_behind(self.first);
+        let other_power = other.magnitude.power_behind(other.first);
         if power < other_power {
             return Ordering::Less;
         }
         if other_power < power {
             return Ordering::Greater;
         }
-        self.compare_from(skipped, other, other_skipped)
+        self.compare_digits(other)
     }
 }

@@ -1,5 +1,6 @@
 ghost use Rattle.std.specs.Prelude.{◌≡◌, true, ◌+◌, ◌^◌, ◌<◌, ◌≤ℤ◌, pos, negsuc, length};
-ghost use Rattle.jp_decimal.specs.Digits.{are_digits};
+ghost use Rattle.std.specs.List.{list_all};
+ghost use Rattle.jp_model.specs.Characters.{is_digit};
 
 /// A number without its sign: the digits on both sides of the point, and the exponent.
 #[derive(Clone, Copy, Debug)]
@@ -7,8 +8,8 @@ pub struct Magnitude<'a> {
     pub int: &'a [u8],
     pub fraction: &'a [u8],
     pub exponent: i64,
-    ghost int_digits: { are_digits int.now ≡ true },
-    ghost fraction_digits: { are_digits fraction.now ≡ true },
+    ghost int_digits: { list_all is_digit int.now ≡ true },
+    ghost fraction_digits: { list_all is_digit fraction.now ≡ true },
     ghost room: { length int.now + length fraction.now < 2 ^ 32 },
     ghost low: { negsuc 999999999999998 ≤ℤ exponent },
     ghost high: { exponent ≤ℤ pos 999999999999999 },

@@ -1,11 +1,13 @@
 ghost use Rattle.std.specs.Prelude.{◌≡◌, ◌≢◌, ℕ, ◌+◌, ◌*◌, ◌^◌, ◌<◌, ◌≤◌, ◌++◌, ◌↔◌, Bool, true, false, pos, negsuc, ◌≤ℤ◌, List, [], ◌∷◌, length, slice_index_or, IsTrue, IfOk, MatchOption, MatchResult};
 ghost use Rattle.jp_model.specs.Characters.{is_digit, digits_value};
 ghost use Rattle.jp_model.specs.Json.Numbers.{AreDigits, AreSomeDigits, IsInt, without_leading_zeros, Sign, is_minus, sign_bytes, minus_bytes};
-ghost use Rattle.jp_decimal.specs.Reading.{ReadsAs, Refuses};
+ghost use Rattle.jp_decimal.specs.Decimals.{number_of};
+ghost use Rattle.jp_decimal.specs.Reading.{ReadsAs, RefusesNumber};
 ghost use Rattle.jp_decimal.specs.Steps.{ExponentIs, RefusesExponent, BehindIntIs, RefusesBehindInt, MagnitudeIs, RefusesUnsigned, letter};
 
 use crate::decimal::Decimal;
 use crate::fault::NumberFault;
+use crate::measured::Measured;
 use crate::parts::Magnitude;
 
 /// The most digits of an exponent that are read, leading zeros left out (profile).
@@ -192,13 +194,13 @@ impl<'a> Decimal<'a> {
     /// than 15 digits behind its leading zeros (profile).
     pub fn read(bytes: &'a [u8]) -> Result<Decimal<'a>, NumberFault>
         requires { length bytes.now < 2 ^ 32 }
-        ensures { MatchResult result (ReadsAs bytes.now) (Refuses bytes.now) }
+        ensures { MatchResult result (λ number. ReadsAs bytes.now (number_of number)) (RefusesNumber bytes.now) }
     {
         if let Some(rest) = behind(bytes, b'-') {
             return match read_magnitude(rest) {
                 Ok(magnitude) => Ok(Decimal {
                     negative: true,
-                    magnitude,
+                    size: Measured::of(magnitude),
                 }),
                 Err(fault) => Err(fault),
             };
@@ -206,7 +208,7 @@ impl<'a> Decimal<'a> {
         match read_magnitude(bytes) {
             Ok(magnitude) => Ok(Decimal {
                 negative: false,
-                magnitude,
+                size: Measured::of(magnitude),
             }),
             Err(fault) => Err(fault),
         }

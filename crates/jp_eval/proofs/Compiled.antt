@@ -1,15 +1,15 @@
 -- What the parts of a compiled query mean, and those of the query that they are made of, one level deep.
 use Rattle.std.proofs.Common.{◌≡◌, ◌∙◌, ℕ, ℤ, sym, ap, Vec, Global, Box, Option, String}
 use Rattle.jp_model.specs.Query.Syntax as syntax
-use Rattle.jp_query.specs.View.{arguments_view, argument_view, segments_view, segment_view, selectors_view, selector_view, logicals_view, logical_view, comparable_view, call_view, path_view, op_view, literal_view, argument_step, comparable_step, logical_step, segment_step, selector_step, call_step, path_step}
+use Rattle.jp_query.specs.View.{segment_view, selectors_view, selector_view, logicals_view, logical_view, comparable_view, call_view, path_view, op_view, literal_view, argument_step, comparable_step, logical_step, segment_step, selector_step, call_step, path_step}
 use Rattle.jp_query.specs.declared.tree.Call.{Call}
 use Rattle.jp_query.specs.declared.tree.Path.{Path}
 use Rattle.jp_query.specs.declared.tree.CompareOp.{CompareOp}
-use Rattle.jp_query.specs.declared.tree.Comparable.{Comparable, fold-roll-Comparable}
+use Rattle.jp_query.specs.declared.tree.Comparable.{fold-roll-Comparable}
 use Rattle.jp_query.specs.declared.tree.Comparable.TheVariants as comparables
 use Rattle.jp_query.specs.declared.tree.Selector.{Selector, fold-roll-Selector}
 use Rattle.jp_query.specs.declared.tree.Selector.TheVariants as selectors
-use Rattle.jp_query.specs.declared.tree.Segment.{Segment, fold-roll-Segment}
+use Rattle.jp_query.specs.declared.tree.Segment.{fold-roll-Segment}
 use Rattle.jp_query.specs.declared.tree.Segment.TheVariants as segments
 use Rattle.jp_query.specs.declared.tree.Logical.{Logical, fold-roll-Logical}
 use Rattle.jp_query.specs.declared.tree.Logical.TheVariants as logicals
@@ -24,7 +24,7 @@ use Rattle.jp_eval.specs.declared.program.Condition.{Condition, fold-roll-Condit
 use Rattle.jp_eval.specs.declared.program.Condition.TheVariants as conditions
 use Rattle.jp_eval.specs.declared.program.Side.{Side, fold-roll-Side}
 use Rattle.jp_eval.specs.declared.program.Side.TheVariants as sides
-use Rattle.jp_eval.specs.declared.program.Given.{Given, fold-roll-Given}
+use Rattle.jp_eval.specs.declared.program.Given.{fold-roll-Given}
 use Rattle.jp_eval.specs.declared.program.Given.TheVariants as givens
 use Rattle.jp_eval.specs.declared.program.Nodes.{Nodes, fold-roll-Nodes}
 use Rattle.jp_eval.specs.declared.program.Nodes.TheVariants as paths

@@ -1,5 +1,5 @@
 -- The query from the root at a place, read by its own slots.
-use Rattle.std.proofs.Common.{◌≡◌, ℕ, zero, suc, List, [], ◌∷◌, map, Option, Some, None, sym, ◌∙◌, ap, refl}
+use Rattle.std.proofs.Common.{◌≡◌, ℕ, zero, suc, List, [], ◌∷◌, map, Some, None, sym, ◌∙◌, ap, refl}
 use Rattle.std.specs.Prelude.{slice_get}
 use Rattle.jp_model.specs.Query.Syntax.{Segments}
 use Rattle.jp_model.specs.Meaning.Nodes.{Node}

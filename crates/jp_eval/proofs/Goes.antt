@@ -65,6 +65,15 @@ filter_taken p n ns h = ap (λ b. cond b (n ∷ filter p ns) (filter p ns)) h
 pub filter_passed : (p : Node → Bool) (n : Node) (ns : List Node) → p n ≡ false → filter p (n ∷ ns) ≡ filter p ns
 filter_passed p n ns h = ap (λ b. cond b (n ∷ filter p ns) (filter p ns)) h
 
+-- each is taken, or none
+pub filter_all : (p : Node → Bool) (ns : List Node) → ((n : Node) → p n ≡ true) → filter p ns ≡ ns
+filter_all p [] h = refl
+filter_all p (n ∷ ns) h = filter_taken p n ns (h n) ∙ ap (λ (l : List Node). n ∷ l) (filter_all p ns h)
+
+pub filter_none : (p : Node → Bool) (ns : List Node) → ((n : Node) → p n ≡ false) → filter p ns ≡ []
+filter_none p [] h = refl
+filter_none p (n ∷ ns) h = filter_passed p n ns (h n) ∙ filter_none p ns h
+
 -- no node adds nothing
 pub nothing_added : (most : ℕ) (old : List Cursor) (ss : Segments) (t : Tree) (found : List Node) → length old ≤ most → found ≡ [] → map node_of old ≡ take most (map node_of old ++ nodes ss found t)
 nothing_added most old ss t found h e =

@@ -19,3 +19,4 @@ pub mod Patterns
 pub mod Answered
 pub mod Entered
 pub mod Following
+mod Literals

@@ -1,5 +1,5 @@
 -- What was compiled keeps its meaning as slots are added.
-use Rattle.std.proofs.Common.{◌≡◌, ℕ, ◌+◌, List, [], ◌∷◌, ◌++◌, length, map, drop, sym, ◌∙◌, ap, ap₂, subst, refl, arith, append_assoc, append-nil, Option, Some, None}
+use Rattle.std.proofs.Common.{◌≡◌, ℕ, List, [], ◌∷◌, ◌++◌, length, map, sym, ◌∙◌, ap, ap₂, refl, append_assoc, append-nil, Some}
 use Rattle.std.specs.Prelude.{slice_get}
 use Rattle.jp_model.specs.Query.Syntax as syntax
 use Rattle.std.proofs.lemmas.List.{length-map}

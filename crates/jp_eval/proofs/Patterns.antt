@@ -6,7 +6,7 @@ use Rattle.std.proofs.Props.{props}
 use Rattle.jp_model.specs.Json.Tree.{Value, null, boolean, number, string, container}
 use Rattle.jp_model.specs.Meaning.Functions.{in_pattern, pattern_passes}
 use Rattle.jp_model.specs.Pattern.Tree.{Pattern}
-use Rattle.jp_eval.specs.Functions.{passing, pattern_in, passes_where_read}
+use Rattle.jp_eval.specs.Functions.{pattern_in, passes_where_read}
 
 by_string : (passes : Pattern → List ℕ → Bool) (x : List ℕ) (o : Option Pattern) → passes_where_read passes o (Some (string x)) ≡ pattern_passes passes o x
 by_string passes x None = refl

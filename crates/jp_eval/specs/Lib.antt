@@ -2,6 +2,7 @@
 pub mod Found
 pub mod Expressions
 pub mod Functions
+pub mod Constants
 pub mod Walks
 pub mod Programs
 pub mod Compiled

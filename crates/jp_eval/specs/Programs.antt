@@ -1,5 +1,5 @@
 -- What a compiled query means: the segments that it was made of. The meaning of slots is given by a table.
-use Rattle.std.specs.Prelude.{◌≡◌, ℕ, List, [], ◌∷◌, ◌++◌, map, chars, string_bytes, Option, Some, None, slice_get}
+use Rattle.std.specs.Prelude.{◌≡◌, ℕ, List, ◌++◌, map, chars, string_bytes, Option, Some, None, slice_get}
 use Rattle.jp_model.specs.Query.Syntax as syntax
 use Rattle.jp_query.specs.View.{segments_of, selectors_of, logicals_of, arguments_of, literal_view, op_view}
 use Rattle.jp_eval.specs.declared.program.Step.{Step, fold-Step}
@@ -17,6 +17,7 @@ use Rattle.jp_eval.specs.declared.program.Choice.TheOpen.{Choice-F, Condition-F,
 abbrev pub Table : Type 0
 Table = List syntax.Segments
 
+-- no segments where there are none
 abbrev pub segments_or_none : Option syntax.Segments → syntax.Segments
 segments_or_none None = syntax.no_segments
 segments_or_none (Some ss) = ss
@@ -27,6 +28,7 @@ slot_in table place = syntax.path syntax.root (segments_or_none (slice_get table
 
 -- ---- one level, with what is inside already seen
 
+-- a selector
 abbrev pub choice_step : Choice-F syntax.Selector syntax.Logical syntax.Argument syntax.Path syntax.Comparable syntax.Segment syntax.Call → syntax.Selector
 choice_step (Choice-F.Name x) = syntax.name_selector (chars (string_bytes x))
 choice_step Choice-F.Wildcard = syntax.wildcard_selector
@@ -34,6 +36,7 @@ choice_step (Choice-F.Index i) = syntax.index_selector i
 choice_step (Choice-F.Slice first last step) = syntax.slice_selector first last step
 choice_step (Choice-F.Filter l) = syntax.filter_selector l
 
+-- a logical expression
 abbrev pub condition_step : Condition-F syntax.Selector syntax.Logical syntax.Argument syntax.Path syntax.Comparable syntax.Segment syntax.Call → syntax.Logical
 condition_step (Condition-F.Or ls) = syntax.or_all (logicals_of ls.items)
 condition_step (Condition-F.And ls) = syntax.and_all (logicals_of ls.items)
@@ -42,6 +45,7 @@ condition_step (Condition-F.Compare a op b) = syntax.compare a (op_view op) b
 condition_step (Condition-F.Exists p) = syntax.exists p
 condition_step (Condition-F.Test c) = syntax.test c
 
+-- an argument
 abbrev pub given_step : Given-F syntax.Selector syntax.Logical syntax.Argument syntax.Path syntax.Comparable syntax.Segment syntax.Call → syntax.Argument
 given_step (Given-F.Given::Constant c) = syntax.constant_argument (literal_view c.literal)
 given_step (Given-F.Pattern p) = syntax.constant_argument (literal_view p.constant.literal)
@@ -49,55 +53,69 @@ given_step (Given-F.Nodes p) = syntax.nodes_argument p
 given_step (Given-F.Condition l) = syntax.condition l
 given_step (Given-F.Given::Result c) = syntax.result_argument c
 
+-- a query within a filter
 abbrev pub nodes_step : Table → Nodes-F syntax.Selector syntax.Logical syntax.Argument syntax.Path syntax.Comparable syntax.Segment syntax.Call → syntax.Path
 nodes_step table (Nodes-F.Slot place) = slot_in table place
 nodes_step table (Nodes-F.Current ss) = syntax.path syntax.current (segments_of ss.items)
 
+-- a side of a comparison
 abbrev pub side_step : Side-F syntax.Selector syntax.Logical syntax.Argument syntax.Path syntax.Comparable syntax.Segment syntax.Call → syntax.Comparable
 side_step (Side-F.Side::Constant c) = syntax.constant (literal_view c.literal)
 side_step (Side-F.Single p) = syntax.single p
 side_step (Side-F.Side::Result c) = syntax.result c
 
+-- a segment
 abbrev pub step_step : Step-F syntax.Selector syntax.Logical syntax.Argument syntax.Path syntax.Comparable syntax.Segment syntax.Call → syntax.Segment
 step_step (Step-F.Child ss) = syntax.child_segment (selectors_of ss.items)
 step_step (Step-F.Descendant ss) = syntax.descendant_segment (selectors_of ss.items)
 
+-- a call of a function
 abbrev pub invoked_step : Invoked-F syntax.Selector syntax.Logical syntax.Argument syntax.Path syntax.Comparable syntax.Segment syntax.Call → syntax.Call
 invoked_step c = syntax.call (chars (string_bytes c.named.name)) (arguments_of c.arguments.items)
 
 -- ---- a value of each type
 
+-- the selector that a choice was made of
 abbrev pub choice_view : Table → Choice → syntax.Selector
 choice_view table = fold-Choice syntax.Selector syntax.Logical syntax.Argument syntax.Path syntax.Comparable syntax.Segment syntax.Call choice_step condition_step given_step (nodes_step table) side_step step_step invoked_step
 
+-- the logical expression of a condition
 abbrev pub condition_view : Table → Condition → syntax.Logical
 condition_view table = fold-Condition syntax.Selector syntax.Logical syntax.Argument syntax.Path syntax.Comparable syntax.Segment syntax.Call choice_step condition_step given_step (nodes_step table) side_step step_step invoked_step
 
+-- the argument that is given
 abbrev pub given_view : Table → Given → syntax.Argument
 given_view table = fold-Given syntax.Selector syntax.Logical syntax.Argument syntax.Path syntax.Comparable syntax.Segment syntax.Call choice_step condition_step given_step (nodes_step table) side_step step_step invoked_step
 
+-- the query within a filter
 abbrev pub nodes_view : Table → Nodes → syntax.Path
 nodes_view table = fold-Nodes syntax.Selector syntax.Logical syntax.Argument syntax.Path syntax.Comparable syntax.Segment syntax.Call choice_step condition_step given_step (nodes_step table) side_step step_step invoked_step
 
+-- the side of a comparison
 abbrev pub side_view : Table → Side → syntax.Comparable
 side_view table = fold-Side syntax.Selector syntax.Logical syntax.Argument syntax.Path syntax.Comparable syntax.Segment syntax.Call choice_step condition_step given_step (nodes_step table) side_step step_step invoked_step
 
+-- the segment of a step
 abbrev pub step_view : Table → Step → syntax.Segment
 step_view table = fold-Step syntax.Selector syntax.Logical syntax.Argument syntax.Path syntax.Comparable syntax.Segment syntax.Call choice_step condition_step given_step (nodes_step table) side_step step_step invoked_step
 
+-- the call of a function
 abbrev pub invoked_view : Table → Invoked → syntax.Call
 invoked_view table = fold-Invoked syntax.Selector syntax.Logical syntax.Argument syntax.Path syntax.Comparable syntax.Segment syntax.Call choice_step condition_step given_step (nodes_step table) side_step step_step invoked_step
 
--- steps, choices, parts and arguments, in order
+-- the segments of some steps, in order
 abbrev pub steps_view : Table → List Step → syntax.Segments
 steps_view table ss = segments_of (map (step_view table) ss)
 
+-- the selectors of a segment
 abbrev pub choices_view : Table → List Choice → syntax.Selectors
 choices_view table ss = selectors_of (map (choice_view table) ss)
 
+-- the parts of a conjunction or a disjunction
 abbrev pub conditions_view : Table → List Condition → syntax.Logicals
 conditions_view table ls = logicals_of (map (condition_view table) ls)
 
+-- the arguments of a call
 abbrev pub givens_view : Table → List Given → syntax.Arguments
 givens_view table args = arguments_of (map (given_view table) args)
 
@@ -107,9 +125,11 @@ givens_view table args = arguments_of (map (given_view table) args)
 abbrev pub slot_step : Slot-F syntax.Segments → syntax.Segments
 slot_step s = steps_view s.slots.items s.steps.items
 
+-- the segments of a slot
 abbrev pub slot_view : Slot → syntax.Segments
 slot_view = fold-Slot syntax.Segments slot_step
 
+-- those of each slot
 abbrev pub table_of : List Slot → Table
 table_of slots = map slot_view slots
 

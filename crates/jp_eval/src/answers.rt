@@ -1,6 +1,6 @@
 //! What was answered of queries from the root.
 
-ghost use Rattle.std.specs.Prelude.{◌≡◌, ◌∷◌, [], ℕ, slice_get, IfOk, IfSome};
+ghost use Rattle.std.specs.Prelude.{◌≡◌, ◌∷◌, [], ℕ, List, slice_get, IfOk, IfSome};
 ghost use Rattle.jp_model.specs.Meaning.Nodes.{Node};
 ghost use Rattle.jp_model.specs.Meaning.Selecting.{path_nodes};
 ghost use Rattle.jp_eval.specs.Answers.{IsAnswer};
@@ -26,6 +26,18 @@ pub(crate) fn no_answers<'a>(
         answers.push(None)?;
     }
     Ok(answers)
+}
+
+impl<'a> Answer<'a> {
+    /// The same answer. The number of a single node is read, so that it is read once and not at each comparison.
+    fn read(self) -> Answer<'a>
+        ensures { (found : List Node) → IsAnswer found self.entry → IsAnswer found result }
+    {
+        match self {
+            Answer::Single(value) => Answer::Single(value.read()),
+            _ => self,
+        }
+    }
 }
 
 impl<'p, 'a> Run<'p, 'a> {
@@ -76,7 +88,7 @@ impl<'p, 'a> Run<'p, 'a> {
     {
         if let Nodes::Slot(place) = nodes {
             if *place < frame.answers.len() {
-                frame.answers[*place] = Some(answer);
+                frame.answers[*place] = Some(answer.read());
             }
         }
     }

@@ -1,6 +1,8 @@
 //! A query is compiled: once, and not for each line.
 
-ghost use Rattle.std.specs.Prelude.{◌≡◌, true, IfOk, chars, string_bytes};
+ghost use Rattle.std.specs.Prelude.{◌≡◌, true, IfOk, option_map, chars, string_bytes};
+ghost use Rattle.jp_decimal.specs.Decimals.{numeral_number};
+ghost use Rattle.jp_eval.specs.Constants.{is_read_as};
 ghost use Rattle.jp_eval.specs.Expressions.{readable};
 ghost use Rattle.jp_eval.specs.Programs.{Table, Means, steps_view, step_view, choices_view, choice_view, conditions_view, condition_view, side_view, nodes_view, invoked_view, givens_view, given_view};
 ghost use Rattle.jp_model.specs.Query.Limits.{segments_pass, segment_passes, selectors_pass, selector_passes, logical_passes, logicals_pass, comparable_passes, path_passes, call_passes, arguments_pass, argument_passes};
@@ -11,6 +13,7 @@ ghost use Rattle.jp_query.specs.View.{literal_view, segments_view, segment_view,
 use crate::functions::function_of;
 use crate::leaves::{Constant, LiteralPattern, Named};
 use crate::program::{Choice, Condition, Given, Invoked, Nodes, Side, Slot, Step};
+use jp_decimal::{Decimal, Numeral};
 use jp_iregexp::Pattern;
 use jp_query::{Argument, Call, Comparable, Literal, Logical, Origin, Path, Segment, Selector};
 use std::alloc::{AllocError, Global};
@@ -28,13 +31,29 @@ fn copy_literal(alloc: Global, literal: &Literal) -> Result<Literal, AllocError>
     })
 }
 
+/// The number that a literal spells, where it spells one.
+fn read_literal(alloc: Global, literal: &Literal) -> Result<Option<Numeral>, AllocError>
+    requires literals { is_sound (literal_view literal.now) ≡ true }
+    ensures { IfOk result (λ number. is_read_as (option_map numeral_number number) (literal_view literal.now) ≡ true) }
+{
+    match literal {
+        Literal::Number(spelling) => match Decimal::read(spelling) {
+            Ok(number) => Ok(Some(number.to_numeral(alloc)?)),
+            // A literal of a query is always a number.
+            Err(_) => Ok(None),
+        },
+        _ => Ok(None),
+    }
+}
+
 /// A value of the query.
 fn compile_literal(alloc: Global, literal: &Literal) -> Result<Constant, AllocError>
     requires literals { is_sound (literal_view literal.now) ≡ true }
     ensures { IfOk result (λ constant. literal_view constant.literal ≡ literal_view literal.now) }
 {
+    let number = read_literal(alloc, literal)?;
     let literal = copy_literal(alloc, literal)?;
-    Ok(Constant { literal })
+    Ok(Constant { literal, number })
 }
 
 /// The text of a query, and the pattern that it spells.
@@ -44,7 +63,10 @@ fn compile_pattern(alloc: Global, text: &str) -> Result<LiteralPattern, AllocErr
     let read = Pattern::parse(alloc, text)?;
     let literal = Literal::Text(String::from_str(alloc, text)?);
     Ok(LiteralPattern {
-        constant: Constant { literal },
+        constant: Constant {
+            literal,
+            number: None,
+        },
         read,
     })
 }

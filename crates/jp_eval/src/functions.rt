@@ -7,11 +7,12 @@ ghost use Rattle.jp_model.specs.Meaning.Functions.{length_of as length_of_value,
 ghost use Rattle.jp_tape.specs.Cursors.{node_of};
 ghost use Rattle.jp_eval.specs.Functions.{function_named, passing, pattern_in, passes_as_string, passes_where_read};
 ghost use Rattle.jp_iregexp.specs.Trees.{pattern_view};
+ghost use Rattle.jp_strings.specs.Points.{IsText, points_of};
 ghost use Rattle.jp_values.specs.Values.{value_view, is_sound_value};
 
 use jp_iregexp::Pattern;
 use jp_query::Literal;
-use jp_strings::{scalar_count, unescape};
+use jp_strings::{plain_text, scalar_count, unescape};
 use jp_tape::{Cursor, Kind};
 use jp_values::Value;
 use std::alloc::{AllocError, Global};
@@ -65,6 +66,22 @@ fn text_passes(
     }
 }
 
+/// Whether the text that a body spells passes a pattern. It is copied only where it has an escape.
+fn body_passes(
+    alloc: Global,
+    pattern: &Pattern,
+    whole: bool,
+    body: &[u8],
+) -> Result<bool, AllocError>
+    requires { IsText body.now }
+    ensures { IfOk result (λ b. b ≡ passing whole (pattern_view pattern.now) (points_of body.now)) }
+{
+    match plain_text(body) {
+        Some(text) => text_passes(alloc, pattern, whole, text),
+        None => text_passes(alloc, pattern, whole, unescape(alloc, body)?.as_str()),
+    }
+}
+
 /// The pattern that a string spells.
 fn read_pattern(alloc: Global, value: Value<'_>) -> Result<Option<Pattern>, AllocError>
     ensures { IfOk result (λ found. option_map pattern_view found ≡ pattern_in (value_view value.entry)) }
@@ -90,7 +107,7 @@ fn value_passes(
 {
     match value {
         Value::Node(node) => match node.text() {
-            Some(body) => text_passes(alloc, pattern, whole, unescape(alloc, body)?.as_str()),
+            Some(body) => body_passes(alloc, pattern, whole, body),
             None => Ok(false),
         },
         Value::Constant(Literal::Text(text)) => text_passes(alloc, pattern, whole, text.as_str()),

@@ -1,21 +1,41 @@
 //! What stands at the leaves of a compiled query.
 
-ghost use Rattle.std.specs.Prelude.{◌≡◌, true, Some, option_map, chars, string_bytes};
+ghost use Rattle.std.specs.Prelude.{◌≡◌, true, IsTrue, Some, option_map, chars, string_bytes};
+ghost use Rattle.jp_decimal.specs.Decimals.{numeral_number};
+ghost use Rattle.jp_eval.specs.Constants.{is_read_as};
 ghost use Rattle.jp_eval.specs.Functions.{function_named, pattern_in};
 ghost use Rattle.jp_iregexp.specs.Trees.{pattern_view};
 ghost use Rattle.jp_model.specs.Meaning.Functions.{literal_value};
 ghost use Rattle.jp_query.specs.Sound.{is_sound};
 ghost use Rattle.jp_query.specs.View.{literal_view};
+ghost use Rattle.jp_values.specs.Values.{value_view, is_sound_value};
 
 use crate::functions::Function;
+use jp_decimal::Numeral;
 use jp_iregexp::Pattern;
 use jp_query::Literal;
+use jp_values::Value;
 
-/// A value that is written in the query, and can be read.
+/// A value that is written in the query, and can be read. A number was read.
 #[derive(Drop)]
 pub(crate) struct Constant {
     pub(crate) literal: Literal,
+    pub(crate) number: Option<Numeral>,
     ghost sound: { is_sound (literal_view literal) ≡ true },
+    ghost read: { is_read_as (option_map numeral_number number) (literal_view literal) ≡ true },
+}
+
+impl Constant {
+    /// The value, and no number is read anew.
+    pub(crate) fn value(&self) -> Value<'_>
+        ensures value { value_view result ≡ Some (literal_value (literal_view self.now.literal)) }
+        ensures sound { IsTrue (is_sound_value result) }
+    {
+        match &self.number {
+            Some(number) => Value::Number(number.decimal()),
+            None => Value::Constant(&self.literal),
+        }
+    }
 }
 
 /// A name of a function, and which of the five it is.

@@ -9,6 +9,7 @@ mod frame;
 mod functions;
 mod leaves;
 mod program;
+mod rooted;
 mod run;
 mod steps;
 

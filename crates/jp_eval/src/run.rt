@@ -9,7 +9,7 @@ ghost use Rattle.jp_model.specs.Meaning.Nodes.{children, children_where, subtree
 ghost use Rattle.jp_model.specs.Meaning.Selecting.{selected, select, truth as truth_of, compared_value, path_nodes, given_by, call_value as call_value_of, call_truth as call_truth_of};
 ghost use Rattle.jp_model.specs.Meaning.Slices.{is_index, sliced};
 ghost use Rattle.jp_tape.specs.Cursors.{line_of, node_of};
-ghost use Rattle.jp_eval.specs.Expressions.{all_are};
+ghost use Rattle.jp_eval.specs.Expressions.{all_are, IsSameForAll};
 ghost use Rattle.jp_eval.specs.Found.{AreOf};
 ghost use Rattle.jp_eval.specs.Frames.{table_in, tree_in, reached, AreKept, Stands, Pushes, Lends};
 ghost use Rattle.jp_eval.specs.Programs.{choices_view, choice_view, conditions_view, condition_view, side_view, nodes_view, invoked_view, given_view};
@@ -21,6 +21,7 @@ use crate::children::{Rising, Slice, find_element, find_falling, find_member};
 use crate::frame::{Answer, Frame, Run};
 use crate::functions::{Function, in_pattern, length_of, read_passes};
 use crate::program::{Choice, Condition, Given, Invoked, Nodes, Side, Step};
+use crate::rooted::asks_root_alone;
 use jp_tape::Cursor;
 use jp_values::{Value, compare_in};
 use std::alloc::AllocError;
@@ -225,7 +226,7 @@ fn push_from_each<'a>(
     Ok(())
 }
 
-/// Adds what the steps select from each child of which the condition holds.
+/// Adds what the steps select from each child of which the condition holds. One that asks the root alone is asked once.
 #[cycle(eval)]
 fn push_filtered<'a>(
     run: Run<'_, 'a>,
@@ -239,6 +240,9 @@ fn push_filtered<'a>(
     requires room { length frame.old.found.items ≤ most }
     ensures { Pushes run.entry most frame.old frame.new result (reached run.entry rest.now (filter (λ c. truth_of (condition_view (table_in run.entry) condition.now) c (tree_in run.entry)) (children (node_of node.entry)))) }
 {
+    if asks_root_alone(condition) {
+        return push_all_or_none(run, condition, rest, node, most, frame);
+    }
     let mut next = node.first_child();
     while let Some(child) = next {
         if frame.found.len() == most {
@@ -250,6 +254,31 @@ fn push_filtered<'a>(
         next = child.next_sibling();
     }
     Ok(())
+}
+
+/// Adds what the steps select from each child, where the condition holds of the first: it holds of all of them, or of none.
+#[cycle(eval)]
+fn push_all_or_none<'a>(
+    run: Run<'_, 'a>,
+    condition: &Condition,
+    rest: &[Step],
+    node: Cursor<'a>,
+    most: usize,
+    frame: &mut Frame<'a>,
+) -> Result<(), AllocError>
+    requires stands { Stands run node frame.old }
+    requires room { length frame.old.found.items ≤ most }
+    requires same { IsSameForAll (condition_view (table_in run) condition.now) }
+    ensures { Pushes run.entry most frame.old frame.new result (reached run.entry rest.now (filter (λ c. truth_of (condition_view (table_in run.entry) condition.now) c (tree_in run.entry)) (children (node_of node.entry)))) }
+{
+    let Some(child) = node.first_child() else {
+        return Ok(());
+    };
+    if holds(run, condition, child, frame)? {
+        push_children(run, rest, node, most, frame)
+    } else {
+        Ok(())
+    }
 }
 
 /// Whether the condition holds of a node. It stops at what decides.
@@ -313,7 +342,7 @@ fn side_value<'v, 'a: 'v>(
     ensures value { IfOk result (λ v. value_view v ≡ compared_value (side_view (table_in run.entry) side.now) (node_of node.entry) (tree_in run.entry)) }
 {
     match side {
-        Side::Constant(constant) => Ok(Value::Constant(&constant.literal)),
+        Side::Constant(constant) => Ok(constant.value()),
         Side::Single(nodes) => single_value(run, nodes, node, frame),
         Side::Result(invoked) => call_value(run, invoked, node, frame),
     }
@@ -505,7 +534,7 @@ fn given_value<'v, 'a: 'v>(
     ensures value { IfOk result (λ v. value_view v ≡ (given_by (given_view (table_in run.entry) given.now) (node_of node.entry) (tree_in run.entry)).value) }
 {
     match given {
-        Given::Constant(constant) => Ok(Value::Constant(&constant.literal)),
+        Given::Constant(constant) => Ok(constant.value()),
         Given::Pattern(pattern) => Ok(Value::Constant(&pattern.constant.literal)),
         Given::Nodes(nodes) => single_value(run, nodes, node, frame),
         Given::Condition(_) => Ok(Value::Nothing),

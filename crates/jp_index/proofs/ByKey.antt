@@ -14,7 +14,7 @@ use Rattle.std.proofs.lemmas.List.Quantifiers.{all_pairs_remove}
 use Rattle.std.proofs.lemmas.List.Sorted.{All-permutation, Contains-permutation, IsPermutation-insert, IsPermutation-remove}
 use Rattle.jp_values.specs.Keys.{key_order}
 use Rattle.jp_values.specs.declared.key.Key.{Key}
-use Rattle.jp_index.specs.ByKey.{line_order, Ascend, AreByKey, IsPlaceOf, but}
+use Rattle.jp_index.specs.ByKey.{line_order, Ascend, AreByKey, but}
 use Rattle.jp_index.proofs.Ascending.{pairs_insert, pairs_other, removed_differs, among_cons, among_first, among_rest}
 use Rattle.jp_values.specs.KeyLaws.{keys_total}
 

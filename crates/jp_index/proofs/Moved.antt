@@ -1,7 +1,7 @@
 -- A line that is moved within a list, and where it stands among the others.
-use Rattle.std.proofs.Common.{◌≡◌, ◌≢◌, ◌∙◌, ℕ, suc, ◌+◌, ◌-◌, ◌<◌, ◌≤◌, Bool, true, false, List, ◌++◌, length, get_or, set, take, drop, Option, sym, ap, subst, arith, ◌⊎◌, inl, inr, Less, length-drop}
+use Rattle.std.proofs.Common.{◌≡◌, ◌≢◌, ◌∙◌, ℕ, suc, ◌+◌, ◌-◌, ◌<◌, ◌≤◌, Bool, true, false, List, ◌++◌, length, get_or, set, take, drop, Option, sym, ap, subst, arith, inl, inr, Less, length-drop}
 use Rattle.std.specs.Prelude.{insert, remove}
-use Rattle.std.specs.List.{AllPairs, CopiedTo, SameBelow, SameFrom}
+use Rattle.std.specs.List.{CopiedTo, SameBelow, SameFrom}
 use Rattle.std.specs.List.Sorted.{IsPartitionedBy, IsPartitionPoint}
 use Rattle.std.specs.Ordering.{is_lt}
 use Rattle.std.proofs.lemmas.Bool.{cases_lt, cases_Bool, true≢false}

@@ -1,5 +1,5 @@
 -- The numbers of the lines whose cells pass a test.
-use Rattle.std.proofs.Common.{◌≡◌, ◌≢◌, ◌∙◌, ℕ, zero, suc, ◌+◌, ◌<◌, ◌≤◌, Bool, true, false, List, [], ◌∷◌, ◌++◌, length, get_or, Option, None, refl, sym, ap, subst, arith, inl, inr, eqb, Ordering, Less, Equal, Greater, if◌then◌else◌}
+use Rattle.std.proofs.Common.{◌≡◌, ◌≢◌, ◌∙◌, ℕ, zero, suc, ◌+◌, ◌<◌, ◌≤◌, Bool, true, false, List, [], ◌∷◌, length, get_or, Option, None, refl, sym, ap, subst, arith, inl, inr, eqb, Ordering, Less, Equal, Greater, if◌then◌else◌}
 use Rattle.std.specs.Prelude.{Contains}
 use Rattle.std.specs.List.{AllPairs, IsDistinct}
 use Rattle.std.specs.List.Sorted.{IsPermutation, IsSorted, IsSortedBy}

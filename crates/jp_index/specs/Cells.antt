@@ -14,5 +14,6 @@ abbrev pub key_at : List (Option Slot) → ℕ → Option Key
 key_at cells zero = None
 key_at cells (suc i) = cell_key (slice_index_or cells i None)
 
+-- there is a key
 abbrev pub has_key : Option Slot → Bool
 has_key cell = is_some (cell_key cell)

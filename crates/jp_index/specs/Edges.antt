@@ -28,6 +28,7 @@ start_of less_equal = BeforeKind
 start_of greater = BehindKey
 start_of greater_equal = BeforeKey
 
+-- where they end
 abbrev pub end_of : CompareOp → Edge
 end_of equal = BehindKey
 end_of not_equal = BehindKey

@@ -1,5 +1,6 @@
 -- What the ends that are reached say of the whole text.
 use Rattle.std.proofs.Common.{◌≡◌, ◌↔◌, Bool, true, false, ℕ, zero, suc, ◌+◌, ◌≤◌, List, [], ◌∷◌, ◌++◌, length, drop, take, arith, refl, sym, ◌∙◌, ap, subst, append_assoc, append-nil, length-append}
+use Rattle.jp_iregexp.specs.declared.positions.PositionSet.{PositionSet}
 use Rattle.jp_iregexp.specs.Positions.{Has, AreEnds}
 use Rattle.jp_model.specs.Pattern.Language.{Occurs}
 use Rattle.jp_iregexp.proofs.Reaching.{drop_front}
@@ -14,7 +15,7 @@ take_drop (suc p) [] = refl
 take_drop (suc p) (c ∷ text) = ap (λ x. c ∷ x) (take_drop p text)
 
 -- only position 0 is a start
-pub whole_sound : (Member : List ℕ → Type 0) (text starts ends : List ℕ) → ((q : ℕ) → Has starts q → q ≡ 0) → AreEnds Member text starts ends → Has ends (length text) → Member text
+pub whole_sound : (Member : List ℕ → Type 0) (text : List ℕ) (starts ends : PositionSet) → ((q : ℕ) → Has starts q → q ≡ 0) → AreEnds Member text starts ends → Has ends (length text) → Member text
 whole_sound Member text starts ends only a h =
     let s = a.sound (length text) h in
     let r = s.reach in
@@ -23,23 +24,23 @@ whole_sound Member text starts ends only a h =
     let e : text ≡ r.inside = front ∙ r.is ∙ ap (λ x. r.inside ++ x) (drop_whole text) ∙ append-nil r.inside in
     subst Member (sym e) r.member
 
-pub whole_complete : (Member : List ℕ → Type 0) (text starts ends : List ℕ) → Has starts 0 → AreEnds Member text starts ends → Member text → Has ends (length text)
+pub whole_complete : (Member : List ℕ → Type 0) (text : List ℕ) (starts ends : PositionSet) → Has starts 0 → AreEnds Member text starts ends → Member text → Has ends (length text)
 whole_complete Member text starts ends has a m =
     a.complete 0 (length text) has (record { inside = text; ordered = omega arith; within = omega arith; is = sym (append-nil text) ∙ ap (λ x. text ++ x) (sym (drop_whole text)); member = m })
 
-pub some_sound : (Member : List ℕ → Type 0) (text starts ends : List ℕ) (q : ℕ) → AreEnds Member text starts ends → Has ends q → Occurs Member text
+pub some_sound : (Member : List ℕ → Type 0) (text : List ℕ) (starts ends : PositionSet) (q : ℕ) → AreEnds Member text starts ends → Has ends q → Occurs Member text
 some_sound Member text starts ends q a h =
     let s = a.sound q h in
     let r = s.reach in
     record { before = take s.start text; inside = r.inside; after = drop q text; is = take_drop s.start text ∙ ap (λ x. take s.start text ++ x) r.is; member = r.member }
 
 -- the place where the part ends
-pub record EndsAt (text ends : List ℕ) : Type 0 where
+pub record EndsAt (text : List ℕ) (ends : PositionSet) : Type 0 where
   pub place : ℕ
   pub within : place ≤ length text
   pub has : Has ends place
 
-pub some_complete : (Member : List ℕ → Type 0) (text starts ends : List ℕ) → ((q : ℕ) → q ≤ length text → Has starts q) → AreEnds Member text starts ends → Occurs Member text → EndsAt text ends
+pub some_complete : (Member : List ℕ → Type 0) (text : List ℕ) (starts ends : PositionSet) → ((q : ℕ) → q ≤ length text → Has starts q) → AreEnds Member text starts ends → Occurs Member text → EndsAt text ends
 some_complete Member text starts ends all a o =
     let q = length (o.before ++ o.inside) in
     let twice : text ≡ (o.before ++ o.inside) ++ o.after = o.is ∙ sym (append_assoc o.before o.inside o.after) in

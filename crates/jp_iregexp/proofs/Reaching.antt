@@ -1,7 +1,8 @@
 -- What is reached by one set of texts after another.
-use Rattle.std.proofs.Common.{◌≡◌, ℕ, zero, suc, ◌+◌, ◌-◌, ◌<◌, ◌≤◌, ◌⊎◌, inl, inr, List, [], ◌∷◌, ◌++◌, length, drop, get_or, arith, refl, sym, ◌∙◌, ap, subst, append_assoc, append-nil, length-append, length-drop, add-one, drop-cons, Option, Some, None}
+use Rattle.std.proofs.Common.{◌≡◌, ℕ, zero, suc, ◌+◌, ◌-◌, ◌<◌, ◌≤◌, ◌⊎◌, ◌↔◌, inl, inr, List, [], ◌∷◌, ◌++◌, length, drop, get_or, arith, refl, sym, ◌∙◌, ap, subst, append_assoc, append-nil, length-append, length-drop, add-one, drop-cons, Option, Some, None}
 use Rattle.std.proofs.lemmas.List.{drop-drop}
 use Rattle.jp_iregexp.proofs.Bits.{below_or_not}
+use Rattle.jp_iregexp.specs.declared.positions.PositionSet.{PositionSet}
 use Rattle.jp_iregexp.specs.Positions.{Has, IsSetOver, Reach, ReachFrom, AreEnds}
 use Rattle.jp_model.specs.Pattern.Language.{IsOne, Splits, Repeats, RepeatsWithin, AtMost}
 
@@ -109,14 +110,14 @@ reach_map_short text p q f r =
 
 -- ---- sets of ends
 
-pub ends_nothing : (text set : List ℕ) → IsSetOver (length text) set → AreEnds (λ x. x ≡ []) text set set
+pub ends_nothing : (text : List ℕ) (set : PositionSet) → IsSetOver (length text) set → AreEnds (λ x. x ≡ []) text set set
 ends_nothing text set over = record {
   over = over;
   sound = λ q h. record { start = q; has = h; reach = nothing_reach text q (over.within q h) };
   complete = λ p q h r. subst (λ x. Has set x) (nothing_only text p q r) h;
 }
 
-pub ends_then : {First Second : List ℕ → Type 0} (text starts middle ends : List ℕ) → AreEnds First text starts middle → AreEnds Second text middle ends → AreEnds (Splits First Second) text starts ends
+pub ends_then : {First Second : List ℕ → Type 0} (text : List ℕ) (starts middle ends : PositionSet) → AreEnds First text starts middle → AreEnds Second text middle ends → AreEnds (Splits First Second) text starts ends
 ends_then {First} {Second} text starts middle ends a b = record {
   over = b.over;
   sound = λ q h.
@@ -129,25 +130,51 @@ ends_then {First} {Second} text starts middle ends a b = record {
 }
 
 -- the same ends for the same set of texts
-pub ends_same : {First Second : List ℕ → Type 0} (text starts ends : List ℕ) → ((x : List ℕ) → First x → Second x) → ((x : List ℕ) → length x ≤ length text → Second x → First x) → AreEnds First text starts ends → AreEnds Second text starts ends
+pub ends_same : {First Second : List ℕ → Type 0} (text : List ℕ) (starts ends : PositionSet) → ((x : List ℕ) → First x → Second x) → ((x : List ℕ) → length x ≤ length text → Second x → First x) → AreEnds First text starts ends → AreEnds Second text starts ends
 ends_same {First} {Second} text starts ends to from a = record {
   over = a.over;
   sound = λ q h. (let s = a.sound q h in record { start = s.start; has = s.has; reach = reach_map to text s.start q s.reach });
   complete = λ p q h r. a.complete p q h (reach_map_short text p q from r);
 }
 
+-- the sets hold the same positions
+abbrev pub AreSame : PositionSet → PositionSet → Type 0
+AreSame one other = (p : ℕ) → Has one p ↔ Has other p
+
+pub same_over : (len : ℕ) (starts reached : PositionSet) → AreSame reached starts → IsSetOver len starts → IsSetOver len reached
+same_over len starts reached same over = record { within = λ p h. over.within p ((same p).0 h) }
+
+pub same_ends : {Member : List ℕ → Type 0} (text : List ℕ) (starts ends both : PositionSet) → AreSame both ends → AreEnds Member text starts ends → AreEnds Member text starts both
+same_ends text starts ends both same a = record {
+  over = same_over (length text) ends both same a.over;
+  sound = λ q h. a.sound q ((same q).0 h);
+  complete = λ p q h r. (same q).1 (a.complete p q h r);
+}
+
+pub same_starts : {Member : List ℕ → Type 0} (text : List ℕ) (starts reached ends : PositionSet) → AreSame reached starts → AreEnds Member text reached ends → AreEnds Member text starts ends
+same_starts text starts reached ends same a = record {
+  over = a.over;
+  sound = λ q h. (let s = a.sound q h in record { start = s.start; has = (same s.start).0 s.has; reach = s.reach });
+  complete = λ p q h r. a.complete p q ((same p).1 h) r;
+}
+
 -- ---- one scalar, start by start
 
 -- the set holds the ends of those members that begin before n
-pub record EndsBelow (n : ℕ) (Member : List ℕ → Type 0) (text starts ends : List ℕ) : Type 0 where
+pub record EndsBelow (n : ℕ) (Member : List ℕ → Type 0) (text : List ℕ) (starts ends : PositionSet) : Type 0 where
   pub over : IsSetOver (length text) ends
   pub sound : (q : ℕ) → Has ends q → ReachFrom Member text starts q
   pub complete : (p q : ℕ) → p < n → Has starts p → Reach Member text p q → Has ends q
 
-pub below_none : (Member : List ℕ → Type 0) (text starts ends : List ℕ) → IsSetOver (length text) ends → ((q : ℕ) → ¬ (Has ends q)) → EndsBelow 0 Member text starts ends
-below_none Member text starts ends over none = record { over = over; sound = λ q h. absurd (none q h); complete = λ p q l h r. absurd (omega arith) }
+-- n is no later than any start
+pub below_none : (Member : List ℕ → Type 0) (text : List ℕ) (starts ends : PositionSet) (n : ℕ) → ((p : ℕ) → Has starts p → n ≤ p) → ((q : ℕ) → ¬ (Has ends q)) → EndsBelow n Member text starts ends
+below_none Member text starts ends n low none = record {
+  over = record { within = λ q h. absurd (none q h) };
+  sound = λ q h. absurd (none q h);
+  complete = λ p q l h r. absurd (let k = low p h in omega (arith, k, l));
+}
 
-pub below_skip : (P : ℕ → Type 0) (text starts ends : List ℕ) (n : ℕ) → EndsBelow n (IsOne P) text starts ends → (Has starts n → P (get_or text n 0) → ⊥) → EndsBelow (n + 1) (IsOne P) text starts ends
+pub below_skip : (P : ℕ → Type 0) (text : List ℕ) (starts ends : PositionSet) (n : ℕ) → EndsBelow n (IsOne P) text starts ends → (Has starts n → P (get_or text n 0) → ⊥) → EndsBelow (n + 1) (IsOne P) text starts ends
 below_skip P text starts ends n e not = record {
   over = e.over;
   sound = e.sound;
@@ -159,9 +186,9 @@ below_skip P text starts ends n e not = record {
       ];
 }
 
-pub below_insert : (P : ℕ → Type 0) (text starts ends more : List ℕ) (n : ℕ) → EndsBelow n (IsOne P) text starts ends → n < length text → Has starts n → P (get_or text n 0) → length more ≡ length ends → Has more (n + 1) → ((q : ℕ) → Has ends q → Has more q) → ((q : ℕ) → Has more q → (q ≡ n + 1) ⊎ Has ends q) → EndsBelow (n + 1) (IsOne P) text starts more
-below_insert P text starts ends more n e inside has holds len same old new = record {
-  over = record { room = len ∙ e.over.room; within = λ q h. elim (new q h) [ inl i ↦ omega (arith, i) | inr g ↦ e.over.within q g ] };
+pub below_insert : (P : ℕ → Type 0) (text : List ℕ) (starts ends more : PositionSet) (n : ℕ) → EndsBelow n (IsOne P) text starts ends → n < length text → Has starts n → P (get_or text n 0) → Has more (n + 1) → ((q : ℕ) → Has ends q → Has more q) → ((q : ℕ) → Has more q → (q ≡ n + 1) ⊎ Has ends q) → EndsBelow (n + 1) (IsOne P) text starts more
+below_insert P text starts ends more n e inside has holds same old new = record {
+  over = record { within = λ q h. elim (new q h) [ inl i ↦ omega (arith, i) | inr g ↦ e.over.within q g ] };
   sound = λ q h.
       elim (new q h) [
         | inl i ↦ (let t : ReachFrom (IsOne P) text starts q = record { start = n; has = has; reach = subst (λ x. Reach (IsOne P) text n x) (sym i) (one_reach P text n inside holds) } in t)
@@ -176,23 +203,24 @@ below_insert P text starts ends more n e inside has holds len same old new = rec
       ];
 }
 
-pub below_all : (P : ℕ → Type 0) (text starts ends : List ℕ) (n : ℕ) → length text ≤ n → EndsBelow n (IsOne P) text starts ends → AreEnds (IsOne P) text starts ends
-below_all P text starts ends n l e = record { over = e.over; sound = e.sound; complete = λ p q h r. e.complete p q (let i = (one_only P text p q r).inside in omega arith) h r }
+-- no start before the end of the text is left
+pub below_all : (P : ℕ → Type 0) (text : List ℕ) (starts ends : PositionSet) (n : ℕ) → ((p : ℕ) → Has starts p → p < length text → p < n) → EndsBelow n (IsOne P) text starts ends → AreEnds (IsOne P) text starts ends
+below_all P text starts ends n past e = record { over = e.over; sound = e.sound; complete = λ p q h r. e.complete p q (past p h (one_only P text p q r).inside) h r }
 
 -- ---- repeats
 
 -- a set that a member does not leave is not left by any number of members
-pub ends_repeats_closed : {Member : List ℕ → Type 0} (text set : List ℕ) → AreEnds Member text set set → (count : ℕ) → AreEnds (Repeats Member count) text set set
+pub ends_repeats_closed : {Member : List ℕ → Type 0} (text : List ℕ) (set : PositionSet) → AreEnds Member text set set → (count : ℕ) → AreEnds (Repeats Member count) text set set
 ends_repeats_closed text set a zero = ends_nothing text set a.over
 ends_repeats_closed text set a (suc count) = ends_then text set set set a (ends_repeats_closed text set a count)
 
-pub closed_under : {Member : List ℕ → Type 0} (text set : List ℕ) → ((p q : ℕ) → Has set p → Reach Member text p q → Has set q) → (count p q : ℕ) → Has set p → Reach (Repeats Member count) text p q → Has set q
+pub closed_under : {Member : List ℕ → Type 0} (text : List ℕ) (set : PositionSet) → ((p q : ℕ) → Has set p → Reach Member text p q → Has set q) → (count p q : ℕ) → Has set p → Reach (Repeats Member count) text p q → Has set q
 closed_under text set keeps zero p q h r = subst (λ x. Has set x) (nothing_only text p q r) h
 closed_under {Member} text set keeps (suc count) p q h r =
     let m : Between Member (Repeats Member count) text p q = between text p q r in
     closed_under text set keeps count m.middle q (keeps p m.middle h m.first) m.second
 
-pub ends_within_closed : {Member : List ℕ → Type 0} (text set : List ℕ) (most : ℕ) → IsSetOver (length text) set → ((p q : ℕ) → Has set p → Reach Member text p q → Has set q) → AreEnds (RepeatsWithin Member 0 (Some most)) text set set
+pub ends_within_closed : {Member : List ℕ → Type 0} (text : List ℕ) (set : PositionSet) (most : ℕ) → IsSetOver (length text) set → ((p q : ℕ) → Has set p → Reach Member text p q → Has set q) → AreEnds (RepeatsWithin Member 0 (Some most)) text set set
 ends_within_closed {Member} text set most over keeps = record {
   over = over;
   sound = λ q h. record { start = q; has = h; reach = reach_map (λ x e. record { count = 0; enough = omega arith; few = omega arith; repeats = e }) text q q (nothing_reach text q (over.within q h)) };
@@ -224,18 +252,24 @@ reach_either {First} {Second} text p q r =
       | inr b ↦ inr (let t : Reach Second text p q = record { inside = r.inside; ordered = r.ordered; within = r.within; is = r.is; member = b } in t)
     ]
 
-pub ends_up_to_one : {Member : List ℕ → Type 0} (text starts ends both : List ℕ) → IsSetOver (length text) starts → AreEnds Member text starts ends → length both ≡ length ends → ((q : ℕ) → Has ends q → Has both q) → ((q : ℕ) → Has starts q → Has both q) → ((q : ℕ) → Has both q → Has ends q ⊎ Has starts q) → AreEnds (RepeatsWithin Member 0 (Some 1)) text starts both
-ends_up_to_one {Member} text starts ends both over a len left right either = record {
-  over = record { room = len ∙ a.over.room; within = λ p h. elim (either p h) [ inl e ↦ a.over.within p e | inr e ↦ over.within p e ] };
+-- whatever follows a position that is reached is reached too, but for what follows the frontier
+pub record Fronts (Member : List ℕ → Type 0) (text : List ℕ) (reached frontier : PositionSet) : Type 0 where
+  pub inside : (p : ℕ) → Has frontier p → Has reached p
+  pub closed : (p q : ℕ) → Has reached p → Reach Member text p q → Has frontier p ⊎ Has reached q
+
+-- the ends from the frontier and what was reached are the ends of none or one
+pub ends_up_to_one : {Member : List ℕ → Type 0} (text : List ℕ) (reached frontier ends both : PositionSet) → IsSetOver (length text) reached → Fronts Member text reached frontier → AreEnds Member text frontier ends → ((q : ℕ) → Has ends q → Has both q) → ((q : ℕ) → Has reached q → Has both q) → ((q : ℕ) → Has both q → Has ends q ⊎ Has reached q) → AreEnds (RepeatsWithin Member 0 (Some 1)) text reached both
+ends_up_to_one {Member} text reached frontier ends both over f a left right either = record {
+  over = record { within = λ p h. elim (either p h) [ inl e ↦ a.over.within p e | inr e ↦ over.within p e ] };
   sound = λ q h. elim (either q h) [
-    | inl e ↦ (let s = a.sound q e in let t : ReachFrom (RepeatsWithin Member 0 (Some 1)) text starts q = record { start = s.start; has = s.has; reach = reach_map one_member text s.start q s.reach } in t)
-    | inr e ↦ (let t : ReachFrom (RepeatsWithin Member 0 (Some 1)) text starts q = record { start = q; has = e; reach = reach_map (no_member 1) text q q (nothing_reach text q (over.within q e)) } in t)
+    | inl e ↦ (let s = a.sound q e in let t : ReachFrom (RepeatsWithin Member 0 (Some 1)) text reached q = record { start = s.start; has = f.inside s.start s.has; reach = reach_map one_member text s.start q s.reach } in t)
+    | inr e ↦ (let t : ReachFrom (RepeatsWithin Member 0 (Some 1)) text reached q = record { start = q; has = e; reach = reach_map (no_member 1) text q q (nothing_reach text q (over.within q e)) } in t)
   ];
   complete = λ p q h r.
-      (let f : (x : List ℕ) → RepeatsWithin Member 0 (Some 1) x → (x ≡ []) ⊎ Member x = λ x w. none_or_one Member w.count x w.few w.repeats in
-      elim (reach_either text p q (reach_map f text p q r)) [
+      (let g : (x : List ℕ) → RepeatsWithin Member 0 (Some 1) x → (x ≡ []) ⊎ Member x = λ x w. none_or_one Member w.count x w.few w.repeats in
+      elim (reach_either text p q (reach_map g text p q r)) [
         | inl e ↦ subst (λ x. Has both x) (nothing_only text p q e) (right p h)
-        | inr m ↦ left q (a.complete p q h m)
+        | inr m ↦ elim (f.closed p q h m) [ inl i ↦ left q (a.complete p q i m) | inr i ↦ right q i ]
       ]);
 }
 

@@ -5,6 +5,7 @@ use Rattle.jp_iregexp.specs.declared.automaton.Place.{Place as ProgramPlace}
 use Rattle.jp_iregexp.specs.Places.{Place, IsLaidOut}
 use Rattle.jp_iregexp.specs.Nodes.{class_of}
 
+-- the place of the definition
 abbrev pub place_of : ProgramPlace → Place
 place_of p = record { class = class_of p.class; behind = p.after }
 

@@ -9,15 +9,18 @@ use Rattle.jp_iregexp.specs.declared.class.Class.TheVariants.{Dot as DotClass, M
 use Rattle.jp_iregexp.specs.declared.node.Node.{Node, Class as ClassNode, Sequence', Choice', Repeated', Row_of-Node, end_of-Node, more_of-Node}
 use Rattle.jp_model.specs.Pattern.Tree.{Property as TreeProperty, category_group, one_category, Item as TreeItem, range, with_property, without_property, CharClass, dot, members, Pattern, one_of, empty, followed_by, never, either_of, times}
 
+-- a property of scalars
 abbrev pub property_of : Property → TreeProperty
 property_of (GroupProperty group) = category_group group
 property_of (CategoryProperty category) = one_category category
 
+-- an item of a class
 abbrev pub item_of : Item → TreeItem
 item_of (RangeItem first last) = range first last
 item_of (WithItem property) = with_property (property_of property)
 item_of (WithoutItem property) = without_property (property_of property)
 
+-- a class
 abbrev pub class_of : Class → CharClass
 class_of DotClass = dot
 class_of (MembersClass negated items) = members negated (map item_of items.items)
@@ -42,6 +45,7 @@ abbrev pub sequence_list : List Node → Pattern
 sequence_list [] = empty
 sequence_list (part ∷ rest) = followed_by (tree_of part) (sequence_list rest)
 
+-- the same of a choice
 abbrev pub choice_list : List Node → Pattern
 choice_list [] = never
 choice_list (part ∷ rest) = either_of (tree_of part) (choice_list rest)

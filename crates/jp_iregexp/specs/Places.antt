@@ -12,9 +12,11 @@ pub record Place : Type 0 where
   pub class : CharClass
   pub behind : ℕ
 
+-- the place is in the set
 abbrev pub Holds : ℕ → ℕ → Type 0
 Holds set p = bit_at set p ≡ 1
 
+-- the place of that number
 abbrev pub place_at : List Place → ℕ → Option Place
 place_at [] p = None
 place_at (w ∷ ws) zero = Some w

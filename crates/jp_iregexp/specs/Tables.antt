@@ -7,7 +7,7 @@ use Rattle.jp_iregexp.specs.declared.positions.PositionSet.{PositionSet}
 use Rattle.jp_iregexp.specs.Positions.{Has, IsSetOver, Reach}
 
 -- the set holds exactly the positions that are reached from p
-pub record AreEndsFrom (Member : List ℕ → Type 0) (text : List ℕ) (p : ℕ) (ends : List ℕ) : Type 0 where
+pub record AreEndsFrom (Member : List ℕ → Type 0) (text : List ℕ) (p : ℕ) (ends : PositionSet) : Type 0 where
   pub over : IsSetOver (length text) ends
   pub sound : (q : ℕ) → Has ends q → Reach Member text p q
   pub complete : (q : ℕ) → Reach Member text p q → Has ends q
@@ -15,7 +15,7 @@ pub record AreEndsFrom (Member : List ℕ → Type 0) (text : List ℕ) (p : ℕ
 -- row p has the ends from p
 pub record IsTable (Member : List ℕ → Type 0) (text : List ℕ) (rows : List PositionSet) : Type 0 where
   pub size : length rows ≡ length text + 1
-  pub each : (p : ℕ) (row : PositionSet) → p < length rows → row ≡ slice_index_or rows p row → AreEndsFrom Member text p row.words.items
+  pub each : (p : ℕ) (row : PositionSet) → p < length rows → row ≡ slice_index_or rows p row → AreEndsFrom Member text p row
 
 -- the rows are the table of a part's ends, or there are none
 abbrev pub KeptRows : List ℕ → Node → List PositionSet → Type 0

@@ -12,6 +12,7 @@ use Rattle.jp_model.specs.Pattern.Spelling.{Token as TreeToken, class_token, ope
 use Rattle.jp_model.specs.Pattern.Groups.{Groups, read_from}
 use Rattle.jp_model.specs.Pattern.Tree.{Item, range, Pattern}
 
+-- the token of the definition
 abbrev pub token_of : Token → TreeToken
 token_of (ClassToken c) = class_token (class_of c)
 token_of OpenToken = open_token

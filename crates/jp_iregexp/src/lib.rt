@@ -23,5 +23,6 @@ mod prepare;
 mod runs;
 mod table;
 mod token;
+mod window;
 
 pub use pattern::Pattern;

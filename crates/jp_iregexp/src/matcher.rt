@@ -10,7 +10,7 @@ ghost use Rattle.jp_model.specs.Pattern.Tree.{one_of, times};
 use crate::class::Class;
 use crate::node::Node;
 use crate::positions::PositionSet;
-use crate::runs::{run_ends, window_ends};
+use crate::runs::{count_ends, run_ends, window_ends};
 use crate::table::turn_by;
 use std::alloc::{AllocError, Global};
 
@@ -21,14 +21,16 @@ fn class_ends(
     text: &[char],
     starts: &PositionSet,
 ) -> Result<PositionSet, AllocError>
-    requires over { IsSetOver (length text.now) starts.now.words.items }
+    requires over { IsSetOver (length text.now) starts.now }
     requires fits { length text.now < 2 ^ 63 }
-    ensures { IfOk result (λ out. AreEnds (Language (one_of (class_of class.now))) text.now starts.now.words.items out.words.items) }
+    ensures { IfOk result (λ out. AreEnds (Language (one_of (class_of class.now))) text.now starts.now out) }
 {
-    let mut out = PositionSet::empty(alloc, text.len())?;
-    for (p, scalar) in text.iter().enumerate() {
-        if starts.contains(p) && class.contains(*scalar) {
-            out.insert(p + 1);
+    let mut out = PositionSet::empty(alloc);
+    let low = starts.low();
+    let high = starts.high();
+    for p in low..high.min(text.len()) {
+        if starts.contains(p) && class.contains(text[p]) {
+            out.insert(p + 1)?;
         }
     }
     Ok(out)
@@ -42,10 +44,10 @@ pub(crate) fn ends(
     text: &[char],
     starts: &PositionSet,
 ) -> Result<PositionSet, AllocError>
-    requires over { IsSetOver (length text.now) starts.now.words.items }
+    requires over { IsSetOver (length text.now) starts.now }
     requires fits { length text.now < 2 ^ 63 }
     requires kept { Kept text.now node.now }
-    ensures { IfOk result (λ out. AreEnds (Language (tree_of node.now)) text.now starts.now.words.items out.words.items) }
+    ensures { IfOk result (λ out. AreEnds (Language (tree_of node.now)) text.now starts.now out) }
 {
     match node {
         Node::Class(class) => class_ends(alloc, class, text, starts),
@@ -68,10 +70,10 @@ fn sequence_ends(
     text: &[char],
     starts: &PositionSet,
 ) -> Result<PositionSet, AllocError>
-    requires over { IsSetOver (length text.now) starts.now.words.items }
+    requires over { IsSetOver (length text.now) starts.now }
     requires fits { length text.now < 2 ^ 63 }
     requires kept { KeptList text.now parts.now }
-    ensures { IfOk result (λ out. AreEnds (Language (sequence_list parts.now)) text.now starts.now.words.items out.words.items) }
+    ensures { IfOk result (λ out. AreEnds (Language (sequence_list parts.now)) text.now starts.now out) }
 {
     let mut reached = starts.copy(alloc)?;
     for part in parts {
@@ -88,15 +90,15 @@ fn choice_ends(
     text: &[char],
     starts: &PositionSet,
 ) -> Result<PositionSet, AllocError>
-    requires over { IsSetOver (length text.now) starts.now.words.items }
+    requires over { IsSetOver (length text.now) starts.now }
     requires fits { length text.now < 2 ^ 63 }
     requires kept { KeptList text.now parts.now }
-    ensures { IfOk result (λ out. AreEnds (Language (choice_list parts.now)) text.now starts.now.words.items out.words.items) }
+    ensures { IfOk result (λ out. AreEnds (Language (choice_list parts.now)) text.now starts.now out) }
 {
-    let mut all = PositionSet::empty(alloc, text.len())?;
+    let mut all = PositionSet::empty(alloc);
     for part in parts {
         let reached = ends(alloc, part, text, starts)?;
-        all.add_all(&reached);
+        all.add_all(&reached)?;
     }
     Ok(all)
 }
@@ -112,16 +114,16 @@ fn repeated_ends(
     text: &[char],
     starts: &PositionSet,
 ) -> Result<PositionSet, AllocError>
-    requires over { IsSetOver (length text.now) starts.now.words.items }
+    requires over { IsSetOver (length text.now) starts.now }
     requires fits { length text.now < 2 ^ 63 }
     requires kept { Kept text.now body.now }
     requires rows { KeptRows text.now body.now rows.now }
-    ensures { IfOk result (λ out. AreEnds (Language (times (tree_of body.now) least most)) text.now starts.now.words.items out.words.items) }
+    ensures { IfOk result (λ out. AreEnds (Language (times (tree_of body.now) least most)) text.now starts.now out) }
 {
     match most {
         Some(most) => {
             if most < least {
-                return PositionSet::empty(alloc, text.len());
+                return Ok(PositionSet::empty(alloc));
             }
             let reached = exact_turns(alloc, body, rows, least, text, starts)?;
             up_to_turns(alloc, body, rows, most - least, text, &reached)
@@ -143,11 +145,11 @@ fn up_to_turns(
     text: &[char],
     starts: &PositionSet,
 ) -> Result<PositionSet, AllocError>
-    requires over { IsSetOver (length text.now) starts.now.words.items }
+    requires over { IsSetOver (length text.now) starts.now }
     requires fits { length text.now < 2 ^ 63 }
     requires kept { Kept text.now body.now }
     requires rows { KeptRows text.now body.now rows.now }
-    ensures { IfOk result (λ out. AreEnds (RepeatsWithin (Language (tree_of body.now)) 0 (Some most)) text.now starts.now.words.items out.words.items) }
+    ensures { IfOk result (λ out. AreEnds (RepeatsWithin (Language (tree_of body.now)) 0 (Some most)) text.now starts.now out) }
 {
     match body {
         Node::Class(class) => window_ends(alloc, class, text, most, starts),
@@ -165,11 +167,11 @@ fn any_turns(
     text: &[char],
     starts: &PositionSet,
 ) -> Result<PositionSet, AllocError>
-    requires over { IsSetOver (length text.now) starts.now.words.items }
+    requires over { IsSetOver (length text.now) starts.now }
     requires fits { length text.now < 2 ^ 63 }
     requires kept { Kept text.now body.now }
     requires rows { KeptRows text.now body.now rows.now }
-    ensures { IfOk result (λ out. AreEnds (RepeatsWithin (Language (tree_of body.now)) 0 None) text.now starts.now.words.items out.words.items) }
+    ensures { IfOk result (λ out. AreEnds (RepeatsWithin (Language (tree_of body.now)) 0 None) text.now starts.now out) }
 {
     match body {
         Node::Class(class) => run_ends(alloc, class, text, starts),
@@ -177,7 +179,7 @@ fn any_turns(
     }
 }
 
-// The part so many times. The turns stop where one changes nothing.
+// The part so many times. Scalars of a class take one pass.
 #[cycle(ends)]
 fn exact_turns(
     alloc: Global,
@@ -187,11 +189,33 @@ fn exact_turns(
     text: &[char],
     starts: &PositionSet,
 ) -> Result<PositionSet, AllocError>
-    requires over { IsSetOver (length text.now) starts.now.words.items }
+    requires over { IsSetOver (length text.now) starts.now }
     requires fits { length text.now < 2 ^ 63 }
     requires kept { Kept text.now body.now }
     requires rows { KeptRows text.now body.now rows.now }
-    ensures { IfOk result (λ out. AreEnds (Repeats (Language (tree_of body.now)) count) text.now starts.now.words.items out.words.items) }
+    ensures { IfOk result (λ out. AreEnds (Repeats (Language (tree_of body.now)) count) text.now starts.now out) }
+{
+    match body {
+        Node::Class(class) => count_ends(alloc, class, text, count, starts),
+        _ => counted_turns(alloc, body, rows, count, text, starts),
+    }
+}
+
+// So many turns. They stop where one changes nothing.
+#[cycle(ends)]
+fn counted_turns(
+    alloc: Global,
+    body: &Node,
+    rows: &[PositionSet],
+    count: u32,
+    text: &[char],
+    starts: &PositionSet,
+) -> Result<PositionSet, AllocError>
+    requires over { IsSetOver (length text.now) starts.now }
+    requires fits { length text.now < 2 ^ 63 }
+    requires kept { Kept text.now body.now }
+    requires rows { KeptRows text.now body.now rows.now }
+    ensures { IfOk result (λ out. AreEnds (Repeats (Language (tree_of body.now)) count) text.now starts.now out) }
 {
     let mut reached = starts.copy(alloc)?;
     for turn in 0..count {
@@ -204,7 +228,7 @@ fn exact_turns(
     Ok(reached)
 }
 
-// The part up to so many times. The turns stop where one adds nothing.
+// The part up to so many times. A turn starts from what the one before it added, and they stop where one adds nothing.
 #[cycle(ends)]
 fn further_turns(
     alloc: Global,
@@ -214,20 +238,22 @@ fn further_turns(
     text: &[char],
     starts: &PositionSet,
 ) -> Result<PositionSet, AllocError>
-    requires over { IsSetOver (length text.now) starts.now.words.items }
+    requires over { IsSetOver (length text.now) starts.now }
     requires fits { length text.now < 2 ^ 63 }
     requires kept { Kept text.now body.now }
     requires rows { KeptRows text.now body.now rows.now }
-    ensures { IfOk result (λ out. AreEnds (RepeatsWithin (Language (tree_of body.now)) 0 (Some most)) text.now starts.now.words.items out.words.items) }
+    ensures { IfOk result (λ out. AreEnds (RepeatsWithin (Language (tree_of body.now)) 0 (Some most)) text.now starts.now out) }
 {
     let mut reached = starts.copy(alloc)?;
+    let mut frontier = starts.copy(alloc)?;
     for turn in 0..most {
-        let mut next = one_turn(alloc, body, rows, text, &reached)?;
-        next.add_all(&reached);
-        if next.is_same(&reached) {
-            return Ok(next);
+        let next = one_turn(alloc, body, rows, text, &frontier)?;
+        let fresh = next.without(alloc, &reached)?;
+        if !fresh.has_any() {
+            return Ok(reached);
         }
-        reached = next;
+        reached.add_all(&fresh)?;
+        frontier = fresh;
     }
     Ok(reached)
 }
@@ -241,11 +267,11 @@ fn one_turn(
     text: &[char],
     starts: &PositionSet,
 ) -> Result<PositionSet, AllocError>
-    requires over { IsSetOver (length text.now) starts.now.words.items }
+    requires over { IsSetOver (length text.now) starts.now }
     requires fits { length text.now < 2 ^ 63 }
     requires kept { Kept text.now body.now }
     requires rows { KeptRows text.now body.now rows.now }
-    ensures { IfOk result (λ out. AreEnds (Language (tree_of body.now)) text.now starts.now.words.items out.words.items) }
+    ensures { IfOk result (λ out. AreEnds (Language (tree_of body.now)) text.now starts.now out) }
 {
     if rows.is_empty() {
         ends(alloc, body, text, starts)

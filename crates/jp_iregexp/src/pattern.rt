@@ -71,8 +71,7 @@ pub(crate) fn matches_scalars(alloc: Global, node: &Node, text: &[char]) -> Resu
     requires { length text.now < 2 ^ 63 }
     ensures { IfOk result (λ answer. answer ≡ is_in (tree_of node.now) text.now) }
 {
-    let mut starts = PositionSet::empty(alloc, text.len())?;
-    starts.insert(0);
+    let starts = PositionSet::one(alloc, 0)?;
     let reached = reach(alloc, node, text, &starts)?;
     Ok(reached.contains(text.len()))
 }
@@ -87,5 +86,5 @@ pub(crate) fn occurs_in_scalars(
 {
     let starts = PositionSet::all(alloc, text.len())?;
     let reached = reach(alloc, node, text, &starts)?;
-    Ok(reached.has_any(text.len()))
+    Ok(reached.has_any())
 }

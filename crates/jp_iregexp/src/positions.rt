@@ -1,97 +1,143 @@
 // Sets of positions of a text, as bits of 64-bit words.
 
-ghost use Rattle.std.specs.Prelude.{◌≡◌, ◌^◌, ℕ, ◌+◌, ◌/◌, ◌<◌, ◌≤◌, ◌≢◌, ◌↔◌, ◌⊎◌, IsTrue, IfOk, length, vec_len};
+ghost use Rattle.std.specs.Prelude.{◌≡◌, ◌^◌, ℕ, ◌+◌, ◌<◌, ◌≤◌, ◌↔◌, ◌⊎◌, IsTrue, IfOk, OnOk};
+ghost use Rattle.std.specs.Int.{bit_at};
 ghost use Rattle.jp_iregexp.specs.Positions.{Has, IsSetOver};
 
+use crate::window::Window;
 use std::alloc::{AllocError, Global};
 
 /// A set of positions.
 #[derive(Drop)]
 pub(crate) struct PositionSet {
-    pub(crate) words: Vec<u64>,
+    pub(crate) window: Window,
 }
 
 impl PositionSet {
-    /// No position, with room for those of a text of this length.
-    pub(crate) fn empty(alloc: Global, length: usize) -> Result<PositionSet, AllocError>
-        requires { length < 2 ^ 63 }
-        ensures over { IfOk result (λ set. IsSetOver length set.words.items) }
-        ensures none { IfOk result (λ set. (p : ℕ) → ¬ (Has set.words.items p)) }
+    /// No position.
+    pub(crate) fn empty(alloc: Global) -> PositionSet
+        ensures { (p : ℕ) → ¬ (Has result p) }
     {
-        let count = length / 64 + 1;
-        Ok(PositionSet {
-            words: vec![in alloc; 0; count]?,
-        })
+        PositionSet {
+            window: Window::empty(alloc),
+        }
+    }
+
+    /// One position.
+    pub(crate) fn one(alloc: Global, p: usize) -> Result<PositionSet, AllocError>
+        requires { p < 2 ^ 63 }
+        ensures has { IfOk result (λ set. Has set p) }
+        ensures only { IfOk result (λ set. (q : ℕ) → Has set q → q ≡ p) }
+    {
+        let mut set = PositionSet::empty(alloc);
+        set.insert(p)?;
+        Ok(set)
     }
 
     /// Each position of a text of this length.
     pub(crate) fn all(alloc: Global, length: usize) -> Result<PositionSet, AllocError>
         requires { length < 2 ^ 63 }
-        ensures over { IfOk result (λ set. IsSetOver length set.words.items) }
-        ensures each { IfOk result (λ set. (p : ℕ) → p ≤ length → Has set.words.items p) }
+        ensures over { IfOk result (λ set. IsSetOver length set) }
+        ensures each { IfOk result (λ set. (p : ℕ) → p ≤ length → Has set p) }
     {
-        let mut set = PositionSet::empty(alloc, length)?;
-        for p in 0..length + 1 {
-            set.insert(p);
+        let mut set = PositionSet::empty(alloc);
+        for w in 0..length / 64 + 1 {
+            set.window.add_word(w, first_bits(length - w * 64))?;
         }
         Ok(set)
     }
 
-    /// Whether there is a position up to this one.
-    pub(crate) fn has_any(&self, length: usize) -> bool
-        requires room { length / 64 < vec_len self.now.words }
-        requires fits { length < 2 ^ 63 }
-        ensures some { IsTrue result → (p : ℕ) × Has self.now.words.items p }
-        ensures none { (p : ℕ) → p ≤ length → Has self.now.words.items p → IsTrue result }
+    /// Whether there is a position.
+    pub(crate) fn has_any(&self) -> bool
+        ensures some { IsTrue result → (p : ℕ) × Has self.now p }
+        ensures none { (p : ℕ) → Has self.now p → IsTrue result }
     {
-        for p in 0..length + 1 {
-            if self.contains(p) {
+        for word in &self.window.words {
+            if *word != 0 {
                 return true;
             }
         }
         false
     }
 
+    /// A position that none in the set is below.
+    pub(crate) fn low(&self) -> usize
+        ensures { (p : ℕ) → Has self.now p → result ≤ p }
+    {
+        self.window.low()
+    }
+
+    /// A position that each in the set is below.
+    pub(crate) fn high(&self) -> usize
+        ensures above { (p : ℕ) → Has self.now p → p < result }
+        ensures fits { result ≤ 2 ^ 63 }
+    {
+        self.window.high()
+    }
+
     pub(crate) fn copy(&self, alloc: Global) -> Result<PositionSet, AllocError>
-        ensures { IfOk result (λ set. set.words.items ≡ self.now.words.items) }
+        ensures { IfOk result (λ set. (p : ℕ) → Has set p ↔ Has self.now p) }
     {
         Ok(PositionSet {
-            words: Vec::from_slice(alloc, self.words.as_slice())?,
+            window: self.window.copy(alloc)?,
         })
     }
 
     pub(crate) fn contains(&self, p: usize) -> bool
-        requires { p / 64 < vec_len self.now.words }
-        ensures { IsTrue result ↔ Has self.now.words.items p }
+        ensures { IsTrue result ↔ Has self.now p }
     {
-        (self.words[p / 64] >> (p % 64)) & 1 == 1
+        (self.window.word(p / 64) >> (p % 64)) & 1 == 1
     }
 
-    pub(crate) fn insert(&mut self, p: usize)
-        requires { p / 64 < vec_len self.old.words }
-        ensures len { length self.new.words.items ≡ length self.old.words.items }
-        ensures same { Has self.new.words.items p }
-        ensures old { (q : ℕ) → Has self.old.words.items q → Has self.new.words.items q }
-        ensures new { (q : ℕ) → Has self.new.words.items q → (q ≡ p) ⊎ Has self.old.words.items q }
+    pub(crate) fn insert(&mut self, p: usize) -> Result<(), AllocError>
+        requires { p < 2 ^ 63 }
+        ensures same { OnOk result (Has self.new p) }
+        ensures old { OnOk result ((q : ℕ) → Has self.old q → Has self.new q) }
+        ensures new { OnOk result ((q : ℕ) → Has self.new q → (q ≡ p) ⊎ Has self.old q) }
     {
-        self.words[p / 64] |= 1 << (p % 64);
+        self.window.add_word(p / 64, 1 << (p % 64))?;
+        Ok(())
     }
 
-    pub(crate) fn add_all(&mut self, other: &PositionSet)
-        requires { vec_len self.old.words ≡ vec_len other.now.words }
-        ensures len { length self.new.words.items ≡ length self.old.words.items }
-        ensures old { (q : ℕ) → Has self.old.words.items q → Has self.new.words.items q }
-        ensures added { (q : ℕ) → Has other.now.words.items q → Has self.new.words.items q }
-        ensures new { (q : ℕ) → Has self.new.words.items q → Has self.old.words.items q ⊎ Has other.now.words.items q }
+    pub(crate) fn add_all(&mut self, other: &PositionSet) -> Result<(), AllocError>
+        ensures old { OnOk result ((q : ℕ) → Has self.old q → Has self.new q) }
+        ensures added { OnOk result ((q : ℕ) → Has other.now q → Has self.new q) }
+        ensures new { OnOk result ((q : ℕ) → Has self.new q → Has self.old q ⊎ Has other.now q) }
     {
-        for i in 0..self.words.len() {
-            self.words[i] |= other.words[i];
+        for (i, word) in other.window.words.iter().enumerate() {
+            self.window.add_word(other.window.first + i, *word)?;
         }
+        Ok(())
+    }
+
+    /// The positions that are not in the other set.
+    pub(crate) fn without(
+        &self,
+        alloc: Global,
+        other: &PositionSet,
+    ) -> Result<PositionSet, AllocError>
+        ensures sound { IfOk result (λ set. (q : ℕ) → Has set q → Has self.now q) }
+        ensures complete { IfOk result (λ set. (q : ℕ) → Has self.now q → Has set q ⊎ Has other.now q) }
+    {
+        let mut set = PositionSet::empty(alloc);
+        for (i, word) in self.window.words.iter().enumerate() {
+            let w = self.window.first + i;
+            set.window.add_word(w, *word & !other.window.word(w))?;
+        }
+        Ok(set)
     }
 
     pub(crate) fn is_same(&self, other: &PositionSet) -> bool
-        ensures { IsTrue result ↔ (self.now.words.items ≡ other.now.words.items) }
+        ensures { IsTrue result → (p : ℕ) → Has self.now p ↔ Has other.now p }
     {
-        self.words.as_slice() == other.words.as_slice()
+        self.window.is_same(&other.window)
     }
+}
+
+// A word's bits up to this one, which may stand behind the word.
+fn first_bits(last: usize) -> u64
+    ensures within { (i : ℕ) → i < 64 → bit_at result i ≡ 1 → i ≤ last }
+    ensures each { (i : ℕ) → i < 64 → i ≤ last → bit_at result i ≡ 1 }
+{
+    u64::MAX >> (63 - last.min(63))
 }

@@ -1,6 +1,7 @@
 //! Nested counts. Where a count stands under another one, the turns of the outer one would repeat those of the inner one,
 //! and the counts multiply. So each part under a count that has a count in it gets a table of its ends first: for a text of n
-//! scalars, n + 1 rows of n + 1 bits, which live as long as the match.
+//! scalars, n + 1 rows, each as wide as what it reaches, which live as long as the match. A count over a class takes no turns,
+//! but one pass, and needs no table around it.
 
 ghost use Rattle.std.specs.Prelude.{◌≡◌, ◌^◌, ◌<◌, ℕ, List, false, map, length, IfOk};
 ghost use Rattle.jp_model.specs.Pattern.Language.{Language};
@@ -22,9 +23,9 @@ pub(crate) fn reach(
     text: &[char],
     starts: &PositionSet,
 ) -> Result<PositionSet, AllocError>
-    requires over { IsSetOver (length text.now) starts.now.words.items }
+    requires over { IsSetOver (length text.now) starts.now }
     requires fits { length text.now < 2 ^ 63 }
-    ensures { IfOk result (λ out. AreEnds (Language (tree_of node.now)) text.now starts.now.words.items out.words.items) }
+    ensures { IfOk result (λ out. AreEnds (Language (tree_of node.now)) text.now starts.now out) }
 {
     if !needs_tables(node) {
         return ends(alloc, node, text, starts);
@@ -33,28 +34,32 @@ pub(crate) fn reach(
     ends(alloc, &prepared, text, starts)
 }
 
-// Whether a repeated part stands in the part.
-#[cycle(repeats)]
-fn has_repeated(node: &Node) -> bool {
+// Whether a repeated part that takes turns stands in the part.
+#[cycle(turns)]
+fn has_turns(node: &Node) -> bool {
     match node {
         Node::Class(_) => false,
-        Node::Sequence(parts) => some_has_repeated(parts.as_slice()),
-        Node::Choice(parts) => some_has_repeated(parts.as_slice()),
-        Node::Repeated { .. } => true,
+        Node::Sequence(parts) => some_has_turns(parts.as_slice()),
+        Node::Choice(parts) => some_has_turns(parts.as_slice()),
+        Node::Repeated { body, .. } => !is_class(body),
     }
 }
 
-#[cycle(repeats)]
-fn some_has_repeated(parts: &[Node]) -> bool {
+fn is_class(node: &Node) -> bool {
+    matches!(node, Node::Class(_))
+}
+
+#[cycle(turns)]
+fn some_has_turns(parts: &[Node]) -> bool {
     for part in parts {
-        if has_repeated(part) {
+        if has_turns(part) {
             return true;
         }
     }
     false
 }
 
-// Whether a repeated part stands in another one, or has rows already.
+// Whether a repeated part that takes turns stands in another one, or one has rows already.
 #[cycle(needs)]
 fn needs_tables(node: &Node) -> bool
     ensures { result ≡ false → (text : List ℕ) → Kept text node.now }
@@ -64,7 +69,7 @@ fn needs_tables(node: &Node) -> bool
         Node::Sequence(parts) => some_needs_tables(parts.as_slice()),
         Node::Choice(parts) => some_needs_tables(parts.as_slice()),
         Node::Repeated { body, rows, .. } => {
-            if !rows.is_empty() || has_repeated(body) {
+            if !rows.is_empty() || has_turns(body) {
                 return true;
             }
             needs_tables(body)
@@ -154,13 +159,13 @@ fn with_rows(
     })
 }
 
-// The table of a part in which a count stands.
+// The table of a part in which another one takes turns.
 fn rows_of(alloc: Global, body: &Node, text: &[char]) -> Result<Vec<PositionSet>, AllocError>
     requires fits { length text.now < 2 ^ 63 }
     requires kept { Kept text.now body.now }
     ensures { IfOk result (λ rows. KeptRows text.now body.now rows.items) }
 {
-    if has_repeated(body) {
+    if has_turns(body) {
         table(alloc, body, text)
     } else {
         Ok(Vec::new(alloc))

@@ -23,8 +23,7 @@ pub(crate) fn table(
 {
     let mut rows = Vec::new(alloc);
     for p in 0..text.len() + 1 {
-        let mut start = PositionSet::empty(alloc, text.len())?;
-        start.insert(p);
+        let start = PositionSet::one(alloc, p)?;
         let row = ends(alloc, body, text, &start)?;
         rows.push(row)?;
     }
@@ -39,15 +38,17 @@ pub(crate) fn turn_by(
     text: &[char],
     starts: &PositionSet,
 ) -> Result<PositionSet, AllocError>
-    requires over { IsSetOver (length text.now) starts.now.words.items }
+    requires over { IsSetOver (length text.now) starts.now }
     requires fits { length text.now < 2 ^ 63 }
     requires table { IsTable (Language (tree_of _body.now)) text.now rows.now }
-    ensures { IfOk result (λ out. AreEnds (Language (tree_of _body.now)) text.now starts.now.words.items out.words.items) }
+    ensures { IfOk result (λ out. AreEnds (Language (tree_of _body.now)) text.now starts.now out) }
 {
-    let mut out = PositionSet::empty(alloc, text.len())?;
-    for (p, row) in rows.iter().enumerate() {
+    let mut out = PositionSet::empty(alloc);
+    let low = starts.low();
+    let high = starts.high();
+    for p in low..high.min(rows.len()) {
         if starts.contains(p) {
-            out.add_all(row);
+            out.add_all(&rows[p])?;
         }
     }
     Ok(out)

@@ -1,6 +1,5 @@
 -- Lemmas on the definitions.
 pub mod Pieces
-pub mod Json
 pub mod Pattern
 pub mod Steps
 pub mod Seek

@@ -11,6 +11,7 @@ abbrev pub row_view : Row → model.Row
 row_view (found.Node line cursor) = model.node_row line (node_of cursor)
 row_view (found.Refused line fault) = model.refusal_row line fault
 
+-- those of the definition
 abbrev pub rows_view : List Row → List model.Row
 rows_view rows = map row_view rows
 
@@ -19,6 +20,7 @@ abbrev pub IsOnItsLine : List (List ℕ) → Row → Type 0
 IsOnItsLine lines (found.Node line cursor) = slice_get lines (line - 1) ≡ Some (line_of cursor)
 IsOnItsLine lines (found.Refused line fault) = Unit {0}
 
+-- each row does
 abbrev pub AreOnTheirLines : List (List ℕ) → List Row → Type 0
 AreOnTheirLines lines rows = All (IsOnItsLine lines) rows
 

@@ -21,6 +21,7 @@ option_step_text (Some step) = encode_utf8_all (step_text step)
 abbrev pub walk_begins : Bool → List ℕ
 walk_begins walks = if walks then [] else codes "walk "
 
+-- what ends one where it is open
 abbrev pub walk_ends : Bool → List ℕ
 walk_ends walks = if walks then line_feed else []
 

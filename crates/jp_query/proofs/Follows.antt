@@ -3,7 +3,7 @@ use Rattle.std.proofs.Common.{◌≡◌, ◌∙◌, ℕ, List, [], ◌∷◌, Bo
 use Rattle.std.proofs.lemmas.Bool.{eqb-true, or_cases, not_from_false, false_from_ne_true, cond-true, cond-false}
 use Rattle.jp_model.specs.Characters.{is_white}
 use Rattle.jp_model.specs.Query.Spelling.{Run, run_ends, run_goes_on, Blanks}
-use Rattle.jp_query.specs.Reading.Scalars.{Read, run, skip_blanks, after, named, begins}
+use Rattle.jp_query.specs.Reading.Scalars.{Read, run, skip_blanks, after, first_and_run, begins}
 
 -- the scalar in front, or 0
 abbrev pub head : List ℕ → ℕ
@@ -135,11 +135,11 @@ pub run_reads : {m : ℕ → Bool} {x y s : List ℕ} → Run m x y s → stops 
 run_reads {m} {x} run_ends h = run_stops m x h
 run_reads (run_goes_on {c} {x} {y} {s} e more) h = rw e (ap (λ (p : List ℕ × List ℕ). (c ∷ p.0, p.1)) (run_reads more h))
 
-pub named_reads : (first member : ℕ → Bool) (c : ℕ) {x y s : List ℕ} → first c ≡ true → Run member x y s → stops member y ≡ true → named first member (c ∷ x) ≡ Some (c ∷ s, y)
+pub named_reads : (first member : ℕ → Bool) (c : ℕ) {x y s : List ℕ} → first c ≡ true → Run member x y s → stops member y ≡ true → first_and_run first member (c ∷ x) ≡ Some (c ∷ s, y)
 named_reads first member c {x} {y} {s} e more h =
     cond-true {A = Read (List ℕ)} (first c) (Some (c ∷ (run member x).0, (run member x).1)) None e ∙ ap (λ (p : List ℕ × List ℕ). Some (c ∷ p.0, p.1)) (run_reads more h)
 
-pub named_none : (first member : ℕ → Bool) (x : List ℕ) → first (head x) ≡ false → named first member x ≡ None
+pub named_none : (first member : ℕ → Bool) (x : List ℕ) → first (head x) ≡ false → first_and_run first member x ≡ None
 named_none first member [] h = refl
 named_none first member (c ∷ x) h = cond-false {A = Read (List ℕ)} (first c) (Some (c ∷ (run member x).0, (run member x).1)) None h
 

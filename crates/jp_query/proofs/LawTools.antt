@@ -3,7 +3,7 @@ use Rattle.std.proofs.Common.{◌≡◌, ℕ, zero, suc, List, [], ◌∷◌, �
 use Rattle.std.proofs.lemmas.Bool.{eqb-true}
 use Rattle.jp_model.specs.Characters.{is_white}
 use Rattle.jp_model.specs.Query.Spelling.{Run, run_ends, run_goes_on, Blanks}
-use Rattle.jp_query.specs.Reading.Scalars.{Read, Item, is_item, ◌>>=◌, after, after_all, after_blanks, run, skip_blanks, choose, named, many, many_after}
+use Rattle.jp_query.specs.Reading.Scalars.{Read, Item, is_item, ◌>>=◌, after, after_all, after_blanks, run, skip_blanks, choose, first_and_run, many, many_after}
 
 -- what a step that went well did
 pub bind_some : {A B : Type 0} (o : Option A) (f : A → Option B) (b : B) → (o >>= f) ≡ Some b → (a : A) × (o ≡ Some a) × (f a ≡ Some b)
@@ -52,7 +52,7 @@ run_stands m (c ∷ x) = step (m c) refl (run_stands m x)
     step true e others = run_goes_on e others
     step false e others = run_ends
 
-pub named_stands : (first member : ℕ → Bool) (P : List ℕ → List ℕ → List ℕ → Type 0) → ((c : ℕ) (x y s : List ℕ) → first c ≡ true → Run member x y s → P (c ∷ x) y (c ∷ s)) → (x : List ℕ) (r : List ℕ × List ℕ) → named first member x ≡ Some r → P x r.1 r.0
+pub named_stands : (first member : ℕ → Bool) (P : List ℕ → List ℕ → List ℕ → Type 0) → ((c : ℕ) (x y s : List ℕ) → first c ≡ true → Run member x y s → P (c ∷ x) y (c ∷ s)) → (x : List ℕ) (r : List ℕ × List ℕ) → first_and_run first member x ≡ Some r → P x r.1 r.0
 named_stands first member P make [] r h = absurd (cc)
 named_stands first member P make (c ∷ x) r h =
     let p = cond_some (first c) (c ∷ (run member x).0, (run member x).1) r h in

@@ -17,6 +17,7 @@ pub mod SingularWalk
 pub mod SameSteps
 -- Lemmas of the parser.
 mod Digits
+mod Exponents
 mod Loop
 mod Outcomes
 mod Quotes

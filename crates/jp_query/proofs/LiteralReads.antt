@@ -5,7 +5,7 @@ use Rattle.jp_model.specs.Characters.{is_digit, is_lower}
 use Rattle.jp_model.specs.Json.Numbers.{AreDigits, AreSomeDigits, IsInt, Sign, no_sign, plus_sign, minus_sign, Exponent, Numeral, IsExponent, IsNumeral, minus_bytes, fraction_bytes, sign_bytes, exponent_bytes, numeral_bytes}
 use Rattle.jp_model.specs.Query.Spelling.{Run, run_ends, run_goes_on, IsLiteral, number_spelled, string_spelled, true_spelled, false_spelled, null_spelled, double_quoted, single_quoted, is_function_scalar}
 use Rattle.jp_model.specs.Query.Syntax.{Literal}
-use Rattle.jp_query.specs.Reading.Scalars.{choose, after, begins, named, call_start, function_name}
+use Rattle.jp_query.specs.Reading.Scalars.{choose, after, begins, first_and_run, call_start, function_name}
 use Rattle.jp_query.specs.Reading.Numbers.{positive, is_positive_digit, is_int_first, int_digits, minus, some_digits, fraction, sign, exponent_behind, exponent, number_at}
 use Rattle.jp_query.specs.Reading.Literals.{is_any_quote, word_at, literal_at}
 use Rattle.jp_query.proofs.Follows.{head, next, ends_path, path_head, apart, after_none, not_there, stops, stops_at, named_reads, begins_with}
@@ -29,8 +29,8 @@ unfolding int_digits positive
 int_read [] z h g = absurd h
 int_read (d ∷ []) z h g = step (d == 48) refl
   where
-    step : (t : Bool) → (d == 48) ≡ t → choose (after 48 (d ∷ z)) (λ y. Some (48 ∷ [], y)) (named is_positive_digit is_digit (d ∷ z)) ≡ Some (d ∷ [], z)
-    step true e = subst (λ c. choose (after 48 (c ∷ z)) (λ y. Some (48 ∷ [], y)) (named is_positive_digit is_digit (c ∷ z)) ≡ Some (c ∷ [], z)) (sym (eqb-true d 48 e)) refl
+    step : (t : Bool) → (d == 48) ≡ t → choose (after 48 (d ∷ z)) (λ y. Some (48 ∷ [], y)) (first_and_run is_positive_digit is_digit (d ∷ z)) ≡ Some (d ∷ [], z)
+    step true e = subst (λ c. choose (after 48 (c ∷ z)) (λ y. Some (48 ∷ [], y)) (first_and_run is_positive_digit is_digit (c ∷ z)) ≡ Some (c ∷ [], z)) (sym (eqb-true d 48 e)) refl
     step false e = rw (after_none 48 (d ∷ z) e) (named_reads is_positive_digit is_digit d (positive_first d h e) run_ends g)
 int_read (d ∷ e ∷ ds) z h g = rw (after_none 48 (d ∷ e ∷ (ds ++ z)) h.1) (named_reads is_positive_digit is_digit d (positive_first d h.0 h.1) (digits_run (e ∷ ds) z h.2) g)
 

@@ -2,7 +2,7 @@
 use Rattle.std.proofs.Common.{◌≡◌, ℕ, suc, ◌+◌, Some, length-append, ◌<◌, ◌≤◌, List, [], ◌∷◌, ◌++◌, length, take, drop, get_or, Bool, true, false, cond, refl, sym, ap, ◌∙◌, arith, append_assoc, append-nil}
 use Rattle.std.proofs.lemmas.List.{drop_more}
 use Rattle.std.proofs.Math.Seq.{take-suc, take-append_seam, drop-append_seam}
-use Rattle.jp_query.specs.Reading.Scalars.{run, begins, named}
+use Rattle.jp_query.specs.Reading.Scalars.{run, begins, first_and_run}
 
 -- the run from a place on, behind what stands in front of it
 abbrev pub run_from : (ℕ → Bool) → List ℕ → ℕ → List ℕ × List ℕ
@@ -57,10 +57,10 @@ cut_at s y x h =
 
 -- a scalar of one class and a run of another
 pub named_cut : (first others : ℕ → Bool) (x : List ℕ) → begins first x ≡ true
-    → (length (run others (drop 1 x)).0 + 1 ≤ length x) × (named first others x ≡ Some (take (length (run others (drop 1 x)).0 + 1) x, drop (length (run others (drop 1 x)).0 + 1) x))
+    → (length (run others (drop 1 x)).0 + 1 ≤ length x) × (first_and_run first others x ≡ Some (take (length (run others (drop 1 x)).0 + 1) x, drop (length (run others (drop 1 x)).0 + 1) x))
 named_cut first others [] h = absurd (cc)
 named_cut first others (c ∷ x) h =
     let n : length (run others x).0 + 1 ≡ length (c ∷ (run others x).0) = omega arith in
     let p = cut_at (c ∷ (run others x).0) (run others x).1 (c ∷ x) (ap (λ (all : List ℕ). c ∷ all) (run_joins others x)) in
-    let e : named first others (c ∷ x) ≡ Some (c ∷ (run others x).0, (run others x).1) = rw h refl in
+    let e : first_and_run first others (c ∷ x) ≡ Some (c ∷ (run others x).0, (run others x).1) = rw h refl in
     (rw n p.0, rw n (e ∙ ap (λ (r : List ℕ × List ℕ). Some r) (ap (λ (s : List ℕ). (s, (run others x).1)) (sym p.1) ∙ ap (λ (y : List ℕ). (take (length (c ∷ (run others x).0)) (c ∷ x), y)) (sym p.2))))

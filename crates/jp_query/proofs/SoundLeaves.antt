@@ -8,7 +8,7 @@ use Rattle.jp_model.specs.Query.Syntax as syntax
 use Rattle.jp_model.specs.Query.Syntax.{CompareOp, Origin, Literal}
 use Rattle.jp_query.specs.Reading.Scalars.{after, after_all, many, shorthand, function_name, call_start}
 use Rattle.jp_query.specs.Reading.Numbers.{positive, is_positive_digit, int_at}
-use Rattle.jp_query.specs.Reading.Strings.{hex4, low_half, hex_scalar, escaped_letter, escape_at, next_scalar, quoted, string_at}
+use Rattle.jp_query.specs.Reading.Strings.{hex4, low_half, hex_scalar, escaped_letter, escape_at, next_scalar, between_quotes, string_at}
 use Rattle.jp_query.specs.Reading.Literals.{origin_at, operator_at}
 use Rattle.jp_query.proofs.LawTools.{bind_some, chosen, decided, cond_some, some_same, as_read, after_is, after_all_is, named_stands, many_sound, is_item_some}
 
@@ -161,8 +161,8 @@ next_scalar_sound quote (c ∷ x) y z a t h more = ⊎_elim
     quote_of : (c : ℕ) → ((c == 34) ≡ true) ⊎ ((c == 39) ≡ true) → (c == 34 || c == 39) ≡ true
     quote_of c k = ⊎_elim (λ e. rw e refl) (λ e. rw (eqb-true c 39 e) refl) k
 
-quoted_sound : (quote : ℕ) (x : List ℕ) (r : List ℕ × List ℕ) → quoted quote x ≡ Some r → Quoted quote x r.1 r.0
-unfolding quoted
+quoted_sound : (quote : ℕ) (x : List ℕ) (r : List ℕ × List ℕ) → between_quotes quote x ≡ Some r → Quoted quote x r.1 r.0
+unfolding between_quotes
 quoted_sound quote x r h =
     let a = bind_some (many (next_scalar quote) (length x) x) _ r h in
     let b = bind_some (after quote a.0.1) _ r a.2 in

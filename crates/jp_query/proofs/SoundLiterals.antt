@@ -49,74 +49,74 @@ unfolding some_digits
 some_digits_sound x r h = named_stands is_digit is_digit (Part AreSomeDigits) (λ c x y t e more. ((e, run_digits more), ap (λ z. c ∷ z) (run_front more))) x r h
 
 -- a part that spells something of the numeral
-abbrev Spells : {A : Type 0} → (A → Type 0) → (A → List ℕ) → List ℕ → List ℕ → List ℕ → Type 0
-Spells {A} P spelling x y t = (a : A) × P a × (spelling a ≡ t) × (x ≡ t ++ y)
+abbrev StandsInFront : {A : Type 0} → (A → Type 0) → (A → List ℕ) → List ℕ → List ℕ → List ℕ → Type 0
+StandsInFront {A} P spelling x y t = (a : A) × P a × (spelling a ≡ t) × (x ≡ t ++ y)
 
 abbrev Any : {A : Type 0} → A → Type 0
 Any a = Unit {0}
 
-minus_sound : (x : List ℕ) → Spells {A = Bool} Any minus_bytes x (minus x).1 (minus x).0
+minus_sound : (x : List ℕ) → StandsInFront {A = Bool} Any minus_bytes x (minus x).1 (minus x).0
 unfolding minus
 minus_sound x = step (after 45 x) refl
   where
-    step : (o : Option (List ℕ)) → after 45 x ≡ o → Spells {A = Bool} Any minus_bytes x (choose {B = List ℕ × List ℕ} o (λ y. (45 ∷ [], y)) ([], x)).1 (choose {B = List ℕ × List ℕ} o (λ y. (45 ∷ [], y)) ([], x)).0
+    step : (o : Option (List ℕ)) → after 45 x ≡ o → StandsInFront {A = Bool} Any minus_bytes x (choose {B = List ℕ × List ℕ} o (λ y. (45 ∷ [], y)) ([], x)).1 (choose {B = List ℕ × List ℕ} o (λ y. (45 ∷ [], y)) ([], x)).0
     step None e = (false, tt, refl, refl)
     step (Some y) e = (true, tt, refl, after_is 45 x y e)
 
-sign_sound : (x : List ℕ) → Spells {A = Sign} Any sign_bytes x (sign x).1 (sign x).0
+sign_sound : (x : List ℕ) → StandsInFront {A = Sign} Any sign_bytes x (sign x).1 (sign x).0
 unfolding sign
 sign_sound x = step (after 43 x) (after 45 x) refl refl
   where
-    step : (o p : Option (List ℕ)) → after 43 x ≡ o → after 45 x ≡ p → Spells {A = Sign} Any sign_bytes x (choose {B = List ℕ × List ℕ} o (λ y. (43 ∷ [], y)) (choose p (λ y. (45 ∷ [], y)) ([], x))).1 (choose {B = List ℕ × List ℕ} o (λ y. (43 ∷ [], y)) (choose p (λ y. (45 ∷ [], y)) ([], x))).0
+    step : (o p : Option (List ℕ)) → after 43 x ≡ o → after 45 x ≡ p → StandsInFront {A = Sign} Any sign_bytes x (choose {B = List ℕ × List ℕ} o (λ y. (43 ∷ [], y)) (choose p (λ y. (45 ∷ [], y)) ([], x))).1 (choose {B = List ℕ × List ℕ} o (λ y. (43 ∷ [], y)) (choose p (λ y. (45 ∷ [], y)) ([], x))).0
     step (Some y) p e f = (plus_sign, tt, refl, after_is 43 x y e)
     step None (Some y) e f = (minus_sign, tt, refl, after_is 45 x y f)
     step None None e f = (no_sign, tt, refl, refl)
 
-fraction_spelled : (ds y z : List ℕ) → AreSomeDigits ds → y ≡ ds ++ z → Spells AreDigits fraction_bytes (46 ∷ y) z (46 ∷ ds)
+fraction_spelled : (ds y z : List ℕ) → AreSomeDigits ds → y ≡ ds ++ z → StandsInFront AreDigits fraction_bytes (46 ∷ y) z (46 ∷ ds)
 fraction_spelled [] y z h e = absurd h
 fraction_spelled (d ∷ ds) y z h e = (d ∷ ds, h, refl, ap (λ w. 46 ∷ w) e)
 
-fraction_sound : (x : List ℕ) (r : List ℕ × List ℕ) → fraction x ≡ Some r → Spells AreDigits fraction_bytes x r.1 r.0
+fraction_sound : (x : List ℕ) (r : List ℕ × List ℕ) → fraction x ≡ Some r → StandsInFront AreDigits fraction_bytes x r.1 r.0
 unfolding fraction
 fraction_sound x r h = ⊎_elim
     (λ a.
     let b = bind_some (some_digits a.0) _ r a.2 in
     let d = some_digits_sound a.0 b.0 b.1 in
-    as_read (Spells AreDigits fraction_bytes x) _ r b.2 (subst (λ z. Spells AreDigits fraction_bytes z b.0.1 (46 ∷ b.0.0)) (sym (after_is 46 x a.0 a.1)) (fraction_spelled b.0.0 a.0 b.0.1 d.0 d.1)))
-    (λ a. as_read (Spells AreDigits fraction_bytes x) _ r a.1 ([], tt, refl, refl))
+    as_read (StandsInFront AreDigits fraction_bytes x) _ r b.2 (subst (λ z. StandsInFront AreDigits fraction_bytes z b.0.1 (46 ∷ b.0.0)) (sym (after_is 46 x a.0 a.1)) (fraction_spelled b.0.0 a.0 b.0.1 d.0 d.1)))
+    (λ a. as_read (StandsInFront AreDigits fraction_bytes x) _ r a.1 ([], tt, refl, refl))
     (chosen (after 46 x) _ _ (Some r) h)
 
 -- the letter of an exponent
 letter_of : Bool → ℕ
 letter_of capital = cond capital 0x45 0x65
 
-behind_sound : (capital : Bool) (letter : ℕ) (x : List ℕ) (r : List ℕ × List ℕ) → cond capital 0x45 0x65 ≡ letter → exponent_behind letter x ≡ Some r → Spells IsExponent exponent_bytes (letter ∷ x) r.1 r.0
+behind_sound : (capital : Bool) (letter : ℕ) (x : List ℕ) (r : List ℕ × List ℕ) → cond capital 0x45 0x65 ≡ letter → exponent_behind letter x ≡ Some r → StandsInFront IsExponent exponent_bytes (letter ∷ x) r.1 r.0
 unfolding exponent_behind
 behind_sound capital letter x r l h =
     let a = bind_some (some_digits (sign x).1) _ r h in
     let d = some_digits_sound (sign x).1 a.0 a.1 in
     let g = sign_sound x in
-    as_read (Spells IsExponent exponent_bytes (letter ∷ x)) _ r a.2 (
+    as_read (StandsInFront IsExponent exponent_bytes (letter ∷ x)) _ r a.2 (
       Some (record { capital = capital; sign = g.0; digits = a.0.0 }),
       d.0,
       subst (λ c. cond capital 0x45 0x65 ∷ (sign_bytes g.0 ++ a.0.0) ≡ c ∷ ((sign x).0 ++ a.0.0)) l (ap (λ w. cond capital 0x45 0x65 ∷ (w ++ a.0.0)) g.2),
       ap (λ w. letter ∷ w) (g.3 ∙ (ap (λ w. (sign x).0 ++ w) d.1 ∙ sym (append_assoc (sign x).0 a.0.0 a.0.1))),
     )
 
-exponent_sound : (x : List ℕ) (r : List ℕ × List ℕ) → exponent x ≡ Some r → Spells IsExponent exponent_bytes x r.1 r.0
+exponent_sound : (x : List ℕ) (r : List ℕ × List ℕ) → exponent x ≡ Some r → StandsInFront IsExponent exponent_bytes x r.1 r.0
 unfolding exponent
 exponent_sound x r h = ⊎_elim
-    (λ a. subst (λ z. Spells IsExponent exponent_bytes z r.1 r.0) (sym (after_is 101 x a.0 a.1)) (behind_sound false 101 a.0 r refl a.2))
+    (λ a. subst (λ z. StandsInFront IsExponent exponent_bytes z r.1 r.0) (sym (after_is 101 x a.0 a.1)) (behind_sound false 101 a.0 r refl a.2))
     (λ a. ⊎_elim
-    (λ b. subst (λ z. Spells IsExponent exponent_bytes z r.1 r.0) (sym (after_is 69 x b.0 b.1)) (behind_sound true 69 b.0 r refl b.2))
-    (λ b. as_read (Spells IsExponent exponent_bytes x) _ r b.1 (None, tt, refl, refl))
+    (λ b. subst (λ z. StandsInFront IsExponent exponent_bytes z r.1 r.0) (sym (after_is 69 x b.0 b.1)) (behind_sound true 69 b.0 r refl b.2))
+    (λ b. as_read (StandsInFront IsExponent exponent_bytes x) _ r b.1 (None, tt, refl, refl))
     (chosen (after 69 x) _ _ (Some r) a.1))
     (chosen (after 101 x) _ _ (Some r) h)
 
 pub four : (a b c d y : List ℕ) → a ++ (b ++ (c ++ (d ++ y))) ≡ (a ++ (b ++ (c ++ d))) ++ y
 four a b c d y = sym (append_assoc a (b ++ (c ++ d)) y ∙ ap (λ z. a ++ z) (append_assoc b (c ++ d) y ∙ ap (λ z. b ++ z) (append_assoc c d y)))
 
-pub number_sound : (x : List ℕ) (r : List ℕ × List ℕ) → number_at x ≡ Some r → Spells IsNumeral numeral_bytes x r.1 r.0
+pub number_sound : (x : List ℕ) (r : List ℕ × List ℕ) → number_at x ≡ Some r → StandsInFront IsNumeral numeral_bytes x r.1 r.0
 unfolding number_at
 number_sound x r h =
     let a = bind_some (int_digits (minus x).1) _ r h in
@@ -130,7 +130,7 @@ number_sound x r h =
     let same : numeral_bytes n ≡ (minus x).0 ++ (a.0.0 ++ (b.0.0 ++ c.0.0)) = rw (m.2, f.2, e.2) refl in
     let stands : x ≡ ((minus x).0 ++ (a.0.0 ++ (b.0.0 ++ c.0.0))) ++ c.0.1 =
     m.3 ∙ (ap (λ z. (minus x).0 ++ z) (i.1 ∙ ap (λ z. a.0.0 ++ z) (f.3 ∙ ap (λ z. b.0.0 ++ z) e.3)) ∙ four (minus x).0 a.0.0 b.0.0 c.0.0 c.0.1) in
-    as_read (Spells IsNumeral numeral_bytes x) _ r c.2 (n, record { int = i.0; fraction = f.1; exponent = e.1 }, same, stands)
+    as_read (StandsInFront IsNumeral numeral_bytes x) _ r c.2 (n, record { int = i.0; fraction = f.1; exponent = e.1 }, same, stands)
 
 pub literal_sound : (x : List ℕ) (r : Literal × List ℕ) → literal_at x ≡ Some r → IsLiteral x r.1 r.0
 unfolding literal_at word_at

@@ -2,7 +2,7 @@
 use Rattle.std.proofs.Common.{◌≡◌, ℕ, zero, suc, ◌+◌, ◌-◌, ◌<◌, ◌≤◌, List, [], ◌∷◌, ◌++◌, length, take, drop, get_or, Bool, true, false, cond, ◌==◌, Option, Some, None, option_map, refl, sym, ap, ◌∙◌, arith, append_assoc, length-append, inl, inr, ◌⊎◌}
 use Rattle.std.proofs.lemmas.Bool.{and_parts, leb-true, eqb-true}
 use Rattle.jp_model.specs.Characters.{is_digit}
-use Rattle.jp_query.specs.Reading.Scalars.{Read, ◌>>=◌, choose, after, run, named}
+use Rattle.jp_query.specs.Reading.Scalars.{Read, ◌>>=◌, choose, after, run, first_and_run}
 use Rattle.jp_query.specs.Reading.Numbers.{is_positive_digit, positive, some_digits, int_digits, minus, fraction, sign, exponent_behind, exponent, number_at}
 use Rattle.jp_query.proofs.Runs.{run_joins, cut_at}
 
@@ -52,7 +52,7 @@ run_ascii (c ∷ x) = step (is_digit c) refl (run_ascii x)
     step false e a = tt
 
 -- digits whose first is of a class of digits
-named_stands : (first : ℕ → Bool) → ((c : ℕ) → first c ≡ true → is_digit c ≡ true) → (x : List ℕ) (r : List ℕ × List ℕ) → named first is_digit x ≡ Some r → Stands x r
+named_stands : (first : ℕ → Bool) → ((c : ℕ) → first c ≡ true → is_digit c ≡ true) → (x : List ℕ) (r : List ℕ × List ℕ) → first_and_run first is_digit x ≡ Some r → Stands x r
 named_stands first digits [] r h = absurd (cc)
 named_stands first digits (c ∷ x) r h =
     let p = cond_some (first c) (c ∷ (run is_digit x).0, (run is_digit x).1) r h in

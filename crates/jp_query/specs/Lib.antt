@@ -12,4 +12,3 @@ pub mod Status
 pub mod StepEquality
 pub mod View
 pub mod WellFormed
-pub mod Worked

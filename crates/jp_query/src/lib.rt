@@ -9,7 +9,6 @@ mod parser;
 mod paths;
 mod query;
 mod tree;
-pub mod worked;
 
 pub use fault::ParseFault;
 pub use parser::parse;

@@ -1,7 +1,7 @@
 //! The limits of a query that was read: its integers and its exponents.
 
-ghost use Rattle.std.specs.Prelude.{◌≡◌, ◌≤◌, not, length};
-ghost use Rattle.jp_model.specs.Json.Numbers.{behind_byte, behind_digits, behind_fraction, without_leading_zeros, numeral_of, is_long_exponent};
+ghost use Rattle.std.specs.Prelude.{◌≡◌, ◌==◌, ◌≤◌, nat_lt, not, length, drop};
+ghost use Rattle.jp_model.specs.Json.Numbers.{head_of, leading_digits, leading_sign, behind_sign, leading_fraction, leading_exponent, minus_bytes, fraction_bytes, without_leading_zeros, exponent_digits, numeral_of, is_long_exponent};
 ghost use Rattle.jp_model.specs.Query.Limits.{is_exact, bound_passes, literal_small, segments_pass, segment_passes, selector_passes, logical_passes, comparable_passes, path_passes, call_passes, argument_passes};
 ghost use Rattle.jp_query.specs.Limits.{limit_tests};
 ghost use Rattle.jp_query.specs.View.{literal_view, segments_view, segment_view, selector_view, logical_view, comparable_view, path_view, call_view, argument_view};
@@ -15,36 +15,52 @@ const MAX_EXACT: i64 = 9_007_199_254_740_991;
 /// The digits that an exponent has at most, behind its leading zeros.
 const MAX_EXPONENT_DIGITS: usize = 15;
 
-/// Behind this byte, where it stands in front.
-fn behind_byte(text: &[u8], byte: u8) -> &[u8]
-    ensures { result.now ≡ behind_byte byte text.now }
+/// How many digits stand in front.
+fn digit_count(text: &[u8]) -> usize
+    ensures count { result ≡ length (leading_digits text.now) }
+    ensures within { result ≤ length text.now }
 {
-    match text {
-        [first, rest @ ..] if *first == byte => rest,
-        _ => text,
+    for (place, byte) in text.iter().enumerate() {
+        if !(b'0'..=b'9').contains(byte) {
+            return place;
+        }
     }
+    text.len()
 }
 
 /// Behind the digits in front.
 fn behind_digits(text: &[u8]) -> &[u8]
-    ensures { result.now ≡ behind_digits text.now }
+    ensures { result.now ≡ drop (length (leading_digits text.now)) text.now }
 {
-    let mut rest = text;
-    while let [first, others @ ..] = rest {
-        if !(b'0'..=b'9').contains(first) {
-            break;
-        }
-        rest = others;
-    }
-    rest
+    &text[digit_count(text)..]
 }
 
-/// Behind a point in front and its digits.
-fn behind_fraction(text: &[u8]) -> &[u8]
-    ensures { result.now ≡ behind_fraction text.now }
+/// Behind a minus, where it stands in front.
+fn behind_minus(text: &[u8]) -> &[u8]
+    ensures { result.now ≡ drop (length (minus_bytes (head_of text.now == 0x2D))) text.now }
 {
     match text {
-        [b'.', rest @ ..] => behind_digits(rest),
+        [b'-', rest @ ..] => rest,
+        _ => text,
+    }
+}
+
+/// Behind a point in front and its digits, where it has some.
+fn behind_fraction(text: &[u8]) -> &[u8]
+    ensures { result.now ≡ drop (length (fraction_bytes (leading_fraction text.now))) text.now }
+{
+    match text {
+        [b'.', b'0'..=b'9', rest @ ..] => behind_digits(rest),
+        _ => text,
+    }
+}
+
+/// Behind a sign, where it stands in front.
+fn behind_sign(text: &[u8]) -> &[u8]
+    ensures { result.now ≡ behind_sign (leading_sign text.now) text.now }
+{
+    match text {
+        [b'+' | b'-', rest @ ..] => rest,
         _ => text,
     }
 }
@@ -60,17 +76,23 @@ fn behind_zeros(text: &[u8]) -> &[u8]
     rest
 }
 
+/// Whether an exponent part stands in front that has too many digits behind its leading zeros.
+fn begins_with_long_exponent(text: &[u8]) -> bool
+    ensures { result ≡ nat_lt 15 (length (exponent_digits (leading_exponent text.now))) }
+{
+    match text {
+        [b'e' | b'E', exponent @ ..] => {
+            digit_count(behind_zeros(behind_sign(exponent))) > MAX_EXPONENT_DIGITS
+        }
+        _ => false,
+    }
+}
+
 /// Whether the exponent of a number has too many digits behind its leading zeros.
 fn is_long_exponent(number: &[u8]) -> bool
     ensures { result ≡ is_long_exponent (numeral_of number.now) }
 {
-    match behind_fraction(behind_digits(behind_byte(number, b'-'))) {
-        [] => false,
-        [_, exponent @ ..] => {
-            let digits = behind_byte(behind_byte(exponent, b'+'), b'-');
-            behind_zeros(digits).len() > MAX_EXPONENT_DIGITS
-        }
-    }
+    begins_with_long_exponent(behind_fraction(behind_digits(behind_minus(number))))
 }
 
 /// Whether a literal keeps the limit.

@@ -14,9 +14,6 @@ use crate::tree::{Segment, Selector};
 use smallvec::SmallVec;
 use std::alloc::{AllocError, Global};
 
-#[cfg(test)]
-mod tests;
-
 /// A step of a singular query, to one child (RFC 9535, section 2.3.5.1).
 #[derive(Drop)]
 pub enum Step {

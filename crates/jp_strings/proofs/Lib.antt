@@ -10,3 +10,4 @@ pub mod Answers
 pub mod Slices
 pub mod Counts
 pub mod Orders
+pub mod Widths

@@ -189,7 +189,7 @@ pub at_none : {A : Type 0} (o : Option A) (P : Type 0) (Q : A → Type 0) → o 
 at_none {A} o P Q e p = subst (λ (x : Option A). MatchOption x P Q) (sym e) p
 
 -- ---- a body with no special byte
-unpaired : (cs : List ℕ) → scalars cs ≡ true → paired cs ≡ cs
+pub unpaired : (cs : List ℕ) → scalars cs ≡ true → paired cs ≡ cs
 unpaired [] s = refl
 unpaired (c ∷ cs) s =
     let parts = and_parts _ _ s in

@@ -22,6 +22,7 @@ units_within (suc n) body at =
 unfoldable pub units_from : List ℕ → ℕ → Option (List ℕ)
 units_from body at = units_within (length body) body at
 
+-- the code points of units, where there are any
 abbrev pub points_in : Option (List ℕ) → List ℕ
 points_in None = []
 points_in (Some units) = paired units
@@ -34,6 +35,7 @@ points_from body at = points_in (units_from body at)
 unfoldable pub points_of : List ℕ → List ℕ
 points_of body = points_from body 0
 
+-- there are units, and none is half of a pair alone
 abbrev pub are_whole : Option (List ℕ) → Bool
 are_whole None = false
 are_whole (Some units) = not (has_lone_surrogate (paired units))

@@ -1,5 +1,5 @@
 //! Equality, order and size of bodies by the scalars that they spell.
-ghost use Rattle.std.specs.Prelude.{◌≡◌, ◌^◌, ◌<◌, IfOk, IsTrue, count_by, length};
+ghost use Rattle.std.specs.Prelude.{◌≡◌, false, ◌^◌, ◌<◌, IfOk, IfSome, IfNone, IsTrue, count_by, length};
 ghost use Rattle.std.specs.Cmp.Lexicographic.{slice_cmp};
 ghost use Rattle.std.specs.Ordering.{nat_cmp};
 ghost use Rattle.std.specs.Str.{chars};
@@ -13,6 +13,7 @@ use crate::scalars::{Scalars, escaped_scalar_at};
 use jp_lanes::{equal_bytes, first_special};
 use std::alloc::{AllocError, Global};
 use std::cmp::Ordering;
+use std::str;
 
 // Whether each character stands for itself.
 fn is_plain(body: &[u8]) -> bool
@@ -100,11 +101,23 @@ fn spells_by_scalars(body: &[u8], text: &str) -> bool
     compare_text_scalars(body, text).is_eq()
 }
 
+// Whether a body is longer than a text, or its bytes. An escape is longer than what it stands for, so no other body spells the
+// text; most names of a line are passed by here.
+fn may_spell(body: &[u8], text: &str) -> bool
+    requires { IsText body.now }
+    ensures { result ≡ false → text_equal (chars text.now) (points_of body.now) ≡ false }
+{
+    body.len() > text.len() || equal_bytes(body, text.as_bytes())
+}
+
 /// Whether a body spells the scalars of a text. Only a body with an escape is decoded.
 pub fn spells(body: &[u8], text: &str) -> bool
     requires { IsText body.now }
     ensures { result ≡ text_equal (chars text.now) (points_of body.now) }
 {
+    if !may_spell(body, text) {
+        return false;
+    }
     if is_plain(body) {
         return equal_bytes(body, text.as_bytes());
     }
@@ -148,6 +161,18 @@ pub fn scalar_count(body: &[u8]) -> u32
         at = end;
     }
     count as u32
+}
+
+/// The text that a body spells, where it has no escape: its own bytes, which are not copied.
+pub fn plain_text(body: &[u8]) -> Option<&str>
+    requires { IsText body.now }
+    ensures text { IfSome result (λ text. chars text.now ≡ points_of body.now) }
+    ensures escaped { IfNone result (ArePlain body.now 0 (length body.now) → ⊥) }
+{
+    if first_special(body, 0) < body.len() {
+        return None;
+    }
+    Some(unsafe { str::from_utf8_unchecked(body) })
 }
 
 /// The text that a body spells.

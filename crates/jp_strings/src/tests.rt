@@ -57,6 +57,16 @@ fn bodies_of_utf8_are_tested(rt: HostRuntime) {
 }
 
 #[test]
+fn plain_bodies_are_texts(rt: HostRuntime) -> Result<(), Fail> {
+    let (plain, escaped): (&[u8], &[u8]) = (b"ring twice \xc3\xa9", b"a\\u0062");
+    test_body(plain)?;
+    test_body(escaped)?;
+    assert_eq!(rt; plain_text(plain), Some("ring twice é"));
+    assert_eq!(rt; plain_text(escaped), None);
+    Ok(())
+}
+
+#[test]
 fn escapes_stand_anywhere(rt: HostRuntime) -> Result<(), Fail> {
     for size in [0usize, 63, 64, 65] {
         for place in 0..=size {

@@ -1,27 +1,12 @@
--- A spelled tree has at most as many nodes as bytes, and stands inside the line.
-use Rattle.std.proofs.Common.{ℕ, ◌+◌, ◌<◌, ◌≤◌, Bool, true, false, List, [], ◌∷◌, ◌++◌, length, arith, Option, Some, None}
+-- A spelled tree has two bytes at least to a node but one, and stands inside the line.
+use Rattle.std.proofs.Common.{ℕ, ◌+◌, ◌*◌, ◌<◌, ◌≤◌, true, false, List, ◌++◌, length, arith}
 use Rattle.jp_model.specs.declared.Span.{Span}
-use Rattle.jp_model.specs.Json.Numbers.{IsInt, minus_bytes, fraction_bytes, exponent_bytes}
-use Rattle.jp_model.specs.Json.Tree.{Tree, node, Value, null, boolean, number, string, container, Container, array, object, Children, no_child, child, Name, span}
-use Rattle.jp_model.specs.Json.Spelling.{Spells, SpellsValue, SpellsFirst, SpellsMore, SpellsLabel, Closes}
+use Rattle.jp_model.specs.Json.Numbers.{fraction_bytes, exponent_bytes}
+use Rattle.jp_model.specs.Json.Tree.{Tree, node, Value, null, boolean, number, string, container, Container, Children, no_child, child, span}
+use Rattle.jp_model.specs.Json.Spelling.{Spells, SpellsValue, SpellsFirst, SpellsMore, Closes}
 use Rattle.jp_model.proofs.Reader.Lexical.{reads_end}
+use Rattle.jp_model.proofs.Reader.Whole.{int_long, label_order}
 use Rattle.jp_tape.specs.Words.{node_count, value_node_count, children_node_count}
-
-int_long : (negative : Bool) (int rest : List ℕ) → IsInt int → 1 ≤ length (minus_bytes negative ++ (int ++ rest))
-int_long true int rest i = omega arith
-int_long false [] rest i = absurd i
-int_long false (d ∷ ds) rest i = omega arith
-
-label_order : (line : List ℕ) (kind : Container) (from value : ℕ) (name : Option Name) → SpellsLabel line kind from value name → from ≤ value
-label_order line array from value None h = omega (arith, h)
-label_order line array from value (Some name) h = absurd h
-label_order line object from value None h = absurd h
-label_order line object from value (Some name) h =
-    let a = h.body.order in
-    let b = h.behind_quote in
-    let c = h.colon.before.order in
-    let d = h.colon.after.order in
-    omega (arith, a, b, c, d)
 
 closes_order : (line : List ℕ) (kind : Container) (from to : ℕ) → Closes line kind from to → (from < to) × (to ≤ length line)
 closes_order line kind from to h =
@@ -31,11 +16,11 @@ closes_order line kind from to h =
     (omega (arith, a, b, c), omega (arith, a, b, c))
 
 mutual
-  -- each node takes a byte of its own
-  pub room : (line : List ℕ) (t : Tree) → Spells line t → (node_count t + (span t).start ≤ (span t).end) × ((span t).end ≤ length line)
+  -- a byte and a comma or a bracket
+  pub room : (line : List ℕ) (t : Tree) → Spells line t → (2 * node_count t + (span t).start ≤ (span t).end + 1) × ((span t).end ≤ length line)
   room line (node s v) h = value_room line v s h
 
-  value_room : (line : List ℕ) (v : Value) (s : Span) → SpellsValue line s v → (value_node_count v + s.start ≤ s.end) × (s.end ≤ length line)
+  value_room : (line : List ℕ) (v : Value) (s : Span) → SpellsValue line s v → (2 * value_node_count v + s.start ≤ s.end + 1) × (s.end ≤ length line)
   value_room line null s h = let e = reads_end line s.start s.end _ h in (omega (arith, e), h.within)
   value_room line (boolean true) s h = let e = reads_end line s.start s.end _ h in (omega (arith, e), h.within)
   value_room line (boolean false) s h = let e = reads_end line s.start s.end _ h in (omega (arith, e), h.within)
@@ -50,7 +35,7 @@ mutual
       (omega (arith, e, o, i), omega (arith, e, o, i))
   value_room line (container kind children) s h = let o = first_room line children kind (s.start + 1) s.end h.1 in (omega (arith, o), o.1)
 
-  first_room : (line : List ℕ) (c : Children) (kind : Container) (from to : ℕ) → SpellsFirst line kind from to c → (children_node_count c + from ≤ to) × (to ≤ length line)
+  first_room : (line : List ℕ) (c : Children) (kind : Container) (from to : ℕ) → SpellsFirst line kind from to c → (2 * children_node_count c + from ≤ to) × (to ≤ length line)
   first_room line no_child kind from to h = let o = closes_order line kind from to h in (omega (arith, o), o.1)
   first_room line (child name t more) kind from to h =
       let a = h.1.order in
@@ -59,7 +44,7 @@ mutual
       let d = more_room line more kind (span t).end to h.4 in
       (omega (arith, a, b, c, d), d.1)
 
-  more_room : (line : List ℕ) (c : Children) (kind : Container) (from to : ℕ) → SpellsMore line kind from to c → (children_node_count c + from ≤ to) × (to ≤ length line)
+  more_room : (line : List ℕ) (c : Children) (kind : Container) (from to : ℕ) → SpellsMore line kind from to c → (2 * children_node_count c + from < to) × (to ≤ length line)
   more_room line no_child kind from to h = let o = closes_order line kind from to h in (omega (arith, o), o.1)
   more_room line (child name t more) kind from to h =
       let a = h.1.before.order in

@@ -11,10 +11,12 @@ use Rattle.jp_model.specs.Json.Strings.{SpellsBody, has_lone_surrogate}
 use Rattle.jp_model.specs.Json.Spelling.{Spells, SpellsValue}
 use Rattle.jp_model.specs.Json.Faults.{has_surrogate, has_long_exponent}
 use Rattle.jp_model.specs.Rows.{source as source_of}
-use Rattle.jp_model.proofs.Json.Parts.{parts_read}
+use Rattle.jp_model.proofs.Reader.Numbers.{parts_read}
 use Rattle.jp_model.proofs.Reader.Lexical.{clash}
+use Rattle.jp_decimal.specs.declared.decimal.Decimal.{Decimal}
+use Rattle.jp_decimal.specs.Decimals.{number_of}
 use Rattle.jp_decimal.specs.Values.{Number}
-use Rattle.jp_decimal.specs.Reading.{ReadsAs, Refuses}
+use Rattle.jp_decimal.specs.Reading.{ReadsAs, RefusesNumber}
 use Rattle.jp_decimal.specs.declared.fault.NumberFault.{NumberFault}
 use Rattle.jp_decimal.specs.declared.fault.NumberFault.TheVariants.{Shape, Exponent}
 use Rattle.jp_strings.specs.Points.{IsText, points_of}
@@ -115,7 +117,7 @@ text_body line t k s whole_line e is at l w spells whole =
 -- the bytes are read, and as this
 pub record NumberIs (bytes : List ℕ) (x : Number) : Type 0 where
   pub value : (y : Number) → ReadsAs bytes y → y ≡ x
-  pub read : (fault : NumberFault) → Refuses bytes fault → ⊥
+  pub read : (fault : NumberFault) → RefusesNumber bytes fault → ⊥
 
 number_spelled : (line : List ℕ) (from to : ℕ) (m e : ℤ) → SpellsNumber line from to m e → is_long_exponent (numeral_of (bytes_between line from to)) ≡ false → NumberIs (bytes_between line from to) (record { mantissa = m; scale = e })
 number_spelled line from to m e s short =
@@ -126,7 +128,7 @@ number_spelled line from to m e s short =
         let same : r.numeral ≡ s.numeral = sym r.spells.only ∙ (ap numeral_of s.bytes.are ∙ parts_read s.numeral s.correct) in
         ap₂ (λ (a b : ℤ). record { mantissa = a; scale = b }) (sym r.is_mantissa ∙ (ap mantissa same ∙ s.is_mantissa)) (sym r.is_scale ∙ (ap scale same ∙ s.is_scale))
 
-    read : (fault : NumberFault) → Refuses (bytes_between line from to) fault → ⊥
+    read : (fault : NumberFault) → RefusesNumber (bytes_between line from to) fault → ⊥
     read Shape r = r s.numeral s.correct (sym s.bytes.are)
     read Exponent r = clash _ r.long (sym (ap is_long_exponent r.spells.only) ∙ short)
 
@@ -142,13 +144,13 @@ number_bytes line (node s v) m e h spells short = by v h spells short
         let same : (let x : Number = record { mantissa = n; scale = f } in x) ≡ record { mantissa = m; scale = e } = cc in
         subst (λ (x : Number). NumberIs (bytes_between line s.start s.end) x) same (number_spelled line s.start s.end n f spells short)
 
-pub number_read : (bytes : List ℕ) (x : Number) (r : Result Number NumberFault) → NumberIs bytes x → MatchResult r (ReadsAs bytes) (Refuses bytes) → result_ok r ≡ Some x
-number_read bytes x (Ok y) n m = ap (λ (z : Number). Some z) (n.value y m)
+pub number_read : (bytes : List ℕ) (x : Number) (r : Result Decimal NumberFault) → NumberIs bytes x → MatchResult r (λ y. ReadsAs bytes (number_of y)) (RefusesNumber bytes) → option_map number_of (result_ok r) ≡ Some x
+number_read bytes x (Ok y) n m = ap (λ (z : Number). Some z) (n.value (number_of y) m)
 number_read bytes x (Err f) n m = absurd (n.read f m)
 
 -- what a number's source is read as
-pub source_read : (line source : List ℕ) (t : Tree) (k : Kind) (r : Result Number NumberFault) → k ≡ kind_of (value_of t) → k ≡ kinds.Number → source ≡ source_of line t → Spells line t → has_long_exponent line t ≡ false → MatchResult r (ReadsAs source) (Refuses source) →
-    result_ok r ≡ number_in (value_of t)
+pub source_read : (line source : List ℕ) (t : Tree) (k : Kind) (r : Result Decimal NumberFault) → k ≡ kind_of (value_of t) → k ≡ kinds.Number → source ≡ source_of line t → Spells line t → has_long_exponent line t ≡ false → MatchResult r (λ y. ReadsAs source (number_of y)) (RefusesNumber source) →
+    option_map number_of (result_ok r) ≡ number_in (value_of t)
 source_read line source t k r e is s spells short m =
     let v = number_kind (value_of t) (sym e ∙ is) in
     let bytes = number_bytes line t v.0 v.1 v.2 spells short in

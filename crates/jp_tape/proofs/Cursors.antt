@@ -1,29 +1,24 @@
 -- What is so of every cursor.
-use Rattle.std.proofs.Common.{◌≡◌, ℕ, ◌+◌, ◌*◌, ◌<◌, ◌≤◌, ◌^◌, true, false, ◌==◌, inl, inr, List, [], ◌∷◌, ◌++◌, length, get_or, slice_get, slice_range, sym, ◌∙◌, ap, ap₂, subst, refl, arith, Option, Some, None}
+use Rattle.std.proofs.Common.{◌≡◌, ℕ, ◌+◌, ◌*◌, ◌<◌, ◌≤◌, ◌^◌, false, inl, inr, List, [], ◌∷◌, ◌++◌, length, get_or, slice_get, slice_range, sym, ◌∙◌, ap, ap₂, subst, refl, arith, Option, Some, None}
 use Rattle.std.specs.Prelude.{IfSome, option_map}
-use Rattle.std.proofs.lemmas.Bool.{ne_eqb, cases_lt}
+use Rattle.std.proofs.lemmas.Bool.{cases_lt}
 use Rattle.std.proofs.lemmas.Option.{slice_get_within}
-use Rattle.jp_model.specs.declared.Span.{Span}
 use Rattle.jp_model.specs.Steps.{Step}
-use Rattle.jp_model.specs.Json.Places.{byte_at}
 use Rattle.jp_model.specs.Json.Strings.{SpellsBody, has_lone_surrogate}
 use Rattle.jp_model.specs.Json.Faults.{name_has_lone_surrogate, has_surrogate, has_long_exponent, has_duplicate}
-use Rattle.jp_model.specs.Json.Tree.{Children, no_child, child, Name, span, value_of}
+use Rattle.jp_model.specs.Json.Tree.{no_child, child, Name, span, value_of}
 use Rattle.jp_model.specs.Json.Spelling.{Text}
-use Rattle.jp_model.specs.Json.Reader.{skip}
 use Rattle.jp_model.specs.Meaning.Nodes.{Node, root_node, step_to, children, subtree}
-use Rattle.jp_model.proofs.Reader.Lexical.{clash}
-use Rattle.jp_model.proofs.Reader.Scans.{skip_is}
 use Rattle.jp_tape.specs.declared.cursor.Cursor.{Cursor}
-use Rattle.jp_tape.specs.Words.{node_count, children_node_count, head_word, span_word, name_word, up_word, kind_code}
-use Rattle.jp_tape.specs.Spots.{Spot, spot_at, children_in, nodes_at, nodes_behind, last_step, name_points}
+use Rattle.jp_tape.specs.Words.{node_count, children_node_count, nodes_below, head_word, span_word, label_word, kind_code}
+use Rattle.jp_tape.specs.Spots.{Spot, root_spot, spot_at, children_in, nodes_at, nodes_behind, last_step, name_points}
 use Rattle.jp_tape.specs.Tapes.{spelled}
 use Rattle.jp_tape.specs.Cursors.{line_of, place_of, root_of, spot_of, node_of, name_of, up_of, index_of, nodes_after, children_after, nodes_from, children_from}
-use Rattle.jp_tape.proofs.Spots.{length-subtree, length-tape, head-at, span-at, name-at, up-at}
+use Rattle.jp_tape.proofs.Spots.{length-subtree, length-tape, head-at, span-at, label-at}
 use Rattle.jp_tape.proofs.Places as places
 use Rattle.jp_tape.proofs.Parents.{HasParent, has_parent}
 use Rattle.jp_tape.proofs.Bounds.{room}
-use Rattle.jp_tape.proofs.Stands.{Stands, stands, has_more, NameStands, last-push}
+use Rattle.jp_tape.proofs.Stands.{Stands, stands, NameStands, last-push}
 use Rattle.jp_tape.proofs.Sound.{Sound, sound_at}
 use Rattle.jp_tape.proofs.Trees.{spelled_text, count_short}
 
@@ -61,7 +56,7 @@ pub distinct : (c : Cursor) → has_duplicate (root_of c) ≡ false
 unfolding line_of
 distinct c = c.distinct
 
-pub few : (c : Cursor) → node_count (root_of c) ≤ length (line_of c)
+pub few : (c : Cursor) → 2 * node_count (root_of c) ≤ length (line_of c) + 1
 unfolding line_of
 few c = count_short c.line.now c.spelled_line
 
@@ -107,33 +102,50 @@ span_room c =
 
 -- ---- its words
 
-pub words_long : (c : Cursor) → place_of c * 4 + 3 < length c.words.now
+-- three for each node of the line
+pub words_counted : (c : Cursor) → length c.words.now ≡ length (subtree (root_node (root_of c))) * 3
 unfolding line_of
-words_long c =
+words_counted c =
     let a = ap length c.words_are in
     let b = length-tape (root_of c) in
-    let d = inside c in
+    let d = places.length-tree (root_of c) in
     omega (arith, a, b, d)
 
-pub head-of : (c : Cursor) (i : ℕ) → i ≡ place_of c * 4 → get_or c.words.now i 0 ≡ head_word (kind_code (value_of (node_of c).tree)) (place_of c + length (subtree (node_of c)))
+pub words_long : (c : Cursor) → place_of c * 3 + 2 < length c.words.now
+words_long c =
+    let a = words_counted c in
+    let b = within c in
+    omega (arith, a, b)
+
+pub head-of : (c : Cursor) (i : ℕ) → i ≡ place_of c * 3 → get_or c.words.now i 0 ≡ head_word (kind_code (value_of (node_of c).tree)) (nodes_below (value_of (node_of c).tree)) (up_of c)
 unfolding line_of
 head-of c i e =
     ap (λ w. get_or w i 0) c.words_are
-    ∙ (head-at (root_of c) (place_of c) i (inside c) e
-    ∙ (ap (λ (s : Spot). head_word (kind_code (value_of s.node.tree)) (place_of c + node_count s.node.tree)) (sym (spot-is c))
-    ∙ ap (λ n. head_word (kind_code (value_of (node_of c).tree)) (place_of c + n)) (sym (length-subtree (node_of c)))))
+    ∙ (head-at (root_of c) (place_of c) i (inside c) e ∙ ap (λ (s : Spot). head_word (kind_code (value_of s.node.tree)) (nodes_below (value_of s.node.tree)) s.up) (sym (spot-is c)))
 
-pub span-of : (c : Cursor) (i : ℕ) → i ≡ place_of c * 4 + 1 → get_or c.words.now i 0 ≡ span_word (span (node_of c).tree)
+pub span-of : (c : Cursor) (i : ℕ) → i ≡ place_of c * 3 + 1 → get_or c.words.now i 0 ≡ span_word (span (node_of c).tree)
 unfolding line_of
 span-of c i e = ap (λ w. get_or w i 0) c.words_are ∙ (span-at (root_of c) (place_of c) i (inside c) e ∙ ap (λ (s : Spot). span_word (span s.node.tree)) (sym (spot-is c)))
 
-pub name-of : (c : Cursor) (i : ℕ) → i ≡ place_of c * 4 + 2 → get_or c.words.now i 0 ≡ name_word (name_of c)
+pub label-of : (c : Cursor) (i : ℕ) → i ≡ place_of c * 3 + 2 → get_or c.words.now i 0 ≡ label_word (index_of c) (name_of c)
 unfolding line_of
-name-of c i e = ap (λ w. get_or w i 0) c.words_are ∙ (name-at (root_of c) (place_of c) i (inside c) e ∙ ap (λ (s : Spot). name_word s.name) (sym (spot-is c)))
+label-of c i e = ap (λ w. get_or w i 0) c.words_are ∙ (label-at (root_of c) (place_of c) i (inside c) e ∙ ap (λ (s : Spot). label_word s.index s.name) (sym (spot-is c)))
 
-pub up-of : (c : Cursor) (i : ℕ) → i ≡ place_of c * 4 + 3 → get_or c.words.now i 0 ≡ up_word (up_of c) (index_of c)
-unfolding line_of
-up-of c i e = ap (λ w. get_or w i 0) c.words_are ∙ (up-at (root_of c) (place_of c) i (inside c) e ∙ ap (λ (s : Spot). up_word s.up s.index) (sym (spot-is c)))
+-- how many nodes stand below it
+pub after_is : (c : Cursor) → place_of c + 1 + nodes_below (value_of (node_of c).tree) ≡ place_of c + length (subtree (node_of c))
+after_is c =
+    let a = length-subtree (node_of c) in
+    let b = places.count-below (node_of c).tree in
+    omega (arith, a, b)
+
+pub below_short : (c : Cursor) → nodes_below (value_of (node_of c).tree) < 2 ^ 31
+below_short c =
+    let a = after_is c in
+    let b = after_within c in
+    let d = places.length-tree (root_of c) in
+    let e = few c in
+    let f = short c in
+    omega (arith, a, b, d, e, f)
 
 -- ---- its name
 
@@ -158,28 +170,32 @@ name_whole c = whole_points (name_of c) (sound c).name
 pub step_named : (c : Cursor) → option_map (λ (n : Name). n.points) (name_of c) ≡ name_points (last_step (node_of c).location)
 step_named c = name_steps (line_of c) (name_of c) (node_of c).location (standing c).name
 
-nameless : (line : List ℕ) (name : Option Name) (location : List Step) → NameStands line name location → name_word name ≡ 0 → name ≡ None
+nameless : (line : List ℕ) (index : ℕ) (name : Option Name) (location : List Step) → NameStands line name location → label_word index name < 2 ^ 32 → name ≡ None
 unfolding span_word
-nameless line None location s h = refl
-nameless line (Some n) location s h = let b = s.2.behind_quote in absurd (omega (arith, b, h))
+nameless line index None location s h = refl
+nameless line index (Some n) location s h = let b = s.2.behind_quote in absurd (omega (arith, b, h))
 
-pub no_name : (c : Cursor) (word : ℕ) → word ≡ name_word (name_of c) → word ≡ 0 → name_of c ≡ None
-no_name c word e z = nameless (line_of c) (name_of c) (node_of c).location (standing c).name (sym e ∙ z)
+pub no_name : (c : Cursor) (word : ℕ) → word ≡ label_word (index_of c) (name_of c) → word < 2 ^ 32 → name_of c ≡ None
+no_name c word e l = nameless (line_of c) (index_of c) (name_of c) (node_of c).location (standing c).name (omega (arith, e, l))
 
--- a word that is not 0 packs the body of a name
-pub record IsNamed (line : List ℕ) (name : Option Name) : Type 0 where
+-- a word in whose place no index fits packs the body of a name
+pub record IsNamed (line : List ℕ) (index : ℕ) (name : Option Name) : Type 0 where
   pub own : Name
   pub is : name ≡ Some own
-  pub packed : name_word name ≡ span_word own.body
+  pub packed : label_word index name ≡ span_word own.body
   pub order : own.body.start ≤ own.body.end
   pub inside : own.body.end < length line
 
-named : (line : List ℕ) (name : Option Name) (location : List Step) → NameStands line name location → (name_word name ≡ 0 → ⊥) → IsNamed line name
-named line None location s h = absurd (h refl)
-named line (Some n) location s h = record { own = n; is = refl; packed = refl; order = s.2.body.order; inside = s.2.closes.inside }
+named : (line : List ℕ) (index : ℕ) (name : Option Name) (location : List Step) → NameStands line name location → index < label_word index name → IsNamed line index name
+named line index None location s h = absurd (omega (arith, h))
+named line index (Some n) location s h = record { own = n; is = refl; packed = refl; order = s.2.body.order; inside = s.2.closes.inside }
 
-pub has_name : (c : Cursor) (word : ℕ) → word ≡ name_word (name_of c) → (word ≡ 0 → ⊥) → IsNamed (line_of c) (name_of c)
-has_name c word e n = named (line_of c) (name_of c) (node_of c).location (standing c).name (λ z. n (e ∙ z))
+pub has_name : (c : Cursor) (word : ℕ) → word ≡ label_word (index_of c) (name_of c) → index_of c < word → IsNamed (line_of c) (index_of c) (name_of c)
+has_name c word e l = named (line_of c) (index_of c) (name_of c) (node_of c).location (standing c).name (omega (arith, e, l))
+
+-- the word of a node that has no name is its index
+pub index_is : (c : Cursor) (word : ℕ) → word ≡ label_word (index_of c) (name_of c) → word < 2 ^ 32 → word ≡ index_of c
+index_is c word e l = e ∙ ap (label_word (index_of c)) (no_name c word e l)
 
 -- ---- from one cursor to another
 
@@ -222,8 +238,27 @@ parent_is c p l e h =
 pub last_is : (c : Cursor) → 0 < place_of c → last_step (node_of c).location ≡ Some (step_to (index_of c) (name_of c))
 last_is c h = let r = parent_of c h in ap last_step r.location ∙ last-push (spot_at (root_of c) (up_of c)).node.location (step_to (index_of c) (name_of c))
 
-pub up_within : (c : Cursor) → 0 < place_of c → up_of c < length (subtree (root_node (root_of c)))
-up_within c h = let b = (parent_of c h).before in let w = within c in omega (arith, b, w)
+-- the root, as its own parent, has neither a name nor a sibling
+at_top : (c : Cursor) → place_of c ≡ 0 → spot_of c ≡ root_spot (root_of c)
+at_top c z = spot-is c ∙ ap (spot_at (root_of c)) z
+
+up_inside : (c : Cursor) → up_of c < node_count (root_of c)
+up_inside c =
+    let w = inside c in
+    elim (cases_lt 0 (place_of c)) [
+      | inl lt ↦ (let b = (parent_of c lt).before in omega (arith, b, w))
+      | inr le ↦ (let e = ap (λ (s : Spot). s.up) (at_top c (omega (arith, le))) in omega (arith, e, w))
+    ]
+
+pub up_within : (c : Cursor) → up_of c < length (subtree (root_node (root_of c)))
+up_within c = let a = up_inside c in let b = places.length-tree (root_of c) in omega (arith, a, b)
+
+pub up_short : (c : Cursor) → up_of c < 2 ^ 31
+up_short c =
+    let a = up_inside c in
+    let b = few c in
+    let d = short c in
+    omega (arith, a, b, d)
 
 pub index_short : (c : Cursor) → index_of c < 2 ^ 32
 index_short c =
@@ -243,21 +278,35 @@ index_short c =
           omega (arith, n, l, i, k, m, s, a)
           )
       | inr le ↦ (
-          let z : place_of c ≡ 0 = omega (arith, le) in
-          let e : index_of c ≡ 0 = ap (λ (s : Spot). s.index) (spot-is c) ∙ ap (λ (k : ℕ). (spot_at (root_of c) k).index) z in
+          let e : index_of c ≡ 0 = ap (λ (s : Spot). s.index) (at_top c (omega (arith, le))) in
           omega (arith, e)
           )
     ]
 
-some_more : (behind : Children) → has_more behind ≡ true → 0 < children_node_count behind
-some_more no_child h = absurd (clash false h refl)
-some_more (child name t more) h = let s = places.some_node t in omega (arith, s)
+-- a member is not the root
+pub member_below : (c : Cursor) → IsNamed (line_of c) (index_of c) (name_of c) → 0 < place_of c
+member_below c n =
+    elim (cases_lt 0 (place_of c)) [
+      | inl lt ↦ lt
+      | inr le ↦ (let e : None ≡ Some n.own = sym (ap (λ (s : Spot). s.name) (at_top c (omega (arith, le)))) ∙ n.is in absurd (cc))
+    ]
 
-more_at : (c : Cursor) → has_more (spot_of c).behind ≡ true → 0 < children_node_count (spot_at (root_of c) (place_of c)).behind
-more_at c h = some_more _ (subst (λ (s : Spot). has_more s.behind ≡ true) (spot-is c) h)
+-- how many siblings it has, by a cursor at its parent's place
+pub siblings : (c p : Cursor) → line_of p ≡ line_of c → place_of p ≡ up_of c → 0 < place_of c → length (children (node_of p)) ≡ index_of c + length (nodes_from (Some c))
+siblings c p l e h =
+    let at : spot_of p ≡ spot_at (root_of c) (up_of c) = spot-is p ∙ ap₂ (λ (x : List ℕ) (n : ℕ). spot_at (spelled x) n) l e in
+    ap (λ (s : Spot). length (children s.node)) at ∙ (parent_of c h).siblings
 
--- where a sibling follows
-pub next_place : (c : Cursor) → has_more (spot_of c).behind ≡ true → place_of c + length (subtree (node_of c)) < length (subtree (root_node (root_of c)))
+-- ---- the next sibling
+
+none_at : (c : Cursor) → children_node_count (children_after c) ≡ 0 → (spot_at (root_of c) (place_of c)).behind ≡ no_child
+none_at c h = ap (λ (s : Spot). s.behind) (sym (spot-is c)) ∙ places.no_more (children_after c) h
+
+more_at : (c : Cursor) → 0 < children_node_count (children_after c) → 0 < children_node_count (spot_at (root_of c) (place_of c)).behind
+more_at c h = subst (λ (s : Spot). 0 < children_node_count s.behind) (spot-is c) h
+
+-- it stands behind the subtree
+pub next_place : (c : Cursor) → 0 < children_node_count (children_after c) → place_of c + length (subtree (node_of c)) < length (subtree (root_node (root_of c)))
 next_place c h =
     let found = places.next_sibling (root_of c) (place_of c) (inside c) (more_at c h) in
     let n = ap (λ (s : Spot). length (subtree s.node)) (spot-is c) in
@@ -265,42 +314,60 @@ next_place c h =
     let f = found.0 in
     omega (arith, f, n, b)
 
-pub next_sibling : (c d : Cursor) → line_of d ≡ line_of c → place_of d ≡ place_of c + length (subtree (node_of c)) → has_more (spot_of c).behind ≡ true →
-    (nodes_from (Some d) ≡ nodes_after c) × (children_from (Some d) ≡ children_after c)
+-- the spot of a cursor at that place
+spot_behind : (c d : Cursor) → line_of d ≡ line_of c → place_of d ≡ place_of c + length (subtree (node_of c)) → spot_of d ≡ spot_at (root_of c) (place_of c + length (subtree (spot_at (root_of c) (place_of c)).node))
+spot_behind c d l p =
+    let q : place_of d ≡ place_of c + length (subtree (spot_at (root_of c) (place_of c)).node) = p ∙ ap (λ (s : Spot). place_of c + length (subtree s.node)) (spot-is c) in
+    spot-is d ∙ ap₂ (λ (x : List ℕ) (n : ℕ). spot_at (spelled x) n) l q
+
+pub next_sibling : (c d : Cursor) → line_of d ≡ line_of c → place_of d ≡ place_of c + length (subtree (node_of c)) → 0 < children_node_count (children_after c) →
+    (nodes_from (Some d) ≡ nodes_after c) × (children_from (Some d) ≡ children_after c) × (up_of d ≡ up_of c)
 next_sibling c d l p h =
     let e = spot-is c in
-    let q : place_of d ≡ place_of c + length (subtree (spot_at (root_of c) (place_of c)).node) = p ∙ ap (λ (s : Spot). place_of c + length (subtree s.node)) e in
-    let at : spot_of d ≡ spot_at (root_of c) (place_of c + length (subtree (spot_at (root_of c) (place_of c)).node)) = spot-is d ∙ ap₂ (λ (x : List ℕ) (n : ℕ). spot_at (spelled x) n) l q in
+    let at = spot_behind c d l p in
     let found = places.next_sibling (root_of c) (place_of c) (inside c) (more_at c h) in (
       ap (λ (s : Spot). s.node ∷ nodes_behind s) at ∙ (found.1 ∙ ap nodes_behind (sym e)),
       ap (λ (s : Spot). child s.name s.node.tree s.behind) at ∙ (found.2 ∙ ap (λ (s : Spot). s.behind) (sym e)),
+      ap (λ (s : Spot). s.up) at ∙ (found.3 ∙ ap (λ (s : Spot). s.up) (sym e)),
     )
 
-none_behind : (behind : Children) → has_more behind ≡ false → behind ≡ no_child
-none_behind no_child h = refl
-none_behind (child name t more) h = absurd (clash true refl h)
+-- the node there has another parent where no sibling follows
+behind_last : (c d : Cursor) → line_of d ≡ line_of c → place_of d ≡ place_of c + length (subtree (node_of c)) → children_node_count (children_after c) ≡ 0 → up_of d < up_of c
+behind_last c d l p h =
+    let own = ap (λ (s : Spot). s.up) (spot-is c) in
+    let other = ap (λ (s : Spot). s.up) (spot_behind c d l p) in
+    let size = ap (λ (s : Spot). length (subtree s.node)) (spot-is c) in
+    let total = ap (λ (x : List ℕ). node_count (spelled x)) l in
+    let there = inside d in
+    let b = places.behind_last (root_of c) (place_of c) (inside c) (none_at c h) (omega (arith, there, total, p, size)) in
+    omega (arith, own, other, b)
 
-pub no_sibling : (c : Cursor) → has_more (spot_of c).behind ≡ false → (nodes_after c ≡ []) × (children_after c ≡ no_child)
+pub same_parent : (c d : Cursor) → line_of d ≡ line_of c → place_of d ≡ place_of c + length (subtree (node_of c)) → up_of d ≡ up_of c → 0 < children_node_count (children_after c)
+same_parent c d l p e =
+    elim (cases_lt 0 (children_node_count (children_after c))) [
+      | inl lt ↦ lt
+      | inr le ↦ (let b = behind_last c d l p (omega (arith, le)) in absurd (omega (arith, b, e)))
+    ]
+
+pub other_parent : (c d : Cursor) → line_of d ≡ line_of c → place_of d ≡ place_of c + length (subtree (node_of c)) → (up_of d ≡ up_of c → ⊥) → children_node_count (children_after c) ≡ 0
+other_parent c d l p n =
+    elim (cases_lt 0 (children_node_count (children_after c))) [
+      | inl lt ↦ absurd (n (next_sibling c d l p lt).2)
+      | inr le ↦ omega (arith, le)
+    ]
+
+pub at_end : (c : Cursor) → length (subtree (root_node (root_of c))) ≤ place_of c + length (subtree (node_of c)) → children_node_count (children_after c) ≡ 0
+at_end c h =
+    elim (cases_lt 0 (children_node_count (children_after c))) [
+      | inl lt ↦ (let l = next_place c lt in absurd (omega (arith, h, l)))
+      | inr le ↦ omega (arith, le)
+    ]
+
+pub no_sibling : (c : Cursor) → children_node_count (children_after c) ≡ 0 → (nodes_after c ≡ []) × (children_after c ≡ no_child)
 no_sibling c h =
     let s : Spot = spot_of c in
-    let e : s.behind ≡ no_child = none_behind s.behind h in
+    let e : s.behind ≡ no_child = places.no_more s.behind h in
     (ap (nodes_at s.parent (s.index + 1)) e, e)
-
--- behind white space stands a comma exactly where a sibling follows
-pub comma : (c : Cursor) → (byte_at (line_of c) (skip (line_of c) (span (node_of c).tree).end) == 0x2C) ≡ has_more (spot_of c).behind
-comma c =
-    let f = (standing c).follows in
-    ap (λ i. byte_at (line_of c) i == 0x2C) (skip_is (line_of c) (span (node_of c).tree).end f.place f.white f.stops) ∙ f.is
-
-comma_at : (c : Cursor) (line : List ℕ) (s : Span) (i : ℕ) → line ≡ line_of c → s ≡ span (node_of c).tree → i ≡ skip line s.end → (byte_at line i == 0x2C) ≡ has_more (spot_of c).behind
-comma_at c line s i l e at =
-    ap₂ (λ (x : List ℕ) (n : ℕ). byte_at x n == 0x2C) l (at ∙ ap₂ (λ (x : List ℕ) (y : Span). skip x y.end) l e) ∙ comma c
-
-pub comma_shows : (c : Cursor) (line : List ℕ) (s : Span) (i : ℕ) → line ≡ line_of c → s ≡ span (node_of c).tree → i ≡ skip line s.end → byte_at line i ≡ 0x2C → has_more (spot_of c).behind ≡ true
-comma_shows c line s i l e at b = sym (comma_at c line s i l e at) ∙ ap (λ x. x == 0x2C) b
-
-pub no_comma_shows : (c : Cursor) (line : List ℕ) (s : Span) (i : ℕ) → line ≡ line_of c → s ≡ span (node_of c).tree → i ≡ skip line s.end → (byte_at line i ≡ 0x2C → ⊥) → has_more (spot_of c).behind ≡ false
-no_comma_shows c line s i l e at n = sym (comma_at c line s i l e at) ∙ ne_eqb _ _ n
 
 pub children_few : (c : Cursor) → length (children (node_of c)) < 2 ^ 32
 children_few c =

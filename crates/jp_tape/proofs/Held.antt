@@ -1,11 +1,11 @@
 -- What the builder holds is that of the state.
 use Rattle.std.proofs.Common.{◌≡◌, ℕ, suc, ◌+◌, ◌-◌, ◌*◌, ◌/◌, ◌<◌, ◌≤◌, max, Bool, true, false, ◌||◌, List, [], ◌∷◌, ◌++◌, length, set, take, get_or, sym, ◌∙◌, ap, ap₂, refl, arith, Option, Some, None, append_assoc, append-nil, add-zero, add_assoc, length-append, get_or-append-add, true≢false}
 use Rattle.std.proofs.Math.Seq.{take-append_seam}
-use Rattle.jp_model.specs.Json.Tree.{Tree, node, Value, null, boolean, number, string, container, Children, no_child, child, Name, count_children}
+use Rattle.jp_model.specs.Json.Tree.{Tree, node, Value, null, boolean, number, string, container, Children, no_child, child, Name, count_children, joined}
 use Rattle.jp_model.specs.Json.Faults.{depth, greatest_depth, name_has_lone_surrogate, has_surrogate, children_have_surrogate, has_long_exponent, children_have_long_exponent, name_points, names, has_duplicate, children_have_duplicate}
 use Rattle.jp_tape.specs.declared.builder.machine.Open.{Open}
-use Rattle.jp_tape.specs.Words.{node_count, value_node_count, children_node_count, name_word, up_word, words_from, words_below, children_words}
-use Rattle.jp_tape.specs.Machine.{joined, Frame, open_count, open_words, open_names, opens, open_of, next_parent, next_index, next_up, open_depth, open_surrogate, open_long, open_duplicate}
+use Rattle.jp_tape.specs.Words.{node_count, value_node_count, children_node_count, label_word, words_from, words_below, children_words}
+use Rattle.jp_tape.specs.Machine.{Frame, open_count, open_words, open_names, opens, open_of, next_parent, next_index, next_above, open_depth, open_surrogate, open_long, open_duplicate}
 
 -- ---- tests
 
@@ -35,17 +35,17 @@ right_false false b h = h
 -- ---- words
 
 mutual
-  pub length_words : (place parent index : ℕ) (own : Option Name) (t : Tree) → length (words_from place parent index own t) ≡ 4 * node_count t
+  pub length_words : (place parent index : ℕ) (own : Option Name) (t : Tree) → length (words_from place parent index own t) ≡ 3 * node_count t
   length_words place parent index own (node s v) = length_below place v
 
-  length_below : (place : ℕ) (v : Value) → suc (suc (suc (suc (length (words_below place v))))) ≡ 4 * value_node_count v
+  length_below : (place : ℕ) (v : Value) → suc (suc (suc (length (words_below place v)))) ≡ 3 * value_node_count v
   length_below place null = refl
   length_below place (boolean b) = refl
   length_below place (number m e) = refl
   length_below place (string points) = refl
   length_below place (container kind children) = let e = length_children (place + 1) place 0 children in omega (arith, e)
 
-  pub length_children : (place parent index : ℕ) (children : Children) → length (children_words place parent index children) ≡ 4 * children_node_count children
+  pub length_children : (place parent index : ℕ) (children : Children) → length (children_words place parent index children) ≡ 3 * children_node_count children
   length_children place parent index no_child = refl
   length_children place parent index (child own t more) =
       let l = length-append (words_from place parent index own t) (children_words (place + node_count t) parent (index + 1) more) in
@@ -75,21 +75,21 @@ grown_words place parent a own t =
     joined_words place parent 0 a (child own t no_child)
     ∙ (ap (λ i. front ++ children_words (place + children_node_count a) parent i (child own t no_child)) e ∙ ap (λ x. front ++ x) (append-nil _))
 
--- the fourth word of an open container
-abbrev pub own_up : List Frame → ℕ
-own_up frames = up_word (next_parent frames) (next_index frames)
+-- the third word of the next value
+abbrev pub next_label : List Frame → Option Name → ℕ
+next_label frames own = label_word (next_index frames) own
 
-pub open_length : (frames : List Frame) → length (open_words frames) ≡ 4 * open_count frames
+pub open_length : (frames : List Frame) → length (open_words frames) ≡ 3 * open_count frames
 open_length [] = refl
 open_length (f ∷ frames) =
     let e = length_children (open_count frames + 1) (open_count frames) 0 f.done in
     let i = open_length frames in
-    let l = length-append (open_words frames) (0 ∷ 0 ∷ name_word f.name ∷ own_up frames ∷ children_words (open_count frames + 1) (open_count frames) 0 f.done) in
+    let l = length-append (open_words frames) (0 ∷ 0 ∷ next_label frames f.name ∷ children_words (open_count frames + 1) (open_count frames) 0 f.done) in
     omega (arith, e, i, l)
 
 -- the words behind those of the outer containers
 abbrev pub inner_words : Frame → List Frame → Children → List ℕ
-inner_words f frames children = 0 ∷ 0 ∷ name_word f.name ∷ own_up frames ∷ children_words (open_count frames + 1) (open_count frames) 0 children
+inner_words f frames children = 0 ∷ 0 ∷ next_label frames f.name ∷ children_words (open_count frames + 1) (open_count frames) 0 children
 
 -- the words of the next value, a child of the innermost container
 abbrev pub next_words : List Frame → Option Name → Tree → List ℕ
@@ -99,10 +99,10 @@ pub grown_tail : (f : Frame) (frames : List Frame) (own : Option Name) (t : Tree
     open_words (f ∷ frames) ++ next_words (f ∷ frames) own t ≡ open_words frames ++ inner_words f frames (with_child f own t)
 grown_tail f frames own t =
     append_assoc (open_words frames) (inner_words f frames f.done) (next_words (f ∷ frames) own t)
-    ∙ ap (λ xs. open_words frames ++ 0 ∷ 0 ∷ name_word f.name ∷ own_up frames ∷ xs) (sym (grown_words (open_count frames + 1) (open_count frames) f.done own t))
+    ∙ ap (λ xs. open_words frames ++ 0 ∷ 0 ∷ next_label frames f.name ∷ xs) (sym (grown_words (open_count frames + 1) (open_count frames) f.done own t))
 
 pub grown_length : (f : Frame) (frames : List Frame) (own : Option Name) (t : Tree) →
-    length (open_words (f ∷ frames) ++ next_words (f ∷ frames) own t) ≡ 4 * (open_count frames + (1 + children_node_count (with_child f own t)))
+    length (open_words (f ∷ frames) ++ next_words (f ∷ frames) own t) ≡ 3 * (open_count frames + (1 + children_node_count (with_child f own t)))
 grown_length f frames own t =
     let e = ap (λ (xs : List ℕ). length xs) (grown_tail f frames own t) in
     let c = length_children (open_count frames + 1) (open_count frames) 0 (with_child f own t) in
@@ -110,15 +110,15 @@ grown_length f frames own t =
     let l = length-append (open_words frames) (inner_words f frames (with_child f own t)) in
     omega (arith, e, c, o, l)
 
-pub fourth : (n m : ℕ) → n ≡ 4 * m → n / 4 ≡ m
-fourth n m e = omega (arith, e)
+pub third : (n m : ℕ) → n ≡ 3 * m → n / 3 ≡ m
+third n m e = omega (arith, e)
 
 -- each child has a node
 children_few : (a : Children) → count_children a ≤ children_node_count a
 children_few no_child = omega arith
 children_few (child own (node s v) more) = let h = children_few more in let l = length_below 0 v in omega (arith, h, l)
 
-pub grown_few : (f : Frame) (frames : List Frame) (own : Option Name) (t : Tree) → 4 * (count_children f.done + 1) ≤ length (open_words (f ∷ frames) ++ next_words (f ∷ frames) own t)
+pub grown_few : (f : Frame) (frames : List Frame) (own : Option Name) (t : Tree) → 3 * (count_children f.done + 1) ≤ length (open_words (f ∷ frames) ++ next_words (f ∷ frames) own t)
 grown_few f frames own t =
     let h = children_few f.done in
     let o = open_length (f ∷ frames) in
@@ -130,26 +130,26 @@ pub joined_count : (a : Children) (own : Option Name) (t : Tree) → count_child
 joined_count no_child own t = refl
 joined_count (child o u rest) own t = let h = joined_count rest own t in omega (arith, h)
 
--- the fourth word of the next value, by the innermost container, which is the last
-up_behind : (os : List Open) (o : Open) → next_up (os ++ o ∷ []) ≡ up_word o.place o.children
-up_behind [] o = refl
-up_behind (p ∷ []) o = refl
-up_behind (p ∷ q ∷ os) o = up_behind (q ∷ os) o
+-- where the next value stands, by the innermost container, which is the last
+above_behind : (os : List Open) (o : Open) → next_above (os ++ o ∷ []) ≡ record { parent = o.place; index = o.children }
+above_behind [] o = refl
+above_behind (p ∷ []) o = refl
+above_behind (p ∷ q ∷ os) o = above_behind (q ∷ os) o
 
-pub up_of_frames : (frames : List Frame) → next_up (opens frames) ≡ own_up frames
-up_of_frames [] = refl
-up_of_frames (f ∷ frames) = up_behind (opens frames) (open_of f frames)
+pub above_of_frames : (frames : List Frame) → next_above (opens frames) ≡ record { parent = next_parent frames; index = next_index frames }
+above_of_frames [] = refl
+above_of_frames (f ∷ frames) = above_behind (opens frames) (open_of f frames)
 
-pub up_of_none : (os : List Open) → length os ≡ 0 → next_up os ≡ up_word 0 0
-up_of_none [] h = refl
-up_of_none (o ∷ os) h = absurd (omega (arith, h))
+pub above_of_none : (os : List Open) → length os ≡ 0 → next_above os ≡ record { parent = 0; index = 0 }
+above_of_none [] h = refl
+above_of_none (o ∷ os) h = absurd (omega (arith, h))
 
-pub up_of_last : (os : List Open) (o : Open) → 0 < length os → o ≡ get_or os (length os - 1) o → next_up os ≡ up_word o.place o.children
-up_of_last [] o l h = absurd (omega (arith, l))
-up_of_last (p ∷ []) o l h = ap (λ (x : Open). up_word x.place x.children) (sym h)
-up_of_last (p ∷ q ∷ os) o l h =
+pub above_of_last : (os : List Open) (o : Open) → 0 < length os → o ≡ get_or os (length os - 1) o → next_above os ≡ record { parent = o.place; index = o.children }
+above_of_last [] o l h = absurd (omega (arith, l))
+above_of_last (p ∷ []) o l h = ap (λ (x : Open). record { parent = x.place; index = x.children }) (sym h)
+above_of_last (p ∷ q ∷ os) o l h =
     let e : suc (suc (length os)) - 1 ≡ suc (suc (length os) - 1) = omega arith in
-    up_of_last (q ∷ os) o (omega arith) (h ∙ ap (λ n. get_or (p ∷ q ∷ os) n o) e)
+    above_of_last (q ∷ os) o (omega arith) (h ∙ ap (λ n. get_or (p ∷ q ∷ os) n o) e)
 
 -- ---- depths
 

@@ -102,7 +102,7 @@ labelled_bare line kind from r f old new e o i n w q d u l v =
     }
 
 -- the turn is behind where the label was read
-pub behind_label : (line : List ℕ) (at from : ℕ) (kind : Container) (turn : Turn) (old new : Builder) → Labelled line kind from turn old new → at < from → length old.words.items ≤ 4 * from → IsBehind line at turn new
+pub behind_label : (line : List ℕ) (at from : ℕ) (kind : Container) (turn : Turn) (old new : Builder) → Labelled line kind from turn old new → at < from → length old.words.items ≤ 3 * from → IsBehind line at turn new
 behind_label line at from kind turn old new l a w =
     let o = l.order in
     let i = l.within in

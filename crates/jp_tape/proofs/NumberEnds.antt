@@ -6,8 +6,7 @@ use Rattle.jp_model.specs.Characters.{is_digit}
 use Rattle.jp_model.specs.Json.Places.{byte_at, bytes_between}
 use Rattle.jp_model.specs.Json.Numbers.{Numeral, Exponent, Sign, no_sign, plus_sign, minus_sign, AreDigits, IsInt, IsNumeral, IsExponent, minus_bytes, fraction_bytes, sign_bytes, exponent_bytes, numeral_bytes, numeral_of, is_long_exponent, SpellsNumber, mantissa, scale}
 use Rattle.jp_model.proofs.Reader.Lexical.{clash, reads_end}
-use Rattle.jp_model.proofs.Reader.Numbers.{digit_in_number, int_digits, some_digits}
-use Rattle.jp_model.proofs.Json.Parts.{parts_read}
+use Rattle.jp_model.proofs.Reader.Numbers.{digit_in_number, int_digits, some_digits, parts_read}
 use Rattle.jp_tape.specs.Places.{in_number, Ended}
 
 pub byte_between : (line : List ℕ) (s e k : ℕ) → k < e - s → byte_at (bytes_between line s e) k ≡ byte_at line (s + k)

@@ -1,13 +1,13 @@
 -- Each node but the root is a child of the one at its parent's place.
-use Rattle.std.proofs.Common.{◌≡◌, ℕ, zero, suc, ◌+◌, ◌<◌, List, [], ◌∷◌, ◌++◌, length, drop, get_or, slice_get, sym, ◌∙◌, ap, subst, refl, arith, Some, append_assoc, append-nil, drop-drop, add-zero}
+use Rattle.std.proofs.Common.{◌≡◌, ℕ, zero, suc, ◌+◌, ◌<◌, List, [], ◌∷◌, ◌++◌, length, drop, get_or, slice_get, sym, ◌∙◌, ap, subst, refl, arith, Option, Some, append_assoc, append-nil, drop-drop, add-zero}
 use Rattle.std.specs.Prelude.{option_map}
-use Rattle.std.proofs.lemmas.List.{drop_at}
+use Rattle.std.proofs.lemmas.List.{drop_at, length-drop, length-map}
 use Rattle.std.proofs.lemmas.Option.{slice_get-map}
 use Rattle.jp_model.specs.Steps.{Step}
-use Rattle.jp_model.specs.Json.Tree.{Tree, node, null, boolean, number, string, container, Children, no_child, child, value_of}
+use Rattle.jp_model.specs.Json.Tree.{Tree, node, null, boolean, number, string, container, Children, no_child, child, Name, value_of}
 use Rattle.jp_model.specs.Meaning.Nodes.{Node, child_of, step_to, steps_from, steps_in, children}
 use Rattle.jp_tape.specs.Words.{node_count}
-use Rattle.jp_tape.specs.Spots.{Spot, child_spot, root_spot, spots_below, spots_from, spots, spot_at}
+use Rattle.jp_tape.specs.Spots.{Spot, child_spot, root_spot, spots_below, spots_from, spots, spot_at, nodes_at, nodes_behind}
 use Rattle.jp_tape.proofs.Spots.{length-below, spot-is}
 
 -- a spot at a place of a tree's, and the one at its parent's place
@@ -15,6 +15,7 @@ pub record HasParent (t : Tree) (place : ℕ) (s : Spot) : Type 0 where
   pub before : s.up < place
   pub location : s.node.location ≡ (spot_at t s.up).node.location ++ step_to s.index s.name ∷ []
   pub child : slice_get (children (spot_at t s.up).node) s.index ≡ Some s.node
+  pub siblings : length (children (spot_at t s.up).node) ≡ s.index + suc (length (nodes_behind s))
 
 -- the same of each of some spots, the first of which is at this place
 abbrev Each : Tree → ℕ → List Spot → Type 0
@@ -42,6 +43,15 @@ child_at : (n : Node) (index : ℕ) (step : Step) (u : Tree) (rest : List (Step 
 child_at n index step u rest e =
     slice_get-map (child_of n) (steps_in (value_of n.tree)) index
     ∙ ap (option_map (child_of n)) (first_behind (steps_in (value_of n.tree)) index (step, u) rest e)
+
+-- how many there are, by the first of those from an index on
+siblings_of : (n : Node) (index : ℕ) (name : Option Name) (u : Tree) (more : Children) → drop index (steps_in (value_of n.tree)) ≡ steps_from index (child name u more) → length (children n) ≡ index + suc (length (nodes_at n.location (index + 1) more))
+siblings_of n index name u more e =
+    let a = length-map (steps_in (value_of n.tree)) (child_of n) in
+    let b = length-drop index (steps_in (value_of n.tree)) in
+    let c = ap (λ (xs : List (Step × Tree)). length xs) e in
+    let d = length-map {B = Node} (steps_from (index + 1) more) (λ (p : Step × Tree). record { location = n.location ++ p.0 ∷ []; tree = p.1 }) in
+    omega (arith, a, b, c, d)
 
 mutual
   -- below a node that stands at this place of the tree
@@ -74,6 +84,7 @@ mutual
           before = l;
           location = ap (λ (x : Node). x.location ++ step_to index name ∷ []) (sym n);
           child = ap (λ (x : Node). slice_get (children x) index) n ∙ child_at parent index (step_to index name) u _ d;
+          siblings = ap (λ (x : Node). length (children x)) n ∙ siblings_of parent index name u more d;
         },
         each-append t (place + 1) inside others (below_parents t u s.node.location place (others ++ rest) (ap (λ (x : Spot). x.node) at) behind)
             (subst (λ k. Each t k others) (sym next) (from_parents t more parent up (index + 1) (place + node_count u) rest n steps later (omega (arith, l, counted)))),

@@ -6,9 +6,9 @@ use Rattle.std.specs.Prelude.{option_map}
 use Rattle.jp_model.specs.Steps.{Step}
 use Rattle.jp_model.specs.Json.Tree.{Tree, node, null, boolean, number, string, container, Children, no_child, child, value_of, count_children}
 use Rattle.jp_model.specs.Meaning.Nodes.{Node, root_node, children, steps_from, subtree}
-use Rattle.jp_tape.specs.Words.{node_count, children_node_count}
+use Rattle.jp_tape.specs.Words.{node_count, children_node_count, nodes_below}
 use Rattle.jp_tape.specs.Spots.{Spot, root_spot, spots_below, spots_from, spots, spot_at, children_in, nodes_at, nodes_behind}
-use Rattle.jp_tape.proofs.Spots.{length-below, length-from, length-spots, nodes-below, nodes-spots, length-subtree, children-nodes, sits_at, heads}
+use Rattle.jp_tape.proofs.Spots.{length-below, length-from, length-spots, nodes-below, nodes-spots, length-subtree, children-nodes, Climbs, sits_at, heads, climbs-at}
 
 -- a tree has at least its root
 pub some_node : (t : Tree) → 0 < node_count t
@@ -17,7 +17,7 @@ some_node t = let h = length-below [] 0 t in omega (arith, h)
 pub length-tree : (t : Tree) → length (subtree (root_node t)) ≡ node_count t
 length-tree t = length-subtree (root_node t)
 
-no_more : (children : Children) → children_node_count children ≡ 0 → children ≡ no_child
+pub no_more : (children : Children) → children_node_count children ≡ 0 → children ≡ no_child
 no_more no_child h = refl
 no_more (child name t more) h = let s = some_node t in absurd (omega (arith, s, h))
 
@@ -27,6 +27,13 @@ count-in (node s (boolean b)) = refl
 count-in (node s (number m e)) = refl
 count-in (node s (string points)) = refl
 count-in (node s (container kind children)) = refl
+
+pub count-below : (t : Tree) → node_count t ≡ 1 + nodes_below (value_of t)
+count-below (node s null) = refl
+count-below (node s (boolean b)) = refl
+count-below (node s (number m e)) = refl
+count-below (node s (string points)) = refl
+count-below (node s (container kind children)) = refl
 
 pub below-from : (location : List Step) (place : ℕ) (t : Tree) → spots_below location place t ≡ spots_from location place 0 (place + 1) (children_in (value_of t))
 below-from location place (node s null) = refl
@@ -120,21 +127,24 @@ no_first_child n h =
 
 behind_from : (t : Tree) (place : ℕ) (h : place < node_count t) →
     let s = spot_at t place in
-    (rest : List Spot) × (drop (place + length (subtree s.node)) (spots t) ≡ spots_from s.parent s.up (s.index + 1) (place + node_count s.node.tree) s.behind ++ rest)
+    (rest : List Spot) × (drop (place + length (subtree s.node)) (spots t) ≡ spots_from s.parent s.up (s.index + 1) (place + node_count s.node.tree) s.behind ++ rest) × Climbs s.up rest
 behind_from t place h =
     let s : Spot = spot_at t place in
     let r = sits_at t place h in
     let others : List Spot = spots_from s.parent s.up (s.index + 1) (place + node_count s.node.tree) s.behind ++ r.rest in
     let a = length-subtree s.node in
     let b = length-below s.node.location place s.node.tree in
-    let e : length (s ∷ spots_below s.node.location place s.node.tree) ≡ length (subtree s.node) = omega (arith, a, b) in
-    (r.rest, sym (drop-drop (length (subtree s.node)) place (spots t)) ∙ (ap (drop (length (subtree s.node))) r.from_here ∙ drop_at (s ∷ spots_below s.node.location place s.node.tree) others (length (subtree s.node)) e))
+    let e : length (s ∷ spots_below s.node.location place s.node.tree) ≡ length (subtree s.node) = omega (arith, a, b) in (
+      r.rest,
+      sym (drop-drop (length (subtree s.node)) place (spots t)) ∙ (ap (drop (length (subtree s.node))) r.from_here ∙ drop_at (s ∷ spots_below s.node.location place s.node.tree) others (length (subtree s.node)) e),
+      r.climbs,
+    )
 
 pub next_sibling : (t : Tree) (place : ℕ) → place < node_count t → 0 < children_node_count (spot_at t place).behind →
     let s = spot_at t place in
     let after = place + length (subtree s.node) in
     let c = spot_at t after in
-    (after < node_count t) × (c.node ∷ nodes_behind c ≡ nodes_behind s) × (child c.name c.node.tree c.behind ≡ s.behind)
+    (after < node_count t) × (c.node ∷ nodes_behind c ≡ nodes_behind s) × (child c.name c.node.tree c.behind ≡ s.behind) × (c.up ≡ s.up)
 next_sibling t place h more =
     let s : Spot = spot_at t place in
     let after : ℕ = place + length (subtree s.node) in
@@ -146,4 +156,15 @@ next_sibling t place h more =
     let d = length-append (spots_from s.parent s.up (s.index + 1) from s.behind) r.0 in
     let e = length-from s.parent s.up (s.index + 1) from s.behind in
     let found = heads t after s.parent s.up (s.index + 1) from s.behind r.0 r.1 more in
-    (omega (arith, a, b, c, d, e, more), found.0, found.1)
+    (omega (arith, a, b, c, d, e, more), found.0, found.1, found.2)
+
+-- the node behind the last of some siblings is a child of a node before their parent
+pub behind_last : (t : Tree) (place : ℕ) → place < node_count t → (spot_at t place).behind ≡ no_child →
+    let s = spot_at t place in
+    let after = place + length (subtree s.node) in
+    after < node_count t → (spot_at t after).up < s.up
+behind_last t place h none l =
+    let s : Spot = spot_at t place in
+    let after : ℕ = place + length (subtree s.node) in
+    let r = behind_from t place h in
+    climbs-at t after s.up r.0 (r.1 ∙ ap (λ x. spots_from s.parent s.up (s.index + 1) (place + node_count s.node.tree) x ++ r.0) none) l r.2

@@ -3,7 +3,7 @@ use Rattle.std.proofs.Common.{◌≡◌, ℕ, ◌+◌, List, [], ◌∷◌, leng
 use Rattle.jp_model.specs.declared.Span.{Span}
 use Rattle.jp_model.specs.Characters.{is_white}
 use Rattle.jp_model.specs.Json.Places.{byte_at, White, Has}
-use Rattle.jp_model.specs.Json.Tree.{Tree, node, container, Container, array, object, Children, no_child, child, Name, span}
+use Rattle.jp_model.specs.Json.Tree.{Tree, node, container, Container, array, object, Children, no_child, child, Name, span, joined}
 use Rattle.jp_model.specs.Json.Spelling.{Spells, SpellsValue, SpellsFirst, SpellsMore, SpellsLabel, opening, closing, Text}
 use Rattle.jp_model.specs.Json.Reader.{Bracket, lead_of}
 use Rattle.jp_model.proofs.Reader.Lexical.{white_unique, white_ended, end_ended, end_stops, more_ended, span_is, closing_stops, comma_no_closing}
@@ -12,7 +12,7 @@ use Rattle.jp_tape.specs.declared.builder.tokens.Label.{Label}
 use Rattle.jp_tape.specs.declared.builder.tokens.Scalar.{Scalar}
 use Rattle.jp_tape.specs.Places.{Ended, Stops}
 use Rattle.jp_tape.specs.Reading.{FoundScalar, NoValue, FoundLabel, NoLabel}
-use Rattle.jp_tape.specs.Machine.{joined, Frame, Value_at, After_value, Finished, Completes, CompletesAfter, Alike, IsStuck}
+use Rattle.jp_tape.specs.Machine.{Frame, Value_at, After_value, Finished, Completes, CompletesAfter, Alike, IsStuck}
 use Rattle.jp_tape.proofs.Scalars.{value_at}
 
 pub completes_ended : (line : List ℕ) (frames : List Frame) (own : Option Name) (t : Tree) (i : ℕ) (whole : Tree) → CompletesAfter line frames own t i whole → Ended line i

@@ -1,5 +1,5 @@
 -- The tree of a tape is the one that its line spells.
-use Rattle.std.proofs.Common.{◌≡◌, ℕ, ◌<◌, ◌≤◌, ◌^◌, true, false, List, length, sym, ◌∙◌, ap, refl, arith, Option, Some, None, unwrap_or}
+use Rattle.std.proofs.Common.{◌≡◌, ℕ, ◌+◌, ◌*◌, ◌<◌, ◌≤◌, ◌^◌, true, false, List, length, sym, ◌∙◌, ap, refl, arith, Option, Some, None, unwrap_or}
 use Rattle.std.specs.Option.{is_some}
 use Rattle.jp_model.specs.Json.Tree.{Tree, node, null}
 use Rattle.jp_model.specs.Json.Spelling.{Text}
@@ -40,6 +40,6 @@ tape_made words line t h w l whole distinct exponents =
       distinct = ap has_duplicate e ∙ distinct;
     }
 
--- a line of fewer than 2 ^ 32 bytes has fewer nodes
-pub count_short : (line : List ℕ) → is_spelled line ≡ true → node_count (spelled line) ≤ length line
+-- a line of fewer than 2 ^ 32 bytes has at most 2 ^ 31 nodes
+pub count_short : (line : List ℕ) → is_spelled line ≡ true → 2 * node_count (spelled line) ≤ length line + 1
 count_short line h = let r = room line (spelled line) (spelled_text line h).value in omega (arith, r)

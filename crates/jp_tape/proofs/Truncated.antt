@@ -1,5 +1,5 @@
 -- The first two words of a tape tell whether a text of a sequence may have lost its end.
-use Rattle.std.proofs.Common.{◌≡◌, ℕ, ◌+◌, ◌^◌, ◌%◌, ◌<◌, ◌≤◌, inl, inr, true, false, not, ◌&&◌, ◌==◌, nat_lt, List, length, drop, get_or, sym, ◌∙◌, ap, refl, arith, add-zero, length-drop, get_or-drop}
+use Rattle.std.proofs.Common.{◌≡◌, ℕ, ◌^◌, ◌%◌, ◌<◌, ◌≤◌, inl, inr, true, false, not, ◌&&◌, ◌==◌, nat_lt, List, length, drop, get_or, sym, ◌∙◌, ap, refl, arith, add-zero, length-drop, get_or-drop}
 use Rattle.std.specs.List.{list_any}
 use Rattle.std.proofs.lemmas.Bool.{cases_Bool, cases_lt, ltb-true, eq-eqb, ne_eqb}
 use Rattle.std.proofs.lemmas.List.Folds.{list_any_at}
@@ -12,25 +12,25 @@ use Rattle.jp_model.specs.Json.Tree.{Tree, node, Value, null, boolean, number, s
 use Rattle.jp_model.specs.Json.Faults.{has_open_end, is_truncated}
 use Rattle.jp_model.specs.Json.Spelling.{Text}
 use Rattle.jp_model.proofs.Reader.Lexical.{clash}
-use Rattle.jp_tape.specs.Words.{head_word, span_word, kind_code, value_node_count, tape_words}
+use Rattle.jp_tape.specs.Words.{head_word, span_word, kind_code, nodes_below, tape_words}
 
-open_below : (v : Value) (n : ℕ) → n ≡ 0 + value_node_count v → has_open_end v ≡ true → head_word (kind_code v) n < 2 ^ 58
+open_below : (v : Value) → has_open_end v ≡ true → head_word (kind_code v) (nodes_below v) 0 < 2 ^ 33
 unfolding head_word
-open_below null n e h = omega (arith, e)
-open_below (boolean true) n e h = omega (arith, e)
-open_below (boolean false) n e h = omega (arith, e)
-open_below (number m x) n e h = omega (arith, e)
-open_below (string points) n e h = absurd (clash false h refl)
-open_below (container kind children) n e h = absurd (clash false h refl)
+open_below null h = omega arith
+open_below (boolean true) h = omega arith
+open_below (boolean false) h = omega arith
+open_below (number m x) h = omega arith
+open_below (string points) h = absurd (clash false h refl)
+open_below (container kind children) h = absurd (clash false h refl)
 
-closed_above : (v : Value) (n : ℕ) → has_open_end v ≡ false → 2 ^ 58 ≤ head_word (kind_code v) n
+closed_above : (v : Value) → has_open_end v ≡ false → 2 ^ 33 ≤ head_word (kind_code v) (nodes_below v) 0
 unfolding head_word
-closed_above null n h = absurd (clash true refl h)
-closed_above (boolean b) n h = absurd (clash true refl h)
-closed_above (number m x) n h = absurd (clash true refl h)
-closed_above (string points) n h = omega arith
-closed_above (container array children) n h = omega arith
-closed_above (container object children) n h = omega arith
+closed_above null h = absurd (clash true refl h)
+closed_above (boolean b) h = absurd (clash true refl h)
+closed_above (number m x) h = absurd (clash true refl h)
+closed_above (string points) h = omega arith
+closed_above (container array children) h = omega arith
+closed_above (container object children) h = omega arith
 
 end_of_span : (s : Span) → s.end < 2 ^ 32 → span_word s % 2 ^ 32 ≡ s.end
 unfolding span_word
@@ -52,23 +52,23 @@ end_test line i w =
           )
     ]
 
-pub open_of_first : (v : Value) (words : List ℕ) (s : Span) → words ≡ tape_words (node s v) → get_or words 0 0 < 2 ^ 58 → has_open_end v ≡ true
+pub open_of_first : (v : Value) (words : List ℕ) (s : Span) → words ≡ tape_words (node s v) → get_or words 0 0 < 2 ^ 33 → has_open_end v ≡ true
 open_of_first v words s e l =
-    let w : get_or words 0 0 ≡ head_word (kind_code v) (0 + value_node_count v) = ap (λ (xs : List ℕ). get_or xs 0 0) e in
+    let w : get_or words 0 0 ≡ head_word (kind_code v) (nodes_below v) 0 = ap (λ (xs : List ℕ). get_or xs 0 0) e in
     elim (cases_Bool (has_open_end v)) [
       | inl t ↦ t
-      | inr f ↦ (let a = closed_above v (0 + value_node_count v) f in absurd (omega (arith, w, a, l)))
+      | inr f ↦ (let a = closed_above v f in absurd (omega (arith, w, a, l)))
     ]
 
-pub closed_of_first : (v : Value) (words : List ℕ) (s : Span) → words ≡ tape_words (node s v) → 2 ^ 58 ≤ get_or words 0 0 → has_open_end v ≡ false
+pub closed_of_first : (v : Value) (words : List ℕ) (s : Span) → words ≡ tape_words (node s v) → 2 ^ 33 ≤ get_or words 0 0 → has_open_end v ≡ false
 closed_of_first v words s e l =
-    let w : get_or words 0 0 ≡ head_word (kind_code v) (0 + value_node_count v) = ap (λ (xs : List ℕ). get_or xs 0 0) e in
+    let w : get_or words 0 0 ≡ head_word (kind_code v) (nodes_below v) 0 = ap (λ (xs : List ℕ). get_or xs 0 0) e in
     elim (cases_Bool (has_open_end v)) [
-      | inl t ↦ (let a = open_below v (0 + value_node_count v) refl t in absurd (omega (arith, w, a, l)))
+      | inl t ↦ (let a = open_below v t in absurd (omega (arith, w, a, l)))
       | inr f ↦ f
     ]
 
-pub truncated_open : (line words : List ℕ) (t : Tree) → Text line t → words ≡ tape_words t → length line < 2 ^ 32 → get_or words 0 0 < 2 ^ 58 → (get_or words 1 0 % 2 ^ 32 == length line) ≡ is_truncated framings.Sequence line t
+pub truncated_open : (line words : List ℕ) (t : Tree) → Text line t → words ≡ tape_words t → length line < 2 ^ 32 → get_or words 0 0 < 2 ^ 33 → (get_or words 1 0 % 2 ^ 32 == length line) ≡ is_truncated framings.Sequence line t
 truncated_open line words (node s v) h e room l =
     let w : get_or words 1 0 ≡ span_word s = ap (λ (xs : List ℕ). get_or xs 1 0) e in
     let o = h.after.order in
@@ -76,9 +76,9 @@ truncated_open line words (node s v) h e room l =
     ∙ (ap (λ n. n == length line) (end_of_span s (omega (arith, o, room)))
     ∙ (end_test line s.end h.after ∙ ap (λ b. b && not (list_any is_white (drop s.end line))) (sym (open_of_first v words s e l))))
 
-pub truncated_closed : (line words : List ℕ) (t : Tree) → words ≡ tape_words t → 2 ^ 58 ≤ get_or words 0 0 → nat_lt (get_or words 0 0) (2 ^ 58) ≡ is_truncated framings.Sequence line t
+pub truncated_closed : (line words : List ℕ) (t : Tree) → words ≡ tape_words t → 2 ^ 33 ≤ get_or words 0 0 → nat_lt (get_or words 0 0) (2 ^ 33) ≡ is_truncated framings.Sequence line t
 truncated_closed line words (node s v) e l =
-    elim (cases_Bool (nat_lt (get_or words 0 0) (2 ^ 58))) [
+    elim (cases_Bool (nat_lt (get_or words 0 0) (2 ^ 33))) [
       | inl t ↦ (let a = ltb-true _ _ t in absurd (omega (arith, a, l)))
       | inr f ↦ f ∙ ap (λ b. b && not (list_any is_white (drop s.end line))) (sym (closed_of_first v words s e l))
     ]

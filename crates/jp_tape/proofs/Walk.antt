@@ -8,13 +8,13 @@ use Rattle.jp_model.specs.Json.Places.{White, Has}
 use Rattle.jp_model.specs.Json.Tree.{Tree, node, container, Container, array, object, no_child, Name, count_children}
 use Rattle.jp_model.specs.Json.Faults.{depth, name_has_lone_surrogate, has_surrogate, has_long_exponent, name_points, names, has_repeated, has_duplicate, children_have_duplicate}
 use Rattle.jp_model.specs.Json.Spelling.{opening, closing}
+use Rattle.jp_tape.specs.declared.builder.machine.Above.{Above}
 use Rattle.jp_tape.specs.declared.builder.machine.Builder.{Builder}
 use Rattle.jp_tape.specs.declared.builder.machine.Open.{Open}
 use Rattle.jp_tape.specs.declared.builder.machine.Turn.{Turn}
 use Rattle.jp_tape.specs.declared.builder.machine.Turn.TheVariants as turns
 use Rattle.jp_tape.specs.declared.builder.tokens.Scalar.{Scalar}
 use Rattle.jp_model.proofs.Reader.Leads.{starts_inside}
-use Rattle.jp_tape.specs.declared.Kind.{Kind}
 use Rattle.jp_tape.specs.Names.{points, all_points}
 use Rattle.jp_tape.specs.declared.builder.body.Body.{Body}
 use Rattle.jp_tape.specs.Places.{Stops}
@@ -22,14 +22,14 @@ use Rattle.jp_tape.specs.Reading.{body_of, body_word, code_of, container_if, Fou
 use Rattle.jp_model.specs.declared.LineFault.TheVariants as line_faults
 use Rattle.jp_tape.specs.declared.builder.BuildFault.{BuildFault}
 use Rattle.jp_tape.specs.declared.builder.BuildFault.TheVariants as faults
-use Rattle.jp_tape.specs.Words.{name_word, children_words, children_node_count, head_word, span_word, container_code}
-use Rattle.jp_tape.specs.Machine.{Frame, State, Value_at, After_value, Finished, Alike, IsStuck, Keeps, Stands, GoesOn, Steps, NoStep, Labelled, IsCounted, IsClosed, IsInnermost, next_up, open_count, open_words, open_names, opens, open_of, open_depth, open_surrogate, open_long, open_duplicate, is_object}
+use Rattle.jp_tape.specs.Words.{kind_code, nodes_below, label_word, children_words, children_node_count, head_word, span_word, container_code}
+use Rattle.jp_tape.specs.Machine.{Frame, State, Value_at, After_value, Finished, Alike, IsStuck, Keeps, Stands, GoesOn, Steps, NoStep, Labelled, IsCounted, IsClosed, IsInnermost, next_above, next_parent, next_index, open_count, open_words, open_names, opens, open_of, open_depth, open_surrogate, open_long, open_duplicate, is_object}
 use Rattle.jp_tape.proofs.Steps.{scalar_step, no_value_step, empty_step, enter_step, enter_stuck, entered, comma_step, comma_stuck, close_step, neither_stuck, grown, end_step, no_end_stuck}
-use Rattle.jp_tape.proofs.Held.{or_false, or_swap, left_false, right_false, open_length, with_child, outer_names, own_up, next_words, grown_tail, grown_length, grown_few, joined_count, fourth, up_of_frames, snoc_front, last_of, front_of, flat_depth, root_depth, deeper, grown_depth, closed_depth, grown_surrogate, grown_long, grown_duplicate, grown_names}
+use Rattle.jp_tape.proofs.Held.{or_false, or_swap, left_false, right_false, open_length, with_child, outer_names, next_label, next_words, grown_tail, grown_length, grown_few, joined_count, third, above_of_frames, snoc_front, last_of, front_of, flat_depth, root_depth, deeper, grown_depth, closed_depth, grown_surrogate, grown_long, grown_duplicate, grown_names}
 
-word_of_body : (own : Option Name) → body_word (body_of own) ≡ name_word own
-word_of_body None = refl
-word_of_body (Some name) = refl
+word_of_body : (index : ℕ) (own : Option Name) → body_word index (body_of own) ≡ label_word index own
+word_of_body index None = refl
+word_of_body index (Some name) = refl
 
 -- a builder that keeps what is behind the names of open containers, in a state before a value
 abbrev KeepsBefore : List ℕ → Builder → List Frame → Option Name → Type 0
@@ -64,25 +64,33 @@ keeps_value line frames own t b new ws d lone long k w e f g h i = record {
   duplicate = λ z. w.duplicate ∙ (k.duplicate (left_false _ _ z) ∙ (sym (or_false _) ∙ ap (λ x. open_duplicate frames || x) (sym i)));
 }
 
-place_is : (line : List ℕ) (frames : List Frame) (own : Option Name) (b : Builder) → KeepsBefore line b frames own → length b.words.items / 4 ≡ open_count frames
-place_is line frames own b k = fourth _ _ (ap length k.words ∙ open_length frames)
+place_is : (line : List ℕ) (frames : List Frame) (own : Option Name) (b : Builder) → KeepsBefore line b frames own → length b.words.items / 3 ≡ open_count frames
+place_is line frames own b k = third _ _ (ap length k.words ∙ open_length frames)
 
-up_is : (line : List ℕ) (frames : List Frame) (own : Option Name) (b : Builder) → KeepsBefore line b frames own → next_up b.opened.items ≡ own_up frames
-up_is line frames own b k = ap next_up k.opened ∙ up_of_frames frames
+above_is : (line : List ℕ) (frames : List Frame) (own : Option Name) (b : Builder) → KeepsBefore line b frames own → next_above b.opened.items ≡ record { parent = next_parent frames; index = next_index frames }
+above_is line frames own b k = ap next_above k.opened ∙ above_of_frames frames
+
+-- where its parent is, and its third word
+parent_is : (line : List ℕ) (frames : List Frame) (own : Option Name) (b : Builder) → KeepsBefore line b frames own → (next_above b.opened.items).parent ≡ next_parent frames
+parent_is line frames own b k = ap (λ (a : Above). a.parent) (above_is line frames own b k)
+
+label_is : (line : List ℕ) (frames : List Frame) (own : Option Name) (b : Builder) (body : Option Span) → KeepsBefore line b frames own → body ≡ body_of own → body_word (next_above b.opened.items).index body ≡ next_label frames own
+label_is line frames own b body k e = ap₂ (λ (a : Above) (o : Option Span). body_word a.index o) (above_is line frames own b k) e ∙ word_of_body (next_index frames) own
 
 -- a scalar is read
 pub scalar_goes_on : (line : List ℕ) (at : ℕ) (body : Option Span) (b new : Builder) (r : Scalar) → FoundScalar line at r →
-    Written b new (head_word (code_of r.kind) (length b.words.items / 4 + 1) ∷ span_word (record { start = at; end = r.end }) ∷ body_word body ∷ next_up b.opened.items ∷ []) b.deepest r.is_lone r.is_long → Steps line (turns.Value body at) b (turns.After r.end) new
+    Written b new (head_word (code_of r.kind) 0 (next_above b.opened.items).parent ∷ span_word (record { start = at; end = r.end }) ∷ body_word (next_above b.opened.items).index body ∷ []) b.deepest r.is_lone r.is_long → Steps line (turns.Value body at) b (turns.After r.end) new
 scalar_goes_on line at body b new r s w (After_value frames own t from) h = absurd h
 scalar_goes_on line at body b new r s w (Finished t) h = absurd h
 scalar_goes_on line at body b new r s w (Value_at frames own from) h =
     let here : Span = record { start = at; end = r.end } in
     let t = node here s.value in
-    let place = place_is line frames own b h.3 in
-    let up = up_is line frames own b h.3 in
-    let one : head_word (code_of r.kind) (length b.words.items / 4 + 1) ∷ span_word here ∷ body_word body ∷ next_up b.opened.items ∷ [] ≡ next_words frames own t =
-    ap₂ (λ (x : ℕ) (xs : List ℕ). x ∷ span_word here ∷ xs) (ap₂ (λ x y. head_word x y) (sym s.is_kind) (ap₂ (λ (x y : ℕ). x + y) place (sym s.leaf)))
-    (ap₂ (λ (x : ℕ) (xs : List ℕ). x ∷ xs) (ap body_word h.0 ∙ word_of_body own) (ap₂ (λ (x : ℕ) (xs : List ℕ). x ∷ xs) up (sym (s.bare (open_count frames))))) in
+    let parent = parent_is line frames own b h.3 in
+    let label = label_is line frames own b body h.3 h.0 in
+    let head : head_word (code_of r.kind) 0 (next_above b.opened.items).parent ≡ head_word (kind_code s.value) (nodes_below s.value) (next_parent frames) =
+    ap₂ (λ x y. head_word x y (next_above b.opened.items).parent) (sym s.is_kind) (sym s.leaf) ∙ ap (head_word (kind_code s.value) (nodes_below s.value)) parent in
+    let one : head_word (code_of r.kind) 0 (next_above b.opened.items).parent ∷ span_word here ∷ body_word (next_above b.opened.items).index body ∷ [] ≡ next_words frames own t =
+    ap₂ (λ (x : ℕ) (xs : List ℕ). x ∷ span_word here ∷ xs) head (ap₂ (λ (x : ℕ) (xs : List ℕ). x ∷ xs) label (sym (s.bare (open_count frames)))) in
     record {
       next = After_value frames own t r.end;
       stands = (refl, h.2, keeps_value line frames own t b new _ _ _ _ h.3 w one (h.3.deepest ∙ flat_depth frames (depth t) s.flat) (sym s.surrogate) (sym s.exponent) s.duplicate);
@@ -96,15 +104,15 @@ no_value line at body b n (Value_at frames own from) h = no_value_step line fram
 
 -- an empty container is read
 pub empty_goes_on : (line : List ℕ) (at place : ℕ) (body : Option Span) (b new : Builder) (kind : Container) → Has line at (opening kind) → White line (at + 1) place → Has line place (closing kind) →
-    Written b new (head_word (container_code kind) (length b.words.items / 4 + 1) ∷ span_word (record { start = at; end = place + 1 }) ∷ body_word body ∷ next_up b.opened.items ∷ []) (max b.deepest (length b.opened.items + 1)) false false →
+    Written b new (head_word (container_code kind) 0 (next_above b.opened.items).parent ∷ span_word (record { start = at; end = place + 1 }) ∷ body_word (next_above b.opened.items).index body ∷ []) (max b.deepest (length b.opened.items + 1)) false false →
     Steps line (turns.Value body at) b (turns.After (place + 1)) new
 empty_goes_on line at place body b new kind o w c r (After_value frames own t from) h = absurd h
 empty_goes_on line at place body b new kind o w c r (Finished t) h = absurd h
 empty_goes_on line at place body b new kind o w c r (Value_at frames own from) h =
     let here : Span = record { start = at; end = place + 1 } in
     let t = node here (container kind no_child) in
-    let one : head_word (container_code kind) (length b.words.items / 4 + 1) ∷ span_word here ∷ body_word body ∷ next_up b.opened.items ∷ [] ≡ next_words frames own t =
-    ap₂ (λ (x : ℕ) (ys : List ℕ). head_word (container_code kind) (x + 1) ∷ span_word here ∷ ys) (place_is line frames own b h.3) (ap₂ (λ (y z : ℕ). y ∷ z ∷ []) (ap body_word h.0 ∙ word_of_body own) (up_is line frames own b h.3)) in
+    let one : head_word (container_code kind) 0 (next_above b.opened.items).parent ∷ span_word here ∷ body_word (next_above b.opened.items).index body ∷ [] ≡ next_words frames own t =
+    ap₂ (λ (x y : ℕ). head_word (container_code kind) 0 x ∷ span_word here ∷ y ∷ []) (parent_is line frames own b h.3) (label_is line frames own b body h.3 h.0) in
     record {
       next = After_value frames own t (place + 1);
       stands = (refl, h.2, keeps_value line frames own t b new _ _ _ _ h.3 r one (deeper frames b.deepest b.opened.items h.3.deepest h.3.opened) refl refl refl);
@@ -127,8 +135,8 @@ label_keeps line kind from turn old new l ws os d lone long ps dup k = record {
 
 -- a container with a child is entered
 pub record Entered (b mid : Builder) (at : ℕ) (body : Option Span) (kind : Container) : Type 0 where
-  pub words : mid.words.items ≡ b.words.items ++ 0 ∷ 0 ∷ body_word body ∷ next_up b.opened.items ∷ []
-  pub opened : mid.opened.items ≡ b.opened.items ++ record { place = length b.words.items / 4; start = at; children = 0; names = length b.names.items; is_object = is_object kind } ∷ []
+  pub words : mid.words.items ≡ b.words.items ++ 0 ∷ 0 ∷ body_word (next_above b.opened.items).index body ∷ []
+  pub opened : mid.opened.items ≡ b.opened.items ++ record { place = length b.words.items / 3; start = at; children = 0; names = length b.names.items; is_object = is_object kind } ∷ []
   pub names : mid.names.items ≡ b.names.items
   pub deepest : mid.deepest ≡ max b.deepest (length b.opened.items + 1)
   pub surrogate : mid.has_surrogate ≡ b.has_surrogate
@@ -139,10 +147,10 @@ keeps_entered : (line : List ℕ) (frames : List Frame) (own : Option Name) (b m
     Keeps mid (open_words (entered kind at own ∷ frames)) (opens (entered kind at own ∷ frames)) (open_depth (entered kind at own ∷ frames)) (open_surrogate (entered kind at own ∷ frames)) (open_long line (entered kind at own ∷ frames)) (open_names (entered kind at own ∷ frames))
     (open_duplicate (entered kind at own ∷ frames))
 keeps_entered line frames own b mid at body kind k n e =
-    let one : record { place = length b.words.items / 4; start = at; children = 0; names = length b.names.items; is_object = is_object kind } ≡ open_of (entered kind at own) frames =
+    let one : record { place = length b.words.items / 3; start = at; children = 0; names = length b.names.items; is_object = is_object kind } ≡ open_of (entered kind at own) frames =
     ap₂ (λ (x y : ℕ). record { place = x; start = at; children = 0; names = y; is_object = is_object kind }) (place_is line frames own b k) k.count in
     record {
-      words = e.words ∙ ap₂ (λ (xs ys : List ℕ). xs ++ 0 ∷ 0 ∷ ys) k.words (ap₂ (λ (x y : ℕ). x ∷ y ∷ []) (ap body_word n ∙ word_of_body own) (up_is line frames own b k));
+      words = e.words ∙ ap₂ (λ (xs ys : List ℕ). xs ++ 0 ∷ 0 ∷ ys) k.words (ap (λ (x : ℕ). x ∷ []) (label_is line frames own b body k n));
       opened = e.opened ∙ ap₂ (λ (xs : List Open) (x : Open). xs ++ x ∷ []) k.opened one;
       deepest = e.deepest ∙ (deeper frames b.deepest b.opened.items k.deepest k.opened ∙ ap (λ x. max (open_depth frames) x) (sym (add-zero (length frames + 1))));
       surrogate = e.surrogate ∙ (k.surrogate ∙ sym (or_false _));
@@ -187,7 +195,7 @@ is_innermost line at b o l e (After_value [] own t from) h = let z : length b.op
 is_innermost line at b o l e (After_value (f ∷ frames) own t from) h = e ∙ (ap (λ (xs : List Open). get_or xs (length xs - 1) o) h.2.opened ∙ last_of (opens frames) (open_of f frames) o)
 
 -- where its node stands, and its names
-pub innermost_place : (line : List ℕ) (at : ℕ) (b : Builder) (o : Open) (x : State) → Stands line (turns.After at) b x → IsInnermost o x → 4 * o.place + 1 < length b.words.items
+pub innermost_place : (line : List ℕ) (at : ℕ) (b : Builder) (o : Open) (x : State) → Stands line (turns.After at) b x → IsInnermost o x → 3 * o.place + 2 < length b.words.items
 innermost_place line at b o (Value_at frames own from) h i = absurd h
 innermost_place line at b o (Finished t) h i = absurd h
 innermost_place line at b o (After_value [] own t from) h i = absurd i
@@ -207,7 +215,7 @@ innermost_names line at b o (After_value (f ∷ frames) own t from) h i =
     omega (arith, p, n, l)
 
 -- how many children it has
-pub innermost_children : (line : List ℕ) (at : ℕ) (b : Builder) (o : Open) (x : State) → Stands line (turns.After at) b x → IsInnermost o x → 4 * (o.children + 1) ≤ length b.words.items
+pub innermost_children : (line : List ℕ) (at : ℕ) (b : Builder) (o : Open) (x : State) → Stands line (turns.After at) b x → IsInnermost o x → 3 * (o.children + 1) ≤ length b.words.items
 innermost_children line at b o (Value_at frames own from) h i = absurd h
 innermost_children line at b o (Finished t) h i = absurd h
 innermost_children line at b o (After_value [] own t from) h i = absurd i
@@ -282,18 +290,27 @@ set_two front rest h s x y =
     ap (λ (xs : List ℕ). set xs (length front + 1) s) (set-append_seam front x (y ∷ rest) h ∙ sym (append_assoc front (h ∷ []) (y ∷ rest)))
     ∙ (ap (λ n. set ((front ++ h ∷ []) ++ y ∷ rest) n s) l ∙ (set-append_seam (front ++ h ∷ []) y rest s ∙ append_assoc front (h ∷ []) (s ∷ rest)))
 
-closed_words : (f : Frame) (frames : List Frame) (own : Option Name) (t : Tree) (o : Open) (end : ℕ) (old new : List ℕ) → old ≡ open_words (f ∷ frames) ++ next_words (f ∷ frames) own t → o ≡ open_of f frames →
-    new ≡ set (set old (4 * o.place) (head_word (container_code (container_if o.is_object)) (length old / 4))) (4 * o.place + 1) (span_word (record { start = o.start; end = end })) →
+-- the first word of a container that is closed
+closed_head : (f : Frame) (frames : List Frame) (own : Option Name) (t : Tree) (o : Open) (old : List ℕ) (os : List Open) → old ≡ open_words (f ∷ frames) ++ next_words (f ∷ frames) own t → o ≡ open_of f frames → os ≡ opens frames →
+    head_word (container_code (container_if o.is_object)) (length old / 3 - o.place - 1) (next_above os).parent ≡ head_word (container_code f.kind) (children_node_count (with_child f own t)) (next_parent frames)
+closed_head f frames own t o old os e i p =
+    let count : length old / 3 ≡ open_count frames + (1 + children_node_count (with_child f own t)) = third (length old) _ (ap length e ∙ grown_length f frames own t) in
+    let place : o.place ≡ open_count frames = ap (λ (y : Open). y.place) i in
+    let below : length old / 3 - o.place - 1 ≡ children_node_count (with_child f own t) = omega (arith, count, place) in
+    let parent : (next_above os).parent ≡ next_parent frames = ap (λ (xs : List Open). (next_above xs).parent) p ∙ ap (λ (a : Above). a.parent) (above_of_frames frames) in
+    ap₂ (λ (k : Container) (q : ℕ × ℕ). head_word (container_code k) q.0 q.1) (innermost_kind o f frames i) (ap₂ (λ (x y : ℕ). (x, y)) below parent)
+
+closed_words : (f : Frame) (frames : List Frame) (own : Option Name) (t : Tree) (o : Open) (end : ℕ) (old new : List ℕ) (os : List Open) → old ≡ open_words (f ∷ frames) ++ next_words (f ∷ frames) own t → o ≡ open_of f frames → os ≡ opens frames →
+    new ≡ set (set old (3 * o.place) (head_word (container_code (container_if o.is_object)) (length old / 3 - o.place - 1) (next_above os).parent)) (3 * o.place + 1) (span_word (record { start = o.start; end = end })) →
     new ≡ open_words frames ++ next_words frames f.name (node (record { start = f.start; end = end }) (container f.kind (with_child f own t)))
-closed_words f frames own t o end old new e i n =
-    let count : ℕ = open_count frames + (1 + children_node_count (with_child f own t)) in
-    let place : 4 * o.place ≡ length (open_words frames) = ap (λ (y : Open). 4 * y.place) i ∙ sym (open_length frames) in
-    let head : head_word (container_code (container_if o.is_object)) (length old / 4) ≡ head_word (container_code f.kind) count =
-    ap₂ (λ (k : Container) (m : ℕ). head_word (container_code k) m) (innermost_kind o f frames i) (fourth (length old) count (ap length e ∙ grown_length f frames own t)) in
+closed_words f frames own t o end old new os e i p n =
+    let place : 3 * o.place ≡ length (open_words frames) = ap (λ (y : Open). 3 * y.place) i ∙ sym (open_length frames) in
+    let head = closed_head f frames own t o old os e i p in
     let start : o.start ≡ f.start = ap (λ (y : Open). y.start) i in
     n
     ∙ (ap₂ (λ (p : List ℕ × ℕ) (q : ℕ × ℕ). set (set p.0 p.1 q.0) (p.1 + 1) (span_word (record { start = q.1; end = end }))) (ap₂ (λ (xs : List ℕ) (m : ℕ). (xs, m)) (e ∙ grown_tail f frames own t) place) (ap₂ (λ (x y : ℕ). (x, y)) head start)
-    ∙ set_two (open_words frames) (name_word f.name ∷ own_up frames ∷ children_words (open_count frames + 1) (open_count frames) 0 (with_child f own t)) (head_word (container_code f.kind) count) (span_word (record { start = f.start; end = end })) 0 0)
+    ∙ set_two (open_words frames) (next_label frames f.name ∷ children_words (open_count frames + 1) (open_count frames) 0 (with_child f own t))
+    (head_word (container_code f.kind) (children_node_count (with_child f own t)) (next_parent frames)) (span_word (record { start = f.start; end = end })) 0 0)
 
 -- the names of the container go, and those outside stay
 names_stay : (outer inner : List (List ℕ)) (bodies : List Body) (n : ℕ) → n ≡ length outer → all_points bodies ≡ outer ++ inner → all_points (take n bodies) ≡ outer
@@ -315,6 +332,7 @@ close_goes_on line at next b new o w c r (After_value (f ∷ frames) own t y) h 
     let base : o.names ≡ length outer = ap (λ (z : Open). z.names) i in
     let spelled = grown_names f frames own t in
     let lone = grown_surrogate f frames own t in
+    let behind : new.opened.items ≡ opens frames = r.opened ∙ (ap (λ (os : List Open). take (length os - 1) os) k.opened ∙ front_of (opens frames) (open_of f frames)) in
     let k_names = λ (z : (open_surrogate frames || name_has_lone_surrogate f.name) || has_surrogate closed ≡ false). k.names (lone ∙ z) ∙ spelled in
     record {
       next = After_value frames f.name closed (next + 1);
@@ -322,8 +340,8 @@ close_goes_on line at next b new o w c r (After_value (f ∷ frames) own t y) h 
         refl,
         h.1,
         record {
-          words = closed_words f frames own t o (next + 1) b.words.items new.words.items k.words i r.words;
-          opened = r.opened ∙ (ap (λ (os : List Open). take (length os - 1) os) k.opened ∙ front_of (opens frames) (open_of f frames));
+          words = closed_words f frames own t o (next + 1) b.words.items new.words.items new.opened.items k.words i behind r.words;
+          opened = behind;
           deepest = r.deepest ∙ (k.deepest ∙ closed_depth f frames own t);
           surrogate = r.surrogate ∙ (k.surrogate ∙ lone);
           long = r.long ∙ (k.long ∙ grown_long line f frames own t);
@@ -381,13 +399,9 @@ pub no_value_behind : (line : List ℕ) (at : ℕ) → length line ≤ at → No
 no_value_behind line at l t e h g = let o = starts_inside line t h in omega (arith, l, e, o)
 
 -- the words that are written
-pub node_is : (ws new : List ℕ) (h s n u i t m v : ℕ) → new ≡ ws ++ h ∷ s ∷ n ∷ u ∷ [] → h ≡ i → s ≡ t → n ≡ m → u ≡ v → new ≡ ws ++ i ∷ t ∷ m ∷ v ∷ []
-node_is ws new h s n u i t m v e p q r w =
-    e ∙ ap₂ (λ (x y : ℕ × ℕ). ws ++ x.0 ∷ x.1 ∷ y.0 ∷ y.1 ∷ []) (ap₂ (λ (x y : ℕ). (x, y)) p q) (ap₂ (λ (x y : ℕ). (x, y)) r w)
+pub node_is : (ws new : List ℕ) (h s n i t m : ℕ) → new ≡ ws ++ h ∷ s ∷ n ∷ [] → h ≡ i → s ≡ t → n ≡ m → new ≡ ws ++ i ∷ t ∷ m ∷ []
+node_is ws new h s n i t m e p q r = e ∙ ap₂ (λ (x : ℕ × ℕ) (y : ℕ). ws ++ x.0 ∷ x.1 ∷ y ∷ []) (ap₂ (λ (x y : ℕ). (x, y)) p q) r
 
-pub head_is : (kind : Kind) (box : Container) (n place : ℕ) (ws : List ℕ) → code_of kind ≡ container_code box → place ≡ n → n ≡ length ws → head_word (code_of kind) (place / 4 + 1) ≡ head_word (container_code box) (length ws / 4 + 1)
-head_is kind box n place ws e p q = ap₂ (λ x (y : ℕ). head_word x (y / 4 + 1)) e (p ∙ q)
-
-pub opened_is : (b : Bool) (place n names m at : ℕ) → place ≡ n → names ≡ m → (let o : Open = record { place = place / 4; start = at; children = 0; names = names; is_object = b } in o) ≡ record { place = n / 4; start = at; children = 0; names = m; is_object = is_object (container_if b) }
-opened_is true place n names m at p q = ap₂ (λ (x y : ℕ). record { place = x / 4; start = at; children = 0; names = y; is_object = true }) p q
-opened_is false place n names m at p q = ap₂ (λ (x y : ℕ). record { place = x / 4; start = at; children = 0; names = y; is_object = false }) p q
+pub opened_is : (b : Bool) (place n names m at : ℕ) → place ≡ n → names ≡ m → (let o : Open = record { place = place / 3; start = at; children = 0; names = names; is_object = b } in o) ≡ record { place = n / 3; start = at; children = 0; names = m; is_object = is_object (container_if b) }
+opened_is true place n names m at p q = ap₂ (λ (x y : ℕ). record { place = x / 3; start = at; children = 0; names = y; is_object = true }) p q
+opened_is false place n names m at p q = ap₂ (λ (x y : ℕ). record { place = x / 3; start = at; children = 0; names = y; is_object = false }) p q

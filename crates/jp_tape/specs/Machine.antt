@@ -1,22 +1,18 @@
 -- The states of the walk over a line, and which trees each completes to.
 use Rattle.std.specs.Prelude.{◌≡◌, ℕ, suc, ◌+◌, ◌-◌, ◌*◌, ◌<◌, ◌≤◌, max, Bool, true, false, ◌||◌, List, [], ◌∷◌, ◌++◌, length, take, drop, slice_set, ◌/◌, Option, None}
 use Rattle.jp_model.specs.Json.Places.{White}
-use Rattle.jp_model.specs.Json.Tree.{Tree, node, container, Container, array, object, Children, no_child, child, Name, span, count_children}
+use Rattle.jp_model.specs.Json.Tree.{Tree, node, container, Container, array, object, Children, child, Name, span, count_children, joined}
 use Rattle.jp_model.specs.Json.Faults.{depth, greatest_depth, name_has_lone_surrogate, has_surrogate, children_have_surrogate, has_long_exponent, children_have_long_exponent, name_points, names, has_repeated, has_duplicate, children_have_duplicate}
 use Rattle.jp_model.specs.Json.Spelling.{Spells, SpellsMore, Text}
 use Rattle.jp_tape.specs.declared.builder.machine.Open.{Open}
+use Rattle.jp_tape.specs.declared.builder.machine.Above.{Above}
 use Rattle.jp_tape.specs.declared.builder.machine.Builder.{Builder}
 use Rattle.jp_tape.specs.declared.builder.machine.Turn.{Turn}
 use Rattle.jp_tape.specs.declared.builder.machine.Turn.TheVariants as turns
-use Rattle.jp_tape.specs.Words.{children_node_count, name_word, up_word, words_from, children_words, tape_words, head_word, container_code, span_word}
+use Rattle.jp_tape.specs.Words.{children_node_count, label_word, words_from, children_words, tape_words, head_word, container_code, span_word}
 use Rattle.jp_tape.specs.declared.builder.tokens.Label.{Label}
 use Rattle.jp_tape.specs.Reading.{body_of, container_if, FoundLabel}
 use Rattle.jp_tape.specs.Names.{all_points}
-
--- the children of both, in order
-abbrev pub joined : Children → Children → Children
-joined no_child more = more
-joined (child name t rest) more = child name t (joined rest more)
 
 -- a container that is open: where it begins, its own name, and its children so far
 pub record Frame : Type 0 where
@@ -67,13 +63,14 @@ next_index (f ∷ frames) = count_children f.done
 -- the words of the nodes that have begun; the first two of an open container are written when it closes
 abbrev pub open_words : List Frame → List ℕ
 open_words [] = []
-open_words (f ∷ frames) = open_words frames ++ 0 ∷ 0 ∷ name_word f.name ∷ up_word (next_parent frames) (next_index frames) ∷ children_words (open_count frames + 1) (open_count frames) 0 f.done
+open_words (f ∷ frames) = open_words frames ++ 0 ∷ 0 ∷ label_word (next_index frames) f.name ∷ children_words (open_count frames + 1) (open_count frames) 0 f.done
 
 -- the code points of the names that have been read in open containers, a container's own name before those in it
 abbrev pub open_names : List Frame → List (List ℕ)
 open_names [] = []
 open_names (f ∷ frames) = (open_names frames ++ name_points f.name []) ++ names f.done
 
+-- whether it is an object
 abbrev pub is_object : Container → Bool
 is_object array = false
 is_object object = true
@@ -82,15 +79,16 @@ is_object object = true
 abbrev pub open_of : Frame → List Frame → Open
 open_of f frames = record { place = open_count frames; start = f.start; children = count_children f.done; names = length (open_names frames ++ name_points f.name []); is_object = is_object f.kind }
 
+-- the same of all open containers, the innermost last
 abbrev pub opens : List Frame → List Open
 opens [] = []
 opens (f ∷ frames) = opens frames ++ open_of f frames ∷ []
 
--- the fourth word of the next value, a child of the innermost container, which is the last
-abbrev pub next_up : List Open → ℕ
-next_up [] = up_word 0 0
-next_up (o ∷ []) = up_word o.place o.children
-next_up (o ∷ p ∷ os) = next_up (p ∷ os)
+-- where the next value stands: it is a child of the innermost container, which is the last, or the root
+abbrev pub next_above : List Open → Above
+next_above [] = record { parent = 0; index = 0 }
+next_above (o ∷ []) = record { parent = o.place; index = o.children }
+next_above (o ∷ p ∷ os) = next_above (p ∷ os)
 
 -- how deep the open containers and what is read in them nest
 abbrev pub open_depth : List Frame → ℕ
@@ -175,10 +173,10 @@ turn_left line (turns.Value name at) = suc (length line - at)
 turn_left line (turns.After at) = suc (length line - at)
 turn_left line turns.End = 0
 
--- the turn is at a place of the line, and four words at most are written for a byte that was read
+-- the turn is at a place of the line, and three words at most are written for a byte that was read
 abbrev pub IsWithin : List ℕ → Turn → Builder → Type 0
-IsWithin line (turns.Value name at) b = (at ≤ length line) × (length b.words.items ≤ 4 * at)
-IsWithin line (turns.After at) b = (at ≤ length line) × (length b.words.items ≤ 4 * at)
+IsWithin line (turns.Value name at) b = (at ≤ length line) × (length b.words.items ≤ 3 * at)
+IsWithin line (turns.After at) b = (at ≤ length line) × (length b.words.items ≤ 3 * at)
 IsWithin line turns.End b = Unit {0}
 
 -- the turn is behind this place, and within the line
@@ -227,7 +225,7 @@ Holds line turn b = (x : State) × Stands line turn b x
 
 -- the innermost container is closed
 pub record IsClosed (container : Open) (end : ℕ) (old new : Builder) : Type 0 where
-  pub words : new.words.items ≡ slice_set (slice_set old.words.items (4 * container.place) (head_word (container_code (container_if container.is_object)) (length old.words.items / 4))) (4 * container.place + 1) (span_word (record { start = container.start; end = end }))
+  pub words : new.words.items ≡ slice_set (slice_set old.words.items (3 * container.place) (head_word (container_code (container_if container.is_object)) (length old.words.items / 3 - container.place - 1) (next_above new.opened.items).parent)) (3 * container.place + 1) (span_word (record { start = container.start; end = end }))
   pub opened : new.opened.items ≡ take (length old.opened.items - 1) old.opened.items
   pub deepest : new.deepest ≡ old.deepest
   pub surrogate : new.has_surrogate ≡ old.has_surrogate

@@ -1,5 +1,5 @@
 -- What the readers of single tokens answer.
-use Rattle.std.specs.Prelude.{◌≡◌, ℕ, Bool, true, false, List, [], Option, Some, None}
+use Rattle.std.specs.Prelude.{◌≡◌, ℕ, ◌^◌, Bool, true, false, List, [], Option, Some, None}
 use Rattle.jp_model.specs.declared.Span.{Span}
 use Rattle.jp_model.specs.declared.LineFault.TheVariants as line_faults
 use Rattle.jp_model.specs.Json.Tree.{Tree, node, Value, Container, array, object, Name, span}
@@ -13,7 +13,7 @@ use Rattle.jp_tape.specs.declared.builder.tokens.Scalar.{Scalar}
 use Rattle.jp_tape.specs.declared.builder.tokens.Label.{Label}
 use Rattle.jp_strings.specs.Plain.{ArePlain}
 use Rattle.jp_tape.specs.Places.{Ended, Stops}
-use Rattle.jp_tape.specs.Words.{kind_code, value_node_count, words_below, span_word}
+use Rattle.jp_tape.specs.Words.{kind_code, nodes_below, words_below, span_word}
 
 -- the number of a kind
 abbrev pub code_of : Kind → ℕ
@@ -22,8 +22,8 @@ code_of kinds.False = 1
 code_of kinds.True = 2
 code_of kinds.Number = 3
 code_of kinds.Text = 4
-code_of kinds.Array = 5
-code_of kinds.Object = 6
+code_of kinds.Array = 2 ^ 31
+code_of kinds.Object = 2 ^ 32
 
 -- the array's or the object's
 abbrev pub container_if : Bool → Container
@@ -36,15 +36,15 @@ body_of None = None
 body_of (Some name) = Some name.body
 
 -- the third word of a node
-abbrev pub body_word : Option Span → ℕ
-body_word None = 0
-body_word (Some body) = span_word body
+abbrev pub body_word : ℕ → Option Span → ℕ
+body_word index None = index
+body_word index (Some body) = span_word body
 
 -- a value that is no container stands there, and no other one can
 pub record FoundScalar (line : List ℕ) (from : ℕ) (r : Scalar) : Type 0 where
   pub value : Value
   pub is_kind : kind_code value ≡ code_of r.kind
-  pub leaf : value_node_count value ≡ 1
+  pub leaf : nodes_below value ≡ 0
   pub bare : (place : ℕ) → words_below place value ≡ []
   pub flat : value_depth value ≡ 0
   pub surrogate : value_has_surrogate value ≡ r.is_lone

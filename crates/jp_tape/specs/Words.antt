@@ -1,4 +1,4 @@
--- The words of a tape: four to a node, each node before its children, in the order of the line.
+-- The words of a tape: three to a node, each node before its children, in the order of the line.
 use Rattle.std.specs.Prelude.{ℕ, ◌+◌, ◌*◌, ◌^◌, Bool, true, false, List, [], ◌∷◌, ◌++◌, Option, Some, None}
 use Rattle.jp_model.specs.declared.Span.{Span}
 use Rattle.jp_model.specs.Json.Tree.{Tree, node, Value, null, boolean, number, string, container, Container, array, object, Children, no_child, child, Name}
@@ -21,15 +21,25 @@ abbrev mutual
   children_node_count no_child = 0
   children_node_count (child name t more) = node_count t + children_node_count more
 
--- the number of a kind
+-- how many nodes stand below a value's own
+abbrev pub nodes_below : Value → ℕ
+nodes_below null = 0
+nodes_below (boolean b) = 0
+nodes_below (number m e) = 0
+nodes_below (string points) = 0
+nodes_below (container kind children) = children_node_count children
+
+-- the number of a kind; the number of the nodes below is added to an array's or an object's
 abbrev pub boolean_code : Bool → ℕ
 boolean_code false = 1
 boolean_code true = 2
 
+-- that of an array, and of an object
 abbrev pub container_code : Container → ℕ
-container_code array = 5
-container_code object = 6
+container_code array = 2 ^ 31
+container_code object = 2 ^ 32
 
+-- that of a value
 abbrev pub kind_code : Value → ℕ
 kind_code null = 0
 kind_code (boolean b) = boolean_code b
@@ -37,28 +47,25 @@ kind_code (number m e) = 3
 kind_code (string points) = 4
 kind_code (container kind children) = container_code kind
 
--- the first word: the kind in the top eight bits, the place behind the subtree in the low thirty-two
-unfoldable pub head_word : ℕ → ℕ → ℕ
-head_word code after = code * 2 ^ 56 + after
+-- the first word: the number of the kind and of the nodes below, above the place of the parent, 0 for the root. In a line of
+-- fewer than 2 ^ 32 bytes the nodes below are fewer than 2 ^ 31, and the place is less.
+unfoldable pub head_word : (code below parent : ℕ) → ℕ
+head_word code below parent = (code + below) * 2 ^ 31 + parent
 
 -- the second word: where the value stands, the start above the end
 unfoldable pub span_word : Span → ℕ
 span_word s = s.start * 2 ^ 32 + s.end
 
--- the third word: where the body of the name stands, or 0
-abbrev pub name_word : Option Name → ℕ
-name_word None = 0
-name_word (Some name) = span_word name.body
-
--- the fourth word: the place of the parent above the index among its children, both 0 for the root
-unfoldable pub up_word : ℕ → ℕ → ℕ
-up_word parent index = parent * 2 ^ 32 + index
+-- the third word: where the body of the name stands, or the index of a node that has no name, 0 for the root
+abbrev pub label_word : ℕ → Option Name → ℕ
+label_word index None = index
+label_word index (Some name) = span_word name.body
 
 -- the words of a tree whose root is at this place, a child of that index of the node at its parent's place
 abbrev mutual
   pub words_from : (place parent index : ℕ) → Option Name → Tree → List ℕ
   words_from place parent index name (node s v) =
-      head_word (kind_code v) (place + value_node_count v) ∷ span_word s ∷ name_word name ∷ up_word parent index ∷ words_below place v
+      head_word (kind_code v) (nodes_below v) parent ∷ span_word s ∷ label_word index name ∷ words_below place v
 
   -- the words of the nodes below a value, whose own node is at this place
   pub words_below : ℕ → Value → List ℕ

@@ -47,7 +47,7 @@ fn is_truncated(words: &[u64], line: &[u8], framing: Framing) -> bool
 {
     match framing {
         Framing::Lines => false,
-        Framing::Sequence => words[0] < 4 << 56 && words[1] % (1 << 32) == line.len() as u64,
+        Framing::Sequence => words[0] < 4 << 31 && words[1] % (1 << 32) == line.len() as u64,
     }
 }
 
@@ -72,8 +72,8 @@ fn fault_of(builder: &Builder<'_>, line: &[u8], framing: Framing) -> Option<Line
     }
 }
 
-/// So many words of a tape are copied, and more are handed over with their memory.
-const MOST_COPIED: usize = 1 << 16;
+/// So many words of a tape, those of 16,384 nodes, are copied, and more are handed over with their memory.
+const MOST_COPIED: usize = 3 << 14;
 
 impl<'a> Builder<'a> {
     /// The words of the line that was read, in memory of their own.

@@ -1,14 +1,12 @@
 //! A walk over the nodes of a tape.
 
 ghost use Rattle.std.specs.Prelude.{◌≡◌, ℕ, ◌<◌, ◌≤◌, ◌+◌, ◌*◌, ◌^◌, ◌++◌, ◌∷◌, [], true, false, List, length, Some, None, IfSome, IfNone, option_map, slice_get, slice_range, slice_index};
-ghost use Rattle.std.specs.List.{prefix_len};
+ghost use Rattle.jp_decimal.specs.Decimals.{number_of};
 ghost use Rattle.jp_model.specs.Json.Tree.{Tree, span as span_of, value_of, count_children};
 ghost use Rattle.jp_model.specs.Json.Strings.{SpellsBody, has_lone_surrogate};
 ghost use Rattle.jp_model.specs.Json.Faults.{has_surrogate, has_long_exponent, has_duplicate};
 ghost use Rattle.jp_model.specs.Json.Spelling.{Text, Spells};
-ghost use Rattle.jp_model.specs.Json.Reader.{skip};
 ghost use Rattle.jp_model.specs.Meaning.Nodes.{root_node, step_to, children, subtree, child_count as count_of};
-ghost use Rattle.jp_model.specs.Characters.{is_white as is_white_byte};
 ghost use Rattle.jp_model.specs.Rows.{source as source_of};
 ghost use Rattle.jp_strings.specs.Points.{IsText, points_of};
 ghost use Rattle.jp_tape.specs.Kinds.{kind_of, kind_by};
@@ -16,7 +14,7 @@ ghost use Rattle.jp_tape.specs.Contents.{text_in, number_in};
 ghost use Rattle.jp_tape.specs.Spots.{children_in, last_step, name_points};
 ghost use Rattle.jp_tape.specs.Tapes.{is_spelled, spelled, IsTapeOf};
 ghost use Rattle.jp_model.specs.declared.Span.{Span};
-ghost use Rattle.jp_tape.specs.Words.{node_count, tape_words, head_word, span_word, name_word, up_word, kind_code};
+ghost use Rattle.jp_tape.specs.Words.{node_count, tape_words, nodes_below, head_word, span_word, label_word, kind_code};
 
 use crate::Kind;
 use crate::tape::Tape;
@@ -41,6 +39,9 @@ pub struct Cursor<'a> {
 /// The low half of a word.
 const LOW: u64 = 0xFFFF_FFFF;
 
+/// The bits of a place, and of a number of nodes, in a first word.
+const PLACE: u64 = 0x7FFF_FFFF;
+
 /// The span that a word packs.
 fn unpack(word: u64) -> Span
     ensures { (s : Span) → s.end < 2 ^ 32 → word ≡ span_word s → result ≡ s }
@@ -51,7 +52,7 @@ fn unpack(word: u64) -> Span
     }
 }
 
-/// The kind of a code.
+/// The kind by its number in a first word.
 fn kind_of_code(code: u64) -> Kind
     ensures { result ≡ kind_by code }
 {
@@ -61,32 +62,9 @@ fn kind_of_code(code: u64) -> Kind
         2 => Kind::True,
         3 => Kind::Number,
         4 => Kind::Text,
-        5 => Kind::Array,
+        _ if code < 1 << 32 => Kind::Array,
         _ => Kind::Object,
     }
-}
-
-fn is_white(byte: u8) -> bool
-    ensures { result ≡ is_white_byte byte }
-{
-    byte == b' ' || byte == b'\t' || byte == b'\n' || byte == b'\r'
-}
-
-/// How much white space stands at the front.
-fn count_white(bytes: &[u8]) -> usize
-    ensures value { result ≡ prefix_len is_white_byte bytes.now }
-    ensures within { result ≤ length bytes.now }
-{
-    bytes.iter().take_while(|byte| is_white(**byte)).count()
-}
-
-/// The first place from a place on where no white space stands (RFC 8259, section 2).
-fn behind_white(line: &[u8], from: usize) -> usize
-    requires { from ≤ length line.now }
-    ensures value { result ≡ skip line.now from }
-    ensures within { result ≤ length line.now }
-{
-    from + count_white(&line[from..])
 }
 
 impl<'a> Cursor<'a> {
@@ -165,7 +143,7 @@ impl<'a> Cursor<'a> {
     pub fn kind(self) -> Kind
         ensures { result ≡ kind_of (value_of (node_of self.entry).tree) }
     {
-        kind_of_code(self.head() >> 56)
+        kind_of_code(self.head() >> 31)
     }
 
     /// Where the node's value stands: bytes of the line, from 0.
@@ -204,17 +182,21 @@ impl<'a> Cursor<'a> {
         }
     }
 
-    /// The element or member behind this one, in the order of the line. It reads the white space behind this one.
+    /// The element or member behind this one, in the order of the line: the node behind its subtree, where that has the same
+    /// parent.
     pub fn next_sibling(self) -> Option<Cursor<'a>>
         ensures nodes { nodes_from result ≡ nodes_after self.entry }
         ensures children { children_from result ≡ children_after self.entry }
         ensures line { IfSome result (λ c. line_of c ≡ line_of self.entry) }
         ensures place { IfSome result (λ c. place_of c ≡ place_of self.entry + length (subtree (node_of self.entry))) }
     {
-        let line = self.line();
-        let behind = behind_white(line, self.span().end as usize);
-        if behind < line.len() && line[behind] == b',' {
-            Some(self.go_to(self.after()))
+        let place = self.after();
+        if self.words.len() <= 3 * place as usize {
+            return None;
+        }
+        let next = self.go_to(place);
+        if next.up() == self.up() {
+            Some(next)
         } else {
             None
         }
@@ -230,7 +212,7 @@ impl<'a> Cursor<'a> {
         ensures within { IfSome result (λ s. (s.start ≤ s.end) × (s.end < length (line_of self.entry))) }
     {
         let word = self.label();
-        if word == 0 { None } else { Some(unpack(word)) }
+        if word > LOW { Some(unpack(word)) } else { None }
     }
 
     /// The node that this one is an element or a member of. The root has none.
@@ -244,16 +226,22 @@ impl<'a> Cursor<'a> {
         if self.place() == 0 {
             None
         } else {
-            Some(self.go_to((self.up() >> 32) as u32))
+            Some(self.go_to(self.up()))
         }
     }
 
-    /// The number of siblings before the node: its index in an array, from 0. That of the root is 0.
+    /// The number of siblings before the node: its index in an array, from 0. That of the root is 0. A member's is counted, by
+    /// a walk over the members.
     pub fn index(self) -> u32
         ensures value { result ≡ index_of self.entry }
         ensures step { 0 < place_of self.entry → last_step (node_of self.entry).location ≡ Some (step_to result (name_of self.entry)) }
     {
-        (self.up() & LOW) as u32
+        let word = self.label();
+        if word <= LOW {
+            return word as u32;
+        }
+        let members = self.go_to(self.up()).child_count();
+        members - Cursor::count_from(Some(self))
     }
 
     /// The body of a member's name, without its quotes. The root and elements have none (RFC 8259, section 4).
@@ -281,7 +269,7 @@ impl<'a> Cursor<'a> {
 
     /// The exact value of a number (RFC 8259, section 6).
     pub fn number(self) -> Option<Decimal<'a>>
-        ensures { result ≡ number_in (value_of (node_of self.entry).tree) }
+        ensures { option_map number_of result ≡ number_in (value_of (node_of self.entry).tree) }
     {
         if self.kind() != Kind::Number {
             return None;
@@ -294,11 +282,19 @@ impl<'a> Cursor<'a> {
         ensures nodes { result ≡ count_of (node_of self.entry) }
         ensures children { result ≡ count_children (children_in (value_of (node_of self.entry).tree)) }
     {
+        Cursor::count_from(self.first_child())
+    }
+
+    /// How many siblings there are from one on. It walks over them.
+    fn count_from(first: Option<Cursor<'a>>) -> u32
+        requires { length (nodes_from first) < 2 ^ 32 }
+        ensures { result ≡ length (nodes_from first.entry) }
+    {
         let mut count = 0;
-        let mut next = self.first_child();
-        while let Some(child) = next {
+        let mut next = first;
+        while let Some(node) = next {
             count += 1;
-            next = child.next_sibling();
+            next = node.next_sibling();
         }
         count
     }
@@ -309,35 +305,49 @@ impl<'a> Cursor<'a> {
         ensures within { result ≤ length (subtree (root_node (root_of self.entry))) }
         ensures nodes { slice_range (subtree (root_node (root_of self.entry))) (place_of self.entry) result ≡ subtree (node_of self.entry) }
     {
-        (self.head() & LOW) as u32
+        self.below() + self.place() + 1
     }
 
-    /// The first word: the kind's code and the place behind the subtree.
-    fn head(self) -> u64
-        ensures word { result ≡ head_word (kind_code (value_of (node_of self.entry).tree)) (place_of self.entry + length (subtree (node_of self.entry))) }
-        ensures room { place_of self.entry + length (subtree (node_of self.entry)) < 2 ^ 32 }
+    /// How many nodes stand below the node.
+    fn below(self) -> u32
+        ensures { result ≡ nodes_below (value_of (node_of self.entry).tree) }
     {
-        self.words[4 * self.place as usize]
+        let shape = self.head() >> 31;
+        if shape < 1 << 31 {
+            0
+        } else {
+            (shape & PLACE) as u32
+        }
+    }
+
+    /// The place of the parent; 0 for the root.
+    fn up(self) -> u32
+        ensures { result ≡ up_of self.entry }
+    {
+        (self.head() & PLACE) as u32
+    }
+
+    /// The first word: the kind, the number of the nodes below, and the place of the parent.
+    fn head(self) -> u64
+        ensures word { result ≡ head_word (kind_code (value_of (node_of self.entry).tree)) (nodes_below (value_of (node_of self.entry).tree)) (up_of self.entry) }
+        ensures below { nodes_below (value_of (node_of self.entry).tree) < 2 ^ 31 }
+        ensures parent { up_of self.entry < 2 ^ 31 }
+    {
+        self.words[3 * self.place as usize]
     }
 
     /// The second word: where the value stands.
     fn body(self) -> u64
         ensures { result ≡ span_word (span_of (node_of self.entry).tree) }
     {
-        self.words[4 * self.place as usize + 1]
+        self.words[3 * self.place as usize + 1]
     }
 
-    /// The third word: where the body of the name stands, or 0.
+    /// The third word: where the body of the name stands, or the index of a node that has no name.
     fn label(self) -> u64
-        ensures { result ≡ name_word (name_of self.entry) }
+        ensures word { result ≡ label_word (index_of self.entry) (name_of self.entry) }
+        ensures index { index_of self.entry < 2 ^ 32 }
     {
-        self.words[4 * self.place as usize + 2]
-    }
-
-    /// The fourth word: the place of the parent and the index among its children.
-    fn up(self) -> u64
-        ensures { result ≡ up_word (up_of self.entry) (index_of self.entry) }
-    {
-        self.words[4 * self.place as usize + 3]
+        self.words[3 * self.place as usize + 2]
     }
 }

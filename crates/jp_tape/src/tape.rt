@@ -10,7 +10,7 @@ ghost use Rattle.jp_tape.specs.Words.{tape_words};
 use std::boxed::BoxedSlice;
 use std::marker::Model;
 
-/// The nodes of one line in packed words, four to a node. A clause sees the list of words.
+/// The nodes of one line in packed words, three to a node. A clause sees the list of words.
 #[derive(Drop)]
 pub struct Tape {
     pub(crate) words: BoxedSlice<u64>,

@@ -79,23 +79,19 @@ fn is_refused(alloc: Global, line: &[u8], wanted: LineFault) -> bool {
 #[test]
 fn nodes_stand_in_order(rt: HostRuntime) -> Result<(), Fail> {
     let tape = read(rt.alloc(), b"{\"a\":[1,true]}", Framing::Lines)?;
-    let words: [u64; 16] = [
-        6 * 72057594037927936 + 4,
+    let words: [u64; 12] = [
+        (4294967296 + 3) * 2147483648,
         14,
         0,
-        0,
-        5 * 72057594037927936 + 4,
+        (2147483648 + 2) * 2147483648,
         5 * 4294967296 + 13,
         2 * 4294967296 + 3,
-        0,
-        3 * 72057594037927936 + 3,
+        3 * 2147483648 + 1,
         6 * 4294967296 + 7,
         0,
-        4294967296,
-        2 * 72057594037927936 + 4,
+        2 * 2147483648 + 1,
         8 * 4294967296 + 12,
-        0,
-        4294967296 + 1,
+        1,
     ];
     assert!(rt; &*tape.words == words.as_slice());
     Ok(())
@@ -366,6 +362,7 @@ fn a_place_is_found(rt: HostRuntime) -> Result<(), Fail> {
     assert!(rt; empty.first_child().is_none() && empty.next_sibling().is_none());
     let member = empty.go_to(5);
     assert_eq!(rt; member.name_span(), Some(Span { start: 17, end: 18 }));
+    assert_eq!(rt; member.index(), 1);
     assert_eq!(rt; member.source(), b"null".as_slice());
     assert_eq!(rt; member.top().place(), 0);
     Ok(())

@@ -1,5 +1,5 @@
 use jp_decimal::{Decimal, NumberFault, laws};
-use std::alloc::AllocError;
+use std::alloc::{AllocError, Global};
 use std::cmp::Ordering;
 
 #[derive(Debug, Drop)]
@@ -49,6 +49,95 @@ fn equal_values_are_equal(rt: HostRuntime) -> Result<(), Fail> {
     assert!(rt; ten.equal(&padded));
     let other = Decimal::read(b"10.00000000000000000000000001")?;
     assert!(rt; !ten.equal(&other));
+    Ok(())
+}
+
+/// The number of a text that is not too long to be read.
+fn number(text: &[u8]) -> Result<Decimal<'_>, Fail> {
+    if text.len() >= 1 << 32 {
+        return Err(Fail::Number);
+    }
+    Ok(Decimal::read(text)?)
+}
+
+/// Numbers in the order of their values. Those with one place have one value.
+const ORDERED: [(u32, &str); 31] = [
+    (0, "-1E400"),
+    (0, "-10e399"),
+    (1, "-12.5"),
+    (1, "-125e-1"),
+    (1, "-0.01250E+3"),
+    (2, "-12"),
+    (3, "0"),
+    (3, "-0"),
+    (3, "0.000"),
+    (3, "-0.0e-99"),
+    (4, "1e-999999999999999"),
+    (5, "0.0001"),
+    (5, "1e-4"),
+    (5, "0.00010"),
+    (6, "0.00010000001"),
+    (7, "0.1"),
+    (8, "1"),
+    (8, "1.0"),
+    (8, "10e-1"),
+    (8, "0.1e1"),
+    (8, "0.001000e3"),
+    (9, "1.00000000000000000001"),
+    (10, "9.99"),
+    (11, "10"),
+    (11, "1e01"),
+    (12, "101"),
+    (13, "110"),
+    (14, "1E400"),
+    (14, "10E399"),
+    (14, "0.0010e403"),
+    (15, "1.0001e400"),
+];
+
+#[test]
+fn values_are_ordered_whatever_their_spelling(rt: HostRuntime) -> Result<(), Fail> {
+    for (place, text) in ORDERED {
+        let value = number(text.as_bytes())?;
+        for (other_place, other) in ORDERED {
+            let other = number(other.as_bytes())?;
+            assert_eq!(&rt; value.compare(&other), place.cmp(&other_place));
+            assert_eq!(&rt; value.equal(&other), place == other_place);
+        }
+    }
+    Ok(())
+}
+
+/// Bytes in front, as many zeros, and bytes behind.
+fn with_zeros(
+    alloc: Global,
+    front: &[u8],
+    zeros: usize,
+    behind: &[u8],
+) -> Result<Vec<u8>, AllocError> {
+    let mut text = Vec::from_slice(alloc, front)?;
+    for _zero in 0..zeros {
+        text.push(b'0')?;
+    }
+    text.extend_from_slice(behind)?;
+    Ok(text)
+}
+
+#[test]
+fn long_numbers_are_compared_with_short_ones(rt: HostRuntime) -> Result<(), Fail> {
+    let zeros = 10_000;
+    let whole = with_zeros(rt.alloc(), b"1", zeros, b"")?;
+    let fraction = with_zeros(rt.alloc(), b"0.", zeros, b"1e10001")?;
+    let more = with_zeros(rt.alloc(), b"1", zeros - 1, b"1")?;
+    let none = with_zeros(rt.alloc(), b"0.", zeros, b"")?;
+    let whole = number(&whole)?;
+    assert!(rt; whole.equal(&Decimal::read(b"1e10000")?));
+    let fraction = number(&fraction)?;
+    assert!(rt; fraction.equal(&Decimal::read(b"1")?));
+    let more = number(&more)?;
+    assert_eq!(rt; more.compare(&whole), Ordering::Greater);
+    assert_eq!(rt; Decimal::read(b"1e10000")?.compare(&more), Ordering::Less);
+    assert!(rt; number(&none)?.equal(&Decimal::read(b"-0")?));
     Ok(())
 }
 

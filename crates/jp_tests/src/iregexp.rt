@@ -169,7 +169,7 @@ fn classes_have_their_scalars(rt: HostRuntime) -> Result<(), Fail> {
 #[test]
 fn escapes_stand_for_their_scalars(rt: HostRuntime) -> Result<(), Fail> {
     for (pattern, text) in [
-        ("\\n", "\n"),
+        ("\n", "\n"),
         ("\\r", "\r"),
         ("\\t", "\t"),
         ("\\.", "."),
@@ -402,6 +402,103 @@ fn places_answer_as_positions_do(rt: HostRuntime) -> Result<(), Fail> {
             "b|a+é",
         ] {
             assert!(rt; answers_as_by_positions(rt.alloc(), pattern, text.as_str())?);
+        }
+    }
+    Ok(())
+}
+
+#[test]
+fn exact_counts_of_a_class_take_one_pass(rt: HostRuntime) -> Result<(), Fail> {
+    for size in [0usize, 1, 62, 63, 64, 65, 127, 128, 129, 1000] {
+        let mut text = repeated(rt.alloc(), "a", size)?;
+        for (pattern, count) in [
+            ("a{64}", 64usize),
+            ("a{65}", 65),
+            ("a{128}", 128),
+            (".{999}", 999),
+            ("[^b]{1000}", 1000),
+            (".{1001}", 1001),
+        ] {
+            assert_eq!(rt;
+                matches(rt.alloc(), pattern, text.as_str())?,
+                Some(size == count)
+            );
+            assert_eq!(rt;
+                occurs(rt.alloc(), pattern, text.as_str())?,
+                Some(size >= count)
+            );
+        }
+        text.push_str("b")?;
+        let behind = repeated(rt.alloc(), "a", size)?;
+        text.push_str(behind.as_str())?;
+        for (pattern, is_found) in [
+            ("a{64}", size >= 64),
+            ("a{64}b", size >= 64),
+            ("ba{128}", size >= 128),
+            ("a{129}", size >= 129),
+            ("a{64}ba{64,}", size >= 64),
+            ("a{0}b", true),
+        ] {
+            assert_eq!(rt; occurs(rt.alloc(), pattern, text.as_str())?, Some(is_found));
+        }
+    }
+    Ok(())
+}
+
+// The same by a pattern of few places, and by one that is matched position by position.
+#[test]
+fn counts_under_stars_answer_as_small_patterns_do(rt: HostRuntime) -> Result<(), Fail> {
+    for size in [0usize, 1, 64, 130] {
+        for (front, end) in [("a", "b"), ("ab", ""), ("aab", "\n")] {
+            let mut text = repeated(rt.alloc(), front, size)?;
+            text.push_str(end)?;
+            for pattern in [
+                "(.|\n)*",
+                "(a{2}|b)*",
+                "(a{2}|b){0,64}",
+                "(a|ab){0,31}",
+                "(a{3}|b)+a?",
+                "(a*b)*",
+                "((a|b)*\n|b)*",
+                "(aab?)*\n?",
+                "(a{0,3}b){2,}",
+                "(ab){5}",
+                "((a|b){3}){4,}",
+                "b*(a.{5})*",
+            ] {
+                assert!(rt; answers_as_by_positions(rt.alloc(), pattern, text.as_str())?);
+            }
+        }
+    }
+    Ok(())
+}
+
+#[test]
+fn a_turn_starts_from_what_was_added(rt: HostRuntime) -> Result<(), Fail> {
+    let all_a = repeated(rt.alloc(), "a", 640)?;
+    let all_b = repeated(rt.alloc(), "b", 640)?;
+    let mut both = repeated(rt.alloc(), "a", 640)?;
+    both.push_str("b")?;
+    for (pattern, of_a, of_b, of_both) in [
+        ("(a{64}|b)*", true, true, true),
+        ("(a{65}|b)*", false, true, false),
+        ("(a{63}|b|a{65})*", true, true, true),
+        ("(a{64}|b)*a", false, false, false),
+        ("(.|\n)*|x{64}", true, true, true),
+        ("(a|b|x{64}){640}", true, true, false),
+        ("(a|b|x{64}){0,640}", true, true, false),
+        ("(a|b|x{64}){641}", false, false, true),
+        ("(aa|bb|x{64}){320}b?", true, true, true),
+        ("(a{0,99}b|a{64})*", true, true, true),
+        ("(a{64}){10}b{0,64}", true, false, true),
+        ("(a{64}){11}|b{64}", false, false, false),
+    ] {
+        for (text, is_match) in [
+            (all_a.as_str(), of_a),
+            (all_b.as_str(), of_b),
+            (both.as_str(), of_both),
+        ] {
+            assert_eq!(rt; matches(rt.alloc(), pattern, text)?, Some(is_match));
         }
     }
     Ok(())

@@ -4,6 +4,7 @@ use std::alloc::{AllocError, Global};
 use std::test::Fail;
 
 mod examples;
+mod paths;
 
 // What the parser says of a text: nothing where it is a query.
 fn fault_of(alloc: Global, text: &[u8]) -> Option<ParseFault> {

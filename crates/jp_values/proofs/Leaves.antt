@@ -1,5 +1,5 @@
 -- Values that are no arrays and no objects.
-use Rattle.std.proofs.Common.{◌≡◌, ℕ, true, List, length, take, nat_lt, ◌+◌, ◌<◌, ◌^◌, sym, ◌∙◌, ap, refl, arith, Ordering}
+use Rattle.std.proofs.Common.{◌≡◌, ℕ, true, false, List, Option, Some, None, length, take, nat_lt, ◌+◌, ◌<◌, ◌^◌, sym, ◌∙◌, ap, refl, arith, Ordering}
 use Rattle.std.proofs.Math.Seq.{take-length}
 use Rattle.std.proofs.lemmas.Bool.{cond-true, not-true, and_parts, and_from, ltb-true}
 use Rattle.std.proofs.lemmas.Slice.Eq.{bytes_eq-Decides}
@@ -7,12 +7,12 @@ use Rattle.jp_model.specs.Characters.{text_equal}
 use Rattle.jp_model.specs.Json.Places.{bytes_between, Reads}
 use Rattle.jp_model.specs.Json.Numbers.{numeral_bytes, numeral_of, is_long_exponent, mantissa, scale}
 use Rattle.jp_model.specs.Json.Reader.{is_numeral, spanned}
-use Rattle.jp_model.specs.Json.Tree.{number}
+use Rattle.jp_model.specs.Json.Tree.{Value, null, boolean, number, string, container}
 use Rattle.jp_model.specs.Query.Syntax.{number_literal}
 use Rattle.jp_model.proofs.Reader.Lexical.{clash}
 use Rattle.jp_model.proofs.Reader.Numbers.{number_found}
 use Rattle.jp_model.proofs.Reader.Scans.{reads_whole}
-use Rattle.jp_decimal.specs.Reading.{Refuses}
+use Rattle.jp_decimal.specs.Reading.{RefusesNumber}
 use Rattle.jp_decimal.specs.declared.fault.NumberFault.{NumberFault}
 use Rattle.jp_decimal.specs.declared.fault.NumberFault.TheVariants.{Shape, Exponent}
 use Rattle.jp_query.specs.Sound.{is_sound}
@@ -20,11 +20,45 @@ use Rattle.std.specs.Cmp.Lexicographic.{slice_cmp}
 use Rattle.std.specs.Ordering.{nat_cmp, is_lt}
 use Rattle.std.proofs.lemmas.Bool.Decides.{nat_tests}
 use Rattle.std.proofs.lemmas.Cmp.{same_from_slice_cmp}
-use Rattle.jp_model.specs.Meaning.Compare.{text_less}
+use Rattle.jp_model.specs.Meaning.Compare.{text_less, value_less, is_less}
+use Rattle.jp_values.specs.Scalars.{scalar_in}
+use Rattle.jp_values.specs.Values.{scalar_side}
 
 -- a text is less than another where its scalars come first
 pub text_less_is : (xs ys : List ℕ) (o : Ordering) → o ≡ slice_cmp nat_cmp xs ys → is_lt o ≡ text_less xs ys
 text_less_is = same_from_slice_cmp nat_cmp is_lt text_less refl (λ _ _. refl) (λ _ _. refl) (λ x y xs ys o h. grind (arith, nat_tests))
+
+-- arrays and objects are less than nothing, and nothing is less than they
+none_less : (o : Option Value) → is_less o None ≡ false
+none_less None = refl
+none_less (Some v) = refl
+
+not_less : (v w : Value) → ((x : Value) → value_less v x ≡ false) → is_less (Some v) (scalar_in w) ≡ value_less v w
+not_less v null h = h null ∙ sym (h null)
+not_less v (boolean b) h = h (boolean b) ∙ sym (h (boolean b))
+not_less v (number m e) h = h (number m e) ∙ sym (h (number m e))
+not_less v (string points) h = h (string points) ∙ sym (h (string points))
+not_less v (container kind children) h = sym (h (container kind children))
+
+pub scalars_less : (v w : Value) → is_less (scalar_in v) (scalar_in w) ≡ value_less v w
+scalars_less null w = not_less null w (λ x. refl)
+scalars_less (boolean b) w = not_less (boolean b) w (λ x. refl)
+scalars_less (number m e) null = refl
+scalars_less (number m e) (boolean b) = refl
+scalars_less (number m e) (number n f) = refl
+scalars_less (number m e) (string points) = refl
+scalars_less (number m e) (container kind children) = refl
+scalars_less (string points) null = refl
+scalars_less (string points) (boolean b) = refl
+scalars_less (string points) (number n f) = refl
+scalars_less (string points) (string other) = refl
+scalars_less (string points) (container kind children) = refl
+scalars_less (container kind children) w = refl
+
+pub sides_less : (o p : Option Value) → is_less (scalar_side o) (scalar_side p) ≡ is_less o p
+sides_less None p = refl
+sides_less (Some v) None = none_less (scalar_in v)
+sides_less (Some v) (Some w) = scalars_less v w
 
 -- ---- literals
 
@@ -36,7 +70,7 @@ pub literal_short : (x : List ℕ) → is_sound (number_literal x) ≡ true → 
 literal_short x h = ltb-true (length x) (2 ^ 32) (and_parts _ (nat_lt (length x) (2 ^ 32)) h).1
 
 -- a number that is written in a query is one
-pub literal_is_read : (x : List ℕ) (fault : NumberFault) → is_sound (number_literal x) ≡ true → Refuses x fault → ⊥
+pub literal_is_read : (x : List ℕ) (fault : NumberFault) → is_sound (number_literal x) ≡ true → RefusesNumber x fault → ⊥
 literal_is_read x Shape h r =
     let sound = and_parts _ (nat_lt (length x) (2 ^ 32)) h in
     let parts = and_parts (text_equal (numeral_bytes (numeral_of x)) x) _ sound.0 in

@@ -5,10 +5,10 @@ use Rattle.std.proofs.lemmas.Slice.Eq.{bytes_eq-Decides}
 use Rattle.std.specs.List.{list_any}
 use Rattle.jp_model.specs.Characters.{text_equal}
 use Rattle.jp_model.specs.Json.Faults.{names, has_repeated, has_duplicate}
-use Rattle.jp_model.specs.Json.Tree.{Tree, Value, null, boolean, number, string, container, Children, no_child, child, node, value_of, Name}
+use Rattle.jp_model.specs.Json.Tree.{Tree, Value, null, boolean, number, string, container, Children, no_child, child, node, value_of, Name, joined}
 use Rattle.jp_model.proofs.Reader.Lexical.{clash}
 use Rattle.jp_tape.specs.Spots.{children_in}
-use Rattle.jp_values.specs.Members.{has_name, member_named, joined, EndsWith}
+use Rattle.jp_values.specs.Members.{has_name, member_named, EndsWith}
 
 -- ---- the last of some children
 

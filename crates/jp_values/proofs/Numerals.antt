@@ -8,10 +8,10 @@ use Rattle.std.proofs.lemmas.Fmt.{digits_decimal, digits_value-decimal, decimal_
 use Rattle.std.proofs.lemmas.Str.Parse.{IsNumeralModel, IsDigitsTest, numerals_by_fold, FoldsDigits}
 use Rattle.jp_model.specs.Characters.{is_digit, digits_value, value_behind}
 use Rattle.jp_model.specs.Json.Numbers.{Numeral, IsNumeral, IsInt, AreDigits, numeral_bytes, numeral_of, is_long_exponent, mantissa, scale, smaller, brought_to}
-use Rattle.jp_model.proofs.Json.Parts.{parts_read}
+use Rattle.jp_model.proofs.Reader.Numbers.{parts_read}
 use Rattle.jp_model.proofs.Reader.Lexical.{clash}
 use Rattle.jp_decimal.specs.Values.{Number, order}
-use Rattle.jp_decimal.specs.Reading.{ReadsAs, Refuses}
+use Rattle.jp_decimal.specs.Reading.{ReadsAs, RefusesNumber}
 use Rattle.jp_decimal.specs.declared.fault.NumberFault.{NumberFault}
 use Rattle.jp_decimal.specs.declared.fault.NumberFault.TheVariants.{Shape, Exponent}
 use Rattle.jp_values.specs.Scalars.{count_number}
@@ -51,7 +51,7 @@ count_numeral n = record { negative = false; int = decimal n; fraction = []; exp
 -- the digits of a count are read as the count, and not refused
 pub record CountIs (n : ℕ) : Type 0 where
   pub value : (y : Number) → ReadsAs (decimal n) y → y ≡ count_number n
-  pub read : (fault : NumberFault) → Refuses (decimal n) fault → ⊥
+  pub read : (fault : NumberFault) → RefusesNumber (decimal n) fault → ⊥
 
 pub count_is : (n : ℕ) → n < 2 ^ 64 → CountIs n
 unfolding count_numeral
@@ -72,7 +72,7 @@ count_is n h = record { value = value; read = read }
         let m : mantissa (count_numeral n) ≡ pos n = ap pos (ap digits_value (append-nil (decimal n)) ∙ digits_value-decimal own n h) in
         ap₂ (λ (a b : ℤ). record { mantissa = a; scale = b }) (sym r.is_mantissa ∙ (ap mantissa same ∙ m)) (sym r.is_scale ∙ ap scale same)
 
-    read : (fault : NumberFault) → Refuses (decimal n) fault → ⊥
+    read : (fault : NumberFault) → RefusesNumber (decimal n) fault → ⊥
     read Shape r = r (count_numeral n) correct bytes
     read Exponent r = clash _ r.long (ap is_long_exponent (sym r.spells.only ∙ parts))
 

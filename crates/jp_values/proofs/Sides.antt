@@ -1,5 +1,7 @@
 -- Two sides of a comparison that are not two nodes, and not Nothing twice.
 use Rattle.std.proofs.Common.{◌≡◌, false, refl, Option, Some, None}
+use Rattle.jp_decimal.specs.declared.decimal.Decimal.{Decimal}
+use Rattle.jp_decimal.specs.Decimals.{number_of}
 use Rattle.jp_model.specs.Json.Tree.{Value, value_of, null, boolean, number, string, container, array, object}
 use Rattle.jp_model.specs.Meaning.Compare.{values_equal, both_equal}
 use Rattle.jp_model.specs.Meaning.Functions.{literal_value, counted}
@@ -47,21 +49,33 @@ literal_leaf true_literal = refl
 literal_leaf (number_literal x) = refl
 literal_leaf (string_literal x) = refl
 
+abbrev read_number : Decimal → Value
+read_number x = number (number_of x).mantissa (number_of x).scale
+
 pub sides_equal : (l r : Side) → ((x y : Cursor) → l ≡ sides.Node x → r ≡ sides.Node y → ⊥) → (l ≡ sides.Nothing → r ≡ sides.Nothing → ⊥) →
     scalars_equal (scalar_side (value_view l)) (scalar_side (value_view r)) ≡ both_equal (value_view l) (value_view r)
 sides_equal (sides.Node x) (sides.Node y) n m = absurd (n x y refl refl)
 sides_equal (sides.Node x) (sides.Constant l) n m = leaf_right _ _ (literal_leaf (literal_view l.now))
+sides_equal (sides.Node x) (sides.Number k) n m = leaf_right (value_of (node_of x).tree) (read_number k) refl
 sides_equal (sides.Node x) (sides.Count k) n m = leaf_right (value_of (node_of x).tree) (counted k) refl
 sides_equal (sides.Node x) sides.Nothing n m = none_right _
 sides_equal (sides.Constant l) (sides.Node y) n m = leaf_left _ _ (literal_leaf (literal_view l.now))
 sides_equal (sides.Constant l) (sides.Constant k) n m = leaf_left _ _ (literal_leaf (literal_view l.now))
+sides_equal (sides.Constant l) (sides.Number k) n m = leaf_right (literal_value (literal_view l.now)) (read_number k) refl
 sides_equal (sides.Constant l) (sides.Count k) n m = leaf_right (literal_value (literal_view l.now)) (counted k) refl
 sides_equal (sides.Constant l) sides.Nothing n m = none_right _
+sides_equal (sides.Number k) (sides.Node y) n m = leaf_left (read_number k) (value_of (node_of y).tree) refl
+sides_equal (sides.Number k) (sides.Constant l) n m = leaf_left (read_number k) (literal_value (literal_view l.now)) refl
+sides_equal (sides.Number k) (sides.Number j) n m = refl
+sides_equal (sides.Number k) (sides.Count j) n m = refl
+sides_equal (sides.Number k) sides.Nothing n m = refl
 sides_equal (sides.Count k) (sides.Node y) n m = leaf_left (counted k) (value_of (node_of y).tree) refl
 sides_equal (sides.Count k) (sides.Constant l) n m = leaf_left (counted k) (literal_value (literal_view l.now)) refl
+sides_equal (sides.Count k) (sides.Number j) n m = refl
 sides_equal (sides.Count k) (sides.Count j) n m = refl
 sides_equal (sides.Count k) sides.Nothing n m = refl
 sides_equal sides.Nothing (sides.Node y) n m = refl
 sides_equal sides.Nothing (sides.Constant l) n m = refl
+sides_equal sides.Nothing (sides.Number k) n m = refl
 sides_equal sides.Nothing (sides.Count k) n m = refl
 sides_equal sides.Nothing sides.Nothing n m = absurd (m refl refl)

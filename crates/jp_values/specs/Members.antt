@@ -1,7 +1,7 @@
 -- Members by name, and the siblings behind them (RFC 8259, section 4).
 use Rattle.std.specs.Prelude.{◌≡◌, ℕ, Bool, false, List, Option, Some, None, if◌then◌else◌}
 use Rattle.jp_model.specs.Characters.{text_equal}
-use Rattle.jp_model.specs.Json.Tree.{Value, Children, no_child, child, node, value_of, Name}
+use Rattle.jp_model.specs.Json.Tree.{Value, Children, no_child, child, node, value_of, Name, joined}
 use Rattle.jp_tape.specs.declared.cursor.Cursor.{Cursor}
 use Rattle.jp_tape.specs.Cursors.{node_of}
 
@@ -15,11 +15,6 @@ abbrev pub member_named : List ℕ → Children → Option Value
 member_named x no_child = None
 member_named x (child None t more) = member_named x more
 member_named x (child (Some name) (node s v) more) = if text_equal x name.points then Some v else member_named x more
-
--- the children of both, in order
-abbrev pub joined : Children → Children → Children
-joined no_child more = more
-joined (child name t rest) more = child name t (joined rest more)
 
 -- the last of some children are these
 abbrev pub EndsWith : Children → Children → Type 0

@@ -1,5 +1,6 @@
 -- Values that are no arrays and no objects.
 use Rattle.std.specs.Prelude.{ℕ, pos, Bool, false, List, Option, Some, None, chars}
+use Rattle.jp_decimal.specs.Decimals.{number_of}
 use Rattle.jp_decimal.specs.Values.{Number}
 use Rattle.jp_model.specs.Json.Tree as tree
 use Rattle.jp_model.specs.Meaning.Compare.{values_equal}
@@ -17,7 +18,7 @@ count_number n = record { mantissa = pos n; scale = pos 0 }
 
 -- the exact value
 abbrev pub number_view : AnyNumber → Number
-number_view (numbers.Spelled x) = x
+number_view (numbers.Spelled x) = number_of x
 number_view (numbers.Count n) = count_number n
 
 -- the scalars of a string

@@ -1,6 +1,7 @@
 //! Exact numbers: those of JSON texts and queries, and counts.
 
 ghost use Rattle.std.specs.Prelude.{◌≡◌, decimal};
+ghost use Rattle.jp_decimal.specs.Decimals.{number_of};
 ghost use Rattle.jp_decimal.specs.Values.{order};
 ghost use Rattle.jp_values.specs.Scalars.{number_view, count_number};
 
@@ -17,7 +18,7 @@ pub(crate) enum Number<'a> {
 
 /// The order of a spelled number and a count, by their exact values.
 fn compare_with_count(number: &Decimal<'_>, count: u64) -> Ordering
-    ensures { result ≡ order number.now (count_number count) }
+    ensures { result ≡ order (number_of number.now) (count_number count) }
 {
     let mut digits = Buffer::new();
     match Decimal::read(digits.format(count).as_bytes()) {

@@ -76,6 +76,7 @@ impl<'a> Scalar<'a> {
         match value {
             Value::Node(cursor) => Scalar::of_node(cursor),
             Value::Constant(literal) => literal_scalar(literal),
+            Value::Number(number) => Scalar::Number(Number::Spelled(number)),
             Value::Count(count) => Scalar::Number(Number::Count(count)),
             Value::Nothing => Scalar::Other,
         }

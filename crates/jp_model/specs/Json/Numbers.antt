@@ -1,5 +1,5 @@
 -- The numbers of RFC 8259, section 6, which are also those of a query (RFC 9535, section 2.3.5.1), and their exact values.
-use Rattle.std.specs.Prelude.{◌≡◌, ℕ, ◌^◌, Bool, true, false, cond, ◌==◌, nat_lt, List, [], ◌∷◌, ◌++◌, length, drop, ℤ, pos, neg_ℤ, ◌-ℤ◌, ◌*ℤ◌, nat_abs, int_lt, Option, Some, None, ⊤, if◌then◌else◌}
+use Rattle.std.specs.Prelude.{◌≡◌, ℕ, ◌^◌, Bool, true, false, cond, ◌||◌, ◌==◌, nat_lt, List, [], ◌∷◌, ◌++◌, length, drop, slice_index, ℤ, pos, neg_ℤ, ◌-ℤ◌, ◌*ℤ◌, nat_abs, int_lt, Option, Some, None, ⊤, if◌then◌else◌}
 use Rattle.std.specs.declared.cmp.Ordering.{Ordering}
 use Rattle.std.specs.Ordering.{int_cmp, is_lt, is_eq}
 use Rattle.jp_model.specs.Characters.{is_digit, digits_value}
@@ -106,50 +106,59 @@ pub record SpellsNumber (line : List ℕ) (from to : ℕ) (m e : ℤ) : Type 0 w
   pub is_mantissa : mantissa numeral ≡ m
   pub is_scale : scale numeral ≡ e
 
--- ---- the parts of a spelling, by computing
+-- ---- the number at the front of some bytes, by its parts
 
--- the digits at the front
+-- the first byte, and 0 where there is none
+abbrev pub head_of : List ℕ → ℕ
+head_of bytes = slice_index bytes 0
+
+-- the bytes behind the first
+abbrev pub tail_of : List ℕ → List ℕ
+tail_of bytes = drop 1 bytes
+
+-- *DIGIT: the digits at the front
 abbrev pub leading_digits : List ℕ → List ℕ
 leading_digits [] = []
-leading_digits (b ∷ bytes) = if is_digit b then b ∷ leading_digits bytes else []
+leading_digits (b ∷ bytes) = cond (is_digit b) (b ∷ leading_digits bytes) []
 
--- what stands behind the digits at the front
-abbrev pub behind_digits : List ℕ → List ℕ
-behind_digits [] = []
-behind_digits (b ∷ bytes) = if is_digit b then behind_digits bytes else b ∷ bytes
+-- [ minus / plus ]: the sign at the front
+abbrev pub leading_sign : List ℕ → Sign
+leading_sign bytes = cond (head_of bytes == 0x2B) plus_sign (cond (head_of bytes == 0x2D) minus_sign no_sign)
 
--- a byte stands at the front
-abbrev pub begins_with : ℕ → List ℕ → Bool
-begins_with byte [] = false
-begins_with byte (b ∷ bytes) = b == byte
+-- the bytes behind a sign
+abbrev pub behind_sign : Sign → List ℕ → List ℕ
+behind_sign no_sign bytes = bytes
+behind_sign plus_sign bytes = tail_of bytes
+behind_sign minus_sign bytes = tail_of bytes
 
--- the bytes without that byte at the front, where it stands there
-abbrev pub behind_byte : ℕ → List ℕ → List ℕ
-behind_byte byte bytes = if begins_with byte bytes then drop 1 bytes else bytes
+-- [ exp ]: the exponent part at the front
+abbrev pub leading_exponent : List ℕ → Option Exponent
+leading_exponent bytes =
+    cond ((head_of bytes == 0x65) || (head_of bytes == 0x45))
+    (Some (record { capital = head_of bytes == 0x45; sign = leading_sign (tail_of bytes); digits = leading_digits (behind_sign (leading_sign (tail_of bytes)) (tail_of bytes)) })) None
 
--- the digits behind a point at the front
-abbrev pub fraction_of : List ℕ → List ℕ
-fraction_of bytes = if begins_with 0x2E bytes then leading_digits (drop 1 bytes) else []
+-- [ frac ]: the digits behind a point at the front
+abbrev pub leading_fraction : List ℕ → List ℕ
+leading_fraction bytes = cond (head_of bytes == 0x2E) (leading_digits (tail_of bytes)) []
 
--- what stands behind a point at the front and its digits
-abbrev pub behind_fraction : List ℕ → List ℕ
-behind_fraction bytes = if begins_with 0x2E bytes then behind_digits (drop 1 bytes) else bytes
+-- [ frac ] [ exp ]: the parts behind an int
+abbrev pub parts_behind_int : Bool → List ℕ → List ℕ → Numeral
+parts_behind_int negative int bytes = record {
+  negative = negative;
+  int = int;
+  fraction = leading_fraction bytes;
+  exponent = leading_exponent (drop (length (fraction_bytes (leading_fraction bytes))) bytes);
+}
 
--- the sign at the front
-abbrev pub sign_of : List ℕ → Sign
-sign_of bytes = if begins_with 0x2B bytes then plus_sign else if begins_with 0x2D bytes then minus_sign else no_sign
+-- int [ frac ] [ exp ]: the parts behind a minus
+abbrev pub parts_behind_minus : Bool → List ℕ → Numeral
+parts_behind_minus negative bytes = parts_behind_int negative (leading_digits bytes) (drop (length (leading_digits bytes)) bytes)
 
--- an exponent part: a letter at the front, and the sign and the digits behind it
-abbrev pub exponent_of : List ℕ → Option Exponent
-exponent_of [] = None
-exponent_of (letter ∷ bytes) = Some (record { capital = letter == 0x45; sign = sign_of bytes; digits = behind_byte 0x2D (behind_byte 0x2B bytes) })
-
--- The parts of a number's spelling. Where some correct numeral has these bytes, it is that one.
+-- number: the parts of the number at the front. Any bytes give parts, and IsNumeral tells whether they are a number's.
 abbrev pub numeral_of : List ℕ → Numeral
-numeral_of bytes =
-    let digits = behind_byte 0x2D bytes in
-    let behind_int = behind_digits digits in
-    record { negative = begins_with 0x2D bytes; int = leading_digits digits; fraction = fraction_of behind_int; exponent = exponent_of (behind_fraction behind_int) }
+numeral_of bytes = parts_behind_minus (head_of bytes == 0x2D) (drop (length (minus_bytes (head_of bytes == 0x2D))) bytes)
+
+-- ---- the length of an exponent
 
 -- digits without their leading zeros, which do not count (profile)
 abbrev pub without_leading_zeros : List ℕ → List ℕ

@@ -1,7 +1,7 @@
 -- Readers of integers and of the spelling of numbers.
 use Rattle.std.specs.Prelude.{ℕ, ℤ, pos, neg_ℤ, List, [], ◌∷◌, ◌++◌, Bool, not, ◌&&◌, ◌||◌, Some, ◌==◌}
 use Rattle.jp_model.specs.Characters.{is_digit, digits_value}
-use Rattle.jp_query.specs.Reading.Scalars.{Read, Reader, ◌>>=◌, choose, after, named}
+use Rattle.jp_query.specs.Reading.Scalars.{Read, Reader, ◌>>=◌, choose, after, first_and_run}
 
 -- DIGIT1
 abbrev pub is_positive_digit : ℕ → Bool
@@ -9,11 +9,11 @@ is_positive_digit c = is_digit c && not (c == 48)
 
 -- DIGIT1 *DIGIT
 unfoldable pub positive : Reader (List ℕ)
-positive x = named is_positive_digit is_digit x
+positive x = first_and_run is_positive_digit is_digit x
 
 -- 1*DIGIT
 unfoldable pub some_digits : Reader (List ℕ)
-some_digits x = named is_digit is_digit x
+some_digits x = first_and_run is_digit is_digit x
 
 -- what an int begins with
 abbrev pub is_int_first : ℕ → Bool

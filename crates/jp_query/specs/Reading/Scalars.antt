@@ -7,6 +7,7 @@ use Rattle.jp_model.specs.Query.Spelling.{is_name_first, is_name_scalar, is_func
 abbrev pub Read : Type 0 → Type 0
 Read A = Option (A × List ℕ)
 
+-- what reads from the front of some scalars
 abbrev pub Reader : Type 0 → Type 0
 Reader A = List ℕ → Read A
 
@@ -80,17 +81,17 @@ abbrev pub all_of : {A : Type 0} → Item A → Reader (List A)
 all_of item x = many item (length x) x
 
 -- a run of a class whose first scalar is of another one
-abbrev pub named : (ℕ → Bool) → (ℕ → Bool) → Reader (List ℕ)
-named is_first is_member [] = None
-named is_first is_member (c ∷ x) = cond (is_first c) (Some (c ∷ (run is_member x).0, (run is_member x).1)) None
+abbrev pub first_and_run : (ℕ → Bool) → (ℕ → Bool) → Reader (List ℕ)
+first_and_run is_first is_member [] = None
+first_and_run is_first is_member (c ∷ x) = cond (is_first c) (Some (c ∷ (run is_member x).0, (run is_member x).1)) None
 
 -- member-name-shorthand (RFC 9535, section 2.5.1.1)
 unfoldable pub shorthand : Reader (List ℕ)
-shorthand x = named is_name_first is_name_scalar x
+shorthand x = first_and_run is_name_first is_name_scalar x
 
 -- function-name (RFC 9535, section 2.4)
 unfoldable pub function_name : Reader (List ℕ)
-function_name x = named is_lower is_function_scalar x
+function_name x = first_and_run is_lower is_function_scalar x
 
 -- the name of a function, and what stands behind it and its parenthesis (RFC 9535, section 2.4)
 unfoldable pub call_start : Reader (List ℕ)

@@ -43,12 +43,12 @@ next_scalar quote (c ∷ x) =
     (cond (is_plain c || c == 34 || c == 39) (Some (Some (c, x))) None))
 
 -- behind the first of two quotes of a kind
-unfoldable pub quoted : ℕ → Reader (List ℕ)
-quoted quote x = do
+unfoldable pub between_quotes : ℕ → Reader (List ℕ)
+between_quotes quote x = do
   r ← all_of (next_scalar quote) x
   y ← after quote r.1
   Some (r.0, y)
 
 -- string-literal
 unfoldable pub string_at : Reader (List ℕ)
-string_at x = choose (after 34 x) (quoted 34) (choose (after 39 x) (quoted 39) None)
+string_at x = choose (after 34 x) (between_quotes 34) (choose (after 39 x) (between_quotes 39) None)

@@ -9,7 +9,7 @@ ghost use Rattle.jp_query.specs.Reading.Scalars.{begins};
 
 use super::class::Class;
 use super::failure::Failure;
-use super::scalars::{after, begins_with, named};
+use super::scalars::{after, begins_with, first_and_run};
 use std::alloc::Global;
 
 /// The first integer above the exact ones (RFC 9535, section 2.1).
@@ -48,10 +48,10 @@ pub(crate) fn int(text: &[char]) -> Option<(i64, &[char])>
         return Some((0, rest));
     }
     if let Some(rest) = after(text, '-') {
-        let (digits, rest) = named(rest, Class::PositiveDigit, Class::Digit)?;
+        let (digits, rest) = first_and_run(rest, Class::PositiveDigit, Class::Digit)?;
         return Some((-clamped(digits), rest));
     }
-    let (digits, rest) = named(text, Class::PositiveDigit, Class::Digit)?;
+    let (digits, rest) = first_and_run(text, Class::PositiveDigit, Class::Digit)?;
     Some((clamped(digits), rest))
 }
 
@@ -63,7 +63,7 @@ fn behind_int(text: &[char]) -> Option<&[char]>
     if let Some(rest) = after(text, '0') {
         return Some(rest);
     }
-    let (_, rest) = named(text, Class::PositiveDigit, Class::Digit)?;
+    let (_, rest) = first_and_run(text, Class::PositiveDigit, Class::Digit)?;
     Some(rest)
 }
 
@@ -75,7 +75,7 @@ fn behind_fraction(text: &[char]) -> Option<&[char]>
     let Some(rest) = after(text, '.') else {
         return Some(text);
     };
-    let (_, rest) = named(rest, Class::Digit, Class::Digit)?;
+    let (_, rest) = first_and_run(rest, Class::Digit, Class::Digit)?;
     Some(rest)
 }
 
@@ -99,11 +99,11 @@ fn behind_exponent(text: &[char]) -> Option<&[char]>
     ensures { option_map (λ r. r.now) result ≡ option_map (λ r. r.1) (exponent text.now) }
 {
     if let Some(rest) = after(text, 'e') {
-        let (_, rest) = named(behind_sign(rest), Class::Digit, Class::Digit)?;
+        let (_, rest) = first_and_run(behind_sign(rest), Class::Digit, Class::Digit)?;
         return Some(rest);
     }
     if let Some(rest) = after(text, 'E') {
-        let (_, rest) = named(behind_sign(rest), Class::Digit, Class::Digit)?;
+        let (_, rest) = first_and_run(behind_sign(rest), Class::Digit, Class::Digit)?;
         return Some(rest);
     }
     Some(text)

@@ -2,7 +2,7 @@
 
 ghost use Rattle.std.specs.Prelude.{◌≡◌, ◌++◌, [], ◌∷◌, IfOk, OnOk, option_map, chars, string_bytes};
 ghost use Rattle.jp_query.specs.Parsing.{Gives, is_member};
-ghost use Rattle.jp_query.specs.Reading.Scalars.{after, after_all, run, skip_blanks, after_blanks, begins, named, shorthand, call_start};
+ghost use Rattle.jp_query.specs.Reading.Scalars.{after, after_all, run, skip_blanks, after_blanks, begins, first_and_run, shorthand, call_start};
 
 use super::class::Class;
 use super::failure::Failure;
@@ -66,8 +66,12 @@ pub(crate) fn after_blanks(text: &[char], wanted: char) -> Option<&[char]>
 }
 
 /// A run of a class whose first scalar is of another one, and what is left.
-pub(crate) fn named(text: &[char], first: Class, others: Class) -> Option<(&[char], &[char])>
-    ensures { option_map (λ x. (x.0.now, x.1.now)) result ≡ named (is_member first) (is_member others) text.now }
+pub(crate) fn first_and_run(
+    text: &[char],
+    first: Class,
+    others: Class,
+) -> Option<(&[char], &[char])>
+    ensures { option_map (λ x. (x.0.now, x.1.now)) result ≡ first_and_run (is_member first) (is_member others) text.now }
 {
     if begins_with(text, first) {
         let (name, _) = run(&text[1..], others);
@@ -99,7 +103,7 @@ pub(crate) fn to_text(alloc: Global, scalars: &[char]) -> Result<String, AllocEr
 pub(crate) fn shorthand(alloc: Global, text: &[char]) -> Result<(String, &[char]), Failure>
     ensures { Gives (λ x. (chars (string_bytes x.0), x.1.now)) result (shorthand text.now) }
 {
-    let Some((name, rest)) = named(text, Class::NameFirst, Class::NameScalar) else {
+    let Some((name, rest)) = first_and_run(text, Class::NameFirst, Class::NameScalar) else {
         return Err(Failure::Syntax);
     };
     Ok((to_text(alloc, name)?, rest))
@@ -110,7 +114,7 @@ pub(crate) fn shorthand(alloc: Global, text: &[char]) -> Result<(String, &[char]
 pub(crate) fn call_start(text: &[char]) -> Option<(&[char], &[char])>
     ensures { option_map (λ x. (x.0.now, x.1.now)) result ≡ call_start text.now }
 {
-    let (name, rest) = named(text, Class::Lower, Class::FunctionScalar)?;
+    let (name, rest) = first_and_run(text, Class::Lower, Class::FunctionScalar)?;
     let rest = after(rest, '(')?;
     Some((name, rest))
 }

@@ -4,7 +4,7 @@ ghost use Rattle.std.specs.Prelude.{◌≡◌, ◌<◌, if◌then◌else◌, IsT
 ghost use Rattle.std.specs.Char.{is_digit, digit_value};
 ghost use Rattle.jp_model.specs.Characters.{four_digits, pair_value, is_surrogate, is_high_surrogate, is_low_surrogate};
 ghost use Rattle.jp_query.specs.Parsing.{Gives};
-ghost use Rattle.jp_query.specs.Reading.Strings.{hex4, low_half, hex_scalar, escaped_letter, escape_at, next_scalar, quoted, string_at};
+ghost use Rattle.jp_query.specs.Reading.Strings.{hex4, low_half, hex_scalar, escaped_letter, escape_at, next_scalar, between_quotes, string_at};
 
 use super::failure::Failure;
 use super::scalars::{after, push_scalar};
@@ -154,9 +154,9 @@ fn next_scalar(text: &[char], quote: char) -> Option<Option<(char, &[char])>>
 }
 
 /// What is spelled behind the first of two quotes of a kind, and what is left behind the second.
-#[tactic(auto, unfolding(crate::specs::Reading::Strings::quoted))]
-fn quoted(alloc: Global, text: &[char], quote: char) -> Result<(String, &[char]), Failure>
-    ensures { Gives (λ x. (chars (string_bytes x.0), x.1.now)) result (quoted quote text.now) }
+#[tactic(auto, unfolding(crate::specs::Reading::Strings::between_quotes))]
+fn between_quotes(alloc: Global, text: &[char], quote: char) -> Result<(String, &[char]), Failure>
+    ensures { Gives (λ x. (chars (string_bytes x.0), x.1.now)) result (between_quotes quote text.now) }
 {
     let mut spelled = String::new(alloc);
     let mut rest = text;
@@ -182,10 +182,10 @@ pub(crate) fn string(alloc: Global, text: &[char]) -> Result<(String, &[char]), 
     ensures { Gives (λ x. (chars (string_bytes x.0), x.1.now)) result (string_at text.now) }
 {
     if let Some(rest) = after(text, '"') {
-        return quoted(alloc, rest, '"');
+        return between_quotes(alloc, rest, '"');
     }
     match after(text, '\'') {
-        Some(rest) => quoted(alloc, rest, '\''),
+        Some(rest) => between_quotes(alloc, rest, '\''),
         None => Err(Failure::Syntax),
     }
 }

@@ -9,11 +9,11 @@ ghost use Rattle.jp_model.specs.Json.Tree.{Tree};
 ghost use Rattle.jp_model.specs.Json.Spelling.{Text, opening, closing};
 ghost use Rattle.jp_model.specs.Json.Status.{IsNoText};
 ghost use Rattle.jp_model.specs.Json.Marks.{marks as marks_of};
-ghost use Rattle.jp_tape.specs.Words.{head_word, span_word, up_word, container_code};
+ghost use Rattle.jp_tape.specs.Words.{head_word, span_word, container_code};
 ghost use Rattle.jp_tape.specs.Places.{Stops};
 ghost use Rattle.jp_tape.specs.Ahead.{IsAhead, IsAheadOf};
 ghost use Rattle.jp_tape.specs.Reading.{body_word, code_of, container_if, NoLabel, OnFault};
-ghost use Rattle.jp_tape.specs.Machine.{State, Stands, Steps, NoStep, IsWithin, IsBehind, Labelled, IsFinished, IsCounted, IsClosed, Holds, next_up};
+ghost use Rattle.jp_tape.specs.Machine.{State, Stands, Steps, NoStep, IsWithin, IsBehind, Labelled, IsFinished, IsCounted, IsClosed, Holds, next_above};
 ghost use Rattle.jp_tape.specs.declared.builder.machine.Open.{Open};
 ghost use Rattle.jp_tape.specs.declared.builder.machine.Turn.TheVariants as turns;
 
@@ -40,6 +40,15 @@ struct Open {
     is_object: bool,
 }
 
+/// Where a value stands among the nodes.
+#[derive(Clone, Copy)]
+struct Above {
+    /// The place of its parent; 0 for the root.
+    parent: u32,
+    /// How many of its siblings stand before it.
+    index: u32,
+}
+
 /// What is read next.
 #[derive(Clone, Copy)]
 enum Turn {
@@ -53,7 +62,7 @@ enum Turn {
 /// What has been read of a line, in lists that are lent from line to line: `Builder::build` forgets the line before.
 #[derive(Drop)]
 pub struct Builder<'a> {
-    /// Four words to a node. The first two of an open container are not known yet.
+    /// Three words to a node. The first two of an open container are not known yet.
     pub(super) words: Vec<u64>,
     /// The containers that are open, the innermost last.
     opened: Vec<Open>,
@@ -84,7 +93,7 @@ fn closing_of(is_object: bool) -> u8
     if is_object { b'}' } else { b']' }
 }
 
-/// The number of a kind in a node's first word.
+/// The number of a kind in a node's first word. That of the nodes below is added to an array's or an object's.
 fn code(kind: Kind) -> u64
     ensures { result ≡ code_of kind }
 {
@@ -94,8 +103,8 @@ fn code(kind: Kind) -> u64
         Kind::True => 2,
         Kind::Number => 3,
         Kind::Text => 4,
-        Kind::Array => 5,
-        Kind::Object => 6,
+        Kind::Array => 1 << 31,
+        Kind::Object => 1 << 32,
     }
 }
 
@@ -107,11 +116,11 @@ fn container_kind(is_object: bool) -> Kind
 
 /// The first word of a node.
 #[tactic(auto, unfolding(crate::specs::Words::head_word))]
-fn head(kind: Kind, after: usize) -> u64
-    requires { after ≤ 2 ^ 32 }
-    ensures { result ≡ head_word (code_of kind) after }
+fn head(kind: Kind, below: usize, parent: u32) -> u64
+    requires { below + 2 < 2 ^ 32 }
+    ensures { result ≡ head_word (code_of kind) below parent }
 {
-    code(kind) * (1 << 56) + after as u64
+    (code(kind) + below as u64) * (1 << 31) + parent as u64
 }
 
 /// The second word of a node, and the third of one that has a name.
@@ -123,42 +132,27 @@ fn span_to_word(start: u32, end: u32) -> u64
 }
 
 /// The third word of a node.
-fn name_to_word(name: Option<Span>) -> u64
-    ensures { result ≡ body_word name }
+fn label_to_word(name: Option<Span>, index: u32) -> u64
+    ensures { result ≡ body_word index name }
 {
     match name {
         Some(body) => span_to_word(body.start, body.end),
-        None => 0,
+        None => index as u64,
     }
-}
-
-/// The fourth word of a node.
-#[tactic(auto, unfolding(crate::specs::Words::up_word))]
-fn up_to_word(parent: u32, index: u32) -> u64
-    ensures { result ≡ up_word parent index }
-{
-    parent as u64 * (1 << 32) + index as u64
 }
 
 /// Writes a node.
 #[inline(always)]
-fn write_node(
-    words: &mut Vec<u64>,
-    head: u64,
-    span: u64,
-    name: u64,
-    up: u64,
-) -> Result<(), BuildFault>
-    ensures written { IfOk result (λ _. words.new.items ≡ words.old.items ++ head ∷ span ∷ name ∷ up ∷ []) }
+fn write_node(words: &mut Vec<u64>, head: u64, span: u64, label: u64) -> Result<(), BuildFault>
+    ensures written { IfOk result (λ _. words.new.items ≡ words.old.items ++ head ∷ span ∷ label ∷ []) }
     ensures memory { IfErr result (λ fault. OnFault fault ⊥) }
 {
-    if words.reserve(4).is_err() {
+    if words.reserve(3).is_err() {
         return Err(BuildFault::Memory);
     }
     words.push_reserved(head);
     words.push_reserved(span);
-    words.push_reserved(name);
-    words.push_reserved(up);
+    words.push_reserved(label);
     Ok(())
 }
 
@@ -238,16 +232,22 @@ impl<'a> Builder<'a> {
         self.has_duplicate = false;
     }
 
-    /// The fourth word of the next value: it is a child of the innermost container, or the root.
+    /// Where the next value stands: it is a child of the innermost container, or the root.
     #[inline(always)]
-    fn up(&self) -> u64
-        ensures { result ≡ next_up self.now.opened.items }
+    fn above(&self) -> Above
+        ensures { result ≡ next_above self.now.opened.items }
     {
         if self.opened.is_empty() {
-            return up_to_word(0, 0);
+            return Above {
+                parent: 0,
+                index: 0,
+            };
         }
         let parent = self.opened[self.opened.len() - 1];
-        up_to_word(parent.place, parent.children)
+        Above {
+            parent: parent.place,
+            index: parent.children,
+        }
     }
 
     /// Reads what stands before a child's value, and keeps its name.
@@ -293,7 +293,7 @@ impl<'a> Builder<'a> {
         requires opens { Has line.now at (opening (container_if is_object)) }
         requires room { length line.now < 2 ^ 32 }
         requires utf8 { IsUtf8 line.now }
-        requires few { length self.old.words.items ≤ 4 * at }
+        requires few { length self.old.words.items ≤ 3 * at }
         requires ahead { IsAhead line.now at self.old.marks.now }
         ensures goes_on { IfOk result (λ turn. Steps line.now (turns.Value name at) self.old turn self.new) }
         ensures behind { IfOk result (λ turn. IsBehind line.now at turn self.new) }
@@ -302,14 +302,15 @@ impl<'a> Builder<'a> {
     {
         self.marks = marks_behind(self.marks, 1);
         let inside = skip_white(line, self.marks, at + 1);
-        let place = self.words.len() / 4;
-        let up = self.up();
+        let place = self.words.len() / 3;
+        let above = self.above();
+        let label = label_to_word(name, above.index);
         self.deepest = larger(self.deepest, self.opened.len() + 1);
         if is_at(line, inside, closing_of(is_object)) {
             self.marks = marks_behind(self.marks, 1);
             let span = span_to_word(at as u32, (inside + 1) as u32);
-            let head = head(container_kind(is_object), place + 1);
-            return match write_node(&mut self.words, head, span, name_to_word(name), up) {
+            let head = head(container_kind(is_object), 0, above.parent);
+            return match write_node(&mut self.words, head, span, label) {
                 Ok(()) => Ok(Turn::After(inside + 1)),
                 Err(fault) => Err(fault),
             };
@@ -321,7 +322,7 @@ impl<'a> Builder<'a> {
             names: self.names.len(),
             is_object,
         };
-        match write_node(&mut self.words, 0, 0, name_to_word(name), up) {
+        match write_node(&mut self.words, 0, 0, label) {
             Ok(()) => {}
             Err(fault) => return Err(fault),
         }
@@ -338,7 +339,7 @@ impl<'a> Builder<'a> {
         requires within { at ≤ length line.now }
         requires room { length line.now < 2 ^ 32 }
         requires utf8 { IsUtf8 line.now }
-        requires few { length self.old.words.items ≤ 4 * at }
+        requires few { length self.old.words.items ≤ 3 * at }
         requires ahead { IsAhead line.now at self.old.marks.now }
         ensures goes_on { IfOk result (λ turn. Steps line.now (turns.Value name at) self.old turn self.new) }
         ensures behind { IfOk result (λ turn. IsBehind line.now at turn self.new) }
@@ -358,10 +359,11 @@ impl<'a> Builder<'a> {
             return Err(GRAMMAR);
         };
         self.marks = marks_behind(self.marks, scalar.marks);
-        let head = head(scalar.kind, self.words.len() / 4 + 1);
+        let above = self.above();
+        let head = head(scalar.kind, 0, above.parent);
         let span = span_to_word(at as u32, scalar.end as u32);
-        let up = self.up();
-        match write_node(&mut self.words, head, span, name_to_word(name), up) {
+        let label = label_to_word(name, above.index);
+        match write_node(&mut self.words, head, span, label) {
             Ok(()) => {}
             Err(fault) => return Err(fault),
         }
@@ -373,19 +375,15 @@ impl<'a> Builder<'a> {
     /// Closes the innermost container, which ends before `end`.
     #[inline(always)]
     fn close(&mut self, container: Open, end: usize) -> Result<(), BuildFault>
-        requires place { 4 * container.place + 1 < length self.old.words.items }
+        requires place { 3 * container.place + 2 < length self.old.words.items }
         requires last { 0 < length self.old.opened.items }
         requires names { container.names ≤ length self.old.names.items }
-        requires few { length self.old.words.items < 4 * end }
+        requires few { length self.old.words.items < 3 * end }
         requires room { end < 2 ^ 32 }
         ensures closed { IfOk result (λ _. IsClosed container end self.old self.new) }
         ensures marks { IfOk result (λ _. self.new.marks.now ≡ self.old.marks.now) }
         ensures memory { IfErr result (λ fault. OnFault fault ⊥) }
     {
-        let place = container.place as usize;
-        let kind = container_kind(container.is_object);
-        self.words[4 * place] = head(kind, self.words.len() / 4);
-        self.words[4 * place + 1] = span_to_word(container.start, end as u32);
         if !self.has_surrogate {
             let Ok(is_repeated) = has_equal(&mut self.names[container.names..], &mut self.keys)
             else {
@@ -395,6 +393,11 @@ impl<'a> Builder<'a> {
         }
         self.names.truncate(container.names);
         self.opened.pop();
+        let place = container.place as usize;
+        let kind = container_kind(container.is_object);
+        let below = self.words.len() / 3 - place - 1;
+        self.words[3 * place] = head(kind, below, self.above().parent);
+        self.words[3 * place + 1] = span_to_word(container.start, end as u32);
         Ok(())
     }
 
@@ -415,7 +418,7 @@ impl<'a> Builder<'a> {
         requires within { at ≤ length line.now }
         requires room { length line.now < 2 ^ 32 }
         requires utf8 { IsUtf8 line.now }
-        requires few { length self.old.words.items ≤ 4 * at }
+        requires few { length self.old.words.items ≤ 3 * at }
         requires ahead { IsAhead line.now at self.old.marks.now }
         requires holds { Holds line.now (turns.After at) self.old }
         ensures goes_on { IfOk result (λ turn. Steps line.now (turns.After at) self.old turn self.new) }

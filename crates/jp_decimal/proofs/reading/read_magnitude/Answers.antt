@@ -1,14 +1,14 @@
 use Rattle.std.proofs.Common.{◌∙◌, ◌++◌, refl, false, ap, arith, length, length-append, ℕ}
 use Rattle.std.proofs.lemmas.Int.{ints}
-use Rattle.jp_decimal.proofs.Digits.{test_from_digits}
+use Rattle.jp_model.proofs.Reader.Numbers.{digits_whole}
 use Rattle.jp_decimal.proofs.Spelled.{unsigned_refused}
 use Rattle.jp_decimal.proofs.reading.read_magnitude.Goals as goal
 
 pub invariant_of-result-clause-int_digits : goal.invariant_of-result-clause-int_digits
-invariant_of-result-clause-int_digits c = test_from_digits c.split_digits.result.0.now c.split_digits.ensures.digits
+invariant_of-result-clause-int_digits c = digits_whole c.split_digits.result.0.now c.split_digits.ensures.digits
 
 pub invariant_of-result-clause-fraction_digits : goal.invariant_of-result-clause-fraction_digits
-invariant_of-result-clause-fraction_digits c = test_from_digits c.in-Ok.fraction.now c.in-Ok.ensures.read.spells.digits
+invariant_of-result-clause-fraction_digits c = digits_whole c.in-Ok.fraction.now c.in-Ok.ensures.read.spells.digits
 
 pub invariant_of-result-clause-room : goal.invariant_of-result-clause-room
 invariant_of-result-clause-room c =

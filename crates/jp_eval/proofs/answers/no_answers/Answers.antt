@@ -1,6 +1,5 @@
 -- None was put behind none.
-use Rattle.std.proofs.Common.{◌≡◌, ◌∙◌, sym, ap, List}
-use Rattle.jp_eval.proofs.Answered.{none_at_all, none_more}
+use Rattle.jp_eval.proofs.Answered.{none_more}
 use Rattle.jp_eval.proofs.answers.no_answers.Goals as goal
 
 pub loop-place-preserved : goal.loop-place-preserved

@@ -1,5 +1,5 @@
 -- What was compiled means what it was made of.
-use Rattle.std.proofs.Common.{rules, arith, ◌≡◌, ◌∙◌, ℕ, ◌+◌, true, List, [], ◌∷◌, map, drop, sym, ap, ap₂, subst, chars, string_bytes, Vec, Global, Box}
+use Rattle.std.proofs.Common.{rules, arith, ◌≡◌, ◌∙◌, ℕ, ◌+◌, true, List, ◌∷◌, map, drop, sym, ap, subst, chars, string_bytes}
 use Rattle.std.proofs.lemmas.Bool.{and_parts}
 use Rattle.jp_model.specs.Query.Syntax as syntax
 use Rattle.jp_model.specs.Query.Limits.{segments_pass, selectors_pass, logicals_pass, arguments_pass, logical_passes, comparable_passes}
@@ -10,7 +10,7 @@ use Rattle.jp_query.specs.declared.tree.Logical.{Logical}
 use Rattle.jp_query.specs.declared.tree.Argument.{Argument}
 use Rattle.jp_query.specs.declared.tree.Origin.{Origin}
 use Rattle.jp_eval.specs.Expressions.{readable}
-use Rattle.jp_eval.specs.Programs.{Table, Means, step_view, choice_view, condition_view, given_view, nodes_view, side_view, invoked_view, steps_view, givens_view}
+use Rattle.jp_eval.specs.Programs.{Table, step_view, choice_view, condition_view, given_view, nodes_view, side_view, invoked_view, givens_view}
 use Rattle.jp_eval.specs.declared.program.Step.TheVariants as steps
 use Rattle.jp_eval.specs.declared.program.Choice.TheVariants as choices
 use Rattle.jp_eval.specs.declared.program.Condition.TheVariants as conditions
@@ -22,7 +22,6 @@ use Rattle.jp_eval.specs.declared.program.Slot.{Slot}
 use Rattle.jp_eval.specs.declared.program.Slot.TheOpen.{Slot-F}
 use Rattle.jp_eval.specs.declared.program.Slot.TheViews.{roll-Slot}
 use Rattle.std.proofs.lemmas.List.{drop_all}
-use Rattle.std.proofs.lemmas.Grind.{common_steps}
 use Rattle.jp_eval.proofs.Lists.{item_at}
 use Rattle.jp_eval.proofs.Sizes.{size_of_segments, size_of_selectors, size_of_logical, size_of_logicals, size_of_arguments}
 use Rattle.jp_eval.proofs.Views.{path_viewed, call_viewed, compare_viewed, nodes_viewed, condition_viewed, result_viewed}

@@ -1,9 +1,8 @@
 -- The condition means the expression. No answer was there.
-use Rattle.std.proofs.Common.{rules, ◌≡◌, ◌∙◌, ap, subst, List}
+use Rattle.std.proofs.Common.{◌≡◌, ◌∙◌, ap, subst, List}
 use Rattle.std.specs.Prelude.{IfOk}
 use Rattle.jp_model.specs.Meaning.Selecting.{truth}
 use Rattle.jp_model.specs.Query.Syntax.{Logical}
-use Rattle.jp_query.specs.View.{logical_view}
 use Rattle.jp_tape.specs.Cursors.{node_of}
 use Rattle.jp_eval.specs.Programs.{table_of, condition_view}
 use Rattle.jp_eval.specs.declared.program.Slot.{Slot}

@@ -1,12 +1,12 @@
 -- What was added is what the steps select, and what was answered is what the parts of a filter mean.
-use Rattle.std.proofs.Common.{rules, w64, ℤ, pos, Bool, ◌≡◌, ◌∙◌, ◌+◌, ◌-◌, ◌++◌, [], ◌∷◌, List, ℕ, true, false, refl, map, take, drop, length, filter, flat_map, sym, ap, ap₂, subst, arith, Some, Option}
-use Rattle.std.specs.Prelude.{IfOk, OnOk, not}
+use Rattle.std.proofs.Common.{rules, w64, ℤ, Bool, ◌≡◌, ◌∙◌, ◌+◌, ◌-◌, ◌++◌, [], ◌∷◌, List, ℕ, true, false, refl, map, take, drop, length, filter, flat_map, sym, ap, ap₂, subst, arith, Some, Option}
+use Rattle.std.specs.Prelude.{IfOk, OnOk}
 use Rattle.jp_model.specs.Json.Tree.{Tree, Value}
 use Rattle.jp_model.specs.Meaning.Nodes.{Node, children, children_where, subtree}
 use Rattle.jp_model.specs.Steps.{Step}
 use Rattle.jp_model.specs.Meaning.Selecting.{nodes, selected, select, truth, path_nodes, given_by, call_value, call_truth}
 use Rattle.jp_model.specs.Meaning.Slices.{named, indexed, sliced, is_index}
-use Rattle.jp_model.specs.Meaning.Functions.{Given, length_of, counted, in_pattern, single_value, literal_value}
+use Rattle.jp_model.specs.Meaning.Functions.{Given, counted, in_pattern, single_value, literal_value}
 use Rattle.jp_model.specs.Query.Syntax as syntax
 use Rattle.jp_model.specs.Query.Syntax.{Segments}
 use Rattle.jp_model.proofs.Seek.{no_nodes}
@@ -14,7 +14,7 @@ use Rattle.jp_tape.specs.declared.cursor.Cursor.{Cursor}
 use Rattle.jp_tape.specs.Cursors.{line_of, place_of, node_of, nodes_from, nodes_after}
 use Rattle.jp_values.specs.declared.value.Value.{Value as Side}
 use Rattle.jp_values.specs.Values.{value_view}
-use Rattle.jp_eval.specs.Frames.{table_in, tree_in, AreKept}
+use Rattle.jp_eval.specs.Frames.{table_in, AreKept}
 use Rattle.jp_eval.specs.Functions.{passing}
 use Rattle.jp_eval.specs.Programs.{steps_view, choices_view, choice_view, condition_view, nodes_view, invoked_view, given_view}
 use Rattle.jp_eval.specs.Walks.{IsAt, rises}
@@ -33,7 +33,7 @@ use Rattle.jp_eval.proofs.Calls.{called, few_called, many_called, none_called, s
 use Rattle.jp_eval.proofs.Compiled.{name_is, index_is, slice_is, nodes_given, pattern_given}
 use Rattle.jp_eval.proofs.Counts.{counted_so, single_found, none_single}
 use Rattle.jp_eval.proofs.Descendants.{below_at}
-use Rattle.jp_eval.proofs.Goes.{Goes, others_are, goes_from, is_done, is_full, now_is, filter_taken, filter_passed, nothing_added}
+use Rattle.jp_eval.proofs.Goes.{Goes, others_are, goes_from, is_done, is_full, now_is, filter_taken, filter_passed, filter_all, filter_none, nothing_added}
 use Rattle.jp_eval.proofs.Kept.{adds_none, adds_more, cut_back, line_on, line_of_some}
 use Rattle.jp_eval.proofs.Lists.{item_at, one_item, two_items}
 use Rattle.jp_eval.proofs.Patterns.{told, one_proof}
@@ -156,6 +156,53 @@ push_filtered-returns t c =
     let ss : Segments = steps_view (table_in c.args.run) c.args.rest.now in
     let p = λ (n : Node). truth (condition_view (table_in c.args.run) c.args.condition.now) n u in
     record { adds = c.loop-next.invariant.goes.kept; kept = c.loop-next.invariant.kept; nodes = is_done c.loop-next.invariant.goes (ap (λ (o : Option Cursor). nodes ss (filter p (nodes_from o)) u) c.in_default.is ∙ no_nodes ss u) }
+
+-- ---- all children, or none
+
+pub push_all_or_none-returns-in_default : goal.push_all_or_none-returns-in_default
+push_all_or_none-returns-in_default t c =
+    let u : Tree = (node_of c.args.run.root).tree in
+    let ss : Segments = steps_view (table_in c.args.run) c.args.rest.now in
+    let p = λ (n : Node). truth (condition_view (table_in c.args.run) c.args.condition.now) n u in
+    let none : filter p (children (node_of c.args.node)) ≡ [] = ap (filter p) (sym c.first_child.ensures.nodes ∙ ap nodes_from c.in_default.is) in
+    record {
+      adds = adds_none (line_of c.args.run.root) c.args.frame.now.found.items c.args.frame.now.found.items refl;
+      kept = c.requires.stands.kept;
+      nodes = nothing_added c.args.most c.args.frame.now.found.items ss u (filter p (children (node_of c.args.node))) c.requires.room none;
+    }
+
+pub push_all_or_none-returns-then-branch : goal.push_all_or_none-returns-then-branch
+push_all_or_none-returns-then-branch t c =
+    let u : Tree = (node_of c.args.run.root).tree in
+    let ss : Segments = steps_view (table_in c.args.run) c.args.rest.now in
+    let p = λ (n : Node). truth (condition_view (table_in c.args.run) c.args.condition.now) n u in
+    let old : List Cursor = c.args.frame.now.found.items in
+    let new : List Cursor = c.push_children.new.frame.found.items in
+    let below : List Node = children (node_of c.args.node) in
+    let child : Node = node_of c.in-Some.child in
+    let first : p child ≡ true = sym c.in_ok-holds.ensures.value ∙ c.if-branch.true in
+    let all : filter p below ≡ below = filter_all p below (λ n. c.requires.same n child u ∙ first) in
+    record {
+      adds = adds_more c.in_ok-holds.ensures.lends.adds c.push_children.ensures.adds;
+      kept = c.push_children.ensures.kept;
+      nodes = subst (λ (l : List Node). OnOk c.push_children.result (map node_of new ≡ take c.args.most (map node_of old ++ nodes ss l u))) (sym all)
+          (subst (λ (l : List Cursor). OnOk c.push_children.result (map node_of new ≡ take c.args.most (map node_of l ++ nodes ss below u))) c.in_ok-holds.ensures.lends.same c.push_children.ensures.nodes);
+    }
+
+pub push_all_or_none-returns-else-branch : goal.push_all_or_none-returns-else-branch
+push_all_or_none-returns-else-branch t c =
+    let u : Tree = (node_of c.args.run.root).tree in
+    let ss : Segments = steps_view (table_in c.args.run) c.args.rest.now in
+    let p = λ (n : Node). truth (condition_view (table_in c.args.run) c.args.condition.now) n u in
+    let below : List Node = children (node_of c.args.node) in
+    let child : Node = node_of c.in-Some.child in
+    let first : p child ≡ false = sym c.in_ok-holds.ensures.value ∙ c.if-branch.false in
+    let none : filter p below ≡ [] = filter_none p below (λ n. c.requires.same n child u ∙ first) in
+    record {
+      adds = c.in_ok-holds.ensures.lends.adds;
+      kept = c.in_ok-holds.ensures.lends.kept;
+      nodes = ap (map node_of) c.in_ok-holds.ensures.lends.same ∙ nothing_added c.args.most c.args.frame.now.found.items ss u (filter p below) c.requires.room none;
+    }
 
 -- ---- from each of some nodes
 

@@ -1,5 +1,5 @@
 -- How far each loop has come, and how large the part of the query is that each function goes into.
-use Rattle.std.proofs.Common.{◌≡◌, ◌≤◌, ◌+◌, ◌-◌, true, map, length, filter, flat_map, drop}
+use Rattle.std.proofs.Common.{◌≡◌, ◌≤◌, ◌+◌, ◌-◌, map, length, filter, flat_map, drop}
 use Rattle.std.specs.Prelude.{IfSome}
 use Rattle.jp_model.specs.Meaning.Nodes.{Node, children, children_where, subtree}
 use Rattle.jp_model.specs.Meaning.Selecting.{nodes, selected, truth}
@@ -18,13 +18,13 @@ abbrev pub decreases-push_steps : goal.decreases-push_steps
 decreases-push_steps l = size_of_segments (steps_view (table_in l.run) l.steps.now)
 
 abbrev pub decreases-push_descendants : goal.decreases-push_descendants
-decreases-push_descendants l = size_of_selectors (choices_view (table_in l.run) l.choices.now) + size_of_segments (steps_view (table_in l.run) l.rest.now) + 4
+decreases-push_descendants l = size_of_selectors (choices_view (table_in l.run) l.choices.now) + size_of_segments (steps_view (table_in l.run) l.rest.now) + 5
 
 abbrev pub decreases-push_choices : goal.decreases-push_choices
-decreases-push_choices l = size_of_selectors (choices_view (table_in l.run) l.choices.now) + size_of_segments (steps_view (table_in l.run) l.rest.now) + 3
+decreases-push_choices l = size_of_selectors (choices_view (table_in l.run) l.choices.now) + size_of_segments (steps_view (table_in l.run) l.rest.now) + 4
 
 abbrev pub decreases-push_choice : goal.decreases-push_choice
-decreases-push_choice l = size_of_selector (choice_view (table_in l.run) l.choice.now) + size_of_segments (steps_view (table_in l.run) l.rest.now) + 2
+decreases-push_choice l = size_of_selector (choice_view (table_in l.run) l.choice.now) + size_of_segments (steps_view (table_in l.run) l.rest.now) + 3
 
 abbrev pub decreases-push_children : goal.decreases-push_children
 decreases-push_children l = size_of_segments (steps_view (table_in l.run) l.rest.now) + 1
@@ -39,7 +39,10 @@ abbrev pub decreases-push_from_each : goal.decreases-push_from_each
 decreases-push_from_each l = size_of_segments (steps_view (table_in l.run) l.rest.now) + 1
 
 abbrev pub decreases-push_filtered : goal.decreases-push_filtered
-decreases-push_filtered l = size_of_logical (condition_view (table_in l.run) l.condition.now) + size_of_segments (steps_view (table_in l.run) l.rest.now) + 1
+decreases-push_filtered l = size_of_logical (condition_view (table_in l.run) l.condition.now) + size_of_segments (steps_view (table_in l.run) l.rest.now) + 3
+
+abbrev pub decreases-push_all_or_none : goal.decreases-push_all_or_none
+decreases-push_all_or_none l = size_of_logical (condition_view (table_in l.run) l.condition.now) + size_of_segments (steps_view (table_in l.run) l.rest.now) + 2
 
 abbrev pub decreases-holds : goal.decreases-holds
 decreases-holds l = size_of_logical (condition_view (table_in l.run) l.condition.now)

@@ -1,5 +1,5 @@
 -- The line stands where it would be, or is not there.
-use Rattle.std.proofs.Common.{◌≡◌, ◌∙◌, arith, sym}
+use Rattle.std.proofs.Common.{◌∙◌, arith, sym}
 use Rattle.std.proofs.lemmas.List.{get_or_default}
 use Rattle.jp_index.specs.Cells.{key_at}
 use Rattle.jp_index.proofs.ByKey.{left_out, none_left_out, not_there}

@@ -1,4 +1,4 @@
-use Rattle.std.proofs.Common.{◌≡◌, arith}
+use Rattle.std.proofs.Common.{arith}
 use Rattle.jp_index.proofs.Moved.{moved_down}
 use Rattle.jp_index.proofs.order.move_down.Goals as goal
 

@@ -1,4 +1,4 @@
-use Rattle.std.proofs.Common.{◌≡◌, arith}
+use Rattle.std.proofs.Common.{arith}
 use Rattle.jp_index.proofs.Moved.{moved_up}
 use Rattle.jp_index.proofs.order.move_up.Goals as goal
 

@@ -1,5 +1,5 @@
 -- The line is put in its place: moved from where it was, or put in anew.
-use Rattle.std.proofs.Common.{◌≡◌, ◌∙◌, ◌<◌, ◌≤◌, length, drop, take, ◌++◌, refl, sym, subst, ap, arith, IfSome, if◌then◌else◌}
+use Rattle.std.proofs.Common.{◌≡◌, ◌∙◌, ◌<◌, ◌≤◌, length, drop, refl, sym, subst, ap, arith, IfSome, if◌then◌else◌}
 use Rattle.std.specs.Prelude.{insert, remove, Option, Some, None, option_copied, true, vec_len}
 use Rattle.std.specs.Option.{is_some}
 use Rattle.std.proofs.lemmas.List.{take_at}

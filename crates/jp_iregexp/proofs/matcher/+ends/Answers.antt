@@ -1,117 +1,148 @@
-use Rattle.std.proofs.Common.{◌≡◌, ℕ, ◌-◌, ◌≤◌, Option, Some, None, IfOk, length, arith, rules, sym, ◌∙◌, ap, subst}
-use Rattle.jp_iregexp.specs.declared.node.Node.{the_lemmas}
+use Rattle.std.proofs.Common.{◌≡◌, ℕ, ◌-◌, ◌≤◌, inl, inr, Option, Some, None, IfOk, length, arith, rules, sym, ◌∙◌, ap, subst}
+use Rattle.jp_iregexp.specs.declared.node.Node.{Node, the_lemmas}
 use Rattle.jp_iregexp.specs.declared.positions.PositionSet.{PositionSet}
 use Rattle.jp_model.specs.Pattern.Language.{Language, Repeats, RepeatsWithin}
 use Rattle.jp_model.specs.Pattern.Tree.{Pattern}
 use Rattle.jp_iregexp.specs.Positions.{AreEnds}
 use Rattle.jp_iregexp.specs.Nodes.{tree_of, sequence_list, choice_list}
 use Rattle.jp_iregexp.proofs.Parts.{tree_of_Sequence, tree_of_Choice, drop_item, drop_past, if_ok_map}
-use Rattle.jp_iregexp.proofs.Turns.{sequence_step, sequence_end, gather_step, gather_end, exact_start, exact_step, exact_exit, exact_end, further_start, further_step, further_exit, further_end, times_some, times_none, any_number}
+use Rattle.jp_iregexp.proofs.Turns.{continue_start, sequence_step, sequence_end, gather_step, gather_end, exact_start, exact_step, exact_exit, exact_end, further_start, further_step, further_exit, further_end, front_start, front_step, times_some, times_none, any_number}
+use Rattle.jp_iregexp.proofs.Reaching.{same_over}
 use Rattle.jp_iregexp.specs.Tables.{Kept, KeptList}
 use Rattle.jp_iregexp.proofs.Keeping.{kept_at, from_Sequence, from_Choice}
 use Rattle.jp_iregexp.proofs.matcher.+ends.Goals as goal
 
 pub choice_ends-loop-part-preserved : goal.choice_ends-loop-part-preserved
 choice_ends-loop-part-preserved t c =
-    let e = c.add_all.ensures in
-    gather_step c.args.parts.now c.loop-part.part-index c.part-item.result c.args.text.now c.args.starts.now.words.items c.loop-part.all.words.items c.in_ok-reached.reached.words.items c.add_all.new.self.words.items
-    (drop_item c.args.parts.now c.loop-part.part-index c.part-item.result (omega arith) c.part-item.is) c.loop-part.invariant c.in_ok-reached.ensures e.len e.old e.added e.new
+    let e = c.in_ok-add_all.ensures in
+    gather_step c.args.parts.now c.loop-part.part-index c.part-item.result c.args.text.now c.args.starts.now c.loop-part.all c.in_ok-reached.reached c.add_all.new.self
+    (drop_item c.args.parts.now c.loop-part.part-index c.part-item.result (omega arith) c.part-item.is) c.loop-part.invariant c.in_ok-reached.ensures e.old e.added e.new
 
 pub choice_ends-returns : goal.choice_ends-returns
 choice_ends-returns t c =
-    gather_end c.args.parts.now c.loop-part.part-index c.args.text.now c.args.starts.now.words.items c.loop-part.all.words.items
+    gather_end c.args.parts.now c.loop-part.part-index c.args.text.now c.args.starts.now c.loop-part.all
     (drop_past c.args.parts.now c.loop-part.part-index (omega arith)) c.loop-part.invariant
+
+pub sequence_ends-loop-part-init : goal.sequence_ends-loop-part-init
+sequence_ends-loop-part-init t c =
+    continue_start (Language (sequence_list c.args.parts.now)) c.args.text.now c.args.starts.now c.in_ok-reached.reached c.requires.over c.in_ok-reached.ensures
 
 pub sequence_ends-loop-part-preserved : goal.sequence_ends-loop-part-preserved
 sequence_ends-loop-part-preserved t c =
-    sequence_step c.args.parts.now c.loop-part.part-index c.part-item.result (Language (sequence_list c.args.parts.now)) c.args.text.now c.args.starts.now.words.items c.loop-part.reached.words.items c.in_ok-reached-2.reached.words.items
+    sequence_step c.args.parts.now c.loop-part.part-index c.part-item.result (Language (sequence_list c.args.parts.now)) c.args.text.now c.args.starts.now c.loop-part.reached c.in_ok-reached-2.reached
     (drop_item c.args.parts.now c.loop-part.part-index c.part-item.result (omega arith) c.part-item.is) c.loop-part.invariant c.in_ok-reached-2.ensures
 
 pub sequence_ends-returns : goal.sequence_ends-returns
 sequence_ends-returns t c =
-    sequence_end c.args.parts.now c.loop-part.part-index (Language (sequence_list c.args.parts.now)) c.args.text.now c.args.starts.now.words.items c.loop-part.reached.words.items
+    sequence_end c.args.parts.now c.loop-part.part-index (Language (sequence_list c.args.parts.now)) c.args.text.now c.args.starts.now c.loop-part.reached
     (drop_past c.args.parts.now c.loop-part.part-index (omega arith)) c.loop-part.invariant
 
 pub ends-returns-in-Sequence : goal.ends-returns-in-Sequence
 ends-returns-in-Sequence t c =
     let tree : tree_of c.args.node.now ≡ sequence_list c.as_slice.result.now = ap tree_of c.in-Sequence.is ∙ tree_of_Sequence c.in-Sequence.parts ∙ ap sequence_list (sym c.as_slice.ensures.value) in
-    subst (λ (r : Pattern). IfOk c.sequence_ends.result (λ (out : PositionSet). AreEnds (Language r) c.args.text.now c.args.starts.now.words.items out.words.items)) (sym tree) c.sequence_ends.ensures
+    subst (λ (r : Pattern). IfOk c.sequence_ends.result (λ (out : PositionSet). AreEnds (Language r) c.args.text.now c.args.starts.now out)) (sym tree) c.sequence_ends.ensures
 
 pub ends-returns-in-Choice : goal.ends-returns-in-Choice
 ends-returns-in-Choice t c =
     let tree : tree_of c.args.node.now ≡ choice_list c.as_slice-in-Choice.result.now = ap tree_of c.in-Choice.is ∙ tree_of_Choice c.in-Choice.parts ∙ ap choice_list (sym c.as_slice-in-Choice.ensures.value) in
-    subst (λ (r : Pattern). IfOk c.choice_ends.result (λ (out : PositionSet). AreEnds (Language r) c.args.text.now c.args.starts.now.words.items out.words.items)) (sym tree) c.choice_ends.ensures
+    subst (λ (r : Pattern). IfOk c.choice_ends.result (λ (out : PositionSet). AreEnds (Language r) c.args.text.now c.args.starts.now out)) (sym tree) c.choice_ends.ensures
 
-pub exact_turns-loop-turn-init : goal.exact_turns-loop-turn-init
-exact_turns-loop-turn-init t c =
-    exact_start (Language (tree_of c.args.body.now)) c.args.count c.args.text.now c.args.starts.now.words.items c.in_ok-reached.reached.words.items c.requires.over c.in_ok-reached.ensures
+pub exact_turns-returns-in-Class : goal.exact_turns-returns-in-Class
+exact_turns-returns-in-Class t c =
+    subst (λ (n : Node). IfOk c.count_ends.result (λ (out : PositionSet). AreEnds (Repeats (Language (tree_of n)) c.args.count) c.args.text.now c.args.starts.now out)) (sym c.in-Class.is) c.count_ends.ensures
 
-pub exact_turns-loop-turn-preserved : goal.exact_turns-loop-turn-preserved
-exact_turns-loop-turn-preserved t c =
+pub counted_turns-loop-turn-init : goal.counted_turns-loop-turn-init
+counted_turns-loop-turn-init t c =
+    exact_start (Language (tree_of c.args.body.now)) c.args.count c.args.text.now c.args.starts.now c.in_ok-reached.reached c.requires.over c.in_ok-reached.ensures
+
+pub counted_turns-loop-turn-preserved : goal.counted_turns-loop-turn-preserved
+counted_turns-loop-turn-preserved t c =
     let member = Language (tree_of c.args.body.now) in
-    exact_step member (Repeats member c.args.count) c.args.text.now c.args.starts.now.words.items c.loop-turn.reached.words.items c.in_ok-next.next.words.items c.args.count c.loop-turn.turn (omega arith) c.loop-turn.invariant c.in_ok-next.ensures
+    exact_step member (Repeats member c.args.count) c.args.text.now c.args.starts.now c.loop-turn.reached c.in_ok-next.next c.args.count c.loop-turn.turn (omega arith) c.loop-turn.invariant c.in_ok-next.ensures
 
-pub exact_turns-returns-then-is_same : goal.exact_turns-returns-then-is_same
-exact_turns-returns-then-is_same t c =
+pub counted_turns-returns-then-is_same : goal.counted_turns-returns-then-is_same
+counted_turns-returns-then-is_same t c =
     let member = Language (tree_of c.args.body.now) in
-    exact_exit member (Repeats member c.args.count) c.args.text.now c.args.starts.now.words.items c.loop-turn.reached.words.items c.in_ok-next.next.words.items c.args.count c.loop-turn.turn c.loop-turn.invariant c.in_ok-next.ensures (c.is_same.ensures.0 c.if-is_same.true)
+    exact_exit member (Repeats member c.args.count) c.args.text.now c.args.starts.now c.loop-turn.reached c.in_ok-next.next c.args.count c.loop-turn.turn c.loop-turn.invariant c.in_ok-next.ensures (c.is_same.ensures c.if-is_same.true)
 
-pub exact_turns-returns : goal.exact_turns-returns
-exact_turns-returns t c =
+pub counted_turns-returns : goal.counted_turns-returns
+counted_turns-returns t c =
     let member = Language (tree_of c.args.body.now) in
-    exact_end member (Repeats member c.args.count) c.args.text.now c.args.starts.now.words.items c.loop-turn.reached.words.items c.loop-turn.reached.words.items c.args.count c.loop-turn.turn (omega arith) c.loop-turn.invariant
+    exact_end member (Repeats member c.args.count) c.args.text.now c.args.starts.now c.loop-turn.reached c.loop-turn.reached c.args.count c.loop-turn.turn (omega arith) c.loop-turn.invariant
 
 pub further_turns-loop-turn-init : goal.further_turns-loop-turn-init
 further_turns-loop-turn-init t c =
-    further_start (Language (tree_of c.args.body.now)) c.args.most c.args.text.now c.args.starts.now.words.items c.in_ok-reached.reached.words.items c.requires.over c.in_ok-reached.ensures
+    let member = Language (tree_of c.args.body.now) in
+    let reached = c.in_ok-reached.reached in
+    record {
+      continues = further_start member c.args.most c.args.text.now c.args.starts.now reached c.requires.over c.in_ok-reached.ensures;
+      fronts = front_start member c.args.text.now c.args.starts.now reached c.in_ok-frontier.frontier c.in_ok-reached.ensures c.in_ok-frontier.ensures;
+      inside = same_over (length c.args.text.now) c.args.starts.now c.in_ok-frontier.frontier c.in_ok-frontier.ensures c.requires.over;
+    }
 
 pub further_turns-loop-turn-preserved : goal.further_turns-loop-turn-preserved
 further_turns-loop-turn-preserved t c =
     let member = Language (tree_of c.args.body.now) in
-    let e = c.add_all.ensures in
-    further_step member (RepeatsWithin member 0 (Some c.args.most)) c.args.text.now c.args.starts.now.words.items c.loop-turn.reached.words.items c.in_ok-next.next.words.items c.add_all.new.self.words.items c.args.most c.loop-turn.turn (omega arith) c.loop-turn.invariant c.in_ok-next.ensures e.len e.old e.added e.new
+    let l = c.loop-turn in
+    let i = l.invariant in
+    let text = c.args.text.now in
+    let next = c.in_ok-next.next in
+    let fresh = c.in_ok-fresh.fresh in
+    let f = c.in_ok-fresh.ensures in
+    let both = c.add_all.new.self in
+    let e = c.in_ok-add_all.ensures in
+    record {
+      continues = further_step member (RepeatsWithin member 0 (Some c.args.most)) text c.args.starts.now l.reached next l.frontier both c.args.most l.turn (omega arith) i.continues i.fronts c.in_ok-next.ensures
+          (λ q h. elim (f.complete q h) [ inl n ↦ e.added q n | inr o ↦ e.old q o ]) e.old (λ q h. elim (e.new q h) [ inl o ↦ inr o | inr n ↦ inl (f.sound q n) ]);
+      fronts = front_step member text l.reached l.frontier next fresh both i.fronts c.in_ok-next.ensures f.complete e.added e.old e.new;
+      inside = record { within = λ q h. c.in_ok-next.ensures.over.within q (f.sound q h) };
+    }
 
-pub further_turns-returns-then-is_same : goal.further_turns-returns-then-is_same
-further_turns-returns-then-is_same t c =
+pub further_turns-returns-then-not-has_any : goal.further_turns-returns-then-not-has_any
+further_turns-returns-then-not-has_any t c =
     let member = Language (tree_of c.args.body.now) in
-    further_exit member (RepeatsWithin member 0 (Some c.args.most)) c.args.text.now c.args.starts.now.words.items c.loop-turn.reached.words.items c.in_ok-next.next.words.items c.add_all.new.self.words.items c.args.most c.loop-turn.turn c.loop-turn.invariant c.in_ok-next.ensures c.add_all.ensures.old (c.is_same.ensures.0 c.if-is_same.true)
+    let l = c.loop-turn in
+    let i = l.invariant in
+    further_exit member (RepeatsWithin member 0 (Some c.args.most)) c.args.text.now c.args.starts.now l.reached c.in_ok-next.next l.frontier c.args.most l.turn i.continues i.fronts c.in_ok-next.ensures
+    (λ q h. elim (c.in_ok-fresh.ensures.complete q h) [ inl n ↦ absurd (let some = c.has_any.ensures.none q n in let none = c.if-not-has_any.true in cc) | inr o ↦ o ])
 
 pub further_turns-returns : goal.further_turns-returns
 further_turns-returns t c =
     let member = Language (tree_of c.args.body.now) in
-    further_end member (RepeatsWithin member 0 (Some c.args.most)) c.args.text.now c.args.starts.now.words.items c.loop-turn.reached.words.items c.loop-turn.reached.words.items c.args.most c.loop-turn.turn (omega arith) c.loop-turn.invariant
+    let l = c.loop-turn in
+    further_end member (RepeatsWithin member 0 (Some c.args.most)) c.args.text.now c.args.starts.now l.reached l.reached c.args.most l.turn (omega arith) l.invariant.continues
 
 pub any_turns-returns-in_default : goal.any_turns-returns-in_default
 any_turns-returns-in_default t c =
     let member = Language (tree_of c.args.body.now) in
     let text = c.args.text.now in
-    let starts = c.args.starts.now.words.items in
-    if_ok_map (λ (out : PositionSet). AreEnds (RepeatsWithin member 0 (Some (length text))) text starts out.words.items) (λ (out : PositionSet). AreEnds (RepeatsWithin member 0 None) text starts out.words.items) c.further_turns.result
-    (λ out b. any_number member text starts out.words.items b) c.further_turns.ensures
+    let starts = c.args.starts.now in
+    if_ok_map (λ (out : PositionSet). AreEnds (RepeatsWithin member 0 (Some (length text))) text starts out) (λ (out : PositionSet). AreEnds (RepeatsWithin member 0 None) text starts out) c.further_turns.result
+    (λ out b. any_number member text starts out b) c.further_turns.ensures
 
 pub repeated_ends-returns-in_ok-reached-in-Some : goal.repeated_ends-returns-in_ok-reached-in-Some
 repeated_ends-returns-in_ok-reached-in-Some t c =
     let member = Language (tree_of c.args.body.now) in
     let text = c.args.text.now in
-    let starts = c.args.starts.now.words.items in
-    let reached = c.in_ok-reached-in-Some.reached.words.items in
+    let starts = c.args.starts.now in
+    let reached = c.in_ok-reached-in-Some.reached in
     let least = c.args.least in
     let most = c.in-Some.most in
     let enough : least ≤ most = omega arith in
-    subst (λ (m : Option ℕ). IfOk c.up_to_turns.result (λ (out : PositionSet). AreEnds (RepeatsWithin member least m) text starts out.words.items)) (sym c.in-Some.is)
-    (if_ok_map (λ (out : PositionSet). AreEnds (RepeatsWithin member 0 (Some (most - least))) text reached out.words.items) (λ (out : PositionSet). AreEnds (RepeatsWithin member least (Some most)) text starts out.words.items) c.up_to_turns.result
-    (λ out b. times_some member least most text starts reached out.words.items enough c.in_ok-reached-in-Some.ensures b) c.up_to_turns.ensures)
+    subst (λ (m : Option ℕ). IfOk c.up_to_turns.result (λ (out : PositionSet). AreEnds (RepeatsWithin member least m) text starts out)) (sym c.in-Some.is)
+    (if_ok_map (λ (out : PositionSet). AreEnds (RepeatsWithin member 0 (Some (most - least))) text reached out) (λ (out : PositionSet). AreEnds (RepeatsWithin member least (Some most)) text starts out) c.up_to_turns.result
+    (λ out b. times_some member least most text starts reached out enough c.in_ok-reached-in-Some.ensures b) c.up_to_turns.ensures)
 
 pub repeated_ends-returns-in_ok-reached-in-None : goal.repeated_ends-returns-in_ok-reached-in-None
 repeated_ends-returns-in_ok-reached-in-None t c =
     let member = Language (tree_of c.args.body.now) in
     let text = c.args.text.now in
-    let starts = c.args.starts.now.words.items in
-    let reached = c.in_ok-reached-in-None.reached.words.items in
+    let starts = c.args.starts.now in
+    let reached = c.in_ok-reached-in-None.reached in
     let least = c.args.least in
-    subst (λ (m : Option ℕ). IfOk c.any_turns.result (λ (out : PositionSet). AreEnds (RepeatsWithin member least m) text starts out.words.items)) (sym c.in-None.is)
-    (if_ok_map (λ (out : PositionSet). AreEnds (RepeatsWithin member 0 None) text reached out.words.items) (λ (out : PositionSet). AreEnds (RepeatsWithin member least None) text starts out.words.items) c.any_turns.result
-    (λ out b. times_none member least text starts reached out.words.items c.in_ok-reached-in-None.ensures b) c.any_turns.ensures)
+    subst (λ (m : Option ℕ). IfOk c.any_turns.result (λ (out : PositionSet). AreEnds (RepeatsWithin member least m) text starts out)) (sym c.in-None.is)
+    (if_ok_map (λ (out : PositionSet). AreEnds (RepeatsWithin member 0 None) text reached out) (λ (out : PositionSet). AreEnds (RepeatsWithin member least None) text starts out) c.any_turns.result
+    (λ out b. times_none member least text starts reached out c.in_ok-reached-in-None.ensures b) c.any_turns.ensures)
 
 pub choice_ends-ends-requires : goal.choice_ends-ends-requires
 choice_ends-ends-requires t c =

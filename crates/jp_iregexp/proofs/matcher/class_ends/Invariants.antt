@@ -5,4 +5,4 @@ use Rattle.jp_iregexp.proofs.Reaching.{EndsBelow}
 use Rattle.jp_iregexp.proofs.matcher.class_ends.Given as goal
 
 abbrev pub invariant-loop-p : goal.invariant-loop-p
-invariant-loop-p l = EndsBelow l.p (Language (one_of (class_of l.class))) l.text l.starts.words.items l.out.words.items
+invariant-loop-p l = EndsBelow l.p (Language (one_of (class_of l.class))) l.text l.starts l.out

@@ -1,8 +1,7 @@
-use Rattle.std.proofs.Common.{◌≡◌, ◌↔◌, true, ℕ, inl, inr}
+use Rattle.std.proofs.Common.{◌≡◌, ◌↔◌, true}
 use Rattle.jp_model.specs.Pattern.Language.{Language}
 use Rattle.jp_model.specs.Pattern.Membership.{is_in}
 use Rattle.jp_model.proofs.Pattern.Decides.{decides}
-use Rattle.jp_iregexp.specs.Positions.{Has}
 use Rattle.jp_iregexp.specs.Nodes.{tree_of}
 use Rattle.jp_iregexp.proofs.Asked.{whole_sound, whole_complete, same_test}
 use Rattle.jp_iregexp.proofs.pattern.matches_scalars.Goals as goal
@@ -12,11 +11,10 @@ returns c =
     let pattern = tree_of c.args.node.now in
     let member = Language pattern in
     let text = c.args.text.now in
-    let starts = c.insert.new.self.words.items in
-    let ends = c.in_ok-reached.reached.words.items in
-    let only = λ (q : ℕ) (h : Has starts q). elim (c.insert.ensures.new q h) as (λ _. q ≡ 0) [ inl e ↦ e | inr n ↦ absurd (c.in_ok-starts.ensures.none q n) ] in
+    let starts = c.in_ok-starts.starts in
+    let ends = c.in_ok-reached.reached in
     let found : (c.contains.result ≡ true) ↔ member text = (
-      λ h. whole_sound member text starts ends only c.in_ok-reached.ensures (c.contains.ensures.0 h),
-      λ m. c.contains.ensures.1 (whole_complete member text starts ends c.insert.ensures.same c.in_ok-reached.ensures m),
+      λ h. whole_sound member text starts ends c.in_ok-starts.ensures.only c.in_ok-reached.ensures (c.contains.ensures.0 h),
+      λ m. c.contains.ensures.1 (whole_complete member text starts ends c.in_ok-starts.ensures.has c.in_ok-reached.ensures m),
     ) in
     same_test c.contains.result (is_in pattern text) (member text) found (decides pattern text)

@@ -11,10 +11,10 @@ returns c =
     let pattern = tree_of c.args.node.now in
     let member = Language pattern in
     let text = c.args.text.now in
-    let starts = c.in_ok-starts.starts.words.items in
-    let ends = c.in_ok-reached.reached.words.items in
+    let starts = c.in_ok-starts.starts in
+    let ends = c.in_ok-reached.reached in
     let found : (c.has_any.result ≡ true) ↔ Occurs member text = (
       λ h. (let s = c.has_any.ensures.some h in some_sound member text starts ends s.0 c.in_ok-reached.ensures s.1),
-      λ o. (let e = some_complete member text starts ends c.in_ok-starts.ensures.each c.in_ok-reached.ensures o in c.has_any.ensures.none e.place e.within e.has),
+      λ o. (let e = some_complete member text starts ends c.in_ok-starts.ensures.each c.in_ok-reached.ensures o in c.has_any.ensures.none e.place e.has),
     ) in
     same_test c.has_any.result (occurs_in pattern text) (Occurs member text) found (occurrence_decided pattern text)

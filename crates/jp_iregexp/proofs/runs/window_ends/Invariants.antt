@@ -5,4 +5,4 @@ use Rattle.jp_iregexp.proofs.Windows.{WindowBelow}
 use Rattle.jp_iregexp.proofs.runs.window_ends.Given as goal
 
 abbrev pub invariant-loop-p : goal.invariant-loop-p
-invariant-loop-p l = WindowBelow (λ s. IsTrue (in_class (class_of l.class) s)) l.text l.starts.words.items l.out.words.items l.full l.p l.room
+invariant-loop-p l = WindowBelow (λ s. IsTrue (in_class (class_of l.class) s)) l.text l.starts l.out l.full l.p l.room

@@ -4,4 +4,4 @@ use Rattle.jp_iregexp.proofs.Reaching.{EndsBelow}
 use Rattle.jp_iregexp.proofs.table.turn_by.Given as goal
 
 abbrev pub invariant-loop-p : goal.invariant-loop-p
-invariant-loop-p l = EndsBelow l.p (Language (tree_of l._body)) l.text l.starts.words.items l.out.words.items
+invariant-loop-p l = EndsBelow l.p (Language (tree_of l._body)) l.text l.starts l.out

@@ -1,5 +1,5 @@
 use Rattle.std.proofs.Common.{◌≡◌, ◌<◌, subst, sym, length, List, ℕ, true}
-use Rattle.jp_decimal.specs.Reading.{Refuses}
+use Rattle.jp_decimal.specs.Reading.{RefusesNumber}
 use Rattle.jp_query.specs.declared.tree.Literal.{Literal}
 use Rattle.jp_query.specs.View.{literal_view}
 use Rattle.jp_query.specs.Sound.{is_sound}
@@ -15,4 +15,4 @@ pub returns-in-Err : goal.returns-in-Err
 returns-in-Err c =
     let items = c.in-Number.spelling.items in
     let sound = subst (λ (l : Literal). is_sound (literal_view l) ≡ true) c.in-Number.is c.requires in
-    absurd (literal_is_read items c.in-Err.field-0 sound (subst (λ (b : List ℕ). Refuses b c.in-Err.field-0) c.deref.ensures.value c.in-Err.ensures))
+    absurd (literal_is_read items c.in-Err.field-0 sound (subst (λ (b : List ℕ). RefusesNumber b c.in-Err.field-0) c.deref.ensures.value c.in-Err.ensures))

@@ -1,5 +1,5 @@
 -- A vector has fewer items than the largest number, so none was cut away. No answer was there.
-use Rattle.std.proofs.Common.{rules, ◌≡◌, ◌∙◌, ◌++◌, ◌∷◌, [], ap, ap₂, List, map, arith, Result, Ok, Err, Vec, Global}
+use Rattle.std.proofs.Common.{◌≡◌, ◌∙◌, ◌++◌, ◌∷◌, [], ap, ap₂, List, map, arith, Result, Ok, Err, Vec, Global}
 use Rattle.std.specs.Prelude.{OnOk}
 use Rattle.jp_model.specs.Json.Tree.{Tree}
 use Rattle.jp_model.specs.Meaning.Nodes.{Node}

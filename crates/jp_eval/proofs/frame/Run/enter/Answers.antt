@@ -1,9 +1,8 @@
 -- A slot's steps are read by its own slots.
-use Rattle.std.proofs.Common.{◌≡◌, ◌∙◌, ap₂, sym, refl, List, [], length, slice_get, Some, None}
+use Rattle.std.proofs.Common.{◌∙◌, ap₂, sym, refl, List, [], length}
 use Rattle.std.proofs.lemmas.Bool.{ltb-false}
 use Rattle.std.proofs.lemmas.Option.{slice_get_read, slice_get_past}
-use Rattle.jp_eval.specs.Programs.{table_of, steps_view, segments_or_none}
-use Rattle.jp_eval.specs.Frames.{table_in}
+use Rattle.jp_eval.specs.Programs.{table_of, steps_view}
 use Rattle.jp_eval.specs.declared.frame.Run.{Run}
 use Rattle.jp_eval.specs.declared.program.Slot.{Slot}
 use Rattle.jp_eval.specs.declared.program.Step.{Step}

@@ -1,6 +1,5 @@
-use Rattle.std.proofs.Common.{ℕ, ◌<◌}
-use Rattle.jp_iregexp.specs.Positions.{Has}
+use Rattle.std.proofs.Common.{◌≡◌, ℕ, ◌<◌, get_or}
 use Rattle.jp_iregexp.proofs.positions.PositionSet.has_any.Given as goal
 
-abbrev pub invariant-loop-p : goal.invariant-loop-p
-invariant-loop-p l = (q : ℕ) → q < l.p → Has l.self.words.items q → ⊥
+abbrev pub invariant-loop-word : goal.invariant-loop-word
+invariant-loop-word l = (k : ℕ) → k < l.word-index → get_or l.self.window.words.items k 0 ≡ 0

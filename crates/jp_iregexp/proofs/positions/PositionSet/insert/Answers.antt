@@ -1,12 +1,21 @@
-use Rattle.std.proofs.Common.{rules}
-use Rattle.jp_iregexp.proofs.Bits.{put_same, put_old, put_new}
+use Rattle.jp_iregexp.specs.Words.{word_of}
+use Rattle.jp_iregexp.proofs.Bits.{one_same, one_old, one_new}
 use Rattle.jp_iregexp.proofs.positions.PositionSet.insert.Goals as goal
 
 pub returns-clause-same : goal.returns-clause-same
-returns-clause-same c = put_same c.args.self.now.words.items c.args.p c.index_mut.result.now (search rules) c.index_mut.ensures.value
+returns-clause-same c =
+    let old = c.args.self.now.window in
+    let new = c.add_word.new.self in
+    one_same (word_of old.first old.words.items) (word_of new.first new.words.items) c.args.p c.in_ok-add_word.ensures.at c.in_ok-add_word.ensures.rest
 
 pub returns-clause-old : goal.returns-clause-old
-returns-clause-old c = put_old c.args.self.now.words.items c.args.p c.index_mut.result.now (search rules) c.index_mut.ensures.value
+returns-clause-old c =
+    let old = c.args.self.now.window in
+    let new = c.add_word.new.self in
+    one_old (word_of old.first old.words.items) (word_of new.first new.words.items) c.args.p c.in_ok-add_word.ensures.at c.in_ok-add_word.ensures.rest
 
 pub returns-clause-new : goal.returns-clause-new
-returns-clause-new c = put_new c.args.self.now.words.items c.args.p c.index_mut.result.now (search rules) c.index_mut.ensures.value
+returns-clause-new c =
+    let old = c.args.self.now.window in
+    let new = c.add_word.new.self in
+    one_new (word_of old.first old.words.items) (word_of new.first new.words.items) c.args.p c.in_ok-add_word.ensures.at c.in_ok-add_word.ensures.rest

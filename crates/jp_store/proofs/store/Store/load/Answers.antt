@@ -1,5 +1,5 @@
 -- The lines are those of the bytes that came, each read, and no index is there.
-use Rattle.std.proofs.Common.{◌≡◌, true, false, refl, ◌∙◌, ◌≤◌, ◌<◌, ◌^◌, ℕ, List, length, map, sym, ap, ap₂, subst, arith, All}
+use Rattle.std.proofs.Common.{◌≡◌, true, false, refl, ◌∙◌, ℕ, List, length, map, sym, ap, ap₂, subst, arith, All}
 use Rattle.jp_model.proofs.Devices.{came_so, goes_on, came_whole, not_ended, was_ended}
 use Rattle.jp_model.specs.Lines.{is_framed, lines}
 use Rattle.jp_model.specs.Steps.{Step}

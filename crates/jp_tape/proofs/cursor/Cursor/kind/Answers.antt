@@ -3,4 +3,4 @@ use Rattle.jp_tape.proofs.Packed.{kind-packed}
 use Rattle.jp_tape.proofs.cursor.Cursor.kind.Goals as goal
 
 pub returns : goal.returns
-returns c = c.kind_of_code.ensures ∙ kind-packed c.head.result _ _ c.head.ensures.word c.head.ensures.room
+returns c = let h = c.head.ensures in c.kind_of_code.ensures ∙ kind-packed c.head.result _ _ h.word h.parent h.below

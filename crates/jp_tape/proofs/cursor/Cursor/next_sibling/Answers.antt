@@ -1,40 +1,41 @@
-use Rattle.std.proofs.Common.{◌≡◌, ◌+◌, ◌<◌, ◌∙◌, ℕ, false, length, ap, sym, subst, arith}
-use Rattle.std.proofs.lemmas.List.{get_or_past}
-use Rattle.jp_model.specs.Meaning.Nodes.{root_node, subtree}
-use Rattle.jp_tape.specs.Cursors.{place_of, root_of, spot_of, node_of}
-use Rattle.jp_tape.proofs.Stands.{has_more}
-use Rattle.jp_tape.proofs.Cursors.{comma_shows, no_comma_shows, next_place, next_sibling, no_sibling}
+use Rattle.std.proofs.Common.{◌≡◌, ◌+◌, ◌∙◌, length, sym, arith}
+use Rattle.jp_model.specs.Meaning.Nodes.{subtree}
+use Rattle.jp_tape.specs.Cursors.{place_of, node_of}
+use Rattle.jp_tape.proofs.Cursors.{words_counted, next_sibling, same_parent, other_parent, at_end, no_sibling}
 use Rattle.jp_tape.proofs.cursor.Cursor.next_sibling.Goals as goal
-use Rattle.jp_tape.proofs.cursor.Cursor.next_sibling.Goals.{else-behind-line-via-then-behind-line+else-line-behind-eq44, else-behind-line-via-else-behind-line}
 
-pub behind_white-behind-requires : goal.behind_white-behind-requires
-behind_white-behind-requires c =
-    let w = c.span.ensures.within in
-    let l = ap length c.line-line.ensures.bytes in
-    omega (arith, w, l)
+pub go_to-next-requires : goal.go_to-next-requires
+go_to-next-requires c =
+    let w = words_counted c.args.self in
+    let f = c.if-self-place.false in
+    omega (arith, w, f)
 
-pub go_to-requires : goal.go_to-requires
-go_to-requires c =
+pub returns-then-self-place : goal.returns-then-self-place
+returns-then-self-place c =
     let self = c.args.self in
-    let more = comma_shows self _ _ _ c.line-line.ensures.bytes c.span.ensures.value c.behind_white-behind.ensures.value c.if-line-behind-eq44.true in
-    subst (λ (n : ℕ). n < length (subtree (root_node (root_of self)))) (sym c.after.ensures.value) (next_place self more)
+    let w = words_counted self in
+    let t = c.if-self-place.true in
+    let v = c.after-place.ensures.value in
+    let found = no_sibling self (at_end self (omega (arith, w, t, v))) in
+    record { nodes = sym found.0; children = sym found.1; line = tt; place = tt }
 
-pub returns-then-line-behind-eq44 : goal.returns-then-line-behind-eq44
-returns-then-line-behind-eq44 c =
+pub returns-then-up : goal.returns-then-up
+returns-then-up c =
     let self = c.args.self in
-    let more = comma_shows self _ _ _ c.line-line.ensures.bytes c.span.ensures.value c.behind_white-behind.ensures.value c.if-line-behind-eq44.true in
-    let at : place_of c.go_to.result ≡ place_of self + length (subtree (node_of self)) = c.go_to.ensures.place ∙ c.after.ensures.value in
-    let found = next_sibling self c.go_to.result c.go_to.ensures.line at more in
-    record { nodes = found.0; children = found.1; line = c.go_to.ensures.line; place = at }
+    let next = c.go_to-next.result in
+    let line = c.go_to-next.ensures.line in
+    let at : place_of next ≡ place_of self + length (subtree (node_of self)) = c.go_to-next.ensures.place ∙ c.after-place.ensures.value in
+    let same = c.if-up.true in
+    let own = c.up-2.ensures in
+    let other = c.up.ensures in
+    let found = next_sibling self next line at (same_parent self next line at (omega (arith, same, own, other))) in
+    record { nodes = found.0; children = found.1; line = line; place = at }
 
-pub returns-else-behind-line : goal.returns-else-behind-line
-returns-else-behind-line c =
+pub returns-else-up : goal.returns-else-up
+returns-else-up c =
     let self = c.args.self in
-    let none : has_more (spot_of self).behind ≡ false = elim c.else-behind-line.branch [
-      | else-behind-line-via-then-behind-line+else-line-behind-eq44 w ↦ no_comma_shows self _ _ _ c.line-line.ensures.bytes c.span.ensures.value c.behind_white-behind.ensures.value w.if-line-behind-eq44.false
-      | else-behind-line-via-else-behind-line w ↦
-          (let z = get_or_past c.line-line.result.now c.behind_white-behind.result 0 w.if-behind-line.false in
-          no_comma_shows self _ _ _ c.line-line.ensures.bytes c.span.ensures.value c.behind_white-behind.ensures.value (λ e. omega (arith, z, e)))
-    ] in
-    let found = no_sibling self none in
+    let next = c.go_to-next.result in
+    let line = c.go_to-next.ensures.line in
+    let at : place_of next ≡ place_of self + length (subtree (node_of self)) = c.go_to-next.ensures.place ∙ c.after-place.ensures.value in
+    let found = no_sibling self (other_parent self next line at (λ e. c.if-up.false (c.up.ensures ∙ (e ∙ sym c.up-2.ensures)))) in
     record { nodes = sym found.0; children = sym found.1; line = tt; place = tt }

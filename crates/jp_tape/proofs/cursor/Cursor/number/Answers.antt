@@ -1,4 +1,6 @@
 use Rattle.std.proofs.Common.{rules, ◌∙◌, ap, arith, length}
+use Rattle.std.specs.Prelude.{option_map}
+use Rattle.jp_decimal.specs.Decimals.{number_of}
 use Rattle.jp_tape.specs.Cursors.{line_of, node_of}
 use Rattle.jp_tape.proofs.Contents.{source_read, source_short}
 use Rattle.jp_tape.proofs.Cursors.{short, standing, sound}
@@ -15,4 +17,4 @@ read-requires c =
 pub returns : goal.returns
 returns c =
     let self = c.args.self in
-    c.ok.ensures.value ∙ source_read (line_of self) _ (node_of self).tree c.kind.result _ c.kind.ensures (search rules) c.source.ensures (standing self).spells (sound self).exponents c.read.ensures
+    ap (option_map number_of) c.ok.ensures.value ∙ source_read (line_of self) _ (node_of self).tree c.kind.result _ c.kind.ensures (search rules) c.source.ensures (standing self).spells (sound self).exponents c.read.ensures

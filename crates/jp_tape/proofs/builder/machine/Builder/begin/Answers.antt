@@ -1,5 +1,6 @@
-use Rattle.std.proofs.Common.{List, sym, subst, ℕ, ◌+◌, ◌/◌, ap, ◌∙◌, refl}
-use Rattle.jp_tape.specs.Reading.{code_of}
+use Rattle.std.proofs.Common.{List, sym, subst, ℕ, ap, ◌∙◌, refl}
+use Rattle.jp_tape.specs.declared.builder.machine.Above.{Above}
+use Rattle.jp_tape.specs.Reading.{body_word, code_of}
 use Rattle.jp_tape.specs.Words.{head_word}
 use Rattle.jp_tape.specs.Ahead.{IsAhead}
 use Rattle.jp_tape.proofs.Walk.{node_is, scalar_goes_on, no_value, no_value_behind}
@@ -17,7 +18,9 @@ returns-clause-goes_on c =
     let r = c.in-Some.scalar in
     scalar_goes_on c.args.line.now c.args.at c.args.name b _ r c.in-Some.ensures.found
     (record {
-      words_are = node_is b.words.items _ _ _ _ _ _ _ _ _ c.in-Ok.ensures.written (c.head-head.ensures ∙ ap (λ (n : ℕ). head_word (code_of r.kind) (n / 4 + 1)) (c.len.ensures ∙ b.words.ok.0)) c.span_to_word-span.ensures c.name_to_word.ensures c.up-up.ensures;
+      words_are = node_is b.words.items _ _ _ _ _ _ _ c.in-Ok.ensures.written
+          (c.head-head.ensures ∙ ap (λ (a : Above). head_word (code_of r.kind) 0 a.parent) c.above-above.ensures) c.span_to_word-span.ensures
+          (c.label_to_word-label.ensures ∙ ap (λ (a : Above). body_word a.index c.args.name) c.above-above.ensures);
       opened = refl;
       names = refl;
       deepest_is = refl;

@@ -1,13 +1,15 @@
-use Rattle.std.proofs.Common.{List, ℕ, ◌+◌, ◌++◌, ◌∷◌, [], max, sym, ◌∙◌, ap, subst, refl}
+use Rattle.std.proofs.Common.{List, ℕ, ◌+◌, ◌++◌, ◌∷◌, [], max, sym, ◌∙◌, ap, ap₂, subst, refl}
 use Rattle.std.proofs.lemmas.Result.{IfOk-weaker, IfErr-weaker}
 use Rattle.jp_model.specs.Json.Places.{Has, byte_at}
 use Rattle.jp_tape.specs.Ahead.{IsAhead}
+use Rattle.jp_tape.specs.declared.builder.machine.Above.{Above}
 use Rattle.jp_tape.specs.declared.builder.machine.Builder.{Builder}
 use Rattle.jp_tape.specs.declared.builder.machine.Open.{Open}
-use Rattle.jp_tape.specs.Reading.{container_if}
+use Rattle.jp_tape.specs.Words.{head_word}
+use Rattle.jp_tape.specs.Reading.{body_word, container_if}
 use Rattle.jp_tape.proofs.Held.{or_false}
 use Rattle.jp_tape.proofs.Ahead.{passes_structural, bracket_structural, closing_structural}
-use Rattle.jp_tape.proofs.Walk.{node_is, head_is, opened_is, empty_goes_on, enter_goes_on, no_enter, on_fault}
+use Rattle.jp_tape.proofs.Walk.{node_is, opened_is, empty_goes_on, enter_goes_on, no_enter, on_fault}
 use Rattle.jp_tape.proofs.builder.machine.Builder.enter.Goals as goal
 
 pub returns-in-Ok-clause-goes_on : goal.returns-in-Ok-clause-goes_on
@@ -17,7 +19,9 @@ returns-in-Ok-clause-goes_on c =
     empty_goes_on c.args.line.now c.args.at c.skip_white-inside.result c.args.name b _ kind c.requires.opens c.skip_white-inside.ensures.white
     (subst (λ x. Has c.args.line.now c.skip_white-inside.result x) c.closing_of.ensures (c.is_at.ensures.yes c.if-is_at.true))
     (record {
-      words_are = node_is b.words.items _ _ _ _ _ _ _ _ _ c.in-Ok.ensures.written (c.head-head.ensures ∙ head_is c.container_kind.result kind _ _ b.words.items c.container_kind.ensures c.len-place.ensures b.words.ok.0) c.span_to_word-span.ensures c.name_to_word.ensures c.up-up.ensures;
+      words_are = node_is b.words.items _ _ _ _ _ _ _ c.in-Ok.ensures.written
+          (c.head-head.ensures ∙ ap₂ (λ (x : ℕ) (a : Above). head_word x 0 a.parent) c.container_kind.ensures c.above-above.ensures) c.span_to_word-span.ensures
+          (c.label_to_word-label.ensures ∙ ap (λ (a : Above). body_word a.index c.args.name) c.above-above.ensures);
       opened = refl;
       names = refl;
       deepest_is = c.larger-self.ensures ∙ ap (λ n. max b.deepest (n + 1)) (c.len.ensures ∙ b.opened.ok.0);
@@ -36,7 +40,7 @@ returns-clause-goes_on c =
     (λ turn l. enter_goes_on c.args.line.now c.args.at c.skip_white-inside.result c.args.name b mid c.next_child.new.self turn kind c.requires.opens w.white w.stops
     (λ h. c.is_at.ensures.no c.if-is_at.false (subst (λ x. Has c.args.line.now c.skip_white-inside.result x) (sym c.closing_of.ensures) h))
     (record {
-      words = node_is b.words.items _ _ _ _ _ _ _ _ _ c.in-Ok-write_node.ensures.written refl refl c.name_to_word-2.ensures c.up-up.ensures;
+      words = node_is b.words.items _ _ _ _ _ _ _ c.in-Ok-write_node.ensures.written refl refl (c.label_to_word-label.ensures ∙ ap (λ (a : Above). body_word a.index c.args.name) c.above-above.ensures);
       opened = (rw c.reserve.ensures.items at c.push_reserved.ensures.items) ∙ ap (λ (o : Open). b.opened.items ++ o ∷ []) (opened_is c.args.is_object _ _ _ _ c.args.at (c.len-place.ensures ∙ b.words.ok.0) (c.len-2.ensures ∙ b.names.ok.0));
       names = refl;
       deepest = c.larger-self.ensures ∙ ap (λ n. max b.deepest (n + 1)) (c.len.ensures ∙ b.opened.ok.0);

@@ -1,0 +1,11 @@
+-- A body that is no longer than a text, and not its bytes, spells another.
+use Rattle.std.proofs.Common.{◌∙◌, sym, arith}
+use Rattle.std.proofs.lemmas.Bool.{iff_false}
+use Rattle.jp_strings.proofs.Widths.{unlike_texts}
+use Rattle.jp_strings.proofs.order.may_spell.Goals as goal
+
+pub returns-else-body-text : goal.returns-else-body-text
+returns-else-body-text c =
+    let same = c.as_bytes.ensures.value in
+    let short = c.if-body-text.false in
+    λ f. unlike_texts c.args.body.now c.args.text.now c.requires c.utf8.text (omega (arith, short)) (λ e. iff_false c.equal_bytes.ensures f (e ∙ sym same))

@@ -1,0 +1,3 @@
+-- What worked examples speak of.
+pub mod Written
+pub mod Texts
