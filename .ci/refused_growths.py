@@ -444,18 +444,18 @@ def pattern_growths(lines, condition):
 
 
 def check_growths(checks):
-    """The growths of an edit do not come with the number of lines. A query has one for the list of a line's nodes; a text that runs
-    through the places of a pattern has none."""
-    cases = [("an edit", 0, lambda lines: edit_growths(lines, "")),
-             ("an edit with an index", 0, lambda lines: edit_growths(lines, "index $\n")),
-             ("a pattern", 1, lambda lines: pattern_growths(lines, r"match(@,'((a*)*b?)*\\p{Nd}')")),
-             ("a search", 1, lambda lines: pattern_growths(lines, "search(@,'(a|b){3,30}[0-9]+')"))]
-    for name, by_line, growths in cases:
+    """The growths of an edit or a query do not come with the number of lines: a text that runs through the places of a pattern has
+    none."""
+    cases = [("an edit", lambda lines: edit_growths(lines, "")),
+             ("an edit with an index", lambda lines: edit_growths(lines, "index $\n")),
+             ("a pattern", lambda lines: pattern_growths(lines, r"match(@,'((a*)*b?)*\\p{Nd}')")),
+             ("a search", lambda lines: pattern_growths(lines, "search(@,'(a|b){3,30}[0-9]+')"))]
+    for name, growths in cases:
         one, many = growths(1), growths(200)
         fault = None
         if one is None or many is None:
             fault = "it was not answered as stated"
-        elif not 0 < many <= one + 20 + 199 * by_line:
+        elif not 0 < many <= one + 20:
             fault = f"{many} growths, and {one} on one line"
         else:
             print(f"{name} on 200 lines: {many} growths, and {one} on one line")
