@@ -18,5 +18,6 @@ pub mod Compiled
 pub mod Patterns
 pub mod Answered
 pub mod Entered
+pub mod SingularSteps
 pub mod Following
 mod Literals

@@ -11,6 +11,7 @@ mod leaves;
 mod program;
 mod rooted;
 mod run;
+mod singular;
 mod steps;
 
 pub use evaluate::{Program, eval_from, truth};

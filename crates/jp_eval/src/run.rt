@@ -22,6 +22,7 @@ use crate::frame::{Answer, Frame, Run};
 use crate::functions::{Function, in_pattern, length_of, read_passes};
 use crate::program::{Choice, Condition, Given, Invoked, Nodes, Side, Step};
 use crate::rooted::asks_root_alone;
+use crate::singular::value_of;
 use jp_tape::Cursor;
 use jp_values::{Value, compare_in};
 use std::alloc::AllocError;
@@ -386,6 +387,9 @@ fn find_any<'a>(
     ensures lends { Lends run.entry frame.old frame.new result }
     ensures value { IfOk result (λ b. b ≡ not (length (path_nodes (nodes_view (table_in run.entry) nodes.now) (node_of node.entry) (tree_in run.entry)) == 0)) }
 {
+    if let Some(end) = run.singular(nodes, node) {
+        return Ok(end.is_some());
+    }
     let before = frame.found.len();
     push_nodes(run, nodes, node, before + 1, frame)?;
     let found = frame.found.len() > before;
@@ -425,6 +429,9 @@ fn find_single<'a>(
     ensures sound { IfOk result (λ v. IsTrue (is_sound_value v)) }
     ensures value { IfOk result (λ v. value_view v ≡ single_value_of (path_nodes (nodes_view (table_in run.entry) nodes.now) (node_of node.entry) (tree_in run.entry))) }
 {
+    if let Some(end) = run.singular(nodes, node) {
+        return Ok(value_of(end));
+    }
     let before = frame.found.len();
     push_nodes(run, nodes, node, before + 2, frame)?;
     let value = if frame.found.len() == before + 1 {

@@ -1,0 +1,76 @@
+//! Queries within a filter that go by names and indexes alone: they lead to one node or to none (RFC 9535, section 2.3.5.1), and
+//! that is found without a list.
+
+ghost use Rattle.std.specs.Prelude.{◌≡◌, ◌∷◌, [], IfSome, IsTrue};
+ghost use Rattle.jp_model.specs.Json.Tree.{Tree};
+ghost use Rattle.jp_model.specs.Meaning.Functions.{single_value};
+ghost use Rattle.jp_model.specs.Meaning.Selecting.{nodes as nodes_of, segment_nodes, path_nodes};
+ghost use Rattle.jp_tape.specs.Cursors.{line_of, node_of};
+ghost use Rattle.jp_eval.specs.Found.{node_list};
+ghost use Rattle.jp_eval.specs.Frames.{table_in, tree_in};
+ghost use Rattle.jp_eval.specs.Programs.{Table, nodes_view, step_view, steps_view};
+ghost use Rattle.jp_values.specs.Values.{value_view, is_sound_value};
+
+use crate::children::{find_element, find_member};
+use crate::frame::Run;
+use crate::program::{Choice, Nodes, Step};
+use jp_tape::Cursor;
+use jp_values::Value;
+
+/// The child that a step by one name or by one index selects, where there is one. None at another step.
+fn singular_child<'a>(step: &Step, node: Cursor<'a>) -> Option<Option<Cursor<'a>>>
+    ensures nodes { (table : Table) (t : Tree) → IfSome result (λ end. node_list end ≡ segment_nodes (step_view table step.now) (node_of node.entry) t) }
+    ensures line { IfSome result (λ end. IfSome end (λ c. line_of c ≡ line_of node.entry)) }
+{
+    let Step::Child(choices) = step else {
+        return None;
+    };
+    let [choice] = choices.as_slice() else {
+        return None;
+    };
+    match choice {
+        Choice::Name(name) => Some(find_member(node, name.as_str())),
+        Choice::Index(index) => Some(find_element(node, *index)),
+        _ => None,
+    }
+}
+
+/// The node that steps by names and indexes lead to, where there is one. None where another step is met.
+fn singular_end<'a>(steps: &[Step], start: Cursor<'a>) -> Option<Option<Cursor<'a>>>
+    ensures nodes { (table : Table) (t : Tree) → IfSome result (λ end. node_list end ≡ nodes_of (steps_view table steps.now) (node_of start.entry ∷ []) t) }
+    ensures line { IfSome result (λ end. IfSome end (λ c. line_of c ≡ line_of start.entry)) }
+{
+    let mut node = start;
+    for step in steps {
+        match singular_child(step, node)? {
+            Some(child) => node = child,
+            None => return Some(None),
+        }
+    }
+    Some(Some(node))
+}
+
+/// The value of a node, where there is one.
+pub(crate) fn value_of<'a>(end: Option<Cursor<'a>>) -> Value<'a>
+    ensures sound { IsTrue (is_sound_value result) }
+    ensures value { value_view result ≡ single_value (node_list end.entry) }
+{
+    match end {
+        Some(node) => Value::Node(node),
+        None => Value::Nothing,
+    }
+}
+
+impl<'p, 'a> Run<'p, 'a> {
+    /// The node that a query by names and indexes leads to, where there is one. None where another step is met.
+    pub(crate) fn singular(self, nodes: &Nodes, node: Cursor<'a>) -> Option<Option<Cursor<'a>>>
+        requires { line_of node ≡ line_of self.root }
+        ensures nodes { IfSome result (λ end. node_list end ≡ path_nodes (nodes_view (table_in self.entry) nodes.now) (node_of node.entry) (tree_in self.entry)) }
+        ensures line { IfSome result (λ end. IfSome end (λ c. line_of c ≡ line_of self.entry.root)) }
+    {
+        match nodes {
+            Nodes::Current(steps) => singular_end(steps, node),
+            Nodes::Slot(place) => singular_end(self.enter(*place).1, self.root),
+        }
+    }
+}
