@@ -1,6 +1,5 @@
 //! The commands that change what is held: indexes and edits. A command that is refused changes nothing.
 
-ghost use Rattle.std.specs.Prelude.{◌≡◌, IfOk, OnErr};
 ghost use Rattle.jp_model.specs.Script.Commands.{index_line, drop_line, append_line, replace_line};
 ghost use Rattle.jp_query.specs.Status.{query_of};
 ghost use Rattle.jp_cli.specs.Replies.{TellsEditFault};

@@ -1,6 +1,5 @@
 //! What `explain` answers: the plan of a query, and how many lines it opens.
 
-ghost use Rattle.std.specs.Prelude.{◌≡◌};
 ghost use Rattle.jp_model.specs.Script.Commands.{explain_line};
 ghost use Rattle.jp_query.specs.Status.{query_of};
 ghost use Rattle.jp_cli.specs.Runs.{FitsSetup, RepliesTo};

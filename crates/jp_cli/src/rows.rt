@@ -1,12 +1,11 @@
 //! What `query` answers: the rows of the selected nodes and of the refused lines, and how many nodes there are.
 
-ghost use Rattle.std.specs.Prelude.{◌≡◌, ◌++◌, false, is_err, map, IfOk, flat_map, count_by};
+ghost use Rattle.std.specs.Prelude.{◌≡◌, ◌++◌, false, is_err, IfOk, flat_map, count_by};
 ghost use Rattle.jp_model.specs.Devices.{Writes};
 ghost use Rattle.jp_model.specs.Rows.{rows as rows_of};
 ghost use Rattle.jp_model.specs.Script.Commands.{query_line};
-ghost use Rattle.jp_model.specs.Script.Machine.{rows_text, count_line};
+ghost use Rattle.jp_model.specs.Script.Machine.{count_line};
 ghost use Rattle.jp_query.specs.Status.{query_of};
-ghost use Rattle.jp_query.specs.Queries.{query_view};
 ghost use Rattle.jp_model.specs.Query.Status.{query};
 ghost use Rattle.jp_types.specs.Checks.{checked_view};
 ghost use Rattle.jp_store.specs.Collections.{statuses_in};

@@ -1,4 +1,4 @@
-ghost use Rattle.std.specs.Prelude.{◌≡◌, ◌↔◌, IsTrue};
+ghost use Rattle.std.specs.Prelude.{◌≡◌};
 ghost use Rattle.std.specs.Ordering.{is_eq};
 ghost use Rattle.jp_decimal.specs.Values.{order};
 ghost use Rattle.jp_decimal.specs.Decimals.{number_of};

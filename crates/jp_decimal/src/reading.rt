@@ -1,6 +1,6 @@
-ghost use Rattle.std.specs.Prelude.{◌≡◌, ◌≢◌, ℕ, ◌+◌, ◌*◌, ◌^◌, ◌<◌, ◌≤◌, ◌++◌, ◌↔◌, Bool, true, false, pos, negsuc, ◌≤ℤ◌, List, [], ◌∷◌, length, slice_index_or, IsTrue, IfOk, MatchOption, MatchResult};
+ghost use Rattle.std.specs.Prelude.{◌≡◌, ◌≢◌, ℕ, ◌+◌, ◌*◌, ◌^◌, ◌<◌, ◌≤◌, ◌++◌, ◌↔◌, Bool, true, false, pos, negsuc, ◌≤ℤ◌, List, ◌∷◌, length, slice_index_or, IsTrue, IfOk, MatchOption, MatchResult};
 ghost use Rattle.jp_model.specs.Characters.{is_digit, digits_value};
-ghost use Rattle.jp_model.specs.Json.Numbers.{AreDigits, AreSomeDigits, IsInt, without_leading_zeros, Sign, is_minus, sign_bytes, minus_bytes};
+ghost use Rattle.jp_model.specs.Json.Numbers.{AreDigits, AreSomeDigits, IsInt, without_leading_zeros, Sign, is_minus, sign_bytes};
 ghost use Rattle.jp_decimal.specs.Decimals.{number_of};
 ghost use Rattle.jp_decimal.specs.Reading.{ReadsAs, RefusesNumber};
 ghost use Rattle.jp_decimal.specs.Steps.{ExponentIs, RefusesExponent, BehindIntIs, RefusesBehindInt, MagnitudeIs, RefusesUnsigned, letter};

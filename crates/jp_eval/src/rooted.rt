@@ -1,6 +1,6 @@
 //! Conditions that do not ask the node that is filtered.
 
-ghost use Rattle.std.specs.Prelude.{◌≡◌, true, ℕ};
+ghost use Rattle.std.specs.Prelude.{◌≡◌, true};
 ghost use Rattle.jp_eval.specs.Expressions.{IsSameForAll};
 ghost use Rattle.jp_eval.specs.Programs.{Table, condition_view, side_view};
 ghost use Rattle.jp_model.specs.Json.Tree.{Tree};

@@ -1,6 +1,6 @@
 //! The ASCII scalars of a class, as the bits of a word. Those of a range take no pass over them.
 
-ghost use Rattle.std.specs.Prelude.{◌≡◌, ◌<◌, ◌==◌, ◌&&◌, nat_le, IsTrue, map};
+ghost use Rattle.std.specs.Prelude.{◌<◌, ◌==◌, ◌&&◌, nat_le, map};
 ghost use Rattle.std.specs.List.{list_any};
 ghost use Rattle.jp_model.specs.Pattern.Classes.{in_class, in_item, in_property};
 ghost use Rattle.jp_iregexp.specs.Nodes.{class_of, item_of, property_of};

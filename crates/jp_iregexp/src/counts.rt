@@ -1,6 +1,6 @@
 //! Quantifiers (RFC 9485, section 3).
 
-ghost use Rattle.std.specs.Prelude.{◌≡◌, ◌≤◌, option_map, IfSome};
+ghost use Rattle.std.specs.Prelude.{◌≡◌, option_map};
 ghost use Rattle.jp_model.specs.Pattern.Reading.{then_read, up_to, bound_value, count_in, with_rest};
 ghost use Rattle.jp_iregexp.specs.Tokens.{count_of_pair};
 

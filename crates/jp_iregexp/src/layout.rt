@@ -1,11 +1,11 @@
 //! The places of a pattern's parts.
 
-ghost use Rattle.std.specs.Prelude.{◌≡◌, ℕ, ◌+◌, ◌&&◌, ◌||◌, ◌↔◌, IfOk, bit_or, map, true, List, Some, None};
+ghost use Rattle.std.specs.Prelude.{◌≡◌, ◌&&◌, ◌||◌, IfOk, bit_or, map, true, Some, None};
 ghost use Rattle.std.specs.Option.{IfSome};
 ghost use Rattle.jp_model.specs.Pattern.Language.{Language, RepeatsWithin};
 ghost use Rattle.jp_model.specs.Pattern.Tree.{one_of};
 ghost use Rattle.jp_iregexp.specs.Places.{entry, Accepts};
-ghost use Rattle.jp_iregexp.specs.Layouts.{LaidOnto, Turns, place_of};
+ghost use Rattle.jp_iregexp.specs.Layouts.{LaidOnto, place_of};
 ghost use Rattle.jp_iregexp.specs.Nodes.{tree_of, class_of, sequence_list, choice_list};
 
 use crate::automaton::{Automaton, END, MOST_PLACES, Place};

@@ -1,6 +1,6 @@
 // The ends of a part from each position of a text, kept for turns that come again.
 
-ghost use Rattle.std.specs.Prelude.{◌≡◌, ◌^◌, ◌<◌, ◌≤◌, IfOk, length};
+ghost use Rattle.std.specs.Prelude.{◌^◌, ◌<◌, IfOk, length};
 ghost use Rattle.jp_iregexp.specs.Positions.{IsSetOver, AreEnds};
 ghost use Rattle.jp_iregexp.specs.Tables.{IsTable, Kept};
 ghost use Rattle.jp_model.specs.Pattern.Language.{Language};

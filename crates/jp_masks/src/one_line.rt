@@ -1,13 +1,12 @@
 //! The marks of one line.
 
-ghost use Rattle.std.specs.Prelude.{◌≡◌, ℕ, ◌+◌, ◌*◌, ◌^◌, ◌<◌, ◌≤◌, List, ◌++◌, true, length, map, flat_map, nat_lt, IfOk, OnOk};
+ghost use Rattle.std.specs.Prelude.{◌≡◌, ℕ, ◌+◌, ◌*◌, ◌^◌, ◌<◌, ◌≤◌, List, ◌++◌, length, flat_map, nat_lt, IfOk};
 ghost use Rattle.jp_model.specs.Json.Marks.{marks};
 ghost use Rattle.jp_model.specs.Json.Spelling.{Text};
 ghost use Rattle.jp_model.specs.Json.Tree.{Tree};
 ghost use Rattle.jp_masks.specs.Tokens.{tokens};
-ghost use Rattle.jp_lanes.specs.Word.{bit, Says};
+ghost use Rattle.jp_lanes.specs.Word.{Says};
 ghost use Rattle.jp_masks.specs.OneLine.{HasMarked};
-ghost use Rattle.jp_masks.specs.Places.{set_bits};
 
 use crate::block::{Carry, push_places, scan_block};
 use jp_lanes::pad;

@@ -1,6 +1,6 @@
 //! Lines that end inside a string or a character, in any pieces.
 
-ghost use Rattle.std.specs.Prelude.{ℕ, ◌+◌, ◌^◌, ◌<◌, ◌++◌, length, IfOk};
+ghost use Rattle.std.specs.Prelude.{◌+◌, ◌^◌, ◌<◌, ◌++◌, length, IfOk};
 ghost use Rattle.jp_masks.specs.Scanned.{AreAllOf};
 
 use crate::{Marks, Scanner, laws, line_marks};

@@ -1,6 +1,6 @@
 //! The lines that have to be opened. None is opened here.
 
-ghost use Rattle.std.specs.Prelude.{◌≡◌, ◌<◌, ◌≤◌, true, length, filter, All, Some, IfOk, IsTrue};
+ghost use Rattle.std.specs.Prelude.{◌≡◌, ◌<◌, true, length, filter, All, Some, IfOk};
 ghost use Rattle.jp_model.specs.Numbered.{numbers_where};
 ghost use Rattle.jp_model.specs.Plans.{is_guard_operator, is_tree};
 ghost use Rattle.jp_query.specs.Sound.{is_sound};

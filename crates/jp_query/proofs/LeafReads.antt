@@ -5,11 +5,11 @@ use Rattle.jp_model.specs.Characters.{is_digit, is_lower, is_surrogate, is_high_
 use Rattle.jp_model.specs.Query.Spelling.{Shorthand, shorthand, FunctionName, function_name, Positive, positive, Int, zero_int, positive_int, negative_int, Hex4, hex4, Escape, escaped_b, escaped_f, escaped_n, escaped_r, escaped_t, escaped_slash, escaped_backslash, escaped_scalar, escaped_pair, Quoted, closing_quote, plain, other_quote, escaped_quote, escaped, StringLiteral, double_quoted, single_quoted, IsOp, equal_op, not_equal_op, less_equal_op, greater_equal_op, less_op, greater_op, IsOrigin, at_mark, dollar_mark, is_name_first, is_name_scalar, is_function_scalar, is_plain}
 use Rattle.jp_model.specs.Query.Syntax.{CompareOp, Origin}
 use Rattle.jp_query.specs.Reading.Scalars as r
-use Rattle.jp_query.specs.Reading.Scalars.{Read, Item, is_item, ◌>>=◌, choose, after, after_all, run, begins, first_and_run, many, call_start}
+use Rattle.jp_query.specs.Reading.Scalars.{Item, is_item, ◌>>=◌, many, call_start}
 use Rattle.jp_query.specs.Reading.Numbers as numbers
-use Rattle.jp_query.specs.Reading.Numbers.{is_positive_digit, is_int_first, int_at, int_digits, minus, some_digits, fraction, sign, exponent_behind, exponent, number_at}
+use Rattle.jp_query.specs.Reading.Numbers.{is_positive_digit, is_int_first, int_at}
 use Rattle.jp_query.specs.Reading.Strings as strings
-use Rattle.jp_query.specs.Reading.Strings.{low_half, hex_scalar, escape_at, escaped_letter, next_scalar, between_quotes, string_at}
+use Rattle.jp_query.specs.Reading.Strings.{low_half, hex_scalar, escape_at, next_scalar, between_quotes, string_at}
 use Rattle.jp_query.specs.Reading.Literals.{is_any_quote, operator_at, origin_at}
 use Rattle.jp_query.proofs.Shrinks.{escape_shrinks}
 use Rattle.jp_query.proofs.Follows.{head, next, ends_segment, segment_head, apart, after_none, not_there, stops, stops_at, named_reads, named_none}

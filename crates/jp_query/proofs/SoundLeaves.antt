@@ -3,9 +3,9 @@ use Rattle.std.proofs.Common.{◌≡◌, ◌≢◌, ℕ, ℤ, pos, neg_ℤ, List
 use Rattle.std.proofs.lemmas.Bool.{and_parts, eqb-true, eqb-false, or_cases}
 use Rattle.jp_model.specs.Characters.{is_digit, is_lower, digits_value, four_digits, is_surrogate, is_high_surrogate, is_low_surrogate, pair_value}
 use Rattle.jp_model.specs.Query.Spelling as s
-use Rattle.jp_model.specs.Query.Spelling.{Run, Blanks, Shorthand, FunctionName, Positive, Int, Hex4, Escape, Quoted, StringLiteral, IsLiteral, IsOp, IsOrigin, is_name_first, is_name_scalar, is_function_scalar, is_plain}
+use Rattle.jp_model.specs.Query.Spelling.{Shorthand, FunctionName, Positive, Int, Hex4, Escape, Quoted, StringLiteral, IsOp, IsOrigin, is_name_first, is_name_scalar, is_function_scalar, is_plain}
 use Rattle.jp_model.specs.Query.Syntax as syntax
-use Rattle.jp_model.specs.Query.Syntax.{CompareOp, Origin, Literal}
+use Rattle.jp_model.specs.Query.Syntax.{CompareOp, Origin}
 use Rattle.jp_query.specs.Reading.Scalars.{after, after_all, many, shorthand, function_name, call_start}
 use Rattle.jp_query.specs.Reading.Numbers.{positive, is_positive_digit, int_at}
 use Rattle.jp_query.specs.Reading.Strings.{hex4, low_half, hex_scalar, escaped_letter, escape_at, next_scalar, between_quotes, string_at}

@@ -4,7 +4,7 @@ use Rattle.std.proofs.lemmas.Bool.{and_parts}
 use Rattle.jp_model.specs.Characters.{is_digit}
 use Rattle.jp_model.specs.Json.Numbers.{AreDigits, AreSomeDigits, IsInt, Sign, no_sign, plus_sign, minus_sign, Numeral, IsExponent, IsNumeral, minus_bytes, fraction_bytes, sign_bytes, exponent_bytes, numeral_bytes}
 use Rattle.jp_model.specs.Query.Spelling as s
-use Rattle.jp_model.specs.Query.Spelling.{Run, run_ends, run_goes_on, IsLiteral, Front}
+use Rattle.jp_model.specs.Query.Spelling.{Run, run_ends, run_goes_on, IsLiteral}
 use Rattle.jp_model.specs.Query.Syntax as syntax
 use Rattle.jp_model.specs.Query.Syntax.{Literal}
 use Rattle.jp_query.specs.Reading.Scalars.{choose, after, after_all, begins}

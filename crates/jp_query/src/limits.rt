@@ -1,8 +1,8 @@
 //! The limits of a query that was read: its integers and its exponents.
 
-ghost use Rattle.std.specs.Prelude.{◌≡◌, ◌==◌, ◌≤◌, nat_lt, not, length, drop};
+ghost use Rattle.std.specs.Prelude.{◌≡◌, ◌==◌, ◌≤◌, nat_lt, length, drop};
 ghost use Rattle.jp_model.specs.Json.Numbers.{head_of, leading_digits, leading_sign, behind_sign, leading_fraction, leading_exponent, minus_bytes, fraction_bytes, without_leading_zeros, exponent_digits, numeral_of, is_long_exponent};
-ghost use Rattle.jp_model.specs.Query.Limits.{is_exact, bound_passes, literal_small, segments_pass, segment_passes, selector_passes, logical_passes, comparable_passes, path_passes, call_passes, argument_passes};
+ghost use Rattle.jp_model.specs.Query.Limits.{bound_passes, segments_pass, segment_passes, selector_passes, logical_passes, comparable_passes, path_passes, call_passes, argument_passes};
 ghost use Rattle.jp_query.specs.Limits.{limit_tests};
 ghost use Rattle.jp_query.specs.View.{literal_view, segments_view, segment_view, selector_view, logical_view, comparable_view, path_view, call_view, argument_view};
 

@@ -1,6 +1,6 @@
 //! The lines of the bytes that were read.
 
-ghost use Rattle.std.specs.Prelude.{◌≡◌, ◌+◌, ◌<◌, ◌≤◌, ◌^◌, ◌++◌, ℕ, All, take, drop, map, length, slice_get, Some, IfOk, OnOk};
+ghost use Rattle.std.specs.Prelude.{◌≡◌, ◌+◌, ◌<◌, ◌≤◌, ◌^◌, ◌++◌, All, take, drop, map, length, slice_get, Some, IfOk, OnOk};
 ghost use Rattle.jp_model.specs.Lines.{lines, without_byte_order_mark as without_mark};
 ghost use Rattle.jp_model.specs.Json.Places.{bytes_between};
 ghost use Rattle.jp_masks.specs.Found.{found, lines_in};

@@ -1,6 +1,6 @@
 //! The lines of a collection and the indexes over them.
 
-ghost use Rattle.std.specs.Prelude.{◌≡◌, ℕ, ◌+◌, ◌<◌, ◌≤◌, ◌^◌, true, false, List, length, count_by, slice_get, Some, None, is_ok, MatchOption, MatchResult};
+ghost use Rattle.std.specs.Prelude.{◌≡◌, ◌+◌, ◌<◌, ◌≤◌, ◌^◌, true, false, List, length, count_by, slice_get, Some, None, is_ok, MatchOption, MatchResult};
 ghost use Rattle.jp_model.specs.Devices.{Came, GaveUpTo};
 ghost use Rattle.jp_model.specs.Json.Status.{parsed};
 ghost use Rattle.jp_model.specs.Lines.{is_framed};

@@ -1,5 +1,5 @@
 //! Characters that are written as escapes.
-ghost use Rattle.std.specs.Prelude.{◌≡◌, ℕ, ◌+◌, ◌<◌, ◌≤◌, Some, None, if◌then◌else◌, length};
+ghost use Rattle.std.specs.Prelude.{◌≡◌, ◌+◌, ◌<◌, ◌≤◌, Some, None, if◌then◌else◌, length};
 ghost use Rattle.std.specs.Char as char;
 ghost use Rattle.jp_model.specs.Characters.{is_high_surrogate as is_high_half, four_digits as four_digits_value};
 ghost use Rattle.jp_model.specs.Json.Places.{byte_at};

@@ -1,6 +1,6 @@
 //! The builder of a tape: it reads a line once, and tells its first fault.
 
-ghost use Rattle.std.specs.Prelude.{◌≡◌, ℕ, ◌<◌, ◌↔◌, ◌^◌, true, false, length, IfOk, IfErr, IsTrue, IsUtf8};
+ghost use Rattle.std.specs.Prelude.{◌≡◌, ◌<◌, ◌↔◌, ◌^◌, false, length, IfOk, IfErr, IsTrue, IsUtf8};
 ghost use Rattle.std.specs.Box.{boxed_slice_items};
 ghost use Rattle.jp_model.specs.Lines.{is_blank};
 ghost use Rattle.jp_model.specs.Json.Faults.{is_truncated as truncated};

@@ -1,8 +1,8 @@
 //! A walk over the nodes of a tape.
 
-ghost use Rattle.std.specs.Prelude.{◌≡◌, ℕ, ◌<◌, ◌≤◌, ◌+◌, ◌*◌, ◌^◌, ◌++◌, ◌∷◌, [], true, false, List, length, Some, None, IfSome, IfNone, option_map, slice_get, slice_range, slice_index};
+ghost use Rattle.std.specs.Prelude.{◌≡◌, ◌<◌, ◌≤◌, ◌+◌, ◌*◌, ◌^◌, ◌++◌, ◌∷◌, [], true, false, length, Some, None, IfSome, IfNone, option_map, slice_get, slice_range};
 ghost use Rattle.jp_decimal.specs.Decimals.{number_of};
-ghost use Rattle.jp_model.specs.Json.Tree.{Tree, span as span_of, value_of, count_children};
+ghost use Rattle.jp_model.specs.Json.Tree.{span as span_of, value_of, count_children};
 ghost use Rattle.jp_model.specs.Json.Strings.{SpellsBody, has_lone_surrogate};
 ghost use Rattle.jp_model.specs.Json.Faults.{has_surrogate, has_long_exponent, has_duplicate};
 ghost use Rattle.jp_model.specs.Json.Spelling.{Text, Spells};

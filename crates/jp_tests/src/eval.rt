@@ -1,6 +1,6 @@
 //! What queries select in small lines.
 
-ghost use Rattle.std.specs.Prelude.{◌≡◌, IfOk};
+ghost use Rattle.std.specs.Prelude.{IfOk};
 ghost use Rattle.jp_tape.specs.Tapes.{IsTapeOf};
 
 use jp_eval::{Program, eval_from, truth};

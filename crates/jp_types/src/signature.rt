@@ -1,7 +1,7 @@
 //! The types of the functions (RFC 9535, section 2.4.1).
 
-ghost use Rattle.std.specs.Prelude.{◌≡◌, map, option_map, chars};
-ghost use Rattle.jp_model.specs.Query.Typing.{signature_of, is_kind, serves};
+ghost use Rattle.std.specs.Prelude.{◌≡◌, option_map, chars};
+ghost use Rattle.jp_model.specs.Query.Typing.{signature_of, serves};
 ghost use Rattle.jp_types.specs.Signatures.{kind_view, signature_view};
 
 /// A type of arguments and results (RFC 9535, section 2.4.1).

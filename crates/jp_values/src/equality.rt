@@ -1,7 +1,7 @@
 //! Equality of nodes' values.
 
-ghost use Rattle.std.specs.Prelude.{◌≡◌, ℕ, ◌<◌, ◌≤◌, List, IfSome, option_map, ◌&&◌};
-ghost use Rattle.jp_model.specs.Json.Tree.{value_of, Children};
+ghost use Rattle.std.specs.Prelude.{◌≡◌, ◌<◌, IfSome, ◌&&◌};
+ghost use Rattle.jp_model.specs.Json.Tree.{value_of};
 ghost use Rattle.jp_model.specs.Meaning.Compare.{values_equal, elements_equal, members_within};
 ghost use Rattle.jp_strings.specs.Points.{IsText, points_of};
 ghost use Rattle.jp_tape.specs.Cursors.{node_of, name_of, children_from, children_after};

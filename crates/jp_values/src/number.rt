@@ -1,6 +1,6 @@
 //! Exact numbers: those of JSON texts and queries, and counts.
 
-ghost use Rattle.std.specs.Prelude.{◌≡◌, decimal};
+ghost use Rattle.std.specs.Prelude.{◌≡◌};
 ghost use Rattle.jp_decimal.specs.Decimals.{number_of};
 ghost use Rattle.jp_decimal.specs.Values.{order};
 ghost use Rattle.jp_values.specs.Scalars.{number_view, count_number};

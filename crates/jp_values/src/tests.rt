@@ -1,9 +1,7 @@
 //! Values by hand: numbers, strings, objects and Nothing.
 
-ghost use Rattle.std.specs.Prelude.{◌≡◌, false, IfOk};
+ghost use Rattle.std.specs.Prelude.{false, IfOk};
 ghost use Rattle.jp_tape.specs.Tapes.{IsTapeOf};
-ghost use Rattle.jp_query.specs.View.{literal_view};
-ghost use Rattle.jp_query.specs.Sound.{is_sound};
 
 use super::*;
 use jp_masks::line_marks;

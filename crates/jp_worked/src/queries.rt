@@ -1,7 +1,7 @@
 //! What queries select, and which are refused, from bytes to bytes.
 #![tactic(auto, unfolding(crate::specs::Written::written))]
 
-ghost use Rattle.std.specs.Prelude.{◌≡◌, [], ◌∷◌, ◌++◌, codes};
+ghost use Rattle.std.specs.Prelude.{◌≡◌, [], ◌++◌, codes};
 ghost use Rattle.jp_worked.specs.Written.{written, times_in_row};
 
 /// Names, indexes, wildcards and descendants, and the paths and bytes of the nodes (RFC 9535, sections 2.3, 2.5 and 2.7).

@@ -3,8 +3,8 @@
 
 ghost use Rattle.std.specs.Prelude.{◌≡◌, [], ◌∷◌, pos, negsuc, Some, None, codes};
 ghost use Rattle.jp_model.specs.declared.QueryFault.TheVariants.{Syntax, Integer, Number, Function};
-ghost use Rattle.jp_model.specs.Query.Status.{refused_query, query};
-ghost use Rattle.jp_model.specs.Query.Syntax.{equal, root, current, true_literal, number_literal, no_segments, segment, child_segment, name_selector, index_selector, slice_selector, filter_selector, no_selectors, selector, negated, compare, exists, test, constant, single, constant_argument, nodes_argument, condition, result_argument, no_arguments, argument, no_logicals, logical, and_all, path, call};
+ghost use Rattle.jp_model.specs.Query.Status.{refused_query};
+ghost use Rattle.jp_model.specs.Query.Syntax.{equal, root, current, true_literal, number_literal, no_segments, segment, child_segment, name_selector, index_selector, slice_selector, no_selectors, selector, negated, compare, exists, test, constant, single, constant_argument, nodes_argument, condition, result_argument, no_arguments, argument, no_logicals, logical, and_all, path, call};
 ghost use Rattle.jp_query.specs.Status.{query_of};
 ghost use Rattle.jp_worked.specs.Texts.{reads, one_child, filtered};
 

@@ -1,6 +1,6 @@
 //! Integers, and numbers as they are spelled.
 
-ghost use Rattle.std.specs.Prelude.{◌≡◌, ◌≤◌, ◌++◌, ℕ, ℤ, pos, neg_ℤ, option_map, IfOk, length};
+ghost use Rattle.std.specs.Prelude.{◌≡◌, pos, option_map};
 ghost use Rattle.jp_model.specs.Characters.{digits_value};
 ghost use Rattle.jp_query.specs.Integers.{clamp};
 ghost use Rattle.jp_query.specs.Parsing.{Gives};

@@ -3,12 +3,12 @@
 //! Each function reads from the front of a text and gives what is left. `depth` is how deep brackets and parentheses may
 //! still nest.
 
-ghost use Rattle.std.specs.Prelude.{◌≡◌, option_map, map};
+ghost use Rattle.std.specs.Prelude.{option_map, map};
 ghost use Rattle.jp_query.specs.Integers.{clamp};
 ghost use Rattle.jp_query.specs.Parsing.{Gives, parsed_view};
 ghost use Rattle.jp_query.specs.Reading.Queries.{selector_at, next_selector, brackets_at, descendant_at, next_segment, segments_at, closed_at, argument_at, next_argument, arguments_at, call_behind, comparable_at, comparison_behind, query_behind, call_or_comparison, literal_comparison, test_at, negated_at, plain_at, basic_at, next_basic, and_at, next_and, logical_at};
 ghost use Rattle.jp_query.specs.Reading.Scalars.{all_of, with_front};
-ghost use Rattle.jp_query.specs.View.{selector_view, segment_view, logical_view, comparable_view, argument_view, call_view, op_view, origin_view, selectors_view, segments_view, logicals_view, arguments_view};
+ghost use Rattle.jp_query.specs.View.{selector_view, segment_view, logical_view, comparable_view, argument_view, call_view, op_view, origin_view, segments_view};
 
 use super::expression::{
     all_true, argument_of, call_of, exists_of, not_of, one_true, side_of, single_of, test_of,

@@ -1,6 +1,6 @@
 //! Words that stand for the bytes of names.
 
-ghost use Rattle.std.specs.Prelude.{◌≡◌, ◌≤◌, ◌+◌, ◌-◌, ◌++◌, [], ℕ, length, replicate, IsTrue, IfOk, false, All};
+ghost use Rattle.std.specs.Prelude.{◌≡◌, ◌≤◌, ◌+◌, ◌-◌, ◌++◌, [], length, replicate, IsTrue, IfOk, false, All};
 ghost use Rattle.jp_model.specs.Json.Faults.{has_repeated};
 ghost use Rattle.jp_tape.specs.declared.builder.body.Body.{Body};
 ghost use Rattle.jp_tape.specs.Names.{all_points};

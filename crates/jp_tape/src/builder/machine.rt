@@ -1,7 +1,7 @@
 //! The walk over a line: a machine with a stack of open containers, which writes the words of the nodes.
 
-ghost use Rattle.std.specs.Prelude.{◌≡◌, ℕ, ◌+◌, ◌*◌, ◌^◌, ◌<◌, ◌≤◌, ◌++◌, ◌∷◌, [], max, length, List, true, false, IfOk, IfErr, IsTrue, IsUtf8};
-ghost use Rattle.jp_model.specs.Json.Places.{White, Has, byte_at, bytes_between};
+ghost use Rattle.std.specs.Prelude.{◌≡◌, ◌+◌, ◌*◌, ◌^◌, ◌<◌, ◌≤◌, ◌++◌, ◌∷◌, [], max, length, List, true, false, IfOk, IfErr, IsTrue, IsUtf8};
+ghost use Rattle.jp_model.specs.Json.Places.{Has, bytes_between};
 ghost use Rattle.jp_tape.specs.Names.{points};
 ghost use Rattle.jp_strings.specs.Plain.{ArePlain};
 ghost use Rattle.jp_strings.specs.Points.{is_text_from, points_of};
@@ -13,7 +13,7 @@ ghost use Rattle.jp_tape.specs.Words.{head_word, span_word, container_code};
 ghost use Rattle.jp_tape.specs.Places.{Stops};
 ghost use Rattle.jp_tape.specs.Ahead.{IsAhead, IsAheadOf};
 ghost use Rattle.jp_tape.specs.Reading.{body_word, code_of, container_if, NoLabel, OnFault};
-ghost use Rattle.jp_tape.specs.Machine.{State, Stands, Steps, NoStep, IsWithin, IsBehind, Labelled, IsFinished, IsCounted, IsClosed, Holds, next_above};
+ghost use Rattle.jp_tape.specs.Machine.{Steps, NoStep, IsBehind, Labelled, IsFinished, IsCounted, IsClosed, Holds, next_above};
 ghost use Rattle.jp_tape.specs.declared.builder.machine.Open.{Open};
 ghost use Rattle.jp_tape.specs.declared.builder.machine.Turn.TheVariants as turns;
 

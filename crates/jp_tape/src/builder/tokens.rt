@@ -2,11 +2,11 @@
 
 ghost use Rattle.std.specs.Prelude.{◌≡◌, ℕ, ◌+◌, ◌-◌, ◌^◌, ◌<◌, ◌≤◌, Bool, true, false, length, List, Some, None, IfSome, IfNone, IsSome, IsTrue, IsUtf8, ℤ};
 ghost use Rattle.std.specs.List.{list_all};
-ghost use Rattle.jp_model.specs.Json.Places.{White, Has, Reads, byte_at, bytes_between};
+ghost use Rattle.jp_model.specs.Json.Places.{Has, Reads, byte_at, bytes_between};
 ghost use Rattle.jp_model.specs.Json.Numbers.{AreDigits, IsInt, SpellsNumber, minus_bytes, fraction_bytes, numeral_of, is_long_exponent};
 ghost use Rattle.jp_model.specs.Json.Strings.{SpellsBody, has_lone_surrogate};
-ghost use Rattle.jp_model.specs.Json.Spelling.{SpellsString, SpellsName};
-ghost use Rattle.jp_model.specs.Json.Tree.{Name, object, array};
+ghost use Rattle.jp_model.specs.Json.Spelling.{SpellsString};
+ghost use Rattle.jp_model.specs.Json.Tree.{object};
 ghost use Rattle.jp_tape.specs.Places.{Ended, Stops};
 ghost use Rattle.jp_tape.specs.Ahead.{IsAhead, IsPassed, IsSolid, in_token, name_marks};
 ghost use Rattle.jp_tape.specs.Reading.{FoundScalar, NoValue, FoundLabel, NoLabel, IsPlainLabel, container_if};
