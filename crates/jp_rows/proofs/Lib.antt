@@ -5,3 +5,4 @@ mod Turns
 mod Plain
 mod Named
 mod Summaries
+mod Heads

@@ -71,7 +71,7 @@ fn is_plain_byte(byte: u8) -> bool
 }
 
 /// Whether a body is printed as it stands.
-fn is_plain(body: &[u8]) -> bool
+pub(crate) fn is_plain(body: &[u8]) -> bool
     ensures { result ≡ list_all is_plain_one body.now }
 {
     body.iter().all(|byte| is_plain_byte(*byte))

@@ -2,26 +2,19 @@
 
 ghost use Rattle.std.specs.Prelude.{◌≡◌, ◌++◌, false, is_err, decimal};
 ghost use Rattle.jp_model.specs.Devices.{Writes};
+ghost use Rattle.jp_model.specs.Meaning.Paths.{path_text};
 ghost use Rattle.jp_model.specs.Rows.{row_start as row_start_of, tab, node_text, refusal_text};
 ghost use Rattle.jp_tape.specs.Cursors.{line_of, node_of};
 ghost use Rattle.jp_model.specs.Script.Machine.{count_line};
 
+use crate::head::{put_head, row_start};
 use crate::path::write_path;
 use crate::whole::{WriteFault, write_whole};
+use arrayvec::ArrayVec;
 use itoa::Buffer;
 use jp_model::{Framing, LineFault, Watched};
 use jp_tape::Cursor;
 use std::io::Write;
-
-/// What a row begins with (RFC 7464, section 2.2).
-fn row_start(framing: Framing) -> &'static [u8]
-    ensures { result.now ≡ row_start_of framing }
-{
-    match framing {
-        Framing::Lines => b"",
-        Framing::Sequence => b"\x1e",
-    }
-}
 
 /// Writes what every row of a line begins with: its start, the number of the line, and a tab.
 fn write_start<W: Write>(
@@ -40,6 +33,27 @@ fn write_start<W: Write>(
     write_whole(b"\t", out)
 }
 
+/// Writes what stands before the bytes of a node in its row: put together, where that is short, or piece by piece.
+fn write_head<W: Write>(
+    line: u32,
+    cursor: Cursor<'_>,
+    framing: Framing,
+    out: &mut Watched<W>,
+) -> Result<(), WriteFault>
+    requires { out.old.failed ≡ false }
+    ensures text { Writes W.contents out.old out.new result (row_start_of framing ++ decimal line ++ tab ++ path_text (node_of cursor.entry).location ++ tab) }
+    ensures fault { out.new.failed ≡ is_err result }
+    ensures after { out.new.after ≡ out.old.after }
+{
+    let mut head = ArrayVec::new();
+    if put_head(line, cursor, framing, &mut head) {
+        return write_whole(&head, out);
+    }
+    write_start(line, framing, out)?;
+    write_path(cursor, out)?;
+    write_whole(b"\t", out)
+}
+
 /// Writes the row of a node: the number of its line from 1, its path, and its bytes of the line, unchanged (profile).
 ///
 /// After an `Err` the writer received a beginning of the row: no write follows one that failed or took no byte.
@@ -54,9 +68,7 @@ pub fn write_node<W: Write>(
     ensures fault { out.new.failed ≡ is_err result }
     ensures after { out.new.after ≡ out.old.after }
 {
-    write_start(line, framing, out)?;
-    write_path(cursor, out)?;
-    write_whole(b"\t", out)?;
+    write_head(line, cursor, framing, out)?;
     write_whole(cursor.source(), out)?;
     write_whole(b"\n", out)
 }

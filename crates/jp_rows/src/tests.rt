@@ -1,6 +1,7 @@
 //! Rows, and the parts of them, by hand.
 
 mod paths;
+mod rows;
 mod singular;
 
 use super::*;

@@ -11,7 +11,7 @@ use std::alloc::{AllocError, Global};
 use std::test::Fail;
 
 /// The tape of a line, where it has one.
-fn tape_of(alloc: Global, line: &[u8]) -> Option<Tape>
+pub(super) fn tape_of(alloc: Global, line: &[u8]) -> Option<Tape>
     ensures { IfSome result (λ tape. IsTapeOf tape line.now) }
 {
     if is_blank(line) || line.len() > 0xffff_ffff {
