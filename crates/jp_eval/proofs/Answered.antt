@@ -24,6 +24,9 @@ none_at_all = record { none = go }
     go zero answer e = cc
     go (suc place) answer e = cc
 
+pub none_in : (answers : List (Option Answer)) → answers ≡ [] → HasNone answers
+none_in answers e = subst (λ (l : List (Option Answer)). HasNone l) (sym e) none_at_all
+
 pub none_more : (answers new : List (Option Answer)) → new ≡ answers ++ None ∷ [] → HasNone answers → HasNone new
 none_more answers new e h = record { none = λ place answer f. go answers h.none place answer (ap (λ (l : List (Option Answer)). slice_get l place) (sym e) ∙ f) }
   where

@@ -31,9 +31,9 @@ one_entered slots place slot e = sym (slot_viewed slot) ∙ ap segments_or_none 
 pub none_entered : (slots : List Slot) (place : ℕ) → slice_get slots place ≡ None → steps_view (table_of slots) [] ≡ segments_or_none (slice_get (table_of slots) place)
 none_entered slots place e = ap segments_or_none (sym (none_map slot_view slots place e))
 
-pub entered : (run inner : Run) (steps : List Step) (place : ℕ) → inner.root ≡ run.root → steps_view (table_in inner) steps ≡ segments_or_none (slice_get (table_in run) place) → reached inner steps (node_of run.root ∷ []) ≡ slot_nodes run place
+pub entered : (run inner : Run) (steps : List Step) (place : ℕ) → inner.root.now ≡ run.root.now → steps_view (table_in inner) steps ≡ segments_or_none (slice_get (table_in run) place) → reached inner steps (node_of run.root.now ∷ []) ≡ slot_nodes run place
 entered run inner steps place r e =
     let found : Segments = segments_or_none (slice_get (table_in run) place) in
-    ap (λ (ss : Segments). nodes ss (node_of run.root ∷ []) (tree_in inner)) e
-    ∙ (ap (λ (c : Cursor). nodes found (node_of run.root ∷ []) (node_of c).tree) r
-    ∙ ap (λ (m : Node). nodes found (m ∷ []) (tree_in run)) (sym (root_is run.root run.at_root)))
+    ap (λ (ss : Segments). nodes ss (node_of run.root.now ∷ []) (tree_in inner)) e
+    ∙ (ap (λ (c : Cursor). nodes found (node_of run.root.now ∷ []) (node_of c).tree) r
+    ∙ ap (λ (m : Node). nodes found (m ∷ []) (tree_in run)) (sym (root_is run.root.now run.at_root)))

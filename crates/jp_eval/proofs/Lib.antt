@@ -20,4 +20,5 @@ pub mod Answered
 pub mod Entered
 pub mod SingularSteps
 pub mod Following
+pub mod Childless
 mod Literals

@@ -19,7 +19,7 @@ table_in run = table_of run.slots.now
 
 -- the line's tree
 abbrev pub tree_in : Run → Tree
-tree_in run = (node_of run.root).tree
+tree_in run = (node_of run.root.now).tree
 
 -- what some steps select from some nodes
 abbrev pub reached : Run → List Step → List Node → List Node
@@ -27,7 +27,7 @@ reached run steps starts = nodes (steps_view (table_in run) steps) starts (tree_
 
 -- what the query of a slot selects
 abbrev pub slot_nodes : Run → ℕ → List Node
-slot_nodes run place = path_nodes (slot_in (table_in run) place) (node_of run.root) (tree_in run)
+slot_nodes run place = path_nodes (slot_in (table_in run) place) (node_of run.root.now) (tree_in run)
 
 -- each answer that was kept is right
 abbrev pub AreKept : Run → List (Option Answer) → Type 0
@@ -35,17 +35,17 @@ AreKept run answers = (place : ℕ) (answer : Answer) → slice_get answers plac
 
 -- a node of the line, and a frame whose answers are right
 pub record Stands (run : Run) (node : Cursor) (frame : Frame) : Type 0 where
-  pub line : line_of node ≡ line_of run.root
+  pub line : line_of node ≡ line_of run.root.now
   pub kept : AreKept run frame.answers.items
 
 -- these nodes were added, as long as there were fewer than `most`
 pub record Pushes {E : Type 0} {U : Type 0} (run : Run) (most : ℕ) (old new : Frame) (result : Result U E) (found : List Node) : Type 0 where
-  pub adds : Adds (line_of run.root) old.found.items new.found.items
+  pub adds : Adds (line_of run.root.now) old.found.items new.found.items
   pub kept : AreKept run new.answers.items
   pub nodes : OnOk result (map node_of new.found.items ≡ take most (map node_of old.found.items ++ found))
 
 -- the frame was lent, and has the nodes that it had
 pub record Lends {E : Type 0} {A : Type 0} (run : Run) (old new : Frame) (result : Result A E) : Type 0 where
-  pub adds : Adds (line_of run.root) old.found.items new.found.items
+  pub adds : Adds (line_of run.root.now) old.found.items new.found.items
   pub kept : AreKept run new.answers.items
   pub same : OnOk result (new.found.items ≡ old.found.items)

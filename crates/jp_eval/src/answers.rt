@@ -15,10 +15,7 @@ use crate::program::{Nodes, Step};
 use std::alloc::{AllocError, Global};
 
 /// No answer, at so many places.
-pub(crate) fn no_answers<'a>(
-    alloc: Global,
-    count: usize,
-) -> Result<Vec<Option<Answer<'a>>>, AllocError>
+fn no_answers<'a>(alloc: Global, count: usize) -> Result<Vec<Option<Answer<'a>>>, AllocError>
     ensures { (run : AnyRun) → IfOk result (λ answers. AreKept run answers.items) }
 {
     let mut answers = Vec::with_capacity(alloc, count)?;
@@ -30,6 +27,7 @@ pub(crate) fn no_answers<'a>(
 
 impl<'a> Answer<'a> {
     /// The same answer. The number of a single node is read, so that it is read once and not at each comparison.
+    #[inline(never)]
     fn read(self) -> Answer<'a>
         ensures { (found : List Node) → IsAnswer found self.entry → IsAnswer found result }
     {
@@ -42,9 +40,10 @@ impl<'a> Answer<'a> {
 
 impl<'p, 'a> Run<'p, 'a> {
     /// The query from the root at a place: its own slots, and its steps.
+    #[inline(always)]
     pub(crate) fn enter(self, place: usize) -> (Run<'p, 'a>, &'p [Step])
-        ensures root { result.0.root ≡ self.entry.root }
-        ensures nodes { reached result.0 result.1.now (node_of self.entry.root ∷ []) ≡ slot_nodes self.entry place }
+        ensures root { result.0.root.now ≡ self.entry.root.now }
+        ensures nodes { reached result.0 result.1.now (node_of self.entry.root.now ∷ []) ≡ slot_nodes self.entry place }
         ensures view { steps_view (table_in result.0) result.1.now ≡ segments_or_none (slice_get (table_in self.entry) place) }
     {
         match self.slots.get(place) {
@@ -60,7 +59,20 @@ impl<'p, 'a> Run<'p, 'a> {
         }
     }
 
+    /// Makes room for answers, where a filter is going to ask of one child after another. What is asked once is not kept.
+    pub(crate) fn prepare(self, frame: &mut Frame<'a>) -> Result<(), AllocError>
+        requires { AreKept self frame.old.answers.items }
+        ensures kept { AreKept self.entry frame.new.answers.items }
+        ensures found { frame.new.found ≡ frame.old.found }
+    {
+        if frame.answers.len() < self.slots.len() {
+            frame.answers = no_answers(self.alloc, self.slots.len())?;
+        }
+        Ok(())
+    }
+
     /// What was answered of the query of a slot, where it was asked before in the line.
+    #[inline(always)]
     fn kept_at(self, place: usize, frame: &Frame<'a>) -> Option<Answer<'a>>
         requires { AreKept self frame.now.answers.items }
         ensures { IfSome result (λ answer. IsAnswer (slot_nodes self.entry place) answer) }
@@ -69,6 +81,7 @@ impl<'p, 'a> Run<'p, 'a> {
     }
 
     /// What was answered of a query within a filter, where it begins at the root and was asked before in the line.
+    #[inline(always)]
     pub(crate) fn kept(self, nodes: &Nodes, frame: &Frame<'a>) -> Option<Answer<'a>>
         requires { AreKept self frame.now.answers.items }
         ensures { IfSome result (λ answer. (node : Node) → IsAnswer (path_nodes (nodes_view (table_in self.entry) nodes.now) node (tree_in self.entry)) answer) }
@@ -79,7 +92,8 @@ impl<'p, 'a> Run<'p, 'a> {
         }
     }
 
-    /// Keeps what was answered of a query within a filter, where it begins at the root.
+    /// Keeps what was answered of a query within a filter, where it begins at the root and there is room.
+    #[inline(always)]
     pub(crate) fn keep(self, nodes: &Nodes, answer: Answer<'a>, frame: &mut Frame<'a>)
         requires kept { AreKept self frame.old.answers.items }
         requires right { (place : ℕ) → nodes.now ≡ slots.Slot place → IsAnswer (slot_nodes self place) answer }

@@ -17,6 +17,7 @@ use jp_tape::{Cursor, Kind};
 use std::alloc::{AllocError, Global};
 
 /// Whether the node is the member of this name.
+#[inline(always)]
 fn is_named(node: Cursor<'_>, name: &str) -> bool
     ensures { (index : ℕ) → result ≡ is_name (chars name.now) (step_to index (name_of node.entry)) }
 {
@@ -26,6 +27,7 @@ fn is_named(node: Cursor<'_>, name: &str) -> bool
     }
 }
 
+#[inline(always)]
 fn is_object(node: Cursor<'_>) -> bool
     ensures { result ≡ false → kind_of (value_of (node_of node.entry).tree) ≡ kinds.Object → ⊥ }
 {
@@ -33,6 +35,7 @@ fn is_object(node: Cursor<'_>) -> bool
 }
 
 /// The member of this name, of an object alone (RFC 9535, section 2.3.1.2).
+#[inline(always)]
 pub(crate) fn find_member<'a>(node: Cursor<'a>, name: &str) -> Option<Cursor<'a>>
     ensures nodes { node_list result ≡ named (chars name.now) (node_of node.entry) }
     ensures line { IfSome result (λ c. line_of c ≡ line_of node.entry) }

@@ -14,8 +14,8 @@ use std::alloc::Global;
 pub(crate) struct Run<'p, 'a> {
     pub(crate) alloc: Global,
     pub(crate) slots: &'p [Slot],
-    pub(crate) root: Cursor<'a>,
-    ghost at_root: { place_of root ≡ 0 },
+    pub(crate) root: &'p Cursor<'a>,
+    ghost at_root: { place_of root.now ≡ 0 },
 }
 
 /// The answer to what was asked of the nodes that a query selects.

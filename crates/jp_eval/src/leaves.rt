@@ -27,6 +27,7 @@ pub(crate) struct Constant {
 
 impl Constant {
     /// The value, and no number is read anew.
+    #[inline(always)]
     pub(crate) fn value(&self) -> Value<'_>
         ensures value { value_view result ≡ Some (literal_value (literal_view self.now.literal)) }
         ensures sound { IsTrue (is_sound_value result) }
@@ -48,6 +49,7 @@ pub(crate) struct Named {
 
 impl Named {
     /// The function, where it is one of the five.
+    #[inline(always)]
     pub(crate) fn which(&self) -> Option<Function>
         ensures { result ≡ self.now.function }
     {

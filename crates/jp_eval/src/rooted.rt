@@ -10,6 +10,7 @@ ghost use Rattle.jp_model.specs.Meaning.Selecting.{compared_value};
 use crate::program::{Condition, Nodes, Side};
 
 /// Whether a side is a value of the query, or of a query from the root.
+#[inline(always)]
 fn is_rooted(side: &Side) -> bool
     ensures { result ≡ true → (table : Table) (m n : Node) (t : Tree) → compared_value (side_view table side.now) m t ≡ compared_value (side_view table side.now) n t }
 {
@@ -18,6 +19,7 @@ fn is_rooted(side: &Side) -> bool
 
 /// Whether a condition compares what the root has with a constant, or asks whether the root has a node: then it holds of all
 /// children or of none. One that is made of several parts is not looked into.
+#[inline(always)]
 pub(crate) fn asks_root_alone(condition: &Condition) -> bool
     ensures { result ≡ true → (table : Table) → IsSameForAll (condition_view table condition.now) }
 {

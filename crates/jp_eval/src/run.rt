@@ -5,9 +5,11 @@
 
 ghost use Rattle.std.specs.Prelude.{◌≡◌, ◌≤◌, [], ◌∷◌, ◌==◌, not, map, length, filter, flat_map, IfOk, IsTrue};
 ghost use Rattle.jp_model.specs.Meaning.Functions.{single_value as single_value_of, length_of as length_of_value};
+ghost use Rattle.jp_model.specs.Meaning.Compare.{compared};
 ghost use Rattle.jp_model.specs.Meaning.Nodes.{children, children_where, subtree};
 ghost use Rattle.jp_model.specs.Meaning.Selecting.{selected, select, truth as truth_of, compared_value, path_nodes, given_by, call_value as call_value_of, call_truth as call_truth_of};
 ghost use Rattle.jp_model.specs.Meaning.Slices.{is_index, sliced};
+ghost use Rattle.jp_query.specs.View.{op_view};
 ghost use Rattle.jp_tape.specs.Cursors.{line_of, node_of};
 ghost use Rattle.jp_eval.specs.Expressions.{all_are, IsSameForAll};
 ghost use Rattle.jp_eval.specs.Found.{AreOf};
@@ -16,13 +18,13 @@ ghost use Rattle.jp_eval.specs.Programs.{choices_view, choice_view, conditions_v
 ghost use Rattle.jp_eval.specs.Walks.{rises};
 ghost use Rattle.jp_values.specs.Values.{value_view, is_sound_value};
 
-use crate::answers::no_answers;
 use crate::children::{Rising, Slice, find_element, find_falling, find_member};
 use crate::frame::{Answer, Frame, Run};
 use crate::functions::{Function, in_pattern, length_of, read_passes};
 use crate::program::{Choice, Condition, Given, Invoked, Nodes, Side, Step};
 use crate::rooted::asks_root_alone;
 use crate::singular::value_of;
+use jp_query::CompareOp;
 use jp_tape::Cursor;
 use jp_values::{Value, compare_in};
 use std::alloc::AllocError;
@@ -56,6 +58,7 @@ pub(crate) fn push_steps<'a>(
 
 /// Adds what the choices select from the node and from each below it, and the steps from there.
 #[cycle(eval)]
+#[inline(never)]
 fn push_descendants<'a>(
     run: Run<'_, 'a>,
     choices: &[Choice],
@@ -79,6 +82,7 @@ fn push_descendants<'a>(
 
 /// Adds what the choices select from a node, in their order, and the steps from there.
 #[cycle(eval)]
+#[inline(always)]
 fn push_choices<'a>(
     run: Run<'_, 'a>,
     choices: &[Choice],
@@ -91,6 +95,10 @@ fn push_choices<'a>(
     requires room { length frame.old.found.items ≤ most }
     ensures { Pushes run.entry most frame.old frame.new result (reached run.entry rest.now (selected (choices_view (table_in run.entry) choices.now) (node_of node.entry) (tree_in run.entry))) }
 {
+    // Most nodes below a node have no children, and nothing is selected from them.
+    if node.first_child().is_none() {
+        return Ok(());
+    }
     for choice in choices {
         push_choice(run, choice, rest, node, most, frame)?;
     }
@@ -99,6 +107,7 @@ fn push_choices<'a>(
 
 /// Adds what the choice selects from a node, and the steps from there.
 #[cycle(eval)]
+#[inline(never)]
 fn push_choice<'a>(
     run: Run<'_, 'a>,
     choice: &Choice,
@@ -159,6 +168,7 @@ fn push_children<'a>(
 
 /// Adds what the steps select from each element of a slice, in the order in which it selects them.
 #[cycle(eval)]
+#[inline(never)]
 fn push_slice<'a>(
     run: Run<'_, 'a>,
     slice: Slice,
@@ -216,7 +226,7 @@ fn push_from_each<'a>(
     most: usize,
     frame: &mut Frame<'a>,
 ) -> Result<(), AllocError>
-    requires lines { AreOf (line_of run.root) starts.now }
+    requires lines { AreOf (line_of run.root.now) starts.now }
     requires kept { AreKept run frame.old.answers.items }
     requires room { length frame.old.found.items ≤ most }
     ensures { Pushes run.entry most frame.old frame.new result (reached run.entry rest.now (map node_of starts.now)) }
@@ -229,6 +239,7 @@ fn push_from_each<'a>(
 
 /// Adds what the steps select from each child of which the condition holds. One that asks the root alone is asked once.
 #[cycle(eval)]
+#[inline(never)]
 fn push_filtered<'a>(
     run: Run<'_, 'a>,
     condition: &Condition,
@@ -244,6 +255,7 @@ fn push_filtered<'a>(
     if asks_root_alone(condition) {
         return push_all_or_none(run, condition, rest, node, most, frame);
     }
+    run.prepare(frame)?;
     let mut next = node.first_child();
     while let Some(child) = next {
         if frame.found.len() == most {
@@ -299,9 +311,7 @@ pub(crate) fn holds<'a>(
         Condition::And(parts) => are_all(run, parts, true, node, frame),
         Condition::Not(inner) => Ok(!holds(run, inner, node, frame)?),
         Condition::Compare { left, op, right } => {
-            let left = side_value(run, left, node, frame)?;
-            let right = side_value(run, right, node, frame)?;
-            compare_in(run.alloc, *op, left, right)
+            compare_sides(run, *op, left, right, node, frame)
         }
         Condition::Exists(nodes) => has_node(run, nodes, node, frame),
         Condition::Test(invoked) => call_truth(run, invoked, node, frame),
@@ -329,8 +339,29 @@ fn are_all<'a>(
     Ok(true)
 }
 
+/// Whether a comparison holds of a node (RFC 9535, section 2.3.5.2.2).
+#[cycle(eval)]
+#[inline(never)]
+fn compare_sides<'a>(
+    run: Run<'_, 'a>,
+    op: CompareOp,
+    left: &Side,
+    right: &Side,
+    node: Cursor<'a>,
+    frame: &mut Frame<'a>,
+) -> Result<bool, AllocError>
+    requires { Stands run node frame.old }
+    ensures lends { Lends run.entry frame.old frame.new result }
+    ensures value { IfOk result (λ b. b ≡ compared (op_view op) (compared_value (side_view (table_in run.entry) left.now) (node_of node.entry) (tree_in run.entry)) (compared_value (side_view (table_in run.entry) right.now) (node_of node.entry) (tree_in run.entry))) }
+{
+    let left = side_value(run, left, node, frame)?;
+    let right = side_value(run, right, node, frame)?;
+    compare_in(run.alloc, op, left, right)
+}
+
 /// The value of a side of a comparison.
 #[cycle(eval)]
+#[inline(always)]
 fn side_value<'v, 'a: 'v>(
     run: Run<'_, 'a>,
     side: &'v Side,
@@ -368,15 +399,16 @@ fn push_nodes<'a>(
         Nodes::Current(steps) => return push_steps(run, steps, node, most, frame),
     };
     let (inner, steps) = run.enter(place);
-    let mut answers = no_answers(run.alloc, inner.slots.len())?;
+    let mut answers = Vec::new(run.alloc);
     std::mem::swap(&mut frame.answers, &mut answers);
-    let result = push_steps(inner, steps, run.root, most, frame);
+    let result = push_steps(inner, steps, *run.root, most, frame);
     std::mem::swap(&mut frame.answers, &mut answers);
     result
 }
 
 /// Whether a query within a filter selects a node. The first decides.
 #[cycle(eval)]
+#[inline(always)]
 fn find_any<'a>(
     run: Run<'_, 'a>,
     nodes: &Nodes,
@@ -418,6 +450,7 @@ fn find_count<'a>(
 
 /// The value of the single node that a query within a filter selects, where it selects one. The second decides.
 #[cycle(eval)]
+#[inline(always)]
 fn find_single<'a>(
     run: Run<'_, 'a>,
     nodes: &Nodes,
@@ -445,6 +478,7 @@ fn find_single<'a>(
 
 /// Whether a query within a filter selects a node. What is found of one from the root is kept.
 #[cycle(eval)]
+#[inline(never)]
 fn has_node<'a>(
     run: Run<'_, 'a>,
     nodes: &Nodes,
@@ -486,6 +520,7 @@ fn count_nodes<'a>(
 /// The value of the single node that a query within a filter selects, where it selects one. What is found of one from the root
 /// is kept.
 #[cycle(eval)]
+#[inline(always)]
 fn single_value<'a>(
     run: Run<'_, 'a>,
     nodes: &Nodes,
@@ -529,6 +564,7 @@ fn single_length<'a>(
 
 /// What an argument gives as a value.
 #[cycle(eval)]
+#[inline(always)]
 fn given_value<'v, 'a: 'v>(
     run: Run<'_, 'a>,
     given: &'v Given,
@@ -604,6 +640,7 @@ fn call_value<'v, 'a: 'v>(
 
 /// What a call answers as a truth (RFC 9535, section 2.4).
 #[cycle(eval)]
+#[inline(never)]
 fn call_truth<'a>(
     run: Run<'_, 'a>,
     invoked: &Invoked,

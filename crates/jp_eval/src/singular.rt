@@ -18,6 +18,7 @@ use jp_tape::Cursor;
 use jp_values::Value;
 
 /// The child that a step by one name or by one index selects, where there is one. None at another step.
+#[inline(always)]
 fn singular_child<'a>(step: &Step, node: Cursor<'a>) -> Option<Option<Cursor<'a>>>
     ensures nodes { (table : Table) (t : Tree) → IfSome result (λ end. node_list end ≡ segment_nodes (step_view table step.now) (node_of node.entry) t) }
     ensures line { IfSome result (λ end. IfSome end (λ c. line_of c ≡ line_of node.entry)) }
@@ -36,6 +37,7 @@ fn singular_child<'a>(step: &Step, node: Cursor<'a>) -> Option<Option<Cursor<'a>
 }
 
 /// The node that steps by names and indexes lead to, where there is one. None where another step is met.
+#[inline(always)]
 fn singular_end<'a>(steps: &[Step], start: Cursor<'a>) -> Option<Option<Cursor<'a>>>
     ensures nodes { (table : Table) (t : Tree) → IfSome result (λ end. node_list end ≡ nodes_of (steps_view table steps.now) (node_of start.entry ∷ []) t) }
     ensures line { IfSome result (λ end. IfSome end (λ c. line_of c ≡ line_of start.entry)) }
@@ -51,6 +53,7 @@ fn singular_end<'a>(steps: &[Step], start: Cursor<'a>) -> Option<Option<Cursor<'
 }
 
 /// The value of a node, where there is one.
+#[inline(always)]
 pub(crate) fn value_of<'a>(end: Option<Cursor<'a>>) -> Value<'a>
     ensures sound { IsTrue (is_sound_value result) }
     ensures value { value_view result ≡ single_value (node_list end.entry) }
@@ -63,14 +66,15 @@ pub(crate) fn value_of<'a>(end: Option<Cursor<'a>>) -> Value<'a>
 
 impl<'p, 'a> Run<'p, 'a> {
     /// The node that a query by names and indexes leads to, where there is one. None where another step is met.
+    #[inline(always)]
     pub(crate) fn singular(self, nodes: &Nodes, node: Cursor<'a>) -> Option<Option<Cursor<'a>>>
-        requires { line_of node ≡ line_of self.root }
+        requires { line_of node ≡ line_of self.root.now }
         ensures nodes { IfSome result (λ end. node_list end ≡ path_nodes (nodes_view (table_in self.entry) nodes.now) (node_of node.entry) (tree_in self.entry)) }
-        ensures line { IfSome result (λ end. IfSome end (λ c. line_of c ≡ line_of self.entry.root)) }
+        ensures line { IfSome result (λ end. IfSome end (λ c. line_of c ≡ line_of self.entry.root.now)) }
     {
         match nodes {
             Nodes::Current(steps) => singular_end(steps, node),
-            Nodes::Slot(place) => singular_end(self.enter(*place).1, self.root),
+            Nodes::Slot(place) => singular_end(self.enter(*place).1, *self.root),
         }
     }
 }

@@ -70,6 +70,7 @@ impl Automaton {
     }
 
     /// Whether the text leads from the start to the end.
+    #[inline(never)]
     pub(crate) fn accepts(&self, text: &str) -> bool
         ensures { IsTrue result ↔ Leads (map place_of self.now.places.items) self.now.starts (chars text.now) }
     {
@@ -84,6 +85,7 @@ impl Automaton {
     }
 
     /// Whether a part of the text leads from the start to the end.
+    #[inline(never)]
     pub(crate) fn finds(&self, text: &str) -> bool
         ensures { IsTrue result ↔ Occurs (Leads (map place_of self.now.places.items) self.now.starts) (chars text.now) }
     {

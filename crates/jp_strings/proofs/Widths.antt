@@ -5,15 +5,17 @@ use Rattle.std.specs.Char.{len_utf8}
 use Rattle.std.specs.Str.{IsUtf8, chars}
 use Rattle.std.proofs.lemmas.Bool.{and_from, cond_both, and_parts, false_from_ne_true}
 use Rattle.std.proofs.lemmas.Bool.Decides.{nat_tests}
-use Rattle.std.proofs.lemmas.List.{drop_all}
+use Rattle.std.proofs.lemmas.List.{drop_all, get_or_append_left}
 use Rattle.std.proofs.lemmas.Slice.Eq.{bytes_eq-Decides}
 use Rattle.std.proofs.lemmas.Str.{length-encode, len_utf8_bounds, encodes-chars}
 use Rattle.jp_model.specs.Characters.{is_high_surrogate, is_low_surrogate, pair_value, text_equal}
 use Rattle.jp_model.specs.Json.Strings.{SpellsCharacter, SpellsCharacters, short_escape, paired}
 use Rattle.jp_model.proofs.Reader.Lexical.{reads_rest, reads_end}
-use Rattle.jp_strings.specs.Points.{IsText, points_of}
+use Rattle.jp_model.specs.Json.Places.{byte_at}
+use Rattle.jp_strings.specs.Points.{IsText, points_of, points_from, is_text_from}
 use Rattle.jp_strings.proofs.Halves.{high_bounds, low_bounds}
-use Rattle.jp_strings.proofs.Texts.{points_of_spelled}
+use Rattle.jp_strings.proofs.Texts.{points_of_spelled, text_of_body, plain_goes_on}
+use Rattle.jp_strings.proofs.Utf8.{text_utf8}
 use Rattle.jp_strings.proofs.Runs.{unpaired}
 
 -- the bytes from a place up to another are these scalars
@@ -95,6 +97,28 @@ body_or_fewer body t =
       | inl a ↦ inl (ap encodes (points ∙ unpaired us a.scalars) ∙ (sym (append-nil (encodes us)) ∙ (ap (λ (xs : List ℕ). encodes us ++ xs) (sym (drop_all (length body) body (omega arith))) ∙ sym a.bytes)))
       | inr l ↦ inr (omega (arith, size, narrow, l))
     ]
+
+-- a body that begins with no backslash begins with the first byte of a text that it spells
+pub like_starts : (body text : List ℕ) → IsText body → IsUtf8 text → 0 < length body → (byte_at body 0 ≡ 0x5C → ⊥) → text ≡ encodes (points_of body) → byte_at body 0 ≡ byte_at text 0
+unfolding points_of
+like_starts body text t u some plain same =
+    let whole = text_of_body body t in
+    let utf8 = text_utf8 body 0 whole in
+    first utf8.0 utf8.1.1 whole
+  where
+    first : (cs : List ℕ) → encodes cs ≡ body → is_text_from body 0 ≡ true → byte_at body 0 ≡ byte_at text 0
+    first [] e whole = absurd (let l = ap length e in omega (arith, l, some))
+    first (c ∷ cs) e whole =
+        let on = plain_goes_on body 0 c (encodes cs) whole some plain (sym e) in
+        let long : 0 < length (encode_utf8 c) = (let width = length-encode c in let least = (len_utf8_bounds c).0 in omega (arith, width, least)) in
+        ap (λ (xs : List ℕ). byte_at xs 0) (sym e) ∙ (get_or_append_left (encode_utf8 c) (encodes cs) 0 0 long
+        ∙ (sym (get_or_append_left (encode_utf8 c) (encodes (points_from body (0 + length (encode_utf8 c)))) 0 0 long)
+        ∙ sym (ap (λ (xs : List ℕ). byte_at xs 0) (same ∙ ap encodes on.points))))
+
+-- so a text that begins otherwise is spelled by another body
+pub unlike_starts : (body text : List ℕ) → IsText body → IsUtf8 text → 0 < length body → (byte_at body 0 ≡ 0x5C → ⊥) → (byte_at body 0 ≡ byte_at text 0 → ⊥) → text_equal (chars text) (points_of body) ≡ false
+unlike_starts body text t u some plain n =
+    false_from_ne_true _ (λ e. n (like_starts body text t u some plain (sym (encodes-chars text u) ∙ ap encodes ((bytes_eq-Decides (chars text) (points_of body)).0 e))))
 
 -- a body that is no longer than a text spells it only where it is its bytes
 pub unlike_texts : (body text : List ℕ) → IsText body → IsUtf8 text → length body ≤ length text → (body ≡ text → ⊥) → text_equal (chars text) (points_of body) ≡ false

@@ -1,5 +1,5 @@
 //! Equality, order and size of bodies by the scalars that they spell.
-ghost use Rattle.std.specs.Prelude.{◌≡◌, false, ◌^◌, ◌<◌, IfOk, IfSome, IfNone, IsTrue, count_by, length};
+ghost use Rattle.std.specs.Prelude.{◌≡◌, true, false, ◌^◌, ◌<◌, ◌≤◌, IfOk, IfSome, IfNone, IsTrue, count_by, length};
 ghost use Rattle.std.specs.Cmp.Lexicographic.{slice_cmp};
 ghost use Rattle.std.specs.Ordering.{nat_cmp};
 ghost use Rattle.std.specs.Str.{chars};
@@ -101,13 +101,32 @@ fn spells_by_scalars(body: &[u8], text: &str) -> bool
     compare_text_scalars(body, text).is_eq()
 }
 
-// Whether a body is longer than a text, or its bytes. An escape is longer than what it stands for, so no other body spells the
-// text; most names of a line are passed by here.
-fn may_spell(body: &[u8], text: &str) -> bool
+// Whether a body begins with an escape, or with the first byte of a text. A body that begins otherwise spells another text; most
+// names of a line are passed by here.
+#[inline(always)]
+fn begins_alike(body: &[u8], text: &str) -> bool
     requires { IsText body.now }
     ensures { result ≡ false → text_equal (chars text.now) (points_of body.now) ≡ false }
 {
-    body.len() > text.len() || equal_bytes(body, text.as_bytes())
+    if body.is_empty() || text.is_empty() {
+        return true;
+    }
+    body[0] == b'\\' || body[0] == text.as_bytes()[0]
+}
+
+// Whether a body may spell a text, by its length and its first byte. An escape is longer than what it stands for, so a body that is
+// no longer spells the text only where it is its bytes.
+#[inline(always)]
+fn may_spell(body: &[u8], text: &str) -> bool
+    requires { IsText body.now }
+    ensures other { result ≡ false → text_equal (chars text.now) (points_of body.now) ≡ false }
+    ensures bytes { result ≡ true → length body.now ≤ length text.now → body.now ≡ text.now }
+{
+    if body.len() > text.len() {
+        begins_alike(body, text)
+    } else {
+        equal_bytes(body, text.as_bytes())
+    }
 }
 
 /// Whether a body spells the scalars of a text. Only a body with an escape is decoded.
@@ -119,7 +138,7 @@ pub fn spells(body: &[u8], text: &str) -> bool
         return false;
     }
     if is_plain(body) {
-        return equal_bytes(body, text.as_bytes());
+        return body.len() <= text.len();
     }
     spells_by_scalars(body, text)
 }

@@ -24,6 +24,7 @@ pub fn less(left: Cursor<'_>, right: Cursor<'_>) -> bool
 }
 
 /// Whether both sides are Nothing, or equal values.
+#[inline(always)]
 fn both_equal(left: Value<'_>, right: Value<'_>) -> bool
     requires left { IsTrue (is_sound_value left) }
     requires right { IsTrue (is_sound_value right) }
@@ -37,6 +38,7 @@ fn both_equal(left: Value<'_>, right: Value<'_>) -> bool
 }
 
 /// Whether both sides are values, and the first is less.
+#[inline(always)]
 fn is_less(left: Value<'_>, right: Value<'_>) -> bool
     requires left { IsTrue (is_sound_value left) }
     requires right { IsTrue (is_sound_value right) }
@@ -66,6 +68,7 @@ pub fn compare(op: CompareOp, left: Value<'_>, right: Value<'_>) -> bool
 }
 
 /// Whether both sides are Nothing, or equal values. It may take memory for large objects.
+#[inline(always)]
 fn both_equal_in(alloc: Global, left: Value<'_>, right: Value<'_>) -> Result<bool, AllocError>
     requires left { IsTrue (is_sound_value left) }
     requires right { IsTrue (is_sound_value right) }

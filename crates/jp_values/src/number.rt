@@ -30,6 +30,7 @@ fn compare_with_count(number: &Decimal<'_>, count: u64) -> Ordering
 
 impl Number<'_> {
     /// The order of the exact values (RFC 9535, section 2.3.5.2.2).
+    #[inline(always)]
     pub fn compare(&self, other: &Number<'_>) -> Ordering
         ensures { result ≡ order (number_view self.now) (number_view other.now) }
     {

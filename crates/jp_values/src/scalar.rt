@@ -49,6 +49,7 @@ fn literal_scalar(literal: &Literal) -> Scalar<'_>
 
 impl<'a> Scalar<'a> {
     /// The scalar of a node.
+    #[inline(always)]
     pub fn of_node(cursor: Cursor<'a>) -> Scalar<'a>
         ensures { scalar_view result ≡ scalar_in (value_of (node_of cursor.entry).tree) }
     {
@@ -69,6 +70,7 @@ impl<'a> Scalar<'a> {
     }
 
     /// The scalar of a side of a comparison.
+    #[inline(always)]
     pub fn of_value(value: Value<'a>) -> Scalar<'a>
         requires { IsTrue (is_sound_value value) }
         ensures { scalar_view result ≡ scalar_side (value_view value.entry) }
@@ -83,6 +85,7 @@ impl<'a> Scalar<'a> {
     }
 
     /// Whether both are scalars, and equal.
+    #[inline(always)]
     pub fn equal(&self, other: &Scalar<'_>) -> bool
         ensures { result ≡ scalars_equal (scalar_view self.now) (scalar_view other.now) }
     {
@@ -96,6 +99,7 @@ impl<'a> Scalar<'a> {
     }
 
     /// Whether both are numbers or both strings, and the first is less.
+    #[inline(always)]
     pub fn is_less(&self, other: &Scalar<'_>) -> bool
         ensures { result ≡ is_less_value (scalar_view self.now) (scalar_view other.now) }
     {

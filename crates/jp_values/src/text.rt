@@ -40,6 +40,7 @@ impl Text<'_> {
     }
 
     /// Whether the scalars are the same.
+    #[inline(always)]
     pub fn equal(self, other: Text<'_>) -> bool
         ensures { result ≡ text_equal (text_points self.entry) (text_points other.entry) }
     {

@@ -1,6 +1,6 @@
 -- What was added is what the steps select, and what was answered is what the parts of a filter mean.
 use Rattle.std.proofs.Common.{rules, w64, ℤ, Bool, ◌≡◌, ◌∙◌, ◌+◌, ◌-◌, ◌++◌, [], ◌∷◌, List, ℕ, true, false, refl, map, take, drop, length, filter, flat_map, sym, ap, ap₂, subst, arith, Some, Option}
-use Rattle.std.specs.Prelude.{IfOk, OnOk}
+use Rattle.std.specs.Prelude.{IfOk, OnOk, not}
 use Rattle.jp_model.specs.Json.Tree.{Tree, Value}
 use Rattle.jp_model.specs.Meaning.Nodes.{Node, children, children_where, subtree}
 use Rattle.jp_model.specs.Steps.{Step}
@@ -29,6 +29,7 @@ use Rattle.jp_eval.specs.declared.program.Choice.{Choice}
 use Rattle.jp_eval.specs.declared.program.Given.{Given as Held}
 use Rattle.jp_eval.specs.declared.program.Invoked.{Invoked}
 use Rattle.jp_eval.proofs.Answered.{told_before}
+use Rattle.jp_eval.proofs.Childless.{none_first, none_selected}
 use Rattle.jp_eval.proofs.Calls.{called, few_called, many_called, none_called, several_called}
 use Rattle.jp_eval.proofs.Compiled.{name_is, index_is, slice_is, nodes_given, pattern_given}
 use Rattle.jp_eval.proofs.Counts.{counted_so, single_found, none_single}
@@ -54,7 +55,7 @@ push_children-returns-in_err-push_steps t c = record { adds = adds_more c.loop-n
 
 pub push_children-loop-next-preserved : goal.push_children-loop-next-preserved
 push_children-loop-next-preserved t c =
-    let u : Tree = (node_of c.args.run.root).tree in
+    let u : Tree = (node_of c.args.run.root.now).tree in
     let ss : Segments = steps_view (table_in c.args.run) c.args.rest.now in
     let child : Cursor = c.in-Some.child in
     let kept = c.loop-next.invariant in
@@ -69,7 +70,7 @@ push_children-loop-next-preserved t c =
 
 pub push_children-returns : goal.push_children-returns
 push_children-returns t c =
-    let u : Tree = (node_of c.args.run.root).tree in
+    let u : Tree = (node_of c.args.run.root.now).tree in
     let ss : Segments = steps_view (table_in c.args.run) c.args.rest.now in
     record { adds = c.loop-next.invariant.goes.kept; kept = c.loop-next.invariant.kept; nodes = is_done c.loop-next.invariant.goes (ap (λ (o : Option Cursor). nodes ss (nodes_from o) u) c.in_default.is ∙ no_nodes ss u) }
 
@@ -80,7 +81,7 @@ push_descendants-returns-in_err-push_choices t c = record { adds = adds_more c.l
 
 pub push_descendants-loop-place-preserved : goal.push_descendants-loop-place-preserved
 push_descendants-loop-place-preserved t c =
-    let u : Tree = (node_of c.args.run.root).tree in
+    let u : Tree = (node_of c.args.run.root.now).tree in
     let ss : Segments = steps_view (table_in c.args.run) c.args.rest.now in
     let f = λ (d : Node). selected (choices_view (table_in c.args.run) c.args.choices.now) d u in
     let n : Cursor = c.args.node in
@@ -101,7 +102,7 @@ push_descendants-loop-place-preserved t c =
 
 pub push_descendants-returns : goal.push_descendants-returns
 push_descendants-returns t c =
-    let u : Tree = (node_of c.args.run.root).tree in
+    let u : Tree = (node_of c.args.run.root.now).tree in
     let ss : Segments = steps_view (table_in c.args.run) c.args.rest.now in
     let f = λ (d : Node). selected (choices_view (table_in c.args.run) c.args.choices.now) d u in
     let n : Cursor = c.args.node in
@@ -120,15 +121,15 @@ push_filtered-returns-in_err-push_steps t c = record { adds = adds_more c.loop-n
 
 pub push_filtered-loop-next-preserved : goal.push_filtered-loop-next-preserved
 push_filtered-loop-next-preserved t c =
-    let u : Tree = (node_of c.args.run.root).tree in
+    let u : Tree = (node_of c.args.run.root.now).tree in
     let ss : Segments = steps_view (table_in c.args.run) c.args.rest.now in
     let p = λ (n : Node). truth (condition_view (table_in c.args.run) c.args.condition.now) n u in
     let child : Cursor = c.in-Some.child in
     let kept = c.loop-next.invariant in
     let next : Option Cursor = c.next_sibling-next.result in
-    let here : Goes (line_of c.args.run.root) c.args.most c.args.frame.now.found.items c.holds.new.frame.found.items (nodes ss (filter p (node_of child ∷ nodes_after child)) u) (nodes ss (filter p (children (node_of c.args.node))) u) =
+    let here : Goes (line_of c.args.run.root.now) c.args.most c.args.frame.now.found.items c.holds.new.frame.found.items (nodes ss (filter p (node_of child ∷ nodes_after child)) u) (nodes ss (filter p (children (node_of c.args.node))) u) =
     now_is c.holds.new.frame.found.items c.in_ok-holds.ensures.lends.same (others_are (nodes ss (filter p (nodes_from (Some child))) u) (ap (λ (o : Option Cursor). nodes ss (filter p (nodes_from o)) u) c.in-Some.is) kept.goes) in
-    let goes : Goes (line_of c.args.run.root) c.args.most c.args.frame.now.found.items c.if-branch.frame.found.items (nodes ss (filter p (nodes_after child)) u) (nodes ss (filter p (children (node_of c.args.node))) u) =
+    let goes : Goes (line_of c.args.run.root.now) c.args.most c.args.frame.now.found.items c.if-branch.frame.found.items (nodes ss (filter p (nodes_after child)) u) (nodes ss (filter p (children (node_of c.args.node))) u) =
     elim c.if-branch.branch [
       | push_filtered-then-branch+in_ok-push_steps w ↦
           (let taken : p (node_of child) ≡ true = sym c.in_ok-holds.ensures.value ∙ w.if-branch.true in
@@ -152,7 +153,7 @@ push_filtered-loop-next-preserved t c =
 
 pub push_filtered-returns : goal.push_filtered-returns
 push_filtered-returns t c =
-    let u : Tree = (node_of c.args.run.root).tree in
+    let u : Tree = (node_of c.args.run.root.now).tree in
     let ss : Segments = steps_view (table_in c.args.run) c.args.rest.now in
     let p = λ (n : Node). truth (condition_view (table_in c.args.run) c.args.condition.now) n u in
     record { adds = c.loop-next.invariant.goes.kept; kept = c.loop-next.invariant.kept; nodes = is_done c.loop-next.invariant.goes (ap (λ (o : Option Cursor). nodes ss (filter p (nodes_from o)) u) c.in_default.is ∙ no_nodes ss u) }
@@ -161,19 +162,19 @@ push_filtered-returns t c =
 
 pub push_all_or_none-returns-in_default : goal.push_all_or_none-returns-in_default
 push_all_or_none-returns-in_default t c =
-    let u : Tree = (node_of c.args.run.root).tree in
+    let u : Tree = (node_of c.args.run.root.now).tree in
     let ss : Segments = steps_view (table_in c.args.run) c.args.rest.now in
     let p = λ (n : Node). truth (condition_view (table_in c.args.run) c.args.condition.now) n u in
     let none : filter p (children (node_of c.args.node)) ≡ [] = ap (filter p) (sym c.first_child.ensures.nodes ∙ ap nodes_from c.in_default.is) in
     record {
-      adds = adds_none (line_of c.args.run.root) c.args.frame.now.found.items c.args.frame.now.found.items refl;
+      adds = adds_none (line_of c.args.run.root.now) c.args.frame.now.found.items c.args.frame.now.found.items refl;
       kept = c.requires.stands.kept;
       nodes = nothing_added c.args.most c.args.frame.now.found.items ss u (filter p (children (node_of c.args.node))) c.requires.room none;
     }
 
 pub push_all_or_none-returns-then-branch : goal.push_all_or_none-returns-then-branch
 push_all_or_none-returns-then-branch t c =
-    let u : Tree = (node_of c.args.run.root).tree in
+    let u : Tree = (node_of c.args.run.root.now).tree in
     let ss : Segments = steps_view (table_in c.args.run) c.args.rest.now in
     let p = λ (n : Node). truth (condition_view (table_in c.args.run) c.args.condition.now) n u in
     let old : List Cursor = c.args.frame.now.found.items in
@@ -191,7 +192,7 @@ push_all_or_none-returns-then-branch t c =
 
 pub push_all_or_none-returns-else-branch : goal.push_all_or_none-returns-else-branch
 push_all_or_none-returns-else-branch t c =
-    let u : Tree = (node_of c.args.run.root).tree in
+    let u : Tree = (node_of c.args.run.root.now).tree in
     let ss : Segments = steps_view (table_in c.args.run) c.args.rest.now in
     let p = λ (n : Node). truth (condition_view (table_in c.args.run) c.args.condition.now) n u in
     let below : List Node = children (node_of c.args.node) in
@@ -211,7 +212,7 @@ push_from_each-returns-in_err-push_steps t c = record { adds = adds_more c.loop-
 
 pub push_from_each-loop-start-preserved : goal.push_from_each-loop-start-preserved
 push_from_each-loop-start-preserved t c =
-    let u : Tree = (node_of c.args.run.root).tree in
+    let u : Tree = (node_of c.args.run.root.now).tree in
     let ss : Segments = steps_view (table_in c.args.run) c.args.rest.now in
     let i : ℕ = c.loop-start.start-index in
     let starts : List Cursor = c.args.starts.now in
@@ -226,19 +227,31 @@ push_from_each-loop-start-preserved t c =
 
 pub push_from_each-returns : goal.push_from_each-returns
 push_from_each-returns t c =
-    let u : Tree = (node_of c.args.run.root).tree in
+    let u : Tree = (node_of c.args.run.root.now).tree in
     let ss : Segments = steps_view (table_in c.args.run) c.args.rest.now in
     let starts : List Cursor = c.args.starts.now in
     record { adds = c.loop-start.invariant.goes.kept; kept = c.loop-start.invariant.kept; nodes = is_done c.loop-start.invariant.goes (ap (λ (l : List Cursor). nodes ss (map node_of l) u) (drop_all c.loop-start.start-index starts c.loop-start-test.false) ∙ no_nodes ss u) }
 
 -- ---- selectors
 
+pub push_choices-returns-then-is_none : goal.push_choices-returns-then-is_none
+push_choices-returns-then-is_none t c =
+    let u : Tree = (node_of c.args.run.root.now).tree in
+    let ss : Segments = steps_view (table_in c.args.run) c.args.rest.now in
+    let n : Node = node_of c.args.node in
+    let none : children n ≡ [] = sym c.first_child.ensures.nodes ∙ none_first c.first_child.result (c.is_none.ensures ∙ ap not c.if-is_none.true) in
+    record {
+      adds = adds_none (line_of c.args.run.root.now) c.args.frame.now.found.items c.args.frame.now.found.items refl;
+      kept = c.requires.stands.kept;
+      nodes = nothing_added c.args.most c.args.frame.now.found.items ss u (selected (choices_view (table_in c.args.run) c.args.choices.now) n u) c.requires.room (none_selected (choices_view (table_in c.args.run) c.args.choices.now) n u none);
+    }
+
 pub push_choices-returns-in_err-push_choice : goal.push_choices-returns-in_err-push_choice
 push_choices-returns-in_err-push_choice t c = record { adds = adds_more c.loop-choice.invariant.goes.kept c.in_err-push_choice.ensures.adds; kept = c.in_err-push_choice.ensures.kept; nodes = search rules }
 
 pub push_choices-loop-choice-preserved : goal.push_choices-loop-choice-preserved
 push_choices-loop-choice-preserved t c =
-    let u : Tree = (node_of c.args.run.root).tree in
+    let u : Tree = (node_of c.args.run.root.now).tree in
     let ss : Segments = steps_view (table_in c.args.run) c.args.rest.now in
     let n : Node = node_of c.args.node in
     let i : ℕ = c.loop-choice.choice-index in
@@ -259,7 +272,7 @@ push_choices-loop-choice-preserved t c =
 
 pub push_choices-returns : goal.push_choices-returns
 push_choices-returns t c =
-    let u : Tree = (node_of c.args.run.root).tree in
+    let u : Tree = (node_of c.args.run.root.now).tree in
     let ss : Segments = steps_view (table_in c.args.run) c.args.rest.now in
     let n : Node = node_of c.args.node in
     let all : List Choice = c.args.choices.now in
@@ -267,21 +280,21 @@ push_choices-returns t c =
 
 pub push_choice-returns-in-None : goal.push_choice-returns-in-None
 push_choice-returns-in-None t c =
-    let u : Tree = (node_of c.args.run.root).tree in
+    let u : Tree = (node_of c.args.run.root.now).tree in
     let ss : Segments = steps_view (table_in c.args.run) c.args.rest.now in
     let n : Node = node_of c.args.node in
     let none : select (choice_view (table_in c.args.run) c.args.choice.now) n u ≡ [] =
     ap (λ (x : Choice). select (choice_view (table_in c.args.run) x) n u) c.in-Name.is ∙ (ap (λ (x : syntax.Selector). select x n u) (name_is (table_in c.args.run) c.in-Name.name) ∙ (ap (λ (x : List ℕ). named (chars x) n) (sym c.as_str.ensures.value) ∙ sym c.in-None.ensures.nodes)) in
-    record { adds = adds_none (line_of c.args.run.root) c.args.frame.now.found.items c.args.frame.now.found.items refl; kept = c.requires.stands.kept; nodes = nothing_added c.args.most c.args.frame.now.found.items ss u (select (choice_view (table_in c.args.run) c.args.choice.now) n u) c.requires.room none }
+    record { adds = adds_none (line_of c.args.run.root.now) c.args.frame.now.found.items c.args.frame.now.found.items refl; kept = c.requires.stands.kept; nodes = nothing_added c.args.most c.args.frame.now.found.items ss u (select (choice_view (table_in c.args.run) c.args.choice.now) n u) c.requires.room none }
 
 pub push_choice-returns-in-None-find_element : goal.push_choice-returns-in-None-find_element
 push_choice-returns-in-None-find_element t c =
-    let u : Tree = (node_of c.args.run.root).tree in
+    let u : Tree = (node_of c.args.run.root.now).tree in
     let ss : Segments = steps_view (table_in c.args.run) c.args.rest.now in
     let n : Node = node_of c.args.node in
     let there : indexed c.in-Index.index n ≡ [] = search (rules, c.in-None-find_element.ensures.nodes) in
     let none : select (choice_view (table_in c.args.run) c.args.choice.now) n u ≡ [] = ap (λ (x : Choice). select (choice_view (table_in c.args.run) x) n u) c.in-Index.is ∙ (ap (λ (x : syntax.Selector). select x n u) (index_is (table_in c.args.run) c.in-Index.index) ∙ there) in
-    record { adds = adds_none (line_of c.args.run.root) c.args.frame.now.found.items c.args.frame.now.found.items refl; kept = c.requires.stands.kept; nodes = nothing_added c.args.most c.args.frame.now.found.items ss u (select (choice_view (table_in c.args.run) c.args.choice.now) n u) c.requires.room none }
+    record { adds = adds_none (line_of c.args.run.root.now) c.args.frame.now.found.items c.args.frame.now.found.items refl; kept = c.requires.stands.kept; nodes = nothing_added c.args.most c.args.frame.now.found.items ss u (select (choice_view (table_in c.args.run) c.args.choice.now) n u) c.requires.room none }
 
 -- ---- queries within filters
 
@@ -311,7 +324,7 @@ count_nodes-returns-in-Some-Count-clause-value t c =
 pub find_count-returns-clause-value : goal.find_count-returns-clause-value
 find_count-returns-clause-value t c =
     let new = c.push_nodes.new.frame.found in
-    let found : List Node = path_nodes (nodes_view (table_in c.args.run) c.args.nodes.now) (node_of c.args.node) (node_of c.args.run.root).tree in
+    let found : List Node = path_nodes (nodes_view (table_in c.args.run) c.args.nodes.now) (node_of c.args.node) (node_of c.args.run.root.now).tree in
     let size = new.ok in
     let small = new.small in
     let old = c.args.frame.now.found.ok.0 in
@@ -321,7 +334,7 @@ find_count-returns-clause-value t c =
 pub find_single-returns-clause-value : goal.find_single-returns-clause-value
 find_single-returns-clause-value t c =
     let new = c.push_nodes.new.frame.found in
-    let found : List Node = path_nodes (nodes_view (table_in c.args.run) c.args.nodes.now) (node_of c.args.node) (node_of c.args.run.root).tree in
+    let found : List Node = path_nodes (nodes_view (table_in c.args.run) c.args.nodes.now) (node_of c.args.node) (node_of c.args.run.root.now).tree in
     let old : length c.args.frame.now.found.items ≡ c.len-before.result = sym (c.len-before.ensures ∙ c.args.frame.now.found.ok.0) in
     let now : c.len.result ≡ length new.items = c.len.ensures ∙ new.ok.0 in
     elim c.if-len-before.branch [
@@ -351,16 +364,16 @@ single_length-returns-in-Some-Length-clause-value t c =
 -- ---- calls
 
 pub call_truth-returns-in_default-clause-value : goal.call_truth-returns-in_default-clause-value
-call_truth-returns-in_default-clause-value t c = few_called (table_in c.args.run) c.args.invoked.now c.as_slice.result.now (node_of c.args.node) (node_of c.args.run.root).tree c.as_slice.ensures.value c.in_default.len_below
+call_truth-returns-in_default-clause-value t c = few_called (table_in c.args.run) c.args.invoked.now c.as_slice.result.now (node_of c.args.node) (node_of c.args.run.root.now).tree c.as_slice.ensures.value c.in_default.len_below
 
 pub call_truth-returns-in_default-2-clause-value : goal.call_truth-returns-in_default-2-clause-value
-call_truth-returns-in_default-2-clause-value t c = many_called (table_in c.args.run) c.args.invoked.now c.as_slice.result.now (node_of c.args.node) (node_of c.args.run.root).tree c.as_slice.ensures.value c.in_default.len_at_least
+call_truth-returns-in_default-2-clause-value t c = many_called (table_in c.args.run) c.args.invoked.now c.as_slice.result.now (node_of c.args.node) (node_of c.args.run.root.now).tree c.as_slice.ensures.value c.in_default.len_at_least
 
 pub call_truth-returns-clause-value : goal.call_truth-returns-clause-value
 call_truth-returns-clause-value t c =
     let call : Invoked = c.args.invoked.now in
     let n : Node = node_of c.args.node in
-    let u : Tree = (node_of c.args.run.root).tree in
+    let u : Tree = (node_of c.args.run.root.now).tree in
     let items : List Held = c.first-item.result ∷ c.second-item.result ∷ [] in
     let are : items ≡ call.arguments.items = sym (sym c.as_slice.ensures.value ∙ two_items c.as_slice.result.now c.first-item.result c.second-item.result c.first-item.is c.second-item.is c.in-len2.len_at_least c.in-len2.len_below) in
     let one : Given = given_by (given_view (table_in c.args.run) c.first-item.result) n u in
@@ -384,7 +397,7 @@ pub call_truth-returns-in-Pattern-clause-value : goal.call_truth-returns-in-Patt
 call_truth-returns-in-Pattern-clause-value t c =
     let call : Invoked = c.args.invoked.now in
     let n : Node = node_of c.args.node in
-    let u : Tree = (node_of c.args.run.root).tree in
+    let u : Tree = (node_of c.args.run.root.now).tree in
     let items : List Held = c.first-item.result ∷ c.second-item.result ∷ [] in
     let are : items ≡ call.arguments.items = sym (sym c.as_slice.ensures.value ∙ two_items c.as_slice.result.now c.first-item.result c.second-item.result c.first-item.is c.second-item.is c.in-len2.len_at_least c.in-len2.len_below) in
     let one : Given = given_by (given_view (table_in c.args.run) c.first-item.result) n u in
@@ -411,7 +424,7 @@ call_truth-returns-in-Pattern-clause-value t c =
 pub call_value-returns-in_default-clause-value : goal.call_value-returns-in_default-clause-value
 call_value-returns-in_default-clause-value t c =
     let n : Node = node_of c.args.node in
-    let u : Tree = (node_of c.args.run.root).tree in
+    let u : Tree = (node_of c.args.run.root.now).tree in
     elim c.in_default.branch [
       | call_value-in_default-via-then-as_slice-lt1 w ↦ none_called (table_in c.args.run) c.args.invoked.now c.as_slice.result.now n u c.as_slice.ensures.value (ltb-true (length c.as_slice.result.now) 1 w.if-as_slice-lt1-1.true)
       | call_value-in_default-via-else-as_slice-lt1+else-this-lt2 w ↦ several_called (table_in c.args.run) c.args.invoked.now c.as_slice.result.now n u c.as_slice.ensures.value (ltb-false (length c.as_slice.result.now) 2 w.if-this-lt2-1.false)
@@ -421,7 +434,7 @@ pub call_value-returns-in_ok-count-in-Nodes-clause-value : goal.call_value-retur
 call_value-returns-in_ok-count-in-Nodes-clause-value t c =
     let call : Invoked = c.args.invoked.now in
     let n : Node = node_of c.args.node in
-    let u : Tree = (node_of c.args.run.root).tree in
+    let u : Tree = (node_of c.args.run.root.now).tree in
     let items : List Held = c.given-item.result ∷ [] in
     let are : items ≡ call.arguments.items = sym (sym c.as_slice.ensures.value ∙ one_item c.as_slice.result.now c.given-item.result c.given-item.is c.in-len1.len_at_least c.in-len1.len_below) in
     let is_count : call.named.function ≡ Some functions.Count = sym c.which.ensures ∙ (c.in-Some-Count.is ∙ ap (λ (o : Function). Some o) c.in-Some-Count.field-0-is) in
@@ -433,7 +446,7 @@ pub call_value-returns-in-Nodes-given-clause-value : goal.call_value-returns-in-
 call_value-returns-in-Nodes-given-clause-value t c =
     let call : Invoked = c.args.invoked.now in
     let n : Node = node_of c.args.node in
-    let u : Tree = (node_of c.args.run.root).tree in
+    let u : Tree = (node_of c.args.run.root.now).tree in
     let items : List Held = c.given-item.result ∷ [] in
     let are : items ≡ call.arguments.items = sym (sym c.as_slice.ensures.value ∙ one_item c.as_slice.result.now c.given-item.result c.given-item.is c.in-len1.len_at_least c.in-len1.len_below) in
     let is_value : call.named.function ≡ Some functions.Value = sym c.which.ensures ∙ (c.in-Some-Value.is ∙ ap (λ (o : Function). Some o) c.in-Some-Value.field-0-is) in
@@ -446,7 +459,7 @@ call_value-returns-in-Nodes-given-clause-value t c =
 pub push_choice-returns-in-Slice : goal.push_choice-returns-in-Slice
 push_choice-returns-in-Slice t c =
     let n : Node = node_of c.args.node in
-    let u : Tree = (node_of c.args.run.root).tree in
+    let u : Tree = (node_of c.args.run.root.now).tree in
     let fits : to_z w64 (of_z w64 c.unwrap_or.result) ≡ c.unwrap_or.result = search rules in
     let seen = ap (choice_view (table_in c.args.run)) c.in-Slice.is ∙ slice_is (table_in c.args.run) c.in-Slice.first c.in-Slice.last c.in-Slice.step in
     let same : sliced c.in-Slice.first c.in-Slice.last (to_z w64 (of_z w64 c.unwrap_or.result)) n ≡ select (choice_view (table_in c.args.run) c.args.choice.now) n u =
@@ -455,13 +468,13 @@ push_choice-returns-in-Slice t c =
 
 pub push_slice-returns-then-slice-gt0 : goal.push_slice-returns-then-slice-gt0
 push_slice-returns-then-slice-gt0 t c =
-    let u : Tree = (node_of c.args.run.root).tree in
+    let u : Tree = (node_of c.args.run.root.now).tree in
     record { adds = c.push_rising.ensures.adds; kept = c.push_rising.ensures.kept; nodes = subst (λ (l : List Node). OnOk c.push_rising.result (map node_of c.push_rising.new.frame.found.items ≡ take c.args.most (map node_of c.args.frame.now.found.items ++ nodes (steps_view (table_in c.args.run) c.args.rest.now) l u))) c.of.ensures c.push_rising.ensures.nodes }
 
 pub push_slice-returns : goal.push_slice-returns
 push_slice-returns t c =
     let n : Node = node_of c.args.node in
-    let u : Tree = (node_of c.args.run.root).tree in
+    let u : Tree = (node_of c.args.run.root.now).tree in
     let same = ap (map node_of) c.deref.ensures.value ∙ c.in_ok-found.ensures.nodes in
     record { adds = c.push_from_each.ensures.adds; kept = c.push_from_each.ensures.kept; nodes = subst (λ (l : List Node). OnOk c.push_from_each.result (map node_of c.push_from_each.new.frame.found.items ≡ take c.args.most (map node_of c.args.frame.now.found.items ++ nodes (steps_view (table_in c.args.run) c.args.rest.now) l u))) same c.push_from_each.ensures.nodes }
 
@@ -470,7 +483,7 @@ push_rising-returns-in_err-push_steps t c = record { adds = adds_more c.loop-nex
 
 pub push_rising-loop-next-preserved : goal.push_rising-loop-next-preserved
 push_rising-loop-next-preserved t c =
-    let u : Tree = (node_of c.args.run.root).tree in
+    let u : Tree = (node_of c.args.run.root.now).tree in
     let ss : Segments = steps_view (table_in c.args.run) c.args.rest.now in
     let n : Node = node_of c.args.node in
     let passes : Step → Bool = is_index (rises c.args.slice.low c.args.slice.high c.args.slice.step) in
@@ -480,9 +493,9 @@ push_rising-loop-next-preserved t c =
     let kept = c.loop-next.invariant in
     let total : List Node = nodes ss (children_where passes n) u in
     let at : IsAt n i (Some child) = subst (λ (o : Option Cursor). IsAt n i o) c.in-Some.is kept.at in
-    let here : Goes (line_of c.args.run.root) c.args.most c.args.frame.now.found.items c.loop-next.frame.found.items (nodes ss (chosen_from passes n i (Some child)) u) total =
+    let here : Goes (line_of c.args.run.root.now) c.args.most c.args.frame.now.found.items c.loop-next.frame.found.items (nodes ss (chosen_from passes n i (Some child)) u) total =
     others_are (nodes ss (chosen_from passes n i (Some child)) u) (ap (λ (o : Option Cursor). nodes ss (chosen_from passes n i o) u) c.in-Some.is) kept.goes in
-    let goes : Goes (line_of c.args.run.root) c.args.most c.args.frame.now.found.items c.if-has.frame.found.items (nodes ss (chosen_from passes n (i + 1) next) u) total =
+    let goes : Goes (line_of c.args.run.root.now) c.args.most c.args.frame.now.found.items c.if-has.frame.found.items (nodes ss (chosen_from passes n (i + 1) next) u) total =
     elim c.if-has.branch [
       | push_rising-then-has+in_ok-push_steps w ↦
           (let chosen = chosen_here passes n i child next at c.next_sibling-next.ensures.children (sym c.has.ensures ∙ w.if-has.true) in
@@ -507,7 +520,7 @@ push_rising-loop-next-preserved t c =
 
 pub push_rising-returns : goal.push_rising-returns
 push_rising-returns t c =
-    let u : Tree = (node_of c.args.run.root).tree in
+    let u : Tree = (node_of c.args.run.root.now).tree in
     let ss : Segments = steps_view (table_in c.args.run) c.args.rest.now in
     let n : Node = node_of c.args.node in
     record { adds = c.loop-next.invariant.goes.kept; kept = c.loop-next.invariant.kept; nodes = is_done c.loop-next.invariant.goes (ap (λ (o : Option Cursor). nodes ss (chosen_from (is_index (rises c.args.slice.low c.args.slice.high c.args.slice.step)) n c.loop-next.index o) u) c.in_default.is ∙ no_nodes ss u) }
@@ -522,7 +535,7 @@ push_rising-overflow_add-index t c =
 
 pub push_rising-returns-then-len-most : goal.push_rising-returns-then-len-most
 push_rising-returns-then-len-most t c =
-    let u : Tree = (node_of c.args.run.root).tree in
+    let u : Tree = (node_of c.args.run.root.now).tree in
     let ss : Segments = steps_view (table_in c.args.run) c.args.rest.now in
     let n : Node = node_of c.args.node in
     let r = c.args.slice in

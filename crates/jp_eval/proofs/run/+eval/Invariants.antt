@@ -50,6 +50,9 @@ decreases-holds l = size_of_logical (condition_view (table_in l.run) l.condition
 abbrev pub decreases-are_all : goal.decreases-are_all
 decreases-are_all l = size_of_logicals (conditions_view (table_in l.run) l.parts.now)
 
+abbrev pub decreases-compare_sides : goal.decreases-compare_sides
+decreases-compare_sides l = size_of_comparable (side_view (table_in l.run) l.left.now) + size_of_comparable (side_view (table_in l.run) l.right.now) + 1
+
 abbrev pub decreases-side_value : goal.decreases-side_value
 decreases-side_value l = size_of_comparable (side_view (table_in l.run) l.side.now)
 
@@ -104,9 +107,9 @@ abbrev pub invariant-push_children-loop-next : goal.invariant-push_children-loop
 invariant-push_children-loop-next l =
     let t = tree_in l.run in
     record {
-      goes : Goes (line_of l.run.root) l.most l.fn.frame.found.items l.frame.found.items (nodes (steps_view (table_in l.run) l.rest) (nodes_from l.next) t) (nodes (steps_view (table_in l.run) l.rest) (children (node_of l.node)) t);
+      goes : Goes (line_of l.run.root.now) l.most l.fn.frame.found.items l.frame.found.items (nodes (steps_view (table_in l.run) l.rest) (nodes_from l.next) t) (nodes (steps_view (table_in l.run) l.rest) (children (node_of l.node)) t);
       kept : AreKept l.run l.frame.answers.items;
-      line : IfSome l.next (λ c. line_of c ≡ line_of l.run.root);
+      line : IfSome l.next (λ c. line_of c ≡ line_of l.run.root.now);
     }
 
 abbrev pub decreases-push_children-loop-next : goal.decreases-push_children-loop-next
@@ -117,7 +120,7 @@ invariant-push_descendants-loop-place l =
     let t = tree_in l.run in
     let f = λ (d : Node). selected (choices_view (table_in l.run) l.choices) d t in
     record {
-      goes : Goes (line_of l.run.root) l.most l.fn.frame.found.items l.frame.found.items (nodes (steps_view (table_in l.run) l.rest) (flat_map f (drop (l.place - place_of l.node) (subtree (node_of l.node)))) t) (nodes (steps_view (table_in l.run) l.rest) (flat_map f (subtree (node_of l.node))) t);
+      goes : Goes (line_of l.run.root.now) l.most l.fn.frame.found.items l.frame.found.items (nodes (steps_view (table_in l.run) l.rest) (flat_map f (drop (l.place - place_of l.node) (subtree (node_of l.node)))) t) (nodes (steps_view (table_in l.run) l.rest) (flat_map f (subtree (node_of l.node))) t);
       kept : AreKept l.run l.frame.answers.items;
     }
 
@@ -126,9 +129,9 @@ invariant-push_filtered-loop-next l =
     let t = tree_in l.run in
     let p = λ (c : Node). truth (condition_view (table_in l.run) l.condition) c t in
     record {
-      goes : Goes (line_of l.run.root) l.most l.fn.frame.found.items l.frame.found.items (nodes (steps_view (table_in l.run) l.rest) (filter p (nodes_from l.next)) t) (nodes (steps_view (table_in l.run) l.rest) (filter p (children (node_of l.node))) t);
+      goes : Goes (line_of l.run.root.now) l.most l.fn.frame.found.items l.frame.found.items (nodes (steps_view (table_in l.run) l.rest) (filter p (nodes_from l.next)) t) (nodes (steps_view (table_in l.run) l.rest) (filter p (children (node_of l.node))) t);
       kept : AreKept l.run l.frame.answers.items;
-      line : IfSome l.next (λ c. line_of c ≡ line_of l.run.root);
+      line : IfSome l.next (λ c. line_of c ≡ line_of l.run.root.now);
     }
 
 abbrev pub decreases-push_filtered-loop-next : goal.decreases-push_filtered-loop-next
@@ -138,7 +141,7 @@ abbrev pub invariant-push_from_each-loop-start : goal.invariant-push_from_each-l
 invariant-push_from_each-loop-start l =
     let t = tree_in l.run in
     record {
-      goes : Goes (line_of l.run.root) l.most l.fn.frame.found.items l.frame.found.items (nodes (steps_view (table_in l.run) l.rest) (map node_of (drop l.start-index l.starts)) t) (nodes (steps_view (table_in l.run) l.rest) (map node_of l.starts) t);
+      goes : Goes (line_of l.run.root.now) l.most l.fn.frame.found.items l.frame.found.items (nodes (steps_view (table_in l.run) l.rest) (map node_of (drop l.start-index l.starts)) t) (nodes (steps_view (table_in l.run) l.rest) (map node_of l.starts) t);
       kept : AreKept l.run l.frame.answers.items;
     }
 
@@ -147,10 +150,10 @@ invariant-push_rising-loop-next l =
     let t = tree_in l.run in
     let passes = is_index (rises l.slice.low l.slice.high l.slice.step) in
     record {
-      goes : Goes (line_of l.run.root) l.most l.fn.frame.found.items l.frame.found.items (nodes (steps_view (table_in l.run) l.rest) (chosen_from passes (node_of l.node) l.index l.next) t) (nodes (steps_view (table_in l.run) l.rest) (children_where passes (node_of l.node)) t);
+      goes : Goes (line_of l.run.root.now) l.most l.fn.frame.found.items l.frame.found.items (nodes (steps_view (table_in l.run) l.rest) (chosen_from passes (node_of l.node) l.index l.next) t) (nodes (steps_view (table_in l.run) l.rest) (children_where passes (node_of l.node)) t);
       at : IsAt (node_of l.node) l.index l.next;
       kept : AreKept l.run l.frame.answers.items;
-      line : IfSome l.next (λ c. line_of c ≡ line_of l.run.root);
+      line : IfSome l.next (λ c. line_of c ≡ line_of l.run.root.now);
     }
 
 abbrev pub decreases-push_rising-loop-next : goal.decreases-push_rising-loop-next
@@ -161,7 +164,7 @@ invariant-push_choices-loop-choice l =
     let n = node_of l.node in
     let t = tree_in l.run in
     record {
-      goes : Goes (line_of l.run.root) l.most l.fn.frame.found.items l.frame.found.items (nodes (steps_view (table_in l.run) l.rest) (selected (choices_view (table_in l.run) (drop l.choice-index l.choices)) n t) t) (nodes (steps_view (table_in l.run) l.rest) (selected (choices_view (table_in l.run) l.choices) n t) t);
+      goes : Goes (line_of l.run.root.now) l.most l.fn.frame.found.items l.frame.found.items (nodes (steps_view (table_in l.run) l.rest) (selected (choices_view (table_in l.run) (drop l.choice-index l.choices)) n t) t) (nodes (steps_view (table_in l.run) l.rest) (selected (choices_view (table_in l.run) l.choices) n t) t);
       kept : AreKept l.run l.frame.answers.items;
       size : size_of_selectors (choices_view (table_in l.run) (drop l.choice-index l.choices)) ≤ size_of_selectors (choices_view (table_in l.run) l.choices);
     }

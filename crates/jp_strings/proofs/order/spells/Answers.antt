@@ -1,10 +1,10 @@
 -- A body without an escape spells a text exactly where it is its bytes.
-use Rattle.std.proofs.Common.{◌∙◌, sym}
+use Rattle.std.proofs.Common.{nat_le, length, ap, arith}
+use Rattle.std.proofs.lemmas.Bool.{leb-true, le-leb}
 use Rattle.jp_strings.proofs.Runs.{plain_text_equal}
 use Rattle.jp_strings.proofs.order.spells.Goals as goal
 
 pub returns-then-is_plain : goal.returns-then-is_plain
 returns-then-is_plain c =
-    let same = c.as_bytes.ensures.value in
-    let told = c.equal_bytes.ensures in
-    plain_text_equal c.equal_bytes.result c.args.body.now c.args.text.now c.requires (c.is_plain.ensures c.if-is_plain.true) c.utf8.text (λ h. told.0 h ∙ same) (λ h. told.1 (h ∙ sym same))
+    plain_text_equal (nat_le (length c.args.body.now) (length c.args.text.now)) c.args.body.now c.args.text.now c.requires (c.is_plain.ensures c.if-is_plain.true) c.utf8.text
+    (λ h. c.may_spell.ensures.bytes c.if-not-may_spell.false (leb-true _ _ h)) (λ e. le-leb _ _ (let l = ap length e in omega (arith, l)))

@@ -9,6 +9,7 @@ use Rattle.jp_tape.specs.declared.cursor.Cursor.{Cursor}
 use Rattle.jp_eval.specs.Programs.{table_of, steps_view}
 use Rattle.jp_eval.specs.declared.program.Slot.{Slot}
 use Rattle.jp_eval.specs.declared.program.Step.{Step}
+use Rattle.jp_eval.proofs.Answered.{none_in}
 use Rattle.jp_eval.proofs.Counts.{all_added}
 use Rattle.jp_eval.proofs.evaluate.Program.push_all.Goals as goal
 
@@ -19,7 +20,7 @@ on_ok (Err e) P Q f h = tt
 pub push_steps-result-requires-clause-stands : goal.push_steps-result-requires-clause-stands
 push_steps-result-requires-clause-stands c = record {
   line = c.requires.line;
-  kept = c.in_ok-answers.ensures (record { alloc = c.args.alloc; slots = c.deref.result; root = c.args.root; at_root = c.requires.root });
+  kept = λ place answer e. absurd ((none_in _ c.new-2.ensures.items).none place answer e);
 }
 
 pub returns-clause-ok : goal.returns-clause-ok

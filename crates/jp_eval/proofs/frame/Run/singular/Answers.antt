@@ -30,7 +30,7 @@ returns-in-Slot-clause-nodes c =
     let t : Tree = tree_in c.args.self in
     let n : Node = node_of c.args.node in
     let inner : Run = c.enter.result.0 in
-    let same : nodes (steps_view (table_in inner) c.enter.result.1.now) (node_of c.args.self.root ∷ []) (tree_in inner) ≡ path_nodes (nodes_view table c.args.nodes.now) n t =
+    let same : nodes (steps_view (table_in inner) c.enter.result.1.now) (node_of c.args.self.root.now ∷ []) (tree_in inner) ≡ path_nodes (nodes_view table c.args.nodes.now) n t =
     c.enter.ensures.nodes
     ∙ sym (ap (λ (p : Path). path_nodes p n t) (ap (nodes_view table) c.in-Slot.is ∙ slot_is table c.in-Slot.place)) in
     subst (λ (l : List Node). IfSome c.singular_end-in-Slot.result (λ end. node_list end ≡ l)) same (c.singular_end-in-Slot.ensures.nodes (table_in inner) (tree_in inner))
