@@ -104,7 +104,9 @@ fn scalars_are_compared(rt: HostRuntime) -> Result<(), Fail> {
     assert!(rt; spells(longer, "a\n") && !spells(longer, "a") && !spells(longer, "b"));
     let plain: &[u8] = b"ab";
     test_body(plain)?;
-    assert!(rt; spells(plain, "ab") && !spells(plain, "a") && !spells(plain, "abc") && !spells(plain, ""));
+    assert!(rt;
+        spells(plain, "ab") && !spells(plain, "a") && !spells(plain, "abc") && !spells(plain, "")
+    );
     assert!(rt; !spells(escaped, "\\u0061") && !spells(escaped, ""));
     Ok(())
 }
