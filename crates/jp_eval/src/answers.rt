@@ -15,7 +15,10 @@ use crate::program::{Nodes, Step};
 use std::alloc::{AllocError, Global};
 
 /// No answer, at so many places.
-fn no_answers<'a>(alloc: Global, count: usize) -> Result<Vec<Option<Answer<'a>>>, AllocError>
+pub(crate) fn no_answers<'a>(
+    alloc: Global,
+    count: usize,
+) -> Result<Vec<Option<Answer<'a>>>, AllocError>
     ensures { (run : AnyRun) → IfOk result (λ answers. AreKept run answers.items) }
 {
     let mut answers = Vec::with_capacity(alloc, count)?;
@@ -23,6 +26,21 @@ fn no_answers<'a>(alloc: Global, count: usize) -> Result<Vec<Option<Answer<'a>>>
         answers.push(None)?;
     }
     Ok(answers)
+}
+
+/// No answer, and room for as many as the query has slots. There is none yet where the query goes one step to children: each of its
+/// filters is met once then, and one that asks of several children makes room itself.
+pub(crate) fn first_answers<'a>(
+    alloc: Global,
+    steps: &[Step],
+    count: usize,
+) -> Result<Vec<Option<Answer<'a>>>, AllocError>
+    ensures { (run : AnyRun) → IfOk result (λ answers. AreKept run answers.items) }
+{
+    match steps {
+        [Step::Child(_)] => Ok(Vec::new(alloc)),
+        _ => no_answers(alloc, count),
+    }
 }
 
 impl<'a> Answer<'a> {

@@ -8,6 +8,7 @@ ghost use Rattle.jp_tape.specs.Cursors.{line_of, place_of, node_of};
 ghost use Rattle.jp_eval.specs.Compiled.{program_view};
 ghost use Rattle.jp_eval.specs.Found.{Adds, AreOf};
 
+use crate::answers::{first_answers, no_answers};
 use crate::compile::{compile_logical, compile_segments};
 use crate::frame::{Frame, Run};
 use crate::program::{Slot, Step};
@@ -50,6 +51,7 @@ impl Program {
         ensures kept { Adds (line_of root.entry) out.old.items out.new.items }
         ensures ok { OnOk result (map node_of out.new.items ≡ map node_of out.old.items ++ nodes (program_view self.now) (node_of start.entry ∷ []) (node_of root.entry).tree) }
     {
+        let answers = first_answers(alloc, &self.steps, self.slots.len())?;
         let run = Run {
             alloc,
             slots: &self.slots,
@@ -57,7 +59,7 @@ impl Program {
         };
         let mut frame = Frame {
             found: std::mem::replace(out, Vec::new(alloc)),
-            answers: Vec::new(alloc),
+            answers,
         };
         let result = push_steps(run, &self.steps, start, usize::MAX, &mut frame);
         std::mem::swap(out, &mut frame.found);
@@ -130,9 +132,10 @@ pub fn truth<'a>(
 {
     let mut slots = Vec::new(alloc);
     let condition = compile_logical(alloc, expression, &mut slots)?;
+    let answers = no_answers(alloc, slots.len())?;
     let mut frame = Frame {
         found: Vec::new(alloc),
-        answers: Vec::new(alloc),
+        answers,
     };
     let run = Run {
         alloc,

@@ -18,6 +18,7 @@ ghost use Rattle.jp_eval.specs.Programs.{choices_view, choice_view, conditions_v
 ghost use Rattle.jp_eval.specs.Walks.{rises};
 ghost use Rattle.jp_values.specs.Values.{value_view, is_sound_value};
 
+use crate::answers::no_answers;
 use crate::children::{Rising, Slice, find_element, find_falling, find_member};
 use crate::frame::{Answer, Frame, Run};
 use crate::functions::{Function, in_pattern, length_of, read_passes};
@@ -399,7 +400,7 @@ fn push_nodes<'a>(
         Nodes::Current(steps) => return push_steps(run, steps, node, most, frame),
     };
     let (inner, steps) = run.enter(place);
-    let mut answers = Vec::new(run.alloc);
+    let mut answers = no_answers(run.alloc, inner.slots.len())?;
     std::mem::swap(&mut frame.answers, &mut answers);
     let result = push_steps(inner, steps, *run.root, most, frame);
     std::mem::swap(&mut frame.answers, &mut answers);

@@ -9,7 +9,6 @@ use Rattle.jp_tape.specs.declared.cursor.Cursor.{Cursor}
 use Rattle.jp_eval.specs.Programs.{table_of, steps_view}
 use Rattle.jp_eval.specs.declared.program.Slot.{Slot}
 use Rattle.jp_eval.specs.declared.program.Step.{Step}
-use Rattle.jp_eval.proofs.Answered.{none_in}
 use Rattle.jp_eval.proofs.Counts.{all_added}
 use Rattle.jp_eval.proofs.evaluate.Program.push_all.Goals as goal
 
@@ -20,7 +19,7 @@ on_ok (Err e) P Q f h = tt
 pub push_steps-result-requires-clause-stands : goal.push_steps-result-requires-clause-stands
 push_steps-result-requires-clause-stands c = record {
   line = c.requires.line;
-  kept = λ place answer e. absurd ((none_in _ c.new-2.ensures.items).none place answer e);
+  kept = c.in_ok-answers.ensures (record { alloc = c.args.alloc; slots = c.deref-2.result; root = record { ref_ptr = c.args.self.ref_ptr; now = c.args.root }; at_root = c.requires.root });
 }
 
 pub returns-clause-ok : goal.returns-clause-ok
@@ -31,8 +30,8 @@ returns-clause-ok c =
     let t : Tree = (node_of c.args.root).tree in
     let n : Node = node_of c.args.start in
     let seen = λ (slots : List Slot) (steps : List Step). nodes (steps_view (table_of slots) steps) (n ∷ []) t in
-    let found : List Node = seen c.deref.result.now c.deref-2.result.now in
+    let found : List Node = seen c.deref-2.result.now c.deref-3.result.now in
     on_ok c.push_steps-result.result _ (map node_of c.swap.new.x.items ≡ map node_of c.args.out.now.items ++ seen c.args.self.now.slots.items c.args.self.now.steps.items)
     (λ e. ap (λ (v : Vec Cursor Global). map node_of v.items) c.swap.ensures.x_after
     ∙ (all_added 18446744073709551615 c.replace.result.items new.items found e (omega (arith, size, small))
-    ∙ ap₂ (λ (v : Vec Cursor Global) (l : List Node). map node_of v.items ++ l) c.replace.ensures.value (ap₂ seen c.deref.ensures.value c.deref-2.ensures.value))) c.push_steps-result.ensures.nodes
+    ∙ ap₂ (λ (v : Vec Cursor Global) (l : List Node). map node_of v.items ++ l) c.replace.ensures.value (ap₂ seen c.deref-2.ensures.value c.deref-3.ensures.value))) c.push_steps-result.ensures.nodes
