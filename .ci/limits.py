@@ -196,6 +196,9 @@ def filters_from_the_root(checks):
     nested = "$" + "[?$" * 255 + "]" * 255
     elements = [(1, f"$[{index}]") for index in range(1000)]
     checks.check("filters from the root", answered("[" + ",".join(["1"] * 1000) + "]\n", f"query {nested}\n"), (0, rows(elements, "1")))
+    many = "[" + "[0]," * 100_000 + "5]"
+    for query in ("$..[?$[-1]==6]", "$[*][?$[-1]==6]", "$[?@[?$[-1]==6]]", "$[?$..[?$[-1]==6]]"):
+        checks.check(f"a filter of the last element of many, {query}", answered(f"{many}\n", f"query {query}\n"), (0, "= 0\n"))
 
 
 def devices(checks):
