@@ -1,5 +1,5 @@
 -- Steps that lead from a node to one node, or to none.
-use Rattle.std.proofs.Common.{◌≡◌, ◌∙◌, ◌<◌, ◌+◌, ℕ, List, [], ◌∷◌, length, drop, get_or, sym, ap, append-nil}
+use Rattle.std.proofs.Common.{◌≡◌, ◌∙◌, ◌<◌, ◌+◌, ℕ, List, [], ◌∷◌, length, drop, get_or, sym, ap, append-nil, arith}
 use Rattle.std.proofs.lemmas.List.{drop_more}
 use Rattle.jp_model.specs.Json.Tree.{Tree}
 use Rattle.jp_model.specs.Meaning.Nodes.{Node}
@@ -19,3 +19,9 @@ pub goes_on : (table : Table) (t : Tree) (all : List Step) (i : ℕ) (here : Ste
 goes_on table t all i here n next whole l same e left =
     ap (λ ns. nodes (steps_view table (drop (i + 1) all)) ns t) (e ∙ ap (λ (s : Step). segment_nodes (step_view table s) n t) same)
     ∙ (sym (one_step table t all i here n l) ∙ left)
+
+-- where one step is left, that is all
+pub last_goes : (table : Table) (t : Tree) (all : List Step) (here : Step) (n : Node) (next : List Node) → length all ≡ 1 → here ≡ get_or all 0 here → next ≡ segment_nodes (step_view table here) n t → next ≡ nodes (steps_view table all) (n ∷ []) t
+last_goes table t [] here n next l same e = absurd (omega (arith, l))
+last_goes table t (s ∷ []) here n next l same e = e ∙ (ap (λ (x : Step). segment_nodes (step_view table x) n t) same ∙ sym (append-nil (segment_nodes (step_view table s) n t)))
+last_goes table t (s ∷ r ∷ more) here n next l same e = absurd (omega (arith, l))

@@ -8,8 +8,8 @@ abbrev mutual
   size_of_segments (segment s ss) = size_of_segment s + size_of_segments ss
 
   pub size_of_segment : Segment → ℕ
-  size_of_segment (child_segment ss) = size_of_selectors ss + 6
-  size_of_segment (descendant_segment ss) = size_of_selectors ss + 6
+  size_of_segment (child_segment ss) = size_of_selectors ss + 7
+  size_of_segment (descendant_segment ss) = size_of_selectors ss + 7
 
   pub size_of_selectors : Selectors → ℕ
   size_of_selectors no_selectors = 0
@@ -37,7 +37,7 @@ abbrev mutual
   size_of_comparable (result c) = size_of_call c + 1
 
   pub size_of_path : Path → ℕ
-  size_of_path (path o ss) = size_of_segments ss + 1
+  size_of_path (path o ss) = size_of_segments ss + 2
 
   pub size_of_call : Call → ℕ
   size_of_call (call f args) = size_of_arguments args + 2

@@ -1,14 +1,17 @@
 -- What a call promises of the frame that it is lent.
-use Rattle.std.specs.Prelude.{◌≡◌, ℕ, List, ◌++◌, map, take, Option, Some, Result, OnOk, slice_get}
+use Rattle.std.specs.Prelude.{◌≡◌, ℕ, Bool, List, ◌++◌, map, take, Option, Some, Result, OnOk, slice_get}
 use Rattle.jp_model.specs.Json.Tree.{Tree}
 use Rattle.jp_model.specs.Meaning.Nodes.{Node}
-use Rattle.jp_model.specs.Meaning.Selecting.{nodes, path_nodes}
+use Rattle.jp_model.specs.Meaning.Functions.{in_pattern}
+use Rattle.jp_model.specs.Meaning.Selecting.{nodes, path_nodes, given_by}
 use Rattle.jp_eval.specs.Answers.{IsAnswer}
 use Rattle.jp_eval.specs.Found.{Adds}
-use Rattle.jp_eval.specs.Programs.{Table, table_of, slot_in, steps_view}
+use Rattle.jp_eval.specs.Functions.{passing}
+use Rattle.jp_eval.specs.Programs.{Table, table_of, slot_in, steps_view, given_view}
 use Rattle.jp_eval.specs.declared.frame.Run.{Run}
 use Rattle.jp_eval.specs.declared.frame.Answer.{Answer}
 use Rattle.jp_eval.specs.declared.frame.Frame.{Frame}
+use Rattle.jp_eval.specs.declared.program.Given.{Given}
 use Rattle.jp_eval.specs.declared.program.Step.{Step}
 use Rattle.jp_tape.specs.declared.cursor.Cursor.{Cursor}
 use Rattle.jp_tape.specs.Cursors.{line_of, node_of}
@@ -49,3 +52,8 @@ pub record Lends {E : Type 0} {A : Type 0} (run : Run) (old new : Frame) (result
   pub adds : Adds (line_of run.root.now) old.found.items new.found.items
   pub kept : AreKept run new.answers.items
   pub same : OnOk result (new.found.items ≡ old.found.items)
+
+-- the value of the first argument is a string that passes the pattern of the second: all of it, or a part of it
+abbrev pub passes_given : Run → Bool → Given → Given → Node → Bool
+passes_given run whole text pattern n =
+    in_pattern (passing whole) (given_by (given_view (table_in run) text) n (tree_in run)).value (given_by (given_view (table_in run) pattern) n (tree_in run)).value

@@ -110,6 +110,15 @@ impl<'p, 'a> Run<'p, 'a> {
         }
     }
 
+    /// Whether what is answered of a query within a filter is kept. What it selects is the same either way.
+    #[inline(always)]
+    pub(crate) fn keeps(self, nodes: &Nodes, frame: &Frame<'a>) -> bool {
+        match nodes {
+            Nodes::Slot(place) => *place < frame.answers.len(),
+            Nodes::Current(_) => false,
+        }
+    }
+
     /// Keeps what was answered of a query within a filter, where it begins at the root and there is room.
     #[inline(always)]
     pub(crate) fn keep(self, nodes: &Nodes, answer: Answer<'a>, frame: &mut Frame<'a>)

@@ -3,8 +3,9 @@
 ghost use Rattle.std.specs.Prelude.{◌≡◌, length, Some, IfOk, IsTrue, option_map};
 ghost use Rattle.std.specs.Str.{chars};
 ghost use Rattle.jp_model.specs.Json.Tree.{value_of};
-ghost use Rattle.jp_model.specs.Meaning.Functions.{length_of as length_of_value, in_pattern as in_pattern_of};
+ghost use Rattle.jp_model.specs.Meaning.Functions.{length_of as length_of_value, in_pattern as in_pattern_of, single_value};
 ghost use Rattle.jp_tape.specs.Cursors.{node_of};
+ghost use Rattle.jp_eval.specs.Found.{node_list};
 ghost use Rattle.jp_eval.specs.Functions.{function_named, passing, pattern_in, passes_as_string, passes_where_read};
 ghost use Rattle.jp_iregexp.specs.Trees.{pattern_view};
 ghost use Rattle.jp_strings.specs.Points.{IsText, points_of};
@@ -96,6 +97,22 @@ fn read_pattern(alloc: Global, value: Value<'_>) -> Result<Option<Pattern>, Allo
     }
 }
 
+/// Whether the value of a node is a string that passes a pattern: all of it, or a part of it.
+#[inline(always)]
+fn node_passes(
+    alloc: Global,
+    pattern: &Pattern,
+    whole: bool,
+    node: Cursor<'_>,
+) -> Result<bool, AllocError>
+    ensures { IfOk result (λ b. b ≡ passes_as_string (passing whole) (pattern_view pattern.now) (Some (value_of (node_of node.entry).tree))) }
+{
+    match node.text() {
+        Some(body) => body_passes(alloc, pattern, whole, body),
+        None => Ok(false),
+    }
+}
+
 /// Whether the value is a string that passes a pattern: all of it, or a part of it.
 fn value_passes(
     alloc: Global,
@@ -106,10 +123,7 @@ fn value_passes(
     ensures { IfOk result (λ b. b ≡ passes_as_string (passing whole) (pattern_view pattern.now) (value_view value.entry)) }
 {
     match value {
-        Value::Node(node) => match node.text() {
-            Some(body) => body_passes(alloc, pattern, whole, body),
-            None => Ok(false),
-        },
+        Value::Node(node) => node_passes(alloc, pattern, whole, node),
         Value::Constant(Literal::Text(text)) => text_passes(alloc, pattern, whole, text.as_str()),
         _ => Ok(false),
     }
@@ -126,6 +140,25 @@ pub(crate) fn read_passes(
 {
     match read {
         Some(pattern) => value_passes(alloc, pattern, whole, value),
+        None => Ok(false),
+    }
+}
+
+/// Whether there is a node, and its value is a string that passes the pattern that was read, where there is one.
+#[inline(always)]
+pub(crate) fn end_passes(
+    alloc: Global,
+    read: &Option<Pattern>,
+    whole: bool,
+    end: Option<Cursor<'_>>,
+) -> Result<bool, AllocError>
+    ensures { IfOk result (λ b. b ≡ passes_where_read (passing whole) (option_map pattern_view read.now) (single_value (node_list end.entry))) }
+{
+    let Some(pattern) = read else {
+        return Ok(false);
+    };
+    match end {
+        Some(node) => node_passes(alloc, pattern, whole, node),
         None => Ok(false),
     }
 }

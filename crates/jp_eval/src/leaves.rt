@@ -5,16 +5,19 @@ ghost use Rattle.jp_decimal.specs.Decimals.{numeral_number};
 ghost use Rattle.jp_eval.specs.Constants.{is_read_as};
 ghost use Rattle.jp_eval.specs.Functions.{function_named, pattern_in};
 ghost use Rattle.jp_iregexp.specs.Trees.{pattern_view};
-ghost use Rattle.jp_model.specs.Meaning.Functions.{literal_value};
+ghost use Rattle.jp_eval.specs.Found.{node_list};
+ghost use Rattle.jp_model.specs.Meaning.Compare.{compared};
+ghost use Rattle.jp_model.specs.Meaning.Functions.{literal_value, single_value};
 ghost use Rattle.jp_query.specs.Sound.{is_sound};
-ghost use Rattle.jp_query.specs.View.{literal_view};
+ghost use Rattle.jp_query.specs.View.{literal_view, op_view};
 ghost use Rattle.jp_values.specs.Values.{value_view, is_sound_value};
 
 use crate::functions::Function;
 use jp_decimal::Numeral;
 use jp_iregexp::Pattern;
-use jp_query::Literal;
-use jp_values::Value;
+use jp_query::{CompareOp, Literal};
+use jp_tape::Cursor;
+use jp_values::{Value, compare, compare_with_number, compare_with_text};
 
 /// A value that is written in the query, and can be read. A number was read.
 #[derive(Drop)]
@@ -35,6 +38,23 @@ impl Constant {
         match &self.number {
             Some(number) => Value::Number(number.decimal()),
             None => Value::Constant(&self.literal),
+        }
+    }
+
+    /// Whether a comparison of a node, or of Nothing where there is none, with the value holds (RFC 9535, section 2.3.5.2.2).
+    #[inline(always)]
+    pub(crate) fn is_compared(&self, op: CompareOp, end: Option<Cursor<'_>>) -> bool
+        ensures { result ≡ compared (op_view op) (single_value (node_list end.entry)) (Some (literal_value (literal_view self.now.literal))) }
+    {
+        let Some(node) = end else {
+            return matches!(op, CompareOp::NotEqual);
+        };
+        if let Some(number) = &self.number {
+            return compare_with_number(op, node, &number.decimal());
+        }
+        match &self.literal {
+            Literal::Text(text) => compare_with_text(op, node, text.as_str()),
+            _ => compare(op, Value::Node(node), Value::Constant(&self.literal)),
         }
     }
 }

@@ -4,6 +4,7 @@
 mod answers;
 mod children;
 mod compile;
+mod direct;
 mod evaluate;
 mod frame;
 mod functions;

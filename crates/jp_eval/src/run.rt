@@ -3,7 +3,7 @@
 //! The nodes are found node by node: for each child that the first step selects, the other steps go on from there. So no
 //! list is made in between, and a search for one node stops at the first.
 
-ghost use Rattle.std.specs.Prelude.{◌≡◌, ◌≤◌, [], ◌∷◌, ◌==◌, not, map, length, filter, flat_map, IfOk, IsTrue};
+ghost use Rattle.std.specs.Prelude.{◌≡◌, ◌≤◌, [], ◌∷◌, ◌==◌, not, map, length, filter, flat_map, IfOk, IfSome, IsTrue};
 ghost use Rattle.jp_model.specs.Meaning.Functions.{single_value as single_value_of, length_of as length_of_value};
 ghost use Rattle.jp_model.specs.Meaning.Compare.{compared};
 ghost use Rattle.jp_model.specs.Meaning.Nodes.{children, children_where, subtree};
@@ -12,26 +12,50 @@ ghost use Rattle.jp_model.specs.Meaning.Slices.{is_index, sliced};
 ghost use Rattle.jp_query.specs.View.{op_view};
 ghost use Rattle.jp_tape.specs.Cursors.{line_of, node_of};
 ghost use Rattle.jp_eval.specs.Expressions.{all_are, IsSameForAll};
-ghost use Rattle.jp_eval.specs.Found.{AreOf};
-ghost use Rattle.jp_eval.specs.Frames.{table_in, tree_in, reached, AreKept, Stands, Pushes, Lends};
+ghost use Rattle.jp_eval.specs.Found.{node_list, AreOf};
+ghost use Rattle.jp_eval.specs.Frames.{table_in, tree_in, reached, passes_given, AreKept, Stands, Pushes, Lends};
 ghost use Rattle.jp_eval.specs.Programs.{choices_view, choice_view, conditions_view, condition_view, side_view, nodes_view, invoked_view, given_view};
 ghost use Rattle.jp_eval.specs.Walks.{rises};
 ghost use Rattle.jp_values.specs.Values.{value_view, is_sound_value};
 
 use crate::answers::no_answers;
 use crate::children::{Rising, Slice, find_element, find_falling, find_member};
+use crate::direct::{compare_end, match_end};
 use crate::frame::{Answer, Frame, Run};
 use crate::functions::{Function, in_pattern, length_of, read_passes};
 use crate::program::{Choice, Condition, Given, Invoked, Nodes, Side, Step};
 use crate::rooted::asks_root_alone;
-use crate::singular::value_of;
+use crate::singular::{singular_child, value_of};
 use jp_query::CompareOp;
 use jp_tape::Cursor;
 use jp_values::{Value, compare_in};
 use std::alloc::AllocError;
 
-/// Adds what the steps select from a node, as long as fewer nodes than `most` were found.
+/// Adds the node, where there is one, as long as fewer nodes than `most` were found.
+#[inline(always)]
+fn push_end<'a>(
+    run: Run<'_, 'a>,
+    end: Option<Cursor<'a>>,
+    most: usize,
+    frame: &mut Frame<'a>,
+) -> Result<(), AllocError>
+    requires line { IfSome end (λ c. line_of c ≡ line_of run.root.now) }
+    requires kept { AreKept run frame.old.answers.items }
+    requires room { length frame.old.found.items ≤ most }
+    ensures { Pushes run.entry most frame.old frame.new result (node_list end.entry) }
+{
+    let Some(node) = end else {
+        return Ok(());
+    };
+    if frame.found.len() < most {
+        frame.found.push(node)?;
+    }
+    Ok(())
+}
+
+/// Adds what the steps select from a node, as long as fewer nodes than `most` were found. Where none is left, that is the node.
 #[cycle(eval)]
+#[inline(always)]
 pub(crate) fn push_steps<'a>(
     run: Run<'_, 'a>,
     steps: &[Step],
@@ -43,13 +67,33 @@ pub(crate) fn push_steps<'a>(
     requires room { length frame.old.found.items ≤ most }
     ensures { Pushes run.entry most frame.old frame.new result (reached run.entry steps.now (node_of node.entry ∷ [])) }
 {
+    if steps.is_empty() {
+        return push_end(run, Some(node), most, frame);
+    }
+    push_next(run, steps, node, most, frame)
+}
+
+/// The same, where a step is left. Most queries end with a name or an index.
+#[cycle(eval)]
+#[inline(never)]
+fn push_next<'a>(
+    run: Run<'_, 'a>,
+    steps: &[Step],
+    node: Cursor<'a>,
+    most: usize,
+    frame: &mut Frame<'a>,
+) -> Result<(), AllocError>
+    requires stands { Stands run node frame.old }
+    requires room { length frame.old.found.items ≤ most }
+    ensures { Pushes run.entry most frame.old frame.new result (reached run.entry steps.now (node_of node.entry ∷ [])) }
+{
+    if let [last] = steps
+        && let Some(end) = singular_child(last, node)
+    {
+        return push_end(run, end, most, frame);
+    }
     match steps.split_first() {
-        None => {
-            if frame.found.len() < most {
-                frame.found.push(node)?;
-            }
-            Ok(())
-        }
+        None => push_end(run, Some(node), most, frame),
         Some((Step::Child(choices), rest)) => push_choices(run, choices, rest, node, most, frame),
         Some((Step::Descendant(choices), rest)) => {
             push_descendants(run, choices, rest, node, most, frame)
@@ -312,7 +356,10 @@ pub(crate) fn holds<'a>(
         Condition::And(parts) => are_all(run, parts, true, node, frame),
         Condition::Not(inner) => Ok(!holds(run, inner, node, frame)?),
         Condition::Compare { left, op, right } => {
-            compare_sides(run, *op, left, right, node, frame)
+            match compare_end(run, *op, left, right, node, frame) {
+                Some(answer) => Ok(answer),
+                None => compare_sides(run, *op, left, right, node, frame),
+            }
         }
         Condition::Exists(nodes) => has_node(run, nodes, node, frame),
         Condition::Test(invoked) => call_truth(run, invoked, node, frame),
@@ -639,6 +686,29 @@ fn call_value<'v, 'a: 'v>(
     }
 }
 
+/// Whether the value of an argument is a string that passes the pattern of another: all of it, or a part of it.
+#[cycle(eval)]
+#[inline(never)]
+fn match_given<'a>(
+    run: Run<'_, 'a>,
+    whole: bool,
+    text: &Given,
+    pattern: &Given,
+    node: Cursor<'a>,
+    frame: &mut Frame<'a>,
+) -> Result<bool, AllocError>
+    requires { Stands run node frame.old }
+    ensures lends { Lends run.entry frame.old frame.new result }
+    ensures value { IfOk result (λ b. b ≡ passes_given run.entry whole text.now pattern.now (node_of node.entry)) }
+{
+    let text = given_value(run, text, node, frame)?;
+    if let Given::Pattern(pattern) = pattern {
+        return read_passes(run.alloc, &pattern.read, whole, text);
+    }
+    let pattern = given_value(run, pattern, node, frame)?;
+    in_pattern(run.alloc, whole, text, pattern)
+}
+
 /// What a call answers as a truth (RFC 9535, section 2.4).
 #[cycle(eval)]
 #[inline(never)]
@@ -652,7 +722,7 @@ fn call_truth<'a>(
     ensures lends { Lends run.entry frame.old frame.new result }
     ensures value { IfOk result (λ b. b ≡ call_truth_of (invoked_view (table_in run.entry) invoked.now) (node_of node.entry) (tree_in run.entry)) }
 {
-    let [first, second] = invoked.arguments.as_slice() else {
+    let [text, pattern] = invoked.arguments.as_slice() else {
         return Ok(false);
     };
     let whole = match invoked.named.which() {
@@ -660,10 +730,8 @@ fn call_truth<'a>(
         Some(Function::Search) => false,
         _ => return Ok(false),
     };
-    let text = given_value(run, first, node, frame)?;
-    if let Given::Pattern(pattern) = second {
-        return read_passes(run.alloc, &pattern.read, whole, text);
+    match match_end(run, whole, text, pattern, node, frame) {
+        Some(answer) => answer,
+        None => match_given(run, whole, text, pattern, node, frame),
     }
-    let pattern = given_value(run, second, node, frame)?;
-    in_pattern(run.alloc, whole, text, pattern)
 }

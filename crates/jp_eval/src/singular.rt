@@ -12,14 +12,14 @@ ghost use Rattle.jp_eval.specs.Programs.{Table, nodes_view, step_view, steps_vie
 ghost use Rattle.jp_values.specs.Values.{value_view, is_sound_value};
 
 use crate::children::{find_element, find_member};
-use crate::frame::Run;
+use crate::frame::{Frame, Run};
 use crate::program::{Choice, Nodes, Step};
 use jp_tape::Cursor;
 use jp_values::Value;
 
 /// The child that a step by one name or by one index selects, where there is one. None at another step.
 #[inline(always)]
-fn singular_child<'a>(step: &Step, node: Cursor<'a>) -> Option<Option<Cursor<'a>>>
+pub(crate) fn singular_child<'a>(step: &Step, node: Cursor<'a>) -> Option<Option<Cursor<'a>>>
     ensures nodes { (table : Table) (t : Tree) → IfSome result (λ end. node_list end ≡ segment_nodes (step_view table step.now) (node_of node.entry) t) }
     ensures line { IfSome result (λ end. IfSome end (λ c. line_of c ≡ line_of node.entry)) }
 {
@@ -76,5 +76,21 @@ impl<'p, 'a> Run<'p, 'a> {
             Nodes::Current(steps) => singular_end(steps, node),
             Nodes::Slot(place) => singular_end(self.enter(*place).1, *self.root),
         }
+    }
+    /// The same node, where nothing is kept of the query: of one that is, the node is looked for once in a line.
+    #[inline(always)]
+    pub(crate) fn singular_alone(
+        self,
+        nodes: &Nodes,
+        node: Cursor<'a>,
+        frame: &Frame<'a>,
+    ) -> Option<Option<Cursor<'a>>>
+        requires { line_of node ≡ line_of self.root.now }
+        ensures { IfSome result (λ end. node_list end ≡ path_nodes (nodes_view (table_in self.entry) nodes.now) (node_of node.entry) (tree_in self.entry)) }
+    {
+        if self.keeps(nodes, frame) {
+            return None;
+        }
+        self.singular(nodes, node)
     }
 }

@@ -7,3 +7,4 @@ pub mod Inside
 pub mod Sides
 pub mod KeyOrder
 pub mod Gathered
+pub mod Constants

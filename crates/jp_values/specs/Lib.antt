@@ -5,3 +5,4 @@ pub mod Members
 pub mod ByName
 pub mod Keys
 pub mod KeyLaws
+pub mod Constants

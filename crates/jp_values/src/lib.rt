@@ -3,6 +3,7 @@
 
 mod body;
 mod comparison;
+mod constant;
 mod equality;
 mod equality_in;
 mod key;
@@ -18,6 +19,7 @@ mod text;
 mod value;
 
 pub use comparison::{compare, compare_in, less};
+pub use constant::{compare_with_number, compare_with_text};
 pub use equality::equal;
 pub use equality_in::equal_in;
 pub use key::Key;

@@ -4,6 +4,7 @@ ghost use Rattle.std.specs.Prelude.{false, IfOk};
 ghost use Rattle.jp_tape.specs.Tapes.{IsTapeOf};
 
 use super::*;
+use jp_decimal::Decimal;
 use jp_masks::line_marks;
 use jp_model::{Framing, is_blank};
 use jp_query::{CompareOp, Literal};
@@ -412,5 +413,26 @@ fn large_objects_are_compared_within_others(rt: HostRuntime) -> Result<(), Fail>
         both_tell(alloc, &left, "[{\"a\":1,\"b\":{}}]")?,
         Some(false)
     );
+    Ok(())
+}
+
+#[test]
+fn nodes_are_compared_with_constants(rt: HostRuntime) -> Result<(), Fail> {
+    let line = b"[2.50, \"b\\u0063\", null]".as_slice();
+    let tape = read(rt.alloc(), line)?;
+    let root = Cursor::root(&tape, line);
+    let Ok(same) = Decimal::read(b"25e-1") else {
+        return Err(Fail::Memory);
+    };
+    if root.after() < 4 {
+        return Err(Fail::Memory);
+    }
+    let (number, text, null) = (root.go_to(1), root.go_to(2), root.go_to(3));
+    assert!(rt; compare_with_number(CompareOp::LessEqual, number, &same));
+    assert!(rt; !compare_with_number(CompareOp::Greater, number, &same));
+    assert!(rt; compare_with_number(CompareOp::NotEqual, null, &same));
+    assert!(rt; compare_with_text(CompareOp::Equal, text, "bc"));
+    assert!(rt; compare_with_text(CompareOp::Less, text, "c"));
+    assert!(rt; !compare_with_text(CompareOp::GreaterEqual, number, ""));
     Ok(())
 }

@@ -6,7 +6,7 @@ use Rattle.jp_model.specs.Meaning.Nodes.{Node, children, children_where, subtree
 use Rattle.jp_model.specs.Steps.{Step}
 use Rattle.jp_model.specs.Meaning.Selecting.{nodes, selected, select, truth, path_nodes, given_by, call_value, call_truth}
 use Rattle.jp_model.specs.Meaning.Slices.{named, indexed, sliced, is_index}
-use Rattle.jp_model.specs.Meaning.Functions.{Given, counted, in_pattern, single_value, literal_value}
+use Rattle.jp_model.specs.Meaning.Functions.{counted, in_pattern, single_value, literal_value}
 use Rattle.jp_model.specs.Query.Syntax as syntax
 use Rattle.jp_model.specs.Query.Syntax.{Segments}
 use Rattle.jp_model.proofs.Seek.{no_nodes}
@@ -14,12 +14,14 @@ use Rattle.jp_tape.specs.declared.cursor.Cursor.{Cursor}
 use Rattle.jp_tape.specs.Cursors.{line_of, place_of, node_of, nodes_from, nodes_after}
 use Rattle.jp_values.specs.declared.value.Value.{Value as Side}
 use Rattle.jp_values.specs.Values.{value_view}
-use Rattle.jp_eval.specs.Frames.{table_in, AreKept}
+use Rattle.jp_eval.specs.Found.{node_list}
+use Rattle.jp_eval.specs.Frames.{table_in, passes_given, AreKept}
 use Rattle.jp_eval.specs.Functions.{passing}
 use Rattle.jp_eval.specs.Programs.{steps_view, choices_view, choice_view, condition_view, nodes_view, invoked_view, given_view}
 use Rattle.jp_eval.specs.Walks.{IsAt, rises}
 use Rattle.jp_eval.specs.declared.frame.Answer.{Answer}
 use Rattle.jp_eval.specs.declared.frame.Frame.{Frame}
+use Rattle.jp_eval.specs.declared.frame.Run.{Run}
 use Rattle.jp_eval.specs.declared.functions.Function.{Function}
 use Rattle.jp_eval.specs.declared.functions.Function.TheVariants as functions
 use Rattle.jp_query.specs.View.{literal_view}
@@ -30,7 +32,7 @@ use Rattle.jp_eval.specs.declared.program.Given.{Given as Held}
 use Rattle.jp_eval.specs.declared.program.Invoked.{Invoked}
 use Rattle.jp_eval.proofs.Answered.{told_before}
 use Rattle.jp_eval.proofs.Childless.{none_first, none_selected}
-use Rattle.jp_eval.proofs.Calls.{called, few_called, many_called, none_called, several_called}
+use Rattle.jp_eval.proofs.Calls.{called, match_called, search_called, few_called, many_called, none_called, several_called}
 use Rattle.jp_eval.proofs.Compiled.{name_is, index_is, slice_is, nodes_given, pattern_given}
 use Rattle.jp_eval.proofs.Counts.{counted_so, single_found, none_single}
 use Rattle.jp_eval.proofs.Descendants.{below_at}
@@ -38,6 +40,7 @@ use Rattle.jp_eval.proofs.Goes.{Goes, others_are, goes_from, is_done, is_full, n
 use Rattle.jp_eval.proofs.Kept.{adds_none, adds_more, cut_back, line_on, line_of_some}
 use Rattle.jp_eval.proofs.Lists.{item_at, one_item, two_items}
 use Rattle.jp_eval.proofs.Patterns.{told, one_proof}
+use Rattle.jp_eval.proofs.SingularSteps.{last_goes}
 use Rattle.jp_eval.proofs.Sizes.{size_of_selectors}
 use Rattle.jp_eval.proofs.Slices.{none_risen}
 use Rattle.jp_eval.proofs.Walks.{chosen_from, chosen_here, passed_here, at_next, index_fits}
@@ -47,6 +50,20 @@ use Rattle.std.specs.Str.{chars}
 use mir.Val.{to_z, of_z}
 use Rattle.jp_eval.proofs.run.+eval.Goals as goal
 use Rattle.jp_eval.proofs.run.+eval.Goals.{push_filtered-then-branch+in_ok-push_steps, push_filtered-else-branch, call_value-in_default-via-then-as_slice-lt1, call_value-in_default-via-else-as_slice-lt1+else-this-lt2, call_truth-in-Some-Match, call_truth-in-Some-Search, push_rising-then-has+in_ok-push_steps, push_rising-else-has, push_rising-then-len-most-via-then-len-most, push_rising-then-len-most-via-else-len-most+then-ends_before, find_single-then-len-before, find_single-else-len-before}
+
+-- ---- the last step
+
+pub push_next-returns : goal.push_next-returns
+push_next-returns t c =
+    let u : Tree = (node_of c.args.run.root.now).tree in
+    let found : List Node = nodes (steps_view (table_in c.args.run) c.args.steps.now) (node_of c.args.node ∷ []) u in
+    let last : node_list c.in-Some.end ≡ found =
+    last_goes (table_in c.args.run) u c.args.steps.now c.last-item.result (node_of c.args.node) (node_list c.in-Some.end) (omega arith) c.last-item.is (c.in-Some.ensures.nodes (table_in c.args.run) u) in
+    record {
+      adds = c.push_end.ensures.adds;
+      kept = c.push_end.ensures.kept;
+      nodes = subst (λ (l : List Node). OnOk c.push_end.result (map node_of c.push_end.new.frame.found.items ≡ take c.args.most (map node_of c.args.frame.now.found.items ++ l))) last c.push_end.ensures.nodes;
+    }
 
 -- ---- children
 
@@ -369,57 +386,48 @@ call_truth-returns-in_default-clause-value t c = few_called (table_in c.args.run
 pub call_truth-returns-in_default-2-clause-value : goal.call_truth-returns-in_default-2-clause-value
 call_truth-returns-in_default-2-clause-value t c = many_called (table_in c.args.run) c.args.invoked.now c.as_slice.result.now (node_of c.args.node) (node_of c.args.run.root.now).tree c.as_slice.ensures.value c.in_default.len_at_least
 
-pub call_truth-returns-clause-value : goal.call_truth-returns-clause-value
-call_truth-returns-clause-value t c =
-    let call : Invoked = c.args.invoked.now in
-    let n : Node = node_of c.args.node in
-    let u : Tree = (node_of c.args.run.root.now).tree in
-    let items : List Held = c.first-item.result ∷ c.second-item.result ∷ [] in
-    let are : items ≡ call.arguments.items = sym (sym c.as_slice.ensures.value ∙ two_items c.as_slice.result.now c.first-item.result c.second-item.result c.first-item.is c.second-item.is c.in-len2.len_at_least c.in-len2.len_below) in
-    let one : Given = given_by (given_view (table_in c.args.run) c.first-item.result) n u in
-    let two : Given = given_by (given_view (table_in c.args.run) c.second-item.result) n u in
-    let same : in_pattern (passing c.match-which-2.whole) (value_view c.in_ok-text.text) (value_view c.in_ok-pattern.pattern) ≡ in_pattern (passing c.match-which-2.whole) one.value two.value =
-    ap₂ (λ (a b : Option Value). in_pattern (passing c.match-which-2.whole) a b) c.in_ok-text.ensures.value c.in_ok-pattern.ensures.value in
-    let answer : in_pattern (passing c.match-which-2.whole) one.value two.value ≡ call_truth (invoked_view (table_in c.args.run) call) n u =
-    elim c.match-which-2.branch [
-      | call_truth-in-Some-Match w ↦
-          (let so : call.named.function ≡ Some functions.Match = cc in
-          ap (λ (b : Bool). in_pattern (passing b) one.value two.value) w.whole-is
-          ∙ sym (ap (λ (v : syntax.Call). call_truth v n u) (called (table_in c.args.run) call items functions.Match are so)))
-      | call_truth-in-Some-Search w ↦
-          (let so : call.named.function ≡ Some functions.Search = cc in
-          ap (λ (b : Bool). in_pattern (passing b) one.value two.value) w.whole-is
-          ∙ sym (ap (λ (v : syntax.Call). call_truth v n u) (called (table_in c.args.run) call items functions.Search are so)))
-    ] in
-    subst (λ (v : Bool). IfOk c.in_pattern.result (λ b. b ≡ v)) (same ∙ answer) c.in_pattern.ensures
+pub match_given-returns-clause-value : goal.match_given-returns-clause-value
+match_given-returns-clause-value t c =
+    subst (λ (v : Bool). IfOk c.in_pattern.result (λ b. b ≡ v)) (ap₂ (λ (x y : Option Value). in_pattern (passing c.args.whole) x y) c.in_ok-text.ensures.value c.in_ok-pattern.ensures.value) c.in_pattern.ensures
 
-pub call_truth-returns-in-Pattern-clause-value : goal.call_truth-returns-in-Pattern-clause-value
-call_truth-returns-in-Pattern-clause-value t c =
-    let call : Invoked = c.args.invoked.now in
-    let n : Node = node_of c.args.node in
-    let u : Tree = (node_of c.args.run.root.now).tree in
-    let items : List Held = c.first-item.result ∷ c.second-item.result ∷ [] in
-    let are : items ≡ call.arguments.items = sym (sym c.as_slice.ensures.value ∙ two_items c.as_slice.result.now c.first-item.result c.second-item.result c.first-item.is c.second-item.is c.in-len2.len_at_least c.in-len2.len_below) in
-    let one : Given = given_by (given_view (table_in c.args.run) c.first-item.result) n u in
-    let two : Given = given_by (given_view (table_in c.args.run) c.second-item.result) n u in
+pub match_given-returns-in-Pattern-clause-value : goal.match_given-returns-in-Pattern-clause-value
+match_given-returns-in-Pattern-clause-value t c =
+    let value = λ (x : Held). (given_by (given_view (table_in c.args.run) x) (node_of c.args.node) (node_of c.args.run.root.now).tree).value in
     let pattern : LiteralPattern = c.in-Pattern.pattern in
     let spelled : Option Value = Some (literal_value (literal_view pattern.constant.literal)) in
-    let second : two.value ≡ spelled = ap (λ (x : Held). (given_by (given_view (table_in c.args.run) x) n u).value) c.in-Pattern.is ∙ ap (λ (a : syntax.Argument). (given_by a n u).value) (pattern_given (table_in c.args.run) pattern) in
-    let same : in_pattern (passing c.match-which-2.whole) (value_view c.in_ok-text.text) spelled ≡ in_pattern (passing c.match-which-2.whole) one.value two.value =
-    ap₂ (λ (a b : Option Value). in_pattern (passing c.match-which-2.whole) a b) c.in_ok-text.ensures.value (sym second) in
-    let answer : in_pattern (passing c.match-which-2.whole) one.value two.value ≡ call_truth (invoked_view (table_in c.args.run) call) n u =
-    elim c.match-which-2.branch [
-      | call_truth-in-Some-Match w ↦
-          (let so : call.named.function ≡ Some functions.Match = cc in
-          ap (λ (b : Bool). in_pattern (passing b) one.value two.value) w.whole-is
-          ∙ sym (ap (λ (v : syntax.Call). call_truth v n u) (called (table_in c.args.run) call items functions.Match are so)))
-      | call_truth-in-Some-Search w ↦
-          (let so : call.named.function ≡ Some functions.Search = cc in
-          ap (λ (b : Bool). in_pattern (passing b) one.value two.value) w.whole-is
-          ∙ sym (ap (λ (v : syntax.Call). call_truth v n u) (called (table_in c.args.run) call items functions.Search are so)))
-    ] in
+    let second : value c.args.pattern.now ≡ spelled = ap value c.in-Pattern.is ∙ ap (λ (a : syntax.Argument). (given_by a (node_of c.args.node) (node_of c.args.run.root.now).tree).value) (pattern_given (table_in c.args.run) pattern) in
     ∥∥₁_elim pattern.spelled (one_proof c.read_passes.result _)
-    (λ e. subst (λ (v : Bool). IfOk c.read_passes.result (λ b. b ≡ v)) (same ∙ answer) (told c.read_passes.result (passing c.match-which-2.whole) _ (value_view c.in_ok-text.text) spelled e c.read_passes.ensures))
+    (λ e. subst (λ (v : Bool). IfOk c.read_passes.result (λ b. b ≡ v)) (ap₂ (λ (x y : Option Value). in_pattern (passing c.args.whole) x y) c.in_ok-text.ensures.value (sym second)) (told c.read_passes.result (passing c.args.whole) _ (value_view c.in_ok-text.text) spelled e c.read_passes.ensures))
+
+pub call_truth-returns-in-Some-clause-value : goal.call_truth-returns-in-Some-clause-value
+call_truth-returns-in-Some-clause-value t c =
+    let call : Invoked = c.args.invoked.now in
+    let n : Node = node_of c.args.node in
+    let run : Run = c.args.run in
+    let text : Held = c.text-item.result in
+    let pattern : Held = c.pattern-item.result in
+    let are : text ∷ pattern ∷ [] ≡ call.arguments.items = sym (sym c.as_slice.ensures.value ∙ two_items c.as_slice.result.now text pattern c.text-item.is c.pattern-item.is c.in-len2.len_at_least c.in-len2.len_below) in
+    let answer : passes_given run c.match-which-2.whole text pattern n ≡ call_truth (invoked_view (table_in run) call) n (node_of run.root.now).tree =
+    elim c.match-which-2.branch [
+      | call_truth-in-Some-Match w ↦ (let so : call.named.function ≡ Some functions.Match = cc in ap (λ (b : Bool). passes_given run b text pattern n) w.whole-is ∙ match_called run call text pattern n are so)
+      | call_truth-in-Some-Search w ↦ (let so : call.named.function ≡ Some functions.Search = cc in ap (λ (b : Bool). passes_given run b text pattern n) w.whole-is ∙ search_called run call text pattern n are so)
+    ] in
+    subst (λ (v : Bool). IfOk c.in-Some.answer (λ b. b ≡ v)) answer c.in-Some.ensures
+
+pub call_truth-returns-in-None-clause-value : goal.call_truth-returns-in-None-clause-value
+call_truth-returns-in-None-clause-value t c =
+    let call : Invoked = c.args.invoked.now in
+    let n : Node = node_of c.args.node in
+    let run : Run = c.args.run in
+    let text : Held = c.text-item.result in
+    let pattern : Held = c.pattern-item.result in
+    let are : text ∷ pattern ∷ [] ≡ call.arguments.items = sym (sym c.as_slice.ensures.value ∙ two_items c.as_slice.result.now text pattern c.text-item.is c.pattern-item.is c.in-len2.len_at_least c.in-len2.len_below) in
+    let answer : passes_given run c.match-which-2.whole text pattern n ≡ call_truth (invoked_view (table_in run) call) n (node_of run.root.now).tree =
+    elim c.match-which-2.branch [
+      | call_truth-in-Some-Match w ↦ (let so : call.named.function ≡ Some functions.Match = cc in ap (λ (b : Bool). passes_given run b text pattern n) w.whole-is ∙ match_called run call text pattern n are so)
+      | call_truth-in-Some-Search w ↦ (let so : call.named.function ≡ Some functions.Search = cc in ap (λ (b : Bool). passes_given run b text pattern n) w.whole-is ∙ search_called run call text pattern n are so)
+    ] in
+    subst (λ (v : Bool). IfOk c.match_given.result (λ b. b ≡ v)) answer c.match_given.ensures.value
 
 pub call_value-returns-in_default-clause-value : goal.call_value-returns-in_default-clause-value
 call_value-returns-in_default-clause-value t c =

@@ -15,34 +15,37 @@ use Rattle.jp_eval.proofs.Sizes.{size_of_segments, size_of_selectors, size_of_se
 use Rattle.jp_eval.proofs.run.+eval.Given as goal
 
 abbrev pub decreases-push_steps : goal.decreases-push_steps
-decreases-push_steps l = size_of_segments (steps_view (table_in l.run) l.steps.now)
+decreases-push_steps l = size_of_segments (steps_view (table_in l.run) l.steps.now) + 1
+
+abbrev pub decreases-push_next : goal.decreases-push_next
+decreases-push_next l = size_of_segments (steps_view (table_in l.run) l.steps.now)
 
 abbrev pub decreases-push_descendants : goal.decreases-push_descendants
-decreases-push_descendants l = size_of_selectors (choices_view (table_in l.run) l.choices.now) + size_of_segments (steps_view (table_in l.run) l.rest.now) + 5
+decreases-push_descendants l = size_of_selectors (choices_view (table_in l.run) l.choices.now) + size_of_segments (steps_view (table_in l.run) l.rest.now) + 6
 
 abbrev pub decreases-push_choices : goal.decreases-push_choices
-decreases-push_choices l = size_of_selectors (choices_view (table_in l.run) l.choices.now) + size_of_segments (steps_view (table_in l.run) l.rest.now) + 4
+decreases-push_choices l = size_of_selectors (choices_view (table_in l.run) l.choices.now) + size_of_segments (steps_view (table_in l.run) l.rest.now) + 5
 
 abbrev pub decreases-push_choice : goal.decreases-push_choice
-decreases-push_choice l = size_of_selector (choice_view (table_in l.run) l.choice.now) + size_of_segments (steps_view (table_in l.run) l.rest.now) + 3
+decreases-push_choice l = size_of_selector (choice_view (table_in l.run) l.choice.now) + size_of_segments (steps_view (table_in l.run) l.rest.now) + 4
 
 abbrev pub decreases-push_children : goal.decreases-push_children
-decreases-push_children l = size_of_segments (steps_view (table_in l.run) l.rest.now) + 1
+decreases-push_children l = size_of_segments (steps_view (table_in l.run) l.rest.now) + 2
 
 abbrev pub decreases-push_slice : goal.decreases-push_slice
-decreases-push_slice l = size_of_segments (steps_view (table_in l.run) l.rest.now) + 2
+decreases-push_slice l = size_of_segments (steps_view (table_in l.run) l.rest.now) + 3
 
 abbrev pub decreases-push_rising : goal.decreases-push_rising
-decreases-push_rising l = size_of_segments (steps_view (table_in l.run) l.rest.now) + 1
+decreases-push_rising l = size_of_segments (steps_view (table_in l.run) l.rest.now) + 2
 
 abbrev pub decreases-push_from_each : goal.decreases-push_from_each
-decreases-push_from_each l = size_of_segments (steps_view (table_in l.run) l.rest.now) + 1
+decreases-push_from_each l = size_of_segments (steps_view (table_in l.run) l.rest.now) + 2
 
 abbrev pub decreases-push_filtered : goal.decreases-push_filtered
-decreases-push_filtered l = size_of_logical (condition_view (table_in l.run) l.condition.now) + size_of_segments (steps_view (table_in l.run) l.rest.now) + 3
+decreases-push_filtered l = size_of_logical (condition_view (table_in l.run) l.condition.now) + size_of_segments (steps_view (table_in l.run) l.rest.now) + 4
 
 abbrev pub decreases-push_all_or_none : goal.decreases-push_all_or_none
-decreases-push_all_or_none l = size_of_logical (condition_view (table_in l.run) l.condition.now) + size_of_segments (steps_view (table_in l.run) l.rest.now) + 2
+decreases-push_all_or_none l = size_of_logical (condition_view (table_in l.run) l.condition.now) + size_of_segments (steps_view (table_in l.run) l.rest.now) + 3
 
 abbrev pub decreases-holds : goal.decreases-holds
 decreases-holds l = size_of_logical (condition_view (table_in l.run) l.condition.now)
@@ -88,6 +91,9 @@ decreases-given_length l = size_of_argument (given_view (table_in l.run) l.given
 
 abbrev pub decreases-call_value : goal.decreases-call_value
 decreases-call_value l = size_of_call (invoked_view (table_in l.run) l.invoked.now)
+
+abbrev pub decreases-match_given : goal.decreases-match_given
+decreases-match_given l = size_of_argument (given_view (table_in l.run) l.text.now) + size_of_argument (given_view (table_in l.run) l.pattern.now) + 1
 
 abbrev pub decreases-call_truth : goal.decreases-call_truth
 decreases-call_truth l = size_of_call (invoked_view (table_in l.run) l.invoked.now)
