@@ -4,6 +4,7 @@
 mod head;
 mod names;
 mod path;
+mod room;
 mod rows;
 mod singular;
 mod summary;

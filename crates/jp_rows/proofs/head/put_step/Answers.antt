@@ -7,7 +7,7 @@ pub put_name_step-requires : goal.put_name_step-requires
 put_name_step-requires c =
     let child = c.args.child in
     let e = c.in-Some.ensures in
-    (names_step c.line.result.now (line_of child) (name_of child) c.in-Some.body c.line.ensures.bytes e.body e.spells e.whole e.within.1).text
+    record { text = (names_step c.line.result.now (line_of child) (name_of child) c.in-Some.body c.line.ensures.bytes e.body e.spells e.whole e.within.1).text; end = c.requires }
 
 pub returns-in-Some : goal.returns-in-Some
 returns-in-Some c =
