@@ -3,7 +3,8 @@
 //! Where it is short it is put together first, since a write costs more than the few bytes of a step. A path is known from
 //! its last step to its first, so it is put together from its end.
 
-ghost use Rattle.std.specs.Prelude.{◌≡◌, ◌≤◌, ◌++◌, decimal, encode_utf8_all, pos};
+ghost use Rattle.std.specs.Prelude.{◌≡◌, ◌≤◌, ◌++◌, length, decimal, encode_utf8_all, pos};
+ghost use Rattle.jp_model.specs.Json.Places.{bytes_between};
 ghost use Rattle.jp_model.specs.Steps.{name_step, index_step};
 ghost use Rattle.jp_model.specs.Meaning.Nodes.{step_to};
 ghost use Rattle.jp_model.specs.Meaning.Paths.{step_text, path_text};
@@ -12,9 +13,9 @@ ghost use Rattle.jp_strings.specs.Points.{IsText, points_of};
 ghost use Rattle.jp_tape.specs.Cursors.{name_of, index_of, node_of};
 ghost use Rattle.jp_rows.specs.Rooms.{PutsBefore};
 
-use crate::names::is_plain;
+use crate::body::put_name;
 use crate::room::{ROOM, put, put_number};
-use jp_model::Framing;
+use jp_model::{Framing, Span};
 use jp_tape::Cursor;
 
 /// What a row begins with (RFC 7464, section 2.2).
@@ -29,17 +30,16 @@ pub(crate) fn row_start(framing: Framing) -> &'static [u8]
 
 /// Puts the step to the member of a name, if no scalar of it is escaped.
 #[inline(always)]
-fn put_name_step(body: &[u8], room: &mut [u8; ROOM], end: usize) -> Option<usize>
-    requires text { IsText body.now }
+fn put_name_step(line: &[u8], name: Span, room: &mut [u8; ROOM], end: usize) -> Option<usize>
+    requires order { name.start ≤ name.end }
+    requires within { name.end ≤ length line.now }
+    requires text { IsText (bytes_between line.now name.start name.end) }
     requires end { end ≤ 256 }
-    ensures { PutsBefore room.old room.new (encode_utf8_all (step_text (name_step (points_of body.now)))) end result }
+    ensures { PutsBefore room.old room.new (encode_utf8_all (step_text (name_step (points_of (bytes_between line.now name.start name.end))))) end result }
 {
-    if !is_plain(body) {
-        return None;
-    }
     let behind = put(b"']", room, end)?;
-    let name = put(body, room, behind)?;
-    put(b"['", room, name)
+    let body = put_name(line, name, room, behind)?;
+    put(b"['", room, body)
 }
 
 /// Puts the step to the element of an index.
@@ -60,11 +60,7 @@ fn put_step(child: Cursor<'_>, room: &mut [u8; ROOM], end: usize) -> Option<usiz
     ensures { PutsBefore room.old room.new (encode_utf8_all (step_text (step_to (index_of child.entry) (name_of child.entry)))) end result }
 {
     match child.name_span() {
-        Some(body) => put_name_step(
-            &child.line()[body.start as usize..body.end as usize],
-            room,
-            end,
-        ),
+        Some(name) => put_name_step(child.line(), name, room, end),
         None => put_index_step(child.index(), room, end),
     }
 }

@@ -1,6 +1,7 @@
 //! The rows of an answer, written to a watched writer.
 #![tactic(auto)]
 
+mod body;
 mod head;
 mod names;
 mod path;
