@@ -1,4 +1,4 @@
-//! Names that are printed as they stand, put into a room.
+//! Parts of a line that are put into a room: values, and the bodies of names that are printed as they stand.
 
 ghost use Rattle.std.specs.Prelude.{◌≡◌, ◌≤◌, ◌++◌, ◌-◌, length, drop, true, IfSome};
 ghost use Rattle.std.specs.List.{list_all};
@@ -11,7 +11,7 @@ use crate::room::{ROOM, place, put};
 use jp_model::Span;
 use std::simd::prelude::*;
 
-/// The bytes that are tested and put at once.
+/// The number of bytes that are tested and put at once.
 const BLOCK: usize = 16;
 
 /// Whether each byte of a block is printed as it stands.
@@ -41,9 +41,36 @@ fn put_last(block: &[u8], count: usize, room: &mut [u8; ROOM], end: usize) -> us
     place(block, room, end) + (BLOCK - count)
 }
 
+/// Whether a part of a line is the end of a block of it that has room before `end`.
+#[inline(always)]
+fn ends_block(part: Span, end: usize) -> bool
+    requires { part.start ≤ part.end }
+    ensures { result ≡ true → (part.end - part.start ≤ 16) × (16 ≤ part.end) × (16 ≤ end) }
+{
+    let stop = part.end as usize;
+    stop - part.start as usize <= BLOCK && stop >= BLOCK && end >= BLOCK
+}
+
+/// Puts a part of a line, if there is room.
+///
+/// Most parts are short, and stand behind some bytes of their line: with those they are one block.
+#[inline(always)]
+pub(crate) fn put_part(line: &[u8], part: Span, room: &mut [u8; ROOM], end: usize) -> Option<usize>
+    requires order { part.start ≤ part.end }
+    requires within { part.end ≤ length line.now }
+    requires end { end ≤ 256 }
+    ensures { PutsBefore room.old room.new (bytes_between line.now part.start part.end) end result }
+{
+    let (start, stop) = (part.start as usize, part.end as usize);
+    if ends_block(part, end) {
+        return Some(put_last(&line[stop - BLOCK..stop], stop - start, room, end));
+    }
+    put(&line[start..stop], room, end)
+}
+
 /// Puts a name of a line, if no scalar of it is escaped.
 ///
-/// Most names are short, and stand behind some bytes of their line: with those they are one block.
+/// As `put_part` it puts most names by their block.
 #[inline(always)]
 pub(crate) fn put_name(line: &[u8], name: Span, room: &mut [u8; ROOM], end: usize) -> Option<usize>
     requires order { name.start ≤ name.end }
@@ -53,7 +80,7 @@ pub(crate) fn put_name(line: &[u8], name: Span, room: &mut [u8; ROOM], end: usiz
     ensures plain { IfSome result (λ _. list_all is_plain_one (bytes_between line.now name.start name.end) ≡ true) }
 {
     let (start, stop) = (name.start as usize, name.end as usize);
-    if stop - start <= BLOCK && stop >= BLOCK && end >= BLOCK {
+    if ends_block(name, end) {
         let block = &line[stop - BLOCK..stop];
         if is_plain_block(block) {
             return Some(put_last(block, stop - start, room, end));

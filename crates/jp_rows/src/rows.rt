@@ -7,6 +7,7 @@ ghost use Rattle.jp_model.specs.Rows.{row_start as row_start_of, tab, node_text,
 ghost use Rattle.jp_tape.specs.Cursors.{line_of, node_of};
 ghost use Rattle.jp_model.specs.Script.Machine.{count_line};
 
+use crate::body::put_part;
 use crate::head::{put_head, row_start};
 use crate::path::write_path;
 use crate::room::{ROOM, put};
@@ -17,7 +18,7 @@ use jp_tape::Cursor;
 use std::io::Write;
 
 /// The most bytes of a node that are put together with the rest of its row. More are written from the line.
-const MOST: usize = 128;
+const MOST: u32 = 128;
 
 /// Writes what every row of a line begins with: its start, the number of the line, and a tab.
 fn write_start<W: Write>(
@@ -81,12 +82,12 @@ fn put_row(line: u32, cursor: Cursor<'_>, framing: Framing, room: &mut [u8; ROOM
     ensures within { IfSome result (λ at. at ≤ 256) }
     ensures text { IfSome result (λ at. drop at room.new ≡ node_text framing line (line_of cursor.entry) (node_of cursor.entry)) }
 {
-    let source = cursor.source();
-    if source.len() > MOST {
+    let span = cursor.span();
+    if span.end - span.start > MOST {
         return None;
     }
     let end = put(b"\n", room, ROOM)?;
-    let behind = put(source, room, end)?;
+    let behind = put_part(cursor.line(), span, room, end)?;
     put_head(line, cursor, framing, room, behind)
 }
 

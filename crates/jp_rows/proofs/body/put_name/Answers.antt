@@ -10,12 +10,12 @@ pub returns-then-is_plain_block-clause-text : goal.returns-then-is_plain_block-c
 returns-then-is_plain_block-clause-text c =
     let name = c.args.name in
     let line = c.args.line.now in
-    let is = last_between line name.start name.end c.requires.order c.if-stop-ge-BLOCK.true c.if-stop-start-le-BLOCK.true in
+    let is = last_between line name.start name.end c.requires.order (c.ends_block.ensures c.if-ends_block.true).1 (c.ends_block.ensures c.if-ends_block.true).0 in
     (c.put_last.ensures.start, c.put_last.ensures.text ∙ ap (λ l. l ++ drop c.args.end c.args.room.now) is)
 
 pub returns-then-is_plain_block-clause-plain : goal.returns-then-is_plain_block-clause-plain
 returns-then-is_plain_block-clause-plain c =
     let name = c.args.name in
     let line = c.args.line.now in
-    let is = last_between line name.start name.end c.requires.order c.if-stop-ge-BLOCK.true c.if-stop-start-le-BLOCK.true in
+    let is = last_between line name.start name.end c.requires.order (c.ends_block.ensures c.if-ends_block.true).1 (c.ends_block.ensures c.if-ends_block.true).0 in
     subst (λ l. list_all is_plain_byte l ≡ true) is (plain_last (16 - (name.end - name.start)) (bytes_between line (name.end - 16) name.end) (c.is_plain_block.ensures c.if-is_plain_block.true))
