@@ -6,3 +6,4 @@ mod Plain
 mod Named
 mod Summaries
 mod Heads
+mod Blocks

@@ -1,9 +1,11 @@
 //! The rows of an answer, written to a watched writer.
 #![tactic(auto)]
 
+mod body;
 mod head;
 mod names;
 mod path;
+mod room;
 mod rows;
 mod singular;
 mod summary;

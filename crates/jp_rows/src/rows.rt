@@ -1,20 +1,24 @@
 //! Rows, and the numbers in them.
 
-ghost use Rattle.std.specs.Prelude.{◌≡◌, ◌++◌, false, is_err, decimal};
+ghost use Rattle.std.specs.Prelude.{◌≡◌, ◌≤◌, ◌++◌, drop, false, is_err, decimal, IfSome};
 ghost use Rattle.jp_model.specs.Devices.{Writes};
 ghost use Rattle.jp_model.specs.Meaning.Paths.{path_text};
 ghost use Rattle.jp_model.specs.Rows.{row_start as row_start_of, tab, node_text, refusal_text};
 ghost use Rattle.jp_tape.specs.Cursors.{line_of, node_of};
 ghost use Rattle.jp_model.specs.Script.Machine.{count_line};
 
+use crate::body::put_part;
 use crate::head::{put_head, row_start};
 use crate::path::write_path;
+use crate::room::{ROOM, put};
 use crate::whole::{WriteFault, write_whole};
-use arrayvec::ArrayVec;
 use itoa::Buffer;
 use jp_model::{Framing, LineFault, Watched};
 use jp_tape::Cursor;
 use std::io::Write;
+
+/// The most bytes of a node that are put together with the rest of its row. More are written from the line.
+const MOST: u32 = 128;
 
 /// Writes what every row of a line begins with: its start, the number of the line, and a tab.
 fn write_start<W: Write>(
@@ -45,13 +49,46 @@ fn write_head<W: Write>(
     ensures fault { out.new.failed ≡ is_err result }
     ensures after { out.new.after ≡ out.old.after }
 {
-    let mut head = ArrayVec::new();
-    if put_head(line, cursor, framing, &mut head) {
-        return write_whole(&head, out);
+    let mut room = [0; ROOM];
+    if let Some(at) = put_head(line, cursor, framing, &mut room, ROOM) {
+        return write_whole(&room[at..], out);
     }
     write_start(line, framing, out)?;
     write_path(cursor, out)?;
     write_whole(b"\t", out)
+}
+
+/// Writes the row of a node whose bytes are many, or whose path is long.
+#[inline(never)]
+fn write_long_row<W: Write>(
+    line: u32,
+    cursor: Cursor<'_>,
+    framing: Framing,
+    out: &mut Watched<W>,
+) -> Result<(), WriteFault>
+    requires { out.old.failed ≡ false }
+    ensures text { Writes W.contents out.old out.new result (node_text framing line (line_of cursor.entry) (node_of cursor.entry)) }
+    ensures fault { out.new.failed ≡ is_err result }
+    ensures after { out.new.after ≡ out.old.after }
+{
+    write_head(line, cursor, framing, out)?;
+    write_whole(cursor.source(), out)?;
+    write_whole(b"\n", out)
+}
+
+/// Puts the row of a node together, if it is short.
+#[inline(always)]
+fn put_row(line: u32, cursor: Cursor<'_>, framing: Framing, room: &mut [u8; ROOM]) -> Option<usize>
+    ensures within { IfSome result (λ at. at ≤ 256) }
+    ensures text { IfSome result (λ at. drop at room.new ≡ node_text framing line (line_of cursor.entry) (node_of cursor.entry)) }
+{
+    let span = cursor.span();
+    if span.end - span.start > MOST {
+        return None;
+    }
+    let end = put(b"\n", room, ROOM)?;
+    let behind = put_part(cursor.line(), span, room, end)?;
+    put_head(line, cursor, framing, room, behind)
 }
 
 /// Writes the row of a node: the number of its line from 1, its path, and its bytes of the line, unchanged (profile).
@@ -68,9 +105,11 @@ pub fn write_node<W: Write>(
     ensures fault { out.new.failed ≡ is_err result }
     ensures after { out.new.after ≡ out.old.after }
 {
-    write_head(line, cursor, framing, out)?;
-    write_whole(cursor.source(), out)?;
-    write_whole(b"\n", out)
+    let mut room = [0; ROOM];
+    match put_row(line, cursor, framing, &mut room) {
+        Some(at) => write_whole(&room[at..], out),
+        None => write_long_row(line, cursor, framing, out),
+    }
 }
 
 /// Writes the row of a refused line: its number from 1, and the word of its fault (profile).

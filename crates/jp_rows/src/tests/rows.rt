@@ -19,7 +19,7 @@ fn rows_of(alloc: Global, number: u32, line: &[u8], framing: Framing) -> Option<
 }
 
 #[test]
-fn what_stands_before_a_node_is_one_write(rt: HostRuntime) -> Result<(), Fail> {
+fn a_short_row_is_one_write(rt: HostRuntime) -> Result<(), Fail> {
     let line = b" {\"a\": [true, \"b\\n\"]}";
     let answers: [(u32, Framing, &[u8]); 2] = [
         (
@@ -35,7 +35,7 @@ fn what_stands_before_a_node_is_one_write(rt: HostRuntime) -> Result<(), Fail> {
     ];
     for (number, framing, want) in answers {
         let rows = rows_of(rt.alloc(), number, line, framing).ok_or("no tape")?;
-        assert_eq!(rt; rows.calls(), 4 * 3);
+        assert_eq!(rt; rows.calls(), 4);
         assert_eq!(rt; rows.into_inner().as_slice(), want);
     }
     Ok(())
@@ -68,8 +68,9 @@ fn around_name(
 
 #[test]
 fn long_paths_are_written_piece_by_piece(rt: HostRuntime) -> Result<(), Fail> {
-    // 248 letters fill the 256 bytes before the value of that name, but leave no room for the index behind it.
-    for letters in [247, 248, 249, 1000] {
+    // The shortest of these names leave room for all of each row, longer ones for what stands before a value, and the longest for
+    // neither.
+    for letters in 220..=260 {
         let line = around_name(rt.alloc(), b"{\"", letters, b"\":[0]}")?;
         let mut want = around_name(rt.alloc(), b"1\t$\t{\"", letters, b"\":[0]}\n")?;
         let child = around_name(rt.alloc(), b"1\t$['", letters, b"']\t[0]\n")?;
@@ -77,6 +78,18 @@ fn long_paths_are_written_piece_by_piece(rt: HostRuntime) -> Result<(), Fail> {
         want.extend_from_slice(&child)?;
         want.extend_from_slice(&grandchild)?;
         let rows = rows_of(rt.alloc(), 1, &line, Framing::Lines).ok_or("no tape")?;
+        assert_eq!(rt; rows.into_inner().as_slice(), want.as_slice());
+    }
+    Ok(())
+}
+
+#[test]
+fn many_bytes_are_written_from_the_line(rt: HostRuntime) -> Result<(), Fail> {
+    for (letters, writes) in [(126, 1), (127, 3), (1000, 3)] {
+        let line = around_name(rt.alloc(), b"\"", letters, b"\"")?;
+        let want = around_name(rt.alloc(), b"1\t$\t\"", letters, b"\"\n")?;
+        let rows = rows_of(rt.alloc(), 1, &line, Framing::Lines).ok_or("no tape")?;
+        assert_eq!(rt; rows.calls(), writes);
         assert_eq!(rt; rows.into_inner().as_slice(), want.as_slice());
     }
     Ok(())
