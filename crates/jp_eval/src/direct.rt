@@ -36,7 +36,9 @@ pub(crate) fn compare_end<'a>(
     let Side::Constant(constant) = right else {
         return None;
     };
-    let end = run.singular_alone(nodes, node, frame)?;
+    let Some(end) = run.singular_alone(nodes, node, frame) else {
+        return None;
+    };
     Some(constant.is_compared(op, end))
 }
 
@@ -60,6 +62,8 @@ pub(crate) fn match_end<'a>(
     let Given::Pattern(pattern) = pattern else {
         return None;
     };
-    let end = run.singular_alone(nodes, node, frame)?;
+    let Some(end) = run.singular_alone(nodes, node, frame) else {
+        return None;
+    };
     Some(end_passes(run.alloc, &pattern.read, whole, end))
 }

@@ -44,10 +44,13 @@ fn singular_end<'a>(steps: &[Step], start: Cursor<'a>) -> Option<Option<Cursor<'
 {
     let mut node = start;
     for step in steps {
-        match singular_child(step, node)? {
-            Some(child) => node = child,
-            None => return Some(None),
-        }
+        let Some(end) = singular_child(step, node) else {
+            return None;
+        };
+        let Some(child) = end else {
+            return Some(None);
+        };
+        node = child;
     }
     Some(Some(node))
 }

@@ -27,10 +27,10 @@ returns c =
     let view = λ (x : Given). value (given_view (table_in c.args.run) x) in
     let pattern : LiteralPattern = c.in-Pattern.pattern in
     let spelled : Option Value = Some (literal_value (literal_view pattern.constant.literal)) in
-    let own : Option Value = single_value (node_list c.in_ok-end.end) in
+    let own : Option Value = single_value (node_list c.in-Some.end) in
     let second : spelled ≡ view c.args.pattern.now = sym (ap view c.in-Pattern.is ∙ ap value (pattern_given (table_in c.args.run) pattern)) in
     let first : own ≡ view c.args.text.now =
-    ap (λ (l : List Node). single_value l) c.in_ok-end.ensures ∙ sym (ap view c.in-Nodes.is ∙ ap value (nodes_given (table_in c.args.run) c.in-Nodes.nodes)) in
+    ap (λ (l : List Node). single_value l) c.in-Some.ensures ∙ sym (ap view c.in-Nodes.is ∙ ap value (nodes_given (table_in c.args.run) c.in-Nodes.nodes)) in
     let test = passing c.args.whole in
     ∥∥₁_elim pattern.spelled (one_proof c.end_passes.result _)
     (λ e. subst (λ (b : Bool). IfOk c.end_passes.result (λ a. a ≡ b)) (ap₂ (λ (x y : Option Value). in_pattern test x y) first second)
