@@ -1,6 +1,6 @@
 //! An index made of all lines at once.
 
-ghost use Rattle.std.specs.Prelude.{◌≡◌, ℕ, ◌+◌, ◌<◌, ◌^◌, List, [], ◌++◌, length, option_map, OnOk, OnErr};
+ghost use Rattle.std.specs.Prelude.{◌≡◌, ℕ, ◌+◌, ◌<◌, ◌^◌, List, [], ◌++◌, length, option_map, IfOk, OnOk, OnErr};
 ghost use Rattle.jp_model.specs.Steps.{Step};
 ghost use Rattle.jp_query.specs.SingularPaths.{path_steps};
 ghost use Rattle.jp_tape.specs.Cursors.{root_of};
@@ -66,22 +66,22 @@ impl IndexBuilder {
         Ok(())
     }
 
-    /// The index of the lines that were put in. It takes no memory.
-    pub fn finish(self) -> ValueIndex
-        ensures { (path : List Step) (lines : ℕ) (entries : List Entry) → IsBuildOf self path lines entries → IsIndexOf result path entries }
+    /// The index of the lines that were put in. It takes memory for the time of the sort, where there are more than 20 keys.
+    pub fn finish(self) -> Result<ValueIndex, AllocError>
+        ensures { (path : List Step) (lines : ℕ) (entries : List Entry) → IsBuildOf self path lines entries → IfOk result (λ index. IsIndexOf index path entries) }
     {
         let IndexBuilder {
             path,
             cells,
             mut by_key,
         } = self;
-        sort_by_key(&cells, &mut by_key);
+        sort_by_key(&cells, &mut by_key)?;
         let count = cells.iter().filter(|cell| cell.is_some()).count() as u32;
-        ValueIndex {
+        Ok(ValueIndex {
             path,
             cells,
             by_key,
             count,
-        }
+        })
     }
 }

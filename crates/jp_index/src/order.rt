@@ -1,6 +1,6 @@
 //! The lines of an index in order of their keys.
 
-ghost use Rattle.std.specs.Prelude.{◌≡◌, ◌↔◌, ℕ, ◌<◌, ◌≤◌, true, false, Contains, IfSome, IsPermutation, insert, length, remove, vec_len, vec_capacity};
+ghost use Rattle.std.specs.Prelude.{◌≡◌, ◌↔◌, ℕ, ◌<◌, ◌≤◌, true, false, Contains, IfSome, OnOk, IsPermutation, insert, length, remove, vec_len, vec_capacity};
 ghost use Rattle.std.specs.List.Sorted.{IsPartitionPoint, IsSortedBy};
 ghost use Rattle.std.specs.Ordering.{is_lt};
 ghost use Rattle.jp_query.specs.View.{op_view};
@@ -13,6 +13,7 @@ use crate::edge::Edge;
 use crate::slot::Slot;
 use jp_query::CompareOp;
 use jp_values::Key;
+use std::alloc::AllocError;
 
 /// How many of the lines, which are in order, stand in front of a line.
 fn place_of(cells: &[Option<Slot>], lines: &[u32], line: u32) -> usize
@@ -134,14 +135,15 @@ pub(crate) fn put_line(
     }
 }
 
-/// Sorts lines by their keys.
-pub(crate) fn sort_by_key(cells: &[Option<Slot>], lines: &mut Vec<u32>)
+/// Sorts lines by their keys. Keys that rise with the lines, as times and counts do, are sorted in runs, and cost little more
+/// than to read them. After an `Err` the order is as before.
+pub(crate) fn sort_by_key(cells: &[Option<Slot>], lines: &mut Vec<u32>) -> Result<(), AllocError>
     ensures permutation { IsPermutation lines.old.items lines.new.items }
-    ensures sorted { IsSortedBy (λ a b. is_lt (line_order (key_at cells.now) a b)) lines.new.items }
+    ensures sorted { OnOk result (IsSortedBy (λ a b. is_lt (line_order (key_at cells.now) a b)) lines.new.items) }
 {
-    lines.sort_unstable_by(
+    lines.sort_by(
         |line, other|
             ensures { result ≡ line_order (key_at cells.entry.now) line.now other.now }
         { compare_lines(cells, *line, *other) },
-    );
+    )
 }

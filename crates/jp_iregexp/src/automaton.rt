@@ -3,7 +3,7 @@
 
 ghost use Rattle.std.specs.Prelude.{◌≡◌, ◌↔◌, ◌<◌, ◌≤◌, ℕ, IsTrue, IfOk, Some, None, length, get_or, map};
 ghost use Rattle.std.specs.Option.{IfSome};
-ghost use Rattle.std.specs.Str.{chars};
+ghost use Rattle.std.specs.Str.{chars, IsAscii};
 ghost use Rattle.jp_model.specs.Pattern.Language.{Occurs};
 ghost use Rattle.jp_iregexp.specs.Places.{AreMasks, AreSets, Holds, IsPassed, IsStep, Leads, WaitsBehind, waits_for};
 ghost use Rattle.jp_iregexp.specs.Layouts.{place_of};
@@ -36,6 +36,7 @@ pub(crate) struct Automaton {
     ascii: Vec<u64>,
     ghost behind: { after.items ≡ map (λ p. p.after) places.items },
     ghost masks: { AreMasks (map place_of places.items) ascii.items },
+    ghost all: { length ascii.items ≡ 128 },
 }
 
 impl Automaton {
@@ -63,15 +64,52 @@ impl Automaton {
     fn step(&self, waiting: u64, scalar: char) -> u64
         ensures { IsStep (map place_of self.now.places.items) waiting scalar result }
     {
-        match self.ascii.get(scalar as usize) {
-            Some(having) => behind(self.after.as_slice(), waiting & *having),
-            None => asked_step(self.places.as_slice(), waiting, scalar),
+        if scalar.is_ascii() {
+            self.ascii_step(waiting, scalar as u8)
+        } else {
+            asked_step(self.places.as_slice(), waiting, scalar)
         }
     }
 
+    /// The same, of an ASCII scalar.
+    #[inline(always)]
+    fn ascii_step(&self, waiting: u64, scalar: u8) -> u64
+        requires { scalar < 128 }
+        ensures { IsStep (map place_of self.now.places.items) waiting scalar result }
+    {
+        behind(self.after.as_slice(), waiting & self.ascii[scalar as usize])
+    }
+
     /// Whether the text leads from the start to the end.
-    #[inline(never)]
     pub(crate) fn accepts(&self, text: &str) -> bool
+        ensures { IsTrue result ↔ Leads (map place_of self.now.places.items) self.now.starts (chars text.now) }
+    {
+        if text.is_ascii() {
+            self.accepts_ascii(text.as_bytes())
+        } else {
+            self.accepts_any(text)
+        }
+    }
+
+    /// The same, of an ASCII text. No scalar is decoded.
+    #[inline(never)]
+    fn accepts_ascii(&self, text: &[u8]) -> bool
+        requires { IsAscii text.now }
+        ensures { IsTrue result ↔ Leads (map place_of self.now.places.items) self.now.starts text.now }
+    {
+        let mut waiting = self.starts;
+        for scalar in text {
+            waiting = self.ascii_step(waiting, *scalar);
+            if waiting == 0 {
+                return false;
+            }
+        }
+        (waiting >> 63) & 1 == 1
+    }
+
+    /// The same, of any text.
+    #[inline(never)]
+    fn accepts_any(&self, text: &str) -> bool
         ensures { IsTrue result ↔ Leads (map place_of self.now.places.items) self.now.starts (chars text.now) }
     {
         let mut waiting = self.starts;
@@ -85,8 +123,35 @@ impl Automaton {
     }
 
     /// Whether a part of the text leads from the start to the end.
-    #[inline(never)]
     pub(crate) fn finds(&self, text: &str) -> bool
+        ensures { IsTrue result ↔ Occurs (Leads (map place_of self.now.places.items) self.now.starts) (chars text.now) }
+    {
+        if text.is_ascii() {
+            self.finds_ascii(text.as_bytes())
+        } else {
+            self.finds_any(text)
+        }
+    }
+
+    /// The same, of an ASCII text. No scalar is decoded.
+    #[inline(never)]
+    fn finds_ascii(&self, text: &[u8]) -> bool
+        requires { IsAscii text.now }
+        ensures { IsTrue result ↔ Occurs (Leads (map place_of self.now.places.items) self.now.starts) text.now }
+    {
+        let mut waiting = self.starts;
+        for scalar in text {
+            if (waiting >> 63) & 1 == 1 {
+                return true;
+            }
+            waiting = self.ascii_step(waiting, *scalar) | self.starts;
+        }
+        (waiting >> 63) & 1 == 1
+    }
+
+    /// The same, of any text.
+    #[inline(never)]
+    fn finds_any(&self, text: &str) -> bool
         ensures { IsTrue result ↔ Occurs (Leads (map place_of self.now.places.items) self.now.starts) (chars text.now) }
     {
         let mut waiting = self.starts;
@@ -114,7 +179,8 @@ fn words_after(alloc: Global, places: &[Place]) -> Result<Vec<u64>, AllocError>
 // By ASCII scalar the places that wait for it.
 fn ascii_masks(alloc: Global, places: &[Place]) -> Result<Vec<u64>, AllocError>
     requires { length places.now ≤ 63 }
-    ensures { IfOk result (λ masks. AreMasks (map place_of places.now) masks.items) }
+    ensures masks { IfOk result (λ masks. AreMasks (map place_of places.now) masks.items) }
+    ensures all { IfOk result (λ masks. length masks.items ≡ 128) }
 {
     let sets = ascii_sets(alloc, places)?;
     let mut masks = Vec::new(alloc);

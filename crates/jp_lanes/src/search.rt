@@ -11,6 +11,8 @@ const QUARTER: usize = 16;
 
 const EIGHTH: usize = 8;
 
+const SIXTEENTH: usize = 4;
+
 fn is_special(byte: u8) -> bool
     ensures { result ≡ is_special_byte byte }
 {
@@ -68,7 +70,9 @@ pub fn first_special(bytes: &[u8], from: usize) -> usize
     first_special_of_few(bytes, at)
 }
 
-// The same, where few bytes are left: eight at once, and then byte by byte.
+// The same, where few bytes are left: eight at once, then four, and then byte by byte. It stays out of its caller, so that the
+// search of longer runs is put in where it is called.
+#[inline(never)]
 fn first_special_of_few(bytes: &[u8], from: usize) -> usize
     requires { from ≤ length bytes.now }
     ensures order { from ≤ result }
@@ -79,13 +83,34 @@ fn first_special_of_few(bytes: &[u8], from: usize) -> usize
         → IsTrue (is_special_byte (slice_index bytes.now result)) }
 {
     if bytes.len() - from < EIGHTH {
-        return first_special_plainly(bytes, from);
+        return first_special_of_fewest(bytes, from);
     }
     let run = plain_run::<EIGHTH>(bytes, from);
     if run < EIGHTH {
         return from + run;
     }
-    first_special_plainly(bytes, from + EIGHTH)
+    first_special_of_fewest(bytes, from + EIGHTH)
+}
+
+// The same, where fewer than eight bytes are left: four at once, and then byte by byte.
+#[inline(always)]
+fn first_special_of_fewest(bytes: &[u8], from: usize) -> usize
+    requires { from ≤ length bytes.now }
+    ensures order { from ≤ result }
+    ensures within { result ≤ length bytes.now }
+    ensures plain { (k : ℕ) → from ≤ k → k < result
+        → is_special_byte (slice_index bytes.now k) ≡ false }
+    ensures stops { result < length bytes.now
+        → IsTrue (is_special_byte (slice_index bytes.now result)) }
+{
+    if bytes.len() - from < SIXTEENTH {
+        return first_special_plainly(bytes, from);
+    }
+    let run = plain_run::<SIXTEENTH>(bytes, from);
+    if run < SIXTEENTH {
+        return from + run;
+    }
+    first_special_plainly(bytes, from + SIXTEENTH)
 }
 
 // The same, byte by byte.

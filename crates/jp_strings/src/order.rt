@@ -194,10 +194,21 @@ pub fn plain_text(body: &[u8]) -> Option<&str>
     Some(unsafe { str::from_utf8_unchecked(body) })
 }
 
-/// The text that a body spells.
-pub fn unescape(alloc: Global, body: &[u8]) -> Result<String, AllocError>
+// The text that a body spells, scalar by scalar.
+fn unescape_scalars(alloc: Global, body: &[u8]) -> Result<String, AllocError>
     requires { IsText body.now }
     ensures { IfOk result (λ text. chars (string_bytes text) ≡ points_of body.now) }
 {
     Scalars::new(body).collect(alloc)
+}
+
+/// The text that a body spells. Only a body with an escape is decoded.
+pub fn unescape(alloc: Global, body: &[u8]) -> Result<String, AllocError>
+    requires { IsText body.now }
+    ensures { IfOk result (λ text. chars (string_bytes text) ≡ points_of body.now) }
+{
+    match plain_text(body) {
+        Some(text) => String::from_str(alloc, text),
+        None => unescape_scalars(alloc, body),
+    }
 }

@@ -6,6 +6,7 @@ use Rattle.std.specs.List.Sorted.{IsSortedBy}
 use Rattle.std.specs.Ordering.{is_lt}
 use Rattle.std.proofs.lemmas.Fn.{always_returns_same}
 use Rattle.std.proofs.lemmas.List.Sorted.{ranks_by}
+use Rattle.std.proofs.lemmas.Result.{on_ok_weaker}
 use denote.Param.Members.{Mut}
 use denote.Ref.{Bor}
 use Rattle.jp_index.specs.ByKey.{line_order}
@@ -23,4 +24,4 @@ sorted_by R o {g = g} {f = f} xs up h =
 pub returns-clause-sorted : goal.returns-clause-sorted
 returns-clause-sorted c =
     let keys = key_at c.args.cells.now in
-    sorted_by (line_order keys) (lines_total keys) _ c.sort_unstable_by.ensures.sorted (λ a r q k. search rules)
+    on_ok_weaker c.sort_by.result (λ up. sorted_by (line_order keys) (lines_total keys) _ up (λ a r q k. search rules)) c.sort_by.ensures.sorted

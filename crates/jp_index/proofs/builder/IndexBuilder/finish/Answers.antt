@@ -13,5 +13,5 @@ returns c = λ path lines entries is.
       path_is = is.path_is;
       cells_are = is.cells_are;
       order_is = sorted_are c.args.self.cells.items c.args.self.by_key.items c.sort_by_key.new.lines.items is.keyed_are c.sort_by_key.ensures.permutation
-          (subst (λ cs. IsSortedBy (λ a b. is_lt (line_order (key_at cs) a b)) c.sort_by_key.new.lines.items) c.deref.ensures.value c.sort_by_key.ensures.sorted);
+          (subst (λ cs. IsSortedBy (λ a b. is_lt (line_order (key_at cs) a b)) c.sort_by_key.new.lines.items) c.deref.ensures.value c.in_ok-sort_by_key.ensures.sorted);
     }

@@ -8,7 +8,7 @@ use lib.Utf8.{encodes}
 use Rattle.jp_strings.specs.Points.{points_of}
 use Rattle.jp_strings.specs.Scalars.{scalars_left}
 use Rattle.jp_strings.proofs.Sizes.{points_are_scalars}
-use Rattle.jp_strings.proofs.order.unescape.Goals as goal
+use Rattle.jp_strings.proofs.order.unescape_scalars.Goals as goal
 
 pub returns : goal.returns
 returns c =
