@@ -15,7 +15,8 @@ use std::alloc::{AllocError, Global};
 use std::cmp::Ordering;
 use std::str;
 
-// Whether each character stands for itself.
+// Whether each character stands for itself. The search has no place in each loop over names that asks.
+#[inline(never)]
 fn is_plain(body: &[u8]) -> bool
     ensures { IsTrue result → ArePlain body.now 0 (length body.now) }
 {
