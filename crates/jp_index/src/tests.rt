@@ -67,7 +67,7 @@ fn index_of(alloc: Global, path: &[u8], lines: &[&[u8]]) -> Result<ValueIndex, F
         let tape = read(alloc, line)?;
         builder.push(alloc, Some(Cursor::root(&tape, line)))?;
     }
-    builder.finish()
+    Ok(builder.finish()?)
 }
 
 /// Whether these are the lines whose node compares so with the value of a text.
@@ -196,7 +196,7 @@ fn index_of_one_root(
         builder.push(alloc, Some(root))?;
     }
     builder.push(alloc, None)?;
-    builder.finish()
+    Ok(builder.finish()?)
 }
 
 /// How many lines have `true` there, where they ascend.
