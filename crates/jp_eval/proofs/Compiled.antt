@@ -1,5 +1,5 @@
 -- What the parts of a compiled query mean, and those of the query that they are made of, one level deep.
-use Rattle.std.proofs.Common.{◌≡◌, ◌∙◌, ℕ, ℤ, sym, ap, Vec, Global, Box, Option, String}
+use Rattle.std.proofs.Common.{◌≡◌, ◌∙◌, ℕ, ℤ, sym, ap, Vec, Global, Box, Option}
 use Rattle.jp_model.specs.Query.Syntax as syntax
 use Rattle.jp_query.specs.View.{segment_view, selectors_view, selector_view, logicals_view, logical_view, comparable_view, call_view, path_view, op_view, literal_view, argument_step, comparable_step, logical_step, segment_step, selector_step, call_step, path_step}
 use Rattle.jp_query.specs.declared.tree.Call.{Call}
@@ -16,6 +16,7 @@ use Rattle.jp_query.specs.declared.tree.Logical.TheVariants as logicals
 use Rattle.jp_query.specs.declared.tree.Argument.TheOpen.{Logical-F, Selector-F, Segment-F, Comparable-F}
 use Rattle.jp_eval.specs.Programs.{Table, slot_in, choice_step, condition_step, given_step, nodes_step, side_step, step_step, invoked_step, choice_view, condition_view, given_view, nodes_view, side_view, step_view, invoked_view, steps_view, choices_view, conditions_view, givens_view}
 use Rattle.jp_eval.specs.declared.leaves.LiteralPattern.{LiteralPattern}
+use Rattle.jp_eval.specs.declared.leaves.MemberName.{MemberName}
 use Rattle.jp_eval.specs.declared.program.Step.{Step, fold-roll-Step}
 use Rattle.jp_eval.specs.declared.program.Step.TheVariants as steps
 use Rattle.jp_eval.specs.declared.program.Choice.{Choice, fold-roll-Choice}
@@ -113,7 +114,7 @@ current_is table x = ap (nodes_view table) (sym (paths.rolls-Current x)) ∙ fol
 pub invoked_is : (table : Table) (x : Invoked) → invoked_view table x ≡ syntax.call (chars (string_bytes x.named.name)) (givens_view table x.arguments.items)
 invoked_is table x = fold_out-Invoked syntax.Selector syntax.Logical syntax.Argument syntax.Path syntax.Comparable syntax.Segment syntax.Call choice_step condition_step given_step (nodes_step table) side_step step_step invoked_step x
 
-pub name_is : (table : Table) (x : String Global) → choice_view table (choices.Name x) ≡ syntax.name_selector (chars (string_bytes x))
+pub name_is : (table : Table) (x : MemberName) → choice_view table (choices.Name x) ≡ syntax.name_selector (chars (string_bytes x.text))
 name_is table x = ap (choice_view table) (sym (choices.rolls-Name x)) ∙ fold-roll-Choice syntax.Selector syntax.Logical syntax.Argument syntax.Path syntax.Comparable syntax.Segment syntax.Call choice_step condition_step given_step (nodes_step table) side_step step_step invoked_step (Choice-F.Name x)
 
 pub index_is : (table : Table) (i : ℤ) → choice_view table (choices.Index i) ≡ syntax.index_selector i

@@ -1,9 +1,11 @@
 -- Steps that lead from a node to one node, or to none.
-use Rattle.std.proofs.Common.{◌≡◌, ◌∙◌, ◌<◌, ◌+◌, ℕ, List, [], ◌∷◌, length, drop, get_or, sym, ap, append-nil, arith}
+use Rattle.std.proofs.Common.{◌≡◌, ◌∙◌, ◌<◌, ◌+◌, ℕ, List, [], ◌∷◌, length, drop, get_or, sym, ap, append-nil, arith, Option, Some, None, IfSome}
 use Rattle.std.proofs.lemmas.List.{drop_more}
 use Rattle.jp_model.specs.Json.Tree.{Tree}
 use Rattle.jp_model.specs.Meaning.Nodes.{Node}
 use Rattle.jp_model.specs.Meaning.Selecting.{nodes, segment_nodes}
+use Rattle.jp_tape.specs.declared.cursor.Cursor.{Cursor}
+use Rattle.jp_eval.specs.Found.{node_list}
 use Rattle.jp_eval.specs.Programs.{Table, step_view, steps_view}
 use Rattle.jp_eval.specs.declared.program.Step.{Step}
 
@@ -25,3 +27,8 @@ pub last_goes : (table : Table) (t : Tree) (all : List Step) (here : Step) (n : 
 last_goes table t [] here n next l same e = absurd (omega (arith, l))
 last_goes table t (s ∷ []) here n next l same e = e ∙ (ap (λ (x : Step). segment_nodes (step_view table x) n t) same ∙ sym (append-nil (segment_nodes (step_view table s) n t)))
 last_goes table t (s ∷ r ∷ more) here n next l same e = absurd (omega (arith, l))
+
+-- the same where it may not be known
+pub one_goes : (table : Table) (t : Tree) (all : List Step) (here : Step) (n : Node) (result : Option (Option Cursor)) → length all ≡ 1 → here ≡ get_or all 0 here → IfSome result (λ end. node_list end ≡ segment_nodes (step_view table here) n t) → IfSome result (λ end. node_list end ≡ nodes (steps_view table all) (n ∷ []) t)
+one_goes table t all here n None l e h = h
+one_goes table t all here n (Some end) l e h = last_goes table t all here n (node_list end) l e h

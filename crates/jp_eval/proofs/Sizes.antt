@@ -22,8 +22,8 @@ abbrev mutual
   pub size_of_logical : Logical → ℕ
   size_of_logical (or_all ls) = size_of_logicals ls + 1
   size_of_logical (and_all ls) = size_of_logicals ls + 1
-  size_of_logical (negated l) = size_of_logical l + 1
-  size_of_logical (compare a op b) = size_of_comparable a + size_of_comparable b + 2
+  size_of_logical (negated l) = size_of_logical l + 2
+  size_of_logical (compare a op b) = size_of_comparable a + size_of_comparable b + 3
   size_of_logical (exists p) = size_of_path p + 3
   size_of_logical (test c) = size_of_call c + 1
 

@@ -30,7 +30,7 @@ slot_in table place = syntax.path syntax.root (segments_or_none (slice_get table
 
 -- a selector
 abbrev pub choice_step : Choice-F syntax.Selector syntax.Logical syntax.Argument syntax.Path syntax.Comparable syntax.Segment syntax.Call → syntax.Selector
-choice_step (Choice-F.Name x) = syntax.name_selector (chars (string_bytes x))
+choice_step (Choice-F.Name x) = syntax.name_selector (chars (string_bytes x.text))
 choice_step Choice-F.Wildcard = syntax.wildcard_selector
 choice_step (Choice-F.Index i) = syntax.index_selector i
 choice_step (Choice-F.Slice first last step) = syntax.slice_selector first last step

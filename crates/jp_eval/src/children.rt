@@ -1,28 +1,30 @@
 //! Children that are selected by name or by place (RFC 9535, sections 2.3.1, 2.3.3 and 2.3.4).
 
-ghost use Rattle.std.specs.Prelude.{◌≡◌, ℕ, false, pos, neg_ℤ, ◌-ℤ◌, ◌<ℤ◌, ◌≤ℤ◌, ◌≢◌, ◌^◌, int_le, int_lt, unwrap_or, map, IfOk, IfSome};
+ghost use Rattle.std.specs.Prelude.{◌≡◌, ℕ, false, pos, neg_ℤ, ◌-ℤ◌, ◌<ℤ◌, ◌≤ℤ◌, ◌≢◌, ◌^◌, true, length, int_le, int_lt, unwrap_or, map, IfOk, IfSome};
 ghost use Rattle.std.specs.Str.{chars};
 ghost use Rattle.jp_model.specs.Meaning.Nodes.{step_to, children_where, child_count as count_of};
 ghost use Rattle.jp_model.specs.Json.Tree.{value_of};
 ghost use Rattle.jp_model.specs.Steps.{same_int};
 ghost use Rattle.jp_model.specs.Meaning.Slices.{named, indexed, sliced, is_name, is_index, normal as normal_of, on_stride, downward};
+ghost use Rattle.jp_strings.specs.Plain.{ArePlain};
 ghost use Rattle.jp_tape.specs.Cursors.{line_of, node_of, name_of};
 ghost use Rattle.jp_tape.specs.Kinds.{kind_of};
 ghost use Rattle.jp_tape.specs.declared.Kind.TheVariants as kinds;
 ghost use Rattle.jp_eval.specs.Found.{node_list, AreOf};
 ghost use Rattle.jp_eval.specs.Walks.{IsAt, rises};
 
-use jp_strings::spells;
+use jp_strings::spells_known;
 use jp_tape::{Cursor, Kind};
 use std::alloc::{AllocError, Global};
 
-/// Whether the node is the member of this name.
+/// Whether the node is the member of this name. Of a plain name each byte stands for itself.
 #[inline(always)]
-fn is_named(node: Cursor<'_>, name: &str) -> bool
+fn is_named(node: Cursor<'_>, name: &str, plain: bool) -> bool
+    requires { plain ≡ true → ArePlain name.now 0 (length name.now) }
     ensures { (index : ℕ) → result ≡ is_name (chars name.now) (step_to index (name_of node.entry)) }
 {
     match node.name() {
-        Some(body) => spells(body, name),
+        Some(body) => spells_known(body, name, plain),
         None => false,
     }
 }
@@ -34,23 +36,23 @@ fn is_object(node: Cursor<'_>) -> bool
     matches!(node.kind(), Kind::Object)
 }
 
-/// The member of this name, of an object alone (RFC 9535, section 2.3.1.2).
+/// The member of this name, of an object alone (RFC 9535, section 2.3.1.2). Of a plain name each byte stands for itself.
 #[inline(always)]
-pub(crate) fn find_member<'a>(node: Cursor<'a>, name: &str) -> Option<Cursor<'a>>
+pub(crate) fn find_member<'a>(node: Cursor<'a>, name: &str, plain: bool) -> Option<Cursor<'a>>
+    requires { plain ≡ true → ArePlain name.now 0 (length name.now) }
     ensures nodes { node_list result ≡ named (chars name.now) (node_of node.entry) }
     ensures line { IfSome result (λ c. line_of c ≡ line_of node.entry) }
 {
     if !is_object(node) {
         return None;
     }
-    let mut next = node.first_child();
-    while let Some(child) = next {
-        if is_named(child, name) {
+    let mut child = node.first_child()?;
+    loop {
+        if is_named(child, name, plain) {
             return Some(child);
         }
-        next = child.next_sibling();
+        child = child.next_sibling()?;
     }
-    None
 }
 
 /// An index from the start (RFC 9535, section 2.3.4.2.2).

@@ -11,11 +11,12 @@ ghost use Rattle.jp_query.specs.Sound.{is_sound};
 ghost use Rattle.jp_query.specs.View.{literal_view, segments_view, segment_view, selectors_view, selector_view, logicals_view, logical_view, comparable_view, path_view, call_view, arguments_view, argument_view};
 
 use crate::functions::function_of;
-use crate::leaves::{Constant, LiteralPattern, Named};
+use crate::leaves::{Constant, LiteralPattern, MemberName, Named};
 use crate::program::{Choice, Condition, Given, Invoked, Nodes, Side, Slot, Step};
 use jp_decimal::{Decimal, Numeral};
 use jp_iregexp::Pattern;
 use jp_query::{Argument, Call, Comparable, Literal, Logical, Origin, Path, Segment, Selector};
+use jp_strings::is_plain;
 use std::alloc::{AllocError, Global};
 
 /// The same literal.
@@ -69,6 +70,15 @@ fn compile_pattern(alloc: Global, text: &str) -> Result<LiteralPattern, AllocErr
         },
         read,
     })
+}
+
+/// The name of a member.
+fn compile_member_name(alloc: Global, name: &str) -> Result<MemberName, AllocError>
+    ensures { IfOk result (λ member. string_bytes member.text ≡ name.now) }
+{
+    let plain = is_plain(name.as_bytes());
+    let text = String::from_str(alloc, name)?;
+    Ok(MemberName { text, plain })
 }
 
 /// The name of a function, which is looked for.
@@ -150,7 +160,7 @@ fn compile_selector(
 {
     match selector {
         Selector::Name(name) => {
-            let name = String::from_str(alloc, name)?;
+            let name = compile_member_name(alloc, name)?;
             Ok(Choice::Name(name))
         }
         Selector::Wildcard => Ok(Choice::Wildcard),

@@ -52,6 +52,7 @@ pub(crate) fn length_of<'a>(value: Value<'a>) -> Value<'a>
 }
 
 /// Whether a text passes a pattern: all of it, or a part of it.
+#[inline(always)]
 fn text_passes(
     alloc: Global,
     pattern: &Pattern,
@@ -67,7 +68,22 @@ fn text_passes(
     }
 }
 
+/// Whether the text that a body with an escape spells passes a pattern.
+#[inline(never)]
+fn escaped_passes(
+    alloc: Global,
+    pattern: &Pattern,
+    whole: bool,
+    body: &[u8],
+) -> Result<bool, AllocError>
+    requires { IsText body.now }
+    ensures { IfOk result (λ b. b ≡ passing whole (pattern_view pattern.now) (points_of body.now)) }
+{
+    text_passes(alloc, pattern, whole, unescape(alloc, body)?.as_str())
+}
+
 /// Whether the text that a body spells passes a pattern. It is copied only where it has an escape.
+#[inline(always)]
 fn body_passes(
     alloc: Global,
     pattern: &Pattern,
@@ -79,7 +95,7 @@ fn body_passes(
 {
     match plain_text(body) {
         Some(text) => text_passes(alloc, pattern, whole, text),
-        None => text_passes(alloc, pattern, whole, unescape(alloc, body)?.as_str()),
+        None => escaped_passes(alloc, pattern, whole, body),
     }
 }
 

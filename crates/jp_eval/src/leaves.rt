@@ -1,6 +1,6 @@
 //! What stands at the leaves of a compiled query.
 
-ghost use Rattle.std.specs.Prelude.{◌≡◌, true, IsTrue, Some, option_map, chars, string_bytes};
+ghost use Rattle.std.specs.Prelude.{◌≡◌, true, IsTrue, Some, length, option_map, chars, string_bytes};
 ghost use Rattle.jp_decimal.specs.Decimals.{numeral_number};
 ghost use Rattle.jp_eval.specs.Constants.{is_read_as};
 ghost use Rattle.jp_eval.specs.Functions.{function_named, pattern_in};
@@ -10,6 +10,7 @@ ghost use Rattle.jp_model.specs.Meaning.Compare.{compared};
 ghost use Rattle.jp_model.specs.Meaning.Functions.{literal_value, single_value};
 ghost use Rattle.jp_query.specs.Sound.{is_sound};
 ghost use Rattle.jp_query.specs.View.{literal_view, op_view};
+ghost use Rattle.jp_strings.specs.Plain.{ArePlain};
 ghost use Rattle.jp_values.specs.Values.{value_view, is_sound_value};
 
 use crate::functions::Function;
@@ -57,6 +58,14 @@ impl Constant {
             _ => compare(op, Value::Node(node), Value::Constant(&self.literal)),
         }
     }
+}
+
+/// A name of members that is looked for, and whether each of its bytes stands for itself in the body of a string.
+#[derive(Drop)]
+pub(crate) struct MemberName {
+    pub(crate) text: String,
+    pub(crate) plain: bool,
+    ghost known: { plain ≡ true → ArePlain (string_bytes text) 0 (length (string_bytes text)) },
 }
 
 /// A name of a function, and which of the five it is.

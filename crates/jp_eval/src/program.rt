@@ -1,6 +1,6 @@
 //! A compiled query: the steps from nodes to nodes, with all that is the same for each line found beforehand.
 
-use crate::leaves::{Constant, LiteralPattern, Named};
+use crate::leaves::{Constant, LiteralPattern, MemberName, Named};
 use jp_query::CompareOp;
 
 /// A step from nodes to nodes (RFC 9535, section 2.5).
@@ -15,7 +15,7 @@ pub(crate) enum Step {
 #[cycle(program)]
 #[derive(Drop)]
 pub(crate) enum Choice {
-    Name(String),
+    Name(MemberName),
     Wildcard,
     Index(i64),
     Slice {

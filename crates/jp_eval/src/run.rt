@@ -166,7 +166,7 @@ fn push_choice<'a>(
     ensures { Pushes run.entry most frame.old frame.new result (reached run.entry rest.now (select (choice_view (table_in run.entry) choice.now) (node_of node.entry) (tree_in run.entry))) }
 {
     match choice {
-        Choice::Name(name) => match find_member(node, name.as_str()) {
+        Choice::Name(name) => match find_member(node, name.text.as_str(), name.plain) {
             Some(child) => push_steps(run, rest, child, most, frame),
             None => Ok(()),
         },
@@ -341,6 +341,7 @@ fn push_all_or_none<'a>(
 
 /// Whether the condition holds of a node. It stops at what decides.
 #[cycle(eval)]
+#[inline(always)]
 pub(crate) fn holds<'a>(
     run: Run<'_, 'a>,
     condition: &Condition,
@@ -354,16 +355,29 @@ pub(crate) fn holds<'a>(
     match condition {
         Condition::Or(parts) => Ok(!are_all(run, parts, false, node, frame)?),
         Condition::And(parts) => are_all(run, parts, true, node, frame),
-        Condition::Not(inner) => Ok(!holds(run, inner, node, frame)?),
+        Condition::Not(inner) => Ok(!holds_within(run, inner, node, frame)?),
         Condition::Compare { left, op, right } => {
-            match compare_end(run, *op, left, right, node, frame) {
-                Some(answer) => Ok(answer),
-                None => compare_sides(run, *op, left, right, node, frame),
-            }
+            compare_values(run, *op, left, right, node, frame)
         }
         Condition::Exists(nodes) => has_node(run, nodes, node, frame),
         Condition::Test(invoked) => call_truth(run, invoked, node, frame),
     }
+}
+
+/// The same of a condition within another, which is not put in where it is asked.
+#[cycle(eval)]
+#[inline(never)]
+fn holds_within<'a>(
+    run: Run<'_, 'a>,
+    condition: &Condition,
+    node: Cursor<'a>,
+    frame: &mut Frame<'a>,
+) -> Result<bool, AllocError>
+    requires { Stands run node frame.old }
+    ensures lends { Lends run.entry frame.old frame.new result }
+    ensures value { IfOk result (λ b. b ≡ truth_of (condition_view (table_in run.entry) condition.now) (node_of node.entry) (tree_in run.entry)) }
+{
+    holds(run, condition, node, frame)
 }
 
 /// Whether each part is true, or each is false.
@@ -388,6 +402,27 @@ fn are_all<'a>(
 }
 
 /// Whether a comparison holds of a node (RFC 9535, section 2.3.5.2.2).
+#[cycle(eval)]
+#[inline(never)]
+fn compare_values<'a>(
+    run: Run<'_, 'a>,
+    op: CompareOp,
+    left: &Side,
+    right: &Side,
+    node: Cursor<'a>,
+    frame: &mut Frame<'a>,
+) -> Result<bool, AllocError>
+    requires { Stands run node frame.old }
+    ensures lends { Lends run.entry frame.old frame.new result }
+    ensures value { IfOk result (λ b. b ≡ compared (op_view op) (compared_value (side_view (table_in run.entry) left.now) (node_of node.entry) (tree_in run.entry)) (compared_value (side_view (table_in run.entry) right.now) (node_of node.entry) (tree_in run.entry))) }
+{
+    match compare_end(run, op, left, right, node, frame) {
+        Some(answer) => Ok(answer),
+        None => compare_sides(run, op, left, right, node, frame),
+    }
+}
+
+/// The same, by the values of both sides.
 #[cycle(eval)]
 #[inline(never)]
 fn compare_sides<'a>(

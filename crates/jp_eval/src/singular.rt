@@ -30,15 +30,15 @@ pub(crate) fn singular_child<'a>(step: &Step, node: Cursor<'a>) -> Option<Option
         return None;
     };
     match choice {
-        Choice::Name(name) => Some(find_member(node, name.as_str())),
+        Choice::Name(name) => Some(find_member(node, name.text.as_str(), name.plain)),
         Choice::Index(index) => Some(find_element(node, *index)),
         _ => None,
     }
 }
 
-/// The node that steps by names and indexes lead to, where there is one. None where another step is met.
-#[inline(always)]
-fn singular_end<'a>(steps: &[Step], start: Cursor<'a>) -> Option<Option<Cursor<'a>>>
+/// The node that any number of steps by names and indexes lead to, where there is one. None where another step is met.
+#[inline(never)]
+fn singular_path<'a>(steps: &[Step], start: Cursor<'a>) -> Option<Option<Cursor<'a>>>
     ensures nodes { (table : Table) (t : Tree) → IfSome result (λ end. node_list end ≡ nodes_of (steps_view table steps.now) (node_of start.entry ∷ []) t) }
     ensures line { IfSome result (λ end. IfSome end (λ c. line_of c ≡ line_of start.entry)) }
 {
@@ -53,6 +53,18 @@ fn singular_end<'a>(steps: &[Step], start: Cursor<'a>) -> Option<Option<Cursor<'
         node = child;
     }
     Some(Some(node))
+}
+
+/// The same. Most queries within a filter have one step.
+#[inline(always)]
+fn singular_end<'a>(steps: &[Step], start: Cursor<'a>) -> Option<Option<Cursor<'a>>>
+    ensures nodes { (table : Table) (t : Tree) → IfSome result (λ end. node_list end ≡ nodes_of (steps_view table steps.now) (node_of start.entry ∷ []) t) }
+    ensures line { IfSome result (λ end. IfSome end (λ c. line_of c ≡ line_of start.entry)) }
+{
+    match steps {
+        [only] => singular_child(only, start),
+        _ => singular_path(steps, start),
+    }
 }
 
 /// The value of a node, where there is one.

@@ -1,10 +1,10 @@
 -- What the lanes of 64 bytes tell.
-use Rattle.std.proofs.Common.{◌≡◌, ℕ, ◌+◌, ◌*◌, ◌^◌, ◌%◌, ◌≤◌, Bool, true, false, not, cond, ◌||◌, eqb, ltb, List, [], ◌∷◌, ◌++◌, map, length, take, drop, sym, ◌∙◌, ap, ap₂, refl, arith, w8, bit_or}
+use Rattle.std.proofs.Common.{◌≡◌, ℕ, ◌+◌, ◌*◌, ◌^◌, ◌%◌, ◌≤◌, Bool, true, false, not, cond, ◌||◌, eqb, ltb, List, [], ◌∷◌, ◌++◌, map, length, take, drop, ◌-◌, sym, ◌∙◌, ap, ap₂, refl, arith, w8, bit_or}
 use lib.Lanes.{mask_l, zip2, top}
 use Rattle.std.specs.Prelude.{replicate}
 use Rattle.std.proofs.lemmas.Bool.{eqb-true, eq-eqb}
 use Rattle.std.proofs.lemmas.Simd.{zip2_splat, zip2_of_maps, map-map, mask_l-mod, length-zip2, tops_compared}
-use Rattle.std.proofs.lemmas.List.{length-map, take-append-drop, take-take, drop-take}
+use Rattle.std.proofs.lemmas.List.{length-map, take-append-drop, take-take, drop-take, take_all}
 use Rattle.jp_lanes.specs.Search.{is_special}
 
 -- a lane of ones or of zeros
@@ -62,16 +62,17 @@ same_lanes (x ∷ xs) = ap₂ (λ b m. cond (not b) 1 0 + 2 * m) (eq-eqb x x ref
 abbrev lanes_differ : List ℕ → List ℕ → ℕ
 lanes_differ xs ys = mask_l (map (top 7) (zip2 (λ a b. lane (differs a b)) xs ys)) % 2 ^ 64
 
-lanes_differ_is : (xs ys : List ℕ) → length xs ≡ 64 → length ys ≡ 64 → lanes_differ xs ys ≡ mask_l (zip2 differs xs ys)
-lanes_differ_is xs ys m n =
-    let size = length-zip2 differs xs ys (m ∙ sym n) in
-    ap (λ ms. mask_l ms % 2 ^ 64) (tops_compared w8 differs xs ys) ∙ mask_l-mod (zip2 differs xs ys) 64 (omega (arith, size, m))
+lanes_differ_is : (xs ys : List ℕ) → length xs ≡ length ys → length xs ≤ 64 → lanes_differ xs ys ≡ mask_l (zip2 differs xs ys)
+lanes_differ_is xs ys same few =
+    let size = length-zip2 differs xs ys same in
+    ap (λ ms. mask_l ms % 2 ^ 64) (tops_compared w8 differs xs ys) ∙ mask_l-mod (zip2 differs xs ys) 64 (omega (arith, size, few))
 
-pub block_same : (xs ys : List ℕ) → length xs ≡ 64 → length ys ≡ 64 → (eqb (lanes_differ xs ys) 0 ≡ true → xs ≡ ys) × (xs ≡ ys → eqb (lanes_differ xs ys) 0 ≡ true)
-block_same xs ys m n = (
-  λ e. no_difference xs ys (m ∙ sym n) (sym (lanes_differ_is xs ys m n) ∙ eqb-true _ _ e),
-  λ e. eq-eqb _ _ (lanes_differ_is xs ys m n ∙ (ap (λ zs. mask_l (zip2 differs xs zs)) (sym e) ∙ same_lanes xs)),
-)
+pub block_same : (n : ℕ) (xs ys : List ℕ) → n ≤ 64 → length xs ≡ n → length ys ≡ n → (eqb (lanes_differ xs ys) 0 ≡ true → xs ≡ ys) × (xs ≡ ys → eqb (lanes_differ xs ys) 0 ≡ true)
+block_same n xs ys few l m =
+    let is = lanes_differ_is xs ys (l ∙ sym m) (omega (arith, l, few)) in (
+      λ e. no_difference xs ys (l ∙ sym m) (sym is ∙ eqb-true _ _ e),
+      λ e. eq-eqb _ _ (is ∙ (ap (λ zs. mask_l (zip2 differs xs zs)) (sym e) ∙ same_lanes xs)),
+    )
 
 -- one more block
 pub take_block : (n m : ℕ) (xs : List ℕ) → take (n + m) xs ≡ take n xs ++ take m (drop n xs)
@@ -82,3 +83,12 @@ same_blocks n m xs ys e f = take_block n m xs ∙ (ap₂ (λ (zs ws : List ℕ).
 
 pub same_whole : (n : ℕ) (xs ys : List ℕ) → take n xs ≡ take n ys → drop n xs ≡ drop n ys → xs ≡ ys
 same_whole n xs ys e f = sym (take-append-drop n xs) ∙ (ap₂ (λ (zs ws : List ℕ). zs ++ ws) e f ∙ take-append-drop n ys)
+
+-- runs whose first bytes are the same, and whose last, where none stands between them
+pub same_ends : (n : ℕ) (xs ys : List ℕ) → length xs ≡ length ys → n ≤ length xs → length xs ≤ n + n → take n (drop 0 xs) ≡ take n (drop 0 ys) → take n (drop (length xs - n) xs) ≡ take n (drop (length xs - n) ys) → xs ≡ ys
+same_ends n xs ys size least most e f =
+    let k = length xs - n in
+    let within : k ≤ n = omega (arith, most, least) in
+    let first : take k xs ≡ take k ys = sym (take-take k n xs within) ∙ (ap (take k) e ∙ take-take k n ys within) in
+    let whole : k + n ≡ length xs = omega (arith, least) in
+    sym (take_all (k + n) xs (omega (arith, whole))) ∙ (same_blocks k n xs ys first f ∙ take_all (k + n) ys (omega (arith, whole, size)))

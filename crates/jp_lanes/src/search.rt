@@ -130,30 +130,73 @@ fn first_special_plainly(bytes: &[u8], from: usize) -> usize
     at
 }
 
-// Whether the 64 bytes at a place are the same.
-fn equal_blocks(a: &[u8], b: &[u8], at: usize) -> bool
-    requires first { at + 64 ≤ length a.now }
-    requires second { at + 64 ≤ length b.now }
-    ensures { IsTrue result ↔ (chunk at 64 a.now ≡ chunk at 64 b.now) }
+// Whether the N bytes at a place are the same.
+#[inline(always)]
+fn equal_blocks<const N: usize>(a: &[u8], b: &[u8], at: usize) -> bool
+    requires few { N ≤ 64 }
+    requires first { at + N ≤ length a.now }
+    requires second { at + N ≤ length b.now }
+    ensures { IsTrue result ↔ (chunk at N a.now ≡ chunk at N b.now) }
 {
-    let first = u8x64::from_slice(&a[at..]);
-    let second = u8x64::from_slice(&b[at..]);
+    let first = Simd::<u8, N>::from_slice(&a[at..]);
+    let second = Simd::<u8, N>::from_slice(&b[at..]);
     first.simd_ne(second).to_bitmask() == 0
 }
 
+// Whether the first N bytes are the same, and the last N, which may be some of them.
+#[inline(always)]
+fn equal_ends<const N: usize>(a: &[u8], b: &[u8]) -> bool
+    requires few { N ≤ 64 }
+    requires size { length a.now ≡ length b.now }
+    requires least { N ≤ length a.now }
+    requires most { length a.now ≤ N + N }
+    ensures { IsTrue result ↔ (a.now ≡ b.now) }
+{
+    equal_blocks::<N>(a, b, 0) && equal_blocks::<N>(a, b, a.len() - N)
+}
+
+// Whether as many bytes are the same, where they are few: most names of a line are.
+#[inline(always)]
+fn equal_few(a: &[u8], b: &[u8]) -> bool
+    requires size { length a.now ≡ length b.now }
+    requires few { length a.now ≤ 16 }
+    ensures { IsTrue result ↔ (a.now ≡ b.now) }
+{
+    if a.len() >= EIGHTH {
+        return equal_ends::<EIGHTH>(a, b);
+    }
+    if a.len() >= SIXTEENTH {
+        return equal_ends::<SIXTEENTH>(a, b);
+    }
+    a == b
+}
+
+// The same of any number of bytes. It stays out of its caller.
+#[inline(never)]
+fn equal_many(a: &[u8], b: &[u8]) -> bool
+    requires { length a.now ≡ length b.now }
+    ensures { IsTrue result ↔ (a.now ≡ b.now) }
+{
+    let mut at = 0;
+    while a.len() - at >= BLOCK {
+        if !equal_blocks::<BLOCK>(a, b, at) {
+            return false;
+        }
+        at += BLOCK;
+    }
+    a[at..] == b[at..]
+}
+
 /// Whether two runs of bytes are the same.
+#[inline(always)]
 pub fn equal_bytes(a: &[u8], b: &[u8]) -> bool
     ensures { IsTrue result ↔ (a.now ≡ b.now) }
 {
     if a.len() != b.len() {
         return false;
     }
-    let mut at = 0;
-    while a.len() - at >= BLOCK {
-        if !equal_blocks(a, b, at) {
-            return false;
-        }
-        at += BLOCK;
+    if a.len() <= QUARTER {
+        return equal_few(a, b);
     }
-    a[at..] == b[at..]
+    equal_many(a, b)
 }

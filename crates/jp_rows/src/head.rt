@@ -28,6 +28,19 @@ pub(crate) fn row_start(framing: Framing) -> &'static [u8]
     }
 }
 
+/// Puts what a row begins with, if there is room. In lines that is nothing.
+#[inline(always)]
+fn put_start(framing: Framing, room: &mut [u8; ROOM], end: usize) -> Option<usize>
+    requires { end ≤ 256 }
+    ensures { PutsBefore room.old room.new (row_start_of framing) end result }
+{
+    let start = row_start(framing);
+    if start.is_empty() {
+        return Some(end);
+    }
+    put(start, room, end)
+}
+
 /// Puts the step to the member of a name, if no scalar of it is escaped.
 #[inline(always)]
 fn put_name_step(line: &[u8], name: Span, room: &mut [u8; ROOM], end: usize) -> Option<usize>
@@ -98,5 +111,5 @@ pub(crate) fn put_head(
     let path = put_path(cursor, room, behind)?;
     let between = put(b"\t", room, path)?;
     let number = put_number(line, room, between)?;
-    put(row_start(framing), room, number)
+    put_start(framing, room, number)
 }

@@ -11,7 +11,10 @@ mod scalars;
 
 pub use checks::{test_body, test_utf8_body};
 pub use fault::StringFault;
-pub use order::{compare, compare_text, equal, plain_text, scalar_count, spells, unescape};
+pub use order::{
+    compare, compare_text, equal, is_plain, plain_text, scalar_count, spells, spells_known,
+    unescape,
+};
 pub use scalars::Scalars;
 
 #[cfg(test)]

@@ -15,10 +15,13 @@ use std::alloc::{AllocError, Global};
 use std::cmp::Ordering;
 use std::str;
 
-// Whether each character stands for itself. The search has no place in each loop over names that asks.
+/// Whether each byte stands for itself: none is a quote, a backslash, or below 0x20 (RFC 8259, section 7).
+///
+/// The search has no place in each loop over names that asks.
 #[inline(never)]
-fn is_plain(body: &[u8]) -> bool
-    ensures { IsTrue result → ArePlain body.now 0 (length body.now) }
+pub fn is_plain(body: &[u8]) -> bool
+    ensures plain { IsTrue result → ArePlain body.now 0 (length body.now) }
+    ensures special { result ≡ false → ArePlain body.now 0 (length body.now) → ⊥ }
 {
     first_special(body, 0) == body.len()
 }
@@ -130,18 +133,42 @@ fn may_spell(body: &[u8], text: &str) -> bool
     }
 }
 
+// Whether a body that is these bytes, or is longer, spells the scalars of a text.
+#[inline(never)]
+fn spells_in_full(body: &[u8], text: &str) -> bool
+    requires body { IsText body.now }
+    requires same { length body.now ≤ length text.now → body.now ≡ text.now }
+    ensures { result ≡ text_equal (chars text.now) (points_of body.now) }
+{
+    if is_plain(body) {
+        return body.len() <= text.len();
+    }
+    spells_by_scalars(body, text)
+}
+
 /// Whether a body spells the scalars of a text. Only a body with an escape is decoded.
 pub fn spells(body: &[u8], text: &str) -> bool
     requires { IsText body.now }
     ensures { result ≡ text_equal (chars text.now) (points_of body.now) }
 {
+    may_spell(body, text) && spells_in_full(body, text)
+}
+
+/// Whether a body spells the scalars of a text, of which it may be known that each byte stands for itself. Then a body that is these
+/// bytes is not searched for an escape.
+#[inline(always)]
+pub fn spells_known(body: &[u8], text: &str, plain: bool) -> bool
+    requires body { IsText body.now }
+    requires text { plain ≡ true → ArePlain text.now 0 (length text.now) }
+    ensures { result ≡ text_equal (chars text.now) (points_of body.now) }
+{
     if !may_spell(body, text) {
         return false;
     }
-    if is_plain(body) {
-        return body.len() <= text.len();
+    if plain && body.len() <= text.len() {
+        return true;
     }
-    spells_by_scalars(body, text)
+    spells_in_full(body, text)
 }
 
 // How many characters some bytes have.

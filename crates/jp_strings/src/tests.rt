@@ -112,6 +112,25 @@ fn scalars_are_compared(rt: HostRuntime) -> Result<(), Fail> {
 }
 
 #[test]
+fn plain_texts_are_spelled(rt: HostRuntime) -> Result<(), Fail> {
+    let text = "ring";
+    assert!(rt;
+        !is_plain(b"ring\\n") && !is_plain(b"\"ring") && !is_plain(b"\x1f") && is_plain(b"")
+    );
+    assert!(rt; is_plain(text.as_bytes()));
+    let (same, escaped): (&[u8], &[u8]) = (b"ring", b"r\\u0069ng");
+    let (other, longer): (&[u8], &[u8]) = (b"rink", b"rings");
+    test_body(same)?;
+    test_body(escaped)?;
+    assert!(rt; spells_known(same, text, true) && spells_known(escaped, text, true));
+    test_body(other)?;
+    test_body(longer)?;
+    assert!(rt; spells_known(escaped, text, false) && !spells_known(longer, text, false));
+    assert!(rt; !spells_known(other, text, true) && !spells_known(longer, text, true));
+    Ok(())
+}
+
+#[test]
 fn scalars_are_yielded(rt: HostRuntime) -> Result<(), Fail> {
     let body: &[u8] = b"x\\ud83d\\ude00\xc3\xa9\\/";
     test_body(body)?;

@@ -1,6 +1,5 @@
--- The children from the next one on have all members of the name, and their names differ.
-use Rattle.std.proofs.Common.{◌≡◌, false, length}
-use Rattle.std.specs.Prelude.{IfSome}
+-- The children from this one on have all members of the name, and their names differ.
+use Rattle.std.proofs.Common.{◌≡◌, false, length, Some}
 use Rattle.std.specs.Str.{chars}
 use Rattle.jp_model.specs.Json.Faults.{names, has_repeated}
 use Rattle.jp_model.specs.Meaning.Slices.{is_name, named}
@@ -8,12 +7,12 @@ use Rattle.jp_tape.specs.Cursors.{line_of, node_of, nodes_from, children_from}
 use Rattle.jp_eval.proofs.Walks.{Left}
 use Rattle.jp_eval.proofs.children.find_member.Given as goal
 
-abbrev pub invariant-loop-next : goal.invariant-loop-next
-invariant-loop-next l = record {
-  left : Left (is_name (chars l.name)) (node_of l.node) l.next (named (chars l.name) (node_of l.node));
-  once : has_repeated (names (children_from l.next)) ≡ false;
-  line : IfSome l.next (λ c. line_of c ≡ line_of l.node);
+abbrev pub invariant-loop-child : goal.invariant-loop-child
+invariant-loop-child l = record {
+  left : Left (is_name (chars l.name)) (node_of l.node) (Some l.child) (named (chars l.name) (node_of l.node));
+  once : has_repeated (names (children_from (Some l.child))) ≡ false;
+  line : line_of l.child ≡ line_of l.node;
 }
 
-abbrev pub decreases-loop-next : goal.decreases-loop-next
-decreases-loop-next l = length (nodes_from l.next)
+abbrev pub decreases-loop-child : goal.decreases-loop-child
+decreases-loop-child l = length (nodes_from (Some l.child))

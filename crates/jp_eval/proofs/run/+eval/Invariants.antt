@@ -53,6 +53,12 @@ decreases-holds l = size_of_logical (condition_view (table_in l.run) l.condition
 abbrev pub decreases-are_all : goal.decreases-are_all
 decreases-are_all l = size_of_logicals (conditions_view (table_in l.run) l.parts.now)
 
+abbrev pub decreases-holds_within : goal.decreases-holds_within
+decreases-holds_within l = size_of_logical (condition_view (table_in l.run) l.condition.now) + 1
+
+abbrev pub decreases-compare_values : goal.decreases-compare_values
+decreases-compare_values l = size_of_comparable (side_view (table_in l.run) l.left.now) + size_of_comparable (side_view (table_in l.run) l.right.now) + 2
+
 abbrev pub decreases-compare_sides : goal.decreases-compare_sides
 decreases-compare_sides l = size_of_comparable (side_view (table_in l.run) l.left.now) + size_of_comparable (side_view (table_in l.run) l.right.now) + 1
 

@@ -4,5 +4,5 @@ use Rattle.jp_lanes.proofs.SearchLanes.{block_same}
 use Rattle.jp_lanes.proofs.search.equal_blocks.Goals as goal
 
 pub returns : goal.returns
-returns c =
-    block_same (chunk c.args.at 64 c.args.a.now) (chunk c.args.at 64 c.args.b.now) (length-chunk c.args.at 64 c.args.a.now c.requires.first) (length-chunk c.args.at 64 c.args.b.now c.requires.second)
+returns g c =
+    block_same g.row.N (chunk c.args.at g.row.N c.args.a.now) (chunk c.args.at g.row.N c.args.b.now) c.requires.few (length-chunk c.args.at g.row.N c.args.a.now c.requires.first) (length-chunk c.args.at g.row.N c.args.b.now c.requires.second)

@@ -13,5 +13,5 @@ returns c =
     let two = put_two _ _ _ path tab _ _ _ c.in_ok-behind.ensures c.in_ok-path.ensures in
     let three = put_two _ _ _ tab (path ++ tab) _ _ _ two c.in_ok-between.ensures in
     let four = put_two _ _ _ number (tab ++ (path ++ tab)) _ _ _ three c.in_ok-number.ensures in
-    rw (head_parts (row_start c.args.framing) number tab path tab, ← c.row_start.ensures)
-    (puts_more _ _ _ c.row_start.result.now (number ++ (tab ++ (path ++ tab))) _ _ c.put-3.result four c.put-3.ensures)
+    rw (head_parts (row_start c.args.framing) number tab path tab)
+    (puts_more _ _ _ (row_start c.args.framing) (number ++ (tab ++ (path ++ tab))) _ _ c.put_start.result four c.put_start.ensures)

@@ -9,4 +9,4 @@ pub returns-then-is_plain : goal.returns-then-is_plain
 returns-then-is_plain c =
     c.cmp.ensures
     ∙ (ap (λ (bytes : List ℕ). slice_cmp nat_cmp c.args.body.now bytes) c.as_bytes.ensures.value
-    ∙ plain_text_ordered c.args.body.now c.args.text.now c.requires (c.is_plain.ensures c.if-is_plain.true) c.utf8.text)
+    ∙ plain_text_ordered c.args.body.now c.args.text.now c.requires (c.is_plain.ensures.plain c.if-is_plain.true) c.utf8.text)

@@ -2,7 +2,7 @@ use Rattle.std.proofs.Common.{◌∙◌, ◌-◌, sym, arith, length, take, drop
 use Rattle.std.proofs.lemmas.List.{take_rest}
 use Rattle.std.proofs.lemmas.Slice.Eq.{bytes_eq-Decides}
 use Rattle.jp_lanes.proofs.SearchLanes.{same_blocks, same_whole}
-use Rattle.jp_lanes.proofs.search.equal_bytes.Goals as goal
+use Rattle.jp_lanes.proofs.search.equal_many.Goals as goal
 
 pub loop-at-preserved : goal.loop-at-preserved
 loop-at-preserved c =

@@ -1,5 +1,5 @@
 use Rattle.std.proofs.Common.{◌≡◌, ◌-◌, ◌≤◌, length, take}
-use Rattle.jp_lanes.proofs.search.equal_bytes.Given as goal
+use Rattle.jp_lanes.proofs.search.equal_many.Given as goal
 
 abbrev pub invariant-loop-at : goal.invariant-loop-at
 invariant-loop-at l = (l.at ≤ length l.a) × (take l.at l.a ≡ take l.at l.b)
