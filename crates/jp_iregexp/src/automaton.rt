@@ -1,9 +1,9 @@
 //! A pattern as places: each place waits for one scalar of its class, and says which places wait behind it. A text runs through
 //! one word, which holds the places that wait.
 
-ghost use Rattle.std.specs.Prelude.{◌≡◌, ◌↔◌, ◌<◌, ◌≤◌, ℕ, IsTrue, IfOk, Some, None, length, get_or, map};
+ghost use Rattle.std.specs.Prelude.{◌≡◌, ◌↔◌, ◌<◌, ◌≤◌, ℕ, IsTrue, IfOk, Some, None, bit_and, length, get_or, map};
 ghost use Rattle.std.specs.Option.{IfSome};
-ghost use Rattle.std.specs.Str.{chars, IsAscii};
+ghost use Rattle.std.specs.Str.{chars};
 ghost use Rattle.jp_model.specs.Pattern.Language.{Occurs};
 ghost use Rattle.jp_iregexp.specs.Places.{AreMasks, AreSets, Holds, IsPassed, IsStep, Leads, WaitsBehind, waits_for};
 ghost use Rattle.jp_iregexp.specs.Layouts.{place_of};
@@ -80,29 +80,32 @@ impl Automaton {
         behind(self.after.as_slice(), waiting & self.ascii[scalar as usize])
     }
 
-    /// Whether the text leads from the start to the end.
-    pub(crate) fn accepts(&self, text: &str) -> bool
-        ensures { IsTrue result ↔ Leads (map place_of self.now.places.items) self.now.starts (chars text.now) }
+    /// Of the places that wait those that take an ASCII scalar. None where the byte is none.
+    #[inline(always)]
+    fn ready(&self, waiting: u64, byte: u8) -> Option<u64>
+        ensures ascii { IfSome result (λ ready. byte < 128) }
+        ensures ready { IfSome result (λ ready. ready ≡ bit_and waiting (get_or self.now.ascii.items byte 0)) }
     {
-        if text.is_ascii() {
-            self.accepts_ascii(text.as_bytes())
-        } else {
-            self.accepts_any(text)
+        match self.ascii.get(byte as usize) {
+            Some(mask) => Some(waiting & *mask),
+            None => None,
         }
     }
 
-    /// The same, of an ASCII text. No scalar is decoded.
+    /// Whether the text leads from the start to the end. No scalar is decoded, up to the first that is not ASCII.
     #[inline(never)]
-    fn accepts_ascii(&self, text: &[u8]) -> bool
-        requires { IsAscii text.now }
-        ensures { IsTrue result ↔ Leads (map place_of self.now.places.items) self.now.starts text.now }
+    pub(crate) fn accepts(&self, text: &str) -> bool
+        ensures { IsTrue result ↔ Leads (map place_of self.now.places.items) self.now.starts (chars text.now) }
     {
         let mut waiting = self.starts;
-        for scalar in text {
-            waiting = self.ascii_step(waiting, *scalar);
-            if waiting == 0 {
+        for byte in text.as_bytes() {
+            let Some(ready) = self.ready(waiting, *byte) else {
+                return self.accepts_any(text);
+            };
+            if ready == 0 {
                 return false;
             }
+            waiting = behind(self.after.as_slice(), ready);
         }
         (waiting >> 63) & 1 == 1
     }
@@ -122,29 +125,20 @@ impl Automaton {
         (waiting >> 63) & 1 == 1
     }
 
-    /// Whether a part of the text leads from the start to the end.
+    /// Whether a part of the text leads from the start to the end. No scalar is decoded, up to the first that is not ASCII.
+    #[inline(never)]
     pub(crate) fn finds(&self, text: &str) -> bool
         ensures { IsTrue result ↔ Occurs (Leads (map place_of self.now.places.items) self.now.starts) (chars text.now) }
     {
-        if text.is_ascii() {
-            self.finds_ascii(text.as_bytes())
-        } else {
-            self.finds_any(text)
-        }
-    }
-
-    /// The same, of an ASCII text. No scalar is decoded.
-    #[inline(never)]
-    fn finds_ascii(&self, text: &[u8]) -> bool
-        requires { IsAscii text.now }
-        ensures { IsTrue result ↔ Occurs (Leads (map place_of self.now.places.items) self.now.starts) text.now }
-    {
         let mut waiting = self.starts;
-        for scalar in text {
+        for byte in text.as_bytes() {
             if (waiting >> 63) & 1 == 1 {
                 return true;
             }
-            waiting = self.ascii_step(waiting, *scalar) | self.starts;
+            let Some(ready) = self.ready(waiting, *byte) else {
+                return self.finds_any(text);
+            };
+            waiting = behind(self.after.as_slice(), ready) | self.starts;
         }
         (waiting >> 63) & 1 == 1
     }

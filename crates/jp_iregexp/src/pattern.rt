@@ -38,26 +38,26 @@ impl Pattern {
     }
 
     /// Whether the whole text is in the pattern's set (RFC 9485, section 4). Where memory is refused the answer is an error.
+    #[inline(always)]
     pub fn matches(&self, alloc: Global, text: &str) -> Result<bool, AllocError>
         ensures { IfOk result (λ answer. answer ≡ is_in (pattern_view self.now) (chars text.now)) }
     {
         if let Some(automaton) = &self.compiled.automaton {
             return Ok(automaton.accepts(text));
         }
-        let scalars = scalars_of(alloc, text)?;
-        matches_scalars(alloc, &self.compiled.root, scalars.as_slice())
+        matches_by_tree(alloc, &self.compiled.root, text)
     }
 
     /// Whether some part of the text, the empty one included, is in the pattern's set. Where memory is refused the answer is
     /// an error.
+    #[inline(always)]
     pub fn occurs(&self, alloc: Global, text: &str) -> Result<bool, AllocError>
         ensures { IfOk result (λ answer. answer ≡ occurs_in (pattern_view self.now) (chars text.now)) }
     {
         if let Some(automaton) = &self.compiled.automaton {
             return Ok(automaton.finds(text));
         }
-        let scalars = scalars_of(alloc, text)?;
-        occurs_in_scalars(alloc, &self.compiled.root, scalars.as_slice())
+        occurs_by_tree(alloc, &self.compiled.root, text)
     }
 }
 
@@ -65,6 +65,24 @@ fn scalars_of(alloc: Global, text: &str) -> Result<Vec<char>, AllocError>
     ensures { IfOk result (λ scalars. scalars.items ≡ chars text.now) }
 {
     text.chars().collect(alloc)
+}
+
+// Whether the whole text is in the set of a tree. Few patterns have no automaton.
+#[inline(never)]
+fn matches_by_tree(alloc: Global, root: &Node, text: &str) -> Result<bool, AllocError>
+    ensures { IfOk result (λ answer. answer ≡ is_in (tree_of root.now) (chars text.now)) }
+{
+    let scalars = scalars_of(alloc, text)?;
+    matches_scalars(alloc, root, scalars.as_slice())
+}
+
+// Whether some part of the text is in the set of a tree.
+#[inline(never)]
+fn occurs_by_tree(alloc: Global, root: &Node, text: &str) -> Result<bool, AllocError>
+    ensures { IfOk result (λ answer. answer ≡ occurs_in (tree_of root.now) (chars text.now)) }
+{
+    let scalars = scalars_of(alloc, text)?;
+    occurs_in_scalars(alloc, root, scalars.as_slice())
 }
 
 pub(crate) fn matches_scalars(alloc: Global, node: &Node, text: &[char]) -> Result<bool, AllocError>

@@ -1,6 +1,12 @@
 -- Bytes that do not stand for themselves within a string.
-use Rattle.std.specs.Prelude.{ℕ, Bool, ◌||◌, ◌==◌, nat_lt}
+use Rattle.std.specs.Prelude.{ℕ, ◌<◌, Bool, IsTrue, ◌||◌, ◌==◌, nat_lt, List, length, slice_index}
 
 -- a quotation mark, a reverse solidus or a control character (RFC 8259, section 7)
 abbrev pub is_special : ℕ → Bool
 is_special byte = (byte == 0x22) || (byte == 0x5C) || nat_lt byte 0x20
+
+-- one of them stands among the bytes
+pub record HasSpecial (bytes : List ℕ) : Type 0 where
+  pub place : ℕ
+  pub within : place < length bytes
+  pub special : IsTrue (is_special (slice_index bytes place))

@@ -7,4 +7,4 @@ mod search;
 mod tests;
 
 pub use classes::{Classes, classify, pad};
-pub use search::{equal_bytes, first_special};
+pub use search::{equal_bytes, first_special, has_special};

@@ -1,7 +1,7 @@
 //! The first special byte of a string, and equality of bytes.
 ghost use Rattle.std.specs.Prelude.{◌≡◌, ◌↔◌, ℕ, ◌+◌, ◌<◌, ◌≤◌, IsTrue, false, map, length, slice_index};
 ghost use Rattle.std.specs.Simd.Lanes.{mask_l, chunk};
-ghost use Rattle.jp_lanes.specs.Search.{is_special as is_special_byte};
+ghost use Rattle.jp_lanes.specs.Search.{HasSpecial, is_special as is_special_byte};
 
 use std::simd::prelude::*;
 
@@ -128,6 +128,37 @@ fn first_special_plainly(bytes: &[u8], from: usize) -> usize
         at += 1;
     }
     at
+}
+
+// Whether a special byte stands among the first N bytes, or among the last N, which may be some of them.
+#[inline(always)]
+fn has_special_at_ends<const N: usize>(bytes: &[u8]) -> bool
+    requires few { N ≤ 64 }
+    requires least { N ≤ length bytes.now }
+    requires most { length bytes.now ≤ N + N }
+    ensures none { result ≡ false → (k : ℕ) → k < length bytes.now → is_special_byte (slice_index bytes.now k) ≡ false }
+    ensures some { IsTrue result → HasSpecial bytes.now }
+{
+    plain_run::<N>(bytes, 0) < N || plain_run::<N>(bytes, bytes.len() - N) < N
+}
+
+/// Whether a quotation mark, a reverse solidus or a control character (RFC 8259, section 7) stands among the bytes. Few bytes are
+/// looked at by their ends.
+#[inline(always)]
+pub fn has_special(bytes: &[u8]) -> bool
+    ensures none { result ≡ false → (k : ℕ) → k < length bytes.now → is_special_byte (slice_index bytes.now k) ≡ false }
+    ensures some { IsTrue result → HasSpecial bytes.now }
+{
+    if bytes.len() > QUARTER {
+        return first_special(bytes, 0) < bytes.len();
+    }
+    if bytes.len() >= EIGHTH {
+        return has_special_at_ends::<EIGHTH>(bytes);
+    }
+    if bytes.len() >= SIXTEENTH {
+        return has_special_at_ends::<SIXTEENTH>(bytes);
+    }
+    first_special_plainly(bytes, 0) < bytes.len()
 }
 
 // Whether the N bytes at a place are the same.

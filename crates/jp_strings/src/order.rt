@@ -10,20 +10,19 @@ ghost use Rattle.jp_strings.specs.Counts.{Counts};
 ghost use Rattle.jp_strings.specs.Points.{IsText, points_of, is_text_from};
 
 use crate::scalars::{Scalars, escaped_scalar_at};
-use jp_lanes::{equal_bytes, first_special};
+use jp_lanes::{equal_bytes, first_special, has_special};
 use std::alloc::{AllocError, Global};
 use std::cmp::Ordering;
 use std::str;
 
 /// Whether each byte stands for itself: none is a quote, a backslash, or below 0x20 (RFC 8259, section 7).
-///
-/// The search has no place in each loop over names that asks.
+// The search has no place in each loop over names that asks.
 #[inline(never)]
 pub fn is_plain(body: &[u8]) -> bool
     ensures plain { IsTrue result → ArePlain body.now 0 (length body.now) }
     ensures special { result ≡ false → ArePlain body.now 0 (length body.now) → ⊥ }
 {
-    first_special(body, 0) == body.len()
+    !has_special(body)
 }
 
 // Whether neither body is much longer than the other. To read a long one for each of many short ones would cost the square of
@@ -211,12 +210,13 @@ pub fn scalar_count(body: &[u8]) -> u32
 }
 
 /// The text that a body spells, where it has no escape: its own bytes, which are not copied.
+#[inline(always)]
 pub fn plain_text(body: &[u8]) -> Option<&str>
     requires { IsText body.now }
     ensures text { IfSome result (λ text. chars text.now ≡ points_of body.now) }
     ensures escaped { IfNone result (ArePlain body.now 0 (length body.now) → ⊥) }
 {
-    if first_special(body, 0) < body.len() {
+    if has_special(body) {
         return None;
     }
     Some(unsafe { str::from_utf8_unchecked(body) })

@@ -1,12 +1,13 @@
 //! The searches, at each place.
 
-use crate::{equal_bytes, first_special};
+use crate::{equal_bytes, first_special, has_special};
 use std::alloc::{AllocError, Global};
 use std::test::Fail;
 
 #[test]
 fn the_first_special_byte_is_found(rt: HostRuntime) -> Result<(), Fail> {
     assert_eq!(rt; first_special(b"", 0), 0);
+    assert!(rt; !has_special(b"") && has_special(b"\\"));
     let mut bytes = Vec::new(rt.alloc());
     for _ in 0..200 {
         bytes.push(b'x')?;
@@ -35,8 +36,9 @@ fn each_place_is_found(alloc: Global, size: usize) -> Result<bool, AllocError> {
     for place in 0..bytes.len() {
         bytes[place] = specials[place % 3];
         let found = first_special(&bytes, 0) == place && first_special(&bytes, place) == place;
+        let has = has_special(&bytes);
         bytes[place] = b' ';
-        if !found || first_special(&bytes, place) != bytes.len() {
+        if !found || !has || has_special(&bytes) || first_special(&bytes, place) != bytes.len() {
             return Ok(false);
         }
     }

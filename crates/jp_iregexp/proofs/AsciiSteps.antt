@@ -1,0 +1,44 @@
+-- Steps over the bytes of a text, as far as they are ASCII.
+use Rattle.std.proofs.Common.{◌≡◌, ℕ, zero, suc, ◌+◌, ◌<◌, ◌↔◌, List, [], ◌∷◌, ◌++◌, length, drop, map, get_or, slice_index, bit_and, arith, refl, sym, ◌∙◌, ap, subst}
+use Rattle.std.proofs.lemmas.List.{drop_more}
+use Rattle.std.proofs.lemmas.Nat.Bits.{bit_at-zero}
+use Rattle.std.proofs.lemmas.Str.{chars-append, chars-IsAscii, IsUtf8-from_ascii}
+use Rattle.std.specs.Str.{chars, IsAscii}
+use Rattle.jp_iregexp.specs.declared.automaton.Automaton.{Automaton}
+use Rattle.jp_iregexp.specs.Layouts.{place_of}
+use Rattle.jp_iregexp.specs.Places.{Holds, IsStep, Leads, WaitsBehind}
+use Rattle.jp_iregexp.proofs.Leading.{stepped, leads_nowhere}
+use Rattle.jp_iregexp.proofs.Masks.{masked_step}
+
+one_ascii : (b : ℕ) → b < 128 → IsAscii (b ∷ [])
+one_ascii b few = λ i. by i
+  where
+    by : (i : ℕ) → get_or (b ∷ []) i 0 < 128
+    by zero = few
+    by (suc i) = omega arith
+
+-- an ASCII byte is a scalar by itself
+ascii_first : (b : ℕ) (bs : List ℕ) → b < 128 → chars (b ∷ bs) ≡ b ∷ chars bs
+ascii_first b bs few =
+    let one = one_ascii b few in
+    chars-append (b ∷ []) bs (IsUtf8-from_ascii (b ∷ []) one) ∙ ap (λ l. l ++ chars bs) (chars-IsAscii (b ∷ []) one)
+
+-- the scalars from a place on, where an ASCII byte stands
+pub ascii_cut : (text bytes : List ℕ) (i : ℕ) → bytes ≡ text → i < length bytes → slice_index bytes i < 128 → chars (drop i text) ≡ slice_index bytes i ∷ chars (drop (i + 1) text)
+ascii_cut text bytes i same inside few = subst (λ (l : List ℕ). chars (drop i l) ≡ slice_index bytes i ∷ chars (drop (i + 1) l)) same (ap chars (drop_more bytes i 0 inside) ∙ ascii_first (slice_index bytes i) (drop (i + 1) bytes) few)
+
+-- the places that wait behind those that are ready
+pub ready_step : (a : Automaton) (after : List ℕ) (waiting byte ready next : ℕ) → after ≡ a.after.items → byte < 128 → ready ≡ bit_and waiting (get_or a.ascii.items byte 0)
+    → ((q : ℕ) → Holds next q ↔ WaitsBehind after ready q) → IsStep (map place_of a.places.items) waiting byte next
+ready_step a after waiting byte ready next same few is behind =
+    masked_step a.places.items after a.ascii.items waiting byte next (same ∙ a.behind) a.masks (omega (arith, few, a.all))
+    (subst (λ n. (q : ℕ) → Holds next q ↔ WaitsBehind after n q) is behind)
+
+none_waits : (after : List ℕ) (q : ℕ) → Holds 0 q ↔ WaitsBehind after 0 q
+none_waits after q = ((λ h. let z = bit_at-zero q in absurd (omega (arith, z, h))), (λ w. let z = bit_at-zero w.number in let h = w.is_ready in absurd (omega (arith, z, h))))
+
+-- where no place is ready the text leads nowhere
+pub none_ready : (a : Automaton) (waiting byte ready : ℕ) (text : List ℕ) → byte < 128 → ready ≡ bit_and waiting (get_or a.ascii.items byte 0) → ready ≡ 0 → Leads (map place_of a.places.items) waiting (byte ∷ text) → ⊥
+none_ready a waiting byte ready text few is none h =
+    let step = ready_step a a.after.items waiting byte 0 0 refl few (sym none ∙ is) (none_waits a.after.items) in
+    leads_nowhere (map place_of a.places.items) text ((stepped (map place_of a.places.items) waiting 0 byte text step).0 h)

@@ -1,7 +1,0 @@
-use Rattle.std.proofs.Common.{◌↔◌, drop, map}
-use Rattle.jp_iregexp.specs.Places.{Leads}
-use Rattle.jp_iregexp.specs.Layouts.{place_of}
-use Rattle.jp_iregexp.proofs.automaton.Automaton.accepts_ascii.Given as goal
-
-abbrev pub invariant-loop-scalar : goal.invariant-loop-scalar
-invariant-loop-scalar l = Leads (map place_of l.self.places.items) l.waiting (drop l.scalar-index l.text) ↔ Leads (map place_of l.self.places.items) l.self.starts l.text

@@ -1,7 +1,0 @@
-use Rattle.std.proofs.Common.{drop, map}
-use Rattle.jp_iregexp.specs.Layouts.{place_of}
-use Rattle.jp_iregexp.proofs.Finding.{IsFinding}
-use Rattle.jp_iregexp.proofs.automaton.Automaton.finds_ascii.Given as goal
-
-abbrev pub invariant-loop-scalar : goal.invariant-loop-scalar
-invariant-loop-scalar l = IsFinding (map place_of l.self.places.items) l.self.starts l.waiting (drop l.scalar-index l.text) l.text
