@@ -15,6 +15,7 @@ use Rattle.jp_query.specs.declared.tree.Logical.{Logical, fold-roll-Logical}
 use Rattle.jp_query.specs.declared.tree.Logical.TheVariants as logicals
 use Rattle.jp_query.specs.declared.tree.Argument.TheOpen.{Logical-F, Selector-F, Segment-F, Comparable-F}
 use Rattle.jp_eval.specs.Programs.{Table, slot_in, choice_step, condition_step, given_step, nodes_step, side_step, step_step, invoked_step, choice_view, condition_view, given_view, nodes_view, side_view, step_view, invoked_view, steps_view, choices_view, conditions_view, givens_view}
+use Rattle.jp_eval.specs.declared.leaves.Constant.{Constant}
 use Rattle.jp_eval.specs.declared.leaves.LiteralPattern.{LiteralPattern}
 use Rattle.jp_eval.specs.declared.leaves.MemberName.{MemberName}
 use Rattle.jp_eval.specs.declared.program.Step.{Step, fold-roll-Step}
@@ -89,6 +90,9 @@ exists_is table x = ap (condition_view table) (sym (conditions.rolls-Exists x)) 
 
 pub test_is : (table : Table) (x : Invoked) → condition_view table (conditions.Test x) ≡ syntax.test (invoked_view table x)
 test_is table x = ap (condition_view table) (sym (conditions.rolls-Test x)) ∙ fold-roll-Condition syntax.Selector syntax.Logical syntax.Argument syntax.Path syntax.Comparable syntax.Segment syntax.Call choice_step condition_step given_step (nodes_step table) side_step step_step invoked_step (Condition-F.Test x)
+
+pub constant_is : (table : Table) (x : Constant) → side_view table (sides.Constant x) ≡ syntax.constant (literal_view x.literal)
+constant_is table x = ap (side_view table) (sym (sides.rolls-Constant x)) ∙ fold-roll-Side syntax.Selector syntax.Logical syntax.Argument syntax.Path syntax.Comparable syntax.Segment syntax.Call choice_step condition_step given_step (nodes_step table) side_step step_step invoked_step (Side-F.Side::Constant x)
 
 pub single_is : (table : Table) (x : Nodes) → side_view table (sides.Single x) ≡ syntax.single (nodes_view table x)
 single_is table x = ap (side_view table) (sym (sides.rolls-Single x)) ∙ fold-roll-Side syntax.Selector syntax.Logical syntax.Argument syntax.Path syntax.Comparable syntax.Segment syntax.Call choice_step condition_step given_step (nodes_step table) side_step step_step invoked_step (Side-F.Single x)

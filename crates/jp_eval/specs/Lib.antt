@@ -9,3 +9,4 @@ pub mod Compiled
 pub mod Answers
 pub mod Frames
 pub mod Steps
+pub mod MemberTests

@@ -9,6 +9,7 @@ mod evaluate;
 mod frame;
 mod functions;
 mod leaves;
+mod member;
 mod program;
 mod rooted;
 mod run;

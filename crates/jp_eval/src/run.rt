@@ -14,6 +14,7 @@ ghost use Rattle.jp_tape.specs.Cursors.{line_of, node_of};
 ghost use Rattle.jp_eval.specs.Expressions.{all_are, IsSameForAll};
 ghost use Rattle.jp_eval.specs.Found.{node_list, AreOf};
 ghost use Rattle.jp_eval.specs.Frames.{table_in, tree_in, reached, passes_given, AreKept, Stands, Pushes, Lends};
+ghost use Rattle.jp_eval.specs.MemberTests.{tested};
 ghost use Rattle.jp_eval.specs.Programs.{choices_view, choice_view, conditions_view, condition_view, side_view, nodes_view, invoked_view, given_view};
 ghost use Rattle.jp_eval.specs.Walks.{rises};
 ghost use Rattle.jp_values.specs.Values.{value_view, is_sound_value};
@@ -23,6 +24,7 @@ use crate::children::{Rising, Slice, find_element, find_falling, find_member};
 use crate::direct::{compare_end, match_end};
 use crate::frame::{Answer, Frame, Run};
 use crate::functions::{Function, in_pattern, length_of, read_passes};
+use crate::member::{MemberTest, member_test};
 use crate::program::{Choice, Condition, Given, Invoked, Nodes, Side, Step};
 use crate::rooted::asks_root_alone;
 use crate::singular::{singular_child, value_of};
@@ -300,6 +302,9 @@ fn push_filtered<'a>(
     if asks_root_alone(condition) {
         return push_all_or_none(run, condition, rest, node, most, frame);
     }
+    if let Some(test) = member_test(condition) {
+        return push_tested(run, test, rest, node, most, frame);
+    }
     run.prepare(frame)?;
     let mut next = node.first_child();
     while let Some(child) = next {
@@ -307,6 +312,34 @@ fn push_filtered<'a>(
             return Ok(());
         }
         if holds(run, condition, child, frame)? {
+            push_steps(run, rest, child, most, frame)?;
+        }
+        next = child.next_sibling();
+    }
+    Ok(())
+}
+
+/// Adds what the steps select from each child of which the test of a member holds.
+#[cycle(eval)]
+#[inline(never)]
+fn push_tested<'a>(
+    run: Run<'_, 'a>,
+    test: MemberTest<'_>,
+    rest: &[Step],
+    node: Cursor<'a>,
+    most: usize,
+    frame: &mut Frame<'a>,
+) -> Result<(), AllocError>
+    requires stands { Stands run node frame.old }
+    requires room { length frame.old.found.items ≤ most }
+    ensures { Pushes run.entry most frame.old frame.new result (reached run.entry rest.now (filter (tested test.entry) (children (node_of node.entry)))) }
+{
+    let mut next = node.first_child();
+    while let Some(child) = next {
+        if frame.found.len() == most {
+            return Ok(());
+        }
+        if test.holds_of(run.alloc, child)? {
             push_steps(run, rest, child, most, frame)?;
         }
         next = child.next_sibling();

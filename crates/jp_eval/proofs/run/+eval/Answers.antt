@@ -17,6 +17,7 @@ use Rattle.jp_values.specs.Values.{value_view}
 use Rattle.jp_eval.specs.Found.{node_list}
 use Rattle.jp_eval.specs.Frames.{table_in, passes_given, AreKept}
 use Rattle.jp_eval.specs.Functions.{passing}
+use Rattle.jp_eval.specs.MemberTests.{tested}
 use Rattle.jp_eval.specs.Programs.{steps_view, choices_view, choice_view, condition_view, nodes_view, invoked_view, given_view}
 use Rattle.jp_eval.specs.Walks.{IsAt, rises}
 use Rattle.jp_eval.specs.declared.frame.Answer.{Answer}
@@ -36,7 +37,7 @@ use Rattle.jp_eval.proofs.Calls.{called, match_called, search_called, few_called
 use Rattle.jp_eval.proofs.Compiled.{name_is, index_is, slice_is, nodes_given, pattern_given}
 use Rattle.jp_eval.proofs.Counts.{counted_so, single_found, none_single}
 use Rattle.jp_eval.proofs.Descendants.{below_at}
-use Rattle.jp_eval.proofs.Goes.{Goes, others_are, goes_from, is_done, is_full, now_is, filter_taken, filter_passed, filter_all, filter_none, nothing_added}
+use Rattle.jp_eval.proofs.Goes.{Goes, others_are, goes_from, is_done, is_full, now_is, filter_taken, filter_passed, filter_alike, filter_all, filter_none, nothing_added}
 use Rattle.jp_eval.proofs.Kept.{adds_none, adds_more, cut_back, line_on, line_of_some}
 use Rattle.jp_eval.proofs.Lists.{item_at, one_item, two_items}
 use Rattle.jp_eval.proofs.Patterns.{told, one_proof}
@@ -49,7 +50,7 @@ use Rattle.std.proofs.lemmas.List.{drop_all}
 use Rattle.std.specs.Str.{chars}
 use mir.Val.{to_z, of_z}
 use Rattle.jp_eval.proofs.run.+eval.Goals as goal
-use Rattle.jp_eval.proofs.run.+eval.Goals.{push_filtered-then-branch+in_ok-push_steps, push_filtered-else-branch, call_value-in_default-via-then-as_slice-lt1, call_value-in_default-via-else-as_slice-lt1+else-this-lt2, call_truth-in-Some-Match, call_truth-in-Some-Search, push_rising-then-has+in_ok-push_steps, push_rising-else-has, push_rising-then-len-most-via-then-len-most, push_rising-then-len-most-via-else-len-most+then-ends_before, find_single-then-len-before, find_single-else-len-before}
+use Rattle.jp_eval.proofs.run.+eval.Goals.{push_filtered-then-branch+in_ok-push_steps, push_filtered-else-branch, push_tested-then-branch+in_ok-push_steps, push_tested-else-branch, call_value-in_default-via-then-as_slice-lt1, call_value-in_default-via-else-as_slice-lt1+else-this-lt2, call_truth-in-Some-Match, call_truth-in-Some-Search, push_rising-then-has+in_ok-push_steps, push_rising-else-has, push_rising-then-len-most-via-then-len-most, push_rising-then-len-most-via-else-len-most+then-ends_before, find_single-then-len-before, find_single-else-len-before}
 
 -- ---- the last step
 
@@ -141,11 +142,11 @@ push_filtered-loop-next-preserved t c =
     let u : Tree = (node_of c.args.run.root.now).tree in
     let ss : Segments = steps_view (table_in c.args.run) c.args.rest.now in
     let p = λ (n : Node). truth (condition_view (table_in c.args.run) c.args.condition.now) n u in
-    let child : Cursor = c.in-Some.child in
+    let child : Cursor = c.in-Some-next.child in
     let kept = c.loop-next.invariant in
     let next : Option Cursor = c.next_sibling-next.result in
     let here : Goes (line_of c.args.run.root.now) c.args.most c.args.frame.now.found.items c.holds.new.frame.found.items (nodes ss (filter p (node_of child ∷ nodes_after child)) u) (nodes ss (filter p (children (node_of c.args.node))) u) =
-    now_is c.holds.new.frame.found.items c.in_ok-holds.ensures.lends.same (others_are (nodes ss (filter p (nodes_from (Some child))) u) (ap (λ (o : Option Cursor). nodes ss (filter p (nodes_from o)) u) c.in-Some.is) kept.goes) in
+    now_is c.holds.new.frame.found.items c.in_ok-holds.ensures.lends.same (others_are (nodes ss (filter p (nodes_from (Some child))) u) (ap (λ (o : Option Cursor). nodes ss (filter p (nodes_from o)) u) c.in-Some-next.is) kept.goes) in
     let goes : Goes (line_of c.args.run.root.now) c.args.most c.args.frame.now.found.items c.if-branch.frame.found.items (nodes ss (filter p (nodes_after child)) u) (nodes ss (filter p (children (node_of c.args.node))) u) =
     elim c.if-branch.branch [
       | push_filtered-then-branch+in_ok-push_steps w ↦
@@ -165,7 +166,7 @@ push_filtered-loop-next-preserved t c =
         | push_filtered-then-branch+in_ok-push_steps w ↦ subst (λ (f : Frame). AreKept c.args.run f.answers.items) (sym w.frame-is) w.in_ok-push_steps.ensures.kept
         | push_filtered-else-branch w ↦ subst (λ (f : Frame). AreKept c.args.run f.answers.items) (sym w.frame-is) c.in_ok-holds.ensures.lends.kept
       ];
-      line = line_on next _ _ c.next_sibling-next.ensures.line (line_of_some _ child _ c.in-Some.is kept.line);
+      line = line_on next _ _ c.next_sibling-next.ensures.line (line_of_some _ child _ c.in-Some-next.is kept.line);
     }
 
 pub push_filtered-returns : goal.push_filtered-returns
@@ -173,7 +174,66 @@ push_filtered-returns t c =
     let u : Tree = (node_of c.args.run.root.now).tree in
     let ss : Segments = steps_view (table_in c.args.run) c.args.rest.now in
     let p = λ (n : Node). truth (condition_view (table_in c.args.run) c.args.condition.now) n u in
-    record { adds = c.loop-next.invariant.goes.kept; kept = c.loop-next.invariant.kept; nodes = is_done c.loop-next.invariant.goes (ap (λ (o : Option Cursor). nodes ss (filter p (nodes_from o)) u) c.in_default.is ∙ no_nodes ss u) }
+    record { adds = c.loop-next.invariant.goes.kept; kept = c.loop-next.invariant.kept; nodes = is_done c.loop-next.invariant.goes (ap (λ (o : Option Cursor). nodes ss (filter p (nodes_from o)) u) c.in_default-next.is ∙ no_nodes ss u) }
+
+pub push_filtered-returns-in-Some : goal.push_filtered-returns-in-Some
+push_filtered-returns-in-Some t c =
+    let u : Tree = (node_of c.args.run.root.now).tree in
+    let ss : Segments = steps_view (table_in c.args.run) c.args.rest.now in
+    let p = λ (n : Node). truth (condition_view (table_in c.args.run) c.args.condition.now) n u in
+    let same : filter (tested c.in-Some.test) (children (node_of c.args.node)) ≡ filter p (children (node_of c.args.node)) =
+    filter_alike (tested c.in-Some.test) p (children (node_of c.args.node)) (λ n. sym (c.in-Some.ensures (table_in c.args.run) n u)) in
+    record {
+      adds = c.push_tested.ensures.adds;
+      kept = c.push_tested.ensures.kept;
+      nodes = subst (λ (l : List Node). OnOk c.push_tested.result (map node_of c.push_tested.new.frame.found.items ≡ take c.args.most (map node_of c.args.frame.now.found.items ++ nodes ss l u))) same c.push_tested.ensures.nodes;
+    }
+
+-- ---- tests of a member
+
+pub push_tested-returns-in_err-holds_of : goal.push_tested-returns-in_err-holds_of
+push_tested-returns-in_err-holds_of t c = record { adds = c.loop-next.invariant.goes.kept; kept = c.loop-next.invariant.kept; nodes = search rules }
+
+pub push_tested-returns-in_err-push_steps : goal.push_tested-returns-in_err-push_steps
+push_tested-returns-in_err-push_steps t c = record { adds = adds_more c.loop-next.invariant.goes.kept c.in_err-push_steps.ensures.adds; kept = c.in_err-push_steps.ensures.kept; nodes = search rules }
+
+pub push_tested-loop-next-preserved : goal.push_tested-loop-next-preserved
+push_tested-loop-next-preserved t c =
+    let u : Tree = (node_of c.args.run.root.now).tree in
+    let ss : Segments = steps_view (table_in c.args.run) c.args.rest.now in
+    let p = tested c.args.test in
+    let child : Cursor = c.in-Some.child in
+    let kept = c.loop-next.invariant in
+    let next : Option Cursor = c.next_sibling-next.result in
+    let here : Goes (line_of c.args.run.root.now) c.args.most c.args.frame.now.found.items c.loop-next.frame.found.items (nodes ss (filter p (node_of child ∷ nodes_after child)) u) (nodes ss (filter p (children (node_of c.args.node))) u) =
+    others_are (nodes ss (filter p (nodes_from (Some child))) u) (ap (λ (o : Option Cursor). nodes ss (filter p (nodes_from o)) u) c.in-Some.is) kept.goes in
+    let goes : Goes (line_of c.args.run.root.now) c.args.most c.args.frame.now.found.items c.if-branch.frame.found.items (nodes ss (filter p (nodes_after child)) u) (nodes ss (filter p (children (node_of c.args.node))) u) =
+    elim c.if-branch.branch [
+      | push_tested-then-branch+in_ok-push_steps w ↦
+          (let taken : p (node_of child) ≡ true = sym c.in_ok-holds_of.ensures ∙ w.if-branch.true in
+          now_is c.if-branch.frame.found.items (ap (λ (v : Frame). v.found.items) w.frame-is)
+          (goes_from w.push_steps.new.frame.found.items ss u (node_of child ∷ []) (filter p (nodes_after child))
+          (others_are (nodes ss (node_of child ∷ filter p (nodes_after child)) u) (ap (λ (l : List Node). nodes ss l u) (filter_taken p (node_of child) (nodes_after child) taken)) here)
+          w.in_ok-push_steps.ensures.adds w.in_ok-push_steps.ensures.nodes))
+      | push_tested-else-branch w ↦
+          (let passed : p (node_of child) ≡ false = sym c.in_ok-holds_of.ensures ∙ w.if-branch.false in
+          now_is c.if-branch.frame.found.items (ap (λ (v : Frame). v.found.items) w.frame-is)
+          (others_are (nodes ss (filter p (nodes_after child)) u) (ap (λ (l : List Node). nodes ss l u) (filter_passed p (node_of child) (nodes_after child) passed)) here))
+    ] in
+    record {
+      goes = others_are (nodes ss (filter p (nodes_from next)) u) (ap (λ (l : List Node). nodes ss (filter p l) u) (sym c.next_sibling-next.ensures.nodes)) goes;
+      kept = elim c.if-branch.branch [
+        | push_tested-then-branch+in_ok-push_steps w ↦ subst (λ (f : Frame). AreKept c.args.run f.answers.items) (sym w.frame-is) w.in_ok-push_steps.ensures.kept
+        | push_tested-else-branch w ↦ subst (λ (f : Frame). AreKept c.args.run f.answers.items) (sym w.frame-is) kept.kept
+      ];
+      line = line_on next _ _ c.next_sibling-next.ensures.line (line_of_some _ child _ c.in-Some.is kept.line);
+    }
+
+pub push_tested-returns : goal.push_tested-returns
+push_tested-returns t c =
+    let u : Tree = (node_of c.args.run.root.now).tree in
+    let ss : Segments = steps_view (table_in c.args.run) c.args.rest.now in
+    record { adds = c.loop-next.invariant.goes.kept; kept = c.loop-next.invariant.kept; nodes = is_done c.loop-next.invariant.goes (ap (λ (o : Option Cursor). nodes ss (filter (tested c.args.test) (nodes_from o)) u) c.in_default.is ∙ no_nodes ss u) }
 
 -- ---- all children, or none
 
