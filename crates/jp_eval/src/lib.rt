@@ -11,6 +11,7 @@ mod functions;
 mod leaves;
 mod member;
 mod program;
+mod push;
 mod rooted;
 mod run;
 mod singular;

@@ -26,34 +26,13 @@ use crate::frame::{Answer, Frame, Run};
 use crate::functions::{Function, in_pattern, length_of, read_passes};
 use crate::member::{MemberTest, member_test};
 use crate::program::{Choice, Condition, Given, Invoked, Nodes, Side, Step};
+use crate::push::push_end;
 use crate::rooted::asks_root_alone;
 use crate::singular::{singular_child, value_of};
 use jp_query::CompareOp;
 use jp_tape::Cursor;
 use jp_values::{Value, compare_in};
 use std::alloc::AllocError;
-
-/// Adds the node, where there is one, as long as fewer nodes than `most` were found.
-#[inline(always)]
-fn push_end<'a>(
-    run: Run<'_, 'a>,
-    end: Option<Cursor<'a>>,
-    most: usize,
-    frame: &mut Frame<'a>,
-) -> Result<(), AllocError>
-    requires line { IfSome end (λ c. line_of c ≡ line_of run.root.now) }
-    requires kept { AreKept run frame.old.answers.items }
-    requires room { length frame.old.found.items ≤ most }
-    ensures { Pushes run.entry most frame.old frame.new result (node_list end.entry) }
-{
-    let Some(node) = end else {
-        return Ok(());
-    };
-    if frame.found.len() < most {
-        frame.found.push(node)?;
-    }
-    Ok(())
-}
 
 /// Adds what the steps select from a node, as long as fewer nodes than `most` were found. Where none is left, that is the node.
 #[cycle(eval)]
