@@ -62,7 +62,7 @@ impl<'p> MemberTest<'p> {
 }
 
 /// The name, where a step leads to the member of one name.
-fn name_of_step(step: &Step) -> Option<&MemberName>
+pub(crate) fn name_of_step(step: &Step) -> Option<&MemberName>
     ensures { (table : Table) (n : Node) (t : Tree) → IfSome result (λ name. segment_nodes (step_view table step.now) n t ≡ named (chars (string_bytes name.now.text)) n) }
 {
     let Step::Child(choices) = step else {

@@ -24,9 +24,9 @@ use crate::children::{Rising, Slice, find_element, find_falling, find_member};
 use crate::direct::{compare_end, match_end};
 use crate::frame::{Answer, Frame, Run};
 use crate::functions::{Function, in_pattern, length_of, read_passes};
-use crate::member::{MemberTest, member_test};
+use crate::member::{MemberTest, member_test, name_of_step};
 use crate::program::{Choice, Condition, Given, Invoked, Nodes, Side, Step};
-use crate::push::push_end;
+use crate::push::{push_end, push_members};
 use crate::rooted::asks_root_alone;
 use crate::singular::{singular_child, value_of};
 use jp_query::CompareOp;
@@ -313,6 +313,11 @@ fn push_tested<'a>(
     requires room { length frame.old.found.items ≤ most }
     ensures { Pushes run.entry most frame.old frame.new result (reached run.entry rest.now (filter (tested test.entry) (children (node_of node.entry)))) }
 {
+    if let [step] = rest
+        && let Some(name) = name_of_step(step)
+    {
+        return push_members(run, test, name, node, most, frame);
+    }
     let mut next = node.first_child();
     while let Some(child) = next {
         if frame.found.len() == most {

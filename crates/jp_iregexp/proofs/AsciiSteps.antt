@@ -1,5 +1,5 @@
 -- Steps over the bytes of a text, as far as they are ASCII.
-use Rattle.std.proofs.Common.{◌≡◌, ℕ, zero, suc, ◌+◌, ◌<◌, ◌↔◌, List, [], ◌∷◌, ◌++◌, length, drop, map, get_or, slice_index, bit_and, arith, refl, sym, ◌∙◌, ap, subst}
+use Rattle.std.proofs.Common.{◌≡◌, ℕ, zero, suc, ◌+◌, ◌<◌, ◌↔◌, List, [], ◌∷◌, ◌++◌, length, drop, map, get_or, slice_index, bit_and, arith, sym, ◌∙◌, ap, subst}
 use Rattle.std.proofs.lemmas.List.{drop_more}
 use Rattle.std.proofs.lemmas.Nat.Bits.{bit_at-zero}
 use Rattle.std.proofs.lemmas.Str.{chars-append, chars-IsAscii, IsUtf8-from_ascii}
@@ -28,17 +28,21 @@ pub ascii_cut : (text bytes : List ℕ) (i : ℕ) → bytes ≡ text → i < len
 ascii_cut text bytes i same inside few = subst (λ (l : List ℕ). chars (drop i l) ≡ slice_index bytes i ∷ chars (drop (i + 1) l)) same (ap chars (drop_more bytes i 0 inside) ∙ ascii_first (slice_index bytes i) (drop (i + 1) bytes) few)
 
 -- the places that wait behind those that are ready
-pub ready_step : (a : Automaton) (after : List ℕ) (waiting byte ready next : ℕ) → after ≡ a.after.items → byte < 128 → ready ≡ bit_and waiting (get_or a.ascii.items byte 0)
-    → ((q : ℕ) → Holds next q ↔ WaitsBehind after ready q) → IsStep (map place_of a.places.items) waiting byte next
-ready_step a after waiting byte ready next same few is behind =
-    masked_step a.places.items after a.ascii.items waiting byte next (same ∙ a.behind) a.masks (omega (arith, few, a.all))
-    (subst (λ n. (q : ℕ) → Holds next q ↔ WaitsBehind after n q) is behind)
+pub ready_step : (a : Automaton) (waiting byte ready next : ℕ) → byte < 128 → ready ≡ bit_and waiting (get_or a.ascii.items byte 0)
+    → ((q : ℕ) → Holds next q ↔ WaitsBehind a.after.items ready q) → IsStep (map place_of a.places.items) waiting byte next
+ready_step a waiting byte ready next few is behind =
+    masked_step a.places.items a.after.items a.ascii.items waiting byte next a.behind a.masks (omega (arith, few, a.all))
+    (subst (λ n. (q : ℕ) → Holds next q ↔ WaitsBehind a.after.items n q) is behind)
 
 none_waits : (after : List ℕ) (q : ℕ) → Holds 0 q ↔ WaitsBehind after 0 q
 none_waits after q = ((λ h. let z = bit_at-zero q in absurd (omega (arith, z, h))), (λ w. let z = bit_at-zero w.number in let h = w.is_ready in absurd (omega (arith, z, h))))
 
--- where no place is ready the text leads nowhere
+-- where no place is ready nothing waits behind the scalar
+pub none_behind : (a : Automaton) (waiting byte ready : ℕ) → byte < 128 → ready ≡ bit_and waiting (get_or a.ascii.items byte 0) → ready ≡ 0 → IsStep (map place_of a.places.items) waiting byte 0
+none_behind a waiting byte ready few is none = ready_step a waiting byte 0 0 few (sym none ∙ is) (none_waits a.after.items)
+
+-- and the text leads nowhere
 pub none_ready : (a : Automaton) (waiting byte ready : ℕ) (text : List ℕ) → byte < 128 → ready ≡ bit_and waiting (get_or a.ascii.items byte 0) → ready ≡ 0 → Leads (map place_of a.places.items) waiting (byte ∷ text) → ⊥
 none_ready a waiting byte ready text few is none h =
-    let step = ready_step a a.after.items waiting byte 0 0 refl few (sym none ∙ is) (none_waits a.after.items) in
+    let step = none_behind a waiting byte ready few is none in
     leads_nowhere (map place_of a.places.items) text ((stepped (map place_of a.places.items) waiting 0 byte text step).0 h)

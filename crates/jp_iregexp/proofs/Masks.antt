@@ -1,8 +1,8 @@
 -- Steps by the masks of the scalars.
-use Rattle.std.proofs.Common.{◌≡◌, ◌≢◌, ℕ, zero, suc, ◌+◌, ◌-◌, ◌*◌, ◌/◌, ◌%◌, ◌^◌, ◌<◌, ◌≤◌, ◌⊎◌, inl, inr, ◌↔◌, IsTrue, List, [], ◌∷◌, ◌++◌, length, map, get_or, Some, bit_or, bit_and, Bool, w64, arith, refl, sym, ◌∙◌, ap, subst}
+use Rattle.std.proofs.Common.{◌≡◌, ◌≢◌, ℕ, zero, suc, ◌+◌, ◌-◌, ◌*◌, ◌%◌, ◌^◌, ◌<◌, ◌≤◌, ◌⊎◌, inl, inr, ◌↔◌, IsTrue, List, [], ◌∷◌, ◌++◌, length, map, get_or, Some, bit_or, bit_and, Bool, w64, arith, refl, sym, ◌∙◌, ap, subst}
 use Rattle.std.specs.Int.{trailing_zeros, Width}
 use mir.Val.{bits}
-use Rattle.std.proofs.lemmas.Nat.Bits.{bit_at_and, bit_at-lt, bit_at-zero, bit_at_set_same, bit_at_set_other, shr_and_one}
+use Rattle.std.proofs.lemmas.Nat.Bits.{bit_at_and, bit_at-lt, bit_at-zero, bit_at_set_same, bit_at_set_other}
 use Rattle.jp_model.specs.Pattern.Classes.{in_class}
 use Rattle.jp_iregexp.specs.declared.automaton.Place.{Place as ProgramPlace}
 use Rattle.jp_iregexp.specs.Places.{Place, Holds, place_at, IsStep, waits_for, AreMasks, AreCodes, WaitsBehind}
@@ -174,11 +174,3 @@ mask_more places masks more mask scalar is at m all = subst (AreMasks places) (s
   | inl e ↦ subst (λ w. Holds w p ↔ IsTrue (waits_for places p c)) (sym (last_mask masks mask c (e ∙ at))) (subst (λ k. Holds mask p ↔ IsTrue (waits_for places p k)) (sym e) (m p))
   | inr d ↦ (let f : c ≢ scalar = d in let less : c < length masks = (let s = size masks mask in omega (arith, s, f)) in subst (λ w. Holds w p ↔ IsTrue (waits_for places p c)) (sym (earlier_mask masks mask c less)) (all c p less))
 ])
-
--- ---- the end
-
-pub end_is_seen : (set : ℕ) → bit_and (set / 9223372036854775808) 1 ≡ 1 → Holds set 63
-end_is_seen set h = sym (shr_and_one set 63) ∙ h
-
-pub end_is_shown : (set : ℕ) → Holds set 63 → bit_and (set / 9223372036854775808) 1 ≡ 1
-end_is_shown set h = shr_and_one set 63 ∙ h

@@ -1,5 +1,5 @@
 -- A pattern as places, each of which waits for one scalar of its class, and what a text leads to.
-use Rattle.std.specs.Prelude.{ℕ, zero, suc, ◌≡◌, ◌<◌, ◌↔◌, get_or, Bool, true, false, if◌then◌else◌, IsTrue, List, [], ◌∷◌, ◌++◌, length, Option, Some, None}
+use Rattle.std.specs.Prelude.{ℕ, zero, suc, ◌≡◌, ◌<◌, ◌^◌, ◌==◌, ◌↔◌, get_or, Bool, true, false, if◌then◌else◌, IsTrue, List, [], ◌∷◌, ◌++◌, length, Option, Some, None}
 use Rattle.std.specs.Int.{bit_at}
 use Rattle.std.specs.Int.RustNames.{bit_or}
 use Rattle.jp_model.specs.Pattern.Tree.{CharClass, Pattern}
@@ -83,6 +83,15 @@ pub record WaitsBehind (after : List ℕ) (ready q : ℕ) : Type 0 where
   pub number : ℕ
   pub is_ready : Holds ready number
   pub waits : Holds (get_or after number 0) q
+
+-- the set has the place before this one, and nothing else
+abbrev pub is_link : (set number : ℕ) → Bool
+is_link set zero = false
+is_link set (suc p) = set == 2 ^ p
+
+-- only the place with the number before waits behind the place
+abbrev pub is_chained : List ℕ → ℕ → Bool
+is_chained after p = is_link (get_or after p 0) p
 
 -- from the start the places lead over the texts of the pattern's set, and no others
 abbrev pub Accepts : List Place → ℕ → Pattern → Type 0

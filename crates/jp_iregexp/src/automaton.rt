@@ -5,7 +5,7 @@ ghost use Rattle.std.specs.Prelude.{◌≡◌, ◌↔◌, ◌<◌, ◌≤◌, �
 ghost use Rattle.std.specs.Option.{IfSome};
 ghost use Rattle.std.specs.Str.{chars};
 ghost use Rattle.jp_model.specs.Pattern.Language.{Occurs};
-ghost use Rattle.jp_iregexp.specs.Places.{AreMasks, AreSets, Holds, IsPassed, IsStep, Leads, WaitsBehind, waits_for};
+ghost use Rattle.jp_iregexp.specs.Places.{AreMasks, AreSets, Holds, IsPassed, IsStep, Leads, WaitsBehind, is_chained, is_link, waits_for};
 ghost use Rattle.jp_iregexp.specs.Layouts.{place_of};
 
 use crate::class::Class;
@@ -32,9 +32,12 @@ pub(crate) struct Automaton {
     pub(crate) starts: u64,
     /// By place what waits behind it.
     after: Vec<u64>,
+    /// The places behind which only the one with the number before waits.
+    chained: u64,
     /// By ASCII scalar the places whose class has it.
     ascii: Vec<u64>,
     ghost behind: { after.items ≡ map (λ p. p.after) places.items },
+    ghost links: { (p : ℕ) → Holds chained p ↔ IsTrue (is_chained after.items p) },
     ghost masks: { AreMasks (map place_of places.items) ascii.items },
     ghost all: { length ascii.items ≡ 128 },
 }
@@ -52,10 +55,12 @@ impl Automaton {
     {
         let after = words_after(alloc, places.as_slice())?;
         let ascii = ascii_masks(alloc, places.as_slice())?;
+        let chained = chained(after.as_slice());
         Ok(Automaton {
             places,
             starts,
             after,
+            chained,
             ascii,
         })
     }
@@ -77,7 +82,16 @@ impl Automaton {
         requires { scalar < 128 }
         ensures { IsStep (map place_of self.now.places.items) waiting scalar result }
     {
-        behind(self.after.as_slice(), waiting & self.ascii[scalar as usize])
+        self.behind(waiting & self.ascii[scalar as usize])
+    }
+
+    /// What waits behind any of the places that are ready. Those that are chained move on at once.
+    #[inline(always)]
+    fn behind(&self, ready: u64) -> u64
+        ensures { (q : ℕ) → Holds result q ↔ WaitsBehind self.now.after.items ready q }
+    {
+        let moved = (ready & self.chained) >> 1;
+        moved | behind_each(self.after.as_slice(), ready & !self.chained)
     }
 
     /// Of the places that wait those that take an ASCII scalar. None where the byte is none.
@@ -105,9 +119,9 @@ impl Automaton {
             if ready == 0 {
                 return false;
             }
-            waiting = behind(self.after.as_slice(), ready);
+            waiting = self.behind(ready);
         }
-        (waiting >> 63) & 1 == 1
+        has_end(waiting)
     }
 
     /// The same, of any text.
@@ -122,7 +136,7 @@ impl Automaton {
                 return false;
             }
         }
-        (waiting >> 63) & 1 == 1
+        has_end(waiting)
     }
 
     /// Whether a part of the text leads from the start to the end. No scalar is decoded, up to the first that is not ASCII.
@@ -131,16 +145,23 @@ impl Automaton {
         ensures { IsTrue result ↔ Occurs (Leads (map place_of self.now.places.items) self.now.starts) (chars text.now) }
     {
         let mut waiting = self.starts;
+        if has_end(waiting) {
+            return true;
+        }
         for byte in text.as_bytes() {
-            if (waiting >> 63) & 1 == 1 {
-                return true;
-            }
             let Some(ready) = self.ready(waiting, *byte) else {
                 return self.finds_any(text);
             };
-            waiting = behind(self.after.as_slice(), ready) | self.starts;
+            if ready == 0 {
+                waiting = self.starts;
+            } else {
+                waiting = self.behind(ready) | self.starts;
+                if has_end(waiting) {
+                    return true;
+                }
+            }
         }
-        (waiting >> 63) & 1 == 1
+        false
     }
 
     /// The same, of any text.
@@ -150,13 +171,21 @@ impl Automaton {
     {
         let mut waiting = self.starts;
         for scalar in text.chars() {
-            if (waiting >> 63) & 1 == 1 {
+            if has_end(waiting) {
                 return true;
             }
             waiting = self.step(waiting, scalar) | self.starts;
         }
-        (waiting >> 63) & 1 == 1
+        has_end(waiting)
     }
+}
+
+/// Whether the end of the text is in the set.
+#[inline(always)]
+fn has_end(set: u64) -> bool
+    ensures { IsTrue result ↔ Holds set 63 }
+{
+    (set >> 63) & 1 == 1
 }
 
 fn words_after(alloc: Global, places: &[Place]) -> Result<Vec<u64>, AllocError>
@@ -168,6 +197,29 @@ fn words_after(alloc: Global, places: &[Place]) -> Result<Vec<u64>, AllocError>
         words.push(place.after)?;
     }
     Ok(words)
+}
+
+// The places behind which only the one with the number before waits. A part is laid out in front of what waits behind it, so
+// most are.
+fn chained(after: &[u64]) -> u64
+    requires { length after.now ≤ 63 }
+    ensures { (p : ℕ) → Holds result p ↔ IsTrue (is_chained after.now p) }
+{
+    let mut all = 0;
+    for (number, word) in after.iter().enumerate() {
+        if is_link(*word, number) {
+            all |= 1 << number;
+        }
+    }
+    all
+}
+
+// Whether the word has the number before alone.
+fn is_link(word: u64, number: usize) -> bool
+    requires { number < 64 }
+    ensures { result ≡ is_link word number }
+{
+    number > 0 && word == 1 << (number - 1)
 }
 
 // By ASCII scalar the places that wait for it.
@@ -212,9 +264,9 @@ fn having(_places: &[Place], sets: &[u128], code: u8) -> u64
     all
 }
 
-// What waits behind any of the places that are ready.
+// What waits behind any of the places that are ready: each of them is asked.
 #[inline(always)]
-fn behind(after: &[u64], ready: u64) -> u64
+fn behind_each(after: &[u64], ready: u64) -> u64
     ensures { (q : ℕ) → Holds result q ↔ WaitsBehind after.now ready q }
 {
     let mut next = 0;

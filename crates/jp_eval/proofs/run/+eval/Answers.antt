@@ -41,13 +41,14 @@ use Rattle.jp_eval.proofs.Goes.{Goes, others_are, goes_from, is_done, is_full, n
 use Rattle.jp_eval.proofs.Kept.{adds_none, adds_more, cut_back, line_on, line_of_some}
 use Rattle.jp_eval.proofs.Lists.{item_at, one_item, two_items}
 use Rattle.jp_eval.proofs.Patterns.{told, one_proof}
-use Rattle.jp_eval.proofs.SingularSteps.{last_goes}
+use Rattle.jp_eval.proofs.SingularSteps.{last_goes, last_goes_from}
 use Rattle.jp_eval.proofs.Sizes.{size_of_selectors}
 use Rattle.jp_eval.proofs.Slices.{none_risen}
 use Rattle.jp_eval.proofs.Walks.{chosen_from, chosen_here, passed_here, at_next, index_fits}
 use Rattle.std.proofs.lemmas.Bool.{ltb-true, ltb-false}
 use Rattle.std.proofs.lemmas.List.{drop_all}
 use Rattle.std.specs.Str.{chars}
+use Rattle.std.specs.Prelude.{string_bytes}
 use mir.Val.{to_z, of_z}
 use Rattle.jp_eval.proofs.run.+eval.Goals as goal
 use Rattle.jp_eval.proofs.run.+eval.Goals.{push_filtered-then-branch+in_ok-push_steps, push_filtered-else-branch, push_tested-then-branch+in_ok-push_steps, push_tested-else-branch, call_value-in_default-via-then-as_slice-lt1, call_value-in_default-via-else-as_slice-lt1+else-this-lt2, call_truth-in-Some-Match, call_truth-in-Some-Search, push_rising-then-has+in_ok-push_steps, push_rising-else-has, push_rising-then-len-most-via-then-len-most, push_rising-then-len-most-via-else-len-most+then-ends_before, find_single-then-len-before, find_single-else-len-before}
@@ -202,11 +203,11 @@ push_tested-loop-next-preserved t c =
     let u : Tree = (node_of c.args.run.root.now).tree in
     let ss : Segments = steps_view (table_in c.args.run) c.args.rest.now in
     let p = tested c.args.test in
-    let child : Cursor = c.in-Some.child in
+    let child : Cursor = c.in-Some-next.child in
     let kept = c.loop-next.invariant in
     let next : Option Cursor = c.next_sibling-next.result in
     let here : Goes (line_of c.args.run.root.now) c.args.most c.args.frame.now.found.items c.loop-next.frame.found.items (nodes ss (filter p (node_of child ∷ nodes_after child)) u) (nodes ss (filter p (children (node_of c.args.node))) u) =
-    others_are (nodes ss (filter p (nodes_from (Some child))) u) (ap (λ (o : Option Cursor). nodes ss (filter p (nodes_from o)) u) c.in-Some.is) kept.goes in
+    others_are (nodes ss (filter p (nodes_from (Some child))) u) (ap (λ (o : Option Cursor). nodes ss (filter p (nodes_from o)) u) c.in-Some-next.is) kept.goes in
     let goes : Goes (line_of c.args.run.root.now) c.args.most c.args.frame.now.found.items c.if-branch.frame.found.items (nodes ss (filter p (nodes_after child)) u) (nodes ss (filter p (children (node_of c.args.node))) u) =
     elim c.if-branch.branch [
       | push_tested-then-branch+in_ok-push_steps w ↦
@@ -226,14 +227,27 @@ push_tested-loop-next-preserved t c =
         | push_tested-then-branch+in_ok-push_steps w ↦ subst (λ (f : Frame). AreKept c.args.run f.answers.items) (sym w.frame-is) w.in_ok-push_steps.ensures.kept
         | push_tested-else-branch w ↦ subst (λ (f : Frame). AreKept c.args.run f.answers.items) (sym w.frame-is) kept.kept
       ];
-      line = line_on next _ _ c.next_sibling-next.ensures.line (line_of_some _ child _ c.in-Some.is kept.line);
+      line = line_on next _ _ c.next_sibling-next.ensures.line (line_of_some _ child _ c.in-Some-next.is kept.line);
     }
+
+pub push_tested-returns-2 : goal.push_tested-returns-2
+push_tested-returns-2 t c =
+    let u : Tree = (node_of c.args.run.root.now).tree in
+    let ss : Segments = steps_view (table_in c.args.run) c.args.rest.now in
+    record { adds = c.loop-next.invariant.goes.kept; kept = c.loop-next.invariant.kept; nodes = is_done c.loop-next.invariant.goes (ap (λ (o : Option Cursor). nodes ss (filter (tested c.args.test) (nodes_from o)) u) c.in_default.is ∙ no_nodes ss u) }
 
 pub push_tested-returns : goal.push_tested-returns
 push_tested-returns t c =
     let u : Tree = (node_of c.args.run.root.now).tree in
-    let ss : Segments = steps_view (table_in c.args.run) c.args.rest.now in
-    record { adds = c.loop-next.invariant.goes.kept; kept = c.loop-next.invariant.kept; nodes = is_done c.loop-next.invariant.goes (ap (λ (o : Option Cursor). nodes ss (filter (tested c.args.test) (nodes_from o)) u) c.in_default.is ∙ no_nodes ss u) }
+    let member : Node → List Node = named (chars (string_bytes c.in-Some.name.now.text)) in
+    let starts : List Node = filter (tested c.args.test) (children (node_of c.args.node)) in
+    let last : flat_map member starts ≡ nodes (steps_view (table_in c.args.run) c.args.rest.now) starts u =
+    last_goes_from (table_in c.args.run) u c.args.rest.now c.step-item.result member starts (omega arith) c.step-item.is (λ n. c.in-Some.ensures (table_in c.args.run) n u) in
+    record {
+      adds = c.push_members.ensures.adds;
+      kept = c.push_members.ensures.kept;
+      nodes = subst (λ (l : List Node). OnOk c.push_members.result (map node_of c.push_members.new.frame.found.items ≡ take c.args.most (map node_of c.args.frame.now.found.items ++ l))) last c.push_members.ensures.nodes;
+    }
 
 -- ---- all children, or none
 

@@ -1,5 +1,4 @@
 use Rattle.std.proofs.Common.{◌+◌, ◌≤◌, length, drop, map, slice_index, arith, sym, ◌∙◌, ap, subst}
-use Rattle.std.proofs.lemmas.Bool.{eqb-true, eq-eqb}
 use Rattle.std.proofs.lemmas.List.{at_drop_all}
 use Rattle.std.proofs.lemmas.Str.{chars-nil}
 use Rattle.std.specs.Str.{chars}
@@ -7,7 +6,6 @@ use Rattle.jp_iregexp.specs.Places.{Leads}
 use Rattle.jp_iregexp.specs.Layouts.{place_of}
 use Rattle.jp_iregexp.proofs.AsciiSteps.{ascii_cut, ready_step, none_ready}
 use Rattle.jp_iregexp.proofs.Leading.{stepped}
-use Rattle.jp_iregexp.proofs.Masks.{end_is_seen, end_is_shown}
 use Rattle.jp_iregexp.proofs.automaton.Automaton.accepts.Goals as goal
 
 pub returns-then-ready-eq0 : goal.returns-then-ready-eq0
@@ -32,7 +30,7 @@ loop-byte-preserved c =
     let bytes = c.as_bytes-byte-items.result.now in
     let byte = slice_index bytes l.byte-index in
     let cut = ascii_cut text bytes l.byte-index c.as_bytes-byte-items.ensures.value c.loop-byte-test.true c.in-Some.ensures.ascii in
-    let step = ready_step it c.as_slice.result.now l.waiting byte c.in-Some.ready c.behind-waiting.result c.as_slice.ensures.value c.in-Some.ensures.ascii c.in-Some.ensures.ready c.behind-waiting.ensures in
+    let step = ready_step it l.waiting byte c.in-Some.ready c.behind-waiting.result c.in-Some.ensures.ascii c.in-Some.ensures.ready c.behind-waiting.ensures in
     let s = stepped places l.waiting c.behind-waiting.result byte (chars (drop (l.byte-index + 1) text)) step in (
       (λ h. l.invariant.0 (subst (Leads places l.waiting) (sym cut) (s.1 h))),
       (λ h. s.0 (subst (Leads places l.waiting) cut (l.invariant.1 h))),
@@ -45,6 +43,6 @@ returns c =
     let text = c.args.text.now in
     let all : length text ≤ l.byte-index = omega (arith, c.loop-byte-test.false, ap length c.as_bytes-byte-items.ensures.value) in
     let none = at_drop_all chars text l.byte-index all ∙ chars-nil in (
-      (λ h. l.invariant.0 (subst (Leads places l.waiting) (sym none) (end_is_seen l.waiting (eqb-true _ _ h)))),
-      (λ h. eq-eqb _ _ (end_is_shown l.waiting (subst (Leads places l.waiting) none (l.invariant.1 h)))),
+      (λ h. l.invariant.0 (subst (Leads places l.waiting) (sym none) (c.has_end.ensures.0 h))),
+      (λ h. c.has_end.ensures.1 (subst (Leads places l.waiting) none (l.invariant.1 h))),
     )

@@ -1,12 +1,10 @@
 use Rattle.std.proofs.Common.{ℕ, List, ◌∷◌, [], ◌++◌, length, drop, map, sym, subst}
 use Rattle.std.proofs.lemmas.Iterator.{YieldsList-from_chars}
 use Rattle.std.proofs.lemmas.Iterator.Consumers.{YieldsList-turn, YieldsList-end}
-use Rattle.std.proofs.lemmas.Bool.{eqb-true, eq-eqb}
 use Rattle.std.specs.Str.{chars}
 use Rattle.jp_iregexp.specs.Places.{Leads}
 use Rattle.jp_iregexp.specs.Layouts.{place_of}
 use Rattle.jp_iregexp.proofs.Leading.{stepped, scalar_behind, leads_nowhere, nothing_left}
-use Rattle.jp_iregexp.proofs.Masks.{end_is_seen, end_is_shown}
 use Rattle.jp_iregexp.proofs.automaton.Automaton.accepts_any.Goals as goal
 
 pub returns-then-waiting-eq0 : goal.returns-then-waiting-eq0
@@ -42,6 +40,6 @@ returns c =
     let text : List ℕ = chars c.args.text.now in
     let t = YieldsList-end (YieldsList-from_chars c.args.text.now c.utf8.text cc) l.yielded _ l.yielded_by _ _ c.in-None.is c.next.ensures.steps in
     let none = nothing_left text (length l.yielded) t.1 in (
-      (λ h. l.invariant.0 (subst (Leads places l.waiting) (sym none) (end_is_seen l.waiting (eqb-true _ _ h)))),
-      (λ h. eq-eqb _ _ (end_is_shown l.waiting (subst (Leads places l.waiting) none (l.invariant.1 h)))),
+      (λ h. l.invariant.0 (subst (Leads places l.waiting) (sym none) (c.has_end.ensures.0 h))),
+      (λ h. c.has_end.ensures.1 (subst (Leads places l.waiting) none (l.invariant.1 h))),
     )

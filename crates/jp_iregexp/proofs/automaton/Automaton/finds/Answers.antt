@@ -1,13 +1,20 @@
-use Rattle.std.proofs.Common.{◌+◌, ◌≤◌, [], length, drop, map, slice_index, arith, ◌∙◌, ap, subst}
-use Rattle.std.proofs.lemmas.Bool.{eqb-true, eq-eqb}
+use Rattle.std.proofs.Common.{ℕ, ◌+◌, ◌≤◌, length, drop, map, slice_index, refl, sym, ◌∙◌, ap, subst, arith}
 use Rattle.std.proofs.lemmas.List.{at_drop_all}
 use Rattle.std.proofs.lemmas.Str.{chars-nil}
+use Rattle.std.specs.Int.Bits.{or_zero_l}
 use Rattle.std.specs.Str.{chars}
 use Rattle.jp_iregexp.specs.Layouts.{place_of}
-use Rattle.jp_iregexp.proofs.AsciiSteps.{ascii_cut, ready_step}
-use Rattle.jp_iregexp.proofs.Masks.{end_is_seen, end_is_shown}
-use Rattle.jp_iregexp.proofs.Finding.{IsFinding, is_found, find_on, not_found}
+use Rattle.jp_iregexp.specs.Places.{Holds}
+use Rattle.jp_iregexp.proofs.AsciiSteps.{ascii_cut, ready_step, none_behind}
+use Rattle.jp_iregexp.proofs.Finding.{IsFinding, start_finding, is_found, find_on, not_found}
 use Rattle.jp_iregexp.proofs.automaton.Automaton.finds.Goals as goal
+use Rattle.jp_iregexp.proofs.automaton.Automaton.finds.Goals.{then-ready-eq0, else-ready-eq0+else-has_end-2}
+
+pub loop-byte-init : goal.loop-byte-init
+loop-byte-init c =
+    let it = c.args.self.now in
+    let not_yet : Holds it.starts 63 → ⊥ = λ h. absurd (let yes = c.has_end.ensures.1 h in let no = c.if-has_end.false in cc) in
+    (start_finding (map place_of it.places.items) it.starts (chars c.args.text.now), not_yet, not_yet)
 
 pub loop-byte-preserved : goal.loop-byte-preserved
 loop-byte-preserved c =
@@ -17,10 +24,46 @@ loop-byte-preserved c =
     let text = c.args.text.now in
     let bytes = c.as_bytes-byte-items.result.now in
     let byte = slice_index bytes l.byte-index in
+    let rest = chars (drop (l.byte-index + 1) text) in
     let cut = ascii_cut text bytes l.byte-index c.as_bytes-byte-items.ensures.value c.loop-byte-test.true c.in-Some.ensures.ascii in
-    let step = ready_step it c.as_slice.result.now l.waiting byte c.in-Some.ready c.behind.result c.as_slice.ensures.value c.in-Some.ensures.ascii c.in-Some.ensures.ready c.behind.ensures in
-    find_on places it.starts l.waiting c.behind.result byte (chars (drop (l.byte-index + 1) text)) (chars text) (subst (λ r. IsFinding places it.starts l.waiting r (chars text)) cut l.invariant)
-    (λ h. c.if-waiting-eq1.false (end_is_shown l.waiting h)) step
+    let here = subst (λ r. IsFinding places it.starts l.waiting r (chars text)) cut l.invariant.0 in
+    let kept = λ (waiting : ℕ). IsFinding places it.starts waiting rest (chars text) × (Holds it.starts 63 → ⊥) × (Holds waiting 63 → ⊥) in
+    elim c.if-ready-eq0.branch [
+      | then-ready-eq0 w ↦
+          let step = none_behind it l.waiting byte c.in-Some.ready c.in-Some.ensures.ascii c.in-Some.ensures.ready w.if-ready-eq0.true in
+          let on = find_on places it.starts l.waiting 0 byte rest (chars text) here l.invariant.2 step in
+          subst kept (sym w.waiting-is) (subst (λ n. IsFinding places it.starts n rest (chars text)) (or_zero_l it.starts) on, l.invariant.1, l.invariant.1)
+      | else-ready-eq0+else-has_end-2 w ↦
+          let step = ready_step it l.waiting byte c.in-Some.ready w.behind.result c.in-Some.ensures.ascii c.in-Some.ensures.ready w.behind.ensures in
+          let on = find_on places it.starts l.waiting w.behind.result byte rest (chars text) here l.invariant.2 step in
+          subst kept (sym w.waiting-is) (on, l.invariant.1, λ h. absurd (let yes = w.has_end-else-ready-eq0.ensures.1 h in let no = w.if-has_end-2.false in cc))
+    ]
+
+pub returns-then-has_end : goal.returns-then-has_end
+returns-then-has_end c =
+    let it = c.args.self.now in
+    let places = map place_of it.places.items in
+    let text = chars c.args.text.now in (
+      (λ h. is_found places it.starts it.starts text text (start_finding places it.starts text) (c.has_end.ensures.0 c.if-has_end.true)),
+      (λ o. refl),
+    )
+
+pub returns-then-has_end-2 : goal.returns-then-has_end-2
+returns-then-has_end-2 c =
+    let l = c.loop-byte in
+    let it = c.args.self.now in
+    let places = map place_of it.places.items in
+    let text = c.args.text.now in
+    let bytes = c.as_bytes-byte-items.result.now in
+    let byte = slice_index bytes l.byte-index in
+    let rest = chars (drop (l.byte-index + 1) text) in
+    let cut = ascii_cut text bytes l.byte-index c.as_bytes-byte-items.ensures.value c.loop-byte-test.true c.in-Some.ensures.ascii in
+    let here = subst (λ r. IsFinding places it.starts l.waiting r (chars text)) cut l.invariant.0 in
+    let step = ready_step it l.waiting byte c.in-Some.ready c.behind.result c.in-Some.ensures.ascii c.in-Some.ensures.ready c.behind.ensures in
+    let on = find_on places it.starts l.waiting c.behind.result byte rest (chars text) here l.invariant.2 step in (
+      (λ h. is_found places it.starts _ rest (chars text) on (c.has_end-else-ready-eq0.ensures.0 c.if-has_end-2.true)),
+      (λ o. refl),
+    )
 
 pub returns : goal.returns
 returns c =
@@ -29,7 +72,7 @@ returns c =
     let places = map place_of it.places.items in
     let text = c.args.text.now in
     let all : length text ≤ l.byte-index = omega (arith, c.loop-byte-test.false, ap length c.as_bytes-byte-items.ensures.value) in
-    let last = subst (λ r. IsFinding places it.starts l.waiting r (chars text)) (at_drop_all chars text l.byte-index all ∙ chars-nil) l.invariant in (
-      (λ h. is_found places it.starts l.waiting [] (chars text) last (end_is_seen l.waiting (eqb-true _ _ h))),
-      (λ o. eq-eqb _ _ (end_is_shown l.waiting (not_found places it.starts l.waiting (chars text) last o))),
+    let last = subst (λ r. IsFinding places it.starts l.waiting r (chars text)) (at_drop_all chars text l.byte-index all ∙ chars-nil) l.invariant.0 in (
+      (λ h. absurd (cc)),
+      (λ o. absurd (l.invariant.2 (not_found places it.starts l.waiting (chars text) last o))),
     )

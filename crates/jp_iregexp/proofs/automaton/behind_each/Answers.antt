@@ -1,6 +1,6 @@
 use Rattle.std.proofs.Common.{◌<◌, ◌≡◌, arith, subst}
 use Rattle.jp_iregexp.proofs.Masks.{IsPartBehind, start_behind, take_behind, end_behind}
-use Rattle.jp_iregexp.proofs.automaton.behind.Goals as goal
+use Rattle.jp_iregexp.proofs.automaton.behind_each.Goals as goal
 
 pub loop-rest-init : goal.loop-rest-init
 loop-rest-init c = start_behind c.args.after.now c.args.ready

@@ -1,0 +1,6 @@
+use Rattle.jp_iregexp.specs.Places.{is_chained}
+use Rattle.jp_iregexp.proofs.Masks.{IsMaskBelow}
+use Rattle.jp_iregexp.proofs.automaton.chained.Given as goal
+
+abbrev pub invariant-loop-number : goal.invariant-loop-number
+invariant-loop-number l = IsMaskBelow (is_chained l.after) l.number l.all
