@@ -28,7 +28,7 @@ module _ (f : Framing) (lines : List (List ℕ)) where
   texts_told [] h = refl
   texts_told (r ∷ rows) h = ap₂ (λ (a b : List ℕ). a ++ b) (row_told r (h zero r (omega arith))) (texts_told rows (λ k d l. h (suc k) d (omega arith)))
 
-count_append : {X : Type 0} (p : X → Bool) (xs ys : List X) → count_by p (xs ++ ys) ≡ count_by p xs + count_by p ys
+pub count_append : {X : Type 0} (p : X → Bool) (xs ys : List X) → count_by p (xs ++ ys) ≡ count_by p xs + count_by p ys
 count_append p xs ys = sum_by-append (λ x. cond (p x) 1 0) xs ys
 
 nodes_told : (rows : List Row) → count_by is_found_node rows ≡ count_by is_node (rows_view rows)

@@ -6,6 +6,7 @@ use Rattle.jp_plan.specs.declared.answer.Row.{Row}
 use Rattle.jp_plan.specs.declared.answer.Row.TheVariants as found
 use Rattle.jp_tape.specs.declared.cursor.Cursor.{Cursor}
 use Rattle.jp_tape.specs.Cursors.{line_of, node_of}
+use Rattle.jp_rows.specs.Shortness.{is_short_value}
 
 -- the text of a cursor's row, on the line of that number
 abbrev pub cursor_text : Framing → ℕ → Cursor → List ℕ
@@ -20,3 +21,8 @@ found_text framing (found.Refused line fault) = rows.refusal_text framing line f
 abbrev pub is_found_node : Row → Bool
 is_found_node (found.Node line cursor) = true
 is_found_node (found.Refused line fault) = false
+
+-- the row is of no long node
+abbrev pub is_short_found : Row → Bool
+is_short_found (found.Node line cursor) = is_short_value (node_of cursor).tree
+is_short_found (found.Refused line fault) = true

@@ -1,6 +1,7 @@
 //! What `query` answers: the rows of the selected nodes and of the refused lines, and how many nodes there are.
 
 ghost use Rattle.std.specs.Prelude.{◌≡◌, ◌++◌, false, is_err, IfOk, flat_map, count_by};
+ghost use Rattle.std.specs.List.{list_all};
 ghost use Rattle.jp_model.specs.Devices.{Writes};
 ghost use Rattle.jp_model.specs.Rows.{rows as rows_of};
 ghost use Rattle.jp_model.specs.Script.Commands.{query_line};
@@ -10,21 +11,27 @@ ghost use Rattle.jp_model.specs.Query.Status.{query};
 ghost use Rattle.jp_types.specs.Checks.{checked_view};
 ghost use Rattle.jp_store.specs.Collections.{statuses_in};
 ghost use Rattle.jp_plan.specs.Found.{rows_view, AreOnTheirLines};
-ghost use Rattle.jp_cli.specs.Found.{found_text, is_found_node};
+ghost use Rattle.jp_cli.specs.Found.{found_text, is_found_node, is_short_found};
 ghost use Rattle.jp_cli.specs.Runs.{FitsSetup, AnswersOne};
 
 use crate::query::read_query;
 use crate::reply::{refuse_query, write_refused_growth, write_reply};
 use jp_model::{Framing, Setup, Watched};
 use jp_plan::{Answer, Plan, Row};
-use jp_rows::{WriteFault, write_count, write_node, write_refusal};
+use jp_rows::{WriteFault, is_short, write_count, write_node, write_refusal, write_short_node};
 use jp_store::{Opened, Store};
 use jp_types::Checked;
 use std::alloc::{AllocError, Global};
 use std::io::Write;
 
+/// So many rows are looked at together before they are written.
+const BLOCK: usize = 16;
+
+/// Writes a row. Of short nodes it is not asked again whether they are.
+#[inline(always)]
 fn write_row<W: Write>(
     row: &Row<'_>,
+    short: bool,
     framing: Framing,
     out: &mut Watched<W>,
 ) -> Result<(), WriteFault>
@@ -34,6 +41,7 @@ fn write_row<W: Write>(
     ensures after { out.new.after ≡ out.old.after }
 {
     match row {
+        Row::Node { line, cursor } if short => write_short_node(*line, *cursor, framing, out),
         Row::Node { line, cursor } => write_node(*line, *cursor, framing, out),
         Row::Refused { line, fault } => write_refusal(*line, *fault, framing, out),
     }
@@ -45,7 +53,26 @@ fn is_node(row: &Row<'_>) -> bool
     matches!(row, Row::Node { .. })
 }
 
-fn write_rows<W: Write>(
+/// Whether a row is of no long node.
+fn is_short_row(row: &Row<'_>) -> bool
+    ensures { result ≡ is_short_found row.now }
+{
+    match row {
+        Row::Node { cursor, .. } => is_short(*cursor),
+        Row::Refused { .. } => true,
+    }
+}
+
+/// Whether none of some rows is of a long node.
+fn are_short(rows: &[Row<'_>]) -> bool
+    ensures { result ≡ list_all is_short_found rows.now }
+{
+    rows.iter().all(|row| is_short_row(row))
+}
+
+/// Writes some rows. It asks of all of them first whether their nodes are short: that stands in tapes which lie far apart, and are
+/// then fetched from memory together, and not each when its row is written.
+fn write_block<W: Write>(
     rows: &[Row<'_>],
     framing: Framing,
     out: &mut Watched<W>,
@@ -55,8 +82,9 @@ fn write_rows<W: Write>(
     ensures fault { out.new.failed ≡ is_err result }
     ensures after { out.new.after ≡ out.old.after }
 {
+    let short = are_short(rows);
     for row in rows {
-        if let Err(fault) = write_row(row, framing, out) {
+        if let Err(fault) = write_row(row, short, framing, out) {
             return Err(fault);
         }
     }
@@ -67,6 +95,32 @@ fn count_nodes(rows: &[Row<'_>]) -> usize
     ensures { result ≡ count_by is_found_node rows.now }
 {
     rows.iter().filter(|row| is_node(row)).count()
+}
+
+/// Writes all rows, and answers how many are of nodes.
+fn write_rows<W: Write>(
+    rows: &[Row<'_>],
+    framing: Framing,
+    out: &mut Watched<W>,
+) -> Result<usize, WriteFault>
+    requires { out.old.failed ≡ false }
+    ensures text { Writes W.contents out.old out.new result (flat_map (found_text framing) rows.now) }
+    ensures count { IfOk result (λ count. count ≡ count_by is_found_node rows.now) }
+    ensures fault { out.new.failed ≡ is_err result }
+    ensures after { out.new.after ≡ out.old.after }
+{
+    let mut count = 0;
+    let mut start = 0;
+    while start < rows.len() {
+        let end = start + BLOCK.min(rows.len() - start);
+        let block = &rows[start..end];
+        if let Err(fault) = write_block(block, framing, out) {
+            return Err(fault);
+        }
+        count += count_nodes(block);
+        start = end;
+    }
+    Ok(count)
 }
 
 fn write_rows_and_count<W: Write>(
@@ -80,7 +134,7 @@ fn write_rows_and_count<W: Write>(
     ensures after { out.new.after ≡ out.old.after }
 {
     match write_rows(rows, framing, out) {
-        Ok(()) => write_count(count_nodes(rows), out),
+        Ok(count) => write_count(count, out),
         Err(fault) => Err(fault),
     }
 }

@@ -1,3 +1,4 @@
 -- What the contracts of the rows speak of.
 pub mod Names
 pub mod Rooms
+pub mod Shortness

@@ -12,7 +12,7 @@ mod summary;
 mod whole;
 
 pub use path::write_path;
-pub use rows::{write_count, write_node, write_refusal};
+pub use rows::{is_short, write_count, write_node, write_refusal, write_short_node};
 pub use singular::{push_index_step, push_name_step, push_quoted, push_steps, write_steps};
 pub use summary::{write_numbered, write_summary};
 pub use whole::{WriteFault, write_whole};

@@ -6,6 +6,7 @@ ghost use Rattle.jp_model.specs.Meaning.Paths.{path_text};
 ghost use Rattle.jp_model.specs.Rows.{row_start as row_start_of, tab, node_text, refusal_text};
 ghost use Rattle.jp_tape.specs.Cursors.{line_of, node_of};
 ghost use Rattle.jp_model.specs.Script.Machine.{count_line};
+ghost use Rattle.jp_rows.specs.Shortness.{is_short_value};
 
 use crate::body::put_part;
 use crate::head::{put_head, row_start};
@@ -76,25 +77,31 @@ fn write_long_row<W: Write>(
     write_whole(b"\n", out)
 }
 
-/// Puts the row of a node together, if it is short.
+/// Puts the row of a node together, if there is room.
 #[inline(always)]
 fn put_row(line: u32, cursor: Cursor<'_>, framing: Framing, room: &mut [u8; ROOM]) -> Option<usize>
     ensures within { IfSome result (λ at. at ≤ 256) }
     ensures text { IfSome result (λ at. drop at room.new ≡ node_text framing line (line_of cursor.entry) (node_of cursor.entry)) }
 {
-    let span = cursor.span();
-    if span.end - span.start > MOST {
-        return None;
-    }
     let end = put(b"\n", room, ROOM)?;
-    let behind = put_part(cursor.line(), span, room, end)?;
+    let behind = put_part(cursor.line(), cursor.span(), room, end)?;
     put_head(line, cursor, framing, room, behind)
 }
 
-/// Writes the row of a node: the number of its line from 1, its path, and its bytes of the line, unchanged (profile).
+/// Whether a node is spelled by at most 128 bytes of its line. Its row is then put together before it is written.
+#[inline(always)]
+pub fn is_short(cursor: Cursor<'_>) -> bool
+    ensures { result ≡ is_short_value (node_of cursor.entry).tree }
+{
+    let span = cursor.span();
+    span.end - span.start <= MOST
+}
+
+/// Writes the row of a node as `write_node` does, and does not ask whether it is short. One that is not may take three writes.
 ///
 /// After an `Err` the writer received a beginning of the row: no write follows one that failed or took no byte.
-pub fn write_node<W: Write>(
+#[inline(always)]
+pub fn write_short_node<W: Write>(
     line: u32,
     cursor: Cursor<'_>,
     framing: Framing,
@@ -109,6 +116,28 @@ pub fn write_node<W: Write>(
     match put_row(line, cursor, framing, &mut room) {
         Some(at) => write_whole(&room[at..], out),
         None => write_long_row(line, cursor, framing, out),
+    }
+}
+
+/// Writes the row of a node: the number of its line from 1, its path, and its bytes of the line, unchanged (profile).
+///
+/// After an `Err` the writer received a beginning of the row: no write follows one that failed or took no byte.
+#[inline(never)]
+pub fn write_node<W: Write>(
+    line: u32,
+    cursor: Cursor<'_>,
+    framing: Framing,
+    out: &mut Watched<W>,
+) -> Result<(), WriteFault>
+    requires { out.old.failed ≡ false }
+    ensures text { Writes W.contents out.old out.new result (node_text framing line (line_of cursor.entry) (node_of cursor.entry)) }
+    ensures fault { out.new.failed ≡ is_err result }
+    ensures after { out.new.after ≡ out.old.after }
+{
+    if is_short(cursor) {
+        write_short_node(line, cursor, framing, out)
+    } else {
+        write_long_row(line, cursor, framing, out)
     }
 }
 

@@ -1,7 +1,7 @@
 //! The rows of all nodes of a line.
 
 use super::paths::tape_of;
-use crate::write_node;
+use crate::{is_short, write_node, write_short_node};
 use jp_model::{Framing, Watched};
 use jp_tape::Cursor;
 use std::alloc::{AllocError, Global};
@@ -91,6 +91,23 @@ fn many_bytes_are_written_from_the_line(rt: HostRuntime) -> Result<(), Fail> {
         let rows = rows_of(rt.alloc(), 1, &line, Framing::Lines).ok_or("no tape")?;
         assert_eq!(rt; rows.calls(), writes);
         assert_eq!(rt; rows.into_inner().as_slice(), want.as_slice());
+    }
+    Ok(())
+}
+
+#[test]
+fn a_node_of_128_bytes_is_short(rt: HostRuntime) -> Result<(), Fail> {
+    // Its quotes are two of them. One more, and the row is as before.
+    for (letters, short) in [(126, true), (127, false)] {
+        let line = around_name(rt.alloc(), b"\"", letters, b"\"")?;
+        let want = around_name(rt.alloc(), b"1\t$\t\"", letters, b"\"\n")?;
+        let tape = tape_of(rt.alloc(), &line).ok_or("no tape")?;
+        let root = Cursor::root(&tape, &line);
+        assert_eq!(rt; is_short(root), short);
+        let mut out = Watched::new(Vec::new(rt.alloc()));
+        let written = write_short_node(1, root, Framing::Lines, &mut out).is_ok();
+        assert_eq!(rt; written, true);
+        assert_eq!(rt; out.into_inner().as_slice(), want.as_slice());
     }
     Ok(())
 }

@@ -17,7 +17,7 @@ is_put c =
     let node = node_of c.args.cursor in
     let value = source (line_of c.args.cursor) node.tree in
     let head = row_start c.args.framing ++ decimal c.args.line ++ tab ++ path_text node.location ++ tab in
-    let is : bytes_between c.line.result.now c.span-span.result.start c.span-span.result.end ≡ value = ap₂ (λ (l : List ℕ) (s : Span). bytes_between l s.start s.end) c.line.ensures.bytes c.span-span.ensures.value in
+    let is : bytes_between c.line.result.now c.span.result.start c.span.result.end ≡ value = ap₂ (λ (l : List ℕ) (s : Span). bytes_between l s.start s.end) c.line.ensures.bytes c.span.ensures.value in
     let put : (c.in_ok-behind.behind ≤ c.in_ok-end.end) × (drop c.in_ok-behind.behind c.put_part.new.room ≡ value ++ drop c.in_ok-end.end c.put.new.room) =
     (c.in_ok-behind.ensures.0, c.in_ok-behind.ensures.1 ∙ ap (λ l. l ++ drop c.in_ok-end.end c.put.new.room) is) in
     puts_row c.args.room.now c.put_part.new.room c.put_head.new.room head value line_feed _ _ c.put_head.result (put_two c.args.room.now c.put.new.room c.put_part.new.room value line_feed _ _ _ c.in_ok-end.ensures put) c.put_head.ensures

@@ -2,7 +2,7 @@
 use Rattle.std.proofs.Common.{subst}
 use Rattle.jp_model.specs.Devices.{Writes}
 use Rattle.jp_rows.proofs.Heads.{rest_is}
-use Rattle.jp_rows.proofs.rows.write_node.Goals as goal
+use Rattle.jp_rows.proofs.rows.write_short_node.Goals as goal
 
 pub returns-in-Some-clause-text : goal.returns-in-Some-clause-text
 returns-in-Some-clause-text g c =
