@@ -93,6 +93,20 @@ def texts_of_backslashes(checks):
     checks.check("backslashes before a quote", answered("\n".join(lines) + "\n", "check\n"), (0, stated))
 
 
+def texts_about_64_kibibytes(checks):
+    """Lines of fewer than 65,536 bytes have tapes of another form than longer ones. Both tell the same nodes."""
+    front, end = '{"a":[1,{"b":"', '"}],"last":[0,{"c":null}]}'
+    for length in range(65_533, 65_540):
+        text = "x" * (length - len(front) - len(end))
+        script = "query $.last[1].c\nquery $..b\nquery $.a[-1]..c\nquery $[?@[1].b].c\n"
+        stated = rows([(1, "$['last'][1]['c']")], "null") + rows([(1, "$['a'][1]['b']")], f'"{text}"') + "= 0\n= 0\n"
+        checks.check(f"a line of {length} bytes", answered(front + text + end + "\n", script), (0, stated))
+    for count in range(32_765, 32_770):
+        script = "query $[-1]\nquery $[?@>1]\n"
+        line = "[" + ",".join(["1"] * count) + "]"
+        checks.check(f"{count} elements", answered(line + "\n", script), (0, rows([(1, f"$[{count - 1}]")], "1") + "= 0\n"))
+
+
 def texts_of_numbers(checks):
     """Numbers are exact, whatever their digits; an exponent has at most 15 digits behind its leading zeros."""
     digits = "1" + "0" * MILLION
@@ -246,7 +260,7 @@ def sizes(checks):
 
 def main():
     checks = Checks()
-    for part in (texts_of_brackets, texts_cut_short, texts_of_backslashes, texts_of_numbers, texts_of_names, queries, patterns,
+    for part in (texts_of_brackets, texts_cut_short, texts_of_backslashes, texts_about_64_kibibytes, texts_of_numbers, texts_of_names, queries, patterns,
                  long_texts, long_numbers, objects_turned, filters_from_the_root, devices, sizes):
         part(checks)
     print(f"{checks.passed} passed, {checks.failed} failed")

@@ -1,6 +1,7 @@
 //! An index made of all lines at once.
 
-ghost use Rattle.std.specs.Prelude.{◌≡◌, ℕ, ◌+◌, ◌<◌, ◌^◌, List, [], ◌++◌, length, option_map, IfOk, OnOk, OnErr};
+ghost use Rattle.std.specs.Prelude.{◌≡◌, ℕ, ◌+◌, ◌<◌, ◌≤◌, ◌^◌, List, [], ◌++◌, length, option_map, IfOk, OnOk, OnErr};
+ghost use Rattle.std.specs.Vec.{vec_capacity, vec_len};
 ghost use Rattle.jp_model.specs.Steps.{Step};
 ghost use Rattle.jp_query.specs.SingularPaths.{path_steps};
 ghost use Rattle.jp_tape.specs.Cursors.{root_of};
@@ -45,6 +46,14 @@ impl IndexBuilder {
         ensures { result ≡ lines_built self.now }
     {
         self.cells.len() as u32
+    }
+
+    /// Makes room for so many keys more. The entries are as before, after an `Err` too.
+    pub fn reserve(&mut self, keys: usize) -> Result<(), AllocError>
+        ensures entries { (path : List Step) (lines : ℕ) (entries : List Entry) → IsBuildOf self.old path lines entries → IsBuildOf self.new path lines entries }
+        ensures room { OnOk result (vec_len self.new.by_key + keys ≤ vec_capacity self.new.by_key) }
+    {
+        self.by_key.reserve(keys)
     }
 
     /// Puts in the next line, which has this root or, where it has no tree, none. After an `Err` the entries are as before.

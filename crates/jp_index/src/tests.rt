@@ -192,6 +192,7 @@ fn index_of_one_root(
     requires { count < 1000000 }
 {
     let mut builder = IndexBuilder::new(alloc, path_of(alloc, path)?);
+    builder.reserve(count as usize)?;
     for _ in 0..count {
         builder.push(alloc, Some(root))?;
     }

@@ -11,6 +11,7 @@ mod LineMore
 mod Along
 mod Chunks
 mod SetBits
+mod Written
 mod LineBlocks
 mod RowsLaw
 mod SinkLaw

@@ -1,6 +1,6 @@
 //! One block of 64 bytes: its marks, and what the next block has to know.
 
-ghost use Rattle.std.specs.Prelude.{◌≡◌, ℕ, ◌+◌, ◌-◌, ◌^◌, ◌<◌, ◌++◌, true, map, slice_index, OnOk, OnErr};
+ghost use Rattle.std.specs.Prelude.{◌≡◌, ℕ, ◌+◌, ◌-◌, ◌^◌, ◌<◌, ◌≤◌, ◌++◌, true, map, take, length, slice_index, OnOk, OnErr};
 ghost use Rattle.jp_lanes.specs.Word.{bit, Says};
 ghost use Rattle.jp_masks.specs.Ends.{is_end, ends_word};
 ghost use Rattle.jp_masks.specs.Places.{set_bits};
@@ -153,6 +153,42 @@ pub fn scan_block(bytes: &[u8; 64], framing: Option<Framing>, first: Carry) -> F
     Found { marks, ends, next }
 }
 
+/// Writes the places of the set bits of a block that begins at `base`, lowest first, each counted from `start`, and tells
+/// how many they are.
+#[inline(always)]
+fn write_places(places: &mut [u32], base: u32, start: u32, word: u64) -> usize
+    requires room { BLOCK ≤ length places.old }
+    requires fits { (i : ℕ) → i < 64 → bit word i ≡ true → base + i < 2 ^ 32 }
+    ensures written { take result places.new ≡ map (λ i. base + i - start) (set_bits word) }
+    ensures within { result ≤ BLOCK }
+    ensures long { BLOCK ≤ length places.new }
+{
+    let mut count = 0;
+    let mut rest = word;
+    while rest != 0 {
+        let at = base + rest.trailing_zeros();
+        places[count] = at.saturating_sub(start);
+        count += 1;
+        rest &= rest - 1;
+    }
+    count
+}
+
+/// Adds them behind other places. After an `Err` the places are as before.
+#[inline(always)]
+fn add_places(places: &mut Vec<u32>, base: u32, start: u32, word: u64) -> Result<(), AllocError>
+    requires { (i : ℕ) → i < 64 → bit word i ≡ true → base + i < 2 ^ 32 }
+    ensures ok { OnOk result (places.new.items ≡ places.old.items ++ map (λ i. base + i - start) (set_bits word)) }
+    ensures err { OnErr result (places.new.items ≡ places.old.items) }
+{
+    // A loop over a slice has its address and its length at hand, where one that pushes loads and stores them.
+    let from = places.len();
+    places.resize(from + BLOCK, 0)?;
+    let count = write_places(&mut places[from..], base, start, word);
+    places.truncate(from + count);
+    Ok(())
+}
+
 /// Adds the places of the set bits of a block that begins at `base`, lowest first, each counted from `start`. After an
 /// `Err` the places are as before.
 pub fn push_places(
@@ -165,12 +201,9 @@ pub fn push_places(
     ensures ok { OnOk result (places.new.items ≡ places.old.items ++ map (λ i. base + i - start) (set_bits word)) }
     ensures err { OnErr result (places.new.items ≡ places.old.items) }
 {
-    places.reserve(BLOCK)?;
-    let mut rest = word;
-    while rest != 0 {
-        let at = base + rest.trailing_zeros();
-        places.push_reserved(at.saturating_sub(start));
-        rest &= rest - 1;
+    if start <= base {
+        // Most lines begin before the block, and nothing is left to subtract from each place.
+        return add_places(places, base - start, 0, word);
     }
-    Ok(())
+    add_places(places, base, start, word)
 }

@@ -17,7 +17,7 @@ use memchr::memchr;
 use std::alloc::{AllocError, Global};
 
 /// How many bytes of a collection are scanned at once, where no line goes on behind them.
-const PIECE: usize = 1 << 20;
+const PIECE: usize = 1 << 16;
 
 const BYTE_ORDER_MARK: &[u8] = b"\xEF\xBB\xBF";
 

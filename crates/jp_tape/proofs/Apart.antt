@@ -1,5 +1,5 @@
 -- Bodies whose keys are apart are apart.
-use Rattle.std.proofs.Common.{◌≡◌, ℕ, suc, ◌+◌, ◌<◌, false, ◌||◌, List, [], ◌∷◌, length, get_or, map, sym, ◌∙◌, ap, refl, arith, ap₂, ◌++◌, take, subst}
+use Rattle.std.proofs.Common.{◌≡◌, ℕ, suc, ◌+◌, ◌<◌, ◌≤◌, Bool, true, false, ◌||◌, inl, inr, List, [], ◌∷◌, length, get_or, get_or-drop, set, drop, length-drop, replicate, map, sym, ◌∙◌, ap, refl, arith, ap₂, ◌++◌, take, subst}
 use Rattle.std.specs.Prelude.{IsTrue, All}
 use Rattle.std.specs.List.{list_any}
 use Rattle.std.specs.List.Sorted.{IsPermutation, IsSorted}
@@ -7,7 +7,8 @@ use Rattle.std.specs.Ordering.{nat_cmp, is_lt, ordering_then}
 use Rattle.std.specs.declared.cmp.Ordering.{Ordering}
 use Rattle.std.specs.declared.cmp.Ordering.TheVariants.{Less, Equal, Greater}
 use Rattle.std.specs.Cmp.Lexicographic.{slice_cmp}
-use Rattle.std.proofs.lemmas.List.{get_or-map, length-map, map-append, take_more}
+use Rattle.std.proofs.lemmas.Bool.{cases_lt}
+use Rattle.std.proofs.lemmas.List.{get_or-map, get_or_default, get_or-set_same, get_or-set_other, length-map, length-set, map-append, take_more, drop_more, drop_all}
 use Rattle.std.proofs.lemmas.List.Elements.{All-append, All-cons}
 use Rattle.std.proofs.lemmas.List.Sorted.{IsPermutation-map}
 use Rattle.std.proofs.lemmas.Slice.Eq.{bytes_eq-Decides}
@@ -17,15 +18,17 @@ use Rattle.jp_model.proofs.Reader.Lexical.{clash}
 use Rattle.jp_strings.proofs.Runs.{plain_differ}
 use Rattle.jp_tape.specs.declared.builder.body.Body.{Body}
 use Rattle.jp_tape.specs.Names.{points, all_points}
-use Rattle.jp_tape.specs.Keys.{key_of, keys_of, AreApart}
+use Rattle.jp_tape.specs.Keys.{key_of, keys_of, place_of, AreApart}
 use Rattle.jp_tape.proofs.Held.{left_false, right_false}
 use Rattle.jp_tape.proofs.Repeated.{text_is, same_repeated, sorted_distinct}
 
--- two plain bodies with other keys spell other texts
+-- two plain bodies of other bytes spell other texts
+bytes_differ : (a b : Body) → IsTrue a.is_plain → IsTrue b.is_plain → (a.bytes.now ≡ b.bytes.now → ⊥) → text_equal (points a) (points b) ≡ false
+bytes_differ a b p q n = plain_differ a.bytes.now b.bytes.now (text_is a.bytes.now a.is_text) (text_is b.bytes.now b.is_text) (a.stands_for_itself p) (b.stands_for_itself q) n
+
+-- and so do two with other keys
 differ : (a b : Body) → IsTrue a.is_plain → IsTrue b.is_plain → text_equal (key_of a.bytes.now ∷ []) (key_of b.bytes.now ∷ []) ≡ false → text_equal (points a) (points b) ≡ false
-differ a b p q n =
-    plain_differ a.bytes.now b.bytes.now (text_is a.bytes.now a.is_text) (text_is b.bytes.now b.is_text) (a.stands_for_itself p) (b.stands_for_itself q)
-    (λ (e : a.bytes.now ≡ b.bytes.now). clash _ ((bytes_eq-Decides _ _).1 (ap (λ x. key_of x ∷ []) e)) n)
+differ a b p q n = bytes_differ a b p q (λ e. clash _ ((bytes_eq-Decides _ _).1 (ap (λ x. key_of x ∷ []) e)) n)
 
 none_like : (a : Body) (xs : List Body) → IsTrue a.is_plain → All (λ (b : Body). IsTrue b.is_plain) xs → list_any (text_equal (key_of a.bytes.now ∷ [])) (map (λ (k : ℕ). k ∷ []) (keys_of xs)) ≡ false
     → list_any (text_equal (points a)) (all_points xs) ≡ false
@@ -71,3 +74,60 @@ pub one_more_plain : (xs : List Body) (i : ℕ) (b : Body) → i < length xs →
 one_more_plain xs i b l is t all =
     let next : take (i + 1) xs ≡ take i xs ++ b ∷ [] = take_more xs i b l ∙ ap (λ (x : Body). take i xs ++ x ∷ []) (sym is) in
     subst (All (λ (x : Body). IsTrue x.is_plain)) (sym next) (All-append (λ (x : Body). IsTrue x.is_plain) (take i xs) (b ∷ []) all (All-cons (λ (x : Body). IsTrue x.is_plain) b [] t (λ k d l. absurd (omega arith))))
+
+-- ---- places of their own
+
+-- none of some plain bodies has the text of another, of which no one has the place
+none_there : (a : Body) (xs : List Body) → IsTrue a.is_plain → All (λ (b : Body). IsTrue b.is_plain) xs → ((k : ℕ) → k < length xs → place_of (get_or xs k a).bytes.now ≡ place_of a.bytes.now → ⊥) → list_any (text_equal (points a)) (all_points xs) ≡ false
+none_there a [] p all h = refl
+none_there a (x ∷ xs) p all h =
+    ap₂ (λ u v. u || v) (bytes_differ a x p (all 0 x (omega arith)) (λ e. h 0 (omega arith) (ap place_of (sym e)))) (none_there a xs p (λ k d l. all (suc k) d (omega (arith, l))) (λ k l. h (suc k) (omega (arith, l))))
+
+-- a mark stays where another is made
+kept_mark : (ts : List Bool) (i j : ℕ) → i < length ts → get_or ts j false ≡ true → get_or (set ts i true) j false ≡ true
+kept_mark ts i j w o =
+    elim (cases_lt i j) [
+      | inl lt ↦ get_or-set_other ts i j true false (λ e. omega (arith, e, lt)) ∙ o
+      | inr le ↦ elim (cases_lt j i) [
+        | inl lt ↦ get_or-set_other ts i j true false (λ e. omega (arith, e, lt)) ∙ o
+        | inr same ↦ (let e : j ≡ i = omega (arith, le, same) in ap (λ n. get_or (set ts i true) n false) e ∙ get_or-set_same ts i true false w)
+      ]
+    ]
+
+-- those from a place of the list on are plain, differ, and have taken their places
+pub record HaveOwn (xs : List Body) (from : ℕ) (taken : List Bool) : Type 0 where
+  pub plain : All (λ (b : Body). IsTrue b.is_plain) (drop from xs)
+  pub apart : has_repeated (all_points (drop from xs)) ≡ false
+  pub marked : (k : ℕ) (d : Body) → from ≤ k → k < length xs → get_or taken (place_of (get_or xs k d).bytes.now) false ≡ true
+  pub size : length taken ≡ 64
+
+pub none_yet : (xs : List Body) → HaveOwn xs (length xs) (replicate 64 false)
+none_yet xs =
+    let none : drop (length xs) xs ≡ [] = drop_all (length xs) xs (omega arith) in
+    record {
+      plain = subst (All (λ (b : Body). IsTrue b.is_plain)) (sym none) (λ k d l. absurd (omega arith));
+      apart = ap (λ ys. has_repeated (all_points ys)) none;
+      marked = λ k d low high. absurd (omega (arith, low, high));
+      size = refl;
+    }
+
+pub one_more_place : (xs : List Body) (from at : ℕ) (taken : List Bool) (b : Body) → at + 1 ≡ from → at < length xs → b ≡ get_or xs at b → IsTrue b.is_plain → place_of b.bytes.now < 64 → get_or taken (place_of b.bytes.now) false ≡ false → HaveOwn xs from taken
+    → HaveOwn xs at (set taken (place_of b.bytes.now) true)
+one_more_place xs from at taken b next l is p small free h =
+    let parted : drop at xs ≡ b ∷ drop from xs = drop_more xs at b l ∙ ap₂ (λ (x : Body) (n : ℕ). x ∷ drop n xs) (sym is) next in
+    let rest = length-drop from xs in
+    let here : place_of b.bytes.now < length taken = omega (arith, small, h.size) in
+    record {
+      plain = subst (All (λ (x : Body). IsTrue x.is_plain)) (sym parted) (All-cons (λ (x : Body). IsTrue x.is_plain) b (drop from xs) p h.plain);
+      apart = ap (λ ys. has_repeated (all_points ys)) parted
+          ∙ ap₂ (λ u v. u || v) (none_there b (drop from xs) p h.plain (λ k w e. clash _ (h.marked (from + k) b (omega arith) (omega (arith, rest, w))) (ap (λ (x : Body). get_or taken (place_of x.bytes.now) false) (sym (get_or-drop from xs k b)) ∙ (ap (λ n. get_or taken n false) e ∙ free)))) h.apart;
+      marked = λ k d low high. elim (cases_lt at k) [
+        | inl lt ↦ (let o = h.marked k d (omega (arith, lt, next)) high in kept_mark taken (place_of b.bytes.now) (place_of (get_or xs k d).bytes.now) here o)
+        | inr le ↦ (
+            let same : k ≡ at = omega (arith, low, le) in
+            let own : get_or xs k d ≡ b = ap (λ n. get_or xs n d) same ∙ (get_or_default xs at d b l ∙ sym is) in
+            ap (λ (x : Body). get_or (set taken (place_of b.bytes.now) true) (place_of x.bytes.now) false) own ∙ get_or-set_same taken (place_of b.bytes.now) true false here
+            )
+      ];
+      size = length-set taken (place_of b.bytes.now) true ∙ h.size;
+    }

@@ -2,7 +2,6 @@
 use Rattle.std.proofs.Common.{◌≡◌, ℕ, ◌+◌, ◌*◌, ◌<◌, ◌≤◌, ◌^◌, false, inl, inr, List, [], ◌∷◌, ◌++◌, length, get_or, slice_get, slice_range, sym, ◌∙◌, ap, ap₂, subst, refl, arith, Option, Some, None}
 use Rattle.std.specs.Prelude.{IfSome, option_map}
 use Rattle.std.proofs.lemmas.Bool.{cases_lt}
-use Rattle.std.proofs.lemmas.Option.{slice_get_within}
 use Rattle.jp_model.specs.Steps.{Step}
 use Rattle.jp_model.specs.Json.Strings.{SpellsBody, has_lone_surrogate}
 use Rattle.jp_model.specs.Json.Faults.{name_has_lone_surrogate, has_surrogate, has_long_exponent, has_duplicate}
@@ -10,6 +9,8 @@ use Rattle.jp_model.specs.Json.Tree.{no_child, child, Name, span, value_of}
 use Rattle.jp_model.specs.Json.Spelling.{Text}
 use Rattle.jp_model.specs.Meaning.Nodes.{Node, root_node, step_to, children, subtree}
 use Rattle.jp_tape.specs.declared.cursor.Cursor.{Cursor}
+use Rattle.jp_tape.specs.declared.tape.Word.{Word}
+use Rattle.jp_tape.specs.Forms.{joined}
 use Rattle.jp_tape.specs.Words.{node_count, children_node_count, nodes_below, head_word, span_word, label_word, kind_code}
 use Rattle.jp_tape.specs.Spots.{Spot, root_spot, spot_at, children_in, nodes_at, nodes_behind, last_step, name_points}
 use Rattle.jp_tape.specs.Tapes.{spelled}
@@ -17,6 +18,7 @@ use Rattle.jp_tape.specs.Cursors.{line_of, place_of, root_of, spot_of, node_of, 
 use Rattle.jp_tape.proofs.Spots.{length-subtree, length-tape, head-at, span-at, label-at}
 use Rattle.jp_tape.proofs.Places as places
 use Rattle.jp_tape.proofs.Parents.{HasParent, has_parent}
+use Rattle.jp_tape.proofs.Parents as parents
 use Rattle.jp_tape.proofs.Bounds.{room}
 use Rattle.jp_tape.proofs.Stands.{Stands, stands, NameStands, last-push}
 use Rattle.jp_tape.proofs.Sound.{Sound, sound_at}
@@ -103,7 +105,7 @@ span_room c =
 -- ---- its words
 
 -- three for each node of the line
-pub words_counted : (c : Cursor) → length c.words.now ≡ length (subtree (root_node (root_of c))) * 3
+pub words_counted : (c : Cursor) → length c.tape.now ≡ length (subtree (root_node (root_of c))) * 3
 unfolding line_of
 words_counted c =
     let a = ap length c.words_are in
@@ -111,23 +113,23 @@ words_counted c =
     let d = places.length-tree (root_of c) in
     omega (arith, a, b, d)
 
-pub words_long : (c : Cursor) → place_of c * 3 + 2 < length c.words.now
+pub words_long : (c : Cursor) → place_of c * 3 + 2 < length c.tape.now
 words_long c =
     let a = words_counted c in
     let b = within c in
     omega (arith, a, b)
 
-pub head-of : (c : Cursor) (i : ℕ) → i ≡ place_of c * 3 → get_or c.words.now i 0 ≡ head_word (kind_code (value_of (node_of c).tree)) (nodes_below (value_of (node_of c).tree)) (up_of c)
+pub head-of : (c : Cursor) (i : ℕ) → i ≡ place_of c * 3 → get_or c.tape.now i 0 ≡ head_word (kind_code (value_of (node_of c).tree)) (nodes_below (value_of (node_of c).tree)) (up_of c)
 unfolding line_of
 head-of c i e =
     ap (λ w. get_or w i 0) c.words_are
     ∙ (head-at (root_of c) (place_of c) i (inside c) e ∙ ap (λ (s : Spot). head_word (kind_code (value_of s.node.tree)) (nodes_below (value_of s.node.tree)) s.up) (sym (spot-is c)))
 
-pub span-of : (c : Cursor) (i : ℕ) → i ≡ place_of c * 3 + 1 → get_or c.words.now i 0 ≡ span_word (span (node_of c).tree)
+pub span-of : (c : Cursor) (i : ℕ) → i ≡ place_of c * 3 + 1 → get_or c.tape.now i 0 ≡ span_word (span (node_of c).tree)
 unfolding line_of
 span-of c i e = ap (λ w. get_or w i 0) c.words_are ∙ (span-at (root_of c) (place_of c) i (inside c) e ∙ ap (λ (s : Spot). span_word (span s.node.tree)) (sym (spot-is c)))
 
-pub label-of : (c : Cursor) (i : ℕ) → i ≡ place_of c * 3 + 2 → get_or c.words.now i 0 ≡ label_word (index_of c) (name_of c)
+pub label-of : (c : Cursor) (i : ℕ) → i ≡ place_of c * 3 + 2 → get_or c.tape.now i 0 ≡ label_word (index_of c) (name_of c)
 unfolding line_of
 label-of c i e = ap (λ w. get_or w i 0) c.words_are ∙ (label-at (root_of c) (place_of c) i (inside c) e ∙ ap (λ (s : Spot). label_word s.index s.name) (sym (spot-is c)))
 
@@ -175,8 +177,8 @@ unfolding span_word
 nameless line index None location s h = refl
 nameless line index (Some n) location s h = let b = s.2.behind_quote in absurd (omega (arith, b, h))
 
-pub no_name : (c : Cursor) (word : ℕ) → word ≡ label_word (index_of c) (name_of c) → word < 2 ^ 32 → name_of c ≡ None
-no_name c word e l = nameless (line_of c) (index_of c) (name_of c) (node_of c).location (standing c).name (omega (arith, e, l))
+pub no_name : (c : Cursor) (word : Word) → joined word ≡ label_word (index_of c) (name_of c) → word.high ≡ 0 → name_of c ≡ None
+no_name c word e z = let l = word.half in nameless (line_of c) (index_of c) (name_of c) (node_of c).location (standing c).name (omega (arith, e, l, z))
 
 -- a word in whose place no index fits packs the body of a name
 pub record IsNamed (line : List ℕ) (index : ℕ) (name : Option Name) : Type 0 where
@@ -190,12 +192,12 @@ named : (line : List ℕ) (index : ℕ) (name : Option Name) (location : List St
 named line index None location s h = absurd (omega (arith, h))
 named line index (Some n) location s h = record { own = n; is = refl; packed = refl; order = s.2.body.order; inside = s.2.closes.inside }
 
-pub has_name : (c : Cursor) (word : ℕ) → word ≡ label_word (index_of c) (name_of c) → index_of c < word → IsNamed (line_of c) (index_of c) (name_of c)
-has_name c word e l = named (line_of c) (index_of c) (name_of c) (node_of c).location (standing c).name (omega (arith, e, l))
+pub has_name : (c : Cursor) (word : Word) → joined word ≡ label_word (index_of c) (name_of c) → index_of c < 2 ^ 32 → 0 < word.high → IsNamed (line_of c) (index_of c) (name_of c)
+has_name c word e i l = named (line_of c) (index_of c) (name_of c) (node_of c).location (standing c).name (omega (arith, e, i, l))
 
--- the word of a node that has no name is its index
-pub index_is : (c : Cursor) (word : ℕ) → word ≡ label_word (index_of c) (name_of c) → word < 2 ^ 32 → word ≡ index_of c
-index_is c word e l = e ∙ ap (label_word (index_of c)) (no_name c word e l)
+-- the low half of the word of a node that has no name is its index
+pub index_is : (c : Cursor) (word : Word) → joined word ≡ label_word (index_of c) (name_of c) → word.high ≡ 0 → word.low ≡ index_of c
+index_is c word e z = let s : joined word ≡ index_of c = e ∙ ap (label_word (index_of c)) (no_name c word e z) in omega (arith, s, z)
 
 -- ---- from one cursor to another
 
@@ -243,12 +245,7 @@ at_top : (c : Cursor) → place_of c ≡ 0 → spot_of c ≡ root_spot (root_of 
 at_top c z = spot-is c ∙ ap (spot_at (root_of c)) z
 
 up_inside : (c : Cursor) → up_of c < node_count (root_of c)
-up_inside c =
-    let w = inside c in
-    elim (cases_lt 0 (place_of c)) [
-      | inl lt ↦ (let b = (parent_of c lt).before in omega (arith, b, w))
-      | inr le ↦ (let e = ap (λ (s : Spot). s.up) (at_top c (omega (arith, le))) in omega (arith, e, w))
-    ]
+up_inside c = subst (λ (s : Spot). s.up < node_count (root_of c)) (sym (spot-is c)) (parents.up_inside (root_of c) (place_of c) (inside c))
 
 pub up_within : (c : Cursor) → up_of c < length (subtree (root_node (root_of c)))
 up_within c = let a = up_inside c in let b = places.length-tree (root_of c) in omega (arith, a, b)
@@ -264,24 +261,8 @@ pub index_short : (c : Cursor) → index_of c < 2 ^ 32
 index_short c =
     let n = few c in
     let l = short c in
-    elim (cases_lt 0 (place_of c)) [
-      | inl lt ↦ (
-          let r = parent_of c lt in
-          let b = r.before in
-          let w = inside c in
-          let parent : Node = (spot_at (root_of c) (up_of c)).node in
-          let i = slice_get_within (children parent) (index_of c) (node_of c) r.child in
-          let k = places.few_children parent in
-          let m = places.count-in parent.tree in
-          let s = length-subtree parent in
-          let a = places.after_within (root_of c) (up_of c) (omega (arith, b, w)) in
-          omega (arith, n, l, i, k, m, s, a)
-          )
-      | inr le ↦ (
-          let e : index_of c ≡ 0 = ap (λ (s : Spot). s.index) (at_top c (omega (arith, le))) in
-          omega (arith, e)
-          )
-    ]
+    let i : index_of c < node_count (root_of c) = subst (λ (s : Spot). s.index < node_count (root_of c)) (sym (spot-is c)) (parents.index_inside (root_of c) (place_of c) (inside c)) in
+    omega (arith, n, l, i)
 
 -- a member is not the root
 pub member_below : (c : Cursor) → IsNamed (line_of c) (index_of c) (name_of c) → 0 < place_of c

@@ -3,6 +3,7 @@ pub mod Spots
 pub mod Places
 pub mod Parents
 pub mod Packed
+pub mod Narrow
 pub mod Bounds
 pub mod Stands
 pub mod Sound

@@ -1,77 +1,89 @@
 -- What a packed word holds.
-use Rattle.std.proofs.Common.{◌≡◌, ℕ, ◌+◌, ◌/◌, ◌%◌, ◌^◌, ◌<◌, ◌≤◌, ◌∙◌, ap, ap₂, refl, arith, bit_and}
+use Rattle.std.proofs.Common.{◌≡◌, ℕ, ◌+◌, ◌*◌, ◌-◌, ◌/◌, ◌%◌, ◌^◌, ◌<◌, ◌∙◌, ap, ap₂, refl, arith, true, false}
 use Rattle.std.proofs.lemmas.Bool.Decides.{nat_tests}
-use Rattle.std.proofs.lemmas.Nat.{and_mask}
 use Rattle.jp_model.specs.declared.Span.{Span}
-use Rattle.jp_tape.specs.Words.{nodes_below, children_node_count, head_word, span_word, kind_code}
 use Rattle.jp_model.specs.Json.Tree.{Value, null, boolean, number, string, container, array, object}
-use Rattle.std.proofs.Common.{true, false}
 use Rattle.jp_tape.specs.declared.Kind.TheVariants as kinds
+use Rattle.jp_tape.specs.declared.tape.Word.{Word}
+use Rattle.jp_tape.specs.Words.{nodes_below, children_node_count, head_word, span_word, kind_code}
+use Rattle.jp_tape.specs.Forms.{joined}
 use Rattle.jp_tape.specs.Kinds.{kind_of, kind_by}
 
-head_shape : (code below parent : ℕ) → parent < 2 ^ 31 → head_word code below parent / 2 ^ 31 ≡ code + below
-unfolding head_word
-head_shape code below parent h = grind arith
-
-head_parent : (code below parent : ℕ) → parent < 2 ^ 31 → head_word code below parent % 2 ^ 31 ≡ parent
-unfolding head_word
-head_parent code below parent h = grind arith
-
-pub span_start : (s : Span) → s.end < 2 ^ 32 → span_word s / 2 ^ 32 ≡ s.start
+-- the halves of a word that packs a span are its ends
+pub unpacked : (word : Word) (s : Span) → s.end < 2 ^ 32 → joined word ≡ span_word s → record { start = word.high; end = word.low } ≡ s
 unfolding span_word
-span_start s h = grind arith
+unpacked word s h e =
+    let l = word.half in
+    let a : word.high ≡ s.start = omega (arith, l, h, e) in
+    let b : word.low ≡ s.end = omega (arith, l, h, e) in
+    ap₂ (λ (x y : ℕ). record { start = x; end = y }) a b
 
-pub span_end : (s : Span) → s.end < 2 ^ 32 → span_word s % 2 ^ 32 ≡ s.end
-unfolding span_word
-span_end s h = grind arith
+-- ---- the first word
 
-pub unpacked : (word : ℕ) (s : Span) → s.end < 2 ^ 32 → word ≡ span_word s → record { start = word / 2 ^ 32; end = word % 2 ^ 32 } ≡ s
-unpacked word s h e = ap₂ (λ (x y : ℕ). record { start = x; end = y }) (ap (λ w. w / 2 ^ 32) e ∙ span_start s h) (ap (λ w. w % 2 ^ 32) e ∙ span_end s h)
+-- The high half of the number of a kind, and the bit of an object.
+abbrev shape : Value → ℕ
+shape null = 0
+shape (boolean false) = 1
+shape (boolean true) = 2
+shape (number m e) = 3
+shape (string points) = 4
+shape (container kind children) = 5 + children_node_count children
 
--- an array's number has the one above of the nodes below, and an object's the one above that
-array_kind : (below : ℕ) → below < 2 ^ 31 → kind_by (2 ^ 31 + below) ≡ kinds.Array
-array_kind below h = grind (arith, nat_tests)
+abbrev bit : Value → ℕ
+bit (container object children) = 1
+bit v = 0
 
-object_kind : (below : ℕ) → kind_by (2 ^ 32 + below) ≡ kinds.Object
-object_kind below = grind (arith, nat_tests)
+record Halves (word : Word) (v : Value) (parent : ℕ) : Type 0 where
+  pub high : word.high ≡ shape v
+  pub low : word.low ≡ parent * 2 + bit v
 
-kind_coded : (v : Value) → nodes_below v < 2 ^ 31 → kind_by (kind_code v + nodes_below v) ≡ kind_of v
-kind_coded null h = refl
-kind_coded (boolean true) h = refl
-kind_coded (boolean false) h = refl
-kind_coded (number m e) h = refl
-kind_coded (string points) h = refl
-kind_coded (container array children) h = array_kind (children_node_count children) h
-kind_coded (container object children) h = object_kind (children_node_count children)
+halves : (word : Word) (v : Value) (parent : ℕ) → joined word ≡ head_word (kind_code v) (nodes_below v) parent → parent < 2 ^ 31 → nodes_below v < 2 ^ 31 → Halves word v parent
+unfolding head_word
+halves word null parent e p b = let l = word.half in record { high = omega (arith, l, e, p, b); low = omega (arith, l, e, p, b) }
+halves word (boolean true) parent e p b = let l = word.half in record { high = omega (arith, l, e, p, b); low = omega (arith, l, e, p, b) }
+halves word (boolean false) parent e p b = let l = word.half in record { high = omega (arith, l, e, p, b); low = omega (arith, l, e, p, b) }
+halves word (number m x) parent e p b = let l = word.half in record { high = omega (arith, l, e, p, b); low = omega (arith, l, e, p, b) }
+halves word (string points) parent e p b = let l = word.half in record { high = omega (arith, l, e, p, b); low = omega (arith, l, e, p, b) }
+halves word (container array children) parent e p b = let l = word.half in record { high = omega (arith, l, e, p, b); low = omega (arith, l, e, p, b) }
+halves word (container object children) parent e p b = let l = word.half in record { high = omega (arith, l, e, p, b); low = omega (arith, l, e, p, b) }
 
-pub kind-packed : (word parent : ℕ) (v : Value) → word ≡ head_word (kind_code v) (nodes_below v) parent → parent < 2 ^ 31 → nodes_below v < 2 ^ 31 → kind_by (word / 2 ^ 31) ≡ kind_of v
-kind-packed word parent v e p h = ap kind_by (ap (λ w. w / 2 ^ 31) e ∙ head_shape (kind_code v) (nodes_below v) parent p) ∙ kind_coded v h
+array_kind : (below low : ℕ) → low % 2 ≡ 0 → kind_by (5 + below) low ≡ kinds.Array
+array_kind below low h = grind (arith, nat_tests)
 
-pub parent-packed : (word code below parent : ℕ) → word ≡ head_word code below parent → parent < 2 ^ 31 → bit_and word 2147483647 ≡ parent
-parent-packed word code below parent e p = and_mask word 31 ∙ (ap (λ w. w % 2 ^ 31) e ∙ head_parent code below parent p)
+object_kind : (below low : ℕ) → low % 2 ≡ 1 → kind_by (5 + below) low ≡ kinds.Object
+object_kind below low h = grind (arith, nat_tests)
 
--- a number below those of arrays has no nodes below
-none_coded : (v : Value) → kind_code v + nodes_below v < 2 ^ 31 → nodes_below v ≡ 0
-none_coded null h = refl
-none_coded (boolean b) h = refl
-none_coded (number m e) h = refl
-none_coded (string points) h = refl
-none_coded (container array children) h = absurd (omega (arith, h))
-none_coded (container object children) h = absurd (omega (arith, h))
+kind_shaped : (v : Value) (low parent : ℕ) → low ≡ parent * 2 + bit v → kind_by (shape v) low ≡ kind_of v
+kind_shaped null low parent e = refl
+kind_shaped (boolean true) low parent e = refl
+kind_shaped (boolean false) low parent e = refl
+kind_shaped (number m x) low parent e = refl
+kind_shaped (string points) low parent e = refl
+kind_shaped (container array children) low parent e = array_kind (children_node_count children) low (omega (arith, e))
+kind_shaped (container object children) low parent e = object_kind (children_node_count children) low (omega (arith, e))
 
-pub none-packed : (word parent : ℕ) (v : Value) → word ≡ head_word (kind_code v) (nodes_below v) parent → parent < 2 ^ 31 → word / 2 ^ 31 < 2 ^ 31 → nodes_below v ≡ 0
-none-packed word parent v e p h = let s = ap (λ w. w / 2 ^ 31) e ∙ head_shape (kind_code v) (nodes_below v) parent p in none_coded v (omega (arith, s, h))
+below_shaped : (v : Value) → shape v - 5 ≡ nodes_below v
+below_shaped null = refl
+below_shaped (boolean true) = refl
+below_shaped (boolean false) = refl
+below_shaped (number m e) = refl
+below_shaped (string points) = refl
+below_shaped (container kind children) = omega arith
 
-below_coded : (v : Value) → nodes_below v < 2 ^ 31 → 2 ^ 31 ≤ kind_code v + nodes_below v → (kind_code v + nodes_below v) % 2 ^ 31 ≡ nodes_below v
-below_coded null h l = absurd (omega (arith, l))
-below_coded (boolean true) h l = absurd (omega (arith, l))
-below_coded (boolean false) h l = absurd (omega (arith, l))
-below_coded (number m e) h l = absurd (omega (arith, l))
-below_coded (string points) h l = absurd (omega (arith, l))
-below_coded (container array children) h l = omega (arith, h)
-below_coded (container object children) h l = omega (arith, h)
+bit_small : (v : Value) → bit v < 2
+bit_small null = omega arith
+bit_small (boolean b) = omega arith
+bit_small (number m e) = omega arith
+bit_small (string points) = omega arith
+bit_small (container array children) = omega arith
+bit_small (container object children) = omega arith
 
-pub below-packed : (word parent : ℕ) (v : Value) → word ≡ head_word (kind_code v) (nodes_below v) parent → parent < 2 ^ 31 → nodes_below v < 2 ^ 31 → 2 ^ 31 ≤ word / 2 ^ 31 → bit_and (word / 2 ^ 31) 2147483647 ≡ nodes_below v
-below-packed word parent v e p h l =
-    let s = ap (λ w. w / 2 ^ 31) e ∙ head_shape (kind_code v) (nodes_below v) parent p in
-    and_mask (word / 2 ^ 31) 31 ∙ (ap (λ w. w % 2 ^ 31) s ∙ below_coded v h (omega (arith, s, l)))
+module _ (word : Word) (v : Value) (parent : ℕ) (e : joined word ≡ head_word (kind_code v) (nodes_below v) parent) (p : parent < 2 ^ 31) (b : nodes_below v < 2 ^ 31) where
+  pub kind-packed : kind_by word.high word.low ≡ kind_of v
+  kind-packed = let h = halves word v parent e p b in ap (λ n. kind_by n word.low) h.high ∙ kind_shaped v word.low parent h.low
+
+  pub parent-packed : word.low / 2 ≡ parent
+  parent-packed = let h = (halves word v parent e p b).low in let s = bit_small v in omega (arith, h, s)
+
+  pub below-packed : word.high - 5 ≡ nodes_below v
+  below-packed = let h = halves word v parent e p b in ap (λ n. n - 5) h.high ∙ below_shaped v

@@ -2,13 +2,14 @@
 use Rattle.std.proofs.Common.{◌≡◌, ℕ, zero, suc, ◌+◌, ◌<◌, List, [], ◌∷◌, ◌++◌, length, drop, get_or, slice_get, sym, ◌∙◌, ap, subst, refl, arith, Option, Some, append_assoc, append-nil, drop-drop, add-zero}
 use Rattle.std.specs.Prelude.{option_map}
 use Rattle.std.proofs.lemmas.List.{drop_at, length-drop, length-map}
-use Rattle.std.proofs.lemmas.Option.{slice_get-map}
+use Rattle.std.proofs.lemmas.Option.{slice_get-map, slice_get_within}
 use Rattle.jp_model.specs.Steps.{Step}
 use Rattle.jp_model.specs.Json.Tree.{Tree, node, null, boolean, number, string, container, Children, no_child, child, Name, value_of}
 use Rattle.jp_model.specs.Meaning.Nodes.{Node, child_of, step_to, steps_from, steps_in, children}
 use Rattle.jp_tape.specs.Words.{node_count}
 use Rattle.jp_tape.specs.Spots.{Spot, child_spot, root_spot, spots_below, spots_from, spots, spot_at, nodes_at, nodes_behind}
-use Rattle.jp_tape.proofs.Spots.{length-below, spot-is}
+use Rattle.jp_tape.proofs.Spots.{length-below, length-subtree, spot-is}
+use Rattle.jp_tape.proofs.Places as places
 
 -- a spot at a place of a tree's, and the one at its parent's place
 pub record HasParent (t : Tree) (place : ℕ) (s : Spot) : Type 0 where
@@ -96,3 +97,22 @@ has_parent t (suc i) l h =
     let n = length-below [] 0 t in
     let all = below_parents t t [] 0 [] refl (sym (append-nil (spots_below [] 0 t))) in
     subst (λ k. HasParent t k (spot_at t (suc i))) (let e : 0 + 1 + i ≡ suc i = omega arith in e) (each-at t (0 + 1) (spots_below [] 0 t) i (root_spot t) (omega (arith, n, h)) all)
+
+-- ---- the place of a parent, and the number of siblings before, are fewer than the nodes
+
+pub up_inside : (t : Tree) (place : ℕ) → place < node_count t → (spot_at t place).up < node_count t
+up_inside t zero h = h
+up_inside t (suc i) h = let b = (has_parent t (suc i) (omega arith) h).before in omega (arith, b, h)
+
+pub index_inside : (t : Tree) (place : ℕ) → place < node_count t → (spot_at t place).index < node_count t
+index_inside t zero h = h
+index_inside t (suc j) h =
+    let r = has_parent t (suc j) (omega arith) h in
+    let b = r.before in
+    let parent : Node = (spot_at t (spot_at t (suc j)).up).node in
+    let i = slice_get_within (children parent) (spot_at t (suc j)).index (spot_at t (suc j)).node r.child in
+    let k = places.few_children parent in
+    let m = places.count-in parent.tree in
+    let s = length-subtree parent in
+    let a = places.after_within t (spot_at t (suc j)).up (omega (arith, b, h)) in
+    omega (arith, i, k, m, s, a)

@@ -8,13 +8,15 @@ use Rattle.jp_model.specs.declared.Span.{Span}
 use Rattle.jp_model.specs.declared.Framing.TheVariants as framings
 use Rattle.jp_model.specs.Characters.{is_white}
 use Rattle.jp_model.specs.Json.Places.{White}
-use Rattle.jp_model.specs.Json.Tree.{Tree, node, Value, null, boolean, number, string, container, array, object}
+use Rattle.jp_model.specs.Json.Tree.{Tree, node, Value, null, boolean, number, string, container, array, object, value_of}
 use Rattle.jp_model.specs.Json.Faults.{has_open_end, is_truncated}
 use Rattle.jp_model.specs.Json.Spelling.{Text}
 use Rattle.jp_model.proofs.Reader.Lexical.{clash}
+use Rattle.jp_tape.proofs.Bounds.{room}
+use Rattle.jp_tape.proofs.Places.{count-below}
 use Rattle.jp_tape.specs.Words.{head_word, span_word, kind_code, nodes_below, tape_words}
 
-open_below : (v : Value) → has_open_end v ≡ true → head_word (kind_code v) (nodes_below v) 0 < 2 ^ 33
+open_below : (v : Value) → has_open_end v ≡ true → head_word (kind_code v) (nodes_below v) 0 < 2 ^ 34
 unfolding head_word
 open_below null h = omega arith
 open_below (boolean true) h = omega arith
@@ -23,14 +25,14 @@ open_below (number m x) h = omega arith
 open_below (string points) h = absurd (clash false h refl)
 open_below (container kind children) h = absurd (clash false h refl)
 
-closed_above : (v : Value) → has_open_end v ≡ false → 2 ^ 33 ≤ head_word (kind_code v) (nodes_below v) 0
+closed_above : (v : Value) → nodes_below v < 2 ^ 31 → has_open_end v ≡ false → 2 ^ 34 ≤ head_word (kind_code v) (nodes_below v) 0
 unfolding head_word
-closed_above null h = absurd (clash true refl h)
-closed_above (boolean b) h = absurd (clash true refl h)
-closed_above (number m x) h = absurd (clash true refl h)
-closed_above (string points) h = omega arith
-closed_above (container array children) h = omega arith
-closed_above (container object children) h = omega arith
+closed_above null few h = absurd (clash true refl h)
+closed_above (boolean b) few h = absurd (clash true refl h)
+closed_above (number m x) few h = absurd (clash true refl h)
+closed_above (string points) few h = omega arith
+closed_above (container array children) few h = omega (arith, few)
+closed_above (container object children) few h = omega (arith, few)
 
 end_of_span : (s : Span) → s.end < 2 ^ 32 → span_word s % 2 ^ 32 ≡ s.end
 unfolding span_word
@@ -52,15 +54,22 @@ end_test line i w =
           )
     ]
 
-pub open_of_first : (v : Value) (words : List ℕ) (s : Span) → words ≡ tape_words (node s v) → get_or words 0 0 < 2 ^ 33 → has_open_end v ≡ true
-open_of_first v words s e l =
+-- two bytes to a node but one
+few_below : (line : List ℕ) (t : Tree) → Text line t → length line < 2 ^ 32 → nodes_below (value_of t) < 2 ^ 31
+few_below line t h l =
+    let all = room line t h.value in
+    let count = count-below t in
+    omega (arith, l, all, count)
+
+open_of_first : (v : Value) (words : List ℕ) (s : Span) → nodes_below v < 2 ^ 31 → words ≡ tape_words (node s v) → get_or words 0 0 < 2 ^ 34 → has_open_end v ≡ true
+open_of_first v words s few e l =
     let w : get_or words 0 0 ≡ head_word (kind_code v) (nodes_below v) 0 = ap (λ (xs : List ℕ). get_or xs 0 0) e in
     elim (cases_Bool (has_open_end v)) [
       | inl t ↦ t
-      | inr f ↦ (let a = closed_above v f in absurd (omega (arith, w, a, l)))
+      | inr f ↦ (let a = closed_above v few f in absurd (omega (arith, w, a, l)))
     ]
 
-pub closed_of_first : (v : Value) (words : List ℕ) (s : Span) → words ≡ tape_words (node s v) → 2 ^ 33 ≤ get_or words 0 0 → has_open_end v ≡ false
+closed_of_first : (v : Value) (words : List ℕ) (s : Span) → words ≡ tape_words (node s v) → 2 ^ 34 ≤ get_or words 0 0 → has_open_end v ≡ false
 closed_of_first v words s e l =
     let w : get_or words 0 0 ≡ head_word (kind_code v) (nodes_below v) 0 = ap (λ (xs : List ℕ). get_or xs 0 0) e in
     elim (cases_Bool (has_open_end v)) [
@@ -68,17 +77,17 @@ closed_of_first v words s e l =
       | inr f ↦ f
     ]
 
-pub truncated_open : (line words : List ℕ) (t : Tree) → Text line t → words ≡ tape_words t → length line < 2 ^ 32 → get_or words 0 0 < 2 ^ 33 → (get_or words 1 0 % 2 ^ 32 == length line) ≡ is_truncated framings.Sequence line t
+pub truncated_open : (line words : List ℕ) (t : Tree) → Text line t → words ≡ tape_words t → length line < 2 ^ 32 → get_or words 0 0 < 2 ^ 34 → (get_or words 1 0 % 2 ^ 32 == length line) ≡ is_truncated framings.Sequence line t
 truncated_open line words (node s v) h e room l =
     let w : get_or words 1 0 ≡ span_word s = ap (λ (xs : List ℕ). get_or xs 1 0) e in
     let o = h.after.order in
     ap (λ n. n % 2 ^ 32 == length line) w
     ∙ (ap (λ n. n == length line) (end_of_span s (omega (arith, o, room)))
-    ∙ (end_test line s.end h.after ∙ ap (λ b. b && not (list_any is_white (drop s.end line))) (sym (open_of_first v words s e l))))
+    ∙ (end_test line s.end h.after ∙ ap (λ b. b && not (list_any is_white (drop s.end line))) (sym (open_of_first v words s (few_below line (node s v) h room) e l))))
 
-pub truncated_closed : (line words : List ℕ) (t : Tree) → words ≡ tape_words t → 2 ^ 33 ≤ get_or words 0 0 → nat_lt (get_or words 0 0) (2 ^ 33) ≡ is_truncated framings.Sequence line t
+pub truncated_closed : (line words : List ℕ) (t : Tree) → words ≡ tape_words t → 2 ^ 34 ≤ get_or words 0 0 → nat_lt (get_or words 0 0) (2 ^ 34) ≡ is_truncated framings.Sequence line t
 truncated_closed line words (node s v) e l =
-    elim (cases_Bool (nat_lt (get_or words 0 0) (2 ^ 33))) [
+    elim (cases_Bool (nat_lt (get_or words 0 0) (2 ^ 34))) [
       | inl t ↦ (let a = ltb-true _ _ t in absurd (omega (arith, a, l)))
       | inr f ↦ f ∙ ap (λ b. b && not (list_any is_white (drop s.end line))) (sym (closed_of_first v words s e l))
     ]

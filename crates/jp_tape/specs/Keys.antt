@@ -1,5 +1,5 @@
 -- A word that stands for the bytes of a name.
-use Rattle.std.specs.Prelude.{◌≡◌, ◌+◌, ◌-◌, ◌*◌, ◌^◌, ◌%◌, ◌++◌, ◌∷◌, [], ℕ, List, length, map, take, drop, replicate, cond, nat_lt, false}
+use Rattle.std.specs.Prelude.{◌≡◌, ◌+◌, ◌-◌, ◌*◌, ◌^◌, ◌%◌, ◌++◌, ◌∷◌, [], ℕ, List, length, map, get_or, take, drop, replicate, cond, nat_lt, false}
 use Rattle.std.specs.Int.{w64, from_le_bytes}
 use Rattle.jp_model.specs.Json.Faults.{has_repeated}
 use Rattle.jp_tape.specs.declared.builder.body.Body.{Body}
@@ -11,6 +11,10 @@ word_at bytes at = from_le_bytes w64 (take 8 (drop at bytes))
 -- the first eight bytes, the last eight and the length of a long name, or all of a short one
 unfoldable pub key_of : List ℕ → ℕ
 key_of bytes = cond (nat_lt (length bytes) 8) (from_le_bytes w64 (bytes ++ replicate (8 - length bytes) 0)) (((word_at bytes 0 * 0x9E3779B97F4A7C15) % 2 ^ 64 + word_at bytes (length bytes - 8) + length bytes) % 2 ^ 64)
+
+-- one of 64 places, by the length and the first byte
+unfoldable pub place_of : List ℕ → ℕ
+place_of bytes = (length bytes % 64 + get_or bytes 0 0) % 64
 
 -- the keys of bodies
 abbrev pub keys_of : List Body → List ℕ

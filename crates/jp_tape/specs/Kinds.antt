@@ -1,5 +1,5 @@
 -- What kind of value a node is (RFC 8259, section 3).
-use Rattle.std.specs.Prelude.{ℕ, ◌^◌, Bool, true, false, nat_eq, nat_lt, if◌then◌else◌}
+use Rattle.std.specs.Prelude.{ℕ, ◌%◌, Bool, true, false, nat_eq, if◌then◌else◌}
 use Rattle.jp_model.specs.Json.Tree.{Value, null, boolean, number, string, container, Container, array, object}
 use Rattle.jp_tape.specs.declared.Kind.{Kind}
 use Rattle.jp_tape.specs.declared.Kind.TheVariants as kinds
@@ -22,8 +22,8 @@ kind_of (number m e) = kinds.Number
 kind_of (string points) = kinds.Text
 kind_of (container kind children) = container_kind kind
 
--- by its number in the first word of a node, to which that of the nodes below is added in an array or an object
-abbrev pub kind_by : ℕ → Kind
-kind_by code =
-    if nat_eq code 0 then kinds.Null else if nat_eq code 1 then kinds.False else if nat_eq code 2 then kinds.True
-    else if nat_eq code 3 then kinds.Number else if nat_eq code 4 then kinds.Text else if nat_lt code (2 ^ 32) then kinds.Array else kinds.Object
+-- by the halves of the first word of a node
+abbrev pub kind_by : (high low : ℕ) → Kind
+kind_by high low =
+    if nat_eq high 0 then kinds.Null else if nat_eq high 1 then kinds.False else if nat_eq high 2 then kinds.True
+    else if nat_eq high 3 then kinds.Number else if nat_eq high 4 then kinds.Text else if nat_eq (low % 2) 0 then kinds.Array else kinds.Object

@@ -3,6 +3,7 @@ pub mod Words
 pub mod Kinds
 pub mod Contents
 pub mod Spots
+pub mod Forms
 pub mod Tapes
 pub mod Cursors
 pub mod Places

@@ -1,5 +1,5 @@
 -- What the readers of single tokens answer.
-use Rattle.std.specs.Prelude.{◌≡◌, ℕ, ◌^◌, Bool, true, false, List, [], Option, Some, None}
+use Rattle.std.specs.Prelude.{◌≡◌, ℕ, ◌+◌, ◌*◌, ◌^◌, Bool, true, false, List, [], Option, Some, None}
 use Rattle.jp_model.specs.declared.Span.{Span}
 use Rattle.jp_model.specs.declared.LineFault.TheVariants as line_faults
 use Rattle.jp_model.specs.Json.Tree.{Tree, node, Value, Container, array, object, Name, span}
@@ -18,12 +18,12 @@ use Rattle.jp_tape.specs.Words.{kind_code, nodes_below, words_below, span_word}
 -- the number of a kind
 abbrev pub code_of : Kind → ℕ
 code_of kinds.Null = 0
-code_of kinds.False = 1
-code_of kinds.True = 2
-code_of kinds.Number = 3
-code_of kinds.Text = 4
-code_of kinds.Array = 2 ^ 31
-code_of kinds.Object = 2 ^ 32
+code_of kinds.False = 1 * 2 ^ 32
+code_of kinds.True = 2 * 2 ^ 32
+code_of kinds.Number = 3 * 2 ^ 32
+code_of kinds.Text = 4 * 2 ^ 32
+code_of kinds.Array = 5 * 2 ^ 32
+code_of kinds.Object = 5 * 2 ^ 32 + 1
 
 -- the array's or the object's
 abbrev pub container_if : Bool → Container

@@ -1,5 +1,5 @@
 -- The words of a tape: three to a node, each node before its children, in the order of the line.
-use Rattle.std.specs.Prelude.{ℕ, ◌+◌, ◌*◌, ◌^◌, Bool, true, false, List, [], ◌∷◌, ◌++◌, Option, Some, None}
+use Rattle.std.specs.Prelude.{ℕ, ◌+◌, ◌*◌, ◌%◌, ◌^◌, Bool, true, false, List, [], ◌∷◌, ◌++◌, Option, Some, None}
 use Rattle.jp_model.specs.declared.Span.{Span}
 use Rattle.jp_model.specs.Json.Tree.{Tree, node, Value, null, boolean, number, string, container, Container, array, object, Children, no_child, child, Name}
 
@@ -29,28 +29,29 @@ nodes_below (number m e) = 0
 nodes_below (string points) = 0
 nodes_below (container kind children) = children_node_count children
 
--- the number of a kind; the number of the nodes below is added to an array's or an object's
+-- the number of a kind, which stands in the high half of a word; an object's has a bit in the low half, too
 abbrev pub boolean_code : Bool → ℕ
-boolean_code false = 1
-boolean_code true = 2
+boolean_code false = 1 * 2 ^ 32
+boolean_code true = 2 * 2 ^ 32
 
 -- that of an array, and of an object
 abbrev pub container_code : Container → ℕ
-container_code array = 2 ^ 31
-container_code object = 2 ^ 32
+container_code array = 5 * 2 ^ 32
+container_code object = 5 * 2 ^ 32 + 1
 
 -- that of a value
 abbrev pub kind_code : Value → ℕ
 kind_code null = 0
 kind_code (boolean b) = boolean_code b
-kind_code (number m e) = 3
-kind_code (string points) = 4
+kind_code (number m e) = 3 * 2 ^ 32
+kind_code (string points) = 4 * 2 ^ 32
 kind_code (container kind children) = container_code kind
 
--- the first word: the number of the kind and of the nodes below, above the place of the parent, 0 for the root. In a line of
--- fewer than 2 ^ 32 bytes the nodes below are fewer than 2 ^ 31, and the place is less.
+-- the first word: the number of the kind and of the nodes below, above twice the place of the parent, 0 for the root, to
+-- which an object adds one. In a line of fewer than 2 ^ 32 bytes 64 bits hold it: the nodes below are fewer than 2 ^ 31, and
+-- the place is less.
 unfoldable pub head_word : (code below parent : ℕ) → ℕ
-head_word code below parent = (code + below) * 2 ^ 31 + parent
+head_word code below parent = (code + below * 2 ^ 32 + parent * 2) % 2 ^ 64
 
 -- the second word: where the value stands, the start above the end
 unfoldable pub span_word : Span → ℕ

@@ -1,6 +1,6 @@
 //! The builder of a tape: it reads a line once, and tells its first fault.
 
-ghost use Rattle.std.specs.Prelude.{◌≡◌, ◌<◌, ◌↔◌, ◌^◌, false, length, IfOk, IfErr, IsTrue, IsUtf8};
+ghost use Rattle.std.specs.Prelude.{◌≡◌, ◌<◌, ◌↔◌, ◌^◌, false, length, map, IfOk, IfErr, IsTrue, IsUtf8};
 ghost use Rattle.std.specs.Box.{boxed_slice_items};
 ghost use Rattle.jp_model.specs.Lines.{is_blank};
 ghost use Rattle.jp_model.specs.Json.Faults.{is_truncated as truncated};
@@ -10,6 +10,7 @@ ghost use Rattle.jp_model.specs.Json.Spelling.{Text};
 ghost use Rattle.jp_model.specs.Json.Status.{HasStatus, parsed, fault_of_tree};
 ghost use Rattle.jp_tape.specs.Tapes.{IsTapeOf};
 ghost use Rattle.jp_tape.specs.Words.{tape_words};
+ghost use Rattle.jp_tape.specs.Forms.{narrowed, words_of};
 ghost use Rattle.jp_tape.specs.Machine.{IsFinished};
 ghost use Rattle.jp_tape.specs.Refusals.{IsRefused};
 
@@ -20,7 +21,7 @@ mod names;
 mod scan;
 mod tokens;
 
-use crate::tape::Tape;
+use crate::tape::{Tape, Words};
 use jp_model::{Framing, LineFault};
 pub use machine::Builder;
 use machine::walk;
@@ -47,7 +48,7 @@ fn is_truncated(words: &[u64], line: &[u8], framing: Framing) -> bool
 {
     match framing {
         Framing::Lines => false,
-        Framing::Sequence => words[0] < 4 << 31 && words[1] % (1 << 32) == line.len() as u64,
+        Framing::Sequence => words[0] < 4 << 32 && words[1] % (1 << 32) == line.len() as u64,
     }
 }
 
@@ -72,19 +73,44 @@ fn fault_of(builder: &Builder<'_>, line: &[u8], framing: Framing) -> Option<Line
     }
 }
 
+/// The halves of all words of a line have at most 16 bits where its bytes are fewer than this.
+const NARROW: usize = 1 << 16;
+
+/// The low 16 bits of each half of a word, in 32 bits.
+#[inline(always)]
+#[tactic(auto, unfolding(crate::specs::Forms::narrowed))]
+fn narrow(word: u64) -> u32
+    ensures { result ≡ narrowed word }
+{
+    ((word >> 32) % (1 << 16) * (1 << 16) + word % (1 << 16)) as u32
+}
+
+/// The words, each in 32 bits.
+fn narrow_words(alloc: Global, words: &[u64]) -> Result<BoxedSlice<u32>, AllocError>
+    ensures { IfOk result (λ packed. boxed_slice_items packed ≡ map narrowed words.now) }
+{
+    let mut packed = Vec::with_capacity(alloc, words.len())?;
+    packed.extend(words.iter().map(|word| narrow(*word)))?;
+    Ok(packed.into_boxed_slice())
+}
+
 /// So many words of a tape, those of 16,384 nodes, are copied, and more are handed over with their memory.
 const MOST_COPIED: usize = 3 << 14;
 
 impl<'a> Builder<'a> {
-    /// The words of the line that was read, in memory of their own.
-    fn tape_words(&mut self, alloc: Global) -> Result<BoxedSlice<u64>, AllocError>
-        ensures { IfOk result (λ words. boxed_slice_items words ≡ self.old.words.items) }
+    /// The words of the line that was read, in memory of their own. Those of a short line are narrow.
+    fn tape_words(&mut self, alloc: Global, line: &[u8]) -> Result<Words, AllocError>
+        requires { (t : Tree) × Text line.now t × (self.old.words.items ≡ tape_words t) }
+        ensures { IfOk result (λ words. words_of words ≡ self.old.words.items) }
     {
+        if line.len() < NARROW {
+            return Ok(Words::Narrow(narrow_words(alloc, &self.words)?));
+        }
         if self.words.len() <= MOST_COPIED {
-            return BoxedSlice::from_slice(alloc, &self.words);
+            return Ok(Words::Wide(BoxedSlice::from_slice(alloc, &self.words)?));
         }
         let words = std::mem::replace(&mut self.words, Vec::new(alloc));
-        Ok(words.into_boxed_slice())
+        Ok(Words::Wide(words.into_boxed_slice()))
     }
 
     /// The tape of a line, or the line's first fault, as the function `build` tells them. The tape has memory of its own, and
@@ -113,7 +139,7 @@ impl<'a> Builder<'a> {
         walk(self, line, marks)?;
         match fault_of(self, line, framing) {
             Some(fault) => Err(BuildFault::Line(fault)),
-            None => match self.tape_words(alloc) {
+            None => match self.tape_words(alloc, line) {
                 Ok(words) => Ok(Tape { words }),
                 Err(_) => Err(BuildFault::Memory),
             },

@@ -11,24 +11,29 @@ ghost use Rattle.jp_model.specs.Rows.{source as source_of};
 ghost use Rattle.jp_strings.specs.Points.{IsText, points_of};
 ghost use Rattle.jp_tape.specs.Kinds.{kind_of, kind_by};
 ghost use Rattle.jp_tape.specs.Contents.{text_in, number_in};
+ghost use Rattle.jp_tape.specs.Forms.{joined};
 ghost use Rattle.jp_tape.specs.Spots.{children_in, last_step, name_points};
 ghost use Rattle.jp_tape.specs.Tapes.{is_spelled, spelled, IsTapeOf};
 ghost use Rattle.jp_model.specs.declared.Span.{Span};
 ghost use Rattle.jp_tape.specs.Words.{node_count, tape_words, nodes_below, head_word, span_word, label_word, kind_code};
 
 use crate::Kind;
-use crate::tape::Tape;
+use crate::tape::{Tape, Word};
 use jp_decimal::Decimal;
 use jp_model::Span;
 
 /// A node of a line (RFC 9535, section 1.1): a place in the line's tape. It is copied freely and owns nothing.
 #[derive(Clone, Copy)]
 pub struct Cursor<'a> {
-    words: &'a [u64],
+    tape: &'a Tape,
+    /// How many words the tape has.
+    len: usize,
     line: &'a [u8],
+    // It comes last: what is copied sixteen bytes at a time is then not what was just written.
     place: u32,
     ghost spelled_line: { is_spelled line.now ≡ true },
-    ghost words_are: { words.now ≡ tape_words (spelled line.now) },
+    ghost words_are: { tape.now ≡ tape_words (spelled line.now) },
+    ghost len_is: { len ≡ length tape.now },
     ghost short: { length line.now < 2 ^ 32 },
     ghost whole: { has_surrogate (spelled line.now) ≡ false },
     ghost exponents: { has_long_exponent line.now (spelled line.now) ≡ false },
@@ -36,33 +41,30 @@ pub struct Cursor<'a> {
     ghost within: { place < node_count (spelled line.now) },
 }
 
-/// The low half of a word.
-const LOW: u64 = 0xFFFF_FFFF;
-
-/// The bits of a place, and of a number of nodes, in a first word.
-const PLACE: u64 = 0x7FFF_FFFF;
+/// So many kinds of values have no children.
+const LEAVES: u32 = 5;
 
 /// The span that a word packs.
-fn unpack(word: u64) -> Span
-    ensures { (s : Span) → s.end < 2 ^ 32 → word ≡ span_word s → result ≡ s }
+fn unpack(word: Word) -> Span
+    ensures { (s : Span) → s.end < 2 ^ 32 → joined word ≡ span_word s → result ≡ s }
 {
     Span {
-        start: (word >> 32) as u32,
-        end: (word & LOW) as u32,
+        start: word.high,
+        end: word.low,
     }
 }
 
-/// The kind by its number in a first word.
-fn kind_of_code(code: u64) -> Kind
-    ensures { result ≡ kind_by code }
+/// The kind by the first word of a node.
+fn kind_of_head(word: Word) -> Kind
+    ensures { result ≡ kind_by word.high word.low }
 {
-    match code {
+    match word.high {
         0 => Kind::Null,
         1 => Kind::False,
         2 => Kind::True,
         3 => Kind::Number,
         4 => Kind::Text,
-        _ if code < 1 << 32 => Kind::Array,
+        _ if word.low % 2 == 0 => Kind::Array,
         _ => Kind::Object,
     }
 }
@@ -78,7 +80,8 @@ impl<'a> Cursor<'a> {
         ensures node { node_of result ≡ root_node (spelled line.now) }
     {
         Cursor {
-            words: &tape.words,
+            tape,
+            len: tape.len(),
             line,
             place: 0,
         }
@@ -103,7 +106,8 @@ impl<'a> Cursor<'a> {
         ensures node { slice_get (subtree (root_node (root_of self.entry))) place ≡ Some (node_of result) }
     {
         Cursor {
-            words: self.words,
+            tape: self.tape,
+            len: self.len,
             line: self.line,
             place,
         }
@@ -143,7 +147,7 @@ impl<'a> Cursor<'a> {
     pub fn kind(self) -> Kind
         ensures { result ≡ kind_of (value_of (node_of self.entry).tree) }
     {
-        kind_of_code(self.head() >> 31)
+        kind_of_head(self.head())
     }
 
     /// Where the node's value stands: bytes of the line, from 0.
@@ -191,7 +195,7 @@ impl<'a> Cursor<'a> {
         ensures place { IfSome result (λ c. place_of c ≡ place_of self.entry + length (subtree (node_of self.entry))) }
     {
         let place = self.after();
-        if self.words.len() <= 3 * place as usize {
+        if self.len <= 3 * place as usize {
             return None;
         }
         let next = self.go_to(place);
@@ -212,7 +216,11 @@ impl<'a> Cursor<'a> {
         ensures within { IfSome result (λ s. (s.start ≤ s.end) × (s.end < length (line_of self.entry))) }
     {
         let word = self.label();
-        if word > LOW { Some(unpack(word)) } else { None }
+        if word.high > 0 {
+            Some(unpack(word))
+        } else {
+            None
+        }
     }
 
     /// The node that this one is an element or a member of. The root has none.
@@ -237,8 +245,8 @@ impl<'a> Cursor<'a> {
         ensures step { 0 < place_of self.entry → last_step (node_of self.entry).location ≡ Some (step_to result (name_of self.entry)) }
     {
         let word = self.label();
-        if word <= LOW {
-            return word as u32;
+        if word.high == 0 {
+            return word.low;
         }
         let members = self.go_to(self.up()).child_count();
         members - Cursor::count_from(Some(self))
@@ -255,6 +263,7 @@ impl<'a> Cursor<'a> {
     }
 
     /// The body of a string, without its quotes (RFC 8259, section 7).
+    #[inline(always)]
     pub fn text(self) -> Option<&'a [u8]>
         ensures points { option_map (λ body. points_of body.now) result ≡ text_in (value_of (node_of self.entry).tree) }
         ensures text { IfSome result (λ body. IsText body.now) }
@@ -312,42 +321,37 @@ impl<'a> Cursor<'a> {
     fn below(self) -> u32
         ensures { result ≡ nodes_below (value_of (node_of self.entry).tree) }
     {
-        let shape = self.head() >> 31;
-        if shape < 1 << 31 {
-            0
-        } else {
-            (shape & PLACE) as u32
-        }
+        self.head().high.saturating_sub(LEAVES)
     }
 
     /// The place of the parent; 0 for the root.
     fn up(self) -> u32
         ensures { result ≡ up_of self.entry }
     {
-        (self.head() & PLACE) as u32
+        self.head().low / 2
     }
 
     /// The first word: the kind, the number of the nodes below, and the place of the parent.
-    fn head(self) -> u64
-        ensures word { result ≡ head_word (kind_code (value_of (node_of self.entry).tree)) (nodes_below (value_of (node_of self.entry).tree)) (up_of self.entry) }
+    fn head(self) -> Word
+        ensures word { joined result ≡ head_word (kind_code (value_of (node_of self.entry).tree)) (nodes_below (value_of (node_of self.entry).tree)) (up_of self.entry) }
         ensures below { nodes_below (value_of (node_of self.entry).tree) < 2 ^ 31 }
         ensures parent { up_of self.entry < 2 ^ 31 }
     {
-        self.words[3 * self.place as usize]
+        self.tape.word(3 * self.place as usize)
     }
 
     /// The second word: where the value stands.
-    fn body(self) -> u64
-        ensures { result ≡ span_word (span_of (node_of self.entry).tree) }
+    fn body(self) -> Word
+        ensures { joined result ≡ span_word (span_of (node_of self.entry).tree) }
     {
-        self.words[3 * self.place as usize + 1]
+        self.tape.word(3 * self.place as usize + 1)
     }
 
     /// The third word: where the body of the name stands, or the index of a node that has no name.
-    fn label(self) -> u64
-        ensures word { result ≡ label_word (index_of self.entry) (name_of self.entry) }
+    fn label(self) -> Word
+        ensures word { joined result ≡ label_word (index_of self.entry) (name_of self.entry) }
         ensures index { index_of self.entry < 2 ^ 32 }
     {
-        self.words[3 * self.place as usize + 2]
+        self.tape.word(3 * self.place as usize + 2)
     }
 }

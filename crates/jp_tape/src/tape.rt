@@ -1,6 +1,6 @@
 //! The words of a line.
 
-ghost use Rattle.std.specs.Prelude.{◌≡◌, ℕ, ◌<◌, ◌^◌, false, List, length};
+ghost use Rattle.std.specs.Prelude.{◌≡◌, ℕ, ◌<◌, ◌^◌, false, List, length, slice_index_or};
 ghost use Rattle.jp_model.specs.Json.Tree.{Tree};
 ghost use Rattle.jp_model.specs.Json.Spelling.{Text};
 ghost use Rattle.jp_model.specs.Json.Faults.{has_surrogate, has_long_exponent, has_duplicate};
@@ -10,10 +10,53 @@ ghost use Rattle.jp_tape.specs.Words.{tape_words};
 use std::boxed::BoxedSlice;
 use std::marker::Model;
 
+/// The words of a tape in memory.
+#[derive(Drop)]
+pub(crate) enum Words {
+    /// Both halves of each word have at most 16 bits, and stand in 32.
+    Narrow(BoxedSlice<u32>),
+    Wide(BoxedSlice<u64>),
+}
+
+/// The halves of a word.
+#[derive(Clone, Copy)]
+pub(crate) struct Word {
+    pub(crate) high: u32,
+    pub(crate) low: u32,
+    ghost half: { low < 2 ^ 32 },
+}
+
+impl Word {
+    ghost use Rattle.jp_tape.specs.Forms.{joined, widened};
+
+    /// The word whose halves these 32 bits hold.
+    #[inline(always)]
+    #[tactic(auto, unfolding(crate::specs::Forms::widened))]
+    fn widen(packed: u32) -> Word
+        ensures { joined result ≡ widened packed }
+    {
+        Word {
+            high: packed >> 16,
+            low: packed % (1 << 16),
+        }
+    }
+
+    /// The halves of a word.
+    #[inline(always)]
+    fn split(word: u64) -> Word
+        ensures { joined result ≡ word }
+    {
+        Word {
+            high: (word >> 32) as u32,
+            low: (word % (1 << 32)) as u32,
+        }
+    }
+}
+
 /// The nodes of one line in packed words, three to a node. A clause sees the list of words.
 #[derive(Drop)]
 pub struct Tape {
-    pub(crate) words: BoxedSlice<u64>,
+    pub(crate) words: Words,
 }
 
 impl Model for Tape {
@@ -21,9 +64,36 @@ impl Model for Tape {
 
     ghost Value = { List ℕ };
 
-    ghost use Rattle.std.specs.Box.{boxed_slice_items};
+    ghost use Rattle.jp_tape.specs.Forms.{words_of};
 
-    ghost view = { λ t. boxed_slice_items t.words };
+    ghost view = { λ t. words_of t.words };
+}
+
+impl Tape {
+    ghost use Rattle.jp_tape.specs.Forms.{joined};
+
+    /// How many words there are.
+    #[inline(always)]
+    pub(crate) fn len(&self) -> usize
+        ensures { result ≡ length self.now }
+    {
+        match &self.words {
+            Words::Narrow(packed) => packed.len(),
+            Words::Wide(words) => words.len(),
+        }
+    }
+
+    /// The word at an index, from 0.
+    #[inline(always)]
+    pub(crate) fn word(&self, index: usize) -> Word
+        requires { index < length self.now }
+        ensures { joined result ≡ slice_index_or self.now index 0 }
+    {
+        match &self.words {
+            Words::Narrow(packed) => Word::widen(packed[index]),
+            Words::Wide(words) => Word::split(words[index]),
+        }
+    }
 }
 
 /// The tape of a line is that of the tree that the line spells, and says what a cursor relies on of that tree.

@@ -1,10 +1,10 @@
 //! Words that stand for the bytes of names.
 
-ghost use Rattle.std.specs.Prelude.{◌≡◌, ◌≤◌, ◌+◌, ◌-◌, ◌++◌, [], length, replicate, IsTrue, IfOk, false, All};
+ghost use Rattle.std.specs.Prelude.{◌≡◌, ◌<◌, ◌≤◌, ◌+◌, ◌-◌, ◌++◌, [], length, replicate, IsTrue, IfOk, false, All};
 ghost use Rattle.jp_model.specs.Json.Faults.{has_repeated};
 ghost use Rattle.jp_tape.specs.declared.builder.body.Body.{Body};
 ghost use Rattle.jp_tape.specs.Names.{all_points};
-ghost use Rattle.jp_tape.specs.Keys.{word_at as the_word, key_of, keys_of, AreApart};
+ghost use Rattle.jp_tape.specs.Keys.{word_at as the_word, key_of, keys_of, place_of, AreApart};
 
 use super::body::Body;
 use std::alloc::AllocError;
@@ -52,6 +52,38 @@ fn key(bytes: &[u8]) -> u64
     first
         .wrapping_add(word_at(bytes, bytes.len() - 8))
         .wrapping_add(bytes.len() as u64)
+}
+
+/// A number below 64 for a name.
+#[inline(always)]
+#[tactic(auto, unfolding(crate::specs::Keys::place_of))]
+fn place(bytes: &[u8]) -> usize
+    ensures value { result ≡ place_of bytes.now }
+    ensures within { result < 64 }
+{
+    let first = match bytes.first() {
+        Some(byte) => *byte as usize,
+        None => 0,
+    };
+    (bytes.len() % 64 + first) % 64
+}
+
+/// Whether each body has a place of its own, so that they differ. Where it says no, they may differ still.
+pub(super) fn have_own_places(bodies: &[Body<'_>]) -> bool
+    ensures { IsTrue result → has_repeated (all_points bodies.now) ≡ false }
+{
+    let mut taken = [false; 64];
+    let mut left = bodies.len();
+    while left > 0 {
+        left -= 1;
+        let body = &bodies[left];
+        let place = place(body.bytes);
+        if !body.is_plain || taken[place] {
+            return false;
+        }
+        taken[place] = true;
+    }
+    true
 }
 
 /// Whether no two keys are the same, told by a sort.

@@ -93,18 +93,18 @@ fn closing_of(is_object: bool) -> u8
     if is_object { b'}' } else { b']' }
 }
 
-/// The number of a kind in a node's first word. That of the nodes below is added to an array's or an object's.
+/// The number of a kind in a node's first word.
 fn code(kind: Kind) -> u64
     ensures { result ≡ code_of kind }
 {
     match kind {
         Kind::Null => 0,
-        Kind::False => 1,
-        Kind::True => 2,
-        Kind::Number => 3,
-        Kind::Text => 4,
-        Kind::Array => 1 << 31,
-        Kind::Object => 1 << 32,
+        Kind::False => 1 << 32,
+        Kind::True => 2 << 32,
+        Kind::Number => 3 << 32,
+        Kind::Text => 4 << 32,
+        Kind::Array => 5 << 32,
+        Kind::Object => (5 << 32) + 1,
     }
 }
 
@@ -117,10 +117,12 @@ fn container_kind(is_object: bool) -> Kind
 /// The first word of a node.
 #[tactic(auto, unfolding(crate::specs::Words::head_word))]
 fn head(kind: Kind, below: usize, parent: u32) -> u64
-    requires { below + 2 < 2 ^ 32 }
     ensures { result ≡ head_word (code_of kind) below parent }
 {
-    (code(kind) + below as u64) * (1 << 31) + parent as u64
+    let halves = (below as u64).wrapping_mul(1 << 32);
+    code(kind)
+        .wrapping_add(halves)
+        .wrapping_add(parent as u64 * 2)
 }
 
 /// The second word of a node, and the third of one that has a name.
@@ -283,6 +285,7 @@ impl<'a> Builder<'a> {
     }
 
     /// Reads the opening bracket at `at`, and what stands behind it up to the first child's value.
+    #[inline(always)]
     fn enter(
         &mut self,
         line: &'a [u8],
@@ -349,11 +352,9 @@ impl<'a> Builder<'a> {
         if at >= line.len() {
             return Err(GRAMMAR);
         }
-        if is_at(line, at, b'[') {
-            return self.enter(line, at, false, name);
-        }
-        if is_at(line, at, b'{') {
-            return self.enter(line, at, true, name);
+        let is_object = is_at(line, at, b'{');
+        if is_object || is_at(line, at, b'[') {
+            return self.enter(line, at, is_object, name);
         }
         let Some(scalar) = scalar_at(line, self.marks, at) else {
             return Err(GRAMMAR);

@@ -8,7 +8,7 @@ ghost use Rattle.jp_model.specs.Json.Faults.{has_repeated};
 ghost use Rattle.jp_tape.specs.Names.{points, all_points};
 
 use super::body::Body;
-use super::keys::are_distinct;
+use super::keys::{are_distinct, have_own_places};
 use jp_lanes::equal_bytes;
 use jp_strings::{compare, equal};
 use std::alloc::AllocError;
@@ -91,7 +91,7 @@ pub(super) fn has_equal(bodies: &mut [Body<'_>], keys: &mut Vec<u64>) -> Result<
     ensures { IfOk result (λ is_repeated. is_repeated ≡ has_repeated (all_points bodies.old)) }
 {
     if bodies.len() <= MOST_PAIRED {
-        return Ok(has_equal_pair(bodies));
+        return Ok(!have_own_places(bodies) && has_equal_pair(bodies));
     }
     if are_distinct(bodies, keys)? {
         return Ok(false);

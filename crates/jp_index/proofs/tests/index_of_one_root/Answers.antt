@@ -1,6 +1,11 @@
 -- One line more was put in.
 use Rattle.jp_index.proofs.tests.index_of_one_root.Goals as goal
 
+pub loop-init : goal.loop-init
+loop-init c =
+    let none = c.new-builder.ensures in
+    (_, _, c.reserve.ensures.entries _ 0 _ none)
+
 pub loop-preserved : goal.loop-preserved
 loop-preserved c =
     let before = c.loop.invariant in

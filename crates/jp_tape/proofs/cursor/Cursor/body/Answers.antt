@@ -1,12 +1,12 @@
-use Rattle.std.proofs.Common.{arith}
+use Rattle.std.proofs.Common.{◌∙◌, arith}
 use Rattle.jp_tape.specs.Cursors.{place_of}
 use Rattle.jp_tape.proofs.Cursors.{words_long, span-of}
 use Rattle.jp_tape.proofs.cursor.Cursor.body.Goals as goal
 
-pub bounds-self-self : goal.bounds-self-self
+pub word-requires : goal.word-requires
 unfolding place_of
-bounds-self-self c = let l = words_long c.args.self in omega (arith, l)
+word-requires c = let l = words_long c.args.self in omega (arith, l)
 
 pub returns : goal.returns
 unfolding place_of
-returns c = span-of c.args.self _ (omega arith)
+returns c = c.word.ensures ∙ span-of c.args.self _ (omega arith)

@@ -1,7 +1,9 @@
-use Rattle.std.proofs.Common.{◌≡◌, ℕ, ◌+◌, ◌-◌, ◌^◌, ◌≤◌, ◌∙◌, Some, length, subst, sym, arith}
+use Rattle.std.proofs.Common.{◌≡◌, ℕ, ◌+◌, ◌-◌, ◌<◌, ◌∙◌, Some, length, subst, sym, arith}
 use Rattle.jp_model.specs.Json.Tree.{value_of, count_children}
 use Rattle.jp_model.specs.Meaning.Nodes.{step_to, children}
 use Rattle.jp_tape.specs.declared.cursor.Cursor.{Cursor}
+use Rattle.jp_tape.specs.declared.tape.Word.{Word}
+use Rattle.jp_tape.specs.Forms.{joined}
 use Rattle.jp_tape.specs.Words.{label_word}
 use Rattle.jp_tape.specs.Spots.{children_in, last_step}
 use Rattle.jp_tape.specs.Cursors.{line_of, place_of, node_of, name_of, up_of, index_of, nodes_from}
@@ -10,18 +12,17 @@ use Rattle.jp_tape.proofs.Cursors.{index_is, index_short, has_name, member_below
 use Rattle.jp_tape.proofs.cursor.Cursor.index.Goals as goal
 
 -- the members of a member's object are those before it and those from it on
-member : (c p : Cursor) (word : ℕ) → word ≡ label_word (index_of c) (name_of c) → 2 ^ 32 ≤ word → line_of p ≡ line_of c → place_of p ≡ up_of c → length (children (node_of p)) ≡ index_of c + length (nodes_from (Some c))
-member c p word e few l at = let short = index_short c in siblings c p l at (member_below c (has_name c word e (omega (arith, short, few))))
+member : (c p : Cursor) (word : Word) → joined word ≡ label_word (index_of c) (name_of c) → 0 < word.high → line_of p ≡ line_of c → place_of p ≡ up_of c → length (children (node_of p)) ≡ index_of c + length (nodes_from (Some c))
+member c p word e few l at = siblings c p l at (member_below c (has_name c word e (index_short c) few))
 
-counted : (c p : Cursor) (word members : ℕ) → word ≡ label_word (index_of c) (name_of c) → 2 ^ 32 ≤ word → line_of p ≡ line_of c → place_of p ≡ up_of c → members ≡ count_children (children_in (value_of (node_of p).tree)) →
+counted : (c p : Cursor) (word : Word) (members : ℕ) → joined word ≡ label_word (index_of c) (name_of c) → 0 < word.high → line_of p ≡ line_of c → place_of p ≡ up_of c → members ≡ count_children (children_in (value_of (node_of p).tree)) →
     members ≡ index_of c + length (nodes_from (Some c))
 counted c p word members e few l at m = m ∙ (sym (length-children (node_of p)) ∙ member c p word e few l at)
 
-pub returns-then-word-le-LOW : goal.returns-then-word-le-LOW
-returns-then-word-le-LOW c =
+pub returns-then-word-eq0 : goal.returns-then-word-eq0
+returns-then-word-eq0 c =
     let self = c.args.self in
-    let few = c.if-word-le-LOW.true in
-    let e = index_is self c.label-word.result c.label-word.ensures.word (omega (arith, few)) in
+    let e = index_is self c.label-word.result c.label-word.ensures.word c.if-word-eq0.true in
     record { value = e; step = λ h. subst (λ (n : ℕ). last_step (node_of self).location ≡ Some (step_to n (name_of self))) (sym e) (last_is self h) }
 
 pub go_to-requires : goal.go_to-requires
@@ -29,14 +30,14 @@ go_to-requires c = let e = c.up.ensures in let w = up_within c.args.self in omeg
 
 pub count_from-requires : goal.count_from-requires
 count_from-requires c =
-    let few = c.if-word-le-LOW.false in
+    let few = c.if-word-eq0.false in
     let all = member c.args.self c.go_to.result c.label-word.result c.label-word.ensures.word (omega (arith, few)) c.go_to.ensures.line (c.go_to.ensures.place ∙ c.up.ensures) in
     let short = children_few c.go_to.result in
     omega (arith, all, short)
 
 pub overflow_sub-result : goal.overflow_sub-result
 overflow_sub-result c =
-    let few = c.if-word-le-LOW.false in
+    let few = c.if-word-eq0.false in
     let all = counted c.args.self c.go_to.result c.label-word.result _ c.label-word.ensures.word (omega (arith, few)) c.go_to.ensures.line (c.go_to.ensures.place ∙ c.up.ensures) c.child_count-members.ensures.children in
     let from = c.count_from.ensures in
     omega (arith, all, from)
@@ -44,7 +45,7 @@ overflow_sub-result c =
 pub returns : goal.returns
 returns c =
     let self = c.args.self in
-    let few = c.if-word-le-LOW.false in
+    let few = c.if-word-eq0.false in
     let all = counted self c.go_to.result c.label-word.result _ c.label-word.ensures.word (omega (arith, few)) c.go_to.ensures.line (c.go_to.ensures.place ∙ c.up.ensures) c.child_count-members.ensures.children in
     let from = c.count_from.ensures in
     let e : c.child_count-members.result - c.count_from.result ≡ index_of self = omega (arith, all, from) in

@@ -1,12 +1,12 @@
-use Rattle.std.proofs.Common.{arith}
+use Rattle.std.proofs.Common.{◌∙◌, arith}
 use Rattle.jp_tape.specs.Cursors.{place_of}
 use Rattle.jp_tape.proofs.Cursors.{words_long, label-of, index_short}
 use Rattle.jp_tape.proofs.cursor.Cursor.label.Goals as goal
 
-pub bounds-self-self : goal.bounds-self-self
+pub word-requires : goal.word-requires
 unfolding place_of
-bounds-self-self c = let l = words_long c.args.self in omega (arith, l)
+word-requires c = let l = words_long c.args.self in omega (arith, l)
 
 pub returns : goal.returns
 unfolding place_of
-returns c = record { word = label-of c.args.self _ (omega arith); index = index_short c.args.self }
+returns c = record { word = c.word.ensures ∙ label-of c.args.self _ (omega arith); index = index_short c.args.self }

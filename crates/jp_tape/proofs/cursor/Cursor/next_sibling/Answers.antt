@@ -7,16 +7,18 @@ use Rattle.jp_tape.proofs.cursor.Cursor.next_sibling.Goals as goal
 pub go_to-next-requires : goal.go_to-next-requires
 go_to-next-requires c =
     let w = words_counted c.args.self in
+    let n = c.args.self.len_is in
     let f = c.if-self-place.false in
-    omega (arith, w, f)
+    omega (arith, w, n, f)
 
 pub returns-then-self-place : goal.returns-then-self-place
 returns-then-self-place c =
     let self = c.args.self in
     let w = words_counted self in
+    let n = self.len_is in
     let t = c.if-self-place.true in
     let v = c.after-place.ensures.value in
-    let found = no_sibling self (at_end self (omega (arith, w, t, v))) in
+    let found = no_sibling self (at_end self (omega (arith, w, n, t, v))) in
     record { nodes = sym found.0; children = sym found.1; line = tt; place = tt }
 
 pub returns-then-up : goal.returns-then-up

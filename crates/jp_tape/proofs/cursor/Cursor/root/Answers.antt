@@ -1,4 +1,4 @@
-use Rattle.std.proofs.Common.{◌∙◌, refl}
+use Rattle.std.proofs.Common.{refl}
 use Rattle.jp_tape.specs.Cursors.{line_of, place_of}
 use Rattle.jp_tape.specs.Tapes.{spelled}
 use Rattle.jp_tape.proofs.Places.{some_node}
@@ -7,7 +7,7 @@ use Rattle.jp_tape.proofs.cursor.Cursor.root.Goals as goal
 
 pub invariant_of-result : goal.invariant_of-result
 invariant_of-result c =
-    record { spelled_line = c.requires.spelled_line; words_are = c.deref.ensures.value ∙ (c.tape.view_is ∙ c.requires.words_are); short = c.requires.short; whole = c.requires.whole; exponents = c.requires.exponents; distinct = c.requires.distinct; within = some_node (spelled c.args.line.now) }
+    record { spelled_line = c.requires.spelled_line; words_are = c.requires.words_are; len_is = c.len.ensures; short = c.requires.short; whole = c.requires.whole; exponents = c.requires.exponents; distinct = c.requires.distinct; within = some_node (spelled c.args.line.now) }
 
 pub returns : goal.returns
 unfolding line_of place_of

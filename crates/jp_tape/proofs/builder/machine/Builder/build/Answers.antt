@@ -1,5 +1,5 @@
 use Rattle.std.proofs.Common.{sym, ◌∙◌, ap}
-use Rattle.std.specs.Box.{boxed_slice_items}
+use Rattle.jp_tape.specs.Forms.{words_of}
 use Rattle.jp_tape.specs.Words.{tape_words}
 use Rattle.jp_model.proofs.Reader.Whole.{one_tree}
 use Rattle.jp_tape.proofs.Refused.{refused_of}
@@ -22,4 +22,4 @@ returns-in-Ok-clause-made c =
     let f = c.in_ok-walk.ensures.found in
     let line = c.args.line.now in
     let clean = without_fault c.args.framing line f.0 (sym (c.in-None.ensures f.0 f.1 f.2)) in
-    tape_made (boxed_slice_items c.in-Ok.words) line f.0 f.1 (c.in-Ok.ensures ∙ f.2.words) c.requires.room clean.0 clean.1 clean.2
+    tape_made (words_of c.in-Ok.words) line f.0 f.1 (c.in-Ok.ensures ∙ f.2.words) c.requires.room clean.0 clean.1 clean.2

@@ -1,0 +1,9 @@
+use Rattle.std.proofs.Common.{◌≤◌, length}
+use Rattle.jp_tape.proofs.Apart.{HaveOwn}
+use Rattle.jp_tape.proofs.builder.keys.have_own_places.Given as goal
+
+abbrev pub invariant-loop-left : goal.invariant-loop-left
+invariant-loop-left l = record { own : HaveOwn l.bodies l.left l.taken; within : l.left ≤ length l.bodies }
+
+abbrev pub decreases-loop-left : goal.decreases-loop-left
+decreases-loop-left l = l.left
