@@ -12,6 +12,8 @@ mod Along
 mod Chunks
 mod SetBits
 mod Written
+mod ByteRows
+mod ByteSteps
 mod LineBlocks
 mod RowsLaw
 mod SinkLaw

@@ -162,17 +162,18 @@ pub set_bits_none : set_bits 0 ≡ []
 unfolding set_bits
 set_bits_none = filter_none (bit 0) 0 64 (λ i low high. bit_zero i)
 
+-- no more pass than there are
+pub length-filter_range : (p : ℕ → Bool) (a n : ℕ) → length (filter p (range_with_len a n)) ≤ n
+length-filter_range p a zero = omega arith
+length-filter_range p a (suc n) = one (p a) (length-filter_range p (a + 1) n)
+  where
+    one : (b : Bool) → length (filter p (range_with_len (a + 1) n)) ≤ n → length (cond b (a ∷ filter p (range_with_len (a + 1) n)) (filter p (range_with_len (a + 1) n))) ≤ suc n
+    one true short = omega arith
+    one false short = omega arith
+
 pub length-set_bits : (word : ℕ) → length (set_bits word) ≤ 64
 unfolding set_bits
-length-set_bits word = within (bit word) 0 64
-  where
-    within : (p : ℕ → Bool) (a n : ℕ) → length (filter p (range_with_len a n)) ≤ n
-    within p a zero = omega arith
-    within p a (suc n) = one (p a) (within p (a + 1) n)
-      where
-        one : (b : Bool) → length (filter p (range_with_len (a + 1) n)) ≤ n → length (cond b (a ∷ filter p (range_with_len (a + 1) n)) (filter p (range_with_len (a + 1) n))) ≤ suc n
-        one true short = omega arith
-        one false short = omega arith
+length-set_bits word = length-filter_range (bit word) 0 64
 
 -- places that are counted from 0
 pub from_first : (before places : List ℕ) (base : ℕ) → before ++ map (λ i. base + i - 0) places ≡ before ++ map (λ i. base + i) places

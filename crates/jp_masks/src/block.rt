@@ -1,15 +1,17 @@
 //! One block of 64 bytes: its marks, and what the next block has to know.
 
-ghost use Rattle.std.specs.Prelude.{◌≡◌, ℕ, ◌+◌, ◌-◌, ◌^◌, ◌<◌, ◌≤◌, ◌++◌, true, map, take, length, slice_index, OnOk, OnErr};
+ghost use Rattle.std.specs.Prelude.{◌≡◌, ℕ, ◌+◌, ◌-◌, ◌%◌, ◌^◌, ◌<◌, ◌≤◌, ◌++◌, true, map, take, length, slice_index, OnOk, OnErr};
 ghost use Rattle.jp_lanes.specs.Word.{bit, Says};
 ghost use Rattle.jp_masks.specs.Ends.{is_end, ends_word};
-ghost use Rattle.jp_masks.specs.Places.{set_bits};
+ghost use Rattle.jp_masks.specs.Places.{set_bits, byte_bits, HasByteBits};
 ghost use Rattle.jp_masks.specs.Runs.{odd_run, parity, restarted, carried, escaped_at};
 ghost use Rattle.jp_masks.specs.Machine.{before, is_marked};
 
+use crate::byte_bits::SET_BITS;
 use jp_lanes::{Classes, classify};
 use jp_model::Framing;
 use std::alloc::AllocError;
+use std::simd::prelude::*;
 
 /// How many bytes a block has, and so how many places at most.
 const BLOCK: usize = 64;
@@ -153,10 +155,61 @@ pub fn scan_block(bytes: &[u8; 64], framing: Option<Framing>, first: Carry) -> F
     Found { marks, ends, next }
 }
 
-/// Writes the places of the set bits of a block that begins at `base`, lowest first, each counted from `start`, and tells
-/// how many they are.
+/// How many places are written at once: one for each bit of a byte.
+const LANES: usize = 8;
+
+/// The numbers of the set bits of a byte, lowest first, and others behind them, as a table has them.
 #[inline(always)]
-fn write_places(places: &mut [u32], base: u32, start: u32, word: u64) -> usize
+#[tactic(auto, unfolding(crate::specs::Places::HasByteBits))]
+fn bit_numbers(table: &[[u8; LANES]; 256], byte: u8) -> [u8; LANES]
+    requires { HasByteBits table.now }
+    ensures { take (length (byte_bits byte)) result ≡ byte_bits byte }
+{
+    table[byte as usize]
+}
+
+/// Writes the places of the set bits of a byte, whose lowest bit stands at `base`, lowest first from an index on, and tells how
+/// many they are. What stood behind them up to the eighth place is lost.
+#[inline(always)]
+fn write_byte(places: &mut [u32], at: usize, base: u32, byte: u8) -> usize
+    requires { at + LANES ≤ length places.old }
+    ensures written { take (at + result) places.new ≡ take at places.old ++ map (λ i. (base + i) % 2 ^ 32) (byte_bits byte) }
+    ensures count { result ≡ length (byte_bits byte) }
+    ensures long { length places.new ≡ length places.old }
+{
+    let numbers: Simd<u8, LANES> = Simd::from_array(bit_numbers(&SET_BITS, byte));
+    let found = numbers.cast::<u32>() + Simd::splat(base);
+    found.copy_to_slice(&mut places[at..]);
+    byte.count_ones() as usize
+}
+
+/// Writes the places of the set bits of a block that begins at `base`, lowest first, and tells how many they are. A byte writes
+/// eight places, so the last one ends within those of the block.
+#[inline(always)]
+fn write_places(places: &mut [u32], base: u32, word: u64) -> usize
+    requires room { BLOCK ≤ length places.old }
+    requires fits { (i : ℕ) → i < 64 → bit word i ≡ true → base + i < 2 ^ 32 }
+    ensures written { take result places.new ≡ map (λ i. base + i) (set_bits word) }
+    ensures within { result ≤ BLOCK }
+    ensures long { BLOCK ≤ length places.new }
+{
+    let mut count = 0;
+    let mut rest = word;
+    for byte in 0..BLOCK / LANES {
+        if rest == 0 {
+            return count;
+        }
+        let from = base as u64 + (byte * LANES) as u64;
+        let bits = (rest % (1 << LANES)) as u8;
+        count += write_byte(places, count, (from % (1 << 32)) as u32, bits);
+        rest >>= LANES;
+    }
+    count
+}
+
+/// Writes the same places one by one, each counted from `start`.
+#[inline(always)]
+fn write_places_from(places: &mut [u32], base: u32, start: u32, word: u64) -> usize
     requires room { BLOCK ≤ length places.old }
     requires fits { (i : ℕ) → i < 64 → bit word i ≡ true → base + i < 2 ^ 32 }
     ensures written { take result places.new ≡ map (λ i. base + i - start) (set_bits word) }
@@ -174,19 +227,20 @@ fn write_places(places: &mut [u32], base: u32, start: u32, word: u64) -> usize
     count
 }
 
-/// Adds them behind other places. After an `Err` the places are as before.
+/// Writes them by bytes, where the line begins before the block, as most do: nothing is then left to subtract from each place.
 #[inline(always)]
-fn add_places(places: &mut Vec<u32>, base: u32, start: u32, word: u64) -> Result<(), AllocError>
-    requires { (i : ℕ) → i < 64 → bit word i ≡ true → base + i < 2 ^ 32 }
-    ensures ok { OnOk result (places.new.items ≡ places.old.items ++ map (λ i. base + i - start) (set_bits word)) }
-    ensures err { OnErr result (places.new.items ≡ places.old.items) }
+fn write_block(places: &mut [u32], base: u32, start: u32, word: u64) -> usize
+    requires room { BLOCK ≤ length places.old }
+    requires fits { (i : ℕ) → i < 64 → bit word i ≡ true → base + i < 2 ^ 32 }
+    ensures written { take result places.new ≡ map (λ i. base + i - start) (set_bits word) }
+    ensures within { result ≤ BLOCK }
+    ensures long { BLOCK ≤ length places.new }
 {
-    // A loop over a slice has its address and its length at hand, where one that pushes loads and stores them.
-    let from = places.len();
-    places.resize(from + BLOCK, 0)?;
-    let count = write_places(&mut places[from..], base, start, word);
-    places.truncate(from + count);
-    Ok(())
+    if start <= base {
+        write_places(places, base - start, word)
+    } else {
+        write_places_from(places, base, start, word)
+    }
 }
 
 /// Adds the places of the set bits of a block that begins at `base`, lowest first, each counted from `start`. After an
@@ -201,9 +255,10 @@ pub fn push_places(
     ensures ok { OnOk result (places.new.items ≡ places.old.items ++ map (λ i. base + i - start) (set_bits word)) }
     ensures err { OnErr result (places.new.items ≡ places.old.items) }
 {
-    if start <= base {
-        // Most lines begin before the block, and nothing is left to subtract from each place.
-        return add_places(places, base - start, 0, word);
-    }
-    add_places(places, base, start, word)
+    // A loop over a slice has its address and its length at hand, where one that pushes loads and stores them.
+    let from = places.len();
+    places.resize(from + BLOCK, 0)?;
+    let count = write_block(&mut places[from..], base, start, word);
+    places.truncate(from + count);
+    Ok(())
 }

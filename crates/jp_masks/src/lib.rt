@@ -2,6 +2,7 @@
 #![tactic(auto)]
 
 mod block;
+mod byte_bits;
 mod framed;
 pub mod laws;
 mod lines;
