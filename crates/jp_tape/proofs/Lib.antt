@@ -13,6 +13,7 @@ pub mod Cursors
 -- Lemmas on the walk over a line.
 pub mod Ahead
 pub mod Quotes
+mod Escapes
 pub mod Bodies
 pub mod Scans
 pub mod Closing

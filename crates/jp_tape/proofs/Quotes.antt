@@ -1,6 +1,6 @@
 -- The quote that closes a string is the mark behind its opening quote.
-use Rattle.std.proofs.Common.{◌≡◌, ℕ, zero, suc, ◌+◌, ◌-◌, ◌<◌, ◌≤◌, inl, inr, true, false, List, [], ◌∷◌, length, drop, get_or, sym, ◌∙◌, ap, refl, arith, subst}
-use Rattle.std.proofs.lemmas.Bool.{cases_Bool, eqb-true, and_parts}
+use Rattle.std.proofs.Common.{◌≡◌, ℕ, zero, suc, ◌+◌, ◌-◌, ◌<◌, ◌≤◌, ◌==◌, inl, inr, true, false, List, [], ◌∷◌, length, drop, get_or, sym, ◌∙◌, ap, refl, arith, subst}
+use Rattle.std.proofs.lemmas.Bool.{cases_Bool, eqb-true, eqb-false, and_parts}
 use Rattle.std.proofs.lemmas.Bool.Decides.{nat_tests}
 use Rattle.jp_lanes.specs.Search.{is_special}
 use Rattle.jp_model.specs.Characters.{is_quote, is_backslash}
@@ -9,6 +9,7 @@ use Rattle.jp_model.specs.Json.Strings.{SpellsCharacter, SpellsCharacters, Spell
 use Rattle.jp_model.specs.Json.Marks.{is_inside, is_escaped, is_unescaped_quote}
 use Rattle.jp_strings.proofs.Reading.{characters_longer}
 use Rattle.jp_tape.specs.Ahead.{marks_from, IsAhead, IsPassed}
+use Rattle.jp_tape.specs.Places.{IsUnquoted}
 use Rattle.jp_tape.proofs.Closing.{character_plain, four_plain}
 use Rattle.jp_tape.proofs.Ahead.{same_head, same_tail, marked, unmarked, none_at_end, free_next, slash_next, letter_next, no_quote_unescaped, escaped_no_quote, quote_unescaped, inside_stays, opens_next, closes_next, quote_is_mark, within_no_mark}
 
@@ -82,6 +83,7 @@ record Shuts (line : List ℕ) (i m : ℕ) (rest : List ℕ) : Type 0 where
   order : i ≤ m
   quote : Has line m 0x22
   ahead : IsAhead line (m + 1) rest
+  unquoted : (k : ℕ) → i ≤ k → k < m → is_unescaped_quote line k ≡ false
 
 quote_no_slash : (b : ℕ) → is_quote b ≡ true → is_backslash b ≡ false
 quote_no_slash b h = ap is_backslash (eqb-true b 0x22 h)
@@ -95,7 +97,15 @@ shut_here line i m rest l u s e =
       order = omega arith;
       quote = record { inside = l; is = eqb-true (byte_at line i) 0x22 q };
       ahead = record { outside = closes_next line i u s; unescaped = free_next line i (quote_no_slash (byte_at line i) q); are = sym (same_tail i m (marks_from line (i + 1)) rest here) };
+      unquoted = λ k a b. absurd (omega (arith, a, b));
     })
+
+from_next : (line : List ℕ) (i m : ℕ) → is_unescaped_quote line i ≡ false → ((k : ℕ) → i + 1 ≤ k → k < m → is_unescaped_quote line k ≡ false) → (k : ℕ) → i ≤ k → k < m → is_unescaped_quote line k ≡ false
+from_next line i m u later k a b =
+    elim (cases_Bool (i == k)) [
+      | inl e ↦ ap (is_unescaped_quote line) (sym (eqb-true i k e)) ∙ u
+      | inr e ↦ (let f : i ≡ k → ⊥ = eqb-false i k e in later k (omega (arith, f, a)) b)
+    ]
 
 shuts : (n : ℕ) (line : List ℕ) (i m : ℕ) (rest : List ℕ) → i + n ≡ length line → is_inside line i ≡ true → marks_from line i ≡ m ∷ rest → Shuts line i m rest
 shuts zero line i m rest h s e = let none = sym (none_at_end line i (omega arith)) ∙ e in absurd (cc)
@@ -105,7 +115,7 @@ shuts (suc n) line i m rest h s e =
       | inr u ↦ (
           let later = shuts n line (i + 1) m rest (omega arith) (inside_stays line i u ∙ s) (sym (unmarked line i (omega arith) (within_no_mark line i u s)) ∙ e) in
           let o = later.order in
-          record { order = omega (arith, o); quote = later.quote; ahead = later.ahead }
+          record { order = omega (arith, o); quote = later.quote; ahead = later.ahead; unquoted = from_next line i m u later.unquoted }
           )
     ]
 
@@ -133,9 +143,11 @@ pub record Closes (line ms : List ℕ) (from last : ℕ) : Type 0 where
   pub order : from < last
   pub quote : Has line last 0x22
   pub only : (to : ℕ) (points : List ℕ) → SpellsBody line (from + 1) to points → Has line to 0x22 → to ≡ last
+  pub first : IsUnquoted line (from + 1) last
   pub ahead : IsPassed line ms 2 (last + 1)
 
 closes_by : (line ms : List ℕ) (from last : ℕ) (rest : List ℕ) → from < length line → Opens line ms from → ms ≡ from ∷ last ∷ rest → Closes line ms from last
+unfolding IsUnquoted
 closes_by line ms from last rest i o e =
     let next = same_tail from from (marks_from line (from + 1)) (last ∷ rest) (sym o.are ∙ e) in
     let s = shuts (length line - (from + 1)) line (from + 1) last rest (omega (arith, i)) o.inside next in
@@ -144,6 +156,7 @@ closes_by line ms from last rest i o e =
     record {
       order = omega (arith, l);
       quote = s.quote;
+      first = s.unquoted;
       only = λ to points b q. sym (same_head last to rest (marks_from line (to + 1)) (same_tail from from (last ∷ rest) (to ∷ marks_from line (to + 1)) (sym e ∙ ends_body line ms from to points o b q)));
       ahead = record { within = omega (arith, n); ahead = subst (λ xs. IsAhead line (last + 1) xs) (sym (ap (drop 2) e)) s.ahead };
     }

@@ -405,3 +405,14 @@ node_is ws new h s n i t m e p q r = e ∙ ap₂ (λ (x : ℕ × ℕ) (y : ℕ).
 pub opened_is : (b : Bool) (place n names m at : ℕ) → place ≡ n → names ≡ m → (let o : Open = record { place = place / 3; start = at; children = 0; names = names; is_object = b } in o) ≡ record { place = n / 3; start = at; children = 0; names = m; is_object = is_object (container_if b) }
 opened_is true place n names m at p q = ap₂ (λ (x y : ℕ). record { place = x / 3; start = at; children = 0; names = y; is_object = true }) p q
 opened_is false place n names m at p q = ap₂ (λ (x y : ℕ). record { place = x / 3; start = at; children = 0; names = y; is_object = false }) p q
+
+-- ---- one step behind another
+
+alike_then : (line : List ℕ) (x y z : State) → Alike line x y → Alike line y z → Alike line x z
+alike_then line x y z a b = record { forth = λ whole h. b.forth whole (a.forth whole h); back = λ whole h. a.back whole (b.back whole h) }
+
+pub steps_then : (line : List ℕ) (before next last : Turn) (b new end : Builder) → Steps line before b next new → Steps line next new last end → Steps line before b last end
+steps_then line before next last b new end s t x h =
+    let g = s x h in
+    let i = t g.next g.stands in
+    record { next = i.next; stands = i.stands; alike = alike_then line x g.next i.next g.alike i.alike }

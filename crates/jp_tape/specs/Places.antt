@@ -1,8 +1,9 @@
 -- Where tokens end.
-use Rattle.std.specs.Prelude.{◌≡◌, ℕ, ◌<◌, ◌≤◌, ◌||◌, ◌==◌, Bool, false, List}
-use Rattle.jp_model.specs.Characters.{is_white, is_digit}
+use Rattle.std.specs.Prelude.{◌≡◌, ℕ, ◌<◌, ◌≤◌, ◌||◌, ◌==◌, Bool, true, false, List, length}
+use Rattle.jp_model.specs.Characters.{is_white, is_digit, is_backslash, is_control}
 use Rattle.jp_lanes.specs.Search.{is_special}
 use Rattle.jp_model.specs.Json.Places.{byte_at}
+use Rattle.jp_model.specs.Json.Marks.{is_unescaped_quote}
 use Rattle.jp_model.specs.Json.Strings.{SpellsCharacters}
 
 -- a byte of a number's spelling (RFC 8259, section 6)
@@ -24,3 +25,21 @@ pub record Passes (line : List ℕ) (at to : ℕ) : Type 0 where
   pub order : at ≤ middle
   pub plain : (k : ℕ) → at ≤ k → k < middle → is_special (byte_at line k) ≡ false
   pub characters : SpellsCharacters line middle to units
+
+-- a byte that no character stands for as it is: a backslash, or a control character
+abbrev pub is_escape : ℕ → Bool
+is_escape b = is_backslash b || is_control b
+
+-- such a byte stands in the line
+pub record HasEscape (line : List ℕ) : Type 0 where
+  pub place : ℕ
+  pub within : place < length line
+  pub escapes : is_escape (byte_at line place) ≡ true
+
+-- none does
+unfoldable pub IsUnescaped : List ℕ → Type 0
+IsUnescaped line = (k : ℕ) → k < length line → is_escape (byte_at line k) ≡ false
+
+-- no quote that ends a string stands from a place up to another
+unfoldable pub IsUnquoted : List ℕ → ℕ → ℕ → Type 0
+IsUnquoted line from to = (k : ℕ) → from ≤ k → k < to → is_unescaped_quote line k ≡ false

@@ -15,6 +15,7 @@ ghost use Rattle.jp_tape.specs.Machine.{IsFinished};
 ghost use Rattle.jp_tape.specs.Refusals.{IsRefused};
 
 mod body;
+mod escapes;
 mod keys;
 mod machine;
 mod names;
@@ -153,7 +154,8 @@ impl<'a> Builder<'a> {
 /// JSON text; `Truncated`, where a text of a sequence may have lost its end (RFC 7464, section 2.4); `Depth`, where
 /// arrays and objects nest deeper than 512; `Surrogate`, where half of a pair stands alone; `Number`, where an exponent
 /// has more than 15 digits behind its leading zeros; and `Duplicate`, where an object has two equal names (profile). The
-/// line is read once, however deep it nests, and equal names are found by a sort of each object's names.
+/// line is walked over once, however deep it nests, behind one look for escapes, and equal names are found by a sort of each
+/// object's names.
 pub fn build(
     alloc: Global,
     line: &[u8],

@@ -10,7 +10,7 @@ ghost use Rattle.jp_model.specs.Json.Spelling.{Text, opening, closing};
 ghost use Rattle.jp_model.specs.Json.Status.{IsNoText};
 ghost use Rattle.jp_model.specs.Json.Marks.{marks as marks_of};
 ghost use Rattle.jp_tape.specs.Words.{head_word, span_word, container_code};
-ghost use Rattle.jp_tape.specs.Places.{Stops};
+ghost use Rattle.jp_tape.specs.Places.{Stops, IsUnescaped};
 ghost use Rattle.jp_tape.specs.Ahead.{IsAhead, IsAheadOf};
 ghost use Rattle.jp_tape.specs.Reading.{body_word, code_of, container_if, NoLabel, OnFault};
 ghost use Rattle.jp_tape.specs.Machine.{Steps, NoStep, IsBehind, Labelled, IsFinished, IsCounted, IsClosed, Holds, next_above};
@@ -19,6 +19,7 @@ ghost use Rattle.jp_tape.specs.declared.builder.machine.Turn.TheVariants as turn
 
 use super::BuildFault;
 use super::body::Body;
+use super::escapes::has_escape;
 use super::names::has_equal;
 use super::scan::{is_at, marks_behind, skip_white};
 use super::tokens::{Label, label_at, scalar_at};
@@ -257,9 +258,11 @@ impl<'a> Builder<'a> {
     fn next_child(
         &mut self,
         line: &'a [u8],
+        is_unescaped: bool,
         is_object: bool,
         from: usize,
     ) -> Result<Turn, BuildFault>
+        requires unescaped { is_unescaped ≡ true → IsUnescaped line.now }
         requires within { from ≤ length line.now }
         requires room { length line.now < 2 ^ 32 }
         requires utf8 { IsUtf8 line.now }
@@ -269,7 +272,7 @@ impl<'a> Builder<'a> {
         ensures ahead { IfOk result (λ turn. IsAheadOf line.now turn self.new) }
         ensures stuck { IfErr result (λ fault. OnFault fault (NoLabel line.now (container_if is_object) from)) }
     {
-        let Some(label) = label_at(line, self.marks, is_object, from) else {
+        let Some(label) = label_at(line, is_unescaped, self.marks, is_object, from) else {
             return Err(GRAMMAR);
         };
         self.has_surrogate |= label.is_lone;
@@ -289,10 +292,12 @@ impl<'a> Builder<'a> {
     fn enter(
         &mut self,
         line: &'a [u8],
+        is_unescaped: bool,
         at: usize,
         is_object: bool,
         name: Option<Span>,
     ) -> Result<Turn, BuildFault>
+        requires unescaped { is_unescaped ≡ true → IsUnescaped line.now }
         requires opens { Has line.now at (opening (container_if is_object)) }
         requires room { length line.now < 2 ^ 32 }
         requires utf8 { IsUtf8 line.now }
@@ -333,12 +338,19 @@ impl<'a> Builder<'a> {
             return Err(BuildFault::Memory);
         }
         self.opened.push_reserved(container);
-        self.next_child(line, is_object, inside)
+        self.next_child(line, is_unescaped, is_object, inside)
     }
 
     /// Reads the value at `at`: all of it, or up to the first child's value.
     #[inline(always)]
-    fn begin(&mut self, line: &'a [u8], at: usize, name: Option<Span>) -> Result<Turn, BuildFault>
+    fn begin(
+        &mut self,
+        line: &'a [u8],
+        is_unescaped: bool,
+        at: usize,
+        name: Option<Span>,
+    ) -> Result<Turn, BuildFault>
+        requires unescaped { is_unescaped ≡ true → IsUnescaped line.now }
         requires within { at ≤ length line.now }
         requires room { length line.now < 2 ^ 32 }
         requires utf8 { IsUtf8 line.now }
@@ -354,9 +366,9 @@ impl<'a> Builder<'a> {
         }
         let is_object = is_at(line, at, b'{');
         if is_object || is_at(line, at, b'[') {
-            return self.enter(line, at, is_object, name);
+            return self.enter(line, is_unescaped, at, is_object, name);
         }
-        let Some(scalar) = scalar_at(line, self.marks, at) else {
+        let Some(scalar) = scalar_at(line, is_unescaped, self.marks, at) else {
             return Err(GRAMMAR);
         };
         self.marks = marks_behind(self.marks, scalar.marks);
@@ -415,7 +427,8 @@ impl<'a> Builder<'a> {
 
     /// Reads what follows a value.
     #[inline(always)]
-    fn go_on(&mut self, line: &'a [u8], at: usize) -> Result<Turn, BuildFault>
+    fn go_on(&mut self, line: &'a [u8], is_unescaped: bool, at: usize) -> Result<Turn, BuildFault>
+        requires unescaped { is_unescaped ≡ true → IsUnescaped line.now }
         requires within { at ≤ length line.now }
         requires room { length line.now < 2 ^ 32 }
         requires utf8 { IsUtf8 line.now }
@@ -440,7 +453,7 @@ impl<'a> Builder<'a> {
             self.marks = marks_behind(self.marks, 1);
             self.count_child();
             let child = skip_white(line, self.marks, next + 1);
-            return self.next_child(line, container.is_object, child);
+            return self.next_child(line, is_unescaped, container.is_object, child);
         }
         if !is_at(line, next, closing_of(container.is_object)) {
             return Err(GRAMMAR);
@@ -449,6 +462,33 @@ impl<'a> Builder<'a> {
         match self.close(container, next + 1) {
             Ok(()) => Ok(Turn::After(next + 1)),
             Err(fault) => Err(fault),
+        }
+    }
+
+    /// Reads the value at `at`, and behind a value that has no children what follows it.
+    #[inline(always)]
+    fn read_on(
+        &mut self,
+        line: &'a [u8],
+        is_unescaped: bool,
+        at: usize,
+        name: Option<Span>,
+    ) -> Result<Turn, BuildFault>
+        requires unescaped { is_unescaped ≡ true → IsUnescaped line.now }
+        requires within { at ≤ length line.now }
+        requires room { length line.now < 2 ^ 32 }
+        requires utf8 { IsUtf8 line.now }
+        requires few { length self.old.words.items ≤ 3 * at }
+        requires ahead { IsAhead line.now at self.old.marks.now }
+        requires holds { Holds line.now (turns.Value name at) self.old }
+        ensures goes_on { IfOk result (λ turn. Steps line.now (turns.Value name at) self.old turn self.new) }
+        ensures behind { IfOk result (λ turn. IsBehind line.now at turn self.new) }
+        ensures ahead { IfOk result (λ turn. IsAheadOf line.now turn self.new) }
+        ensures stuck { IfErr result (λ fault. OnFault fault (NoStep line.now (turns.Value name at) self.old)) }
+    {
+        match self.begin(line, is_unescaped, at, name) {
+            Ok(Turn::After(end)) => self.go_on(line, is_unescaped, end),
+            begun => begun,
         }
     }
 }
@@ -466,11 +506,12 @@ pub(super) fn walk<'a>(
     ensures refused { IfErr result (λ fault. OnFault fault (IsNoText line.now)) }
 {
     builder.start(marks);
+    let is_unescaped = !has_escape(line);
     let mut turn = Turn::Value(None, skip_white(line, marks, 0));
     loop {
         turn = match turn {
-            Turn::Value(name, at) => builder.begin(line, at, name)?,
-            Turn::After(at) => builder.go_on(line, at)?,
+            Turn::Value(name, at) => builder.read_on(line, is_unescaped, at, name)?,
+            Turn::After(at) => builder.go_on(line, is_unescaped, at)?,
             Turn::End => return Ok(()),
         };
     }

@@ -17,6 +17,9 @@ use std::cmp::Ordering;
 /// So many bodies are compared by pairs, and more are sorted.
 const MOST_PAIRED: usize = 8;
 
+/// Fewer bodies than these have no equal ones.
+const PAIR: usize = 2;
+
 impl PartialEq for Body<'_> {
     ghost eq = { λ a b. pointwise nat_eq (points a) (points b) };
 
@@ -87,9 +90,13 @@ fn has_equal_pair(bodies: &[Body<'_>]) -> bool
 }
 
 /// Whether two bodies are equal. It changes their order. `keys` lends its memory.
+#[inline(always)]
 pub(super) fn has_equal(bodies: &mut [Body<'_>], keys: &mut Vec<u64>) -> Result<bool, AllocError>
     ensures { IfOk result (λ is_repeated. is_repeated ≡ has_repeated (all_points bodies.old)) }
 {
+    if bodies.len() < PAIR {
+        return Ok(false);
+    }
     if bodies.len() <= MOST_PAIRED {
         return Ok(!have_own_places(bodies) && has_equal_pair(bodies));
     }

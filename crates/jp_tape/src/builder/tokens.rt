@@ -7,7 +7,7 @@ ghost use Rattle.jp_model.specs.Json.Numbers.{AreDigits, IsInt, SpellsNumber, mi
 ghost use Rattle.jp_model.specs.Json.Strings.{SpellsBody, has_lone_surrogate};
 ghost use Rattle.jp_model.specs.Json.Spelling.{SpellsString};
 ghost use Rattle.jp_model.specs.Json.Tree.{object};
-ghost use Rattle.jp_tape.specs.Places.{Ended, Stops};
+ghost use Rattle.jp_tape.specs.Places.{Ended, Stops, IsUnescaped, IsUnquoted};
 ghost use Rattle.jp_tape.specs.Ahead.{IsAhead, IsPassed, IsSolid, in_token, name_marks};
 ghost use Rattle.jp_tape.specs.Reading.{FoundScalar, NoValue, FoundLabel, NoLabel, IsPlainLabel, container_if};
 ghost use Rattle.jp_strings.specs.Plain.{ArePlain};
@@ -70,6 +70,7 @@ fn closing_quote(line: &[u8], marks: &[u32], from: usize) -> Option<usize>
     ensures within { IfSome result (λ at. from < at) }
     ensures quote { IfSome result (λ at. Has line.now at 0x22) }
     ensures only { IfSome result (λ at. (to : ℕ) (points : List ℕ) → SpellsBody line.now (from + 1) to points → Has line.now to 0x22 → to ≡ at) }
+    ensures first { IfSome result (λ at. IsUnquoted line.now (from + 1) at) }
     ensures ahead { IfSome result (λ at. IsPassed line.now marks.now 2 (at + 1)) }
     ensures none { IfNone result ((to : ℕ) (points : List ℕ) → SpellsBody line.now (from + 1) to points → Has line.now to 0x22 → ⊥) }
 {
@@ -77,6 +78,18 @@ fn closing_quote(line: &[u8], marks: &[u32], from: usize) -> Option<usize>
         return None;
     }
     Some(marks[1] as usize)
+}
+
+/// Whether each byte between the quotes at `from` and `last` stands for itself. In a line with no escape that is known.
+#[inline(always)]
+fn is_plain_between(line: &[u8], is_unescaped: bool, from: usize, last: usize) -> bool
+    requires order { from < last }
+    requires within { last < length line.now }
+    requires unescaped { is_unescaped ≡ true → IsUnescaped line.now }
+    requires first { IsUnquoted line.now (from + 1) last }
+    ensures { result ≡ true → ArePlain line.now (from + 1) last }
+{
+    is_unescaped || first_special(line, from + 1) == last
 }
 
 /// Whether a surrogate stands alone in the string from `from` to `last`, where it is one. Few strings come here.
@@ -98,7 +111,8 @@ fn is_lone_within(line: &[u8], from: usize, last: usize) -> Option<bool>
 
 /// The end of the string at `from`. A body without special bytes stands for itself.
 #[inline(always)]
-fn string_end(line: &[u8], marks: &[u32], from: usize) -> Option<StringEnd>
+fn string_end(line: &[u8], is_unescaped: bool, marks: &[u32], from: usize) -> Option<StringEnd>
+    requires unescaped { is_unescaped ≡ true → IsUnescaped line.now }
     requires opens { Has line.now from 0x22 }
     requires utf8 { IsUtf8 line.now }
     requires ahead { IsAhead line.now from marks.now }
@@ -111,7 +125,7 @@ fn string_end(line: &[u8], marks: &[u32], from: usize) -> Option<StringEnd>
     let Some(last) = closing_quote(line, marks, from) else {
         return None;
     };
-    if first_special(line, from + 1) == last {
+    if is_plain_between(line, is_unescaped, from, last) {
         return Some(StringEnd {
             end: last + 1,
             is_lone: false,
@@ -232,7 +246,8 @@ fn any_number_end(line: &[u8], from: usize) -> Option<NumberEnd>
 
 /// The name at `from` and its colon.
 #[inline(always)]
-fn name_at(line: &[u8], marks: &[u32], from: usize) -> Option<Label>
+fn name_at(line: &[u8], is_unescaped: bool, marks: &[u32], from: usize) -> Option<Label>
+    requires unescaped { is_unescaped ≡ true → IsUnescaped line.now }
     requires within { from ≤ length line.now }
     requires room { length line.now < 2 ^ 32 }
     requires utf8 { IsUtf8 line.now }
@@ -248,7 +263,7 @@ fn name_at(line: &[u8], marks: &[u32], from: usize) -> Option<Label>
     if !is_at(line, from, b'"') {
         return None;
     }
-    let Some(name) = string_end(line, marks, from) else {
+    let Some(name) = string_end(line, is_unescaped, marks, from) else {
         return None;
     };
     let colon = skip_white(line, marks_behind(marks, 2), name.end);
@@ -269,7 +284,14 @@ fn name_at(line: &[u8], marks: &[u32], from: usize) -> Option<Label>
 
 /// What stands before the value of a child.
 #[inline(always)]
-pub(super) fn label_at(line: &[u8], marks: &[u32], is_object: bool, from: usize) -> Option<Label>
+pub(super) fn label_at(
+    line: &[u8],
+    is_unescaped: bool,
+    marks: &[u32],
+    is_object: bool,
+    from: usize,
+) -> Option<Label>
+    requires unescaped { is_unescaped ≡ true → IsUnescaped line.now }
     requires within { from ≤ length line.now }
     requires room { length line.now < 2 ^ 32 }
     requires utf8 { IsUtf8 line.now }
@@ -283,7 +305,7 @@ pub(super) fn label_at(line: &[u8], marks: &[u32], is_object: bool, from: usize)
     ensures none { IfNone result (NoLabel line.now (container_if is_object) from) }
 {
     if is_object {
-        name_at(line, marks, from)
+        name_at(line, is_unescaped, marks, from)
     } else {
         Some(Label {
             name: None,
@@ -318,7 +340,13 @@ fn word_at(line: &[u8], marks: &[u32], from: usize, word: &[u8], kind: Kind) -> 
 
 /// The value at `from`, which is no array or object.
 #[inline(always)]
-pub(super) fn scalar_at(line: &[u8], marks: &[u32], from: usize) -> Option<Scalar>
+pub(super) fn scalar_at(
+    line: &[u8],
+    is_unescaped: bool,
+    marks: &[u32],
+    from: usize,
+) -> Option<Scalar>
+    requires unescaped { is_unescaped ≡ true → IsUnescaped line.now }
     requires inside { from < length line.now }
     requires room { length line.now < 2 ^ 32 }
     requires utf8 { IsUtf8 line.now }
@@ -341,7 +369,7 @@ pub(super) fn scalar_at(line: &[u8], marks: &[u32], from: usize) -> Option<Scala
         return word_at(line, marks, from, b"false", Kind::False);
     }
     if byte == b'"' {
-        return match string_end(line, marks, from) {
+        return match string_end(line, is_unescaped, marks, from) {
             Some(string) => Some(Scalar {
                 kind: Kind::Text,
                 end: string.end,

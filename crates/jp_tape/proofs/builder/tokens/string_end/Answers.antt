@@ -1,4 +1,4 @@
-use Rattle.std.proofs.Common.{◌≡◌, ℕ, ◌+◌, Bool, false, List, subst, refl, arith}
+use Rattle.std.proofs.Common.{◌≡◌, ℕ, ◌+◌, Bool, false, List, subst, refl}
 use Rattle.jp_model.specs.Json.Places.{Has}
 use Rattle.jp_model.specs.Json.Strings.{SpellsBody, has_lone_surrogate}
 use Rattle.jp_model.specs.Json.Spelling.{SpellsString}
@@ -11,12 +11,11 @@ spelled_string line from last b points o c body lone = (points, record { last = 
 pub returns-in_default-clause-none : goal.returns-in_default-clause-none
 returns-in_default-clause-none c to points h = c.in_default.ensures.none h.last points h.body h.closes
 
-pub returns-then-first_special-last-clause-found : goal.returns-then-first_special-last-clause-found
-returns-then-first_special-last-clause-found c =
+pub returns-then-is_plain_between-clause-found : goal.returns-then-is_plain_between-clause-found
+returns-then-is_plain_between-clause-found c =
     let e = c.in-Some.ensures in
-    let f = c.first_special.ensures in
-    let same = c.if-first_special-last.true in
-    let t = plain_body c.args.line.now c.args.from c.in-Some.last c.requires.utf8 c.requires.opens e.within e.quote (λ k a b. f.plain k a (omega (arith, same, b))) in
+    let plain = c.is_plain_between.ensures c.if-is_plain_between.true in
+    let t = plain_body c.args.line.now c.args.from c.in-Some.last c.requires.utf8 c.requires.opens e.within e.quote plain in
     spelled_string c.args.line.now c.args.from c.in-Some.last false t.0 c.requires.opens e.quote t.1 t.2
 
 pub returns-in-None-clause-none : goal.returns-in-None-clause-none

@@ -1,0 +1,93 @@
+//! Whether a line has an escape, or a control character where one may stand.
+
+ghost use Rattle.std.specs.Prelude.{◌≡◌, ℕ, ◌+◌, ◌<◌, ◌≤◌, true, false, map, length, slice_index};
+ghost use Rattle.std.specs.Simd.Lanes.{mask_l};
+ghost use Rattle.jp_tape.specs.Places.{is_escape, HasEscape, IsUnescaped};
+
+use std::simd::prelude::*;
+
+/// Bytes are looked at in blocks of so many, where a line has a block.
+const BLOCK: usize = 64;
+
+/// The same of a shorter line.
+const QUARTER: usize = 16;
+
+fn is_escape_byte(byte: u8) -> bool
+    ensures { result ≡ is_escape byte }
+{
+    byte == b'\\' || byte < 0x20
+}
+
+/// Bit i tells whether lane i is such a byte.
+#[inline(always)]
+fn escape_lanes<const N: usize>(lanes: Simd<u8, N>) -> u64
+    requires { N ≤ 64 }
+    ensures { result ≡ mask_l (map is_escape lanes.entry) }
+{
+    let backslashes = lanes.simd_eq(Simd::splat(b'\\'));
+    let controls = lanes.simd_lt(Simd::splat(0x20));
+    (backslashes | controls).to_bitmask()
+}
+
+/// Whether there is one in the block at a place.
+#[inline(always)]
+fn has_escape_at<const N: usize>(line: &[u8], at: usize) -> bool
+    requires few { N ≤ 64 }
+    requires inside { at + N ≤ length line.now }
+    ensures none { result ≡ false → (k : ℕ) → at ≤ k → k < at + N → is_escape (slice_index line.now k) ≡ false }
+    ensures some { result ≡ true → HasEscape line.now }
+{
+    let escapes = escape_lanes(Simd::<u8, N>::from_slice(&line[at..]));
+    if escapes == 0 {
+        return false;
+    }
+    true
+}
+
+/// Whether there is one in the line, block by block. The last block has some bytes of the one before.
+#[inline(always)]
+fn has_escape_by<const N: usize>(line: &[u8]) -> bool
+    requires some { 0 < N }
+    requires few { N ≤ 64 }
+    requires block { N ≤ length line.now }
+    ensures none { result ≡ false → IsUnescaped line.now }
+    ensures some { result ≡ true → HasEscape line.now }
+{
+    let last = line.len() - N;
+    let mut at = 0;
+    while at < last {
+        if has_escape_at::<N>(line, at) {
+            return true;
+        }
+        at += N;
+    }
+    has_escape_at::<N>(line, last)
+}
+
+/// The same, byte by byte.
+fn has_escape_plainly(line: &[u8]) -> bool
+    ensures none { result ≡ false → IsUnescaped line.now }
+    ensures some { result ≡ true → HasEscape line.now }
+{
+    for byte in line {
+        if is_escape_byte(*byte) {
+            return true;
+        }
+    }
+    false
+}
+
+/// Whether a reverse solidus or a control character stands in the line. Where none does, the body of each string stands for
+/// itself, and none has to be searched on its own.
+pub(super) fn has_escape(line: &[u8]) -> bool
+    ensures none { result ≡ false → IsUnescaped line.now }
+    ensures some { result ≡ true → HasEscape line.now }
+{
+    if line.len() >= BLOCK {
+        return has_escape_by::<BLOCK>(line);
+    }
+    if line.len() >= QUARTER {
+        return has_escape_by::<QUARTER>(line);
+    }
+    has_escape_plainly(line)
+}
