@@ -7,13 +7,13 @@ use Rattle.std.proofs.lemmas.List.Edits.{get_or-between, length-between}
 use Rattle.std.proofs.lemmas.Bool.{cases_Bool, eq-eqb, eqb-true, eqb-false, true≢false}
 use Rattle.std.proofs.lemmas.Bool.Decides.{nat_tests}
 use Rattle.jp_model.specs.Characters.{is_white, is_structural, is_quote, is_backslash}
-use Rattle.jp_model.specs.Json.Places.{byte_at, White, Reads}
+use Rattle.jp_model.specs.Json.Places.{byte_at, White, Has, Reads}
 use Rattle.jp_model.specs.Json.Tree.{Container, array, object}
 use Rattle.jp_model.specs.Json.Spelling.{opening, closing}
 use Rattle.jp_model.specs.Json.Marks.{is_mark, is_inside, is_escaped, is_unescaped_quote, may_begin, backslashes_before, quotes_before, marks}
 use Rattle.jp_model.proofs.Reader.Lexical.{end_stops}
 use Rattle.jp_tape.specs.Places.{Stops, in_number}
-use Rattle.jp_tape.specs.Ahead.{marks_from, IsAhead, IsPassed, in_token, IsSolid}
+use Rattle.jp_tape.specs.Ahead.{marks_from, IsAhead, IsPassed, first_or, in_token, IsSolid}
 
 -- ---- lists of marks
 
@@ -34,6 +34,21 @@ passes_first p (suc n) i m rest e = go (p i) e (passes_first p n (i + 1) m rest)
 pub mark_behind : (line : List ℕ) (i m : ℕ) (rest : List ℕ) → marks_from line i ≡ m ∷ rest → i ≤ m
 unfolding marks_from
 mark_behind line i m rest e = passes_first (is_mark line) (length line - i) i m rest e
+
+passes_last : (p : ℕ → Bool) (n i m : ℕ) (rest : List ℕ) → filter p (range_with_len i n) ≡ m ∷ rest → m < i + n
+passes_last p zero i m rest e = absurd (cc)
+passes_last p (suc n) i m rest e = go (p i) e (passes_last p n (i + 1) m rest)
+  where
+    go : (b : Bool) → cond b (i ∷ filter p (range_with_len (i + 1) n)) (filter p (range_with_len (i + 1) n)) ≡ m ∷ rest → (filter p (range_with_len (i + 1) n) ≡ m ∷ rest → m < i + 1 + n) → m < i + suc n
+    go true e later = let h = same_head i m (filter p (range_with_len (i + 1) n)) rest e in omega (arith, h)
+    go false e later = let h = later e in omega (arith, h)
+
+mark_inside : (line : List ℕ) (i m : ℕ) (rest : List ℕ) → marks_from line i ≡ m ∷ rest → m < length line
+unfolding marks_from
+mark_inside line i m rest e =
+    let first = passes_first (is_mark line) (length line - i) i m rest e in
+    let last = passes_last (is_mark line) (length line - i) i m rest e in
+    omega (arith, first, last)
 
 one_more : (line : List ℕ) (i : ℕ) → i < length line → marks_from line i ≡ cond (is_mark line i) (i ∷ marks_from line (i + 1)) (marks_from line (i + 1))
 unfolding marks_from
@@ -153,11 +168,6 @@ white_step line i l w e s =
       begins = begins_is line i ∙ ap (λ x. x || is_structural (byte_at line i) || is_unescaped_quote line i) w;
     }
 
--- the first mark, or else the line's end
-abbrev pub first_or : List ℕ → ℕ → ℕ
-first_or [] end = end
-first_or (m ∷ ms) end = m
-
 -- white space up to a place, and the same marks ahead of it
 pub record Skips (line ms : List ℕ) (from to : ℕ) : Type 0 where
   pub white : White line from to
@@ -215,6 +225,17 @@ skips_white line ms from to l w a e =
     let same : marks_from line (from + 1) ≡ ms = sym (a.are ∙ step.clear) in
     subst (λ x. Skips line ms from x) (sym e) (subst (λ xs. Skips line xs from (first_or xs (length line))) same (white_first line from (marks_from line (from + 1)) (Next line (from + 1)) w rest))
 
+-- where a token may begin, the next mark is the first byte that is no white space
+pub skips_to_mark : (line ms : List ℕ) (from to : ℕ) → from ≤ length line → may_begin line from ≡ true → IsAhead line from ms → to ≡ first_or ms (length line) → Skips line ms from to
+skips_to_mark line ms from to w b a e =
+    let s = skips (length line - from) line from (omega (arith, w)) a.unescaped a.outside b in
+    subst (λ x. Skips line ms from x) (sym e) (subst (λ xs. Skips line xs from (first_or xs (length line))) (sym a.are) s)
+
+-- a mark stands within the line
+pub first_inside : (line ms : List ℕ) (from d : ℕ) → IsAhead line from ms → 0 < length ms → get_or ms 0 d < length line
+first_inside line [] from d a l = absurd (omega (arith, l))
+first_inside line (m ∷ ms) from d a l = mark_inside line from m ms (sym a.are)
+
 pub skips_none : (line ms : List ℕ) (from : ℕ) → from ≤ length line → Stops line from → IsAhead line from ms → Skips line ms from from
 skips_none line ms from l s a = stays_here line ms from l s a
 
@@ -241,6 +262,23 @@ passes_structural line ms i l h a =
     let u = no_quote_unescaped line i b.1 in
     let m = outside_mark line i false true false (may_begin line i) a.unescaped a.outside b.0 h b.1 refl in
     passed line ms i (i + 1) (a.are ∙ marked line i l m) (free_next line i b.2) (inside_stays line i u ∙ a.outside)
+
+or_middle : (a c : Bool) → (a || true || c) ≡ true
+or_middle true c = refl
+or_middle false c = refl
+
+-- a token may begin behind a structural byte
+pub structural_begins : (line : List ℕ) (i : ℕ) → is_structural (byte_at line i) ≡ true → may_begin line (i + 1) ≡ true
+structural_begins line i h = begins_is line i ∙ (ap (λ x. is_white (byte_at line i) || x || is_unescaped_quote line i) h ∙ or_middle (is_white (byte_at line i)) (is_unescaped_quote line i))
+
+or_last : (a b : Bool) → (a || b || true) ≡ true
+or_last true b = refl
+or_last false true = refl
+or_last false false = refl
+
+-- and behind a quote
+pub quote_begins : (line : List ℕ) (i : ℕ) → is_unescaped_quote line i ≡ true → may_begin line (i + 1) ≡ true
+quote_begins line i h = begins_is line i ∙ (ap (λ x. is_white (byte_at line i) || is_structural (byte_at line i) || x) h ∙ or_last (is_white (byte_at line i)) (is_structural (byte_at line i)))
 
 -- ---- numbers and words
 
@@ -348,6 +386,10 @@ passes_next line ms n i w a l h =
     let d = length-drop n ms in
     let within = one.within in
     record { within = omega (arith, d, within, w); ahead = subst (λ xs. IsAhead line (i + 1) xs) (drop-drop 1 n ms) one.ahead }
+
+-- the colon behind a name, whose two quotes are marks
+pub passes_colon : (line ms rest : List ℕ) (end colon : ℕ) → IsPassed line ms 2 end → rest ≡ drop 2 ms → IsAhead line colon rest → Has line colon 0x3A → IsPassed line ms 3 (colon + 1)
+passes_colon line ms rest end colon p e a h = passes_next line ms 2 colon p.within (subst (λ (xs : List ℕ). IsAhead line colon xs) e a) h.inside (ap is_structural h.is)
 
 pub bracket_structural : (kind : Container) (b : ℕ) → b ≡ opening kind → is_structural b ≡ true
 bracket_structural array b e = ap is_structural e

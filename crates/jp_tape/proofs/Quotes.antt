@@ -6,12 +6,12 @@ use Rattle.jp_lanes.specs.Search.{is_special}
 use Rattle.jp_model.specs.Characters.{is_quote, is_backslash}
 use Rattle.jp_model.specs.Json.Places.{byte_at, Has}
 use Rattle.jp_model.specs.Json.Strings.{SpellsCharacter, SpellsCharacters, SpellsBody}
-use Rattle.jp_model.specs.Json.Marks.{is_inside, is_escaped, is_unescaped_quote}
+use Rattle.jp_model.specs.Json.Marks.{is_inside, is_escaped, is_unescaped_quote, may_begin}
 use Rattle.jp_strings.proofs.Reading.{characters_longer}
 use Rattle.jp_tape.specs.Ahead.{marks_from, IsAhead, IsPassed}
 use Rattle.jp_tape.specs.Places.{IsUnquoted}
 use Rattle.jp_tape.proofs.Closing.{character_plain, four_plain}
-use Rattle.jp_tape.proofs.Ahead.{same_head, same_tail, marked, unmarked, none_at_end, free_next, slash_next, letter_next, no_quote_unescaped, escaped_no_quote, quote_unescaped, inside_stays, opens_next, closes_next, quote_is_mark, within_no_mark}
+use Rattle.jp_tape.proofs.Ahead.{same_head, same_tail, marked, unmarked, none_at_end, free_next, slash_next, letter_next, no_quote_unescaped, escaped_no_quote, quote_unescaped, inside_stays, opens_next, closes_next, quote_is_mark, quote_begins, within_no_mark}
 
 -- ---- inside of a string
 
@@ -83,6 +83,7 @@ record Shuts (line : List ℕ) (i m : ℕ) (rest : List ℕ) : Type 0 where
   order : i ≤ m
   quote : Has line m 0x22
   ahead : IsAhead line (m + 1) rest
+  closing : is_unescaped_quote line m ≡ true
   unquoted : (k : ℕ) → i ≤ k → k < m → is_unescaped_quote line k ≡ false
 
 quote_no_slash : (b : ℕ) → is_quote b ≡ true → is_backslash b ≡ false
@@ -97,6 +98,7 @@ shut_here line i m rest l u s e =
       order = omega arith;
       quote = record { inside = l; is = eqb-true (byte_at line i) 0x22 q };
       ahead = record { outside = closes_next line i u s; unescaped = free_next line i (quote_no_slash (byte_at line i) q); are = sym (same_tail i m (marks_from line (i + 1)) rest here) };
+      closing = u;
       unquoted = λ k a b. absurd (omega (arith, a, b));
     })
 
@@ -115,7 +117,7 @@ shuts (suc n) line i m rest h s e =
       | inr u ↦ (
           let later = shuts n line (i + 1) m rest (omega arith) (inside_stays line i u ∙ s) (sym (unmarked line i (omega arith) (within_no_mark line i u s)) ∙ e) in
           let o = later.order in
-          record { order = omega (arith, o); quote = later.quote; ahead = later.ahead; unquoted = from_next line i m u later.unquoted }
+          record { order = omega (arith, o); quote = later.quote; ahead = later.ahead; closing = later.closing; unquoted = from_next line i m u later.unquoted }
           )
     ]
 
@@ -145,6 +147,7 @@ pub record Closes (line ms : List ℕ) (from last : ℕ) : Type 0 where
   pub only : (to : ℕ) (points : List ℕ) → SpellsBody line (from + 1) to points → Has line to 0x22 → to ≡ last
   pub first : IsUnquoted line (from + 1) last
   pub ahead : IsPassed line ms 2 (last + 1)
+  pub begins : may_begin line (last + 1) ≡ true
 
 closes_by : (line ms : List ℕ) (from last : ℕ) (rest : List ℕ) → from < length line → Opens line ms from → ms ≡ from ∷ last ∷ rest → Closes line ms from last
 unfolding IsUnquoted
@@ -159,6 +162,7 @@ closes_by line ms from last rest i o e =
       first = s.unquoted;
       only = λ to points b q. sym (same_head last to rest (marks_from line (to + 1)) (same_tail from from (last ∷ rest) (to ∷ marks_from line (to + 1)) (sym e ∙ ends_body line ms from to points o b q)));
       ahead = record { within = omega (arith, n); ahead = subst (λ xs. IsAhead line (last + 1) xs) (sym (ap (drop 2) e)) s.ahead };
+      begins = quote_begins line last s.closing;
     }
 
 two_at_least : (ms : List ℕ) (a : ℕ) (xs : List ℕ) → ms ≡ a ∷ xs → 2 ≤ length ms → (rest : List ℕ) × (ms ≡ a ∷ get_or ms 1 0 ∷ rest)

@@ -1,5 +1,5 @@
 -- The marks that are to come while a line is read.
-use Rattle.std.specs.Prelude.{◌≡◌, ℕ, ◌-◌, ◌<◌, ◌≤◌, Bool, true, false, not, ◌||◌, List, length, drop, Option, Some, None}
+use Rattle.std.specs.Prelude.{◌≡◌, ℕ, ◌-◌, ◌<◌, ◌≤◌, Bool, true, false, not, ◌||◌, List, [], ◌∷◌, length, drop, Option, Some, None}
 use Rattle.std.specs.List.{filter, range_with_len}
 use Rattle.jp_model.specs.declared.Span.{Span}
 use Rattle.jp_model.specs.Characters.{is_white, is_structural, is_quote, is_backslash}
@@ -18,6 +18,11 @@ pub record IsAhead (line : List ℕ) (at : ℕ) (marks : List ℕ) : Type 0 wher
   pub outside : is_inside line at ≡ false
   pub unescaped : is_escaped line at ≡ false
   pub are : marks ≡ marks_from line at
+
+-- the first mark, or else the end of the line
+abbrev pub first_or : List ℕ → ℕ → ℕ
+first_or [] end = end
+first_or (m ∷ ms) end = m
 
 -- so many of the marks stand before a place, which is outside of every string
 pub record IsPassed (line marks : List ℕ) (count to : ℕ) : Type 0 where

@@ -1,18 +1,18 @@
 //! The walk over a line: a machine with a stack of open containers, which writes the words of the nodes.
 
-ghost use Rattle.std.specs.Prelude.{◌≡◌, ◌+◌, ◌*◌, ◌^◌, ◌<◌, ◌≤◌, ◌++◌, ◌∷◌, [], max, length, List, true, false, IfOk, IfErr, IsTrue, IsUtf8};
-ghost use Rattle.jp_model.specs.Json.Places.{Has, bytes_between};
+ghost use Rattle.std.specs.Prelude.{◌≡◌, ◌+◌, ◌*◌, ◌^◌, ◌<◌, ◌≤◌, ◌++◌, ◌∷◌, [], ℕ, max, length, drop, List, true, false, IfOk, IfErr, IsTrue, IsUtf8};
+ghost use Rattle.jp_model.specs.Json.Places.{Has, White, byte_at, bytes_between};
 ghost use Rattle.jp_tape.specs.Names.{points};
 ghost use Rattle.jp_strings.specs.Plain.{ArePlain};
 ghost use Rattle.jp_strings.specs.Points.{is_text_from, points_of};
-ghost use Rattle.jp_model.specs.Json.Tree.{Tree};
+ghost use Rattle.jp_model.specs.Json.Tree.{Tree, Container, object};
 ghost use Rattle.jp_model.specs.Json.Spelling.{Text, opening, closing};
 ghost use Rattle.jp_model.specs.Json.Status.{IsNoText};
 ghost use Rattle.jp_model.specs.Json.Marks.{marks as marks_of};
 ghost use Rattle.jp_tape.specs.Words.{head_word, span_word, container_code};
 ghost use Rattle.jp_tape.specs.Places.{Stops, IsUnescaped};
-ghost use Rattle.jp_tape.specs.Ahead.{IsAhead, IsAheadOf};
-ghost use Rattle.jp_tape.specs.Reading.{body_word, code_of, container_if, NoLabel, OnFault};
+ghost use Rattle.jp_tape.specs.Ahead.{IsAhead, IsAheadOf, IsPassed, name_marks};
+ghost use Rattle.jp_tape.specs.Reading.{body_word, code_of, container_if, FoundScalar, FoundLabel, IsPlainLabel, NoLabel, OnFault};
 ghost use Rattle.jp_tape.specs.Machine.{Steps, NoStep, IsBehind, Labelled, IsFinished, IsCounted, IsClosed, Holds, next_above};
 ghost use Rattle.jp_tape.specs.declared.builder.machine.Open.{Open};
 ghost use Rattle.jp_tape.specs.declared.builder.machine.Turn.TheVariants as turns;
@@ -21,8 +21,8 @@ use super::BuildFault;
 use super::body::Body;
 use super::escapes::has_escape;
 use super::names::has_equal;
-use super::scan::{is_at, marks_behind, skip_white};
-use super::tokens::{Label, label_at, scalar_at};
+use super::scan::{is_at, marks_behind, next_token, skip_white};
+use super::tokens::{Label, Scalar, name_at, no_name, plain_name_at, scalar_at, text_at};
 use crate::Kind;
 use jp_model::{LineFault, Span};
 use std::alloc::Global;
@@ -253,7 +253,54 @@ impl<'a> Builder<'a> {
         }
     }
 
-    /// Reads what stands before a child's value, and keeps its name.
+    /// Keeps the name that stands before a child's value.
+    #[inline(always)]
+    fn keep_label(&mut self, line: &'a [u8], label: Label) -> Result<Turn, BuildFault>
+        requires within { label.value ≤ length line.now }
+        requires room { length line.now < 2 ^ 32 }
+        requires found { (kind : Container) × (from : ℕ) × FoundLabel line.now kind from label }
+        requires plain { IsPlainLabel line.now label }
+        requires ahead { IsPassed line.now self.old.marks.now (name_marks label.name) label.value }
+        ensures found { (kind : Container) (from : ℕ) → FoundLabel line.now kind from label → from ≤ label.value → IfOk result (λ turn. Labelled line.now kind from turn self.old self.new) }
+        ensures ahead { IfOk result (λ turn. IsAheadOf line.now turn self.new) }
+        ensures memory { IfErr result (λ fault. OnFault fault ⊥) }
+    {
+        self.has_surrogate |= label.is_lone;
+        if let Some(span) = label.name {
+            self.marks = marks_behind(self.marks, 3);
+            let body = kept_body(line, span, label.is_lone, label.is_plain);
+            if self.names.reserve(1).is_err() {
+                return Err(BuildFault::Memory);
+            }
+            self.names.push_reserved(body);
+        }
+        Ok(Turn::Value(label.name, label.value))
+    }
+
+    /// Reads what stands before a member's value, and keeps its name.
+    #[inline(never)]
+    fn next_member(
+        &mut self,
+        line: &'a [u8],
+        is_unescaped: bool,
+        from: usize,
+    ) -> Result<Turn, BuildFault>
+        requires unescaped { is_unescaped ≡ true → IsUnescaped line.now }
+        requires within { from ≤ length line.now }
+        requires room { length line.now < 2 ^ 32 }
+        requires utf8 { IsUtf8 line.now }
+        requires ahead { IsAhead line.now from self.old.marks.now }
+        ensures found { IfOk result (λ turn. Labelled line.now object from turn self.old self.new) }
+        ensures ahead { IfOk result (λ turn. IsAheadOf line.now turn self.new) }
+        ensures stuck { IfErr result (λ fault. OnFault fault (NoLabel line.now object from)) }
+    {
+        let Some(label) = name_at(line, is_unescaped, self.marks, from) else {
+            return Err(GRAMMAR);
+        };
+        self.keep_label(line, label)
+    }
+
+    /// Reads what stands before a child's value, and keeps its name. Most names stand in a line with no escape.
     #[inline(always)]
     fn next_child(
         &mut self,
@@ -272,19 +319,15 @@ impl<'a> Builder<'a> {
         ensures ahead { IfOk result (λ turn. IsAheadOf line.now turn self.new) }
         ensures stuck { IfErr result (λ fault. OnFault fault (NoLabel line.now (container_if is_object) from)) }
     {
-        let Some(label) = label_at(line, is_unescaped, self.marks, is_object, from) else {
-            return Err(GRAMMAR);
-        };
-        self.has_surrogate |= label.is_lone;
-        if let Some(span) = label.name {
-            self.marks = marks_behind(self.marks, 3);
-            let body = kept_body(line, span, label.is_lone, label.is_plain);
-            if self.names.reserve(1).is_err() {
-                return Err(BuildFault::Memory);
-            }
-            self.names.push_reserved(body);
+        if !is_object {
+            return self.keep_label(line, no_name(from));
         }
-        Ok(Turn::Value(label.name, label.value))
+        if is_unescaped {
+            if let Some(label) = plain_name_at(line, self.marks, from) {
+                return self.keep_label(line, label);
+            }
+        }
+        self.next_member(line, is_unescaped, from)
     }
 
     /// Reads the opening bracket at `at`, and what stands behind it up to the first child's value.
@@ -309,7 +352,7 @@ impl<'a> Builder<'a> {
         ensures stuck { IfErr result (λ fault. OnFault fault (NoStep line.now (turns.Value name at) self.old)) }
     {
         self.marks = marks_behind(self.marks, 1);
-        let inside = skip_white(line, self.marks, at + 1);
+        let inside = next_token(line, self.marks, at + 1);
         let place = self.words.len() / 3;
         let above = self.above();
         let label = label_to_word(name, above.index);
@@ -341,36 +384,22 @@ impl<'a> Builder<'a> {
         self.next_child(line, is_unescaped, is_object, inside)
     }
 
-    /// Reads the value at `at`: all of it, or up to the first child's value.
+    /// Writes the node of a value that has no children.
     #[inline(always)]
-    fn begin(
+    fn keep_scalar(
         &mut self,
-        line: &'a [u8],
-        is_unescaped: bool,
         at: usize,
         name: Option<Span>,
-    ) -> Result<Turn, BuildFault>
-        requires unescaped { is_unescaped ≡ true → IsUnescaped line.now }
-        requires within { at ≤ length line.now }
-        requires room { length line.now < 2 ^ 32 }
-        requires utf8 { IsUtf8 line.now }
-        requires few { length self.old.words.items ≤ 3 * at }
-        requires ahead { IsAhead line.now at self.old.marks.now }
-        ensures goes_on { IfOk result (λ turn. Steps line.now (turns.Value name at) self.old turn self.new) }
-        ensures behind { IfOk result (λ turn. IsBehind line.now at turn self.new) }
-        ensures ahead { IfOk result (λ turn. IsAheadOf line.now turn self.new) }
-        ensures stuck { IfErr result (λ fault. OnFault fault (NoStep line.now (turns.Value name at) self.old)) }
+        scalar: Scalar,
+    ) -> Result<(), BuildFault>
+        requires order { at < scalar.end }
+        requires room { scalar.end < 2 ^ 32 }
+        requires marks { scalar.marks ≤ length self.old.marks.now }
+        ensures goes_on { (line : List ℕ) → FoundScalar line at scalar → IfOk result (λ _. Steps line (turns.Value name at) self.old (turns.After scalar.end) self.new) }
+        ensures marks { IfOk result (λ _. self.new.marks.now ≡ drop scalar.marks self.old.marks.now) }
+        ensures few { IfOk result (λ _. length self.new.words.items ≡ length self.old.words.items + 3) }
+        ensures memory { IfErr result (λ fault. OnFault fault ⊥) }
     {
-        if at >= line.len() {
-            return Err(GRAMMAR);
-        }
-        let is_object = is_at(line, at, b'{');
-        if is_object || is_at(line, at, b'[') {
-            return self.enter(line, is_unescaped, at, is_object, name);
-        }
-        let Some(scalar) = scalar_at(line, is_unescaped, self.marks, at) else {
-            return Err(GRAMMAR);
-        };
         self.marks = marks_behind(self.marks, scalar.marks);
         let above = self.above();
         let head = head(scalar.kind, 0, above.parent);
@@ -382,7 +411,7 @@ impl<'a> Builder<'a> {
         }
         self.has_surrogate |= scalar.is_lone;
         self.has_long_exponent |= scalar.is_long;
-        Ok(Turn::After(scalar.end))
+        Ok(())
     }
 
     /// Closes the innermost container, which ends before `end`.
@@ -425,6 +454,52 @@ impl<'a> Builder<'a> {
         self.opened[last].children += 1;
     }
 
+    /// Reads the token at `next`, which is the first behind a value that ends at `at`.
+    #[inline(always)]
+    fn follow(
+        &mut self,
+        line: &'a [u8],
+        is_unescaped: bool,
+        at: usize,
+        next: usize,
+    ) -> Result<Turn, BuildFault>
+        requires unescaped { is_unescaped ≡ true → IsUnescaped line.now }
+        requires white { White line.now at next }
+        requires stops { Stops line.now next }
+        requires room { length line.now < 2 ^ 32 }
+        requires utf8 { IsUtf8 line.now }
+        requires few { length self.old.words.items ≤ 3 * at }
+        requires ahead { IsAhead line.now next self.old.marks.now }
+        requires holds { Holds line.now (turns.After at) self.old }
+        ensures goes_on { IfOk result (λ turn. Steps line.now (turns.After at) self.old turn self.new) }
+        ensures behind { IfOk result (λ turn. IsBehind line.now at turn self.new) }
+        ensures ahead { IfOk result (λ turn. IsAheadOf line.now turn self.new) }
+        ensures stuck { IfErr result (λ fault. OnFault fault (NoStep line.now (turns.After at) self.old)) }
+    {
+        if self.opened.is_empty() {
+            return if next == line.len() {
+                Ok(Turn::End)
+            } else {
+                Err(GRAMMAR)
+            };
+        }
+        let container = self.opened[self.opened.len() - 1];
+        if is_at(line, next, b',') {
+            self.marks = marks_behind(self.marks, 1);
+            self.count_child();
+            let child = next_token(line, self.marks, next + 1);
+            return self.next_child(line, is_unescaped, container.is_object, child);
+        }
+        if !is_at(line, next, closing_of(container.is_object)) {
+            return Err(GRAMMAR);
+        }
+        self.marks = marks_behind(self.marks, 1);
+        match self.close(container, next + 1) {
+            Ok(()) => Ok(Turn::After(next + 1)),
+            Err(fault) => Err(fault),
+        }
+    }
+
     /// Reads what follows a value.
     #[inline(always)]
     fn go_on(&mut self, line: &'a [u8], is_unescaped: bool, at: usize) -> Result<Turn, BuildFault>
@@ -441,26 +516,67 @@ impl<'a> Builder<'a> {
         ensures stuck { IfErr result (λ fault. OnFault fault (NoStep line.now (turns.After at) self.old)) }
     {
         let next = skip_white(line, self.marks, at);
-        if self.opened.is_empty() {
-            return if next == line.len() {
-                Ok(Turn::End)
-            } else {
-                Err(GRAMMAR)
-            };
-        }
-        let container = self.opened[self.opened.len() - 1];
-        if is_at(line, next, b',') {
-            self.marks = marks_behind(self.marks, 1);
-            self.count_child();
-            let child = skip_white(line, self.marks, next + 1);
-            return self.next_child(line, is_unescaped, container.is_object, child);
-        }
-        if !is_at(line, next, closing_of(container.is_object)) {
+        self.follow(line, is_unescaped, at, next)
+    }
+
+    /// Reads the string at `at`, which stands in a line with no escape, and what follows it.
+    #[inline(always)]
+    fn read_text(
+        &mut self,
+        line: &'a [u8],
+        at: usize,
+        name: Option<Span>,
+    ) -> Result<Turn, BuildFault>
+        requires unescaped { IsUnescaped line.now }
+        requires opens { Has line.now at 0x22 }
+        requires room { length line.now < 2 ^ 32 }
+        requires utf8 { IsUtf8 line.now }
+        requires few { length self.old.words.items ≤ 3 * at }
+        requires ahead { IsAhead line.now at self.old.marks.now }
+        requires holds { Holds line.now (turns.Value name at) self.old }
+        ensures goes_on { IfOk result (λ turn. Steps line.now (turns.Value name at) self.old turn self.new) }
+        ensures behind { IfOk result (λ turn. IsBehind line.now at turn self.new) }
+        ensures ahead { IfOk result (λ turn. IsAheadOf line.now turn self.new) }
+        ensures stuck { IfErr result (λ fault. OnFault fault (NoStep line.now (turns.Value name at) self.old)) }
+    {
+        let Some(text) = text_at(line, true, self.marks, at) else {
             return Err(GRAMMAR);
+        };
+        let next = next_token(line, marks_behind(self.marks, text.marks), text.end);
+        match self.keep_scalar(at, name, text) {
+            Ok(()) => self.follow(line, true, text.end, next),
+            Err(fault) => Err(fault),
         }
-        self.marks = marks_behind(self.marks, 1);
-        match self.close(container, next + 1) {
-            Ok(()) => Ok(Turn::After(next + 1)),
+    }
+
+    /// Reads the value at `at`, which is no array or object, and what follows it.
+    #[inline(always)]
+    fn read_scalar(
+        &mut self,
+        line: &'a [u8],
+        is_unescaped: bool,
+        at: usize,
+        name: Option<Span>,
+    ) -> Result<Turn, BuildFault>
+        requires unescaped { is_unescaped ≡ true → IsUnescaped line.now }
+        requires inside { at < length line.now }
+        requires no_array { byte_at line.now at ≡ 0x5B → ⊥ }
+        requires no_object { byte_at line.now at ≡ 0x7B → ⊥ }
+        requires room { length line.now < 2 ^ 32 }
+        requires utf8 { IsUtf8 line.now }
+        requires few { length self.old.words.items ≤ 3 * at }
+        requires ahead { IsAhead line.now at self.old.marks.now }
+        requires holds { Holds line.now (turns.Value name at) self.old }
+        ensures goes_on { IfOk result (λ turn. Steps line.now (turns.Value name at) self.old turn self.new) }
+        ensures behind { IfOk result (λ turn. IsBehind line.now at turn self.new) }
+        ensures ahead { IfOk result (λ turn. IsAheadOf line.now turn self.new) }
+        ensures stuck { IfErr result (λ fault. OnFault fault (NoStep line.now (turns.Value name at) self.old)) }
+    {
+        let Some(scalar) = scalar_at(line, is_unescaped, self.marks, at) else {
+            return Err(GRAMMAR);
+        };
+        match self.keep_scalar(at, name, scalar) {
+            Ok(()) => self.go_on(line, is_unescaped, scalar.end),
             Err(fault) => Err(fault),
         }
     }
@@ -486,10 +602,17 @@ impl<'a> Builder<'a> {
         ensures ahead { IfOk result (λ turn. IsAheadOf line.now turn self.new) }
         ensures stuck { IfErr result (λ fault. OnFault fault (NoStep line.now (turns.Value name at) self.old)) }
     {
-        match self.begin(line, is_unescaped, at, name) {
-            Ok(Turn::After(end)) => self.go_on(line, is_unescaped, end),
-            begun => begun,
+        if at >= line.len() {
+            return Err(GRAMMAR);
         }
+        if is_unescaped && is_at(line, at, b'"') {
+            return self.read_text(line, at, name);
+        }
+        let is_object = is_at(line, at, b'{');
+        if is_object || is_at(line, at, b'[') {
+            return self.enter(line, is_unescaped, at, is_object, name);
+        }
+        self.read_scalar(line, is_unescaped, at, name)
     }
 }
 

@@ -3,8 +3,9 @@
 ghost use Rattle.std.specs.Prelude.{◌≡◌, ℕ, ◌+◌, ◌<◌, ◌≤◌, true, false, length, drop, List, IfSome, IfNone};
 ghost use Rattle.jp_model.specs.Characters.{is_white, is_digit};
 ghost use Rattle.jp_model.specs.Json.Places.{White, Has, Reads, byte_at};
+ghost use Rattle.jp_model.specs.Json.Marks.{may_begin};
 ghost use Rattle.jp_tape.specs.Places.{in_number, Ended, Stops};
-ghost use Rattle.jp_tape.specs.Ahead.{IsAhead, IsPassed, IsSolid};
+ghost use Rattle.jp_tape.specs.Ahead.{IsAhead, IsPassed, IsSolid, first_or};
 
 fn is_white_byte(byte: u8) -> bool
     ensures { result ≡ is_white byte }
@@ -38,6 +39,18 @@ fn is_white_at(line: &[u8], at: usize) -> bool
     at < line.len() && is_white_byte(line[at])
 }
 
+/// The first of the marks, or else the length of the line.
+#[inline(always)]
+fn first_mark(line: &[u8], marks: &[u32]) -> usize
+    ensures value { result ≡ first_or marks.now (length line.now) }
+    ensures inside { (from : ℕ) → IsAhead line.now from marks.now → 0 < length marks.now → result < length line.now }
+{
+    if marks.is_empty() {
+        return line.len();
+    }
+    marks[0] as usize
+}
+
 /// The first place at or after `from` without white space, or the length: the next mark, where white space is at `from`.
 #[inline(always)]
 pub(super) fn skip_white(line: &[u8], marks: &[u32], from: usize) -> usize
@@ -50,10 +63,21 @@ pub(super) fn skip_white(line: &[u8], marks: &[u32], from: usize) -> usize
     if !is_white_at(line, from) {
         return from;
     }
-    if marks.is_empty() {
-        return line.len();
-    }
-    marks[0] as usize
+    first_mark(line, marks)
+}
+
+/// The first place at or after `from`, where a token may begin, that has no white space, or the length: the next mark.
+#[inline(always)]
+pub(super) fn next_token(line: &[u8], marks: &[u32], from: usize) -> usize
+    requires within { from ≤ length line.now }
+    requires begins { may_begin line.now from ≡ true }
+    requires ahead { IsAhead line.now from marks.now }
+    ensures white { White line.now from result }
+    ensures stops { Stops line.now result }
+    ensures ahead { IsAhead line.now result marks.now }
+    ensures inside { 0 < length marks.now → result < length line.now }
+{
+    first_mark(line, marks)
 }
 
 /// The marks behind the first so many.

@@ -6,15 +6,16 @@ ghost use Rattle.jp_model.specs.Json.Places.{Has, Reads, byte_at, bytes_between}
 ghost use Rattle.jp_model.specs.Json.Numbers.{AreDigits, IsInt, SpellsNumber, minus_bytes, fraction_bytes, numeral_of, is_long_exponent};
 ghost use Rattle.jp_model.specs.Json.Strings.{SpellsBody, has_lone_surrogate};
 ghost use Rattle.jp_model.specs.Json.Spelling.{SpellsString};
-ghost use Rattle.jp_model.specs.Json.Tree.{object};
+ghost use Rattle.jp_model.specs.Json.Tree.{array, object};
+ghost use Rattle.jp_model.specs.Json.Marks.{may_begin};
 ghost use Rattle.jp_tape.specs.Places.{Ended, Stops, IsUnescaped, IsUnquoted};
 ghost use Rattle.jp_tape.specs.Ahead.{IsAhead, IsPassed, IsSolid, in_token, name_marks};
-ghost use Rattle.jp_tape.specs.Reading.{FoundScalar, NoValue, FoundLabel, NoLabel, IsPlainLabel, container_if};
+ghost use Rattle.jp_tape.specs.Reading.{FoundScalar, NoValue, FoundLabel, NoLabel, IsPlainLabel};
 ghost use Rattle.jp_strings.specs.Plain.{ArePlain};
 
 use super::scan::{
-    digits_end, is_at, is_number_at, marks_behind, number_bytes_end, own_marks, skip_white,
-    word_end,
+    digits_end, is_at, is_number_at, marks_behind, next_token, number_bytes_end, own_marks,
+    skip_white, word_end,
 };
 use crate::Kind;
 use jp_decimal::{Decimal, NumberFault};
@@ -72,6 +73,7 @@ fn closing_quote(line: &[u8], marks: &[u32], from: usize) -> Option<usize>
     ensures only { IfSome result (λ at. (to : ℕ) (points : List ℕ) → SpellsBody line.now (from + 1) to points → Has line.now to 0x22 → to ≡ at) }
     ensures first { IfSome result (λ at. IsUnquoted line.now (from + 1) at) }
     ensures ahead { IfSome result (λ at. IsPassed line.now marks.now 2 (at + 1)) }
+    ensures begins { IfSome result (λ at. may_begin line.now (at + 1) ≡ true) }
     ensures none { IfNone result ((to : ℕ) (points : List ℕ) → SpellsBody line.now (from + 1) to points → Has line.now to 0x22 → ⊥) }
 {
     if marks.len() < 2 {
@@ -120,6 +122,7 @@ fn string_end(line: &[u8], is_unescaped: bool, marks: &[u32], from: usize) -> Op
     ensures found { IfSome result (λ r. (points : List ℕ) × SpellsString line.now from r.end points × (has_lone_surrogate points ≡ r.is_lone)) }
     ensures plain { IfSome result (λ r. r.is_plain ≡ true → ArePlain line.now (from + 1) (r.end - 1)) }
     ensures ahead { IfSome result (λ r. IsPassed line.now marks.now 2 r.end) }
+    ensures begins { IfSome result (λ r. may_begin line.now r.end ≡ true) }
     ensures none { IfNone result ((to : ℕ) (points : List ℕ) → SpellsString line.now from to points → ⊥) }
 {
     let Some(last) = closing_quote(line, marks, from) else {
@@ -185,7 +188,7 @@ fn fraction_end(line: &[u8], from: usize) -> Option<usize>
 }
 
 /// The end of the number at `from`, where it has no exponent, and no byte of a number follows it.
-#[inline(never)]
+#[inline(always)]
 fn plain_number_end(line: &[u8], from: usize) -> Option<usize>
     requires inside { from < length line.now }
     ensures within { IfSome result (λ to. (from < to) × (to ≤ length line.now)) }
@@ -246,7 +249,7 @@ fn any_number_end(line: &[u8], from: usize) -> Option<NumberEnd>
 
 /// The name at `from` and its colon.
 #[inline(always)]
-fn name_at(line: &[u8], is_unescaped: bool, marks: &[u32], from: usize) -> Option<Label>
+pub(super) fn name_at(line: &[u8], is_unescaped: bool, marks: &[u32], from: usize) -> Option<Label>
     requires unescaped { is_unescaped ≡ true → IsUnescaped line.now }
     requires within { from ≤ length line.now }
     requires room { length line.now < 2 ^ 32 }
@@ -282,37 +285,58 @@ fn name_at(line: &[u8], is_unescaped: bool, marks: &[u32], from: usize) -> Optio
     })
 }
 
-/// What stands before the value of a child.
+/// So many marks have a name, its colon and what follows them at least.
+const NAME_AND_MORE: usize = 4;
+
+/// The name at `from` and its colon, in a line with no escape, where a token follows them: its quotes, the colon and the token
+/// are the next marks. Where there is none it is not said why.
 #[inline(always)]
-pub(super) fn label_at(
-    line: &[u8],
-    is_unescaped: bool,
-    marks: &[u32],
-    is_object: bool,
-    from: usize,
-) -> Option<Label>
-    requires unescaped { is_unescaped ≡ true → IsUnescaped line.now }
+pub(super) fn plain_name_at(line: &[u8], marks: &[u32], from: usize) -> Option<Label>
+    requires unescaped { IsUnescaped line.now }
     requires within { from ≤ length line.now }
     requires room { length line.now < 2 ^ 32 }
     requires utf8 { IsUtf8 line.now }
-    requires stops { Stops line.now from }
     requires ahead { IsAhead line.now from marks.now }
     ensures within { IfSome result (λ r. (from ≤ r.value) × (r.value ≤ length line.now)) }
     ensures stops { IfSome result (λ r. Stops line.now r.value) }
     ensures ahead { IfSome result (λ r. IsPassed line.now marks.now (name_marks r.name) r.value) }
     ensures plain { IfSome result (λ r. IsPlainLabel line.now r) }
-    ensures found { IfSome result (λ r. FoundLabel line.now (container_if is_object) from r) }
-    ensures none { IfNone result (NoLabel line.now (container_if is_object) from) }
+    ensures found { IfSome result (λ r. FoundLabel line.now object from r) }
 {
-    if is_object {
-        name_at(line, is_unescaped, marks, from)
-    } else {
-        Some(Label {
-            name: None,
-            is_lone: false,
-            is_plain: true,
-            value: from,
-        })
+    if marks.len() < NAME_AND_MORE || !is_at(line, from, b'"') {
+        return None;
+    }
+    let Some(name) = string_end(line, true, marks, from) else {
+        return None;
+    };
+    let colon = next_token(line, marks_behind(marks, 2), name.end);
+    if line[colon] != b':' {
+        return None;
+    }
+    let body = Span {
+        start: (from + 1) as u32,
+        end: (name.end - 1) as u32,
+    };
+    Some(Label {
+        name: Some(body),
+        is_lone: name.is_lone,
+        is_plain: name.is_plain,
+        value: next_token(line, marks_behind(marks, 3), colon + 1),
+    })
+}
+
+/// What stands before an element's value at `from`: nothing.
+#[inline(always)]
+pub(super) fn no_name(from: usize) -> Label
+    ensures value { result.value ≡ from }
+    ensures none { result.name ≡ None }
+    ensures found { (line : List ℕ) → FoundLabel line array from result }
+{
+    Label {
+        name: None,
+        is_lone: false,
+        is_plain: true,
+        value: from,
     }
 }
 
@@ -336,6 +360,36 @@ fn word_at(line: &[u8], marks: &[u32], from: usize, word: &[u8], kind: Kind) -> 
         }),
         None => None,
     }
+}
+
+/// The string at `from`, as a value.
+#[inline(always)]
+pub(super) fn text_at(
+    line: &[u8],
+    is_unescaped: bool,
+    marks: &[u32],
+    from: usize,
+) -> Option<Scalar>
+    requires unescaped { is_unescaped ≡ true → IsUnescaped line.now }
+    requires opens { Has line.now from 0x22 }
+    requires utf8 { IsUtf8 line.now }
+    requires ahead { IsAhead line.now from marks.now }
+    ensures within { IfSome result (λ r. (from < r.end) × (r.end ≤ length line.now)) }
+    ensures ahead { IfSome result (λ r. IsPassed line.now marks.now r.marks r.end) }
+    ensures begins { IfSome result (λ r. may_begin line.now r.end ≡ true) }
+    ensures found { IfSome result (λ r. FoundScalar line.now from r) }
+    ensures none { IfNone result (NoValue line.now from) }
+{
+    let Some(string) = string_end(line, is_unescaped, marks, from) else {
+        return None;
+    };
+    Some(Scalar {
+        kind: Kind::Text,
+        end: string.end,
+        is_lone: string.is_lone,
+        is_long: false,
+        marks: 2,
+    })
 }
 
 /// The value at `from`, which is no array or object.
@@ -369,16 +423,7 @@ pub(super) fn scalar_at(
         return word_at(line, marks, from, b"false", Kind::False);
     }
     if byte == b'"' {
-        return match string_end(line, is_unescaped, marks, from) {
-            Some(string) => Some(Scalar {
-                kind: Kind::Text,
-                end: string.end,
-                is_lone: string.is_lone,
-                is_long: false,
-                marks: 2,
-            }),
-            None => None,
-        };
+        return text_at(line, is_unescaped, marks, from);
     }
     match number_end(line, from) {
         Some(number) => Some(Scalar {

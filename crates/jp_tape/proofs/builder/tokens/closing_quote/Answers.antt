@@ -7,4 +7,4 @@ returns-then-marks-lt2-clause-none c = never_closes c.args.line.now c.args.marks
 pub returns : goal.returns
 returns c =
     let s = closes c.args.line.now c.args.marks.now c.args.from c.requires.opens c.requires.ahead c.if-marks-lt2.false in
-    record { within = s.order; quote = s.quote; only = s.only; first = s.first; ahead = s.ahead; none = tt }
+    record { within = s.order; quote = s.quote; only = s.only; first = s.first; ahead = s.ahead; begins = s.begins; none = tt }

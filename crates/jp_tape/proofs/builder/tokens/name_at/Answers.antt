@@ -1,8 +1,6 @@
-use Rattle.std.proofs.Common.{◌≡◌, ◌+◌, ◌-◌, List, ℕ, drop, ap, sym, subst, arith}
-use Rattle.jp_model.specs.Json.Places.{Has}
-use Rattle.jp_model.specs.Characters.{is_structural}
-use Rattle.jp_tape.specs.Ahead.{IsAhead, IsPassed}
-use Rattle.jp_tape.proofs.Ahead.{passes_next}
+use Rattle.std.proofs.Common.{◌+◌, ◌-◌, List, ℕ, sym, subst, arith}
+use Rattle.jp_tape.specs.Ahead.{IsAhead}
+use Rattle.jp_tape.proofs.Ahead.{passes_colon}
 use Rattle.jp_tape.proofs.Labels.{found_name, no_string_no_name, no_colon_no_name}
 use Rattle.jp_tape.proofs.builder.tokens.name_at.Goals as goal
 
@@ -23,18 +21,15 @@ returns-clause-found c =
     let i = c.in-Some.ensures.within.0 in
     found_name c.args.line.now c.args.from c.in-Some.name.end c.skip_white-colon.result c.skip_white.result c.in-Some.name.is_lone c.in-Some.name.is_plain f.0 f.1 f.2 w.white (c.is_at-2.ensures.yes c.if-not-is_at-2.false) v.white v.stops (c.in-Some.name.end - 1) (omega (arith, i))
 
-colon_passed : (line ms rest : List ℕ) (end colon : ℕ) → IsPassed line ms 2 end → rest ≡ drop 2 ms → IsAhead line colon rest → Has line colon 0x3A → IsPassed line ms 3 (colon + 1)
-colon_passed line ms rest end colon p e a h = passes_next line ms 2 colon p.within (subst (λ (xs : List ℕ). IsAhead line colon xs) e a) h.inside (ap is_structural h.is)
-
 pub marks_behind-requires-2 : goal.marks_behind-requires-2
-marks_behind-requires-2 c = (colon_passed c.args.line.now c.args.marks.now c.marks_behind.result.now c.in-Some.name.end c.skip_white-colon.result c.in-Some.ensures.ahead c.marks_behind.ensures c.skip_white-colon.ensures.ahead (c.is_at-2.ensures.yes c.if-not-is_at-2.false)).within
+marks_behind-requires-2 c = (passes_colon c.args.line.now c.args.marks.now c.marks_behind.result.now c.in-Some.name.end c.skip_white-colon.result c.in-Some.ensures.ahead c.marks_behind.ensures c.skip_white-colon.ensures.ahead (c.is_at-2.ensures.yes c.if-not-is_at-2.false)).within
 
 pub skip_white-requires-clause-ahead : goal.skip_white-requires-clause-ahead
 skip_white-requires-clause-ahead c =
-    let p = colon_passed c.args.line.now c.args.marks.now c.marks_behind.result.now c.in-Some.name.end c.skip_white-colon.result c.in-Some.ensures.ahead c.marks_behind.ensures c.skip_white-colon.ensures.ahead (c.is_at-2.ensures.yes c.if-not-is_at-2.false) in
+    let p = passes_colon c.args.line.now c.args.marks.now c.marks_behind.result.now c.in-Some.name.end c.skip_white-colon.result c.in-Some.ensures.ahead c.marks_behind.ensures c.skip_white-colon.ensures.ahead (c.is_at-2.ensures.yes c.if-not-is_at-2.false) in
     subst (λ (xs : List ℕ). IsAhead c.args.line.now (c.skip_white-colon.result + 1) xs) (sym c.marks_behind-2.ensures) p.ahead
 
 pub returns-clause-ahead : goal.returns-clause-ahead
 returns-clause-ahead c =
-    let p = colon_passed c.args.line.now c.args.marks.now c.marks_behind.result.now c.in-Some.name.end c.skip_white-colon.result c.in-Some.ensures.ahead c.marks_behind.ensures c.skip_white-colon.ensures.ahead (c.is_at-2.ensures.yes c.if-not-is_at-2.false) in
+    let p = passes_colon c.args.line.now c.args.marks.now c.marks_behind.result.now c.in-Some.name.end c.skip_white-colon.result c.in-Some.ensures.ahead c.marks_behind.ensures c.skip_white-colon.ensures.ahead (c.is_at-2.ensures.yes c.if-not-is_at-2.false) in
     record { within = p.within; ahead = subst (λ (xs : List ℕ). IsAhead c.args.line.now c.skip_white.result xs) c.marks_behind-2.ensures c.skip_white.ensures.ahead }

@@ -3,7 +3,7 @@ use Rattle.std.specs.Option.{IfNone}
 use Rattle.std.proofs.lemmas.Option.{IfSome_then}
 use Rattle.jp_model.specs.Json.Reader.{lead_of}
 use Rattle.jp_tape.specs.Reading.{code_of}
-use Rattle.jp_tape.proofs.Scalars.{found_null, found_boolean, found_string, found_number, no_null, no_boolean, no_string, no_number}
+use Rattle.jp_tape.proofs.Scalars.{found_null, found_boolean, found_number, no_null, no_boolean, no_number}
 use Rattle.jp_tape.proofs.builder.tokens.scalar_at.Goals as goal
 
 none_then : {A : Type 0} (r : Option A) {P Q : Type 0} → IfNone r P → (P → Q) → IfNone r Q
@@ -31,21 +31,13 @@ returns-then-byte-eq102-clause-none c = none_then c.word_at-then-byte-eq102.resu
 pub returns-in-Some-clause-found : goal.returns-in-Some-clause-found
 returns-in-Some-clause-found c =
     let f = c.in-Some.ensures.found in
-    found_string c.args.line.now c.args.from c.in-Some.string.end 2 c.in-Some.string.is_lone f.0 f.1 f.2
+    found_number c.args.line.now c.args.from c.in-Some.number.end c.own_marks.result c.in-Some.number.is_long f.0 f.1 f.2 f.3 f.4
 
 pub returns-in-None-clause-none : goal.returns-in-None-clause-none
-returns-in-None-clause-none c = no_string c.args.line.now c.args.from c.if-byte-eq34.true c.in-None.ensures.none
+returns-in-None-clause-none c =
+    no_number c.args.line.now c.args.from c.if-byte-eq110.false c.if-byte-eq116.false c.if-byte-eq102.false c.if-byte-eq34.false c.requires.no_array c.requires.no_object c.in-None.ensures.none
 
-pub returns-in-Some-number_end-clause-found : goal.returns-in-Some-number_end-clause-found
-returns-in-Some-number_end-clause-found c =
-    let f = c.in-Some-number_end.ensures.found in
-    found_number c.args.line.now c.args.from c.in-Some-number_end.number.end c.own_marks.result c.in-Some-number_end.number.is_long f.0 f.1 f.2 f.3 f.4
-
-pub returns-in-None-number_end-clause-none : goal.returns-in-None-number_end-clause-none
-returns-in-None-number_end-clause-none c =
-    no_number c.args.line.now c.args.from c.if-byte-eq110.false c.if-byte-eq116.false c.if-byte-eq102.false c.if-byte-eq34.false c.requires.no_array c.requires.no_object c.in-None-number_end.ensures.none
-
-pub returns-in-Some-number_end-clause-ahead : goal.returns-in-Some-number_end-clause-ahead
-returns-in-Some-number_end-clause-ahead c =
-    let e = c.in-Some-number_end.ensures in
-    c.own_marks.ensures c.args.line.now c.in-Some-number_end.number.end c.requires.ahead e.within.0 e.within.1 e.solid
+pub returns-in-Some-clause-ahead : goal.returns-in-Some-clause-ahead
+returns-in-Some-clause-ahead c =
+    let e = c.in-Some.ensures in
+    c.own_marks.ensures c.args.line.now c.in-Some.number.end c.requires.ahead e.within.0 e.within.1 e.solid

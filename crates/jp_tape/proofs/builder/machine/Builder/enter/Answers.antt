@@ -8,7 +8,7 @@ use Rattle.jp_tape.specs.declared.builder.machine.Open.{Open}
 use Rattle.jp_tape.specs.Words.{head_word}
 use Rattle.jp_tape.specs.Reading.{body_word, container_if}
 use Rattle.jp_tape.proofs.Held.{or_false}
-use Rattle.jp_tape.proofs.Ahead.{passes_structural, bracket_structural, closing_structural}
+use Rattle.jp_tape.proofs.Ahead.{passes_structural, structural_begins, bracket_structural, closing_structural}
 use Rattle.jp_tape.proofs.Walk.{node_is, opened_is, empty_goes_on, enter_goes_on, no_enter, on_fault}
 use Rattle.jp_tape.proofs.builder.machine.Builder.enter.Goals as goal
 
@@ -16,8 +16,8 @@ pub returns-in-Ok-clause-goes_on : goal.returns-in-Ok-clause-goes_on
 returns-in-Ok-clause-goes_on c =
     let b = c.args.self.now in
     let kind = container_if c.args.is_object in
-    empty_goes_on c.args.line.now c.args.at c.skip_white-inside.result c.args.name b _ kind c.requires.opens c.skip_white-inside.ensures.white
-    (subst (λ x. Has c.args.line.now c.skip_white-inside.result x) c.closing_of.ensures (c.is_at.ensures.yes c.if-is_at.true))
+    empty_goes_on c.args.line.now c.args.at c.next_token-inside.result c.args.name b _ kind c.requires.opens c.next_token-inside.ensures.white
+    (subst (λ x. Has c.args.line.now c.next_token-inside.result x) c.closing_of.ensures (c.is_at.ensures.yes c.if-is_at.true))
     (record {
       words_are = node_is b.words.items _ _ _ _ _ _ _ c.in-Ok.ensures.written
           (c.head-head.ensures ∙ ap₂ (λ (x : ℕ) (a : Above). head_word x 0 a.parent) c.container_kind.ensures c.above-above.ensures) c.span_to_word-span.ensures
@@ -34,11 +34,11 @@ pub returns-clause-goes_on : goal.returns-clause-goes_on
 returns-clause-goes_on c =
     let b = c.args.self.now in
     let kind = container_if c.args.is_object in
-    let w = c.skip_white-inside.ensures in
+    let w = c.next_token-inside.ensures in
     let mid : Builder = record { words = c.write_node-2.new.words; opened = c.push_reserved.new.self; names = b.names; keys = b.keys; marks = c.marks_behind-self.result; deepest = c.larger-self.result; has_surrogate = b.has_surrogate; has_long_exponent = b.has_long_exponent; has_duplicate = b.has_duplicate } in
     IfOk-weaker c.next_child.result _ _
-    (λ turn l. enter_goes_on c.args.line.now c.args.at c.skip_white-inside.result c.args.name b mid c.next_child.new.self turn kind c.requires.opens w.white w.stops
-    (λ h. c.is_at.ensures.no c.if-is_at.false (subst (λ x. Has c.args.line.now c.skip_white-inside.result x) (sym c.closing_of.ensures) h))
+    (λ turn l. enter_goes_on c.args.line.now c.args.at c.next_token-inside.result c.args.name b mid c.next_child.new.self turn kind c.requires.opens w.white w.stops
+    (λ h. c.is_at.ensures.no c.if-is_at.false (subst (λ x. Has c.args.line.now c.next_token-inside.result x) (sym c.closing_of.ensures) h))
     (record {
       words = node_is b.words.items _ _ _ _ _ _ _ c.in-Ok-write_node.ensures.written refl refl (c.label_to_word-label.ensures ∙ ap (λ (a : Above). body_word a.index c.args.name) c.above-above.ensures);
       opened = (rw c.reserve.ensures.items at c.push_reserved.ensures.items) ∙ ap (λ (o : Open). b.opened.items ++ o ∷ []) (opened_is c.args.is_object _ _ _ _ c.args.at (c.len-place.ensures ∙ b.words.ok.0) (c.len-2.ensures ∙ b.names.ok.0));
@@ -54,27 +54,30 @@ pub returns-clause-stuck : goal.returns-clause-stuck
 returns-clause-stuck c =
     let b = c.args.self.now in
     let kind = container_if c.args.is_object in
-    let w = c.skip_white-inside.ensures in
+    let w = c.next_token-inside.ensures in
     IfErr-weaker c.next_child.result _ _
-    (λ fault. on_fault fault (λ l. no_enter c.args.line.now c.args.at c.skip_white-inside.result c.args.name b kind c.requires.opens w.white w.stops
-    (λ h. c.is_at.ensures.no c.if-is_at.false (subst (λ x. Has c.args.line.now c.skip_white-inside.result x) (sym c.closing_of.ensures) h)) l))
+    (λ fault. on_fault fault (λ l. no_enter c.args.line.now c.args.at c.next_token-inside.result c.args.name b kind c.requires.opens w.white w.stops
+    (λ h. c.is_at.ensures.no c.if-is_at.false (subst (λ x. Has c.args.line.now c.next_token-inside.result x) (sym c.closing_of.ensures) h)) l))
     c.next_child.ensures.stuck
 
 pub marks_behind-self-requires : goal.marks_behind-self-requires
 marks_behind-self-requires c = (passes_structural c.args.line.now c.args.self.now.marks.now c.args.at c.requires.opens.inside (bracket_structural (container_if c.args.is_object) (byte_at c.args.line.now c.args.at) c.requires.opens.is) c.requires.ahead).within
 
-pub skip_white-inside-requires-clause-ahead : goal.skip_white-inside-requires-clause-ahead
-skip_white-inside-requires-clause-ahead c =
+pub next_token-inside-requires-clause-begins : goal.next_token-inside-requires-clause-begins
+next_token-inside-requires-clause-begins c = structural_begins c.args.line.now c.args.at (bracket_structural (container_if c.args.is_object) (byte_at c.args.line.now c.args.at) c.requires.opens.is)
+
+pub next_token-inside-requires-clause-ahead : goal.next_token-inside-requires-clause-ahead
+next_token-inside-requires-clause-ahead c =
     let p = passes_structural c.args.line.now c.args.self.now.marks.now c.args.at c.requires.opens.inside (bracket_structural (container_if c.args.is_object) (byte_at c.args.line.now c.args.at) c.requires.opens.is) c.requires.ahead in
     subst (λ (ms : List ℕ). IsAhead c.args.line.now (c.args.at + 1) ms) (sym c.marks_behind-self.ensures) p.ahead
 
 pub marks_behind-self-requires-then-is_at : goal.marks_behind-self-requires-then-is_at
 marks_behind-self-requires-then-is_at c =
-    let h = subst (λ x. Has c.args.line.now c.skip_white-inside.result x) c.closing_of.ensures (c.is_at.ensures.yes c.if-is_at.true) in
-    (passes_structural c.args.line.now c.marks_behind-self.result.now c.skip_white-inside.result h.inside (closing_structural (container_if c.args.is_object) (byte_at c.args.line.now c.skip_white-inside.result) h.is) c.skip_white-inside.ensures.ahead).within
+    let h = subst (λ x. Has c.args.line.now c.next_token-inside.result x) c.closing_of.ensures (c.is_at.ensures.yes c.if-is_at.true) in
+    (passes_structural c.args.line.now c.marks_behind-self.result.now c.next_token-inside.result h.inside (closing_structural (container_if c.args.is_object) (byte_at c.args.line.now c.next_token-inside.result) h.is) c.next_token-inside.ensures.ahead).within
 
 pub returns-in-Ok-clause-ahead : goal.returns-in-Ok-clause-ahead
 returns-in-Ok-clause-ahead c =
-    let h = subst (λ x. Has c.args.line.now c.skip_white-inside.result x) c.closing_of.ensures (c.is_at.ensures.yes c.if-is_at.true) in
-    let p = passes_structural c.args.line.now c.marks_behind-self.result.now c.skip_white-inside.result h.inside (closing_structural (container_if c.args.is_object) (byte_at c.args.line.now c.skip_white-inside.result) h.is) c.skip_white-inside.ensures.ahead in
-    subst (λ (ms : List ℕ). IsAhead c.args.line.now (c.skip_white-inside.result + 1) ms) (sym c.marks_behind-self-then-is_at.ensures) p.ahead
+    let h = subst (λ x. Has c.args.line.now c.next_token-inside.result x) c.closing_of.ensures (c.is_at.ensures.yes c.if-is_at.true) in
+    let p = passes_structural c.args.line.now c.marks_behind-self.result.now c.next_token-inside.result h.inside (closing_structural (container_if c.args.is_object) (byte_at c.args.line.now c.next_token-inside.result) h.is) c.next_token-inside.ensures.ahead in
+    subst (λ (ms : List ℕ). IsAhead c.args.line.now (c.next_token-inside.result + 1) ms) (sym c.marks_behind-self-then-is_at.ensures) p.ahead

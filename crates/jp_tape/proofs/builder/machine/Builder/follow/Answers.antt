@@ -9,20 +9,20 @@ use Rattle.jp_tape.specs.declared.builder.machine.Open.{Open}
 use Rattle.jp_tape.specs.Machine.{IsCounted, IsClosed}
 use Rattle.jp_tape.specs.Ahead.{IsAhead}
 use Rattle.jp_tape.specs.Reading.{container_if}
-use Rattle.jp_tape.proofs.Ahead.{passes_structural, closing_structural}
+use Rattle.jp_tape.proofs.Ahead.{passes_structural, structural_begins, closing_structural}
 use Rattle.jp_tape.proofs.Walk.{on_fault}
 use Rattle.jp_tape.proofs.Held.{last_of}
 use Rattle.jp_tape.proofs.Walk.{is_innermost, innermost_children, innermost_place, innermost_names, comma_goes_on, no_comma, no_neither, close_goes_on, end_goes_on, no_end}
-use Rattle.jp_tape.proofs.builder.machine.Builder.go_on.Goals as goal
+use Rattle.jp_tape.proofs.builder.machine.Builder.follow.Goals as goal
 
 pub returns-then-next-line-clause-goes_on : goal.returns-then-next-line-clause-goes_on
 returns-then-next-line-clause-goes_on c =
-    end_goes_on c.args.line.now c.args.at c.args.self.now (subst (λ n. White c.args.line.now c.args.at n) c.if-next-line.true c.skip_white-next.ensures.white) (sym c.args.self.now.opened.ok.0 ∙ eqb-true _ _ (sym c.if-is_empty.ensures))
+    end_goes_on c.args.line.now c.args.at c.args.self.now (subst (λ n. White c.args.line.now c.args.at n) c.if-next-line.true c.requires.white) (sym c.args.self.now.opened.ok.0 ∙ eqb-true _ _ (sym c.if-is_empty.ensures))
 
 pub returns-else-next-line-clause-stuck : goal.returns-else-next-line-clause-stuck
 returns-else-next-line-clause-stuck c =
-    let w = c.skip_white-next.ensures in
-    no_end c.args.line.now c.args.at c.skip_white-next.result c.args.self.now w.white w.stops c.if-next-line.false (sym c.args.self.now.opened.ok.0 ∙ eqb-true _ _ (sym c.if-is_empty.ensures))
+    let w = c.requires in
+    no_end c.args.line.now c.args.at c.args.next c.args.self.now w.white w.stops c.if-next-line.false (sym c.args.self.now.opened.ok.0 ∙ eqb-true _ _ (sym c.if-is_empty.ensures))
 
 some_open : (n m : ℕ) → n ≡ m → false ≡ (n == 0) → 0 < m
 some_open n m e h = let z : n ≡ 0 → ⊥ = eqb-false n 0 (sym h) in omega (arith, z, e)
@@ -49,45 +49,46 @@ count_child-requires-clause-room c outer o e =
     let last : o ≡ get_or b.opened.items (length b.opened.items - 1) o = sym (ap (λ (os : List Open). get_or os (length os - 1) o) e ∙ last_of outer o o) in
     let n = innermost_children c.args.line.now c.args.at b o x h (is_innermost c.args.line.now c.args.at b o some last x h) in
     let few = c.requires.few in
-    let within = c.requires.within in
+    let order = c.requires.white.order in
+    let within = c.requires.white.within in
     let room = c.requires.room in
-    omega (arith, n, few, within, room)
+    omega (arith, n, few, order, within, room)
 
 pub returns-then-is_at-clause-goes_on : goal.returns-then-is_at-clause-goes_on
 returns-then-is_at-clause-goes_on c =
-    let w = c.skip_white-next.ensures in
-    let v = c.skip_white-child.ensures in
+    let w = c.requires in
+    let v = c.next_token-child.ensures in
     let b = c.args.self.now in
     let o = c.index-container.result.now in
     let some = some_open _ _ b.opened.ok.0 c.if-is_empty.ensures in
     let last = last_read b.opened.items _ _ o c.len.ensures b.opened.ok.0 c.index-container.ensures in
     IfOk-weaker c.next_child.result _ _
-    (λ turn l x h. comma_goes_on c.args.line.now c.args.at c.skip_white-next.result c.skip_white-child.result b c.count_child.new.self c.next_child.new.self turn o w.white (c.is_at.ensures.yes c.if-is_at.true) v.white v.stops (counted_from b c.marks_behind-self.result c.count_child.new.self c.count_child.ensures.counted) l x h
+    (λ turn l x h. comma_goes_on c.args.line.now c.args.at c.args.next c.next_token-child.result b c.count_child.new.self c.next_child.new.self turn o w.white (c.is_at.ensures.yes c.if-is_at.true) v.white v.stops (counted_from b c.marks_behind-self.result c.count_child.new.self c.count_child.ensures.counted) l x h
     (is_innermost c.args.line.now c.args.at b o some last x h))
     c.next_child.ensures.found
 
 pub returns-then-is_at-clause-stuck : goal.returns-then-is_at-clause-stuck
 returns-then-is_at-clause-stuck c =
-    let w = c.skip_white-next.ensures in
-    let v = c.skip_white-child.ensures in
+    let w = c.requires in
+    let v = c.next_token-child.ensures in
     let b = c.args.self.now in
     let o = c.index-container.result.now in
     let some = some_open _ _ b.opened.ok.0 c.if-is_empty.ensures in
     let last = last_read b.opened.items _ _ o c.len.ensures b.opened.ok.0 c.index-container.ensures in
     IfErr-weaker c.next_child.result _ _
-    (λ fault. on_fault fault (λ l x h. no_comma c.args.line.now c.args.at c.skip_white-next.result c.skip_white-child.result b o w.white (c.is_at.ensures.yes c.if-is_at.true) v.white v.stops l x h
+    (λ fault. on_fault fault (λ l x h. no_comma c.args.line.now c.args.at c.args.next c.next_token-child.result b o w.white (c.is_at.ensures.yes c.if-is_at.true) v.white v.stops l x h
     (is_innermost c.args.line.now c.args.at b o some last x h)))
     c.next_child.ensures.stuck
 
 pub returns-then-not-is_at-clause-stuck : goal.returns-then-not-is_at-clause-stuck
 returns-then-not-is_at-clause-stuck c x h =
-    let w = c.skip_white-next.ensures in
+    let w = c.requires in
     let b = c.args.self.now in
     let o = c.index-container.result.now in
     let some = some_open _ _ b.opened.ok.0 c.if-is_empty.ensures in
     let last = last_read b.opened.items _ _ o c.len.ensures b.opened.ok.0 c.index-container.ensures in
-    no_neither c.args.line.now c.args.at c.skip_white-next.result b o w.white w.stops (c.is_at.ensures.no c.if-is_at.false)
-    (λ e. c.is_at-2.ensures.no c.if-not-is_at.true (subst (λ y. Has c.args.line.now c.skip_white-next.result y) (sym c.closing_of.ensures) e)) x h (is_innermost c.args.line.now c.args.at b o some last x h)
+    no_neither c.args.line.now c.args.at c.args.next b o w.white w.stops (c.is_at.ensures.no c.if-is_at.false)
+    (λ e. c.is_at-2.ensures.no c.if-not-is_at.true (subst (λ y. Has c.args.line.now c.args.next y) (sym c.closing_of.ensures) e)) x h (is_innermost c.args.line.now c.args.at b o some last x h)
 
 pub close-requires-clause-place : goal.close-requires-clause-place
 close-requires-clause-place c =
@@ -111,32 +112,35 @@ close-requires-clause-names c =
 
 pub returns-in-Ok-clause-goes_on : goal.returns-in-Ok-clause-goes_on
 returns-in-Ok-clause-goes_on c x h =
-    let w = c.skip_white-next.ensures in
+    let w = c.requires in
     let b = c.args.self.now in
     let o = c.index-container.result.now in
     let some = some_open _ _ b.opened.ok.0 c.if-is_empty.ensures in
     let last = last_read b.opened.items _ _ o c.len.ensures b.opened.ok.0 c.index-container.ensures in
-    close_goes_on c.args.line.now c.args.at c.skip_white-next.result b c.close.new.self o w.white (subst (λ y. Has c.args.line.now c.skip_white-next.result y) c.closing_of.ensures (c.is_at-2.ensures.yes c.if-not-is_at.false)) (closed_from b c.marks_behind-self-2.result c.close.new.self o (c.skip_white-next.result + 1) c.in-Ok.ensures.closed) x h
+    close_goes_on c.args.line.now c.args.at c.args.next b c.close.new.self o w.white (subst (λ y. Has c.args.line.now c.args.next y) c.closing_of.ensures (c.is_at-2.ensures.yes c.if-not-is_at.false)) (closed_from b c.marks_behind-self-2.result c.close.new.self o (c.args.next + 1) c.in-Ok.ensures.closed) x h
     (is_innermost c.args.line.now c.args.at b o some last x h)
 
 pub marks_behind-self-requires : goal.marks_behind-self-requires
-marks_behind-self-requires c = let h = c.is_at.ensures.yes c.if-is_at.true in (passes_structural c.args.line.now c.args.self.now.marks.now c.skip_white-next.result h.inside (ap is_structural h.is) c.skip_white-next.ensures.ahead).within
+marks_behind-self-requires c = let h = c.is_at.ensures.yes c.if-is_at.true in (passes_structural c.args.line.now c.args.self.now.marks.now c.args.next h.inside (ap is_structural h.is) c.requires.ahead).within
 
-pub skip_white-child-requires-clause-ahead : goal.skip_white-child-requires-clause-ahead
-skip_white-child-requires-clause-ahead c =
+pub next_token-child-requires-clause-begins : goal.next_token-child-requires-clause-begins
+next_token-child-requires-clause-begins c = let h = c.is_at.ensures.yes c.if-is_at.true in structural_begins c.args.line.now c.args.next (ap is_structural h.is)
+
+pub next_token-child-requires-clause-ahead : goal.next_token-child-requires-clause-ahead
+next_token-child-requires-clause-ahead c =
     let h = c.is_at.ensures.yes c.if-is_at.true in
-    let p = passes_structural c.args.line.now c.args.self.now.marks.now c.skip_white-next.result h.inside (ap is_structural h.is) c.skip_white-next.ensures.ahead in
-    subst (λ (ms : List ℕ). IsAhead c.args.line.now (c.skip_white-next.result + 1) ms) (sym (c.count_child.ensures.marks ∙ c.marks_behind-self.ensures)) p.ahead
+    let p = passes_structural c.args.line.now c.args.self.now.marks.now c.args.next h.inside (ap is_structural h.is) c.requires.ahead in
+    subst (λ (ms : List ℕ). IsAhead c.args.line.now (c.args.next + 1) ms) (sym (c.count_child.ensures.marks ∙ c.marks_behind-self.ensures)) p.ahead
 
 pub marks_behind-self-requires-2 : goal.marks_behind-self-requires-2
 marks_behind-self-requires-2 c =
     let o = c.index-container.result.now in
-    let h = subst (λ y. Has c.args.line.now c.skip_white-next.result y) c.closing_of.ensures (c.is_at-2.ensures.yes c.if-not-is_at.false) in
-    (passes_structural c.args.line.now c.args.self.now.marks.now c.skip_white-next.result h.inside (closing_structural (container_if o.is_object) (byte_at c.args.line.now c.skip_white-next.result) h.is) c.skip_white-next.ensures.ahead).within
+    let h = subst (λ y. Has c.args.line.now c.args.next y) c.closing_of.ensures (c.is_at-2.ensures.yes c.if-not-is_at.false) in
+    (passes_structural c.args.line.now c.args.self.now.marks.now c.args.next h.inside (closing_structural (container_if o.is_object) (byte_at c.args.line.now c.args.next) h.is) c.requires.ahead).within
 
 pub returns-in-Ok-clause-ahead : goal.returns-in-Ok-clause-ahead
 returns-in-Ok-clause-ahead c =
     let o = c.index-container.result.now in
-    let h = subst (λ y. Has c.args.line.now c.skip_white-next.result y) c.closing_of.ensures (c.is_at-2.ensures.yes c.if-not-is_at.false) in
-    let p = passes_structural c.args.line.now c.args.self.now.marks.now c.skip_white-next.result h.inside (closing_structural (container_if o.is_object) (byte_at c.args.line.now c.skip_white-next.result) h.is) c.skip_white-next.ensures.ahead in
-    subst (λ (ms : List ℕ). IsAhead c.args.line.now (c.skip_white-next.result + 1) ms) (sym (c.in-Ok.ensures.marks ∙ c.marks_behind-self-2.ensures)) p.ahead
+    let h = subst (λ y. Has c.args.line.now c.args.next y) c.closing_of.ensures (c.is_at-2.ensures.yes c.if-not-is_at.false) in
+    let p = passes_structural c.args.line.now c.args.self.now.marks.now c.args.next h.inside (closing_structural (container_if o.is_object) (byte_at c.args.line.now c.args.next) h.is) c.requires.ahead in
+    subst (λ (ms : List ℕ). IsAhead c.args.line.now (c.args.next + 1) ms) (sym (c.in-Ok.ensures.marks ∙ c.marks_behind-self-2.ensures)) p.ahead
