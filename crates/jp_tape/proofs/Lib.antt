@@ -3,7 +3,9 @@ pub mod Spots
 pub mod Places
 pub mod Parents
 pub mod Packed
+mod Halves
 pub mod Narrow
+pub mod Compact
 pub mod Bounds
 pub mod Stands
 pub mod Sound

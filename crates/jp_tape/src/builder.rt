@@ -10,7 +10,7 @@ ghost use Rattle.jp_model.specs.Json.Spelling.{Text};
 ghost use Rattle.jp_model.specs.Json.Status.{HasStatus, parsed, fault_of_tree};
 ghost use Rattle.jp_tape.specs.Tapes.{IsTapeOf};
 ghost use Rattle.jp_tape.specs.Words.{tape_words};
-ghost use Rattle.jp_tape.specs.Forms.{narrowed, words_of};
+ghost use Rattle.jp_tape.specs.Forms.{narrowed, packed_node, packed_nodes, words_of};
 ghost use Rattle.jp_tape.specs.Machine.{IsFinished};
 ghost use Rattle.jp_tape.specs.Refusals.{IsRefused};
 
@@ -74,6 +74,32 @@ fn fault_of(builder: &Builder<'_>, line: &[u8], framing: Framing) -> Option<Line
     }
 }
 
+/// The halves of all words of a line have at most 10 bits where its bytes are fewer than this.
+const COMPACT: usize = 1 << 10;
+
+/// The words of a node in 64 bits: the halves of the second stand 10 bits above those of the first, and those of the third
+/// 10 more.
+#[inline(always)]
+#[tactic(auto, unfolding(crate::specs::Forms::packed_node))]
+fn pack(head: u64, span: u64, label: u64) -> u64
+    ensures { result ≡ packed_node head span label }
+{
+    head.wrapping_add(span.wrapping_mul(1 << 10))
+        .wrapping_add(label.wrapping_mul(1 << 20))
+}
+
+/// The words, those of each node in 64 bits.
+fn compact_words(alloc: Global, words: &[u64]) -> Result<BoxedSlice<u64>, AllocError>
+    ensures { IfOk result (λ nodes. boxed_slice_items nodes ≡ packed_nodes words.now) }
+{
+    let count = words.len() / 3;
+    let mut nodes = Vec::with_capacity(alloc, count)?;
+    for place in 0..count {
+        nodes.push_reserved(pack(words[3 * place], words[3 * place + 1], words[3 * place + 2]));
+    }
+    Ok(nodes.into_boxed_slice())
+}
+
 /// The halves of all words of a line have at most 16 bits where its bytes are fewer than this.
 const NARROW: usize = 1 << 16;
 
@@ -99,11 +125,14 @@ fn narrow_words(alloc: Global, words: &[u64]) -> Result<BoxedSlice<u32>, AllocEr
 const MOST_COPIED: usize = 3 << 14;
 
 impl<'a> Builder<'a> {
-    /// The words of the line that was read, in memory of their own. Those of a short line are narrow.
+    /// The words of the line that was read, in memory of their own. Those of a short line are compact or narrow.
     fn tape_words(&mut self, alloc: Global, line: &[u8]) -> Result<Words, AllocError>
         requires { (t : Tree) × Text line.now t × (self.old.words.items ≡ tape_words t) }
         ensures { IfOk result (λ words. words_of words ≡ self.old.words.items) }
     {
+        if line.len() < COMPACT {
+            return Ok(Words::Compact(compact_words(alloc, &self.words)?));
+        }
         if line.len() < NARROW {
             return Ok(Words::Narrow(narrow_words(alloc, &self.words)?));
         }

@@ -144,6 +144,7 @@ impl<'a> Cursor<'a> {
     }
 
     /// What kind of value the node is (RFC 8259, section 3).
+    #[inline(always)]
     pub fn kind(self) -> Kind
         ensures { result ≡ kind_of (value_of (node_of self.entry).tree) }
     {
@@ -151,6 +152,7 @@ impl<'a> Cursor<'a> {
     }
 
     /// Where the node's value stands: bytes of the line, from 0.
+    #[inline(always)]
     pub fn span(self) -> Span
         ensures value { result ≡ span_of (node_of self.entry).tree }
         ensures spells { Spells (line_of self.entry) (node_of self.entry).tree }
@@ -172,6 +174,7 @@ impl<'a> Cursor<'a> {
     }
 
     /// The first element or member, in the order of the line (RFC 9535, section 2.5.1.2).
+    #[inline(always)]
     pub fn first_child(self) -> Option<Cursor<'a>>
         ensures nodes { nodes_from result ≡ children (node_of self.entry) }
         ensures children { children_from result ≡ children_in (value_of (node_of self.entry).tree) }
@@ -188,6 +191,7 @@ impl<'a> Cursor<'a> {
 
     /// The element or member behind this one, in the order of the line: the node behind its subtree, where that has the same
     /// parent.
+    #[inline(always)]
     pub fn next_sibling(self) -> Option<Cursor<'a>>
         ensures nodes { nodes_from result ≡ nodes_after self.entry }
         ensures children { children_from result ≡ children_after self.entry }
@@ -277,6 +281,7 @@ impl<'a> Cursor<'a> {
     }
 
     /// The exact value of a number (RFC 8259, section 6).
+    #[inline(always)]
     pub fn number(self) -> Option<Decimal<'a>>
         ensures { option_map number_of result ≡ number_in (value_of (node_of self.entry).tree) }
     {
@@ -309,6 +314,7 @@ impl<'a> Cursor<'a> {
     }
 
     /// The place behind the node's subtree.
+    #[inline(always)]
     pub fn after(self) -> u32
         ensures value { result ≡ place_of self.entry + length (subtree (node_of self.entry)) }
         ensures within { result ≤ length (subtree (root_node (root_of self.entry))) }
@@ -318,6 +324,7 @@ impl<'a> Cursor<'a> {
     }
 
     /// How many nodes stand below the node.
+    #[inline(always)]
     fn below(self) -> u32
         ensures { result ≡ nodes_below (value_of (node_of self.entry).tree) }
     {
@@ -325,6 +332,7 @@ impl<'a> Cursor<'a> {
     }
 
     /// The place of the parent; 0 for the root.
+    #[inline(always)]
     fn up(self) -> u32
         ensures { result ≡ up_of self.entry }
     {
@@ -332,26 +340,29 @@ impl<'a> Cursor<'a> {
     }
 
     /// The first word: the kind, the number of the nodes below, and the place of the parent.
+    #[inline(always)]
     fn head(self) -> Word
         ensures word { joined result ≡ head_word (kind_code (value_of (node_of self.entry).tree)) (nodes_below (value_of (node_of self.entry).tree)) (up_of self.entry) }
         ensures below { nodes_below (value_of (node_of self.entry).tree) < 2 ^ 31 }
         ensures parent { up_of self.entry < 2 ^ 31 }
     {
-        self.tape.word(3 * self.place as usize)
+        self.tape.head(self.place as usize)
     }
 
     /// The second word: where the value stands.
+    #[inline(always)]
     fn body(self) -> Word
         ensures { joined result ≡ span_word (span_of (node_of self.entry).tree) }
     {
-        self.tape.word(3 * self.place as usize + 1)
+        self.tape.span(self.place as usize)
     }
 
     /// The third word: where the body of the name stands, or the index of a node that has no name.
+    #[inline(always)]
     fn label(self) -> Word
         ensures word { joined result ≡ label_word (index_of self.entry) (name_of self.entry) }
         ensures index { index_of self.entry < 2 ^ 32 }
     {
-        self.tape.word(3 * self.place as usize + 2)
+        self.tape.label(self.place as usize)
     }
 }

@@ -1,6 +1,6 @@
 //! The words of a line.
 
-ghost use Rattle.std.specs.Prelude.{◌≡◌, ℕ, ◌<◌, ◌^◌, false, List, length, slice_index_or};
+ghost use Rattle.std.specs.Prelude.{◌≡◌, ℕ, ◌<◌, ◌+◌, ◌*◌, ◌%◌, ◌^◌, false, List, length, slice_index_or};
 ghost use Rattle.jp_model.specs.Json.Tree.{Tree};
 ghost use Rattle.jp_model.specs.Json.Spelling.{Text};
 ghost use Rattle.jp_model.specs.Json.Faults.{has_surrogate, has_long_exponent, has_duplicate};
@@ -13,6 +13,8 @@ use std::marker::Model;
 /// The words of a tape in memory.
 #[derive(Drop)]
 pub(crate) enum Words {
+    /// Each half of each word has at most 10 bits, and the three words of a node stand in 64.
+    Compact(BoxedSlice<u64>),
     /// Both halves of each word have at most 16 bits, and stand in 32.
     Narrow(BoxedSlice<u32>),
     Wide(BoxedSlice<u64>),
@@ -28,6 +30,17 @@ pub(crate) struct Word {
 
 impl Word {
     ghost use Rattle.jp_tape.specs.Forms.{joined, widened};
+
+    /// The word whose halves are the low 10 bits of these.
+    #[inline(always)]
+    fn of_low_bits(high: u64, low: u64) -> Word
+        ensures { joined result ≡ high % 2 ^ 10 * 2 ^ 32 + low % 2 ^ 10 }
+    {
+        Word {
+            high: (high % (1 << 10)) as u32,
+            low: (low % (1 << 10)) as u32,
+        }
+    }
 
     /// The word whose halves these 32 bits hold.
     #[inline(always)]
@@ -78,20 +91,60 @@ impl Tape {
         ensures { result ≡ length self.now }
     {
         match &self.words {
+            Words::Compact(nodes) => {
+                let nodes: &[u64] = nodes;
+                3 * nodes.len()
+            }
             Words::Narrow(packed) => packed.len(),
             Words::Wide(words) => words.len(),
         }
     }
 
-    /// The word at an index, from 0.
+    /// The first word of the node at a place, from 0.
     #[inline(always)]
-    pub(crate) fn word(&self, index: usize) -> Word
-        requires { index < length self.now }
-        ensures { joined result ≡ slice_index_or self.now index 0 }
+    pub(crate) fn head(&self, place: usize) -> Word
+        requires { 3 * place < length self.now }
+        ensures { joined result ≡ slice_index_or self.now (3 * place) 0 }
     {
         match &self.words {
-            Words::Narrow(packed) => Word::widen(packed[index]),
-            Words::Wide(words) => Word::split(words[index]),
+            Words::Compact(nodes) => {
+                let packed = nodes[place];
+                Word::of_low_bits(packed >> 32, packed)
+            }
+            Words::Narrow(packed) => Word::widen(packed[3 * place]),
+            Words::Wide(words) => Word::split(words[3 * place]),
+        }
+    }
+
+    /// The second word of the node at a place.
+    #[inline(always)]
+    pub(crate) fn span(&self, place: usize) -> Word
+        requires { 3 * place + 1 < length self.now }
+        ensures { joined result ≡ slice_index_or self.now (3 * place + 1) 0 }
+    {
+        match &self.words {
+            Words::Compact(nodes) => {
+                let packed = nodes[place];
+                Word::of_low_bits(packed >> 42, packed >> 10)
+            }
+            Words::Narrow(packed) => Word::widen(packed[3 * place + 1]),
+            Words::Wide(words) => Word::split(words[3 * place + 1]),
+        }
+    }
+
+    /// The third word of the node at a place.
+    #[inline(always)]
+    pub(crate) fn label(&self, place: usize) -> Word
+        requires { 3 * place + 2 < length self.now }
+        ensures { joined result ≡ slice_index_or self.now (3 * place + 2) 0 }
+    {
+        match &self.words {
+            Words::Compact(nodes) => {
+                let packed = nodes[place];
+                Word::of_low_bits(packed >> 52, packed >> 20)
+            }
+            Words::Narrow(packed) => Word::widen(packed[3 * place + 2]),
+            Words::Wide(words) => Word::split(words[3 * place + 2]),
         }
     }
 }

@@ -63,9 +63,10 @@ fn read_behind(alloc: Global, before: &[u8], line: &[u8]) -> Result<Tape, Fail> 
 /// The words of a tape.
 fn words_of(alloc: Global, tape: &Tape) -> Result<Vec<u64>, AllocError> {
     let mut words = Vec::new(alloc);
-    for index in 0..tape.len() {
-        let word = tape.word(index);
-        words.push(u64::from(word.high) << 32 | u64::from(word.low))?;
+    for place in 0..tape.len() / 3 {
+        for word in [tape.head(place), tape.span(place), tape.label(place)] {
+            words.push(u64::from(word.high) << 32 | u64::from(word.low))?;
+        }
     }
     Ok(words)
 }
@@ -222,6 +223,49 @@ fn depth_is_bounded_and_not_recursive(rt: HostRuntime) -> Result<(), Fail> {
     assert!(rt; is_refused(alloc, &many, LineFault::Depth));
     let open = nested(alloc, 1000000, 0)?;
     assert!(rt; is_refused(alloc, &open, LineFault::Grammar));
+    Ok(())
+}
+
+/// So many blanks, and an object of one member.
+fn behind_blanks(alloc: Global, blanks: u16) -> Result<Vec<u8>, AllocError> {
+    let mut line = Vec::new(alloc);
+    for _ in 0..blanks {
+        line.push(b' ')?;
+    }
+    for byte in b"{\"a\":1}" {
+        line.push(*byte)?;
+    }
+    Ok(line)
+}
+
+#[test]
+fn words_are_kept_at_each_limit(rt: HostRuntime) -> Result<(), Fail> {
+    let alloc = rt.alloc();
+    // The lines have 1,023 and 1,024 bytes, and 65,535 and 65,536.
+    for blanks in [1016_u16, 1017, 65528, 65529] {
+        let tape = read(alloc, &behind_blanks(alloc, blanks)?, Framing::Lines)?;
+        let start = u64::from(blanks);
+        let words: [u64; 6] = [
+            (5 + 1) * 4294967296 + 1,
+            start * 4294967296 + start + 7,
+            0,
+            3 * 4294967296,
+            (start + 5) * 4294967296 + start + 6,
+            (start + 2) * 4294967296 + start + 3,
+        ];
+        assert!(rt; words_of(alloc, &tape)?.as_slice() == words.as_slice());
+    }
+    Ok(())
+}
+
+#[test]
+fn blanks_behind_a_text_change_no_word(rt: HostRuntime) -> Result<(), Fail> {
+    let alloc = rt.alloc();
+    let mut line = nested(alloc, 511, 511)?;
+    let short = read(alloc, &line, Framing::Lines)?;
+    line.extend_from_slice(b"  ")?;
+    let long = read(alloc, &line, Framing::Lines)?;
+    assert!(rt; words_of(alloc, &short)? == words_of(alloc, &long)?);
     Ok(())
 }
 

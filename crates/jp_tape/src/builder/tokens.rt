@@ -364,12 +364,7 @@ fn word_at(line: &[u8], marks: &[u32], from: usize, word: &[u8], kind: Kind) -> 
 
 /// The string at `from`, as a value.
 #[inline(always)]
-pub(super) fn text_at(
-    line: &[u8],
-    is_unescaped: bool,
-    marks: &[u32],
-    from: usize,
-) -> Option<Scalar>
+pub(super) fn text_at(line: &[u8], is_unescaped: bool, marks: &[u32], from: usize) -> Option<Scalar>
     requires unescaped { is_unescaped ≡ true → IsUnescaped line.now }
     requires opens { Has line.now from 0x22 }
     requires utf8 { IsUtf8 line.now }
