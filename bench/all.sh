@@ -19,7 +19,7 @@ cat << TEXT
 Made on $(date -u '+%Y-%m-%d') by \`bench/all.sh\`, in one run, on a machine with $(nproc) processors
 ($(sed -n 's/^model name[^:]*: //p' /proc/cpuinfo | head -1), $(uname -sr)), beside
 $(jq --version 2> /dev/null || echo 'no jq'), $(gojq --version 2> /dev/null | head -1 || echo 'no gojq'), sqlite3 $(sqlite3 --version 2> /dev/null | cut -d ' ' -f 1) and simdjson $(dpkg-query -W -f '${Version}' libsimdjson-dev 2> /dev/null || echo 'of none').
-Times are seconds by the clock: of jpq and of what has an index the shortest of ${RUNS:-3} runs, of the others one run. A virtual machine goes up and down by half within a run, so what stands in brackets is rough.
+Times are seconds by the clock: of jpq and of what has an index the shortest of ${RUNS:-3} runs, but in the table of loading of jpq and of simdjson that of three, of the others one run. A virtual machine goes up and down by half within a run, so what stands in brackets is rough.
 
 What the tables do not show: a machine of another kind, or one with other work; files that do not fit in memory; how the others do when they
 are set up for the task by somebody who knows them well. jpq keeps all lines and their trees in memory and refuses lines with
