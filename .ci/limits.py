@@ -107,10 +107,48 @@ def texts_about_64_kibibytes(checks):
         checks.check(f"{count} elements", answered(line + "\n", script), (0, rows([(1, f"$[{count - 1}]")], "1") + "= 0\n"))
 
 
+def lines_behind_long_ones(checks):
+    """A line is told apart from those around it where one of them is longer than what is scanned at once."""
+    long = '"' + "x" * 1_100_000 + '"\n'
+    stated = "2\t!grammar\n" + "3\t$[0]\t2\n" + "6\t$[0]\t3\n= 2\n"
+    checks.check("lines behind long ones", answered(f'{long}"x\n[2]\n{long}\n[3]', "query $[0]\n"), (0, stated))
+
+
+def objects_of_many_members(checks):
+    """The last of many members is sought by its index."""
+    members = "".join(f',"m{number}":{number}' for number in range(4000))
+    script = "index $.m3999\nexplain $.m3999\nquery $.m3999\n"
+    stated = "indexed 1\nseek $['m3999']\nopen 1 of 2\n" + rows([(1, "$['m3999']")], "3999")
+    checks.check("the last of many members", answered('{"first":0' + members + "}\n{}\n", script), (0, stated))
+
+
+def many_lines(checks):
+    """A plan over more than a million lines, an index of as many keys, and look-ups that find all, half and one of them."""
+    count = 1_100_000
+    lines = "".join(f'{{"a":{number}}}\n' for number in range(count))
+    found = [f"{number + 1}\t$['a']\t{number}\n" for number in range(count)]
+    half = count // 2
+    plan = "guard $['a'] {} {}\nchild 1\nopen {} of {}\n"
+    script = "explain $.a\nquery $.a\nindex $.a\nexplain $[?$.a>=0]\nquery $[?$.a>=0]\nquery $.a\n"
+    stated = "scan\nwalk ['a']\n" + f"open {count} of {count}\n" + "".join(found) + f"= {count}\nindexed {count}\n"
+    stated += plan.format(">=", 0, count, count) + ("".join(found) + f"= {count}\n") * 2
+    script += f"explain $[?$.a<{half}]\nquery $[?$.a<{half}]\nquery $[?$.a=={count - 1}]\n"
+    stated += plan.format("<", half, half, count) + "".join(found[:half]) + f"= {half}\n" + found[-1] + "= 1\n"
+    checks.check("more than a million lines", answered(lines, script), (0, stated))
+
+
+def lines_of_one_key(checks):
+    """Lines that have one key are all found by it, in their order."""
+    count = 100_000
+    script = "index $[0]\nexplain $[?$[0]<=true]\nquery $[?$[0]<=true]\n"
+    stated = f"indexed {count}\nguard $[0] <= true\nchild 1\nopen {count} of {count + 1}\n" + rows([(line + 1, "$[0]") for line in range(count)], "true")
+    checks.check("lines of one key", answered("[true]\n" * count + "{}\n", script), (0, stated))
+
+
 def texts_of_numbers(checks):
     """Numbers are exact, whatever their digits; an exponent has at most 15 digits behind its leading zeros."""
     digits = "1" + "0" * MILLION
-    checks.check("a number of a million digits", answered(f"[{digits}]\n", f"query $[?@==1e{MILLION}]\n"), (0, rows([(1, "$[0]")], digits)))
+    checks.check("a number of a million digits", answered(f"[{digits}]\n", f"query $[?@==1e{MILLION}]\nquery $[?@<1e{MILLION}]\n"), (0, rows([(1, "$[0]")], digits) + "= 0\n"))
     lines = [f"[1e{'9' * 15}]", f"[1e{'0' * 99}{'9' * 15}]", f"[1e{'9' * 16}]", "[0e-" + "1" * 16 + "]"]
     checks.check("exponents", answered("\n".join(lines) + "\n", "check\n"), (0, "3\t!number\n4\t!number\n" + CHECKED.format(4, 2)))
     script = f"query $[?@==1e{'9' * 15}]\nquery $[?@==1e{'9' * 16}]\n"
@@ -129,6 +167,11 @@ def queries(checks):
     """A query of at most 65,535 bytes and 512 brackets; integers within the exact ones of I-JSON."""
     at_most = "$." + "a" * (65_535 - 2)
     checks.check("bytes of a query", answered("{}\n", f"query {at_most}\nquery {at_most}a\n"), (0, "= 0\nerror: query size\n"))
+    sized = [("$" + "[0]" * 512, ""), ("$" + "[0]" * 513, "size"), ("$['" + "(" * 511 + "']", ""), ("$['" + "(" * 512 + "']", "size"),
+             ("$[?" + "(" * 511 + "@.a", "syntax"), ("[" * 513, "size"), ("[" * 512, "syntax"), ("a" * 65_535, "syntax"), ("a" * 65_536, "size"),
+             ("$[" + "0," * 32_765 + "0]", ""), ("$[" + "0," * 32_765 + f"{2**53}]", "size"), ("$[?count(1)==1" + "&&@.a" * 10_000 + "]", "types")]
+    stated = "".join(f"error: query {word}\n" if word else "= 0\n" for _, word in sized)
+    checks.check("the size is the first fault", answered("{}\n", "".join(f"query {text}\n" for text, _ in sized)), (0, stated))
     nested = {count: "$" + "[?@" * count + "]" * count for count in (512, 513)}
     checks.check("filters within filters", answered("[" * 510 + "1" + "]" * 510 + "\n", f"query {nested[512]}\nquery {nested[513]}\n"),
                  (0, "= 0\nerror: query size\n"))
@@ -205,6 +248,28 @@ def objects_turned(checks):
         checks.check(f"{name} objects in opposite orders", answered(line, "query $[?@.a==@.b].c\n"), (0, rows(places, "true")))
 
 
+def large_objects(checks):
+    """Objects of 101 members are equal in any order and spelling, and unlike where one member differs in its name or its value."""
+    def written(step, escaped=101, other=101, renamed=101):
+        members = []
+        for number in (turn * step % 101 for turn in range(101)):
+            letter = "j" if number == renamed else "\\u006b" if number == escaped else "k"
+            members.append(f'"{letter}{number}":{"[]" if number == other else "[1.0]"}')
+        return "{" + ",".join(members) + "}"
+
+    plain = written(1)
+    equal = [written(step, escaped=70) for step in (1, 100, 2, 37)]
+    unlike = [text for number in (0, 50, 100) for text in (written(100, other=number), written(37, renamed=number))]
+    pairs = [pair for other in equal + unlike for pair in ((plain, other), (other, plain))]
+    within = [(f'[{{"a":1,"b":{plain}}}]', f'[{{"b":{written(100)},"a":1e0}}]'), (f'[{{"a":1,"b":{plain}}}]', f'[{{"b":{written(2, other=33)},"a":1}}]'),
+              (f'[{{"a":1,"b":{plain}}}]', '[{"a":1,"b":{}}]')]
+    lines = "".join(f'[{{"pair":[{left},{right}],"at":{at}}}]\n' for at, (left, right) in enumerate(pairs + within))
+    places = [at for at in range(len(pairs) + len(within)) if at < 2 * len(equal) or at == len(pairs)]
+    stated = "".join(f"{at + 1}\t$[0]['at']\t{at}\n" for at in places) + f"= {len(places)}\n"
+    script = "query $[?@.pair[0]==@.pair[1]].at\nquery $[?@.pair[0]<=@.pair[1]].at\nquery $[?!(@.pair[0]!=@.pair[1])].at\n"
+    checks.check("objects of 101 members", answered(lines, script), (0, stated * 3))
+
+
 def filters_from_the_root(checks):
     """A filter within a filter that asks of the root is answered once, and not once for each node of those around it."""
     nested = "$" + "[?$" * 255 + "]" * 255
@@ -260,8 +325,9 @@ def sizes(checks):
 
 def main():
     checks = Checks()
-    for part in (texts_of_brackets, texts_cut_short, texts_of_backslashes, texts_about_64_kibibytes, texts_of_numbers, texts_of_names, queries, patterns,
-                 long_texts, long_numbers, objects_turned, filters_from_the_root, devices, sizes):
+    for part in (texts_of_brackets, texts_cut_short, texts_of_backslashes, texts_about_64_kibibytes, lines_behind_long_ones,
+                 objects_of_many_members, many_lines, lines_of_one_key, texts_of_numbers, texts_of_names, queries, patterns,
+                 long_texts, long_numbers, objects_turned, large_objects, filters_from_the_root, devices, sizes):
         part(checks)
     print(f"{checks.passed} passed, {checks.failed} failed")
     return 1 if checks.failed else 0

@@ -1,5 +1,5 @@
 -- How a run ends, by how its script ended.
-use Rattle.std.proofs.Common.{◌≡◌, ◌∙◌, ◌≤◌, ℕ, List, [], ◌∷◌, ◌++◌, length, take, map, sym, ap, subst, refl, Bool, true, false, Option, Some, None, Result, Ok, Err, MatchResult, append-nil, inr}
+use Rattle.std.proofs.Common.{◌≡◌, ◌∙◌, ◌≤◌, ℕ, List, [], ◌∷◌, ◌++◌, length, take, map, sym, ap, subst, refl, Bool, true, false, ◌||◌, Option, Some, None, Result, Ok, Err, MatchResult, append-nil, inr}
 use Rattle.std.specs.Prelude.{OnOk, IfSome}
 use Rattle.std.proofs.lemmas.List.{map-append}
 use Rattle.std.specs.Io.KnownBytes.{Consumes, IsAtEnd}
@@ -14,8 +14,9 @@ use Rattle.jp_model.specs.Script.Headline.{Given, WasLoaded, lines_within, loade
 use Rattle.jp_model.specs.Script.Machine.{State, Outcome, step, step_unless, run_commands, OnlyForMemory}
 use Rattle.jp_model.specs.Script.Commands.{command_of}
 use Rattle.jp_cli.specs.Commands.{asked_in}
-use Rattle.jp_cli.specs.Runs.{ScriptStopped}
-use Rattle.jp_model.proofs.Devices.{came_so}
+use Rattle.jp_cli.specs.Runs.{Progress, Ran, RanFirst, ScriptStopped}
+use Rattle.jp_cli.proofs.Answering.{ran_answered}
+use Rattle.jp_model.proofs.Devices.{came_so, or_true}
 
 module _ (query_of : List ℕ → QueryStatus) (setup : Setup) where
   -- lines as they came ask for what they ask without their final CR
@@ -51,37 +52,38 @@ module _ (query_of : List ℕ → QueryStatus) (setup : Setup) where
         (map without_final_cr h.0, (map without_final_cr h.1.0, ap (map without_final_cr) h.1.1 ∙ map-append without_final_cr h.0 h.1.0), answered_as state h.0 h.2)
 
     -- what is known of the whole run
-    pub ends : (result : Result (Unit {0}) RunFault) (state : State) (given : Given)
-        → WasLoaded setup given.collection → state ≡ loaded setup given.collection.bytes
+    pub ends : (result : Result (Unit {0}) RunFault) (first last : Progress) (given : Given)
+        → WasLoaded setup given.collection → first.state ≡ loaded setup given.collection.bytes
         → MatchResult result
-        (λ _. (given.script.ended ≡ true) × (length given.script.bytes ≤ setup.script_most) × Answered query_of asked_in contents old new setup state (text_lines given.script.bytes))
-        (λ fault. ScriptStopped query_of asked_in contents old new fault setup state given.script)
+        (λ _. (given.script.ended ≡ true) × (length given.script.bytes ≤ setup.script_most) × Ran query_of asked_in contents old new setup first (text_lines given.script.bytes) last)
+        (λ fault. ScriptStopped query_of asked_in contents old new fault setup first.state given.script
+        × RanFirst query_of asked_in setup first (lines_so_far given.script.ended (take setup.script_most given.script.bytes)) last)
         → MatchResult result
         (λ _. RunEnded query_of command_of contents old new setup given.collection.bytes given.script.bytes)
         (λ fault. RunStopped query_of command_of contents old new fault setup given)
-    ends (Ok x) state given was is h =
-        (was.1, h.1, subst (λ s. Answered query_of command_of contents old new setup s (command_lines given.script.bytes)) is (answered_as state (text_lines given.script.bytes) h.2))
-    ends (Err faults.ReadCollection) state given was is h = absurd h
-    ends (Err faults.Size) state given was is h = absurd h
-    ends (Err faults.Framing) state given was is h = absurd h
-    ends (Err faults.ReadScript) state given was is h = (
+    ends (Ok x) first last given was is h =
+        (was.1, h.1, subst (λ s. Answered query_of command_of contents old new setup s (command_lines given.script.bytes)) is (answered_as first.state (text_lines given.script.bytes) (ran_answered query_of asked_in setup contents old new first last (text_lines given.script.bytes) h.2)))
+    ends (Err faults.ReadCollection) first last given was is h = absurd h.0
+    ends (Err faults.Size) first last given was is h = absurd h.0
+    ends (Err faults.Framing) first last given was is h = absurd h.0
+    ends (Err faults.ReadScript) first last given was is h = (
       was,
-      h.0,
+      h.0.0,
       subst (λ s. Answered query_of command_of contents old new setup s (closed_command_lines (take setup.script_most given.script.bytes))) is
-          (answered_as state (closed_lines (take setup.script_most given.script.bytes)) h.1),
+          (answered_as first.state (closed_lines (take setup.script_most given.script.bytes)) h.0.1),
     )
-    ends (Err faults.Write) state given was is h = (
+    ends (Err faults.Write) first last given was is h = (
       was,
-      h.0,
+      h.0.0,
       subst (λ s. AnsweredInPart query_of command_of contents old new setup s (lines_within setup given.script)) is
-          (part_as state (lines_so_far given.script.ended (take setup.script_most given.script.bytes)) h.1),
+          (part_as first.state (lines_so_far given.script.ended (take setup.script_most given.script.bytes)) h.0.1),
     )
-    ends (Err faults.Memory) state given was is h =
+    ends (Err faults.Memory) first last given was is h =
         inr (
           was,
-          h.0,
+          h.0.0,
           subst (λ s. AnsweredFirst query_of command_of contents old new setup s (lines_within setup given.script)) is
-              (first_as state (lines_so_far given.script.ended (take setup.script_most given.script.bytes)) h.1),
+              (first_as first.state (lines_so_far given.script.ended (take setup.script_most given.script.bytes)) h.0.1),
         )
 
 -- no byte of the script came, and the collection did not come to its end
@@ -106,6 +108,12 @@ told_of_all (Err fault) Stops c0 c1 s0 s1 c s P h k ended out = tt
 told_of_all (Ok x) Stops c0 c1 s0 s1 c s P h k ended out =
     if_some (λ all. c ≡ all) (λ c. IfSome s0 (λ s. P c s)) c0 (all_came c0 c1 c h ended.0)
     (λ all e. if_some (λ every. s ≡ every) (λ s. P all s) s0 (all_came s0 s1 s k ended.1) (λ every f. subst (P all) f (subst (λ t. P t s) e out)))
+
+-- what came to its end left its reader there
+pub came_ended : {X F : Type 0} (result : Result X F) (old new ended : Bool) (P : Type 0) (Stops : F → Type 0) → new ≡ (old || ended)
+    → MatchResult result (λ _. (ended ≡ true) × P) Stops → OnOk result (new ≡ true)
+came_ended (Err fault) old new ended P Stops e h = tt
+came_ended (Ok x) old new ended P Stops e h = e ∙ (ap (λ b. old || b) h.0 ∙ sym (or_true old))
 
 pub both_ended : {X F : Type 0} (result : Result X F) (A B : Type 0) → A → OnOk result B → OnOk result (A × B)
 both_ended (Err fault) A B a b = tt

@@ -3,6 +3,7 @@ mod CommandWords
 mod LineNumbers
 mod Ending
 mod FinalReturns
+mod JoinedCommands
 mod Program
 mod Statuses
 mod Dropped

@@ -1,10 +1,11 @@
 -- The rows that were found spell the rows of the definition.
-use Rattle.std.proofs.Common.{◌≡◌, ◌∙◌, ◌+◌, ℕ, zero, suc, List, [], ◌∷◌, ◌++◌, flat_map, Bool, ap, ap₂, sym, refl, subst, arith}
+use Rattle.std.proofs.Common.{◌≡◌, ◌∙◌, ◌+◌, ℕ, zero, suc, List, [], ◌∷◌, ◌++◌, length, flat_map, Bool, ap, ap₂, sym, refl, arith}
 use Rattle.std.specs.Prelude.{count_by, cond, Option, Result}
 use Rattle.std.proofs.lemmas.List.Sums.{sum_by-append}
 use Rattle.jp_model.specs.declared.Framing.{Framing}
 use Rattle.jp_model.specs.declared.Setup.{Setup}
 use Rattle.jp_model.specs.Devices.{Device, Writes}
+use Rattle.jp_model.specs.Plans.{opened}
 use Rattle.jp_model.specs.Query.Status.{QueryStatus, query}
 use Rattle.jp_model.specs.Query.Syntax.{Segments}
 use Rattle.jp_model.specs.Rows as model
@@ -16,7 +17,7 @@ use Rattle.jp_plan.specs.Found.{rows_view, row_view, IsOnItsLine, AreOnTheirLine
 use Rattle.jp_plan.specs.declared.answer.Row.{Row}
 use Rattle.jp_plan.specs.declared.answer.Row.TheVariants as found
 use Rattle.jp_cli.specs.Found.{found_text, is_found_node}
-use Rattle.jp_cli.specs.Runs.{FitsSetup, AnswersOne}
+use Rattle.jp_cli.specs.Runs.{FitsSetup, AnswersOne, at, opens, opened_by}
 use Rattle.jp_cli.proofs.Replied.{stepped}
 
 module _ (f : Framing) (lines : List (List ℕ)) where
@@ -47,10 +48,12 @@ module _ (query_of : List ℕ → QueryStatus) (setup : Setup) (c : Collection) 
       ap₂ (λ (t : List ℕ) (n : ℕ). t ++ count_line n) (texts_told setup.framing c.state.lines rows on) (nodes_told rows)
       ∙ (ap (rows_text setup.framing c.state.lines) whole ∙ ap (query_answer setup.framing c.state) (sym is))
 
-  pub rows_answered : {W A F : Type 0} (contents : W → Option (List ℕ)) (before after : Device W) (result : Result A F) (new : Collection) (rows : List Row) → new ≡ c
-      → rows_view rows ≡ model.rows q (statuses_in new) → AreOnTheirLines new.state.lines rows
-      → Writes contents before after result (flat_map (found_text setup.framing) rows ++ count_line (count_by is_found_node rows)) → AnswersOne query_of contents before after result setup (query_line text) c.state new.state
-  rows_answered contents before after result new rows same are on w =
-      let here = subst (λ (d : Collection). rows_view rows ≡ model.rows q (statuses_in d)) same are in
-      let there = subst (λ (d : Collection). AreOnTheirLines d.state.lines rows) same on in
-      stepped query_of setup (query_line text) contents before after result c.state new.state _ (answer_told rows here there) (ap (λ (d : Collection). d.state) same) w
+  -- it opens the lines of its plan
+  pub lines_are : opens query_of setup c.state (query_line text) ≡ length (opened q c.state.paths (statuses_in c))
+  lines_are = ap (opened_by setup c.state) is ∙ ap (λ (f : Framing). length (opened q c.state.paths (statuses f c.state.lines))) fits.0
+
+  pub rows_answered : {W A F : Type 0} (contents : W → Option (List ℕ)) (before after : Device W) (result : Result A F) (rows : List Row) (old new : ℕ)
+      → rows_view rows ≡ model.rows q (statuses_in c) → AreOnTheirLines c.state.lines rows → new ≡ old + length (opened q c.state.paths (statuses_in c))
+      → Writes contents before after result (flat_map (found_text setup.framing) rows ++ count_line (count_by is_found_node rows)) → AnswersOne query_of contents before after result setup (query_line text) (at c.state old) (at c.state new)
+  rows_answered contents before after result rows old new are on n w =
+      stepped query_of setup (query_line text) contents before after result (at c.state old) (at c.state new) _ (answer_told rows are on) refl (n ∙ ap (λ k. old + k) (sym lines_are)) w

@@ -6,4 +6,5 @@ pub mod Listed
 pub mod Refusals
 pub mod Replies
 pub mod Runs
+pub mod Sources
 pub mod Words

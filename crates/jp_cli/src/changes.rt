@@ -14,7 +14,7 @@ use std::alloc::{AllocError, Global};
 /// What is said of a text that spells no singular path.
 const NO_PATH: &[u8] = b"error: index path\n";
 
-/// Makes an index of the path that a text spells, and tells in how many lines the path has a node.
+/// Makes an index of the path that a text spells, and says in how many lines the path has a node.
 pub(crate) fn make_index(
     store: &mut Store,
     alloc: Global,
@@ -56,7 +56,7 @@ pub(crate) fn take_index(
     }
 }
 
-/// Tells why an edit is refused.
+/// Reports why an edit is refused.
 fn refuse_edit(fault: EditFault) -> Result<Reply, AllocError>
     ensures { TellsEditFault fault result }
 {
@@ -68,7 +68,7 @@ fn refuse_edit(fault: EditFault) -> Result<Reply, AllocError>
     }
 }
 
-/// Puts a line behind the others, and tells its number.
+/// Adds a line after the others, and returns its number.
 pub(crate) fn append_line(store: &mut Store, setup: Setup, text: &[u8]) -> Result<Reply, AllocError>
     requires { FitsSetup setup store.old }
     ensures replies { RepliesTo query_of setup (append_line text.now) store.old.state store.new.state result }

@@ -14,7 +14,7 @@ const MOST_NUMBER_DIGITS: usize = 10;
 pub(crate) enum Command<'a> {
     /// Nothing.
     Empty,
-    /// The nodes of a query, whose text stands behind the word.
+    /// The nodes of a query, whose text follows the word.
     Query(&'a [u8]),
     /// How a query is answered.
     Explain(&'a [u8]),
@@ -26,7 +26,7 @@ pub(crate) enum Command<'a> {
     Indexes,
     /// The refused lines, and how many lines there are.
     Check,
-    /// A line behind the others.
+    /// A line after the others.
     Append(&'a [u8]),
     /// Another text of the line of this number.
     Replace { number: u64, text: &'a [u8] },
@@ -34,7 +34,7 @@ pub(crate) enum Command<'a> {
     Unknown,
 }
 
-/// What stands before the first space of a line, and what stands behind it, where there is one.
+/// What comes before the first space of a line, and what follows it, if there is one.
 fn split_word(line: &[u8]) -> Option<(&[u8], &[u8])>
     ensures { MatchOption result (behind_word line.now ≡ None) (λ parts. (first_word line.now ≡ parts.0.now) × (behind_word line.now ≡ Some parts.1.now)) }
 {

@@ -43,7 +43,7 @@ impl End {
     }
 
     /// The line that goes to standard error, without its line feed. It is empty where the work is done, and where the
-    /// words were refused, since that is told when they are read.
+    /// words were refused, since that was reported when they were read.
     pub fn message(self) -> &'static str
         ensures { result.now ≡ end_message self }
     {

@@ -1,6 +1,6 @@
 //! The run of a script over a collection.
 
-ghost use Rattle.std.specs.Prelude.{◌≡◌, ◌+◌, ◌≤◌, false, OnOk, IfSome, MatchResult};
+ghost use Rattle.std.specs.Prelude.{◌≡◌, ◌+◌, ◌≤◌, true, false, OnOk, IfSome, MatchResult};
 ghost use Rattle.jp_model.specs.Devices.{GaveUpTo, HasEnded};
 ghost use Rattle.jp_model.specs.Script.Headline.{Given, RunEnded, RunStopped, is_write_fault, is_read_collection, OnlyReadScript};
 ghost use Rattle.jp_model.specs.Script.Commands.{command_of};
@@ -12,18 +12,20 @@ use jp_store::{LoadFault, Store};
 use std::alloc::Global;
 use std::io::{Read, Write};
 
-/// Runs the commands of a script over a collection of JSON texts, one to a line, and writes what they answer.
+/// Runs the commands of a script over a collection, and writes what they answer.
 ///
 /// The collection is read to its end before the script. Each command is answered as its line feed comes, and its answer is
-/// whole before its first byte is written. No read follows one that answered 0, one that failed, or the byte past a limit,
-/// and no write follows one that failed or took no byte.
+/// whole before its first byte is written. The writer is flushed before each read of the script where it took bytes since, or
+/// came with bytes that were unflushed. No read follows one that answered 0, one that failed, or the byte past a limit, and no
+/// write follows one that failed or took no byte.
 ///
 /// # Errors
 ///
-/// `ReadCollection` and `ReadScript` where a read failed, `Size` where the collection has more than `most` bytes,
-/// `Framing` where bytes other than white space stand before the first separator of a sequence,
-/// `ReadScript` also where the script has more than `script_most` bytes, `Write` where a write failed or took no byte, and
-/// `Memory` where a growth was refused while the collection was loaded or a command line was held.
+/// `ReadCollection` and `ReadScript` if a read failed, `Size` if the collection has more than `most` bytes,
+/// `Framing` if bytes other than white space come before the first separator of a sequence,
+/// `ReadScript` also where the script has more than `script_most` bytes, `Write` if a write failed or took no byte, or a
+/// flush failed, and `Memory` if a growth was refused while a command line was held, or while the collection was loaded:
+/// then it shows no other fault.
 pub fn run<C: Read, R: Read, W: Write>(
     alloc: Global,
     setup: Setup,
@@ -45,6 +47,8 @@ pub fn run<C: Read, R: Read, W: Write>(
     ensures told { OnOk result (IfSome (C.remaining collection.old.device) (λ c. IfSome (R.remaining script.old.device) (λ s.
         RunEnded query_of command_of W.contents out.old out.new setup c s))) }
     ensures ended { OnOk result (HasEnded C.remaining collection.new × HasEnded R.remaining script.new) }
+    // Also of readers that do not tell their bytes, Ok means that both came to their ends.
+    ensures ends { OnOk result ((collection.new.ended ≡ true) × (script.new.ended ≡ true)) }
     // Each device's fault is answered exactly where that device failed.
     ensures collection_fault { MatchResult result (λ _. collection.new.failed ≡ false) (λ fault. collection.new.failed ≡ is_read_collection fault) }
     ensures script_fault { MatchResult result (λ _. script.new.failed ≡ false) (λ fault. OnlyReadScript fault script.new.failed) }
@@ -64,5 +68,6 @@ pub fn run<C: Read, R: Read, W: Write>(
         Err(LoadFault::Framing) => return Err(RunFault::Framing),
         Err(LoadFault::Memory) => return Err(RunFault::Memory),
     };
-    run_script(&mut store, alloc, setup, script, out)
+    let mut opened = store.meter();
+    run_script(&mut store, &mut opened, alloc, setup, script, out)
 }

@@ -11,7 +11,7 @@ use jp_plan::Plan;
 use jp_store::Store;
 use std::alloc::{AllocError, Global};
 
-/// Tells the plan of the query that a text spells. No line is opened.
+/// Reports the plan of the query that a text spells. No line is opened.
 pub(crate) fn explain_query(
     store: &Store,
     alloc: Global,

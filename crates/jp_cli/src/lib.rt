@@ -1,4 +1,10 @@
-//! The engine of jpq: a script of commands over a collection of JSON texts, one to a line.
+//! The engine of jpq: a script of commands over a collection with one JSON value per line.
+//!
+//! Public calls:
+//!
+//! - `run`: a whole run
+//! - `read_words`, `Options`: the program's arguments; `CollectionSource`, `ScriptSource`: where they say to read
+//! - `End`: how a run ended, with its exit status and message
 #![tactic(auto)]
 
 mod answer;
@@ -13,9 +19,11 @@ mod query;
 mod reply;
 mod rows;
 mod script;
+mod sources;
 mod words;
 
 pub use end::End;
 pub use engine::run;
 pub use jp_model::{Framing, RunFault, Setup};
+pub use sources::{CollectionSource, ScriptSource};
 pub use words::{Options, read_words};

@@ -1,4 +1,4 @@
-//! What a command answers that tells no rows: fixed words, a number behind them, or a text that was made for it.
+//! Answers without rows: fixed words, a number after them, or a text that was made for it.
 
 ghost use Rattle.std.specs.Prelude.{◌≡◌, ◌++◌, false, is_err, codes};
 ghost use Rattle.jp_model.specs.Devices.{Writes};
@@ -15,15 +15,15 @@ use std::io::Write;
 /// What a command answers.
 #[derive(Drop)]
 pub(crate) enum Reply {
-    /// A line that stands fixed.
+    /// A fixed line.
     Fixed(&'static [u8]),
-    /// A line of words with a number behind them.
+    /// A line of words with a number after them.
     Numbered(&'static [u8], usize),
     /// Lines that were made for this answer.
     Lines(Vec<u8>),
 }
 
-/// The line that tells why a query is refused.
+/// The line that says why a query is refused.
 fn refusal_line(fault: QueryFault) -> &'static [u8]
     ensures { result.now ≡ error (codes "query " ++ query_fault_word fault) }
 {
@@ -37,7 +37,7 @@ fn refusal_line(fault: QueryFault) -> &'static [u8]
     }
 }
 
-/// Tells why a text gives no query.
+/// Reports why a text gives no query.
 pub(crate) fn refuse_query(refusal: Refusal) -> Result<Reply, AllocError>
     ensures { TellsRefusal refusal result }
 {

@@ -1,19 +1,22 @@
 //! The run of a script: each command line is answered as its line feed comes.
 
-ghost use Rattle.std.specs.Prelude.{◌≡◌, ℕ, ◌+◌, ◌≤◌, ◌++◌, [], ◌∷◌, true, false, length, List, OnOk, IfErr, is_err, MatchResult};
-ghost use Rattle.jp_model.specs.Devices.{Came, GaveUpTo, HasEnded, Writes};
-ghost use Rattle.jp_model.specs.Lines.{HasNoSeparator, text_lines, closed_lines, open_line};
-ghost use Rattle.jp_model.specs.Script.Headline.{Answered, is_write_fault, OnlyReadScript};
+ghost use Rattle.std.specs.Prelude.{◌≡◌, ℕ, ◌+◌, ◌*◌, ◌^◌, ◌<◌, ◌≤◌, ◌++◌, ◌||◌, [], ◌∷◌, true, false, length, take, List, OnOk, IfErr, is_err, MatchResult};
+ghost use Rattle.std.specs.Io.{ReadsAtMost};
+ghost use Rattle.std.specs.Io.KnownBytes.{Keeps, ReadConsumes};
+ghost use Rattle.jp_model.specs.Devices.{Came, GaveUpTo, HasEnded, Writes, one_more, read_failed, read_ended};
+ghost use Rattle.jp_model.specs.Lines.{HasNoSeparator, text_lines, closed_lines, lines_so_far, open_line};
+ghost use Rattle.jp_model.specs.Script.Headline.{is_write_fault, OnlyReadScript};
 ghost use Rattle.jp_cli.specs.Commands.{asked_in};
 ghost use Rattle.jp_query.specs.Status.{query_of};
-ghost use Rattle.jp_cli.specs.Runs.{FitsSetup, MayAnswer, Ran, StoppedIn, ScriptStopped};
+ghost use Rattle.jp_cli.specs.Runs.{FitsSetup, MayAnswer, Ran, RanFirst, StoppedIn, ScriptStopped, at, most_lines};
 
 use crate::answer::{answer_command, without_final_cr};
 use crate::command::read_command;
 use jp_model::{RunFault, Setup, Watched};
 use jp_rows::WriteFault;
-use jp_store::Store;
+use jp_store::{Opened, Store};
 use std::alloc::Global;
+use std::io;
 use std::io::{Read, Write};
 
 /// The bytes that one read asks for.
@@ -22,6 +25,7 @@ const PIECE: usize = 4096;
 /// Answers one line of the script, and then writes its whole answer.
 fn answer_line<W: Write>(
     store: &mut Store,
+    opened: &mut Opened,
     alloc: Global,
     setup: Setup,
     line: &[u8],
@@ -29,18 +33,22 @@ fn answer_line<W: Write>(
 ) -> Result<(), WriteFault>
     requires fits { FitsSetup setup store.old }
     requires working { out.old.failed ≡ false }
-    ensures ran { (text : List ℕ) × MayAnswer query_of asked_in setup store.old.state (line.now ∷ []) text store.new.state × Writes W.contents out.old out.new result text }
+    requires room { opened.old + most_lines < 2 ^ 64 }
+    ensures ran { (text : List ℕ) × MayAnswer query_of asked_in setup (at store.old.state opened.old) (line.now ∷ []) text (at store.new.state opened.new)
+        × Writes W.contents out.old out.new result text }
+    ensures few { opened.new ≤ opened.old + most_lines }
     ensures fits { FitsSetup setup store.new }
     ensures fault { out.new.failed ≡ is_err result }
     ensures after { out.new.after ≡ out.old.after }
 {
     let command = read_command(without_final_cr(line));
-    answer_command(store, alloc, setup, command, out)
+    answer_command(store, opened, alloc, setup, command, out)
 }
 
-/// Answers each line whose line feed comes with the piece, and holds what stands behind the last one.
+/// Answers each line whose line feed comes with the piece, and holds what follows the last one.
 fn answer_lines<W: Write>(
     store: &mut Store,
+    opened: &mut Opened,
     alloc: Global,
     setup: Setup,
     held: &mut Vec<u8>,
@@ -50,9 +58,12 @@ fn answer_lines<W: Write>(
     requires fits { FitsSetup setup store.old }
     requires working { out.old.failed ≡ false }
     requires open { HasNoSeparator 0x0A held.old.items }
-    ensures ok { OnOk result (Ran query_of asked_in W.contents out.old out.new setup store.old.state (closed_lines (held.old.items ++ piece.now)) store.new.state
+    requires room { opened.old + length piece.now * most_lines < 2 ^ 64 }
+    ensures ok { OnOk result (Ran query_of asked_in W.contents out.old out.new setup (at store.old.state opened.old) (closed_lines (held.old.items ++ piece.now)) (at store.new.state opened.new)
         × (held.new.items ≡ open_line (held.old.items ++ piece.now))) }
-    ensures err { IfErr result (λ fault. StoppedIn query_of asked_in W.contents out.old out.new fault setup store.old.state (closed_lines (held.old.items ++ piece.now))) }
+    ensures err { IfErr result (λ fault. StoppedIn query_of asked_in W.contents out.old out.new fault setup store.old.state (closed_lines (held.old.items ++ piece.now))
+        × RanFirst query_of asked_in setup (at store.old.state opened.old) (closed_lines (held.old.items ++ piece.now)) (at store.new.state opened.new)) }
+    ensures few { opened.new ≤ opened.old + length piece.now * most_lines }
     ensures fault { MatchResult result
         (λ _. out.new.failed ≡ false)
         (λ fault. out.new.failed ≡ is_write_fault fault) }
@@ -61,7 +72,7 @@ fn answer_lines<W: Write>(
 {
     for byte in piece {
         if *byte == b'\n' {
-            match answer_line(store, alloc, setup, held.as_slice(), out) {
+            match answer_line(store, opened, alloc, setup, held.as_slice(), out) {
                 Ok(()) => held.clear(),
                 Err(_) => return Err(RunFault::Write),
             }
@@ -72,40 +83,46 @@ fn answer_lines<W: Write>(
     Ok(())
 }
 
-/// Answers each line whose line feed comes with the piece, holds what stands behind the last one, and flushes the writer where
-/// something was written: whoever waits for the answers has them before the next read.
-fn take_piece<W: Write>(
-    store: &mut Store,
-    alloc: Global,
-    setup: Setup,
-    held: &mut Vec<u8>,
-    piece: &[u8],
-    out: &mut Watched<W>,
-) -> Result<(), RunFault>
-    requires fits { FitsSetup setup store.old }
+/// Flushes the writer where it took bytes that are unflushed.
+fn flush_answers<W: Write>(out: &mut Watched<W>) -> io::Result<()>
     requires working { out.old.failed ≡ false }
-    requires open { HasNoSeparator 0x0A held.old.items }
-    ensures ok { OnOk result (Ran query_of asked_in W.contents out.old out.new setup store.old.state (closed_lines (held.old.items ++ piece.now)) store.new.state
-        × (held.new.items ≡ open_line (held.old.items ++ piece.now))) }
-    ensures err { IfErr result (λ fault. StoppedIn query_of asked_in W.contents out.old out.new fault setup store.old.state (closed_lines (held.old.items ++ piece.now))) }
-    ensures fault { MatchResult result
-        (λ _. out.new.failed ≡ false)
-        (λ fault. out.new.failed ≡ is_write_fault fault) }
-    ensures fits { FitsSetup setup store.new }
+    ensures bytes { Keeps (W.contents out.old.device) (W.contents out.new.device) }
+    ensures flushed { OnOk result (out.new.unflushed ≡ false) }
+    ensures fault { out.new.failed ≡ is_err result }
     ensures after { out.new.after ≡ out.old.after }
 {
-    let calls = out.calls();
-    answer_lines(store, alloc, setup, held, piece, out)?;
-    if out.calls() > calls && out.flush().is_err() {
-        return Err(RunFault::Write);
+    if out.unflushed() {
+        return out.flush();
     }
     Ok(())
 }
 
+/// Reads the script into some room. Nothing that was answered is unflushed then: no other function reads it.
+fn read_script<R: Read, W: Write>(
+    script: &mut Watched<R>,
+    piece: &mut [u8],
+    out: &Watched<W>,
+) -> io::Result<usize>
+    requires flushed { out.now.unflushed ≡ false }
+    requires working { script.old.failed ≡ false }
+    requires room { 0 < length piece.old }
+    ensures bound { ReadsAtMost result piece.new }
+    ensures bytes { ReadConsumes (R.remaining script.old.device) (R.remaining script.new.device) result piece.new }
+    ensures failed { script.new.failed ≡ read_failed result }
+    ensures ended { script.new.ended ≡ (script.old.ended || read_ended result piece.new) }
+    ensures calls { script.new.calls ≡ one_more script.old.calls }
+    ensures after { script.old.ended ≡ false → script.new.after ≡ script.old.after }
+{
+    prove!(!out.unflushed());
+    script.read(piece)
+}
+
 /// Answers the lines of a script, each as its line feed comes. It makes at most one read for each byte of the script up to
-/// the limit, and one more. No read follows one that answered 0, one that failed, or the byte past the limit.
+/// the limit, and one more. No read follows one that answered 0, one that failed, or the byte past the limit, and none comes
+/// while something that was written is unflushed.
 pub(crate) fn run_script<R: Read, W: Write>(
     store: &mut Store,
+    opened: &mut Opened,
     alloc: Global,
     setup: Setup,
     script: &mut Watched<R>,
@@ -114,10 +131,15 @@ pub(crate) fn run_script<R: Read, W: Write>(
     requires fits { FitsSetup setup store.old }
     requires reads { script.old.failed ≡ false }
     requires writes { out.old.failed ≡ false }
+    requires none_opened { opened.old ≡ 0 }
+    // The count has what the plan of each query tells in turn, and nothing else; after a fault, that of the commands that were run.
     ensures output { (came : Came) × GaveUpTo R.remaining script.old script.new came × MatchResult result
-        (λ _. (came.ended ≡ true) × (length came.bytes ≤ setup.script_most) × Answered query_of asked_in W.contents out.old out.new setup store.old.state (text_lines came.bytes))
-        (λ fault. ScriptStopped query_of asked_in W.contents out.old out.new fault setup store.old.state came) }
+        (λ _. (came.ended ≡ true) × (length came.bytes ≤ setup.script_most)
+        × Ran query_of asked_in W.contents out.old out.new setup (at store.old.state opened.old) (text_lines came.bytes) (at store.new.state opened.new))
+        (λ fault. ScriptStopped query_of asked_in W.contents out.old out.new fault setup store.old.state came
+        × RanFirst query_of asked_in setup (at store.old.state opened.old) (lines_so_far came.ended (take setup.script_most came.bytes)) (at store.new.state opened.new)) }
     ensures ended { OnOk result (HasEnded R.remaining script.new) }
+    ensures end { OnOk result (script.new.ended ≡ true) }
     ensures write_fault { MatchResult result
         (λ _. out.new.failed ≡ false)
         (λ fault. out.new.failed ≡ is_write_fault fault) }
@@ -132,18 +154,23 @@ pub(crate) fn run_script<R: Read, W: Write>(
     let mut buffer = [0; PIECE];
     let mut count = 0;
     loop {
+        // Whoever waits for the answers has them before more is read.
+        if flush_answers(out).is_err() {
+            return Err(RunFault::Write);
+        }
         let left = setup.script_most as usize - count;
         // One byte more than is left, so that the byte past the limit is seen.
         let room = buffer.len().min(left + 1);
         let piece = &mut buffer[..room];
-        let Ok(read) = script.read(piece) else {
+        let Ok(read) = read_script(script, piece, out) else {
             return Err(RunFault::ReadScript);
         };
         if read == 0 {
             break;
         }
-        if let Err(fault) = take_piece(
+        if let Err(fault) = answer_lines(
             store,
+            opened,
             alloc,
             setup,
             &mut held,
@@ -160,7 +187,7 @@ pub(crate) fn run_script<R: Read, W: Write>(
     if held.is_empty() {
         return Ok(());
     }
-    match answer_line(store, alloc, setup, held.as_slice(), out) {
+    match answer_line(store, opened, alloc, setup, held.as_slice(), out) {
         Ok(()) => Ok(()),
         Err(_) => Err(RunFault::Write),
     }

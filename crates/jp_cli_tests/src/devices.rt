@@ -31,6 +31,11 @@ impl Cutting {
             fails_in,
         })
     }
+
+    /// How many bytes it gave.
+    pub(crate) fn given(&self) -> usize {
+        self.given
+    }
 }
 
 impl Read for Cutting {

@@ -116,6 +116,8 @@ fn readers_that_never_end_are_too_long(rt: HostRuntime) -> Result<(), Fail> {
     );
     assert_eq!(rt; ended, Err(RunFault::Size));
     assert_eq!(rt; collection.calls(), 6);
+    assert_eq!(rt; collection.after(), 0);
+    assert_eq!(rt; script.calls(), 0);
     let mut collection = Watched::new(Cutting::new(rt.alloc(), COLLECTION, 9, NEVER)?);
     let ended = run(
         rt.alloc(),
@@ -126,39 +128,10 @@ fn readers_that_never_end_are_too_long(rt: HostRuntime) -> Result<(), Fail> {
     );
     assert_eq!(rt; ended, Err(RunFault::ReadScript));
     assert_eq!(rt; script.calls(), 24);
+    assert_eq!(rt; script.after(), 0);
     let mut twice = Vec::from_slice(rt.alloc(), OUTPUT)?;
     twice.extend_from_slice(OUTPUT)?;
     assert_eq!(rt; out.into_inner().held.as_slice(), twice.as_slice());
-    Ok(())
-}
-
-#[test]
-fn sizes_are_told(rt: HostRuntime) -> Result<(), Fail> {
-    for (most, script_most, fault) in [
-        (7, 100, Some(RunFault::Size)),
-        (8, 100, None),
-        (100, 9, Some(RunFault::ReadScript)),
-        (100, 10, None),
-    ] {
-        let mut collection = Watched::new(Cutting::new(rt.alloc(), COLLECTION, 100, NEVER)?);
-        let mut script = Watched::new(Cutting::new(rt.alloc(), b"query $.a\n", 100, NEVER)?);
-        let mut out = Watched::new(Taking::new(rt.alloc(), 100, NEVER, NEVER));
-        let ended = run(
-            rt.alloc(),
-            setup(most, script_most),
-            &mut collection,
-            &mut script,
-            &mut out,
-        );
-        let held = out.into_inner().held;
-        let received = if fault.is_none() {
-            OUTPUT
-        } else {
-            b"".as_slice()
-        };
-        assert_eq!(rt; held.as_slice(), received);
-        assert_eq!(rt; ended.err(), fault);
-    }
     Ok(())
 }
 
@@ -190,7 +163,7 @@ fn a_run_that_ends_well_makes_no_call_too_many(rt: HostRuntime) -> Result<(), Fa
     Ok(())
 }
 
-/// Runs a script whose reads bring so many bytes each, and tells the end, the flushes, the bytes that were received, and the
+/// Runs a script whose reads bring so many bytes each, and returns the end, the flushes, the bytes that were received, and the
 /// calls of the writer after one that failed.
 fn flushed(
     alloc: Global,
@@ -241,5 +214,65 @@ fn answers_are_flushed_before_the_next_read(rt: HostRuntime) -> Result<(), Fail>
     assert_eq!(rt; ended, Ok(()));
     assert_eq!(rt; count, 0);
     assert_eq!(rt; received, 0);
+    Ok(())
+}
+
+#[test]
+fn no_read_goes_on_behind_the_byte_past_a_limit(rt: HostRuntime) -> Result<(), Fail> {
+    // The script has 30 bytes. Reads of at most so many bytes come to the byte past a limit of 15 in so many calls.
+    for (most, calls) in [(1, 16), (3, 6), (15, 2), (100, 1)] {
+        let mut collection = Watched::new(Cutting::new(rt.alloc(), COLLECTION, 100, NEVER)?);
+        let script = b"query $.a\nquery $.a\nquery $.a\n";
+        let mut script = Watched::new(Cutting::new(rt.alloc(), script, most, NEVER)?);
+        let mut out = Watched::new(Taking::new(rt.alloc(), 100, NEVER, NEVER));
+        let ended = run(
+            rt.alloc(),
+            setup(100, 15),
+            &mut collection,
+            &mut script,
+            &mut out,
+        );
+        assert_eq!(rt; ended, Err(RunFault::ReadScript));
+        assert_eq!(rt; script.calls(), calls);
+        assert_eq!(rt; script.after(), 0);
+        assert!(rt; !script.ended());
+        assert_eq!(rt; script.into_inner().given(), 16);
+        assert_eq!(rt; out.into_inner().held.as_slice(), OUTPUT);
+    }
+    Ok(())
+}
+
+#[test]
+fn what_came_unflushed_is_flushed_before_the_script_is_read(rt: HostRuntime) -> Result<(), Fail> {
+    for failing_flush in [NEVER, 1] {
+        let mut collection = Watched::new(Cutting::new(rt.alloc(), COLLECTION, 100, NEVER)?);
+        let mut script = Watched::new(Cutting::new(rt.alloc(), b"\n", 100, NEVER)?);
+        let mut taking = Taking::new(rt.alloc(), 100, NEVER, NEVER);
+        taking.failing_flush = failing_flush;
+        let mut out = Watched::new(taking);
+        if out.write(b"before\n").is_err() {
+            return Err("the writer takes nothing".into());
+        }
+        if out.failed() {
+            return Err("the writer failed".into());
+        }
+        let ended = run(
+            rt.alloc(),
+            setup(100, 100),
+            &mut collection,
+            &mut script,
+            &mut out,
+        );
+        if failing_flush == NEVER {
+            assert_eq!(rt; ended, Ok(()));
+            assert_eq!(rt; script.calls(), 2);
+        } else {
+            assert_eq!(rt; ended, Err(RunFault::Write));
+            assert_eq!(rt; script.calls(), 0);
+        }
+        let taking = out.into_inner();
+        assert_eq!(rt; taking.flushes, 1);
+        assert_eq!(rt; taking.held.as_slice(), b"before\n".as_slice());
+    }
     Ok(())
 }

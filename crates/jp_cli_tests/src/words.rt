@@ -1,7 +1,7 @@
 //! The program's words, and how it ends.
 
 use clap::error::ErrorKind;
-use jp_cli::{End, read_words};
+use jp_cli::{CollectionSource, End, ScriptSource, read_words};
 use jp_model::{Framing, RunFault};
 use std::test::Fail;
 
@@ -25,6 +25,72 @@ fn reads_the_framing(rt: HostRuntime) -> Result<(), Fail> {
     let options = read_words(rt.alloc(), lines.as_slice())?;
     assert!(rt; options.file == "f" && options.framing == Framing::Lines);
     Ok(())
+}
+
+#[test]
+fn reads_the_commands_in_their_order(rt: HostRuntime) -> Result<(), Fail> {
+    let words = [
+        "jpq",
+        "-c",
+        "index $.a",
+        "-",
+        "--command",
+        "query $.a",
+        "-ccheck",
+    ];
+    let options = read_words(rt.alloc(), words.as_slice())?;
+    assert_eq!(rt;
+        options.collection_source(),
+        CollectionSource::StandardInput
+    );
+    match options.script_source(rt.alloc())? {
+        ScriptSource::Commands(script) => {
+            assert!(rt; script.as_str() == "index $.a\nquery $.a\ncheck\n")
+        }
+        _ => assert!(rt; false),
+    }
+    Ok(())
+}
+
+#[test]
+fn the_script_is_a_file_or_standard_input(rt: HostRuntime) -> Result<(), Fail> {
+    let named = ["jpq", "-", "--script", "s"];
+    let options = read_words(rt.alloc(), named.as_slice())?;
+    assert_eq!(rt;
+        options.collection_source(),
+        CollectionSource::StandardInput
+    );
+    assert!(rt; matches!(options.script_source(rt.alloc())?, ScriptSource::File("s")));
+    let none = ["jpq", "./-"];
+    let options = read_words(rt.alloc(), none.as_slice())?;
+    assert_eq!(rt; options.collection_source(), CollectionSource::File("./-"));
+    assert!(rt;
+        matches!(
+            options.script_source(rt.alloc())?,
+            ScriptSource::StandardInput
+        )
+    );
+    Ok(())
+}
+
+#[test]
+fn refuses_two_scripts_and_none(rt: HostRuntime) {
+    let two = ["jpq", "f", "--script", "s", "-c", "check"];
+    match read_words(rt.alloc(), two.as_slice()) {
+        Ok(_) => assert!(rt; false),
+        Err(error) => {
+            assert!(rt; error.kind() == ErrorKind::ArgumentConflict && error.exit_code() == 2)
+        }
+    }
+    let none = ["jpq", "-"];
+    match read_words(rt.alloc(), none.as_slice()) {
+        Ok(_) => assert!(rt; false),
+        Err(error) => {
+            assert!(rt;
+                error.kind() == ErrorKind::MissingRequiredArgument && error.exit_code() == 2
+            )
+        }
+    }
 }
 
 #[test]

@@ -4,7 +4,7 @@ ghost use Rattle.jp_model.specs.Characters.{is_digit};
 
 use std::cmp::Reverse;
 
-/// The digits of a number that is not zero, without zeros in front and behind, and the power of ten above the first:
+/// The digits of a number that is not zero, without zeros in front and after, and the power of ten above the first:
 /// 0.`digits` times ten to the `power`.
 #[derive(Debug, PartialEq, Eq, PartialOrd, Ord, Drop)]
 pub struct KeySize {

@@ -10,7 +10,7 @@ use std::alloc::{AllocError, Global};
 use std::cmp::{Ordering, Reverse};
 
 impl KeySize {
-    /// The same digits at the same power.
+    /// A copy of the digits at the same power.
     fn copy(&self, alloc: Global) -> Result<KeySize, AllocError>
         ensures power { IfOk result (λ key. key.power ≡ self.now.power) }
         ensures digits { IfOk result (λ key. key.digits.items ≡ self.now.digits.items) }

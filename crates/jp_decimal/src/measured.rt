@@ -3,14 +3,14 @@ ghost use Rattle.jp_decimal.specs.Magnitudes.{digits, BeginsWithZeros, EndsWithZ
 
 use crate::parts::Magnitude;
 
-/// A number without its sign, and where its first and its last digit stand that are not zero. They are found when the number is
+/// A number without its sign, and where its first and last digits other than zero are. They are found when the number is
 /// read, so that a comparison reads no more digits than the shorter number has.
 #[derive(Clone, Copy, Debug)]
 pub struct Measured<'a> {
     pub magnitude: Magnitude<'a>,
-    /// The place of the first digit that is not zero, and behind the last digit where there is none.
+    /// The place of the first digit that is not zero, and after the last digit if there is none.
     pub first: usize,
-    /// The place behind the last digit that is not zero, and `first` where there is none.
+    /// The place after the last digit that is not zero, and `first` if there is none.
     pub end: usize,
     ghost in_order: { first ≤ end },
     ghost within: { end ≤ length (digits magnitude) },

@@ -27,7 +27,7 @@ impl Magnitude<'_> {
         }
     }
 
-    /// How many zeros stand in front.
+    /// How many zeros there are at the front.
     pub fn leading_zeros(&self) -> usize
         ensures zeros { BeginsWithZeros (digits self.now) result }
         ensures within { result ≤ length (digits self.now) }
@@ -42,7 +42,7 @@ impl Magnitude<'_> {
         count
     }
 
-    /// The place behind the last digit that is not zero, and no place before the first.
+    /// The place after the last digit that is not zero, and no place before the first.
     pub fn end_of_digits(&self, first: usize) -> usize
         requires { first ≤ length (digits self.now) }
         ensures order { first ≤ result }
@@ -60,7 +60,7 @@ impl Magnitude<'_> {
         end
     }
 
-    /// The power of ten above the digit behind this many digits.
+    /// The power of ten above the digit after this many digits.
     pub fn power_behind(&self, skipped: usize) -> i64
         requires { skipped ≤ length (digits self.now) }
         ensures { result ≡ power_above self.now skipped }
@@ -99,7 +99,7 @@ impl Measured<'_> {
         self.is_zero() && other.is_zero()
     }
 
-    /// The order of two whose first digits that are not zero stand at one power of ten. Where the digits of one are the first of
+    /// The order of two whose first digits that are not zero are at one power of ten. Where the digits of one are the first of
     /// the other, the longer is greater, since its last digit is not zero.
     fn compare_digits(&self, other: &Measured<'_>) -> Ordering
         requires same { power_above self.now.magnitude self.now.first ≡ power_above other.now.magnitude other.now.first }

@@ -13,7 +13,7 @@ use crate::parts::Magnitude;
 /// The most digits of an exponent that are read, leading zeros left out (profile).
 const MOST_EXPONENT_DIGITS: usize = 15;
 
-/// What stands behind a byte at the front.
+/// What follows a byte at the front.
 fn behind(text: &[u8], byte: u8) -> Option<&[u8]>
     requires { 0 < byte }
     ensures { MatchOption result (slice_index_or text.now 0 0 ≢ byte) (λ rest. byte ∷ rest.now ≡ text.now) }
@@ -27,7 +27,7 @@ fn behind(text: &[u8], byte: u8) -> Option<&[u8]>
     Some(&text[1..])
 }
 
-/// How many digits stand at the front.
+/// How many digits there are at the front.
 fn count_digits(text: &[u8]) -> usize
     ensures within { result ≤ length text.now }
     ensures digits { (j : ℕ) → j < result → is_digit (slice_index_or text.now j 0x30) ≡ true }
@@ -41,7 +41,7 @@ fn count_digits(text: &[u8]) -> usize
     text.len()
 }
 
-/// The digits at the front, and what stands behind them.
+/// The digits at the front, and what follows them.
 fn split_digits(text: &[u8]) -> (&[u8], &[u8])
     ensures digits { AreDigits result.0.now }
     ensures joined { result.0.now ++ result.1.now ≡ text.now }
@@ -78,7 +78,7 @@ fn behind_zeros(digits: &[u8]) -> &[u8]
     &digits[place..]
 }
 
-/// What stands behind the letter of an exponent part.
+/// What follows the letter of an exponent part.
 fn behind_letter(text: &[u8]) -> Option<&[u8]>
     ensures { MatchOption result ((capital : Bool) (rest : List ℕ) → letter capital ∷ rest ≡ text.now → ⊥) (λ rest. (capital : Bool) × (letter capital ∷ rest.now ≡ text.now)) }
 {
@@ -88,7 +88,7 @@ fn behind_letter(text: &[u8]) -> Option<&[u8]>
     }
 }
 
-/// Whether there is a minus sign, and what stands behind a sign.
+/// Whether there is a minus sign, and what follows a sign.
 fn split_sign(text: &[u8]) -> (bool, &[u8])
     ensures found { (sign : Sign) × (sign_bytes sign ++ result.1.now ≡ text.now) × (is_minus sign ≡ result.0) }
     ensures only { (sign : Sign) (digits : List ℕ) → AreSomeDigits digits → sign_bytes sign ++ digits ≡ text.now → digits ≡ result.1.now }
@@ -130,7 +130,7 @@ fn read_exponent(text: &[u8]) -> Result<i64, NumberFault>
     Ok(if negative { -value } else { value })
 }
 
-/// The digits behind a point, if there is one, and the exponent.
+/// The digits after a point, if there is one, and the exponent.
 fn read_behind_int(text: &[u8]) -> Result<(&[u8], i64), NumberFault>
     ensures read { MatchResult result (λ found. BehindIntIs text.now found.0.now found.1) (RefusesBehindInt text.now) }
     ensures low { IfOk result (λ found. negsuc 999999999999998 ≤ℤ found.1) }
@@ -187,11 +187,11 @@ fn read_magnitude(text: &[u8]) -> Result<Magnitude<'_>, NumberFault>
 }
 
 impl<'a> Decimal<'a> {
-    /// Reads bytes as one number, with nothing before and behind it (RFC 8259, section 6). The number borrows the bytes
-    /// and takes no memory.
+    /// Reads bytes as one number, with nothing before or after it (RFC 8259, section 6). The number borrows the bytes
+    /// and allocates nothing.
     ///
-    /// `Shape` is the answer where the bytes are no number, and `Exponent` where they are one whose exponent has more
-    /// than 15 digits behind its leading zeros (profile).
+    /// `Shape` is the answer where the bytes are not a number, and `Exponent` where they are one whose exponent has more
+    /// than 15 digits after its leading zeros (profile).
     pub fn read(bytes: &'a [u8]) -> Result<Decimal<'a>, NumberFault>
         requires { length bytes.now < 2 ^ 32 }
         ensures { MatchResult result (λ number. ReadsAs bytes.now (number_of number)) (RefusesNumber bytes.now) }

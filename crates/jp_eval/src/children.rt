@@ -66,7 +66,7 @@ fn normal(count: u32, index: i64) -> i64
     }
 }
 
-/// The child that so many children stand before.
+/// The child that so many children come before.
 fn nth_child(node: Cursor<'_>, place: u32) -> Option<Cursor<'_>>
     ensures at { IsAt (node_of node.entry) place result }
     ensures line { IfSome result (λ c. line_of c ≡ line_of node.entry) }
@@ -81,7 +81,7 @@ fn nth_child(node: Cursor<'_>, place: u32) -> Option<Cursor<'_>>
     next
 }
 
-/// The element that so many elements stand before, of an array alone.
+/// The element that so many elements come before, of an array alone.
 fn nth_element(node: Cursor<'_>, place: u32) -> Option<Cursor<'_>>
     ensures nodes { node_list result ≡ children_where (is_index (same_int (pos place))) (node_of node.entry) }
     ensures line { IfSome result (λ c. line_of c ≡ line_of node.entry) }
@@ -127,7 +127,7 @@ pub(crate) fn find_element(node: Cursor<'_>, index: i64) -> Option<Cursor<'_>>
     nth_element(node, place as u32)
 }
 
-/// Whether an index stands a whole number of steps from the start (RFC 9535, section 2.3.4.2.2).
+/// Whether an index is a whole number of steps from the start (RFC 9535, section 2.3.4.2.2).
 fn is_on_stride(start: i64, step: i64, index: i64) -> bool
     requires near { (neg_ℤ (pos (2 ^ 33)) ≤ℤ (index -ℤ start)) × ((index -ℤ start) ≤ℤ pos (2 ^ 33)) }
     requires some { step ≢ pos 0 }
@@ -169,7 +169,7 @@ fn count_for(node: Cursor<'_>, first: i64, last: i64) -> u32
     }
 }
 
-/// The elements from one index on that stand before another, each a whole number of steps from the first.
+/// The elements from one index on that come before another, each a whole number of steps from the first.
 #[derive(Clone, Copy)]
 pub(crate) struct Rising {
     pub(crate) low: i64,
@@ -212,7 +212,7 @@ impl Rising {
         low <= index && index < high && is_on_stride(low, step, index)
     }
 
-    /// Whether the child, before which so many stand, is one of them.
+    /// Whether the child, before which so many come, is one of them.
     pub(crate) fn has(self, child: Cursor<'_>, index: u32) -> bool
         ensures { result ≡ is_index (rises self.low self.high self.step) (step_to index (name_of child.entry)) }
     {
@@ -220,7 +220,7 @@ impl Rising {
     }
 }
 
-/// Whether a slice with a step below 0 selects the child, before which so many of so many stand.
+/// Whether a slice with a step below 0 selects the child, before which so many of so many come.
 fn has_falling(child: Cursor<'_>, count: u32, slice: Slice, index: u32) -> bool
     requires { slice.step ≢ pos 0 }
     ensures { result ≡ is_index (downward count slice.first slice.last slice.step) (step_to index (name_of child.entry)) }
@@ -228,7 +228,7 @@ fn has_falling(child: Cursor<'_>, count: u32, slice: Slice, index: u32) -> bool
     child.name().is_none() && has_downward(count, slice.first, slice.last, slice.step, index)
 }
 
-/// Whether an index stands behind the first that a slice with a step below 0 selects, of so many.
+/// Whether an index follows the first that a slice with a step below 0 selects, of so many.
 fn is_behind(count: u32, first: Option<i64>, index: u32) -> bool
     ensures { result ≡ int_lt (normal_of count (unwrap_or first (pos count -ℤ pos 1))) (pos index) }
 {

@@ -19,7 +19,7 @@ use jp_query::{Argument, Call, Comparable, Literal, Logical, Origin, Path, Segme
 use jp_strings::is_plain;
 use std::alloc::{AllocError, Global};
 
-/// The same literal.
+/// A copy of the literal.
 fn copy_literal(alloc: Global, literal: &Literal) -> Result<Literal, AllocError>
     ensures { IfOk result (λ copy. literal_view copy ≡ literal_view literal.now) }
 {

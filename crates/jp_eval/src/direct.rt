@@ -1,5 +1,5 @@
 //! What a filter asks of the node that names and indexes lead to, beside a value of the query. Most filters ask no more, so
-//! that node is asked where it stands: no side is copied, and nothing is kept.
+//! that node is asked where it is: no side is copied, and nothing is kept.
 
 ghost use Rattle.std.specs.Prelude.{◌≡◌, IfOk, IfSome};
 ghost use Rattle.jp_model.specs.Meaning.Compare.{compared};
@@ -16,7 +16,7 @@ use jp_query::CompareOp;
 use jp_tape::Cursor;
 use std::alloc::AllocError;
 
-/// Whether a comparison holds of a node, where a query by names and indexes stands on the left, and a constant on the right.
+/// Whether a comparison holds of a node, where a query by names and indexes is on the left, and a constant on the right.
 /// None otherwise.
 #[inline(always)]
 pub(crate) fn compare_end<'a>(

@@ -28,7 +28,7 @@ pub struct Program {
 impl Program {
     /// Compiles segments. What was compiled means what they mean.
     ///
-    /// Where memory is refused the answer is `AllocError`.
+    /// If memory is refused, the answer is `AllocError`.
     pub fn compile(alloc: Global, segments: &[Segment]) -> Result<Program, AllocError>
         requires literals { has_sound_literals (segments_view segments.now) ≡ true }
         ensures { IfOk result (λ program. program_view program ≡ segments_view segments.now) }
@@ -69,7 +69,7 @@ impl Program {
     /// Adds the nodelist of the segments from a node on, with duplicates and in its order (RFC 9535, section 2.1.2). In a
     /// filter `@` is the child that is tested, and `$` is `root`, the root of the same line.
     ///
-    /// Where memory is refused the answer is `AllocError`, and `out` is as before.
+    /// If memory is refused, the answer is `AllocError`, and `out` is as before.
     pub fn run<'a>(
         &self,
         alloc: Global,
@@ -94,9 +94,9 @@ impl Program {
 
 /// Adds the nodelist of the segments from a node on, with duplicates and in its order (RFC 9535, section 2.1.2). In a
 /// filter `@` is the child that is tested, and `$` is `root`, the root of the same line. The segments are compiled for this
-/// call alone; who asks of many lines compiles a `Program` once.
+/// call alone; to ask many lines, compile a `Program` once.
 ///
-/// Where memory is refused the answer is `AllocError`, and `out` is as before.
+/// If memory is refused, the answer is `AllocError`, and `out` is as before.
 pub fn eval_from<'a>(
     alloc: Global,
     segments: &[Segment],
@@ -118,7 +118,7 @@ pub fn eval_from<'a>(
 /// Whether the expression holds of a node (RFC 9535, section 2.3.5.2): `@` is the node, and `$` is `root`, the root of the
 /// same line. It stops at the first part that decides, and at the first node of a query that is asked for one.
 ///
-/// Where memory is refused the answer is `AllocError`.
+/// If memory is refused, the answer is `AllocError`.
 pub fn truth<'a>(
     alloc: Global,
     expression: &Logical,

@@ -145,7 +145,7 @@ fn value_passes(
     }
 }
 
-/// Whether the value is a string that passes the pattern that was read, where there is one.
+/// Whether the value is a string that passes the pattern that was read, if there is one.
 pub(crate) fn read_passes(
     alloc: Global,
     read: &Option<Pattern>,
@@ -160,7 +160,7 @@ pub(crate) fn read_passes(
     }
 }
 
-/// Whether there is a node, and its value is a string that passes the pattern that was read, where there is one.
+/// Whether there is a node, and its value is a string that passes the pattern that was read, if there is one.
 #[inline(always)]
 pub(crate) fn end_passes(
     alloc: Global,

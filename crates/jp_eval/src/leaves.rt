@@ -1,4 +1,4 @@
-//! What stands at the leaves of a compiled query.
+//! What is at the leaves of a compiled query.
 
 ghost use Rattle.std.specs.Prelude.{◌≡◌, true, IsTrue, Some, length, option_map, chars, string_bytes};
 ghost use Rattle.jp_decimal.specs.Decimals.{numeral_number};
@@ -30,7 +30,7 @@ pub(crate) struct Constant {
 }
 
 impl Constant {
-    /// The value, and no number is read anew.
+    /// The value, and no number is read again.
     #[inline(always)]
     pub(crate) fn value(&self) -> Value<'_>
         ensures value { value_view result ≡ Some (literal_value (literal_view self.now.literal)) }
@@ -42,7 +42,7 @@ impl Constant {
         }
     }
 
-    /// Whether a comparison of a node, or of Nothing where there is none, with the value holds (RFC 9535, section 2.3.5.2.2).
+    /// Whether a comparison of a node, or of Nothing if there is none, with the value holds (RFC 9535, section 2.3.5.2.2).
     #[inline(always)]
     pub(crate) fn is_compared(&self, op: CompareOp, end: Option<Cursor<'_>>) -> bool
         ensures { result ≡ compared (op_view op) (single_value (node_list end.entry)) (Some (literal_value (literal_view self.now.literal))) }

@@ -1,4 +1,10 @@
 //! What queries select, and when their filters hold (RFC 9535, sections 2.3 to 2.5).
+//!
+//! Public calls:
+//!
+//! - `Program::compile`, `Program::run`: a query, compiled once and run for each line
+//! - `eval_from`, `truth`: the nodelist of segments; whether an expression holds of a node
+//! - `follow`: the node of a singular path, without memory
 #![tactic(auto)]
 
 mod answers;

@@ -38,7 +38,7 @@ pub(crate) struct MemberTest<'p> {
 }
 
 impl<'p> Question<'p> {
-    /// The answer of a node, or of Nothing where there is none.
+    /// The answer of a node, or of Nothing if there is none.
     #[inline(always)]
     fn answer(self, alloc: Global, end: Option<Cursor<'_>>) -> Result<bool, AllocError>
         ensures { IfOk result (λ b. b ≡ answered self.entry (node_list end.entry)) }

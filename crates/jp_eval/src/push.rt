@@ -15,7 +15,7 @@ use crate::member::MemberTest;
 use jp_tape::Cursor;
 use std::alloc::AllocError;
 
-/// Adds the node, where there is one, as long as fewer nodes than `most` were found.
+/// Adds the node, if there is one, as long as fewer nodes than `most` were found.
 #[inline(always)]
 pub(crate) fn push_end<'a>(
     run: Run<'_, 'a>,

@@ -54,7 +54,7 @@ pub(crate) fn push_steps<'a>(
     push_next(run, steps, node, most, frame)
 }
 
-/// The same, where a step is left. Most queries end with a name or an index.
+/// Adds what the steps select where one is left. Most queries end with a name or an index.
 #[cycle(eval)]
 #[inline(never)]
 fn push_next<'a>(
@@ -381,7 +381,7 @@ pub(crate) fn holds<'a>(
     }
 }
 
-/// The same of a condition within another, which is not put in where it is asked.
+/// Whether a condition within another holds. It is not inlined where it is asked.
 #[cycle(eval)]
 #[inline(never)]
 fn holds_within<'a>(
@@ -439,7 +439,7 @@ fn compare_values<'a>(
     }
 }
 
-/// The same, by the values of both sides.
+/// Whether a comparison holds, by the values of both sides.
 #[cycle(eval)]
 #[inline(never)]
 fn compare_sides<'a>(

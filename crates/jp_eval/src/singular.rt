@@ -17,7 +17,7 @@ use crate::program::{Choice, Nodes, Step};
 use jp_tape::Cursor;
 use jp_values::Value;
 
-/// The child that a step by one name or by one index selects, where there is one. None at another step.
+/// The child that a step by one name or by one index selects, if there is one. None at another step.
 #[inline(always)]
 pub(crate) fn singular_child<'a>(step: &Step, node: Cursor<'a>) -> Option<Option<Cursor<'a>>>
     ensures nodes { (table : Table) (t : Tree) → IfSome result (λ end. node_list end ≡ segment_nodes (step_view table step.now) (node_of node.entry) t) }
@@ -36,7 +36,7 @@ pub(crate) fn singular_child<'a>(step: &Step, node: Cursor<'a>) -> Option<Option
     }
 }
 
-/// The node that any number of steps by names and indexes lead to, where there is one. None where another step is met.
+/// The node that any number of steps by names and indexes lead to, if there is one. None where another step is met.
 #[inline(never)]
 fn singular_path<'a>(steps: &[Step], start: Cursor<'a>) -> Option<Option<Cursor<'a>>>
     ensures nodes { (table : Table) (t : Tree) → IfSome result (λ end. node_list end ≡ nodes_of (steps_view table steps.now) (node_of start.entry ∷ []) t) }
@@ -55,7 +55,7 @@ fn singular_path<'a>(steps: &[Step], start: Cursor<'a>) -> Option<Option<Cursor<
     Some(Some(node))
 }
 
-/// The same. Most queries within a filter have one step.
+/// Follows the steps as `singular_path` does, with no loop if there is one step, as in most queries within a filter.
 #[inline(always)]
 fn singular_end<'a>(steps: &[Step], start: Cursor<'a>) -> Option<Option<Cursor<'a>>>
     ensures nodes { (table : Table) (t : Tree) → IfSome result (λ end. node_list end ≡ nodes_of (steps_view table steps.now) (node_of start.entry ∷ []) t) }
@@ -67,7 +67,7 @@ fn singular_end<'a>(steps: &[Step], start: Cursor<'a>) -> Option<Option<Cursor<'
     }
 }
 
-/// The value of a node, where there is one.
+/// The value of a node, if there is one.
 #[inline(always)]
 pub(crate) fn value_of<'a>(end: Option<Cursor<'a>>) -> Value<'a>
     ensures sound { IsTrue (is_sound_value result) }
@@ -80,7 +80,7 @@ pub(crate) fn value_of<'a>(end: Option<Cursor<'a>>) -> Value<'a>
 }
 
 impl<'p, 'a> Run<'p, 'a> {
-    /// The node that a query by names and indexes leads to, where there is one. None where another step is met.
+    /// The node that a query by names and indexes leads to, if there is one. None where another step is met.
     #[inline(always)]
     pub(crate) fn singular(self, nodes: &Nodes, node: Cursor<'a>) -> Option<Option<Cursor<'a>>>
         requires { line_of node ≡ line_of self.root.now }
@@ -92,7 +92,7 @@ impl<'p, 'a> Run<'p, 'a> {
             Nodes::Slot(place) => singular_end(self.enter(*place).1, *self.root),
         }
     }
-    /// The same node, where nothing is kept of the query: of one that is, the node is looked for once in a line.
+    /// The node of a query of which nothing is kept. Of one that is kept, the node is looked for once in a line.
     #[inline(always)]
     pub(crate) fn singular_alone(
         self,

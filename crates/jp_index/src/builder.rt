@@ -16,11 +16,11 @@ use jp_query::SingularPath;
 use jp_tape::Cursor;
 use std::alloc::{AllocError, Global};
 
-/// An index in the making. The lines are put in one by one from the first, and their keys are sorted once, at the end.
+/// An index in the making. The lines are added one by one from the first, and their keys are sorted once, at the end.
 #[derive(Drop)]
 pub struct IndexBuilder {
     pub(crate) path: SingularPath,
-    /// What is kept of line k stands at k - 1.
+    /// What is kept of line k is at k - 1.
     pub(crate) cells: Vec<Option<Slot>>,
     /// The lines that have a key, in order of line.
     pub(crate) by_key: Vec<u32>,
@@ -30,7 +30,7 @@ pub struct IndexBuilder {
 impl IndexBuilder {
     ghost use Rattle.jp_index.specs.Indexes.{IsIndexOf, IsBuildOf, lines_built};
 
-    /// No line yet. It takes no memory yet.
+    /// No line yet. It allocates nothing yet.
     pub fn new(alloc: Global, path: SingularPath) -> IndexBuilder
         ensures { IsBuildOf result (path_steps path) 0 [] }
     {
@@ -41,7 +41,7 @@ impl IndexBuilder {
         }
     }
 
-    /// The number of lines that were put in.
+    /// The number of lines that were added.
     pub fn line_count(&self) -> u32
         ensures { result ≡ lines_built self.now }
     {
@@ -56,7 +56,7 @@ impl IndexBuilder {
         self.by_key.reserve(keys)
     }
 
-    /// Puts in the next line, which has this root or, where it has no tree, none. After an `Err` the entries are as before.
+    /// Adds the next line, which has this root or, where it has no tree, none. After an `Err` the entries are as before.
     pub fn push(&mut self, alloc: Global, root: Option<Cursor<'_>>) -> Result<(), AllocError>
         requires { lines_built self.old + 1 < 2 ^ 32 }
         ensures ok { (path : List Step) (lines : ℕ) (entries : List Entry) → IsBuildOf self.old path lines entries
@@ -75,7 +75,7 @@ impl IndexBuilder {
         Ok(())
     }
 
-    /// The index of the lines that were put in. It takes memory for the time of the sort, where there are more than 20 keys.
+    /// The index of the lines that were added. It allocates while it sorts, if there are more than 20 keys.
     pub fn finish(self) -> Result<ValueIndex, AllocError>
         ensures { (path : List Step) (lines : ℕ) (entries : List Entry) → IsBuildOf self path lines entries → IfOk result (λ index. IsIndexOf index path entries) }
     {

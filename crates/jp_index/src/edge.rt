@@ -5,8 +5,8 @@ ghost use Rattle.jp_query.specs.View.{op_view};
 
 use jp_query::CompareOp;
 
-/// A place in the order of keys, told by one of them: in front of the keys that equal it, behind them, in front of all keys
-/// of its kind, behind all of these.
+/// A place in the order of keys, told by one of them: in front of the keys that equal it, after them, in front of all keys
+/// of its kind, after all of these.
 #[derive(Clone, Copy)]
 pub(crate) enum Edge {
     BeforeKey,

@@ -15,7 +15,7 @@ use jp_query::CompareOp;
 use jp_values::Key;
 use std::alloc::AllocError;
 
-/// How many of the lines, which are in order, stand in front of a line.
+/// How many of the lines, which are in order, come before a line.
 fn place_of(cells: &[Option<Slot>], lines: &[u32], line: u32) -> usize
     ensures within { result ≤ length lines.now }
     ensures place { Ascend (key_at cells.now) lines.now → IsPlaceOf (key_at cells.now) line lines.now result }
@@ -23,7 +23,7 @@ fn place_of(cells: &[Option<Slot>], lines: &[u32], line: u32) -> usize
     lines.partition_point(|other| compare_lines(cells, *other, line).is_lt())
 }
 
-/// How many of the lines, which are in order, stand in front of an edge of a key.
+/// How many of the lines, which are in order, come before an edge of a key.
 fn edge_of(cells: &[Option<Slot>], lines: &[u32], edge: Edge, key: &Key) -> usize
     ensures within { result ≤ length lines.now }
     ensures place { Ascend (key_at cells.now) lines.now
@@ -47,7 +47,7 @@ pub(crate) fn run_of<'a>(
     &behind[..edge_of(cells, behind, Edge::end(op), key)]
 }
 
-/// Where a line stands, if it is there.
+/// Where a line is, if it is there.
 pub(crate) fn find_line(cells: &[Option<Slot>], lines: &[u32], line: u32) -> Option<usize>
     ensures found { IfSome result (λ place. place < length lines.now) }
     ensures order { AreByKey (key_at cells.now) lines.now → AreByKey (but line (key_at cells.now)) (taken_out result lines.now) }
@@ -60,7 +60,7 @@ pub(crate) fn find_line(cells: &[Option<Slot>], lines: &[u32], line: u32) -> Opt
     }
 }
 
-/// How many of the lines, which are in order but for the one at a place, stand in front of a line, that one left out.
+/// How many of the lines, which are in order but for the one at a place, come before a line, that one left out.
 fn place_without(cells: &[Option<Slot>], lines: &[u32], from: usize, line: u32) -> usize
     requires { from < length lines.now }
     ensures within { result < length lines.now }
@@ -74,7 +74,7 @@ fn place_without(cells: &[Option<Slot>], lines: &[u32], from: usize, line: u32) 
     }
 }
 
-/// Moves the line at one place to one behind it. What stands between them moves by one place.
+/// Moves the line at one place to one after it. What is between them moves by one place.
 fn move_up(lines: &mut [u32], from: usize, to: usize, line: u32)
     requires up { from < to }
     requires to { to < length lines.old }
@@ -84,7 +84,7 @@ fn move_up(lines: &mut [u32], from: usize, to: usize, line: u32)
     lines[to] = line;
 }
 
-/// Moves the line at one place to one in front of it, or leaves it. What stands between them moves by one place.
+/// Moves the line at one place to one in front of it, or leaves it. What is between them moves by one place.
 fn move_down(lines: &mut [u32], from: usize, to: usize, line: u32)
     requires down { to ≤ from }
     requires from { from < length lines.old }

@@ -1,4 +1,4 @@
-//! A pattern as places: each place waits for one scalar of its class, and says which places wait behind it. A text runs through
+//! A pattern as places: each place waits for one scalar of its class, and says which places wait after it. A text runs through
 //! one word, which holds the places that wait.
 
 ghost use Rattle.std.specs.Prelude.{◌≡◌, ◌↔◌, ◌<◌, ◌≤◌, ℕ, IsTrue, IfOk, Some, None, bit_and, length, get_or, map};
@@ -30,9 +30,9 @@ pub(crate) struct Place {
 pub(crate) struct Automaton {
     pub(crate) places: Vec<Place>,
     pub(crate) starts: u64,
-    /// By place what waits behind it.
+    /// By place what waits after it.
     after: Vec<u64>,
-    /// The places behind which only the one with the number before waits.
+    /// The places after which only the one with the number before waits.
     chained: u64,
     /// By ASCII scalar the places whose class has it.
     ascii: Vec<u64>,
@@ -43,7 +43,7 @@ pub(crate) struct Automaton {
 }
 
 impl Automaton {
-    /// Where memory is refused the answer is an error.
+    /// If memory is refused, the answer is an error.
     pub(crate) fn new(
         alloc: Global,
         places: Vec<Place>,
@@ -65,7 +65,7 @@ impl Automaton {
         })
     }
 
-    /// What waits behind the scalar.
+    /// What waits after the scalar.
     fn step(&self, waiting: u64, scalar: char) -> u64
         ensures { IsStep (map place_of self.now.places.items) waiting scalar result }
     {
@@ -76,7 +76,7 @@ impl Automaton {
         }
     }
 
-    /// The same, of an ASCII scalar.
+    /// The places that wait after an ASCII scalar.
     #[inline(always)]
     fn ascii_step(&self, waiting: u64, scalar: u8) -> u64
         requires { scalar < 128 }
@@ -85,7 +85,7 @@ impl Automaton {
         self.behind(waiting & self.ascii[scalar as usize])
     }
 
-    /// What waits behind any of the places that are ready. Those that are chained move on at once.
+    /// What waits after any of the places that are ready. Those that are chained move on at once.
     #[inline(always)]
     fn behind(&self, ready: u64) -> u64
         ensures { (q : ℕ) → Holds result q ↔ WaitsBehind self.now.after.items ready q }
@@ -124,7 +124,7 @@ impl Automaton {
         has_end(waiting)
     }
 
-    /// The same, of any text.
+    /// Whether the places lead over a text that need not be ASCII.
     #[inline(never)]
     fn accepts_any(&self, text: &str) -> bool
         ensures { IsTrue result ↔ Leads (map place_of self.now.places.items) self.now.starts (chars text.now) }
@@ -164,7 +164,7 @@ impl Automaton {
         false
     }
 
-    /// The same, of any text.
+    /// Whether a part of a text that need not be ASCII is one to which the places lead.
     #[inline(never)]
     fn finds_any(&self, text: &str) -> bool
         ensures { IsTrue result ↔ Occurs (Leads (map place_of self.now.places.items) self.now.starts) (chars text.now) }
@@ -199,7 +199,7 @@ fn words_after(alloc: Global, places: &[Place]) -> Result<Vec<u64>, AllocError>
     Ok(words)
 }
 
-// The places behind which only the one with the number before waits. A part is laid out in front of what waits behind it, so
+// The places after which only the one with the number before waits. A part is laid out in front of what waits after it, so
 // most are.
 fn chained(after: &[u64]) -> u64
     requires { length after.now ≤ 63 }
@@ -264,7 +264,7 @@ fn having(_places: &[Place], sets: &[u128], code: u8) -> u64
     all
 }
 
-// What waits behind any of the places that are ready: each of them is asked.
+// What waits after any of the places that are ready: each of them is asked.
 #[inline(always)]
 fn behind_each(after: &[u64], ready: u64) -> u64
     ensures { (q : ℕ) → Holds result q ↔ WaitsBehind after.now ready q }
@@ -288,7 +288,7 @@ fn word_after(after: &[u64], number: usize) -> u64
     }
 }
 
-// What waits behind the scalar: each place that waits is asked.
+// What waits after the scalar: each place that waits is asked.
 fn asked_step(places: &[Place], waiting: u64, scalar: char) -> u64
     ensures { IsStep (map place_of places.now) waiting scalar result }
 {
@@ -303,7 +303,7 @@ fn asked_step(places: &[Place], waiting: u64, scalar: char) -> u64
     next
 }
 
-// What waits behind a place, where it passes.
+// What waits after a place, where it passes.
 fn asked(places: &[Place], number: usize, scalar: char) -> Option<u64>
     ensures some { IfSome result (λ behind. IsPassed (map place_of places.now) number scalar behind) }
     ensures none { result ≡ None → (behind : ℕ) → IsPassed (map place_of places.now) number scalar behind → ⊥ }

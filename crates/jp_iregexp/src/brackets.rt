@@ -10,11 +10,11 @@ use crate::class::{Class, Item};
 use crate::items::read_whole_item;
 use std::alloc::{AllocError, Global};
 
-/// What follows the items so far, and what stands behind it.
+/// The item after those so far, and what follows it.
 #[derive(Clone, Copy)]
 pub(crate) enum Next<'a> {
     Item(Item, &'a [char]),
-    /// The hyphen that stands last, with the bracket behind it.
+    /// The hyphen that comes last, with the bracket after it.
     Hyphen(&'a [char]),
     /// The bracket that closes.
     End(&'a [char]),
@@ -53,8 +53,8 @@ fn read_last_hyphen(text: &[char]) -> Option<Next<'_>>
     }
 }
 
-// The items so far with those up to the bracket that closes, of which there are fewer than `limit`, and what stands
-// behind it.
+// The items so far with those up to the bracket that closes, of which there are fewer than `limit`, and what is
+// after it.
 fn read_more(
     mut items: Vec<Item>,
     limit: usize,
@@ -80,7 +80,7 @@ fn read_more(
     Ok(None)
 }
 
-// The item that stands first, where a hyphen stands for itself.
+// The item that comes first, where a hyphen stands for itself.
 fn read_first(text: &[char]) -> Option<(Item, &[char])>
     ensures { option_map (λ p. (item_of p.0, p.1.now)) result ≡ first_of text.now }
 {
@@ -116,7 +116,7 @@ fn read_in_brackets(
     }
 }
 
-/// The class behind `[`. `^` in front negates, but `[^]` is the class of `^`.
+/// The class after `[`. `^` in front negates, but `[^]` is the class of `^`.
 pub(crate) fn read_brackets(
     alloc: Global,
     text: &[char],

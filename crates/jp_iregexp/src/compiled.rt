@@ -20,7 +20,7 @@ pub(crate) struct Compiled {
 }
 
 impl Compiled {
-    /// Lays the tree out. Where memory is refused the answer is an error.
+    /// Lays the tree out. If memory is refused, the answer is an error.
     pub(crate) fn new(alloc: Global, root: Node) -> Result<Compiled, AllocError>
         ensures { IfOk result (λ compiled. compiled.root ≡ root) }
     {

@@ -30,7 +30,7 @@ fn bound(digits: &[char]) -> Option<u32>
     Some(value)
 }
 
-// The bounds that stand between braces, the second not below the first.
+// The bounds that are between braces, the second not below the first.
 fn bounds(inside: &[char]) -> Option<(u32, Option<u32>)>
     ensures { option_map count_of_pair result ≡ count_in inside.now (up_to 0x2C inside.now) }
 {
@@ -54,7 +54,7 @@ fn bounds(inside: &[char]) -> Option<(u32, Option<u32>)>
     }
 }
 
-/// The bounds behind `{`, and what stands behind `}`.
+/// The bounds after `{`, and what follows `}`.
 pub(crate) fn read_bounds(text: &[char]) -> Option<((u32, Option<u32>), &[char])>
     ensures { option_map (λ p. (count_of_pair p.0, p.1.now)) result ≡ then_read (up_to 0x7D text.now) (λ inside rest. with_rest rest (count_in inside (up_to 0x2C inside))) }
 {

@@ -53,7 +53,7 @@ impl Group {
         Ok(())
     }
 
-    /// The atom with a quantifier behind it, and whether there is an atom. Where there is none, nothing changes.
+    /// The atom with a quantifier after it, and whether there is an atom. Where there is none, nothing changes.
     #[tactic(auto, using(crate::proofs::Built::first_push))]
     pub(crate) fn add_count(
         &mut self,

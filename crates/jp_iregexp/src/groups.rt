@@ -40,7 +40,7 @@ impl Groups {
         Ok(())
     }
 
-    // The innermost group ends, and whether it stands in another one.
+    // The innermost group ends, and whether it is in another one.
     #[tactic(auto, using(crate::proofs::Built::latest_group))]
     fn close(&mut self, alloc: Global) -> Result<bool, AllocError>
         ensures { IfOk result (λ stands. close_group (whole_of (groups_of self.old).now) (groups_of self.old).around ≡ (if stands then Some (groups_of self.new) else None)) }
@@ -56,7 +56,7 @@ impl Groups {
         }
     }
 
-    /// One more token, and whether it can stand there.
+    /// One more token, and whether it is allowed there.
     pub(crate) fn add(&mut self, alloc: Global, token: Token) -> Result<bool, AllocError>
         ensures { IfOk result (λ stands. after_token (token_of token) (groups_of self.old) ≡ (if stands then Some (groups_of self.new) else None)) }
     {

@@ -22,7 +22,7 @@ fn place_of(stop: char, text: &[char]) -> Option<usize>
     None
 }
 
-/// What stands in front of the first scalar that is `stop`, and what stands behind it.
+/// What comes before the first scalar that is `stop`, and what follows it.
 pub(crate) fn cut(stop: char, text: &[char]) -> Option<(&[char], &[char])>
     ensures { option_map (λ p. (p.0.now, p.1.now)) result ≡ up_to stop text.now }
 {
@@ -32,7 +32,7 @@ pub(crate) fn cut(stop: char, text: &[char]) -> Option<(&[char], &[char])>
     }
 }
 
-// The property in the braces behind `\p` or `\P`.
+// The property in the braces after `\p` or `\P`.
 fn read_braces(negated: bool, text: &[char]) -> Option<(Item, &[char])>
     ensures { option_map (λ p. (item_of p.0, p.1.now)) result ≡ read_category negated text.now }
 {
@@ -53,7 +53,7 @@ fn read_braces(negated: bool, text: &[char]) -> Option<(Item, &[char])>
     }
 }
 
-/// What stands behind a backslash.
+/// What follows a backslash.
 pub(crate) fn read_escaped(text: &[char]) -> Option<(Item, &[char])>
     ensures { option_map (λ p. (item_of p.0, p.1.now)) result ≡ read_escape text.now }
 {
@@ -106,7 +106,7 @@ fn span(first: Item, last: Item) -> Option<Item>
     }
 }
 
-// What stands behind the scalar that begins a range, or the item itself where no range follows.
+// What follows the scalar that begins a range, or the item itself where no range follows.
 fn read_range_end(item: Item, text: &[char]) -> Option<(Item, &[char])>
     ensures { option_map (λ p. (item_of p.0, p.1.now)) result ≡ read_span (item_of item) text.now }
 {

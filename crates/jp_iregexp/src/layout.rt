@@ -32,7 +32,7 @@ impl Entry {
         }
     }
 
-    /// What waits at the front of the part, where this waits behind it.
+    /// What waits at the front of the part, where this waits after it.
     fn before(self, behind: u64) -> u64
         ensures { result ≡ entry self.has_empty self.first behind }
     {
@@ -74,7 +74,7 @@ pub(crate) struct Layout {
 }
 
 impl Layout {
-    /// Lays a part out, in front of what waits behind it, or gives up.
+    /// Lays a part out, in front of what waits after it, or gives up.
     #[cycle(layout)]
     fn part(&mut self, alloc: Global, node: &Node, behind: u64) -> Result<Option<Entry>, AllocError>
         ensures { IfOk result (λ found. IfSome found (λ e. LaidOnto self.old.places.items self.new.places.items (Language (tree_of node.now)) behind e.first e.has_empty)) }
@@ -246,7 +246,7 @@ impl Layout {
         Ok(Some(entry))
     }
 
-    // Any number of times. The first places are those of a trial; the second time they wait behind the part too.
+    // Any number of times. The first places are those of a trial; the second time they wait after the part too.
     #[cycle(layout)]
     fn any(&mut self, alloc: Global, body: &Node, behind: u64) -> Result<Option<Entry>, AllocError>
         ensures { IfOk result (λ found. IfSome found (λ e. LaidOnto self.old.places.items self.new.places.items (RepeatsWithin (Language (tree_of body.now)) 0 None) behind e.first e.has_empty)) }

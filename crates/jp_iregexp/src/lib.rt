@@ -1,4 +1,8 @@
 //! I-Regexp patterns (RFC 9485): their reading, and the texts that they match.
+//!
+//! Public calls:
+//!
+//! - `Pattern::parse`, `matches`, `occurs`: a pattern; whether a whole text, or a part of it, matches
 #![tactic(auto)]
 
 mod automaton;

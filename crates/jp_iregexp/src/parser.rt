@@ -1,5 +1,5 @@
 //! The reading of a pattern: its tokens from left to right, each handed to the groups that are open. Nothing here calls itself,
-//! whatever stands in the text.
+//! whatever is in the text.
 
 ghost use Rattle.std.specs.Prelude.{◌≡◌, option_map, option_and_then, IfOk, count_by, ◌==◌};
 ghost use Rattle.jp_model.specs.Pattern.Groups.{pattern_of_tokens};

@@ -23,7 +23,7 @@ pub struct Pattern {
 impl Pattern {
     /// The pattern that a text spells, or `None` where it is no pattern (RFC 9485, section 3). By the choices of the profile these
     /// are none: a range that ends below its start, `{n,m}` with `n` above `m`, a bound above 999,999,999, and more than 256
-    /// scalars `(`, wherever they stand. Where memory is refused the answer is an error.
+    /// scalars `(`, wherever they are. If memory is refused, the answer is an error.
     pub fn parse(alloc: Global, text: &str) -> Result<Option<Pattern>, AllocError>
         ensures { IfOk result (λ found. option_map pattern_view found ≡ pattern_of (chars text.now)) }
     {
@@ -37,7 +37,7 @@ impl Pattern {
         }
     }
 
-    /// Whether the whole text is in the pattern's set (RFC 9485, section 4). Where memory is refused the answer is an error.
+    /// Whether the whole text is in the pattern's set (RFC 9485, section 4). If memory is refused, the answer is an error.
     #[inline(always)]
     pub fn matches(&self, alloc: Global, text: &str) -> Result<bool, AllocError>
         ensures { IfOk result (λ answer. answer ≡ is_in (pattern_view self.now) (chars text.now)) }
@@ -48,7 +48,7 @@ impl Pattern {
         matches_by_tree(alloc, &self.compiled.root, text)
     }
 
-    /// Whether some part of the text, the empty one included, is in the pattern's set. Where memory is refused the answer is
+    /// Whether some part of the text, the empty one included, is in the pattern's set. If memory is refused, the answer is
     /// an error.
     #[inline(always)]
     pub fn occurs(&self, alloc: Global, text: &str) -> Result<bool, AllocError>

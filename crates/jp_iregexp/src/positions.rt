@@ -134,7 +134,7 @@ impl PositionSet {
     }
 }
 
-// A word's bits up to this one, which may stand behind the word.
+// A word's bits up to this one, which may follow the word.
 fn first_bits(last: usize) -> u64
     ensures within { (i : ℕ) → i < 64 → bit_at result i ≡ 1 → i ≤ last }
     ensures each { (i : ℕ) → i < 64 → i ≤ last → bit_at result i ≡ 1 }

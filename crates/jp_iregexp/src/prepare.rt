@@ -1,4 +1,4 @@
-//! Nested counts. Where a count stands under another one, the turns of the outer one would repeat those of the inner one,
+//! Nested counts. Where a count is under another one, the turns of the outer one would repeat those of the inner one,
 //! and the counts multiply. So each part under a count that has a count in it gets a table of its ends first: for a text of n
 //! scalars, n + 1 rows, each as wide as what it reaches, which live as long as the match. A count over a class takes no turns,
 //! but one pass, and needs no table around it.
@@ -34,7 +34,7 @@ pub(crate) fn reach(
     ends(alloc, &prepared, text, starts)
 }
 
-// Whether a repeated part that takes turns stands in the part.
+// Whether a repeated part that takes turns is in the part.
 #[cycle(turns)]
 fn has_turns(node: &Node) -> bool {
     match node {
@@ -59,7 +59,7 @@ fn some_has_turns(parts: &[Node]) -> bool {
     false
 }
 
-// Whether a repeated part that takes turns stands in another one, or one has rows already.
+// Whether a repeated part that takes turns is in another one, or one has rows already.
 #[cycle(needs)]
 fn needs_tables(node: &Node) -> bool
     ensures { result ≡ false → (text : List ℕ) → Kept text node.now }

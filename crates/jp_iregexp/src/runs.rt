@@ -11,8 +11,8 @@ use crate::positions::PositionSet;
 use std::alloc::{AllocError, Global};
 
 /// The positions where exactly so many scalars of the class end that begin at one of the starts. It takes one pass, whatever
-/// the count is: `run` is how many scalars of the class stand one after another before a position. Nothing is reached any more
-/// where the run, or as much of it as is counted, begins behind the last start.
+/// the count is: `run` is how many scalars of the class are one after another before a position. Nothing is reached any more
+/// where the run, or as much of it as is counted, begins after the last start.
 pub(crate) fn count_ends(
     alloc: Global,
     class: &Class,
@@ -54,7 +54,7 @@ fn next_run(passes: bool, run: usize) -> usize
 }
 
 /// The positions where any number of scalars of the class ends that begins at one of the starts. It takes one pass: a position
-/// is reached where it is a start, or where the one before it is reached and the scalar between them is in the class. Behind
+/// is reached where it is a start, or where the one before it is reached and the scalar between them is in the class. After
 /// the last start it ends where a position is not reached.
 pub(crate) fn run_ends(
     alloc: Global,

@@ -1,4 +1,4 @@
-//! The tokens of a pattern's text (RFC 9485, section 3): each atom that is no group, each quantifier, and the parentheses
+//! The tokens of a pattern's text (RFC 9485, section 3): each atom that is not a group, each quantifier, and the parentheses
 //! and bars.
 
 ghost use Rattle.std.specs.Prelude.{◌≡◌, option_map, IfOk};
@@ -72,7 +72,7 @@ fn read_longer(
     }
 }
 
-/// The token that begins with this scalar, and what stands behind it.
+/// The token that begins with this scalar, and what follows it.
 pub(crate) fn next_token(
     alloc: Global,
     first: char,

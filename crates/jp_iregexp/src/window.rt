@@ -45,7 +45,7 @@ impl Window {
         self.first * 64
     }
 
-    /// The number behind the last bit that is kept.
+    /// The number after the last bit that is kept.
     pub(crate) fn high(&self) -> usize
         ensures is { result ≡ (self.now.first + vec_len self.now.words) * 64 }
         ensures fits { result ≤ 2 ^ 63 }

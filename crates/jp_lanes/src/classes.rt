@@ -85,7 +85,7 @@ pub fn classify(bytes: &[u8; 64]) -> Classes
     }
 }
 
-/// At most 64 bytes as a block: the bytes, and zeros behind them.
+/// At most 64 bytes as a block: the bytes, and zeros after them.
 pub fn pad(bytes: &[u8]) -> [u8; 64]
     requires { length bytes.now ≤ 64 }
     ensures { result ≡ bytes.now ++ replicate (64 - length bytes.now) 0 }

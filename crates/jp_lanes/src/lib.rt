@@ -1,4 +1,10 @@
 //! Kernels over lanes of bytes: the classes of 64 bytes at once, and searches and tests that look at 64 bytes at a time.
+//!
+//! Public calls:
+//!
+//! - `classify`, `pad`, `Classes`: the classes of 64 bytes; fewer bytes padded with zeros
+//! - `first_special`, `has_special`, `equal_bytes`: the next quote, backslash or control byte; whether there is one; equality
+//!   of bytes
 #![tactic(auto)]
 
 mod classes;

@@ -49,7 +49,7 @@ fn plain_run<const N: usize>(bytes: &[u8], at: usize) -> usize
 }
 
 /// The first place at or after `from` where a quotation mark, a reverse solidus or a control
-/// character stands (RFC 8259, section 7), or the length where none does.
+/// character is (RFC 8259, section 7), or the length if there is none.
 pub fn first_special(bytes: &[u8], from: usize) -> usize
     requires { from ≤ length bytes.now }
     ensures order { from ≤ result }
@@ -70,8 +70,8 @@ pub fn first_special(bytes: &[u8], from: usize) -> usize
     first_special_of_few(bytes, at)
 }
 
-// The same, where few bytes are left: eight at once, then four, and then byte by byte. It stays out of its caller, so that the
-// search of longer runs is put in where it is called.
+// The first special byte where few bytes are left: eight at once, then four, and then byte by byte. It is not inlined, so that
+// the search of longer runs is.
 #[inline(never)]
 fn first_special_of_few(bytes: &[u8], from: usize) -> usize
     requires { from ≤ length bytes.now }
@@ -92,7 +92,7 @@ fn first_special_of_few(bytes: &[u8], from: usize) -> usize
     first_special_of_fewest(bytes, from + EIGHTH)
 }
 
-// The same, where fewer than eight bytes are left: four at once, and then byte by byte.
+// The first special byte where fewer than eight are left: four at once, and then byte by byte.
 #[inline(always)]
 fn first_special_of_fewest(bytes: &[u8], from: usize) -> usize
     requires { from ≤ length bytes.now }
@@ -113,7 +113,7 @@ fn first_special_of_fewest(bytes: &[u8], from: usize) -> usize
     first_special_plainly(bytes, from + SIXTEENTH)
 }
 
-// The same, byte by byte.
+// The first special byte, byte by byte.
 fn first_special_plainly(bytes: &[u8], from: usize) -> usize
     requires { from ≤ length bytes.now }
     ensures order { from ≤ result }
@@ -130,7 +130,7 @@ fn first_special_plainly(bytes: &[u8], from: usize) -> usize
     at
 }
 
-// Whether a special byte stands among the first N bytes, or among the last N, which may be some of them.
+// Whether a special byte is among the first N bytes, or among the last N, which may be some of them.
 #[inline(always)]
 fn has_special_at_ends<const N: usize>(bytes: &[u8]) -> bool
     requires few { N ≤ 64 }
@@ -142,7 +142,7 @@ fn has_special_at_ends<const N: usize>(bytes: &[u8]) -> bool
     plain_run::<N>(bytes, 0) < N || plain_run::<N>(bytes, bytes.len() - N) < N
 }
 
-/// Whether a quotation mark, a reverse solidus or a control character (RFC 8259, section 7) stands among the bytes. Few bytes are
+/// Whether a quotation mark, a reverse solidus or a control character (RFC 8259, section 7) is among the bytes. Few bytes are
 /// looked at by their ends.
 #[inline(always)]
 pub fn has_special(bytes: &[u8]) -> bool
@@ -202,7 +202,7 @@ fn equal_few(a: &[u8], b: &[u8]) -> bool
     a == b
 }
 
-// The same of any number of bytes. It stays out of its caller.
+// Whether two runs of any length are equal. It is not inlined.
 #[inline(never)]
 fn equal_many(a: &[u8], b: &[u8]) -> bool
     requires { length a.now ≡ length b.now }

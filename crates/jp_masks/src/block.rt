@@ -34,7 +34,7 @@ impl Carry {
     };
 }
 
-/// The bits before which an odd run of set bits stands. `full` tells of the 1, 2, 4 .. bits before each whether all are
+/// The bits before which an odd run of set bits is. `full` tells of the 1, 2, 4 .. bits before each whether all are
 /// set, and `odd` whether those that are set without a gap are odd in number.
 fn odd_runs(word: u64) -> u64
     ensures { Says result (odd_run word) }
@@ -158,7 +158,7 @@ pub fn scan_block(bytes: &[u8; 64], framing: Option<Framing>, first: Carry) -> F
 /// How many places are written at once: one for each bit of a byte.
 const LANES: usize = 8;
 
-/// The numbers of the set bits of a byte, lowest first, and others behind them, as a table has them.
+/// The numbers of the set bits of a byte, lowest first, and others after them, as a table has them.
 #[inline(always)]
 #[tactic(auto, unfolding(crate::specs::Places::HasByteBits))]
 fn bit_numbers(table: &[[u8; LANES]; 256], byte: u8) -> [u8; LANES]
@@ -168,8 +168,8 @@ fn bit_numbers(table: &[[u8; LANES]; 256], byte: u8) -> [u8; LANES]
     table[byte as usize]
 }
 
-/// Writes the places of the set bits of a byte, whose lowest bit stands at `base`, lowest first from an index on, and tells how
-/// many they are. What stood behind them up to the eighth place is lost.
+/// Writes the places of the set bits of a byte, whose lowest bit is at `base`, lowest first from an index on, and returns how
+/// many they are. What stood after them up to the eighth place is lost.
 #[inline(always)]
 fn write_byte(places: &mut [u32], at: usize, base: u32, byte: u8) -> usize
     requires { at + LANES ≤ length places.old }

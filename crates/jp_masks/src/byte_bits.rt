@@ -1,6 +1,6 @@
 //! The bits of a byte.
 
-/// The numbers of the set bits of each byte, lowest first. What stands behind them is 0.
+/// The numbers of the set bits of each byte, lowest first. What follows them is 0.
 pub(crate) static SET_BITS: [[u8; 8]; 256] = [
     [0, 0, 0, 0, 0, 0, 0, 0],
     [0, 0, 0, 0, 0, 0, 0, 0],

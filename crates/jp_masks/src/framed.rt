@@ -5,7 +5,7 @@ ghost use Rattle.jp_masks.specs.Found.{is_line, is_last_line};
 
 use jp_model::Framing;
 
-/// Whether a piece that a separator ends is a line: in a sequence it is not where it is empty or stands before the first
+/// Whether a piece that a separator ends is a line: in a sequence it is not where it is empty or comes before the first
 /// separator (RFC 7464, section 2.1).
 pub fn is_line(framing: Framing, start: u32, end: u32) -> bool
     ensures { result ≡ is_line framing start end }

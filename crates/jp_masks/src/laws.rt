@@ -9,7 +9,7 @@ ghost use Rattle.jp_model.specs.Json.Tree.{Tree};
 ghost use Rattle.jp_masks.specs.Tokens.{tokens};
 ghost use Rattle.jp_masks.specs.Found.{LineAt, all_at, lines_in};
 
-/// The lines that are found stand where the lines of the collection do, with the marks of each line alone.
+/// The lines that are found are where the lines of the collection are, with the marks of each line alone.
 pub fn lines_are_those_of_the_text()
     ensures bytes { (framing : Framing) (text : List ℕ) → map (λ (line : LineAt). bytes_between text line.start line.end) (all_at framing text) ≡ lines_in framing text }
     ensures marks { (framing : Framing) (text : List ℕ) → map (λ (line : LineAt). line.positions) (all_at framing text) ≡ map marks (lines_in framing text) }

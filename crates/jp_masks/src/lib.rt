@@ -1,4 +1,10 @@
 //! The marks of lines: where the tokens of a JSON text begin, found in words of 64 bytes.
+//!
+//! Public calls:
+//!
+//! - `line_marks`: the marks of one line
+//! - `Scanner`: the lines of a collection fed in pieces, and the marks of each
+//! - `Marks`, `LineMarks`: the lines that were found
 #![tactic(auto)]
 
 mod block;

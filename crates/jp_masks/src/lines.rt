@@ -12,7 +12,7 @@ use crate::row::Row;
 use jp_model::{Framing, Span};
 use std::alloc::{AllocError, Global};
 
-/// One line of a collection: where it stands, counted from the start of all pieces joined, and its marks, ascending and
+/// One line of a collection: where it is, counted from the start of all pieces joined, and its marks, ascending and
 /// counted from the start of the line.
 #[derive(Clone, Copy, Drop)]
 pub struct LineMarks<'a> {
@@ -25,7 +25,7 @@ pub struct LineMarks<'a> {
 pub struct Marks {
     rows: Vec<Row>,
     places: Vec<u32>,
-    /// How many places stand before the line that is not yet ended.
+    /// How many places come before the line that is not yet ended.
     places_before: usize,
     is_utf8: bool,
     ghost in_places: { rows_within rows.items (length places.items) ≡ true },
@@ -57,7 +57,7 @@ impl Marks {
     ghost use Rattle.jp_masks.specs.Sinks.{row_if, add_places};
     ghost use Rattle.jp_masks.specs.Scanned.{stored, IsEmpty, IsUnchanged, HasRoomOf, Grows, HasAllOf};
 
-    /// No line. It takes no memory yet.
+    /// No line. It allocates nothing yet.
     pub fn new(alloc: Global) -> Marks
         ensures empty { IsEmpty result }
         ensures none { found result ≡ [] }
@@ -118,7 +118,7 @@ impl Marks {
         is_utf8_at(source, span)
     }
 
-    /// How many rows and places there are, and how many places stand before the open line.
+    /// How many rows and places there are, and how many places come before the open line.
     pub(crate) fn sizes(&self) -> (usize, usize, usize)
         ensures rows { result.0 ≡ length self.now.rows.items }
         ensures places { result.1 ≡ length self.now.places.items }
@@ -142,7 +142,7 @@ impl Marks {
         self.places_before = places_before;
     }
 
-    /// Tells whether all that was scanned is UTF-8.
+    /// Reports whether all that was scanned is UTF-8.
     pub(crate) fn tell_utf8(&mut self, is_utf8: bool)
         ensures rows { self.new.rows ≡ self.old.rows }
         ensures places { self.new.places ≡ self.old.places }

@@ -12,7 +12,7 @@ use crate::block::{Carry, push_places, scan_block};
 use jp_lanes::pad;
 use std::alloc::{AllocError, Global};
 
-/// The whole blocks at the front, and the bytes behind them.
+/// The whole blocks at the front, and the bytes after them.
 pub fn split_blocks(bytes: &[u8]) -> (&[[u8; 64]], &[u8])
     ensures all { flat_map (λ b. b) result.0.now ++ result.1.now ≡ bytes.now }
     ensures count { 64 * length result.0.now + length result.1.now ≡ length bytes.now }
@@ -29,7 +29,7 @@ pub fn first_bits(count: usize) -> u64
     (1 << count) - 1
 }
 
-/// Adds the marks of a whole block that begins at `base`, and tells what is known behind it.
+/// Adds the marks of a whole block that begins at `base`, and returns what is known after it.
 fn mark_block(
     places: &mut Vec<u32>,
     base: u32,
@@ -46,7 +46,7 @@ fn mark_block(
 }
 
 /// The places of the marks of one line, ascending: its unescaped quotes, and outside of strings each structural byte
-/// and each byte that begins another token. They are told of every list of bytes, a JSON text or not; of a JSON text
+/// and each byte that begins another token. They are defined for every list of bytes, a JSON text or not; of a JSON text
 /// they are the first bytes of its tokens and the closing quotes of its strings and names (RFC 8259, section 2). A line
 /// feed counts as white space.
 pub fn line_marks(alloc: Global, line: &[u8]) -> Result<Vec<u32>, AllocError>

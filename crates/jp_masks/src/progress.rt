@@ -9,7 +9,7 @@ use simdutf8::Checker;
 use std::alloc::AllocError;
 use std::simd::prelude::*;
 
-/// What is known behind the whole blocks that were scanned.
+/// What is known after the whole blocks that were scanned.
 #[derive(Clone, Copy, Drop)]
 pub struct Progress {
     pub framing: Framing,

@@ -1,6 +1,6 @@
 //! One line among those that were found.
 
-/// A line whose end is known: where it stands, and which of the places are its marks.
+/// A line whose end is known: where it is, and which of the places are its marks.
 #[derive(Clone, Copy, Drop)]
 pub struct Row {
     pub start: u32,

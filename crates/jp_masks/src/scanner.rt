@@ -86,7 +86,7 @@ impl Scanner {
         Ok(())
     }
 
-    /// Takes in a piece of the collection. The pieces may be cut anywhere. All lines whose end stands in the whole
+    /// Takes in a piece of the collection. The pieces may be cut anywhere. All lines whose end is in the whole
     /// blocks of 64 bytes that were fed so far are then among the marks.
     ///
     /// All pieces together have fewer than 2^32 bytes. After an `Err` the scanner and the marks are as before.

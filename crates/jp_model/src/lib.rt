@@ -1,4 +1,13 @@
-//! The definitions on which every other crate stands, and the types that they share with the code.
+//! The definitions that every other crate builds on, and the types that crates share.
+//!
+//! Public calls, beside the definitions and laws:
+//!
+//! - `Span`, `Framing`, `LineFault`, `QueryFault`, `Setup`, `RunFault`: types that crates share; `word` of a fault is the
+//!   word in its row or error line
+//! - `Lines`, `is_blank`: the lines of a collection; whether a line is white space alone
+//! - `Watched`: a device, one call of it for each `read`, `write` and `flush`. `failed`, `ended` and `unflushed` say whether
+//!   a call failed, a read came to the end, bytes are unflushed; `calls` counts all calls, and `after` those after a failure,
+//!   reads after the end, and reads into no room
 #![tactic(auto)]
 
 pub mod laws;
@@ -17,12 +26,12 @@ ghost use Rattle.jp_model.specs.Script.Machine.{query_fault_word};
 pub use lines::Lines;
 pub use watched::Watched;
 
-/// Where a value, or the body of a name, stands in its line.
+/// Where a value, or the body of a name, is in its line.
 #[derive(Clone, Copy, Debug, PartialEq, Eq)]
 pub struct Span {
     /// The place of the first byte, counted in bytes from the start of the line.
     pub start: u32,
-    /// The place behind the last byte, counted in the same way.
+    /// The place after the last byte, counted in the same way.
     pub end: u32,
 }
 
@@ -31,27 +40,27 @@ pub struct Span {
 pub enum Framing {
     /// One text to a line: a line feed ends each (JSON Lines).
     Lines,
-    /// A text sequence, each text behind a record separator (RFC 7464).
+    /// A text sequence, each text after a record separator (RFC 7464).
     Sequence,
 }
 
-/// Why a line is refused: the first of these that holds of it, in the order in which they stand here.
+/// Why a line is refused: the first of these that holds, in this order.
 ///
 /// The numbers are those of the program's interface, and no order.
 #[derive(Clone, Copy, Debug, PartialEq, Eq)]
 pub enum LineFault {
     /// The bytes are not UTF-8 (RFC 8259, section 8.1).
     Utf8 = 1,
-    /// The bytes are no JSON text (RFC 8259, section 2).
+    /// The bytes are not valid JSON (RFC 8259, section 2).
     Grammar = 2,
-    /// The text of a sequence is a number, `true`, `false` or `null` with no white space behind it, so its end may be
+    /// The text of a sequence is a number, `true`, `false` or `null` with no white space after it, so its end may be
     /// lost (RFC 7464, section 2.4).
     Truncated = 7,
     /// Arrays and objects are nested more than 512 deep (RFC 8259, section 9, leaves the limit open).
     Depth = 3,
     /// A string or a name has half of a surrogate pair alone (RFC 8259, section 8.2, leaves its meaning open).
     Surrogate = 4,
-    /// The exponent of a number has more than 15 digits behind its leading zeros (RFC 8259, section 9, leaves the limit
+    /// The exponent of a number has more than 15 digits after its leading zeros (RFC 8259, section 9, leaves the limit
     /// open).
     Number = 5,
     /// An object has two equal names, compared by what they spell (RFC 8259, section 4, leaves their meaning open).
@@ -59,7 +68,7 @@ pub enum LineFault {
 }
 
 impl LineFault {
-    /// The word of the fault in the row of a refused line: the variant's name in small letters.
+    /// The word of the fault in the row of a refused line: the variant's name in lower case.
     pub fn word(self) -> &'static str
         ensures { result.now ≡ line_fault_word self }
     {
@@ -78,14 +87,14 @@ impl LineFault {
 /// Why a query is refused: the first of these that holds of its text, in this order.
 #[derive(Clone, Copy, Debug, PartialEq, Eq)]
 pub enum QueryFault {
-    /// The text has more than 65,535 bytes, or more than 512 bytes `(` or `[` together, wherever they stand.
+    /// The text has more than 65,535 bytes, or more than 512 bytes `(` or `[` together, wherever they are.
     Size = 1,
     /// The text is not UTF-8, or no query (RFC 9535, appendix A).
     Syntax = 2,
     /// An index, or a bound or step of a slice, is below -9,007,199,254,740,991 or above 9,007,199,254,740,991 (RFC
     /// 9535, section 2.1).
     Integer = 3,
-    /// The exponent of a number has more than 15 digits behind its leading zeros.
+    /// The exponent of a number has more than 15 digits after its leading zeros.
     Number = 4,
     /// A function is none of `length`, `count`, `match`, `search` and `value` (RFC 9535, section 2.4).
     Function = 5,
@@ -94,7 +103,7 @@ pub enum QueryFault {
 }
 
 impl QueryFault {
-    /// The word of the fault in the error line of a command: the variant's name in small letters.
+    /// The word of the fault in the error line of a command: the variant's name in lower case.
     pub fn word(self) -> &'static str
         ensures { result.now ≡ query_fault_word self }
     {
@@ -128,7 +137,7 @@ pub enum RunFault {
     ReadCollection = 1,
     /// The collection has more bytes than it may have; nothing was written.
     Size = 2,
-    /// A byte that is no white space stands before the first record separator of a sequence; nothing was written.
+    /// A byte that is not white space comes before the first record separator of a sequence; nothing was written.
     Framing = 3,
     /// A read of the script failed, or the script has more bytes than it may have; the output of the command lines that
     /// were ended before is written.

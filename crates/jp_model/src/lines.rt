@@ -10,7 +10,7 @@ use std::marker::Model;
 
 const BYTE_ORDER_MARK: &[u8] = b"\xEF\xBB\xBF";
 
-/// The bytes behind a byte order mark at the front, or all (RFC 8259, section 8.1).
+/// The bytes after a byte order mark at the front, or all (RFC 8259, section 8.1).
 fn without_byte_order_mark(bytes: &[u8]) -> &[u8]
     ensures { result.now ≡ without_mark bytes.now }
 {
@@ -23,7 +23,7 @@ fn without_byte_order_mark(bytes: &[u8]) -> &[u8]
 
 /// The lines of a collection, one after another, each without its line feed.
 ///
-/// A line feed, 0A, ends a line, and an empty last piece is no line. One byte order mark, EF BB BF, at the front of the
+/// A line feed, 0A, ends a line, and an empty last piece is not a line. One byte order mark, EF BB BF, at the front of the
 /// collection is dropped. A carriage return before the line feed stays in its line, where it is white space.
 #[derive(Drop)]
 pub struct Lines<'a> {

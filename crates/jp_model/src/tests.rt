@@ -51,7 +51,32 @@ impl Write for Taker {
     }
 }
 
-/// The lines of a collection, each with a bar behind it.
+/// Counts its own calls. It gives nothing, and takes all.
+#[derive(Drop)]
+struct Counting {
+    calls: u64,
+}
+
+impl Read for Counting {
+    fn read(&mut self, _bytes: &mut [u8]) -> io::Result<usize> {
+        self.calls = self.calls.saturating_add(1);
+        Ok(0)
+    }
+}
+
+impl Write for Counting {
+    fn write(&mut self, bytes: &[u8]) -> io::Result<usize> {
+        self.calls = self.calls.saturating_add(1);
+        Ok(bytes.len())
+    }
+
+    fn flush(&mut self) -> io::Result<()> {
+        self.calls = self.calls.saturating_add(1);
+        Ok(())
+    }
+}
+
+/// The lines of a collection, each with a bar after it.
 fn barred(alloc: Global, collection: &[u8]) -> Result<Vec<u8>, AllocError> {
     let mut barred = Vec::new(alloc);
     for line in Lines::new(collection) {
@@ -152,8 +177,6 @@ fn reads_are_watched(rt: HostRuntime) -> Result<(), Fail> {
 fn reads_after_the_end_are_counted(rt: HostRuntime) -> Result<(), Fail> {
     let mut reader = Watched::new(b"ab".as_slice());
     let mut bytes = [0u8; 4];
-    assert_eq!(rt; reader.read(&mut [])?, 0);
-    assert!(rt; !reader.ended());
     assert_eq!(rt; reader.read(&mut bytes)?, 2);
     assert!(rt; !reader.ended());
     assert_eq!(rt; reader.read(&mut bytes)?, 0);
@@ -163,8 +186,21 @@ fn reads_after_the_end_are_counted(rt: HostRuntime) -> Result<(), Fail> {
     assert_eq!(rt; reader.read(&mut bytes)?, 0);
     assert_eq!(rt; reader.read(&mut [])?, 0);
     assert!(rt; reader.ended());
-    assert_eq!(rt; reader.calls(), 5);
+    assert_eq!(rt; reader.calls(), 4);
     assert_eq!(rt; reader.after(), 2);
+    Ok(())
+}
+
+#[test]
+fn reads_into_no_room_are_counted(rt: HostRuntime) -> Result<(), Fail> {
+    let mut reader = Watched::new(b"ab".as_slice());
+    let mut bytes = [0u8; 1];
+    assert_eq!(rt; reader.read(&mut [])?, 0);
+    assert!(rt; !reader.ended());
+    assert_eq!(rt; reader.after(), 1);
+    assert_eq!(rt; reader.read(&mut bytes)?, 1);
+    assert_eq!(rt; reader.calls(), 2);
+    assert_eq!(rt; reader.after(), 1);
     Ok(())
 }
 
@@ -195,14 +231,19 @@ fn flushes_are_watched(rt: HostRuntime) -> Result<(), Fail> {
         room: 2,
     });
     writer.flush()?;
+    assert_eq!(rt; writer.write(b"")?, 0);
+    assert!(rt; !writer.unflushed());
     assert_eq!(rt; writer.write(b"ab")?, 1);
+    assert!(rt; writer.unflushed());
     writer.flush()?;
+    assert!(rt; !writer.unflushed());
     assert!(rt; !writer.failed());
-    assert_eq!(rt; writer.calls(), 3);
+    assert_eq!(rt; writer.calls(), 4);
     assert_eq!(rt; writer.write(b"bc")?, 1);
     assert!(rt; writer.flush().is_err());
+    assert!(rt; writer.unflushed());
     assert!(rt; writer.failed());
-    assert_eq!(rt; writer.calls(), 5);
+    assert_eq!(rt; writer.calls(), 6);
     assert_eq!(rt; writer.after(), 0);
     assert!(rt; writer.flush().is_err());
     assert_eq!(rt; writer.after(), 1);
@@ -222,4 +263,23 @@ fn a_write_that_answers_an_error_has_failed(rt: HostRuntime) {
     assert_eq!(rt; writer.after(), 0);
     assert!(rt; writer.flush().is_ok());
     assert_eq!(rt; writer.after(), 1);
+}
+
+#[test]
+fn each_call_is_one_call_of_the_device(rt: HostRuntime) -> Result<(), Fail> {
+    let mut bytes = [0u8; 4];
+    let mut reader = Watched::new(Counting { calls: 0 });
+    assert_eq!(rt; reader.read(&mut bytes)?, 0);
+    assert_eq!(rt; reader.read(&mut bytes)?, 0);
+    assert_eq!(rt; reader.read(&mut [])?, 0);
+    assert_eq!(rt; reader.calls(), 3);
+    assert_eq!(rt; reader.into_inner().calls, 3);
+    let mut writer = Watched::new(Counting { calls: 0 });
+    assert_eq!(rt; writer.write(b"")?, 0);
+    assert_eq!(rt; writer.write(b"ab")?, 2);
+    writer.flush()?;
+    writer.flush()?;
+    assert_eq!(rt; writer.calls(), 4);
+    assert_eq!(rt; writer.into_inner().calls, 4);
+    Ok(())
 }

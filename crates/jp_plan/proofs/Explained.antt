@@ -1,21 +1,24 @@
 -- The lines that explain a plan.
-use Rattle.std.proofs.Common.{◌≡◌, ℕ, ◌+◌, List, [], ◌∷◌, ◌++◌, length, drop, Bool, true, false, ◌&&◌, cond, Option, Some, None, IfSome, if◌then◌else◌, sym, ap, ◌∙◌, refl, arith, append_assoc, codes, decimal, encode_utf8_all}
+use Rattle.std.proofs.Common.{◌≡◌, ℕ, ◌+◌, ◌≤◌, List, [], ◌∷◌, ◌++◌, length, drop, Bool, true, false, ◌&&◌, cond, Option, Some, None, IfSome, if◌then◌else◌, sym, ap, ◌∙◌, refl, arith, append_assoc, codes, decimal, encode_utf8_all}
 use Rattle.std.specs.Prelude.{count_by}
 use lib.Utf8.{encode}
-use Rattle.std.proofs.lemmas.List.Sums.{sum_by-cons}
+use Rattle.std.proofs.lemmas.List.Sums.{sum_by-cons, count_by-le-length}
+use Rattle.std.proofs.lemmas.List.{length-map}
 use Rattle.std.proofs.lemmas.Str.{encodes-append}
 use Rattle.jp_model.specs.Json.Status.{LineStatus, blank, refused, parsed}
+use Rattle.jp_model.specs.Json.Reader.{status_of}
 use Rattle.jp_model.specs.Meaning.Paths.{literal_text, op_text, path_text, steps_text}
 use Rattle.jp_model.specs.Numbered.{numbers_where}
-use Rattle.jp_model.specs.Plans.{Guard, explain, guard_of, guard_text, is_tree, leading_steps, opened, scan_text, seek_length, seek_of, seek_passes, seek_text, segments_text, told}
+use Rattle.jp_model.specs.Plans.{Guard, explain, guard_of, guard_text, is_opened, is_tree, leading_steps, opened, scan_text, seek_length, seek_of, seek_passes, seek_text, segments_text, told}
 use Rattle.jp_model.specs.Query.Syntax.{CompareOp, equal, not_equal, less, less_equal, greater, greater_equal, Segments, segment_list}
 use Rattle.jp_model.specs.Rows.{line_feed}
 use Rattle.jp_model.specs.Steps.{Step}
 use Rattle.jp_query.specs.Sound.{is_sound}
 use Rattle.jp_query.specs.View.{literal_view}
-use Rattle.jp_store.specs.Collections.{Collection}
+use Rattle.jp_store.specs.Collections.{Collection, statuses_in}
 use Rattle.jp_plan.specs.Behind.{segments_behind}
 use Rattle.jp_plan.specs.Passing.{guard_status, seek_status}
+use Rattle.jp_plan.specs.Planned.{Planned, lines_opened}
 use Rattle.jp_plan.specs.Routes.{IsRouteOf, steps_or_none}
 use Rattle.jp_plan.specs.declared.guard.Guard.{Guard as Guarding}
 use Rattle.jp_plan.specs.declared.route.Route.{Route}
@@ -86,6 +89,13 @@ numbers_counted p n (x ∷ xs) = pick (p x) (numbers_counted p (n + 1) xs) ∙ s
     pick : (b : Bool) → length (numbers_where p (n + 1) xs) ≡ count_by p xs → length (if b then n ∷ numbers_where p (n + 1) xs else numbers_where p (n + 1) xs) ≡ cond b 1 0 + count_by p xs
     pick true h = omega (arith, h)
     pick false h = omega (arith, h)
+
+-- a plan opens no more lines than there are
+pub few_opened : (plan : Planned) → length (lines_opened plan) ≤ length plan.over.state.lines
+few_opened plan =
+    let p = is_opened plan.query plan.over.state.paths in
+    let all : List LineStatus = statuses_in plan.over in
+    omega (arith, numbers_counted p 1 all, count_by-le-length p all, length-map plan.over.state.lines (status_of plan.over.framing))
 
 and_true : (b : Bool) → (b && true) ≡ b
 and_true true = refl

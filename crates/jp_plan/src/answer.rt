@@ -44,7 +44,7 @@ pub struct Answer<'s> {
     pub rows: Vec<Row<'s>>,
 }
 
-/// Puts a row of each node of a line behind others.
+/// Appends a row of each node of a line to others.
 fn push_cursors<'s>(
     line: u32,
     found: &[Cursor<'s>],
@@ -95,7 +95,7 @@ impl<'s> Plan<'s> {
         }
     }
 
-    /// Opens a line, and puts the rows of its nodes behind others. `found` lends its memory.
+    /// Opens a line, and appends the rows of its nodes to others. `found` lends its memory.
     fn push_nodes(
         &self,
         route: Route<'s>,
@@ -134,12 +134,12 @@ impl<'s> Plan<'s> {
         requires route { IsRouteOf route (plan_of self.now).query (plan_of self.now).over }
         requires program { program_view program.now ≡ segments_view route.rest.now }
         requires lines { lines.now ≡ lines_opened (plan_of self.now) }
-        requires few { length lines.now + 1 < 2 ^ 64 }
-        requires count { opened.old ≡ 0 }
+        requires room { opened.old + length lines.now < 2 ^ 64 }
         ensures rows { IfOk result (λ rows. rows_view rows.items ≡ rows_of (plan_of self.now)) }
         ensures lines { IfOk result (λ rows. AreOnTheirLines (plan_of self.now).over.state.lines rows.items) }
-        ensures count { OnOk result (opened.new ≡ length lines.now) }
-        ensures most { opened.new ≤ length lines.now }
+        ensures count { OnOk result (opened.new ≡ opened.old + length lines.now) }
+        ensures least { opened.old ≤ opened.new }
+        ensures most { opened.new ≤ opened.old + length lines.now }
     {
         let mut rows = Vec::new(self.alloc);
         let mut found = Vec::new(self.alloc);
@@ -161,17 +161,17 @@ impl<'s> Plan<'s> {
     }
 
     /// The rows of the query, line by line: those of the nodes that it selects, and those of the refused lines. It opens the
-    /// lines that the plan has to open and no other, and counts them.
+    /// lines that the plan has to open and no other, and adds their number to the count, which has room for it.
     ///
     /// # Errors
     ///
-    /// Memory ran out. Some lines may have been opened then, and no more than without that.
+    /// Memory ran out. Some lines may have been opened and counted then, and no more than without that.
     pub fn answer(&self, opened: &mut Opened) -> Result<Answer<'s>, AllocError>
-        requires { opened.old ≡ 0 }
+        requires { opened.old + length (lines_opened (plan_of self.now)) < 2 ^ 64 }
         ensures rows { IfOk result (λ answer. rows_view answer.rows.items ≡ rows_of (plan_of self.now)) }
         ensures lines { IfOk result (λ answer. AreOnTheirLines (plan_of self.now).over.state.lines answer.rows.items) }
-        ensures count { OnOk result (opened.new ≡ length (lines_opened (plan_of self.now))) }
-        ensures most { OnErr result (opened.new ≤ length (lines_opened (plan_of self.now))) }
+        ensures count { OnOk result (opened.new ≡ opened.old + length (lines_opened (plan_of self.now))) }
+        ensures most { OnErr result ((opened.old ≤ opened.new) × (opened.new ≤ opened.old + length (lines_opened (plan_of self.now)))) }
     {
         let route = find_route(self.query.segments(), self.store);
         let program = Program::compile(self.alloc, route.rest)?;

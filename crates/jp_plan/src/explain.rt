@@ -20,7 +20,7 @@ use jp_rows::push_steps;
 use jp_store::Store;
 use std::alloc::AllocError;
 
-/// Puts the line of a seek behind a text, if there is one.
+/// Appends the line of a seek to a text, if there is one.
 fn push_seek(store: &Store, seek: Option<u32>, out: &mut Vec<u8>) -> Result<(), AllocError>
     requires { IfSome seek (λ k. k < length store.now.state.paths) }
     ensures { OnOk result (out.new.items ≡ out.old.items ++ seek_text (steps_at store.now.state.paths seek)) }
@@ -33,7 +33,7 @@ fn push_seek(store: &Store, seek: Option<u32>, out: &mut Vec<u8>) -> Result<(), 
     out.extend_from_slice(b"\n")
 }
 
-/// Puts the line of a guard behind a text, if there is one.
+/// Appends the line of a guard to a text, if there is one.
 fn push_guard(store: &Store, guard: Option<Guard<'_>>, out: &mut Vec<u8>) -> Result<(), AllocError>
     requires within { IfSome guard (λ g. g.index < length store.now.state.paths) }
     requires sound { IfSome guard (λ g. is_sound (literal_view g.literal.now) ≡ true) }
@@ -51,7 +51,7 @@ fn push_guard(store: &Store, guard: Option<Guard<'_>>, out: &mut Vec<u8>) -> Res
     out.extend_from_slice(b"\n")
 }
 
-/// Puts the line that tells of neither a seek nor a guard behind a text, if there is neither.
+/// Appends to a text the line that says that there is neither a seek nor a guard, if so.
 fn push_scan(
     store: &Store,
     seek: Option<u32>,
@@ -71,7 +71,7 @@ fn push_scan(
     }
 }
 
-/// Puts the line behind a text that tells how many lines have to be opened, of how many that have a tree.
+/// Appends to a text the line that says how many lines have to be opened, of how many that have a tree.
 fn push_counts(opened: usize, trees: usize, out: &mut Vec<u8>) -> Result<(), AllocError>
     ensures { OnOk result (out.new.items ≡ out.old.items ++ told (codes "open " ++ decimal opened ++ codes " of " ++ decimal trees)) }
 {

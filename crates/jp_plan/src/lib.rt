@@ -1,18 +1,23 @@
 //! Plans of queries: which lines of a collection have to be opened, what the plan is in words, and the rows.
+//!
+//! Public calls:
+//!
+//! - `Plan::new`, `answer`, `Answer`, `Row`: a plan of a checked query over a store, and its rows, line by line; only lines
+//!   that have to be opened are opened
+//! - `Plan::explain`: the plan in words, and how many lines it opens
 #![tactic(auto)]
 
 mod answer;
 mod explain;
 mod guard;
 mod indexed;
+pub mod laws;
 mod lines;
 mod plan;
 mod route;
 mod seek;
 mod segments;
 mod singular;
-#[cfg(test)]
-mod tests;
 mod text;
 mod turn;
 

@@ -4,7 +4,7 @@ use jp_store::Store;
 use jp_types::Checked;
 use std::alloc::{AllocError, Global};
 
-/// A plan of a query: it tells which lines have to be opened, and where the evaluation begins in them. It borrows the query
+/// A plan of a query: it says which lines have to be opened, and where the evaluation begins in them. It borrows the query
 /// and the store, so that neither changes while it lives.
 #[derive(Drop)]
 pub struct Plan<'s> {

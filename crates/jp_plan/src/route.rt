@@ -20,12 +20,12 @@ use jp_store::Store;
 pub(crate) struct Route<'s> {
     /// The index whose path the query begins with.
     pub(crate) seek: Option<u32>,
-    /// The segments behind that path.
+    /// The segments after that path.
     pub(crate) rest: &'s [Segment],
     pub(crate) guard: Option<Guard<'s>>,
 }
 
-/// The segments behind the path of the index that is sought.
+/// The segments after the path of the index that is sought.
 fn behind_seek<'s>(store: &Store, seek: Option<u32>, segments: &'s [Segment]) -> &'s [Segment]
     requires within { IfSome seek (λ k. k < length store.now.state.paths) }
     requires seek { path_at store.now.state.paths seek ≡ seek_of store.now.state.paths (leading_steps (segments_view segments.now)) }

@@ -1,4 +1,4 @@
-//! The lines that tell the segments of a query.
+//! The lines that describe the segments of a query.
 
 ghost use Rattle.std.specs.Prelude.{◌≡◌, ◌++◌, OnOk, IfOk, MatchOption, [], None, Some, chars, is_some};
 ghost use Rattle.jp_model.specs.Plans.{segment_text, segments_text};
@@ -36,7 +36,7 @@ fn only_name(selectors: &[Selector]) -> Option<&str>
     }
 }
 
-/// Puts the line of a child segment that is not singular behind a text.
+/// Appends the line of a child segment that is not singular to a text.
 fn push_children(selectors: &[Selector], out: &mut Vec<u8>) -> Result<(), AllocError>
     ensures { OnOk result (out.new.items ≡ out.old.items ++ segment_text (child_segment (selectors_view selectors.now))) }
 {
@@ -45,7 +45,7 @@ fn push_children(selectors: &[Selector], out: &mut Vec<u8>) -> Result<(), AllocE
     out.extend_from_slice(b"\n")
 }
 
-/// Puts the line of a descendant segment behind a text.
+/// Appends the line of a descendant segment to a text.
 fn push_descendants(selectors: &[Selector], out: &mut Vec<u8>) -> Result<(), AllocError>
     ensures { OnOk result (out.new.items ≡ out.old.items ++ segment_text (descendant_segment (selectors_view selectors.now))) }
 {
@@ -63,7 +63,7 @@ fn push_descendants(selectors: &[Selector], out: &mut Vec<u8>) -> Result<(), All
     }
 }
 
-/// Puts the line of a segment that is not singular behind a text.
+/// Appends the line of a segment that is not singular to a text.
 fn push_segment(segment: &Segment, out: &mut Vec<u8>) -> Result<(), AllocError>
     ensures { OnOk result (out.new.items ≡ out.old.items ++ segment_text (segment_view segment.now)) }
 {
@@ -73,7 +73,7 @@ fn push_segment(segment: &Segment, out: &mut Vec<u8>) -> Result<(), AllocError>
     }
 }
 
-/// Puts the step of a selector behind a text, if it has one.
+/// Appends the step of a selector to a text, if it has one.
 fn push_step(selector: &Selector, out: &mut Vec<u8>) -> Result<(), AllocError>
     ensures { OnOk result (out.new.items ≡ out.old.items ++ option_step_text (selector_step (selector_view selector.now))) }
 {
@@ -84,8 +84,8 @@ fn push_step(selector: &Selector, out: &mut Vec<u8>) -> Result<(), AllocError>
     }
 }
 
-/// Puts what tells one segment behind a text, where a run of singular segments is open before it or not. It answers whether
-/// one is open behind it.
+/// Appends what tells one segment to a text, where a run of singular segments is open before it or not. It answers whether
+/// one is open after it.
 fn push_part(walks: bool, segment: &Segment, out: &mut Vec<u8>) -> Result<bool, AllocError>
     ensures walks { IfOk result (λ goes. goes ≡ is_some (singular_step (segment_view segment.now))) }
     ensures text { OnOk result (out.new.items ≡ out.old.items ++ part_text walks (segment_view segment.now)) }
@@ -108,7 +108,7 @@ fn push_part(walks: bool, segment: &Segment, out: &mut Vec<u8>) -> Result<bool, 
     }
 }
 
-/// Puts the lines of segments behind a text: each longest run of singular ones in one line.
+/// Appends the lines of segments to a text: each longest run of singular ones in one line.
 pub(crate) fn push_segments(segments: &[Segment], out: &mut Vec<u8>) -> Result<(), AllocError>
     ensures { OnOk result (out.new.items ≡ out.old.items ++ segments_text [] (segment_list (segments_view segments.now))) }
 {

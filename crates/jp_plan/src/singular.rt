@@ -31,7 +31,7 @@ fn takes(segment: &Segment, step: &Step) -> bool
     }
 }
 
-/// The segments behind the first ones, where these take the steps.
+/// The segments after the first ones, where these take the steps.
 pub(crate) fn behind<'q>(steps: &[Step], segments: &'q [Segment]) -> Option<&'q [Segment]>
     ensures { rest_view result ≡ segments_behind (map step_view steps.now) (segments_view segments.now) }
 {

@@ -10,7 +10,7 @@ use jp_query::{CompareOp, Literal};
 use jp_rows::push_quoted;
 use std::alloc::AllocError;
 
-/// Puts a number in decimal behind a text.
+/// Appends a number in decimal to a text.
 pub(crate) fn push_decimal(number: usize, out: &mut Vec<u8>) -> Result<(), AllocError>
     ensures { OnOk result (out.new.items ≡ out.old.items ++ encode_utf8_all (decimal number)) }
 {
@@ -32,7 +32,7 @@ pub(crate) fn op_text(op: CompareOp) -> &'static [u8]
     }
 }
 
-/// Puts a literal behind a text: a number as the query spells it, and a string between single quotes.
+/// Appends a literal to a text: a number as the query spells it, and a string between single quotes.
 pub(crate) fn push_literal(literal: &Literal, out: &mut Vec<u8>) -> Result<(), AllocError>
     requires { is_sound (literal_view literal.now) ≡ true }
     ensures { OnOk result (out.new.items ≡ out.old.items ++ encode_utf8_all (literal_text (literal_view literal.now))) }

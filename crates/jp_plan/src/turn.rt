@@ -3,7 +3,7 @@
 ghost use Rattle.std.specs.Prelude.{◌≡◌, [], drop, MatchOption};
 ghost use Rattle.jp_plan.specs.Turns.{IsNext};
 
-/// The line that is told next.
+/// The line that comes next.
 #[derive(Clone, Copy)]
 pub(crate) enum Turn {
     /// It is opened.
@@ -34,7 +34,7 @@ pub(crate) fn next_turn(opened: &[u32], refused: &[u32]) -> Option<Turn>
     }
 }
 
-/// The list behind its first line.
+/// The list after its first line.
 pub(crate) fn behind_first(list: &[u32]) -> &[u32]
     ensures { result.now ≡ drop 1 list.now }
 {

@@ -1,4 +1,12 @@
 //! The syntax tree of a JSONPath query, and its reader (RFC 9535).
+//!
+//! Public calls:
+//!
+//! - `parse`, `ParseFault`, `Query`: the syntax tree of a text, or its first fault
+//! - `Segment`, `Selector`, `Logical`, `Comparable`, `Argument`, `Path`, `Call`, `Origin`, `Literal`, `CompareOp`: the syntax
+//!   tree
+//! - `singular`, `is_singular`, `SingularPath`, `Step`: the steps of a singular query, if it is one; `singular_selector` of a
+//!   segment
 #![tactic(auto)]
 
 mod fault;

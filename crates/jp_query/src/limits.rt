@@ -12,10 +12,10 @@ use crate::tree::{Argument, Call, Comparable, Literal, Logical, Path, Segment, S
 /// The greatest exact integer (RFC 7493, section 2.2).
 const MAX_EXACT: i64 = 9_007_199_254_740_991;
 
-/// The digits that an exponent has at most, behind its leading zeros.
+/// The digits that an exponent has at most, after its leading zeros.
 const MAX_EXPONENT_DIGITS: usize = 15;
 
-/// How many digits stand in front.
+/// How many digits there are at the front.
 fn digit_count(text: &[u8]) -> usize
     ensures count { result ≡ length (leading_digits text.now) }
     ensures within { result ≤ length text.now }
@@ -28,14 +28,14 @@ fn digit_count(text: &[u8]) -> usize
     text.len()
 }
 
-/// Behind the digits in front.
+/// After the digits in front.
 fn behind_digits(text: &[u8]) -> &[u8]
     ensures { result.now ≡ drop (length (leading_digits text.now)) text.now }
 {
     &text[digit_count(text)..]
 }
 
-/// Behind a minus, where it stands in front.
+/// After a minus, if it is at the front.
 fn behind_minus(text: &[u8]) -> &[u8]
     ensures { result.now ≡ drop (length (minus_bytes (head_of text.now == 0x2D))) text.now }
 {
@@ -45,7 +45,7 @@ fn behind_minus(text: &[u8]) -> &[u8]
     }
 }
 
-/// Behind a point in front and its digits, where it has some.
+/// After a point in front and its digits, where it has some.
 fn behind_fraction(text: &[u8]) -> &[u8]
     ensures { result.now ≡ drop (length (fraction_bytes (leading_fraction text.now))) text.now }
 {
@@ -55,7 +55,7 @@ fn behind_fraction(text: &[u8]) -> &[u8]
     }
 }
 
-/// Behind a sign, where it stands in front.
+/// After a sign, if it is at the front.
 fn behind_sign(text: &[u8]) -> &[u8]
     ensures { result.now ≡ behind_sign (leading_sign text.now) text.now }
 {
@@ -65,7 +65,7 @@ fn behind_sign(text: &[u8]) -> &[u8]
     }
 }
 
-/// Behind the zeros in front.
+/// After the zeros in front.
 fn behind_zeros(text: &[u8]) -> &[u8]
     ensures { result.now ≡ without_leading_zeros text.now }
 {
@@ -76,7 +76,7 @@ fn behind_zeros(text: &[u8]) -> &[u8]
     rest
 }
 
-/// Whether an exponent part stands in front that has too many digits behind its leading zeros.
+/// Whether an exponent part is at the front that has too many digits after its leading zeros.
 fn begins_with_long_exponent(text: &[u8]) -> bool
     ensures { result ≡ nat_lt 15 (length (exponent_digits (leading_exponent text.now))) }
 {
@@ -88,7 +88,7 @@ fn begins_with_long_exponent(text: &[u8]) -> bool
     }
 }
 
-/// Whether the exponent of a number has too many digits behind its leading zeros.
+/// Whether the exponent of a number has too many digits after its leading zeros.
 fn is_long_exponent(number: &[u8]) -> bool
     ensures { result ≡ is_long_exponent (numeral_of number.now) }
 {

@@ -127,8 +127,8 @@ fn answer(alloc: Global, text: &[u8]) -> Result<Query, ParseFault>
 /// # Errors
 ///
 /// `Refused` with the first fault of the text: `Size` where it has more than 65,535 bytes, or more than 512 bytes `(` or
-/// `[` together; `Syntax` where it is not UTF-8 or no query; `Integer` where an integer of a selector is not exact; and
-/// `Number` where the exponent of a number is too long. `Memory` where memory ran out.
+/// `[` together; `Syntax` where it is not UTF-8 or no query; `Integer` if an integer of a selector is not exact; and
+/// `Number` if the exponent of a number is too long. `Memory` where memory ran out.
 pub fn parse(alloc: Global, text: &[u8]) -> Result<Query, ParseFault>
     // What is found is spelled so.
     ensures found { IfOk result (λ q. IsFalse (is_oversized text.now) × TextSpells text.now (query_view q)) }

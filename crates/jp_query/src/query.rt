@@ -24,7 +24,7 @@ impl Query {
         Query { segments }
     }
 
-    /// The segments behind `$`, in order.
+    /// The segments after `$`, in order.
     pub fn segments(&self) -> &[Segment]
         ensures value { segments_view result.now ≡ query_view self.now }
         ensures well_formed { ∥ IsWellFormed (query_view self.now) ∥₁ }

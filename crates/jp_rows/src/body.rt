@@ -53,7 +53,7 @@ fn ends_block(part: Span, end: usize) -> bool
 
 /// Puts a part of a line, if there is room.
 ///
-/// Most parts are short, and stand behind some bytes of their line: with those they are one block.
+/// Most parts are short, and follow some bytes of their line: with those they are one block.
 #[inline(always)]
 pub(crate) fn put_part(line: &[u8], part: Span, room: &mut [u8; ROOM], end: usize) -> Option<usize>
     requires order { part.start ≤ part.end }

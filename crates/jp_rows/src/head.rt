@@ -1,4 +1,4 @@
-//! What stands before a node's bytes in its row.
+//! What comes before a node's bytes in its row.
 //!
 //! Where it is short it is put together first, since a write costs more than the few bytes of a step. A path is known from
 //! its last step to its first, so it is put together from its end.

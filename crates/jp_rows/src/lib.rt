@@ -1,4 +1,14 @@
 //! The rows of an answer, written to a watched writer.
+//!
+//! Public calls:
+//!
+//! - `write_whole`, `WriteFault`: bytes, in as many writes as they need
+//! - `write_path`, `write_node`, `write_refusal`: a normalized path; the row of a node; the row of a refused line
+//! - `is_short`, `write_short_node`: whether at most 128 bytes spell a node; the row of one that is known to be short
+//! - `write_steps`, `push_steps`: the path of an index; the same appended to a text
+//! - `push_name_step`, `push_index_step`, `push_quoted`: a step of a path; a name or string between single quotes
+//! - `write_count`, `write_numbered`, `write_summary`: the line `= n` that ends an answer; a line of words and a number; the
+//!   line that ends `check`
 #![tactic(auto)]
 
 mod body;

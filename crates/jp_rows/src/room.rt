@@ -1,4 +1,4 @@
-//! A short text that is put together from its end, so that what stands behind it needs no room of its own.
+//! A short text that is put together from its end, so that what follows it needs no room of its own.
 
 ghost use Rattle.std.specs.Prelude.{◌≡◌, ◌≤◌, ◌+◌, ◌++◌, length, drop, decimal};
 ghost use Rattle.jp_rows.specs.Rooms.{PutsBefore};
@@ -9,7 +9,7 @@ pub(crate) const ROOM: usize = 256;
 /// The longest number of 32 bits.
 const DIGITS: usize = 10;
 
-/// Puts these bytes before those that stand from `end` on, and returns where they begin.
+/// Puts these bytes before those that are from `end` on, and returns where they begin.
 #[inline(always)]
 pub(crate) fn place(text: &[u8], room: &mut [u8; ROOM], end: usize) -> usize
     requires fits { length text.now ≤ end }
@@ -22,7 +22,7 @@ pub(crate) fn place(text: &[u8], room: &mut [u8; ROOM], end: usize) -> usize
     at
 }
 
-/// Puts these bytes before those that stand from `end` on, and returns where they begin, if there is room.
+/// Puts these bytes before those that are from `end` on, and returns where they begin, if there is room.
 #[inline(always)]
 pub(crate) fn put(text: &[u8], room: &mut [u8; ROOM], end: usize) -> Option<usize>
     requires { end ≤ 256 }
@@ -34,7 +34,7 @@ pub(crate) fn put(text: &[u8], room: &mut [u8; ROOM], end: usize) -> Option<usiz
     Some(place(text, room, end))
 }
 
-/// Puts a number before the bytes that stand from `end` on, and returns where it begins, if any number had room.
+/// Puts a number before the bytes that are from `end` on, and returns where it begins, if any number had room.
 #[inline(always)]
 pub(crate) fn put_number(number: u32, room: &mut [u8; ROOM], end: usize) -> Option<usize>
     requires { end ≤ 256 }

@@ -38,7 +38,7 @@ fn write_start<W: Write>(
     write_whole(b"\t", out)
 }
 
-/// Writes what stands before the bytes of a node in its row: put together, where that is short, or piece by piece.
+/// Writes what comes before the bytes of a node in its row: put together, where that is short, or piece by piece.
 fn write_head<W: Write>(
     line: u32,
     cursor: Cursor<'_>,

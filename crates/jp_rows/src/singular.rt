@@ -1,4 +1,4 @@
-//! The paths of indexes: written, and put behind a text.
+//! The paths of indexes: written, and appended to a text.
 
 ghost use Rattle.std.specs.Prelude.{◌≡◌, ◌++◌, chars, false, is_err, encode_utf8_all, take, IsOk, IsErr, OnOk, OnErr};
 ghost use Rattle.jp_model.specs.Devices.{Writes};
@@ -15,7 +15,7 @@ use std::alloc::AllocError;
 use std::io::Write;
 use std::mem;
 
-/// Writes what stands between the quotes of a name or a string.
+/// Writes what is between the quotes of a name or a string.
 fn write_scalars<W: Write>(text: &str, out: &mut Watched<W>) -> Result<(), WriteFault>
     requires { out.old.failed ≡ false }
     ensures text { Writes W.contents out.old out.new result (name_text (chars text.now)) }
@@ -81,7 +81,7 @@ pub fn write_steps<W: Write>(path: &SingularPath, out: &mut Watched<W>) -> Resul
     Ok(())
 }
 
-/// Takes back what was written behind the first bytes of a text, where not all could be written.
+/// Removes what was written after the first bytes of a text, where not all could be written.
 fn settle(held: usize, written: Result<(), WriteFault>, out: &mut Vec<u8>) -> Result<(), AllocError>
     ensures ok { OnOk result (IsOk written × (out.new.items ≡ out.old.items)) }
     ensures err { OnErr result (IsErr written × (out.new.items ≡ take held out.old.items)) }
@@ -93,7 +93,7 @@ fn settle(held: usize, written: Result<(), WriteFault>, out: &mut Vec<u8>) -> Re
     Err(AllocError)
 }
 
-/// Puts behind a text what `write_steps` writes.
+/// Appends to a text what `write_steps` writes.
 ///
 /// # Errors
 ///
@@ -109,7 +109,7 @@ pub fn push_steps(path: &SingularPath, out: &mut Vec<u8>) -> Result<(), AllocErr
     settle(held, written, out)
 }
 
-/// Puts a name or a string between single quotes behind a text (RFC 9535, section 2.7: normal-name-selector).
+/// Appends a name or a string between single quotes to a text (RFC 9535, section 2.7: normal-name-selector).
 ///
 /// # Errors
 ///
@@ -125,7 +125,7 @@ pub fn push_quoted(text: &str, out: &mut Vec<u8>) -> Result<(), AllocError>
     settle(held, written, out)
 }
 
-/// Puts the step to the member of a name behind a text, as a normalized path has it (RFC 9535, section 2.7).
+/// Appends the step to the member of a name to a text, as a normalized path has it (RFC 9535, section 2.7).
 ///
 /// # Errors
 ///
@@ -141,7 +141,7 @@ pub fn push_name_step(name: &str, out: &mut Vec<u8>) -> Result<(), AllocError>
     settle(held, written, out)
 }
 
-/// Puts the step to the element of an index behind a text, as a normalized path has it (RFC 9535, section 2.7). Below 0 it
+/// Appends the step to the element of an index to a text, as a normalized path has it (RFC 9535, section 2.7). Below 0 it
 /// counts from the end.
 ///
 /// # Errors

@@ -9,7 +9,7 @@ use itoa::Buffer;
 use jp_model::Watched;
 use std::io::Write;
 
-/// Writes some words and a number behind them.
+/// Writes some words and a number after them.
 fn write_counted<W: Write>(
     words: &[u8],
     count: usize,
@@ -25,7 +25,7 @@ fn write_counted<W: Write>(
     write_whole(digits.format(count).as_bytes(), out)
 }
 
-/// Writes a line of some words and a number behind them, in decimal.
+/// Writes a line of some words and a number after them, in decimal.
 ///
 /// After an `Err` the writer received a beginning of the line: no write follows one that failed or took no byte.
 pub fn write_numbered<W: Write>(
@@ -42,7 +42,7 @@ pub fn write_numbered<W: Write>(
     write_whole(b"\n", out)
 }
 
-/// Writes the line that ends what is told of a whole collection: how many lines it has, how many of them are refused, and
+/// Writes the line that sums up a whole collection: how many lines it has, how many of them are refused, and
 /// how many are blank (profile).
 ///
 /// After an `Err` the writer received a beginning of the line: no write follows one that failed or took no byte.

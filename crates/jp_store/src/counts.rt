@@ -18,7 +18,7 @@ pub(crate) struct Counts {
     pub(crate) refused: Vec<u32>,
 }
 
-/// Puts a number among ascending ones, or takes it out. It takes no memory.
+/// Puts a number among ascending ones, or takes it out. It allocates nothing.
 fn set_number(numbers: &mut Vec<u32>, number: u32, is_in: bool)
     requires rising { AreRising numbers.old.items }
     requires room { vec_len numbers.old < vec_capacity numbers.old }

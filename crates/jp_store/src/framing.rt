@@ -17,7 +17,7 @@ pub(crate) fn separator(framing: Framing) -> u8
     }
 }
 
-/// Whether only white space stands before the first record separator of a sequence.
+/// Whether only white space comes before the first record separator of a sequence.
 pub(crate) fn is_framed_text(framing: Framing, bytes: &[u8]) -> bool
     ensures { result ≡ is_framed framing bytes.now }
 {

@@ -1,4 +1,14 @@
 //! A collection in memory: its lines, their tapes, and the indexes over them.
+//!
+//! Public calls:
+//!
+//! - `Store::load`, `LoadFault`: the lines of a collection, each with its status and tape, and no index
+//! - `line_count`, `tree_count`, `line_status`, `Status`, `refused_lines`: how many lines there are, and how many with a
+//!   tree; what line n is, from 1; the numbers of the refused lines, ascending
+//! - `meter`, `Opened::count`, `view`, `LineView`: a count at 0; line n with its tape, which adds one to the count
+//! - `add_index`, `IndexFault`, `drop_index`, `Missing`, `index_count`, `index`: the indexes, in the order in which they were
+//!   made
+//! - `append`, `replace`, `EditFault`: a line added at the end, or put in the place of line n, in the text and in every index
 #![tactic(auto)]
 
 mod collection;
@@ -11,8 +21,6 @@ mod loading;
 mod measuring;
 mod reading;
 mod store;
-#[cfg(test)]
-mod tests;
 mod text;
 mod view;
 
@@ -39,7 +47,7 @@ pub enum LoadFault {
     Read = 1,
     /// It has more bytes than it may.
     Size = 2,
-    /// Bytes other than white space stand before the first separator of a sequence.
+    /// Bytes other than white space come before the first separator of a sequence.
     Framing = 3,
     /// A growth was refused.
     Memory = 4,

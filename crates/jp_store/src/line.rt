@@ -5,7 +5,7 @@ ghost use Rattle.std.specs.Prelude.{◌≡◌};
 use jp_model::{LineFault, Span};
 use jp_tape::Tape;
 
-/// Where the bytes of a line stand.
+/// Where the bytes of a line are.
 #[derive(Drop)]
 pub(crate) enum LineText {
     /// Among the bytes that were loaded.

@@ -16,12 +16,12 @@ use jp_tape::Builder;
 use memchr::memchr;
 use std::alloc::{AllocError, Global};
 
-/// How many bytes of a collection are scanned at once, where no line goes on behind them.
+/// How many bytes of a collection are scanned at once, where no line goes on after them.
 const PIECE: usize = 1 << 16;
 
 const BYTE_ORDER_MARK: &[u8] = b"\xEF\xBB\xBF";
 
-/// Where the lines begin: behind a byte order mark at the front, or at the first byte (RFC 8259, section 8.1).
+/// Where the lines begin: after a byte order mark at the front, or at the first byte (RFC 8259, section 8.1).
 pub(crate) fn lines_start(bytes: &[u8]) -> usize
     ensures within { result ≤ length bytes.now }
     ensures rest { drop result bytes.now ≡ without_mark bytes.now }
@@ -33,7 +33,7 @@ pub(crate) fn lines_start(bytes: &[u8]) -> usize
     }
 }
 
-/// How many bytes at the front are scanned at once: a piece, and what is left of its last line. A cut stands behind a line
+/// How many bytes at the front are scanned at once: a piece, and what is left of its last line. A cut follows a line
 /// feed, or in front of a record separator.
 fn front_length(framing: Framing, text: &[u8]) -> usize
     ensures within { result ≤ length text.now }
@@ -64,7 +64,7 @@ fn scan(framing: Framing, text: &[u8], marks: &mut Marks) -> Result<(), AllocErr
     Ok(())
 }
 
-/// The line that stands at an index, from 0, of a piece of the bytes. The builder lends its memory.
+/// The line that is at an index, from 0, of a piece of the bytes. The builder lends its memory.
 fn read_line<'a>(
     alloc: Global,
     builder: &mut Builder<'a>,
@@ -98,7 +98,7 @@ fn read_line<'a>(
     })
 }
 
-/// Puts the lines of a piece of the bytes, each read, behind others. `marks` lends its memory.
+/// Appends the lines of a piece of the bytes, each read, to others. `marks` lends its memory.
 fn read_piece(
     alloc: Global,
     framing: Framing,

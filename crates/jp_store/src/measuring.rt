@@ -10,7 +10,7 @@ use crate::line::{Line, LineKind};
 use crate::text::text_of;
 use std::alloc::{AllocError, Global};
 
-/// Counts a line of some bytes, with one more for its separator, behind the others.
+/// Counts a line of some bytes, with one more for its separator, after the others.
 fn count_line(counts: &mut Counts, number: u32, size: usize, line: &Line) -> Result<(), AllocError>
     requires held { counts.old.held + (size + 1) < 2 ^ 64 }
     requires trees { counts.old.trees + 1 < 2 ^ 32 }

@@ -67,8 +67,9 @@ impl Store {
     ///
     /// # Errors
     ///
-    /// `Read` where a read failed, `Size` where byte number `most` + 1 came, whichever is first; `Framing` where bytes other
-    /// than white space stand before the first separator of a sequence; `Memory` where a growth was refused.
+    /// `Read` if a read failed, `Size` if byte number `most` + 1 came, whichever is first; `Framing` if bytes other
+    /// than white space come before the first separator of a sequence; `Memory` if a growth was refused, of a collection
+    /// that is within the limit and, where it came to its end, framed.
     pub fn load<R: Read>(
         alloc: Global,
         framing: Framing,
@@ -177,7 +178,7 @@ impl Store {
     ///
     /// # Errors
     ///
-    /// `Exists` where there is an index of this path, `Limit` where there are sixteen, `Memory` where a growth was refused.
+    /// `Exists` if there is an index of this path, `Limit` if there are sixteen, `Memory` if a growth was refused.
     pub fn add_index(&mut self, path: SingularPath) -> Result<u32, IndexFault>
         ensures { MatchResult result
             (λ count. (index_fault (path_steps path) self.old ≡ None) × (self.new ≡ with_index (path_steps path) self.old)
@@ -201,11 +202,11 @@ impl Store {
         Ok(count)
     }
 
-    /// Takes the index of a path away. The others keep their order.
+    /// Deletes the index of a path. The others keep their order.
     ///
     /// # Errors
     ///
-    /// `Missing` where there is none.
+    /// `Missing` if there is none.
     pub fn drop_index(&mut self, path: &SingularPath) -> Result<(), Missing>
         ensures there { is_ok result ≡ has_path (path_steps path.now) self.old.state.paths }
         ensures rest { self.new ≡ without_index (path_steps path.now) self.old }
@@ -230,11 +231,11 @@ impl Store {
         &self.indexes[k as usize]
     }
 
-    /// Puts a line behind the others, as it is, and answers its number.
+    /// Adds a line after the others, as it is, and answers its number.
     ///
     /// # Errors
     ///
-    /// `Size` where the lines would be too large, `Separator` where the text holds the byte that separates lines, `Memory`
+    /// `Size` if the lines would be too large, `Separator` if the text holds the byte that separates lines, `Memory`
     /// where a growth was refused.
     pub fn append(&mut self, text: &[u8]) -> Result<u32, EditFault>
         ensures { MatchResult result
@@ -269,7 +270,7 @@ impl Store {
     ///
     /// # Errors
     ///
-    /// `NoLine` where there is no such line, else as `append`.
+    /// `NoLine` if there is no such line, else as `append`.
     pub fn replace(&mut self, n: u32, text: &[u8]) -> Result<(), EditFault>
         ensures { MatchResult result
             (λ _. (replace_fault n text.now self.old ≡ None) × (self.new ≡ with_lines (replaced n text.now self.old) self.old))

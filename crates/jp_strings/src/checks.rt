@@ -30,7 +30,7 @@ struct Halves {
 impl Halves {
     ghost use Rattle.jp_strings.specs.Halves.{alone_behind};
 
-    // What was seen behind one more unit.
+    // What was seen after one more unit.
     fn with_unit(self, unit: u32) -> Self
         ensures { (units : List ℕ) → alone_behind self (unit ∷ units) ≡ alone_behind result units }
     {
@@ -47,7 +47,7 @@ impl Halves {
         self.is_lone || self.after_high
     }
 
-    // What was seen behind characters that are no halves.
+    // What was seen after characters that are not halves.
     fn with_scalars(self) -> Self
         ensures high { result.after_high ≡ false }
         ensures first { (unit : ℕ) (units : List ℕ) → is_surrogate unit ≡ false
@@ -60,7 +60,7 @@ impl Halves {
     }
 }
 
-// One escape, or all characters up to the next one: the place behind them, and what was seen then.
+// One escape, or all characters up to the next one: the place after them, and what was seen then.
 fn advance(body: &[u8], at: usize, seen: Halves) -> Option<(usize, Halves)>
     requires inside { at < length body.now }
     requires utf8 { IsUtf8 (drop at body.now) }
@@ -78,9 +78,9 @@ fn advance(body: &[u8], at: usize, seen: Halves) -> Option<(usize, Halves)>
     Some((end, seen.with_scalars()))
 }
 
-/// Tells whether bytes are a body (RFC 8259, section 7), and one in which no half of a surrogate
-/// pair stands alone (profile; section 8.2). Where they are no body the fault is `Shape`, and else
-/// `Surrogate` where such a half stands in it.
+/// Reports whether bytes are a body (RFC 8259, section 7), and one in which no half of a surrogate
+/// pair stands alone (profile; section 8.2). Where they are not a body the fault is `Shape`, and else
+/// `Surrogate` where such a half is in it.
 pub fn test_body(body: &[u8]) -> Result<(), StringFault>
     ensures { MatchResult result (λ _. IsText body.now) (HasFault body.now) }
 {
@@ -90,7 +90,7 @@ pub fn test_body(body: &[u8]) -> Result<(), StringFault>
     test_utf8_body(body)
 }
 
-/// Tells the same as `test_body` of bytes that are known to be UTF-8 (RFC 8259, sections 7 and 8.1),
+/// Answers as `test_body` does, of bytes that are known to be UTF-8 (RFC 8259, sections 7 and 8.1),
 /// as those of a body within a line of UTF-8 are: it looks at characters and escapes alone.
 pub fn test_utf8_body(body: &[u8]) -> Result<(), StringFault>
     requires { IsUtf8 body.now }

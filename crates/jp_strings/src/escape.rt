@@ -50,7 +50,7 @@ fn short_escape(letter: u8) -> Option<u32>
     }
 }
 
-// The unit that an escape stands for, and the place behind it.
+// The unit that an escape stands for, and the place after it.
 #[inline(always)]
 pub(crate) fn read_escape(body: &[u8], at: usize) -> Option<(u32, usize)>
     requires { byte_at body.now at ≡ 0x5C }

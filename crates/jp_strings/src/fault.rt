@@ -1,9 +1,9 @@
-//! Why bytes are no text of a string.
+//! Why bytes are not the body of a string.
 
-/// Why bytes are no text of a string.
+/// Why bytes are not the body of a string.
 #[derive(Clone, Copy, Debug, PartialEq, Eq)]
 pub enum StringFault {
-    /// They are no body.
+    /// They are not a body.
     Shape,
     /// They are a body, and half of a surrogate pair stands alone in it (RFC 8259, section 8.2).
     Surrogate,

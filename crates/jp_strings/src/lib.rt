@@ -1,5 +1,15 @@
-//! The strings of JSON texts (RFC 8259, section 7), read where they stand. A body is what stands
-//! between a string's quotes.
+//! The strings of JSON texts (RFC 8259, section 7), read where they are. A body is what is between a string's quotes.
+//!
+//! Public calls:
+//!
+//! - `test_body`, `test_utf8_body`: whether bytes are the body of a string, or the fault; the second for bytes known to be
+//!   UTF-8
+//! - `Scalars`, `scalar_count`, `equal`, `compare`, `unescape`: the scalars that a body spells; their number, equality, order
+//!   and text
+//! - `plain_text`: that text without a copy, of a body with no escape
+//! - `spells`, `compare_text`: whether a body spells a text; their order
+//! - `is_plain`, `spells_known`: whether each byte of a text stands for itself; `spells` for a text of which that may be
+//!   known
 #![tactic(auto)]
 
 mod checks;

@@ -179,7 +179,7 @@ fn char_count(text: &[u8]) -> usize
         .count()
 }
 
-// All scalars up to the next escape, or the one that it stands for: how many, and the place behind.
+// All scalars up to the next escape, or the one that it stands for: how many, and the place after it.
 fn count_some(body: &[u8], at: usize) -> (usize, usize)
     requires inside { at < length body.now }
     requires text { IsTrue (is_text_from body.now at) }

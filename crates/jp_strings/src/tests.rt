@@ -3,7 +3,7 @@ use std::alloc::{AllocError, Global};
 use std::cmp::Ordering;
 use std::test::Fail;
 
-// A body of `size` letters with an escape behind the first `place`.
+// A body of `size` letters with an escape after the first `place`.
 fn body_with(
     alloc: Global,
     size: usize,

@@ -1,4 +1,4 @@
-//! The builder of a tape: it reads a line once, and tells its first fault.
+//! The builder of a tape: it reads a line once, and reports its first fault.
 
 ghost use Rattle.std.specs.Prelude.{◌≡◌, ◌<◌, ◌↔◌, ◌^◌, false, length, map, IfOk, IfErr, IsTrue, IsUtf8};
 ghost use Rattle.std.specs.Box.{boxed_slice_items};
@@ -34,7 +34,7 @@ use std::boxed::BoxedSlice;
 pub enum BuildFault {
     /// The line's first fault.
     Line(LineFault),
-    /// There is no memory left.
+    /// Out of memory.
     Memory,
 }
 
@@ -77,7 +77,7 @@ fn fault_of(builder: &Builder<'_>, line: &[u8], framing: Framing) -> Option<Line
 /// The halves of all words of a line have at most 10 bits where its bytes are fewer than this.
 const COMPACT: usize = 1 << 10;
 
-/// The words of a node in 64 bits: the halves of the second stand 10 bits above those of the first, and those of the third
+/// The words of a node in 64 bits: the halves of the second are 10 bits above those of the first, and those of the third
 /// 10 more.
 #[inline(always)]
 #[tactic(auto, unfolding(crate::specs::Forms::packed_node))]
@@ -143,7 +143,7 @@ impl<'a> Builder<'a> {
         Ok(Words::Wide(words.into_boxed_slice()))
     }
 
-    /// The tape of a line, or the line's first fault, as the function `build` tells them. The tape has memory of its own, and
+    /// The tape of a line, or the line's first fault, as the function `build` gives them. The tape has memory of its own, and
     /// that of a short line no more than its words need; the walk over the line has the memory of the lines before, which it
     /// forgets.
     pub fn build(
@@ -179,12 +179,12 @@ impl<'a> Builder<'a> {
 
 /// The tape of a line (RFC 8259, sections 2 to 8), or the line's first fault.
 ///
-/// `marks` are the places of the line's marks, as `jp_masks` finds them, and `is_utf8` is whether the line is UTF-8. The faults are told in this order: `Utf8`; `Grammar`, where the line is no
-/// JSON text; `Truncated`, where a text of a sequence may have lost its end (RFC 7464, section 2.4); `Depth`, where
-/// arrays and objects nest deeper than 512; `Surrogate`, where half of a pair stands alone; `Number`, where an exponent
-/// has more than 15 digits behind its leading zeros; and `Duplicate`, where an object has two equal names (profile). The
-/// line is walked over once, however deep it nests, behind one look for escapes, and equal names are found by a sort of each
-/// object's names.
+/// `marks` are the places of the line's marks, as `jp_masks` finds them, and `is_utf8` is whether the line is UTF-8. The
+/// faults are reported in this order: `Utf8`; `Grammar` if the line is not valid JSON; `Truncated` if a text of a
+/// sequence may have lost its end (RFC 7464, section 2.4); `Depth`, where arrays and objects nest deeper than 512;
+/// `Surrogate`, where half of a pair stands alone; `Number` if an exponent has more than 15 digits after its leading
+/// zeros; and `Duplicate` if an object has two equal names (profile). The line is walked over once, however deep it
+/// nests, after one look for escapes, and equal names are found by a sort of each object's names.
 pub fn build(
     alloc: Global,
     line: &[u8],

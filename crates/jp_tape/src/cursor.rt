@@ -151,7 +151,7 @@ impl<'a> Cursor<'a> {
         kind_of_head(self.head())
     }
 
-    /// Where the node's value stands: bytes of the line, from 0.
+    /// Where the node's value is: bytes of the line, from 0.
     #[inline(always)]
     pub fn span(self) -> Span
         ensures value { result ≡ span_of (node_of self.entry).tree }
@@ -189,7 +189,7 @@ impl<'a> Cursor<'a> {
         }
     }
 
-    /// The element or member behind this one, in the order of the line: the node behind its subtree, where that has the same
+    /// The element or member after this one, in the order of the line: the node after its subtree, where that has the same
     /// parent.
     #[inline(always)]
     pub fn next_sibling(self) -> Option<Cursor<'a>>
@@ -210,7 +210,7 @@ impl<'a> Cursor<'a> {
         }
     }
 
-    /// Where the body of a member's name stands, without its quotes: bytes of the line, from 0. The root and elements
+    /// Where the body of a member's name is, without its quotes: bytes of the line, from 0. The root and elements
     /// have none (RFC 8259, section 4).
     pub fn name_span(self) -> Option<Span>
         ensures body { result ≡ option_map (λ n. n.body) (name_of self.entry) }
@@ -313,7 +313,7 @@ impl<'a> Cursor<'a> {
         count
     }
 
-    /// The place behind the node's subtree.
+    /// The place after the node's subtree.
     #[inline(always)]
     pub fn after(self) -> u32
         ensures value { result ≡ place_of self.entry + length (subtree (node_of self.entry)) }
@@ -323,7 +323,7 @@ impl<'a> Cursor<'a> {
         self.below() + self.place() + 1
     }
 
-    /// How many nodes stand below the node.
+    /// How many nodes are below the node.
     #[inline(always)]
     fn below(self) -> u32
         ensures { result ≡ nodes_below (value_of (node_of self.entry).tree) }
@@ -349,7 +349,7 @@ impl<'a> Cursor<'a> {
         self.tape.head(self.place as usize)
     }
 
-    /// The second word: where the value stands.
+    /// The second word: where the value is.
     #[inline(always)]
     fn body(self) -> Word
         ensures { joined result ≡ span_word (span_of (node_of self.entry).tree) }
@@ -357,7 +357,7 @@ impl<'a> Cursor<'a> {
         self.tape.span(self.place as usize)
     }
 
-    /// The third word: where the body of the name stands, or the index of a node that has no name.
+    /// The third word: where the body of the name is, or the index of a node that has no name.
     #[inline(always)]
     fn label(self) -> Word
         ensures word { joined result ≡ label_word (index_of self.entry) (name_of self.entry) }

@@ -1,4 +1,12 @@
 //! The tape of a line: its nodes in packed words, and a cursor that walks them.
+//!
+//! Public calls:
+//!
+//! - `build`, `BuildFault`, `Tape`: the tape of a line's tree, or the line's first fault
+//! - `Builder`: the same for line after line, with memory that is lent from one to the next
+//! - `Cursor`: a node of a tape. `root`, `at`, `go_to`, `top` are cursors at the root or at a place; `first_child`,
+//!   `next_sibling`, `parent`, `after`, `place`, `index`, `child_count` the way through the tree; `kind`, `span`, `source`,
+//!   `line`, `name_span`, `name`, `text`, `number` what the node is and where
 #![tactic(auto)]
 
 mod builder;

@@ -13,9 +13,9 @@ use std::marker::Model;
 /// The words of a tape in memory.
 #[derive(Drop)]
 pub(crate) enum Words {
-    /// Each half of each word has at most 10 bits, and the three words of a node stand in 64.
+    /// Each half of each word has at most 10 bits, and the three words of a node are in 64.
     Compact(BoxedSlice<u64>),
-    /// Both halves of each word have at most 16 bits, and stand in 32.
+    /// Both halves of each word have at most 16 bits, and are in 32.
     Narrow(BoxedSlice<u32>),
     Wide(BoxedSlice<u64>),
 }

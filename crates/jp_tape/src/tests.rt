@@ -334,7 +334,7 @@ fn a_root_is_described(rt: HostRuntime) -> Result<(), Fail> {
     Ok(())
 }
 
-/// Of each child of a node, in order: its kind, its place, the place behind it, and how many children it has.
+/// Of each child of a node, in order: its kind, its place, the place after it, and how many children it has.
 fn described_children(
     alloc: Global,
     parent: Cursor<'_>,

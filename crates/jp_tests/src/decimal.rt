@@ -20,38 +20,6 @@ impl From<AllocError> for Fail {
     }
 }
 
-#[test]
-fn far_exponents_are_compared(rt: HostRuntime) -> Result<(), Fail> {
-    let large = Decimal::read(b"1e999999999999999")?;
-    let same = Decimal::read(b"10e999999999999998")?;
-    assert_eq!(rt; large.compare(&same), Ordering::Equal);
-    let small = Decimal::read(b"1e-999999999999999")?;
-    let zero = Decimal::read(b"-0")?;
-    assert_eq!(rt; small.compare(&zero), Ordering::Greater);
-    Ok(())
-}
-
-#[test]
-fn digits_are_compared(rt: HostRuntime) -> Result<(), Fail> {
-    let one = Decimal::read(b"1")?;
-    let more = Decimal::read(b"1.0000000000000000000000001")?;
-    assert_eq!(rt; one.compare(&more), Ordering::Less);
-    let minus = Decimal::read(b"-2.5")?;
-    let lower = Decimal::read(b"-25.5E+0")?;
-    assert_eq!(rt; minus.compare(&lower), Ordering::Greater);
-    Ok(())
-}
-
-#[test]
-fn equal_values_are_equal(rt: HostRuntime) -> Result<(), Fail> {
-    let ten = Decimal::read(b"10")?;
-    let padded = Decimal::read(b"1e0000000000000000001")?;
-    assert!(rt; ten.equal(&padded));
-    let other = Decimal::read(b"10.00000000000000000000000001")?;
-    assert!(rt; !ten.equal(&other));
-    Ok(())
-}
-
 /// The number of a text that is not too long to be read.
 fn number(text: &[u8]) -> Result<Decimal<'_>, Fail> {
     if text.len() >= 1 << 32 {
@@ -60,55 +28,7 @@ fn number(text: &[u8]) -> Result<Decimal<'_>, Fail> {
     Ok(Decimal::read(text)?)
 }
 
-/// Numbers in the order of their values. Those with one place have one value.
-const ORDERED: [(u32, &str); 31] = [
-    (0, "-1E400"),
-    (0, "-10e399"),
-    (1, "-12.5"),
-    (1, "-125e-1"),
-    (1, "-0.01250E+3"),
-    (2, "-12"),
-    (3, "0"),
-    (3, "-0"),
-    (3, "0.000"),
-    (3, "-0.0e-99"),
-    (4, "1e-999999999999999"),
-    (5, "0.0001"),
-    (5, "1e-4"),
-    (5, "0.00010"),
-    (6, "0.00010000001"),
-    (7, "0.1"),
-    (8, "1"),
-    (8, "1.0"),
-    (8, "10e-1"),
-    (8, "0.1e1"),
-    (8, "0.001000e3"),
-    (9, "1.00000000000000000001"),
-    (10, "9.99"),
-    (11, "10"),
-    (11, "1e01"),
-    (12, "101"),
-    (13, "110"),
-    (14, "1E400"),
-    (14, "10E399"),
-    (14, "0.0010e403"),
-    (15, "1.0001e400"),
-];
-
-#[test]
-fn values_are_ordered_whatever_their_spelling(rt: HostRuntime) -> Result<(), Fail> {
-    for (place, text) in ORDERED {
-        let value = number(text.as_bytes())?;
-        for (other_place, other) in ORDERED {
-            let other = number(other.as_bytes())?;
-            assert_eq!(&rt; value.compare(&other), place.cmp(&other_place));
-            assert_eq!(&rt; value.equal(&other), place == other_place);
-        }
-    }
-    Ok(())
-}
-
-/// Bytes in front, as many zeros, and bytes behind.
+/// Bytes in front, as many zeros, and bytes after.
 fn with_zeros(
     alloc: Global,
     front: &[u8],

@@ -1,6 +1,6 @@
-//! What the public functions of those crates answer whose proof takes long, by examples.
+//! What public functions answer that no script shows: of crates whose own proof would be made once more with their tests.
 //!
-//! A crate's own tests are proved safe together with all of the crate. Here they stand over what is proved already, so that
+//! A crate's own tests are proved safe together with all of the crate. Here they use what is proved already, so that
 //! they need no second proof of it.
 #![tactic(auto)]
 
@@ -12,3 +12,7 @@ mod eval;
 mod iregexp;
 #[cfg(test)]
 mod query;
+#[cfg(test)]
+mod tapes;
+#[cfg(test)]
+mod values;

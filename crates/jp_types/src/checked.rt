@@ -38,7 +38,7 @@ impl Checked {
         &self.query
     }
 
-    /// The segments of the query behind `$`, in order.
+    /// The segments of the query after `$`, in order.
     pub fn segments(&self) -> &[Segment]
         ensures value { segments_view result.now ≡ checked_view self.now }
         ensures known { knows_functions (segments_view result.now) ≡ true }

@@ -11,7 +11,7 @@ use crate::typing::segments_typed;
 use jp_model::QueryFault;
 use jp_query::Query;
 
-/// Checks the types of a query (RFC 9535, section 2.4.3). It takes no memory.
+/// Checks the types of a query (RFC 9535, section 2.4.3). It allocates nothing.
 ///
 /// # Errors
 ///

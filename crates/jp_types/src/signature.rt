@@ -16,7 +16,7 @@ pub(crate) enum Kind {
 }
 
 impl Kind {
-    /// Whether a result of this type can stand where a type is wanted: nodes also where a truth is (RFC 9535, section
+    /// Whether a result of this type is allowed where a type is wanted: nodes also where a truth is (RFC 9535, section
     /// 2.4.2).
     pub(crate) fn serves(self, wanted: Kind) -> bool
         ensures { result ≡ serves (kind_view self) (kind_view wanted) }

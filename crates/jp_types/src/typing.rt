@@ -80,7 +80,7 @@ fn comparable_typed(side: &Comparable) -> bool
     }
 }
 
-// Whether the call is well-typed, and can stand where a type is wanted.
+// Whether the call is well-typed, and allowed where a type is wanted.
 #[cycle(typing)]
 fn call_typed(call: &Call, wanted: Kind) -> bool
     ensures { result ≡ (call_serves (kind_view wanted) (call_view call.now) && call_typed (call_view call.now)) }

@@ -3,7 +3,7 @@
 ghost use Rattle.std.specs.Prelude.{◌≡◌, IsTrue};
 ghost use Rattle.jp_strings.specs.Points.{IsText, is_text_from};
 
-/// What stands between the quotes of a JSON string.
+/// What is between the quotes of a JSON string.
 #[derive(Clone, Copy)]
 pub(crate) struct Body<'a> {
     bytes: &'a [u8],

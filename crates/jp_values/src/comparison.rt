@@ -16,7 +16,7 @@ use jp_tape::Cursor;
 use std::alloc::{AllocError, Global};
 
 /// Whether the value of the first node is less: both are numbers or both strings, numbers by their exact value and
-/// strings by their scalars, a proper prefix being less (RFC 9535, section 2.3.5.2.2). It takes no memory.
+/// strings by their scalars, a proper prefix being less (RFC 9535, section 2.3.5.2.2). It allocates nothing.
 pub fn less(left: Cursor<'_>, right: Cursor<'_>) -> bool
     ensures { result ≡ value_less (value_of (node_of left.entry).tree) (value_of (node_of right.entry).tree) }
 {
@@ -49,7 +49,7 @@ fn is_less(left: Value<'_>, right: Value<'_>) -> bool
 
 /// Whether a comparison of two sides holds (RFC 9535, section 2.3.5.2.2).
 ///
-/// Nothing equals Nothing alone, and is neither less nor greater than anything. `<=` is `<` or `==`. It takes no memory.
+/// Nothing equals Nothing alone, and is neither less nor greater than anything. `<=` is `<` or `==`. It allocates nothing.
 /// A number that is written in the query is spelled as RFC 8259, section 6, has it, its exponent is not too long, and
 /// it has at most 4,294,967,295 bytes.
 pub fn compare(op: CompareOp, left: Value<'_>, right: Value<'_>) -> bool
@@ -80,7 +80,7 @@ fn both_equal_in(alloc: Global, left: Value<'_>, right: Value<'_>) -> Result<boo
     }
 }
 
-/// What `compare` answers. Where two large objects are compared whose members stand in different orders it takes memory,
+/// What `compare` answers. Where two large objects are compared whose members are in different orders it allocates,
 /// and its time is that of a sort, not the square of their number.
 pub fn compare_in(
     alloc: Global,

@@ -36,7 +36,7 @@ fn holds_apart(op: CompareOp) -> bool
     matches!(op, CompareOp::NotEqual)
 }
 
-/// What `compare` answers of a node and a number that was read (RFC 9535, section 2.3.5.2.2). It takes no memory.
+/// What `compare` answers of a node and a number that was read (RFC 9535, section 2.3.5.2.2). It allocates nothing.
 pub fn compare_with_number(op: CompareOp, node: Cursor<'_>, number: &Decimal<'_>) -> bool
     ensures { result ≡ compared_with_number (op_view op) (value_of (node_of node.entry).tree) (number_of number.now) }
 {
@@ -47,7 +47,7 @@ pub fn compare_with_number(op: CompareOp, node: Cursor<'_>, number: &Decimal<'_>
     }
 }
 
-/// What `compare` answers of a node and a text (RFC 9535, section 2.3.5.2.2). It takes no memory.
+/// What `compare` answers of a node and a text (RFC 9535, section 2.3.5.2.2). It allocates nothing.
 pub fn compare_with_text(op: CompareOp, node: Cursor<'_>, text: &str) -> bool
     ensures { result ≡ compared_with_text (op_view op) (value_of (node_of node.entry).tree) (chars text.now) }
 {

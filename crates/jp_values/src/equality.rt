@@ -100,7 +100,7 @@ fn has_members(left: Cursor<'_>, right: Cursor<'_>) -> bool
 
 /// Whether the values of two nodes are equal: of one kind, and numbers by their exact value, strings by their scalars,
 /// arrays element by element, and objects with equal sets of names and equal values (RFC 9535, section 2.3.5.2.2). It
-/// takes no memory, and nests as deep as the values do.
+/// allocates nothing, and nests as deep as the values do.
 #[cycle(equality)]
 pub fn equal(left: Cursor<'_>, right: Cursor<'_>) -> bool
     ensures { result ≡ values_equal (value_of (node_of left.entry).tree) (value_of (node_of right.entry).tree) }

@@ -81,7 +81,7 @@ fn has_members_in<'a>(
     Ok(true)
 }
 
-/// Whether the values of two nodes are equal, as `equal` tells. Where two objects of more than 16 members come in different
+/// Whether the values of two nodes are equal, as `equal` does. Where two objects of more than 16 members come in different
 /// orders it sorts the names of one, so that its time is that of a sort and not the square of their number. Otherwise it takes
 /// no memory. It nests as deep as the values do.
 #[cycle(equality_in)]

@@ -1,4 +1,4 @@
-//! Keys of values that are no arrays and no objects.
+//! Keys of values that are neither arrays nor objects.
 
 ghost use Rattle.std.specs.Prelude.{◌≡◌, refl, IfOk, Some};
 ghost use Rattle.std.specs.Cmp.{eq_by_cmp_equiv, partial_equiv_from_equiv, po};

@@ -1,4 +1,13 @@
 //! Values of JSON texts and of queries: their equality and order (RFC 9535, section 2.3.5.2.2), and keys for them.
+//!
+//! Public calls:
+//!
+//! - `Value`, `equal`, `less`, `compare`: a side of a comparison, and what an operator answers
+//! - `compare_with_number`, `compare_with_text`: that answer for a node and a number or a text, which are not copied into
+//!   sides
+//! - `Value::read`: the side with the number of its node read
+//! - `equal_in`, `compare_in`: the same answers, with memory for large objects whose members come in different orders
+//! - `key_of`, `key_of_literal`, `Key`: one key for all equal values that are neither arrays nor objects, ordered as these
 #![tactic(auto)]
 
 mod body;
@@ -13,8 +22,6 @@ mod member;
 mod members;
 mod number;
 mod scalar;
-#[cfg(test)]
-mod tests;
 mod text;
 mod value;
 

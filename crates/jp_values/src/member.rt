@@ -14,7 +14,7 @@ fn is_plain(name: &[u8]) -> bool
     first_special(name, 0) == name.len()
 }
 
-/// A member of an object, with the body of its name. Whether the name is plain is told once, so that names are compared no
+/// A member of an object, with the body of its name. Whether the name is plain is found once, so that names are compared no
 /// further than they agree.
 #[derive(Clone, Copy)]
 pub(crate) struct Member<'a> {

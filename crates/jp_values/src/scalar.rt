@@ -1,4 +1,4 @@
-//! Values that are no arrays and no objects.
+//! Values that are neither arrays nor objects.
 
 ghost use Rattle.std.specs.Prelude.{◌≡◌, IsTrue, Some};
 ghost use Rattle.jp_model.specs.Json.Tree.{value_of};
@@ -18,7 +18,7 @@ use jp_decimal::Decimal;
 use jp_query::Literal;
 use jp_tape::{Cursor, Kind};
 
-/// A value that is no array and no object.
+/// A value that is neither an array nor an object.
 #[derive(Drop)]
 pub(crate) enum Scalar<'a> {
     Null,

@@ -23,7 +23,7 @@ pub enum Value<'a> {
 }
 
 impl<'a> Value<'a> {
-    /// The same value. The number of a node is read here, so that no comparison reads it anew.
+    /// The same value. The number of a node is read here, so that no comparison reads it again.
     #[inline(always)]
     pub fn read(self) -> Value<'a>
         ensures value { value_view result ≡ value_view self.entry }

@@ -23,7 +23,7 @@ pub fn refusals()
         ≡ codes "2\t!depth\n3\t!grammar\n= 3 lines, 2 refused, 0 blank\n" }
 {}
 
-/// Indexes, and the plans that `explain` tells.
+/// Indexes, and the plans that `explain` shows.
 pub fn plans()
     ensures index_of_the_root { written (codes "{\"a\":1}\n") (codes "explain $\nindex $\nindexes\nexplain $\nexplain $..b\n")
         ≡ codes "scan\nopen 1 of 1\nindexed 1\n$\n= 1\nseek $\nopen 1 of 1\nseek $\ndescend-name ['b']\nopen 1 of 1\n" }

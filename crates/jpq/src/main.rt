@@ -1,12 +1,16 @@
-//! jpq: JSONPath (RFC 9535) over a collection of JSON texts, one to a line.
+//! jpq: JSONPath (RFC 9535) over JSON Lines, one JSON value per line.
 #![tactic(auto)]
 
+mod refused;
+
+use crate::refused::refuse_word;
 use clap::error::ErrorKind;
-use jp_cli::{End, Options, read_words, run};
+use jp_cli::{CollectionSource, End, Options, ScriptSource, read_words, run};
 use jp_model::{Framing, RunFault, Setup, Watched};
+use std::alloc::AllocError;
 use std::io::{BufWriter, Read, Write};
 use std::process::ExitCode;
-use std::{env, fs};
+use std::{env, fs, io};
 
 /// Runs the script over the collection, and writes to standard output through a buffer.
 fn run_files<C: Read + Drop, R: Read + Drop>(
@@ -35,21 +39,35 @@ fn run_files<C: Read + Drop, R: Read + Drop>(
     }
 }
 
-/// Opens the collection and then the script, and runs it.
-fn run_options(rt: &HostRuntime, options: &Options<'_>) -> End {
-    let Ok(collection) = fs::open(rt, options.file) else {
-        return End::NoCollection;
-    };
-    let Some(script) = options.script else {
-        return run_files(rt, options.framing, collection, rt.stdin());
-    };
-    match fs::open(rt, script) {
-        Ok(script) => run_files(rt, options.framing, collection, script),
-        Err(_) => End::NoScript,
+/// Runs the script over the collection. A script that is a file is opened first.
+fn run_script<C: Read + Drop>(rt: &HostRuntime, options: &Options<'_>, collection: C) -> End {
+    match options.script_source(rt.alloc()) {
+        Ok(ScriptSource::StandardInput) => {
+            run_files(rt, options.framing, collection, rt.stdin())
+        }
+        Ok(ScriptSource::File(file)) => match fs::open(rt, file) {
+            Ok(script) => run_files(rt, options.framing, collection, script),
+            Err(_) => End::NoScript,
+        },
+        Ok(ScriptSource::Commands(script)) => {
+            run_files(rt, options.framing, collection, script.as_bytes())
+        }
+        Err(AllocError) => End::Memory,
     }
 }
 
-/// Reads the program's words, and does what they ask for.
+/// Opens the collection and then the script, and runs it.
+fn run_options(rt: &HostRuntime, options: &Options<'_>) -> End {
+    match options.collection_source() {
+        CollectionSource::StandardInput => run_script(rt, options, rt.stdin()),
+        CollectionSource::File(file) => match fs::open(rt, file) {
+            Ok(collection) => run_script(rt, options, collection),
+            Err(_) => End::NoCollection,
+        },
+    }
+}
+
+/// Reads the program's arguments, and does what they ask for.
 fn run_words(rt: &HostRuntime, words: &[&str]) -> End {
     match read_words(rt.alloc(), words) {
         Ok(options) => run_options(rt, &options),
@@ -66,8 +84,10 @@ fn run_words(rt: &HostRuntime, words: &[&str]) -> End {
 }
 
 fn run_program(rt: &HostRuntime) -> End {
-    let Ok(words) = env::args(rt) else {
-        return End::Memory;
+    let words = match env::args(rt) {
+        Ok(words) => words,
+        Err(error) if error.kind() == io::ErrorKind::OutOfMemory => return End::Memory,
+        Err(_) => return refuse_word(rt),
     };
     let Ok(words) = words.collect::<Vec<String>>(rt.alloc()) else {
         return End::Memory;

@@ -26,7 +26,7 @@ fn the_first_special_byte_is_found(rt: HostRuntime) -> Result<(), Fail> {
     Ok(())
 }
 
-// Whether the special byte at each place of a text of that length is found, and none where there is none.
+// Whether the special byte at each place of a text of that length is found, and none if there is none.
 fn each_place_is_found(alloc: Global, size: usize) -> Result<bool, AllocError> {
     let mut bytes = Vec::new(alloc);
     for _ in 0..size {

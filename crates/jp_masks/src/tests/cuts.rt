@@ -63,7 +63,7 @@ fn backslashes_reach_over_blocks(rt: HostRuntime) -> Result<(), Fail> {
     Ok(())
 }
 
-/// The lines stand where those of the text do, and each has the marks that it has alone.
+/// The lines are where those of the text are, and each has the marks that it has alone.
 fn are_of_each_line(
     rt: &impl Abort,
     alloc: Global,
@@ -88,8 +88,8 @@ fn are_of_each_line(
     Ok(())
 }
 
-/// The texts stand where those of the sequence do, each behind its separator, and each has the marks that it has alone. An
-/// empty one, and what stands before the first separator, is none.
+/// The texts are where those of the sequence are, each after its separator, and each has the marks that it has alone. An
+/// empty one, and what comes before the first separator, is none.
 fn are_of_each_text(
     rt: &impl Abort,
     alloc: Global,
@@ -195,7 +195,7 @@ fn strings_are_cut_anywhere(rt: HostRuntime) -> Result<(), Fail> {
     Ok(())
 }
 
-/// Lines that end inside a string, behind a backslash or inside a character, at the end of a block and elsewhere.
+/// Lines that end inside a string, after a backslash or inside a character, at the end of a block and elsewhere.
 fn collections(alloc: Global) -> Result<Vec<Vec<u8>>, AllocError> {
     let mut all = Vec::new(alloc);
     all.push(Vec::from_slice(alloc, b"\"abc\n\"def\"\n[\"x")?)?;
@@ -223,8 +223,8 @@ fn collections_are_cut_anywhere(rt: HostRuntime) -> Result<(), Fail> {
     Ok(())
 }
 
-/// The same collections, each line feed a separator: a string, an escape or a character is cut by it as by a line feed. In
-/// front of the first separator stands a line feed, or nothing, and a second separator stands behind each.
+/// The collections above as sequences: each line feed is a separator there, which cuts a string, an escape or a character as
+/// the line feed does. In front of the first separator is a line feed, or nothing, and a second one follows each.
 fn sequences(alloc: Global) -> Result<Vec<Vec<u8>>, AllocError> {
     let mut all = Vec::new(alloc);
     for front in [b"".as_slice(), b"\n"] {

@@ -3,7 +3,7 @@ use Rattle.std.specs.Prelude.{◌≡◌, ℕ, ◌+◌, ◌≤◌, ◌<◌, Bool,
 use Rattle.jp_model.specs.declared.Setup.{Setup}
 use Rattle.jp_model.specs.declared.RunFault.{RunFault}
 use Rattle.jp_model.specs.declared.RunFault.TheVariants as faults
-use Rattle.jp_model.specs.Devices.{Device, Came, EndedWithin, Received, Begins}
+use Rattle.jp_model.specs.Devices.{Device, Came, CameUpTo, CameShort, Received, Begins}
 use Rattle.jp_model.specs.Lines.{lines, is_framed}
 use Rattle.jp_model.specs.Query.Status.{QueryStatus}
 use Rattle.jp_model.specs.Script.Commands.{Command, command_lines, closed_command_lines, command_lines_so_far}
@@ -40,6 +40,12 @@ OnlyReadScript _ failed = failed ≡ false
 pub record Given : Type 0 where
   pub collection : Came
   pub script : Came
+
+-- The collection was not loaded, and no fault of it shows: within its limit some bytes came, which are framed where they
+-- are all.
+pub record WasStarved (setup : Setup) (collection : Came) : Type 0 where
+  pub within : length collection.bytes ≤ setup.most
+  pub framed : collection.ended ≡ true → is_framed setup.framing collection.bytes ≡ true
 
 -- the collection came to its end, fits and is framed
 abbrev pub WasLoaded : Setup → Came → Type 0
@@ -80,17 +86,19 @@ module _ (query_of : List ℕ → QueryStatus) (asked : List ℕ → Command) wh
       × Answered contents old new setup (loaded setup collection) (command_lines script)
 
   -- What the writer received of a run that stopped, by the fault and by what the readers gave. A collection over which
-  -- commands ran came to its end, fits and is framed; under want of memory it may have come in part, and then nothing was
-  -- written.
+  -- commands ran came to its end, fits and is framed; under want of memory it may have come in part, or be framed and not
+  -- loaded, and then nothing was written. No reader gave more than the byte past its limit, nor came to its end behind it.
   abbrev pub RunStopped : {W : Type 0} → (W → Option (List ℕ)) → Device W → Device W → RunFault → Setup → Given → Type 0
-  RunStopped contents old new faults.ReadCollection setup given = (length given.collection.bytes ≤ setup.most) × Received contents old new []
-  RunStopped contents old new faults.Size setup given = (length given.collection.bytes ≡ setup.most + 1) × Received contents old new []
+  RunStopped contents old new faults.ReadCollection setup given = (given.collection.ended ≡ false) × (length given.collection.bytes ≤ setup.most)
+      × Received contents old new []
+  RunStopped contents old new faults.Size setup given = (given.collection.ended ≡ false) × (length given.collection.bytes ≡ setup.most + 1)
+      × Received contents old new []
   RunStopped contents old new faults.Framing setup given = (given.collection.ended ≡ true) × (length given.collection.bytes ≤ setup.most)
       × (is_framed setup.framing given.collection.bytes ≡ false) × Received contents old new []
-  RunStopped contents old new faults.ReadScript setup given = WasLoaded setup given.collection
-      × (given.script.failed ≡ false → setup.script_most < length given.script.bytes)
+  RunStopped contents old new faults.ReadScript setup given = WasLoaded setup given.collection × CameShort setup.script_most given.script
       × Answered contents old new setup (loaded setup given.collection.bytes) (closed_command_lines (take setup.script_most given.script.bytes))
-  RunStopped contents old new faults.Write setup given = WasLoaded setup given.collection × EndedWithin setup.script_most given.script
+  RunStopped contents old new faults.Write setup given = WasLoaded setup given.collection × CameUpTo setup.script_most given.script
       × AnsweredInPart contents old new setup (loaded setup given.collection.bytes) (lines_within setup given.script)
-  RunStopped contents old new faults.Memory setup given = Received contents old new [] ⊎ (WasLoaded setup given.collection × EndedWithin setup.script_most given.script
+  RunStopped contents old new faults.Memory setup given = (WasStarved setup given.collection × Received contents old new [])
+      ⊎ (WasLoaded setup given.collection × CameUpTo setup.script_most given.script
       × AnsweredFirst contents old new setup (loaded setup given.collection.bytes) (lines_within setup given.script))

@@ -15,11 +15,11 @@ pub(crate) enum Class {
     PositiveDigit,
     /// What a shorthand name begins with (RFC 9535, section 2.5.1.1).
     NameFirst,
-    /// What stands in a shorthand name (RFC 9535, section 2.5.1.1).
+    /// What is in a shorthand name (RFC 9535, section 2.5.1.1).
     NameScalar,
     /// A small letter, with which the name of a function begins (RFC 9535, section 2.4).
     Lower,
-    /// What stands in the name of a function (RFC 9535, section 2.4).
+    /// What is in the name of a function (RFC 9535, section 2.4).
     FunctionScalar,
 }
 

@@ -8,7 +8,7 @@ use std::alloc::{AllocError, AllocFailed};
 /// Why the parser stopped.
 #[derive(Clone, Copy, Debug)]
 pub(crate) enum Failure {
-    /// What stands there is not derived by the grammar.
+    /// The grammar does not derive what is there.
     Syntax,
     /// Memory ran out.
     Memory,

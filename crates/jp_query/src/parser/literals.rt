@@ -90,7 +90,7 @@ pub(crate) fn origin(text: &[char]) -> Option<(Origin, &[char])>
     Some((Origin::Root, rest))
 }
 
-/// Whether an expression that stands there begins with no literal.
+/// Whether an expression that is there begins with no literal.
 #[tactic(auto, unfolding(crate::specs::Reading::Literals::begins_without_literal))]
 pub(crate) fn begins_without_literal(text: &[char]) -> bool
     ensures { result ≡ begins_without_literal text.now }

@@ -55,7 +55,7 @@ pub(crate) fn int(text: &[char]) -> Option<(i64, &[char])>
     Some((clamped(digits), rest))
 }
 
-/// Behind the digits of an integer.
+/// After the digits of an integer.
 #[tactic(auto, unfolding(crate::specs::Reading::Numbers::int_digits, crate::specs::Reading::Numbers::positive))]
 fn behind_int(text: &[char]) -> Option<&[char]>
     ensures { option_map (λ r. r.now) result ≡ option_map (λ r. r.1) (int_digits text.now) }
@@ -67,7 +67,7 @@ fn behind_int(text: &[char]) -> Option<&[char]>
     Some(rest)
 }
 
-/// Behind a point and its digits, where a point stands there.
+/// After a point and its digits, if there is a point.
 #[tactic(auto, unfolding(crate::specs::Reading::Numbers::fraction, crate::specs::Reading::Numbers::some_digits))]
 fn behind_fraction(text: &[char]) -> Option<&[char]>
     ensures { option_map (λ r. r.now) result ≡ option_map (λ r. r.1) (fraction text.now) }
@@ -79,7 +79,7 @@ fn behind_fraction(text: &[char]) -> Option<&[char]>
     Some(rest)
 }
 
-/// Behind a sign, where one stands there.
+/// After a sign, if there is one.
 #[tactic(auto, unfolding(crate::specs::Reading::Numbers::sign))]
 fn behind_sign(text: &[char]) -> &[char]
     ensures { result.now ≡ (sign text.now).1 }
@@ -93,7 +93,7 @@ fn behind_sign(text: &[char]) -> &[char]
     }
 }
 
-/// Behind an exponent, where one begins there.
+/// After an exponent, where one begins there.
 #[tactic(auto, unfolding(crate::specs::Reading::Numbers::exponent, crate::specs::Reading::Numbers::exponent_behind, crate::specs::Reading::Numbers::some_digits))]
 fn behind_exponent(text: &[char]) -> Option<&[char]>
     ensures { option_map (λ r. r.now) result ≡ option_map (λ r. r.1) (exponent text.now) }
@@ -109,7 +109,7 @@ fn behind_exponent(text: &[char]) -> Option<&[char]>
     Some(text)
 }
 
-/// Behind a minus, where one stands there.
+/// After a minus, if there is one.
 #[tactic(auto, unfolding(crate::specs::Reading::Numbers::minus))]
 fn behind_minus(text: &[char]) -> &[char]
     ensures { result.now ≡ (minus text.now).1 }
@@ -120,7 +120,7 @@ fn behind_minus(text: &[char]) -> &[char]
     }
 }
 
-/// Behind a number.
+/// After a number.
 #[tactic(auto, unfolding(crate::specs::Reading::Numbers::number_at))]
 fn behind_number(text: &[char]) -> Option<&[char]>
     ensures { option_map (λ r. r.now) result ≡ option_map (λ r. r.1) (number_at text.now) }

@@ -37,7 +37,7 @@ fn selector(alloc: Global, text: &[char], depth: u32) -> Result<(Selector, &[cha
     simple_selector(alloc, text)
 }
 
-/// Blanks, a comma, blanks and a selector, if a comma stands there.
+/// Blanks, a comma, blanks and a selector, if there is a comma.
 #[cycle(query)]
 #[tactic(auto, unfolding(crate::specs::Reading::Queries::next_selector))]
 fn next_selector(
@@ -53,7 +53,7 @@ fn next_selector(
     }
 }
 
-/// The selectors behind those that were found.
+/// The selectors after those that were found.
 #[cycle(query)]
 fn more_selectors(
     found: Vec<Selector>,
@@ -92,7 +92,7 @@ fn brackets(alloc: Global, text: &[char], depth: u32) -> Result<(Vec<Selector>, 
     }
 }
 
-/// The selectors of a descendant segment, behind its two points (RFC 9535, section 2.5.2.1).
+/// The selectors of a descendant segment, after its two points (RFC 9535, section 2.5.2.1).
 #[cycle(query)]
 #[tactic(auto, unfolding(crate::specs::Reading::Queries::descendant_at))]
 fn descendants(
@@ -108,7 +108,7 @@ fn descendants(
     }
 }
 
-/// Blanks and a segment, if a point or a bracket stands there (RFC 9535, section 2.1.1).
+/// Blanks and a segment, if there is a point or a bracket (RFC 9535, section 2.1.1).
 #[cycle(query)]
 #[tactic(auto, unfolding(crate::specs::Reading::Queries::next_segment))]
 fn next_segment(
@@ -133,7 +133,7 @@ fn next_segment(
     Ok(Some((Segment::Child(selectors), rest)))
 }
 
-/// Segments as a list, as many as stand there.
+/// Segments as a list, as many as there are.
 #[cycle(query)]
 fn segment_list(
     alloc: Global,
@@ -154,7 +154,7 @@ fn segment_list(
     Ok((all, rest))
 }
 
-/// Segments, as many as stand there (RFC 9535, section 2.1.1).
+/// Segments, as many as there are (RFC 9535, section 2.1.1).
 #[cycle(query)]
 #[tactic(auto, unfolding(crate::specs::Reading::Queries::segments_at))]
 pub(crate) fn segments(
@@ -167,7 +167,7 @@ pub(crate) fn segments(
     segment_list(alloc, text, depth)
 }
 
-/// An expression and a parenthesis behind it, behind the first parenthesis (RFC 9535, section 2.3.5.1).
+/// An expression and a parenthesis after it, after the first parenthesis (RFC 9535, section 2.3.5.1).
 #[cycle(query)]
 #[tactic(auto, unfolding(crate::specs::Reading::Queries::closed_at))]
 fn closed(alloc: Global, text: &[char], depth: u32) -> Result<(Logical, &[char]), Failure>
@@ -196,7 +196,7 @@ fn argument(alloc: Global, text: &[char], depth: u32) -> Result<(Argument, &[cha
     Ok((argument_of(expression), rest))
 }
 
-/// Blanks, a comma, blanks and an argument, if a comma stands there.
+/// Blanks, a comma, blanks and an argument, if there is a comma.
 #[cycle(query)]
 #[tactic(auto, unfolding(crate::specs::Reading::Queries::next_argument))]
 fn next_argument(
@@ -212,7 +212,7 @@ fn next_argument(
     }
 }
 
-/// The arguments behind those that were found.
+/// The arguments after those that were found.
 #[cycle(query)]
 fn more_arguments(
     found: Vec<Argument>,
@@ -234,7 +234,7 @@ fn more_arguments(
     Ok((all, rest))
 }
 
-/// Arguments and a parenthesis behind them (RFC 9535, section 2.4).
+/// Arguments and a parenthesis after them (RFC 9535, section 2.4).
 #[cycle(query)]
 #[tactic(auto, unfolding(crate::specs::Reading::Queries::arguments_at))]
 fn arguments(alloc: Global, text: &[char], depth: u32) -> Result<(Vec<Argument>, &[char]), Failure>
@@ -248,7 +248,7 @@ fn arguments(alloc: Global, text: &[char], depth: u32) -> Result<(Vec<Argument>,
     }
 }
 
-/// A call of a function, behind its name and its parenthesis (RFC 9535, section 2.4).
+/// A call of a function, after its name and its parenthesis (RFC 9535, section 2.4).
 #[cycle(query)]
 #[tactic(auto, unfolding(crate::specs::Reading::Queries::call_behind))]
 fn call<'a>(
@@ -285,7 +285,7 @@ fn comparable(alloc: Global, text: &[char], depth: u32) -> Result<(Comparable, &
     Ok((Comparable::Constant(value), rest))
 }
 
-/// A comparison behind its first side and its operator (RFC 9535, section 2.3.5.1).
+/// A comparison after its first side and its operator (RFC 9535, section 2.3.5.1).
 #[cycle(query)]
 #[tactic(auto, unfolding(crate::specs::Reading::Queries::comparison_behind))]
 fn comparison(
@@ -307,7 +307,7 @@ fn comparison(
     ))
 }
 
-/// A comparison whose first side is a query, or a test of a query, behind its mark.
+/// A comparison whose first side is a query, or a test of a query, after its mark.
 #[cycle(query)]
 #[tactic(auto, unfolding(crate::specs::Reading::Queries::query_behind))]
 fn query_or_comparison(
@@ -333,7 +333,7 @@ fn query_or_comparison(
     ))
 }
 
-/// A comparison whose first side is a call, or a test of a call, behind its name and its parenthesis.
+/// A comparison whose first side is a call, or a test of a call, after its name and its parenthesis.
 #[cycle(query)]
 #[tactic(auto, unfolding(crate::specs::Reading::Queries::call_or_comparison))]
 fn call_or_comparison<'a>(
@@ -391,7 +391,7 @@ fn test(alloc: Global, text: &[char], depth: u32) -> Result<(Logical, &[char]), 
     Ok((test_of(call), rest))
 }
 
-/// What stands behind `!`: a parenthesis, a query or a call, and no comparison.
+/// What follows `!`: a parenthesis, a query or a call, and no comparison.
 #[cycle(query)]
 #[tactic(auto, unfolding(crate::specs::Reading::Queries::negated_at))]
 fn negated(alloc: Global, text: &[char], depth: u32) -> Result<(Parsed, &[char]), Failure>
@@ -448,7 +448,7 @@ fn basic(alloc: Global, text: &[char], depth: u32) -> Result<(Parsed, &[char]), 
     }
 }
 
-/// Blanks, `&&`, blanks and a basic expression, if a `&` stands there.
+/// Blanks, `&&`, blanks and a basic expression, if there is a `&`.
 #[cycle(query)]
 #[tactic(auto, unfolding(crate::specs::Reading::Queries::next_basic))]
 fn next_basic(
@@ -468,7 +468,7 @@ fn next_basic(
     Ok(Some((part.logical, rest)))
 }
 
-/// The parts behind the first `&&`.
+/// The parts after the first `&&`.
 #[cycle(query)]
 fn more_basics(alloc: Global, text: &[char], depth: u32) -> Result<(Vec<Logical>, &[char]), Failure>
     ensures { Gives (λ x. (map logical_view x.0.items, x.1.now)) result (all_of (next_basic clamp (logical_at clamp depth)) text.now) }
@@ -496,7 +496,7 @@ fn conjunction(alloc: Global, text: &[char], depth: u32) -> Result<(Parsed, &[ch
     Ok((all_true(first, others)?, rest))
 }
 
-/// Blanks, `||`, blanks and parts between `&&`, if a `|` stands there.
+/// Blanks, `||`, blanks and parts between `&&`, if there is a `|`.
 #[cycle(query)]
 #[tactic(auto, unfolding(crate::specs::Reading::Queries::next_and))]
 fn next_conjunction(
@@ -516,7 +516,7 @@ fn next_conjunction(
     Ok(Some((part.logical, rest)))
 }
 
-/// The parts behind the first `||`.
+/// The parts after the first `||`.
 #[cycle(query)]
 fn more_conjunctions(
     alloc: Global,

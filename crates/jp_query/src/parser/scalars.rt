@@ -8,7 +8,7 @@ use super::class::Class;
 use super::failure::Failure;
 use std::alloc::{AllocError, Global};
 
-/// Behind a scalar, where it stands in front.
+/// After a scalar, if it is at the front.
 pub(crate) fn after(text: &[char], wanted: char) -> Option<&[char]>
     ensures { option_map (λ r. r.now) result ≡ after wanted text.now }
 {
@@ -18,7 +18,7 @@ pub(crate) fn after(text: &[char], wanted: char) -> Option<&[char]>
     }
 }
 
-/// Behind these scalars, where they stand in front.
+/// After these scalars, if they are at the front.
 pub(crate) fn after_all<'a>(text: &'a [char], word: &[char]) -> Option<&'a [char]>
     ensures { option_map (λ r. r.now) result ≡ after_all word.now text.now }
 {
@@ -29,7 +29,7 @@ pub(crate) fn after_all<'a>(text: &'a [char], word: &[char]) -> Option<&'a [char
     Some(rest)
 }
 
-/// Whether a scalar of the class stands in front.
+/// Whether a scalar of the class is at the front.
 pub(crate) fn begins_with(text: &[char], class: Class) -> bool
     ensures { result ≡ begins (is_member class) text.now }
 {
@@ -51,14 +51,14 @@ pub(crate) fn run(text: &[char], class: Class) -> (&[char], &[char])
     text.split_at(text.len())
 }
 
-/// Behind blanks.
+/// After blanks.
 pub(crate) fn skip_blanks(text: &[char]) -> &[char]
     ensures { result.now ≡ skip_blanks text.now }
 {
     run(text, Class::Blank).1
 }
 
-/// Behind blanks and a scalar, where it stands there.
+/// After blanks and a scalar, if it is there.
 pub(crate) fn after_blanks(text: &[char], wanted: char) -> Option<&[char]>
     ensures { option_map (λ r. r.now) result ≡ after_blanks wanted text.now }
 {
@@ -109,7 +109,7 @@ pub(crate) fn shorthand(alloc: Global, text: &[char]) -> Result<(String, &[char]
     Ok((to_text(alloc, name)?, rest))
 }
 
-/// The name of a function, and what stands behind it and its parenthesis, where a call begins (RFC 9535, section 2.4).
+/// The name of a function, and what follows it and its parenthesis, where a call begins (RFC 9535, section 2.4).
 #[tactic(auto, unfolding(crate::specs::Reading::Scalars::call_start, crate::specs::Reading::Scalars::function_name))]
 pub(crate) fn call_start(text: &[char]) -> Option<(&[char], &[char])>
     ensures { option_map (λ x. (x.0.now, x.1.now)) result ≡ call_start text.now }

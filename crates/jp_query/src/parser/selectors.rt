@@ -1,4 +1,4 @@
-//! Selectors and singular segments, in which no expression stands (RFC 9535, sections 2.3 and 2.3.5.1).
+//! Selectors and singular segments, which contain no expression (RFC 9535, sections 2.3 and 2.3.5.1).
 
 ghost use Rattle.std.specs.Prelude.{◌≡◌, [], ◌∷◌, IfOk, Some, option_map, map};
 ghost use Rattle.jp_query.specs.Integers.{clamp};
@@ -14,7 +14,7 @@ use super::strings::string;
 use crate::tree::{Segment, Selector};
 use std::alloc::{AllocError, Global};
 
-/// Blanks and an integer, where an integer stands there, and what is left.
+/// Blanks and an integer, if there is an integer, and what is left.
 #[tactic(auto, unfolding(crate::specs::Reading::Queries::bound_at))]
 fn bound(text: &[char]) -> Option<(Option<i64>, &[char])>
     ensures { option_map (λ x. (x.0, x.1.now)) result ≡ bound_at clamp text.now }
@@ -26,7 +26,7 @@ fn bound(text: &[char]) -> Option<(Option<i64>, &[char])>
     Some((Some(value), rest))
 }
 
-/// Behind blanks and a colon, where a colon stands there, the step of a slice, and what is left.
+/// After blanks and a colon, if there is a colon, the step of a slice, and what is left.
 #[tactic(auto, unfolding(crate::specs::Reading::Queries::step_at))]
 fn step(text: &[char]) -> Option<(Option<i64>, &[char])>
     ensures { option_map (λ x. (x.0, x.1.now)) result ≡ step_at clamp text.now }
@@ -37,7 +37,7 @@ fn step(text: &[char]) -> Option<(Option<i64>, &[char])>
     }
 }
 
-/// A slice behind its first colon, and what is left (RFC 9535, section 2.3.4.1).
+/// A slice after its first colon, and what is left (RFC 9535, section 2.3.4.1).
 #[tactic(auto, unfolding(crate::specs::Reading::Queries::slice_behind))]
 fn slice_behind(first: Option<i64>, text: &[char]) -> Option<(Selector, &[char])>
     ensures { option_map (λ x. (selector_view x.0, x.1.now)) result ≡ slice_behind clamp first text.now }
@@ -86,7 +86,7 @@ pub(crate) fn one<T: Drop>(alloc: Global, item: T) -> Result<Vec<T>, AllocError>
     Ok(items)
 }
 
-/// A wildcard, or a name without quotes, behind a point or two, and what is left (RFC 9535, section 2.5).
+/// A wildcard, or a name without quotes, after a point or two, and what is left (RFC 9535, section 2.5).
 #[tactic(auto, unfolding(crate::specs::Reading::Queries::dotted))]
 pub(crate) fn dotted(alloc: Global, text: &[char]) -> Result<(Vec<Selector>, &[char]), Failure>
     ensures { Gives (λ x. (map selector_view x.0.items, x.1.now)) result (dotted text.now) }
@@ -98,7 +98,7 @@ pub(crate) fn dotted(alloc: Global, text: &[char]) -> Result<(Vec<Selector>, &[c
     Ok((one(alloc, Selector::Name(name))?, rest))
 }
 
-/// A name or an index and the second bracket, behind the first one, with no blanks between them, and what is left.
+/// A name or an index and the second bracket, after the first one, with no blanks between them, and what is left.
 #[tactic(auto, unfolding(crate::specs::Reading::Queries::singular_behind))]
 fn singular_behind(alloc: Global, text: &[char]) -> Result<(Segment, &[char]), Failure>
     ensures { Gives (λ x. (segment_view x.0, x.1.now)) result (singular_behind clamp text.now) }
@@ -133,7 +133,7 @@ fn singular_segment(alloc: Global, text: &[char]) -> Result<(Segment, &[char]), 
     Ok((Segment::Child(one(alloc, Selector::Name(name))?), rest))
 }
 
-/// Blanks and a segment of a singular query, if one stands there, and what is left.
+/// Blanks and a segment of a singular query, if there is one, and what is left.
 #[tactic(auto, unfolding(crate::specs::Reading::Queries::next_singular))]
 fn next_singular(alloc: Global, text: &[char]) -> Result<Option<(Segment, &[char])>, Failure>
     ensures { Gives (option_map (λ x. (segment_view x.0, x.1.now))) result (next_singular clamp text.now) }

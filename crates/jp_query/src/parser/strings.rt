@@ -75,7 +75,7 @@ fn low_half(text: &[char], high: u32) -> Option<(char, &[char])>
     None
 }
 
-/// The scalar of this number, where it is no half of a surrogate pair.
+/// The scalar of this number, where it is not half of a surrogate pair.
 fn unit_scalar(unit: u32) -> Option<char>
     requires { unit < 65536 }
     ensures { result ≡ (if is_surrogate unit then None else Some unit) }
@@ -83,7 +83,7 @@ fn unit_scalar(unit: u32) -> Option<char>
     char::from_u32(unit)
 }
 
-/// The scalar that is spelled behind `\u`, and what is left.
+/// The scalar that is spelled after `\u`, and what is left.
 #[tactic(auto, unfolding(crate::specs::Reading::Strings::hex_scalar))]
 fn hex_scalar(text: &[char]) -> Option<(char, &[char])>
     ensures { option_map (λ x. (x.0, x.1.now)) result ≡ hex_scalar text.now }
@@ -98,7 +98,7 @@ fn hex_scalar(text: &[char]) -> Option<(char, &[char])>
     }
 }
 
-/// The scalar that a letter behind a backslash spells.
+/// The scalar that a letter after a backslash spells.
 fn escaped_letter(letter: char) -> Option<char>
     ensures { result ≡ escaped_letter letter }
 {
@@ -114,7 +114,7 @@ fn escaped_letter(letter: char) -> Option<char>
     }
 }
 
-/// The scalar that is spelled behind a backslash, between two quotes of a kind, and what is left.
+/// The scalar that is spelled after a backslash, between two quotes of a kind, and what is left.
 #[tactic(auto, unfolding(crate::specs::Reading::Strings::escape_at))]
 fn escape(text: &[char], quote: char) -> Option<(char, &[char])>
     ensures { option_map (λ x. (x.0, x.1.now)) result ≡ escape_at quote text.now }
@@ -153,7 +153,7 @@ fn next_scalar(text: &[char], quote: char) -> Option<Option<(char, &[char])>>
     Some(Some((*first, rest)))
 }
 
-/// What is spelled behind the first of two quotes of a kind, and what is left behind the second.
+/// What is spelled after the first of two quotes of a kind, and what is left after the second.
 #[tactic(auto, unfolding(crate::specs::Reading::Strings::between_quotes))]
 fn between_quotes(alloc: Global, text: &[char], quote: char) -> Result<(String, &[char]), Failure>
     ensures { Gives (λ x. (chars (string_bytes x.0), x.1.now)) result (between_quotes quote text.now) }

@@ -25,7 +25,7 @@ pub(super) fn tape_of(alloc: Global, line: &[u8]) -> Option<Tape>
     }
 }
 
-/// The path of each node, depth first, with a line feed behind it.
+/// The path of each node, depth first, with a line feed after it.
 fn paths_of(alloc: Global, line: &[u8]) -> Option<Vec<u8>> {
     let tape = tape_of(alloc, line)?;
     let root = Cursor::root(&tape, line);

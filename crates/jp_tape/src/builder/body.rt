@@ -4,7 +4,7 @@ ghost use Rattle.std.specs.Prelude.{IsTrue, length};
 ghost use Rattle.jp_strings.specs.Plain.{ArePlain};
 ghost use Rattle.jp_strings.specs.Points.{is_text_from};
 
-/// What stands between the quotes of a name, where no surrogate stands alone.
+/// What is between the quotes of a name, where no surrogate stands alone.
 #[derive(Clone, Copy)]
 pub(super) struct Body<'a> {
     pub(super) bytes: &'a [u8],

@@ -1,4 +1,4 @@
-//! Whether a line has an escape, or a control character where one may stand.
+//! Whether a line has an escape, or a control character where one may be.
 
 ghost use Rattle.std.specs.Prelude.{◌≡◌, ℕ, ◌+◌, ◌<◌, ◌≤◌, true, false, map, length, slice_index};
 ghost use Rattle.std.specs.Simd.Lanes.{mask_l};
@@ -9,7 +9,7 @@ use std::simd::prelude::*;
 /// Bytes are looked at in blocks of so many, where a line has a block.
 const BLOCK: usize = 64;
 
-/// The same of a shorter line.
+/// The bytes that are looked at together in a shorter line.
 const QUARTER: usize = 16;
 
 fn is_escape_byte(byte: u8) -> bool
@@ -64,7 +64,7 @@ fn has_escape_by<const N: usize>(line: &[u8]) -> bool
     has_escape_at::<N>(line, last)
 }
 
-/// The same, byte by byte.
+/// Whether a line has an escape, byte by byte.
 fn has_escape_plainly(line: &[u8]) -> bool
     ensures none { result ≡ false → IsUnescaped line.now }
     ensures some { result ≡ true → HasEscape line.now }
@@ -77,7 +77,7 @@ fn has_escape_plainly(line: &[u8]) -> bool
     false
 }
 
-/// Whether a reverse solidus or a control character stands in the line. Where none does, the body of each string stands for
+/// Whether a reverse solidus or a control character is in the line. Where none is, the body of each string stands for
 /// itself, and none has to be searched on its own.
 pub(super) fn has_escape(line: &[u8]) -> bool
     ensures none { result ≡ false → IsUnescaped line.now }

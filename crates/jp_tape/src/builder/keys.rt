@@ -28,7 +28,7 @@ fn word_at(bytes: &[u8], at: usize) -> u64
     ])
 }
 
-/// At most eight bytes, and zeros behind them.
+/// At most eight bytes, and zeros after them.
 #[inline(always)]
 fn pad(bytes: &[u8]) -> [u8; 8]
     requires { length bytes.now ≤ 8 }
@@ -86,7 +86,7 @@ pub(super) fn have_own_places(bodies: &[Body<'_>]) -> bool
     true
 }
 
-/// Whether no two keys are the same, told by a sort.
+/// Whether no two keys are the same, found by a sort.
 fn are_apart(keys: &mut [u64]) -> bool
     ensures { IsTrue result → AreApart keys.old }
 {
@@ -99,7 +99,7 @@ fn are_apart(keys: &mut [u64]) -> bool
     true
 }
 
-/// Puts the keys of bodies in a list, and tells whether each character stands for itself in all of them.
+/// Puts the keys of bodies in a list, and returns whether each character stands for itself in all of them.
 fn push_keys(bodies: &[Body<'_>], keys: &mut Vec<u64>) -> Result<bool, AllocError>
     requires { keys.old.items ≡ [] }
     ensures keys { IfOk result (λ are_plain. IsTrue are_plain → keys.new.items ≡ keys_of bodies.now) }
@@ -115,7 +115,7 @@ fn push_keys(bodies: &[Body<'_>], keys: &mut Vec<u64>) -> Result<bool, AllocErro
     Ok(true)
 }
 
-/// Whether the bodies differ, told by their keys. Where it says no, they may differ still. `keys` lends its memory.
+/// Whether the bodies differ, judged by their keys. Where it says no, they may differ still. `keys` lends its memory.
 pub(super) fn are_distinct(bodies: &[Body<'_>], keys: &mut Vec<u64>) -> Result<bool, AllocError>
     ensures { IfOk result (λ are_apart. IsTrue are_apart → has_repeated (all_points bodies.now) ≡ false) }
 {

@@ -34,28 +34,28 @@ struct Open {
     place: u32,
     /// Where it begins in the line.
     start: u32,
-    /// How many of its children stand before the one that is read.
+    /// How many of its children come before the one that is read.
     children: u32,
     /// How many names were kept before those of its members.
     names: usize,
     is_object: bool,
 }
 
-/// Where a value stands among the nodes.
+/// Where a value is among the nodes.
 #[derive(Clone, Copy)]
 struct Above {
     /// The place of its parent; 0 for the root.
     parent: u32,
-    /// How many of its siblings stand before it.
+    /// How many of its siblings come before it.
     index: u32,
 }
 
 /// What is read next.
 #[derive(Clone, Copy)]
 enum Turn {
-    /// A value, behind its name.
+    /// A value, after its name.
     Value(Option<Span>, usize),
-    /// What stands behind a value.
+    /// What follows a value.
     After(usize),
     End,
 }
@@ -235,7 +235,7 @@ impl<'a> Builder<'a> {
         self.has_duplicate = false;
     }
 
-    /// Where the next value stands: it is a child of the innermost container, or the root.
+    /// Where the next value is: it is a child of the innermost container, or the root.
     #[inline(always)]
     fn above(&self) -> Above
         ensures { result ≡ next_above self.now.opened.items }
@@ -253,7 +253,7 @@ impl<'a> Builder<'a> {
         }
     }
 
-    /// Keeps the name that stands before a child's value.
+    /// Keeps the name that comes before a child's value.
     #[inline(always)]
     fn keep_label(&mut self, line: &'a [u8], label: Label) -> Result<Turn, BuildFault>
         requires within { label.value ≤ length line.now }
@@ -277,7 +277,7 @@ impl<'a> Builder<'a> {
         Ok(Turn::Value(label.name, label.value))
     }
 
-    /// Reads what stands before a member's value, and keeps its name.
+    /// Reads what comes before a member's value, and keeps its name.
     #[inline(never)]
     fn next_member(
         &mut self,
@@ -300,7 +300,7 @@ impl<'a> Builder<'a> {
         self.keep_label(line, label)
     }
 
-    /// Reads what stands before a child's value, and keeps its name. Most names stand in a line with no escape.
+    /// Reads what comes before a child's value, and keeps its name. Most names are in a line with no escape.
     #[inline(always)]
     fn next_child(
         &mut self,
@@ -330,7 +330,7 @@ impl<'a> Builder<'a> {
         self.next_member(line, is_unescaped, from)
     }
 
-    /// Reads the opening bracket at `at`, and what stands behind it up to the first child's value.
+    /// Reads the opening bracket at `at`, and what follows it up to the first child's value.
     #[inline(always)]
     fn enter(
         &mut self,
@@ -454,7 +454,7 @@ impl<'a> Builder<'a> {
         self.opened[last].children += 1;
     }
 
-    /// Reads the token at `next`, which is the first behind a value that ends at `at`.
+    /// Reads the token at `next`, which is the first after a value that ends at `at`.
     #[inline(always)]
     fn follow(
         &mut self,
@@ -519,7 +519,7 @@ impl<'a> Builder<'a> {
         self.follow(line, is_unescaped, at, next)
     }
 
-    /// Reads the string at `at`, which stands in a line with no escape, and what follows it.
+    /// Reads the string at `at`, which is in a line with no escape, and what follows it.
     #[inline(always)]
     fn read_text(
         &mut self,
@@ -549,7 +549,7 @@ impl<'a> Builder<'a> {
         }
     }
 
-    /// Reads the value at `at`, which is no array or object, and what follows it.
+    /// Reads the value at `at`, which is neither an array nor an object, and what follows it.
     #[inline(always)]
     fn read_scalar(
         &mut self,
@@ -581,7 +581,7 @@ impl<'a> Builder<'a> {
         }
     }
 
-    /// Reads the value at `at`, and behind a value that has no children what follows it.
+    /// Reads the value at `at`, and after a value that has no children what follows it.
     #[inline(always)]
     fn read_on(
         &mut self,

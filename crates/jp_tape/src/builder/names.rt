@@ -77,7 +77,7 @@ fn has_equal_neighbours(bodies: &[Body<'_>]) -> bool
     false
 }
 
-/// Whether two bodies are equal, by comparing each with all behind it.
+/// Whether two bodies are equal, by comparing each with all after it.
 fn has_equal_pair(bodies: &[Body<'_>]) -> bool
     ensures { result ≡ has_repeated (all_points bodies.now) }
 {

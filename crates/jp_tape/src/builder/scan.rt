@@ -31,7 +31,7 @@ fn is_number_byte(byte: u8) -> bool
         || byte == b'-'
 }
 
-/// Whether white space stands there.
+/// Whether white space is there.
 fn is_white_at(line: &[u8], at: usize) -> bool
     ensures inside { result ≡ true → at < length line.now }
     ensures is { result ≡ is_white (byte_at line.now at) }
@@ -80,7 +80,7 @@ pub(super) fn next_token(line: &[u8], marks: &[u32], from: usize) -> usize
     first_mark(line, marks)
 }
 
-/// The marks behind the first so many.
+/// The marks after the first so many.
 #[inline(always)]
 pub(super) fn marks_behind(marks: &[u32], count: usize) -> &[u32]
     requires { count ≤ length marks.now }
@@ -115,7 +115,7 @@ pub(super) fn digits_end(line: &[u8], from: usize) -> usize
     at
 }
 
-/// Whether a byte of a number stands there.
+/// Whether a byte of a number is there.
 pub(super) fn is_number_at(line: &[u8], at: usize) -> bool
     ensures { result ≡ in_number (byte_at line.now at) }
 {
@@ -137,7 +137,7 @@ pub(super) fn number_bytes_end(line: &[u8], from: usize) -> usize
     at
 }
 
-/// The end of the word, where it stands at `from`.
+/// The end of the word, where it is at `from`.
 pub(super) fn word_end(line: &[u8], from: usize, word: &[u8]) -> Option<usize>
     requires { from ≤ length line.now }
     ensures found { IfSome result (λ to. Reads line.now from to word.now × (to ≡ from + length word.now)) }
@@ -154,7 +154,7 @@ pub(super) fn word_end(line: &[u8], from: usize, word: &[u8]) -> Option<usize>
     }
 }
 
-/// Whether this byte stands there.
+/// Whether this byte is there.
 #[inline(always)]
 pub(super) fn is_at(line: &[u8], at: usize, byte: u8) -> bool
     ensures yes { result ≡ true → Has line.now at byte }

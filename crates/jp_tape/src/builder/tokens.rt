@@ -39,7 +39,7 @@ pub(super) struct NumberEnd {
     is_long: bool,
 }
 
-/// A value that is no array or object.
+/// A value that is neither an array nor an object.
 #[derive(Clone, Copy)]
 pub(super) struct Scalar {
     pub(super) kind: Kind,
@@ -52,7 +52,7 @@ pub(super) struct Scalar {
     pub(super) marks: usize,
 }
 
-/// What stands before the value of a child: in an object its name, and the place of the value.
+/// What comes before the value of a child: in an object its name, and the place of the value.
 #[derive(Clone, Copy)]
 pub(super) struct Label {
     pub(super) name: Option<Span>,
@@ -63,7 +63,7 @@ pub(super) struct Label {
     pub(super) value: usize,
 }
 
-/// The quote that closes the string at `from`: the mark behind that of its opening quote.
+/// The quote that closes the string at `from`: the mark after that of its opening quote.
 #[inline(always)]
 fn closing_quote(line: &[u8], marks: &[u32], from: usize) -> Option<usize>
     requires opens { Has line.now from 0x22 }
@@ -145,7 +145,7 @@ fn string_end(line: &[u8], is_unescaped: bool, marks: &[u32], from: usize) -> Op
     }
 }
 
-/// The place behind a minus sign at `from`, or `from` where none stands there.
+/// The place after a minus sign at `from`, or `from` if there is none.
 #[inline(always)]
 fn behind_minus(line: &[u8], from: usize) -> usize
     requires inside { from < length line.now }
@@ -171,7 +171,7 @@ fn int_end(line: &[u8], from: usize) -> Option<usize>
     Some(end)
 }
 
-/// The end of the fraction part at `from`, or `from` where no point stands there.
+/// The end of the fraction part at `from`, or `from` if there is no point.
 #[inline(always)]
 fn fraction_end(line: &[u8], from: usize) -> Option<usize>
     requires within { from ≤ length line.now }
@@ -227,7 +227,7 @@ fn number_end(line: &[u8], from: usize) -> Option<NumberEnd>
     any_number_end(line, from)
 }
 
-/// The same, of any number.
+/// Where a number ends, however it is spelled, as `number_end` finds it.
 fn any_number_end(line: &[u8], from: usize) -> Option<NumberEnd>
     requires inside { from < length line.now }
     requires room { length line.now < 2 ^ 32 }
@@ -325,7 +325,7 @@ pub(super) fn plain_name_at(line: &[u8], marks: &[u32], from: usize) -> Option<L
     })
 }
 
-/// What stands before an element's value at `from`: nothing.
+/// What comes before an element's value at `from`: nothing.
 #[inline(always)]
 pub(super) fn no_name(from: usize) -> Label
     ensures value { result.value ≡ from }
@@ -387,7 +387,7 @@ pub(super) fn text_at(line: &[u8], is_unescaped: bool, marks: &[u32], from: usiz
     })
 }
 
-/// The value at `from`, which is no array or object.
+/// The value at `from`, which is neither an array nor an object.
 #[inline(always)]
 pub(super) fn scalar_at(
     line: &[u8],

@@ -107,7 +107,7 @@ fn push_integer(alloc: Global, integer: Option<i64>, out: &mut Vec<u8>) -> Resul
     Ok(())
 }
 
-/// A selector that is no filter; of a filter its question mark alone.
+/// A selector that is not a filter; of a filter its question mark alone.
 fn push_selector(alloc: Global, selector: &Selector, out: &mut Vec<u8>) -> Result<(), AllocError> {
     match selector {
         Selector::Name(name) => push_barred(name.as_str(), out),
@@ -124,7 +124,7 @@ fn push_selector(alloc: Global, selector: &Selector, out: &mut Vec<u8>) -> Resul
     }
 }
 
-/// Selectors, a comma behind each.
+/// Selectors, a comma after each.
 fn push_selectors(
     alloc: Global,
     selectors: &[Selector],
@@ -168,7 +168,7 @@ fn push_literal(literal: &Literal, out: &mut Vec<u8>) -> Result<(), AllocError> 
     }
 }
 
-/// A call whose arguments are literals and queries, a comma behind each.
+/// A call whose arguments are literals and queries, a comma after each.
 fn push_call(alloc: Global, call: &Call, out: &mut Vec<u8>) -> Result<(), AllocError> {
     out.extend_from_slice(call.name.as_bytes())?;
     out.push(b'(')?;
@@ -266,7 +266,7 @@ fn push_all(alloc: Global, selectors: &[Selector], out: &mut Vec<u8>) -> Result<
     Ok(())
 }
 
-/// The tree that a text spells: one bar before a segment to children, two before one to descendants, a comma behind each
+/// The tree that a text spells: one bar before a segment to children, two before one to descendants, a comma after each
 /// selector, names and texts between bars, and a question mark before the expression of a filter.
 fn tree_of(alloc: Global, text: &str) -> Result<Vec<u8>, Fail> {
     let Ok(query) = parse(alloc, text.as_bytes()) else {

@@ -1,14 +1,15 @@
 -- An unknown command wants no memory.
-use Rattle.std.proofs.Common.{ap, refl, subst, sym}
+use Rattle.std.proofs.Common.{ap, refl, subst, sym, arith}
 use Rattle.jp_model.specs.Script.Commands.{Command, unknown_line}
 use Rattle.jp_query.specs.Status.{query_of}
 use Rattle.jp_cli.specs.Commands.{command_view}
-use Rattle.jp_cli.specs.Runs.{AnswersOne}
+use Rattle.jp_cli.specs.Runs.{AnswersOne, at}
 use Rattle.jp_cli.proofs.Replied.{stepped}
 use Rattle.jp_cli.proofs.answer.answer_command.Goals as goal
 
 pub returns-in-Unknown-clause-ran : goal.returns-in-Unknown-clause-ran
 returns-in-Unknown-clause-ran g c =
     let state = c.args.store.now.state in
-    subst (λ (k : Command). AnswersOne query_of g.W.Write.contents c.args.out.now c.write_whole.new.out c.write_whole.result c.args.setup k state state) (sym (ap command_view c.in-Unknown.is))
-    (stepped query_of c.args.setup unknown_line g.W.Write.contents c.args.out.now c.write_whole.new.out c.write_whole.result state state _ refl refl c.write_whole.ensures.text)
+    let n = c.args.opened.now in
+    subst (λ (k : Command). AnswersOne query_of g.W.Write.contents c.args.out.now c.write_whole.new.out c.write_whole.result c.args.setup k (at state n) (at state n)) (sym (ap command_view c.in-Unknown.is))
+    (stepped query_of c.args.setup unknown_line g.W.Write.contents c.args.out.now c.write_whole.new.out c.write_whole.result (at state n) (at state n) _ refl refl (omega arith) c.write_whole.ensures.text)

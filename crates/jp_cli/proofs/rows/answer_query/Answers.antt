@@ -1,12 +1,13 @@
 -- A refused query is told by its fault.
 use Rattle.jp_query.specs.Status.{query_of}
 use Rattle.jp_model.specs.Script.Commands.{query_line}
-use Rattle.jp_cli.proofs.Refused.{query_refused}
+use Rattle.jp_cli.proofs.Refused.{none_opened, query_refused}
 use Rattle.jp_cli.proofs.Replied.{replied}
 use Rattle.jp_cli.proofs.rows.answer_query.Goals as goal
 
 pub returns-in-Err-clause-ran : goal.returns-in-Err-clause-ran
 returns-in-Err-clause-ran g c =
     let state = c.args.store.now.state in
-    replied query_of c.args.setup (query_line c.args.text.now) g.W.Write.contents c.args.out.now c.write_reply.new.out c.write_reply.result c.refuse_query.result state state
+    replied query_of c.args.setup (query_line c.args.text.now) g.W.Write.contents c.args.out.now c.write_reply.new.out c.write_reply.result c.refuse_query.result state state c.args.opened.now
+    (none_opened c.args.setup state c.args.text.now c.in-Err.refusal c.refuse_query.result c.in-Err.ensures.err c.refuse_query.ensures)
     (query_refused c.args.setup state c.args.text.now c.in-Err.refusal c.refuse_query.result c.in-Err.ensures.err c.refuse_query.ensures) c.write_reply.ensures.text

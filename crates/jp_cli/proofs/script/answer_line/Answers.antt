@@ -2,13 +2,14 @@
 use Rattle.std.proofs.Common.{refl, subst, ◌∙◌, ap}
 use Rattle.jp_model.specs.Script.Commands.{Command, command_of}
 use Rattle.jp_cli.specs.Commands.{asked_in}
-use Rattle.jp_cli.specs.Runs.{AnswersOne}
+use Rattle.jp_cli.specs.Runs.{AnswersOne, at}
 use Rattle.jp_query.specs.Status.{query_of}
 use Rattle.jp_cli.proofs.Runs.{answer_one}
 use Rattle.jp_cli.proofs.script.answer_line.Goals as goal
 
 pub returns-clause-ran : goal.returns-clause-ran
 returns-clause-ran g c =
-    let one = subst (λ (k : Command). AnswersOne query_of g.W.Write.contents c.args.out.now c.answer_command.new.out c.answer_command.result c.args.setup k c.args.store.now.state c.answer_command.new.store.state)
+    let one = subst (λ (k : Command). AnswersOne query_of g.W.Write.contents c.args.out.now c.answer_command.new.out c.answer_command.result c.args.setup k (at c.args.store.now.state c.args.opened.now)
+    (at c.answer_command.new.store.state c.answer_command.new.opened))
     (c.read_command-command.ensures ∙ ap command_of c.without_final_cr.ensures) c.answer_command.ensures.ran in
-    (_, answer_one query_of asked_in c.args.setup _ _ _ _ one.0 one.1 refl one.2, one.3)
+    (_, answer_one query_of asked_in c.args.setup _ _ _ _ one.0 one.1 refl one.2 one.3, one.4)

@@ -13,6 +13,11 @@ push_nodes-requires-clause-line c = (open_now (plan_of c.args.self.now) c.in-Som
 pub push_nodes-requires-clause-opened : goal.push_nodes-requires-clause-opened
 push_nodes-requires-clause-opened c = (open_now (plan_of c.args.self.now) c.in-Some.turn c.in-Open.line c.loop-turn.to_open.now c.loop-turn.to_refuse.now (rows_view c.loop-turn.rows.items) c.in-Some.ensures c.in-Open.is c.loop-turn.invariant.left).passes
 
+pub push_nodes-requires-clause-room : goal.push_nodes-requires-clause-room
+push_nodes-requires-clause-room c =
+    let off = one_off c.in-Some.turn c.in-Open.line c.loop-turn.to_open.now c.loop-turn.to_refuse.now c.in-Some.ensures c.in-Open.is in
+    omega (arith, off, c.loop-turn.invariant.counted, c.requires.room)
+
 pub loop-turn-preserved-in-Continue-1 : goal.loop-turn-preserved-in-Continue-1
 loop-turn-preserved-in-Continue-1 c =
     let p = plan_of c.args.self.now in
@@ -22,6 +27,7 @@ loop-turn-preserved-in-Continue-1 c =
       left = moved p _ _ _ _ _ _ c.behind_first-to_open.ensures refl c.in_ok-push_nodes-in-Open.ensures.rows now.left;
       on_lines = c.in_ok-push_nodes-in-Open.ensures.lines c.loop-turn.invariant.on_lines;
       counted = let k = ap length c.behind_first-to_open.ensures in omega (arith, off, k, c.in_ok-push_nodes-in-Open.ensures.count, c.loop-turn.invariant.counted);
+      added = omega (arith, c.in_ok-push_nodes-in-Open.ensures.count, c.loop-turn.invariant.added);
     }
 
 pub push_refusal-requires-clause-line : goal.push_refusal-requires-clause-line
@@ -38,6 +44,7 @@ loop-turn-preserved c =
       left = moved p _ _ _ _ _ _ refl c.behind_first-to_refuse.ensures c.in_ok-push_refusal-in-Refuse.ensures.rows now.left;
       on_lines = c.in_ok-push_refusal-in-Refuse.ensures.lines c.loop-turn.invariant.on_lines;
       counted = c.loop-turn.invariant.counted;
+      added = c.loop-turn.invariant.added;
     }
 
 pub returns-clause-rows : goal.returns-clause-rows

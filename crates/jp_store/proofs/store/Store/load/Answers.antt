@@ -1,5 +1,6 @@
 -- The lines are those of the bytes that came, each read, and no index is there.
 use Rattle.std.proofs.Common.{◌≡◌, true, false, refl, ◌∙◌, ℕ, List, length, map, sym, ap, ap₂, subst, arith, All}
+use Rattle.std.proofs.lemmas.Bool.{false≢true}
 use Rattle.jp_model.proofs.Devices.{came_so, goes_on, came_whole, not_ended, was_ended}
 use Rattle.jp_model.specs.Lines.{is_framed, lines}
 use Rattle.jp_model.specs.Steps.{Step}
@@ -15,19 +16,19 @@ pub returns-in-Err-Read-clause-came : goal.returns-in-Err-Read-clause-came
 returns-in-Err-Read-clause-came g c =
     let came = c.in-Err-Read.ensures.bytes in
     let size = rw c.in-Err-Read.field-0-is at came.2 in
-    (came_so came.0 false c.read_collection.new.reader.failed, goes_on g.R.Read.remaining c.args.reader.now c.read_collection.new.reader came.0 came.1 c.requires (not_ended _ _ c.in-Err-Read.ensures.end), size)
+    (came_so came.0 false c.read_collection.new.reader.failed, goes_on g.R.Read.remaining c.args.reader.now c.read_collection.new.reader came.0 came.1 c.requires (not_ended _ _ c.in-Err-Read.ensures.end), (refl, size))
 
 pub returns-in-Err-Size-clause-came : goal.returns-in-Err-Size-clause-came
 returns-in-Err-Size-clause-came g c =
     let came = c.in-Err-Size.ensures.bytes in
     let size = rw c.in-Err-Size.field-0-is at came.2 in
-    (came_so came.0 false c.read_collection.new.reader.failed, goes_on g.R.Read.remaining c.args.reader.now c.read_collection.new.reader came.0 came.1 c.requires (not_ended _ _ c.in-Err-Size.ensures.end), size)
+    (came_so came.0 false c.read_collection.new.reader.failed, goes_on g.R.Read.remaining c.args.reader.now c.read_collection.new.reader came.0 came.1 c.requires (not_ended _ _ c.in-Err-Size.ensures.end), (refl, size))
 
 pub returns-in-Err-Memory-clause-came : goal.returns-in-Err-Memory-clause-came
 returns-in-Err-Memory-clause-came g c =
     let came = c.in-Err-Memory.ensures.bytes in
     let size = rw c.in-Err-Memory.field-0-is at came.2 in
-    (came_so came.0 false c.read_collection.new.reader.failed, goes_on g.R.Read.remaining c.args.reader.now c.read_collection.new.reader came.0 came.1 c.requires (not_ended _ _ c.in-Err-Memory.ensures.end), size)
+    (came_so came.0 false c.read_collection.new.reader.failed, goes_on g.R.Read.remaining c.args.reader.now c.read_collection.new.reader came.0 came.1 c.requires (not_ended _ _ c.in-Err-Memory.ensures.end), (size, λ e. absurd (false≢true e)))
 
 pub returns-then-not-is_framed_text-clause-came : goal.returns-then-not-is_framed_text-clause-came
 returns-then-not-is_framed_text-clause-came g c =
@@ -42,7 +43,7 @@ returns-in_default-clause-came g c =
     let came = c.in-Ok.ensures.bytes in (
       came_so came.0 true c.read_collection.new.reader.failed,
       came_whole g.R.Read.remaining c.args.reader.now c.read_collection.new.reader came.0 came.1 (was_ended g.R.Read.remaining _ _ c.requires c.in-Ok.ensures.end c.in-Ok.ensures.ended),
-      came.2.1,
+      (came.2.1, λ e. ap (is_framed c.args.framing) (sym came.2.0 ∙ sym c.deref.ensures.value) ∙ sym c.if-not-is_framed_text.ensures),
     )
 
 pub returns-in_default-measure-clause-came : goal.returns-in_default-measure-clause-came
@@ -50,7 +51,7 @@ returns-in_default-measure-clause-came g c =
     let came = c.in-Ok.ensures.bytes in (
       came_so came.0 true c.read_collection.new.reader.failed,
       came_whole g.R.Read.remaining c.args.reader.now c.read_collection.new.reader came.0 came.1 (was_ended g.R.Read.remaining _ _ c.requires c.in-Ok.ensures.end c.in-Ok.ensures.ended),
-      came.2.1,
+      (came.2.1, λ e. ap (is_framed c.args.framing) (sym came.2.0 ∙ sym c.deref.ensures.value) ∙ sym c.if-not-is_framed_text.ensures),
     )
 
 pub returns-clause-came : goal.returns-clause-came

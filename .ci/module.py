@@ -1,0 +1,150 @@
+"""Tries examples/jpq.py with the program that is named, in the folder that is named: each answer, each kind of exception,
+answers larger than any pipe, commands asked before the last answer was read, and sequences.
+"""
+import decimal
+import gc
+import os
+import subprocess
+import sys
+
+program, room = sys.argv[1:]
+sys.dont_write_bytecode = True
+sys.path.insert(0, os.path.join(os.path.dirname(os.path.abspath(__file__)), "..", "examples"))
+import jpq  # noqa: E402
+
+os.environ["JPQ"] = program
+os.chdir(room)
+passed = failed = 0
+
+
+def shows(name, wanted, found):
+    global passed, failed
+    if wanted == found:
+        passed += 1
+    else:
+        failed += 1
+        print(f"jpq.py, {name}: NOT AS STATED: {str(found)[:300]} for {str(wanted)[:300]}")
+
+
+def raised(act):
+    """What an act raises, as its class and what it tells."""
+    try:
+        act()
+    except Exception as fault:
+        return type(fault), getattr(fault, "fault", getattr(fault, "status", None))
+    return None
+
+
+def written(name, content):
+    with open(name, "wb") as file:
+        file.write(content)
+    return name
+
+
+LINES = written("lines", b'{"a":1.50,"b":[1,\t2]}\n\n\xff\n{"a":"\\u00e9"}\r\n'
+                b'{"a":9007199254740993, "c":' + b"7" * 5000 + b"}")
+SEQUENCE = written("sequence", b'\x1e{"a":[\n\n1,\n2\n]}\n\x1ex\x1e\x1e{"a": {\n"a":\nnull}}\n\x1e 12')
+
+
+def answers():
+    with jpq.open(LINES) as log:
+        rows = log.query("$.a")
+        shows("query", [(1, "$['a']", b"1.50"), (4, "$['a']", b'"\\u00e9"'), (5, "$['a']", b"9007199254740993")], list(rows))
+        shows("refused", ([(3, "utf8")], 3), (rows.refused, rows.count))
+        shows("blanks", [(1, "$['b']", b"[1,\t2]")], list(log.query("$\n .b")))
+        decoded = [value for _, _, value in log.query("$['a','b']", decode=True)]
+        shows("decode", [decimal.Decimal("1.50"), [1, 2], "\u00e9", 9007199254740993], decoded)
+        shows("exact", "1.50", str(decoded[0]))
+        shows("a long number", [decimal.Decimal("7" * 5000)], [row.value for row in log.query("$.c", decode=True)])
+        shows("check", (5, 1, 1, ((3, "utf8"),)), log.check())
+        shows("index", (3, 1), (log.index("$.a"), log.index("$['b']")))
+        shows("indexes", ("$['a']", "$['b']"), log.indexes())
+        shows("explain", (("seek $['b']", "child 1"), 1, 3), log.explain("$.b.*"))
+        shows("drop", (None, ("$['a']",)), (log.drop("$.b"), log.indexes()))
+        shows("append", (6, 7), (log.append('{"a":"\u00e9"}'), log.append(b"\xff")))
+        shows("replace", None, log.replace(1, "5\r"))
+        shows("edited", [4, 5, 6], [row.line for row in log.query("$.a")])
+        shows("edits, checked", (7, 2, 1), log.check()[:3])
+        shows("nothing", ([], 0), (list(rows := log.query("$.absent")), rows.count))
+
+
+def refusals():
+    log = jpq.open(LINES)
+    shows("query syntax", (jpq.QueryRefusal, "query syntax"), raised(lambda: log.query("$[")))
+    shows("query function", (jpq.QueryRefusal, "query function"), raised(lambda: log.explain("$[?a(@)]")))
+    shows("index path", (jpq.IndexRefusal, "index path"), raised(lambda: log.index("$..a")))
+    shows("index missing", (jpq.IndexRefusal, "index missing"), raised(lambda: log.drop("$.a")))
+    shows("line", (jpq.LineRefusal, "line"), raised(lambda: log.replace(9, "1")))
+    shows("command", (jpq.CommandRefusal, "command"), raised(lambda: log.replace(0, "1")))
+    shows("a line feed", (ValueError, None), raised(lambda: log.append("1\n2")))
+    shows("afterwards", 5, log.check().lines)
+    log.close()
+    log.close()
+    shows("closed", (ValueError, None), raised(log.check))
+    with jpq.open(SEQUENCE, seq=True) as log:
+        shows("separator", (jpq.SeparatorRefusal, "separator"), raised(lambda: log.append("\x1e1")))
+
+
+def statuses():
+    shows("absent", (jpq.Ended, 3), raised(lambda: jpq.open("absent")))
+    shows("folder", (jpq.Ended, 11), raised(lambda: jpq.open(".")))
+    shows("no sequence", (jpq.Ended, 13), raised(lambda: jpq.open(LINES, seq=True)))
+    with jpq.open(written("--seq", b"")) as log:
+        shows("a name with a hyphen", 0, log.check().lines)
+    shows("no program", (FileNotFoundError, None), raised(lambda: jpq.open(LINES, program="./absent")))
+    try:
+        jpq.open("absent")
+    except jpq.Ended as ended:
+        shows("message", "jpq: cannot open collection", ended.message)
+    with subprocess.Popen(["cat", LINES], stdout=subprocess.PIPE) as cat, jpq.open(cat.stdout) as log:
+        shows("a pipe", 5, log.check().lines)
+    log = jpq.open(LINES)
+    log._process.kill()
+    shows("killed", (jpq.Ended, -9), raised(log.check))
+
+
+def sequences():
+    with jpq.open(SEQUENCE, seq=True) as log:
+        values = [(1, b"[\n\n1,\n2\n]"), (3, b'{\n"a":\nnull}'), (3, b"null")]
+        rows = log.query("$..a")
+        shows("values with line feeds", values, [(row.line, row.value) for row in rows])
+        shows("refused texts", ([(2, "grammar"), (4, "truncated")], 3), (rows.refused, rows.count))
+        shows("check of texts", (4, 2, 0), log.check()[:3])
+        outer = log.query("$..a")
+        shows("a row, and the rest behind a check", (values[0], 4, values[1:]),
+              ((lambda row: (row.line, row.value))(next(outer)), log.check().lines, [(row.line, row.value) for row in outer]))
+
+
+def pipes():
+    """Answers and commands much larger than a pipe, in every order."""
+    count = 40000
+    with jpq.open(written("many", b"".join(b'{"n":%d,"s":"%s"}\n' % (n, b"x" * 100) for n in range(count)))) as log:
+        shows("a large answer", count, sum(1 for _ in log.query("$.s")))
+        first = next(log.query("$.s"))
+        gc.collect()
+        shows("one that nobody holds", (1, count), (first.line, log.check().lines))
+        outer, seen = log.query("$.n"), []
+        for row in outer:
+            inner = log.query("$.s")
+            seen.append((row.line, next(inner).line))
+            if row.line == 3:
+                break
+        shows("one within another", [(1, 1), (2, 1), (3, 1)], seen)
+        shows("both to their ends", (count - 3, count - 1), (sum(1 for _ in outer), sum(1 for _ in inner)))
+        kept = log.query("$.s")
+        text = '"' + "y" * 3_000_000 + '"'
+        shows("a large command behind a large answer", count + 1, log.append(text))
+        shows("the answer is that of before", (count, count), (sum(1 for _ in kept), kept.count))
+        shows("a large value", len(text), [len(row.value) for row in log.query("$")][-1])
+        log.query("$.s")
+        left = log.query("$.s")
+    shows("closed before its end", (ValueError, None), raised(lambda: list(left)))
+
+
+answers()
+refusals()
+statuses()
+sequences()
+pipes()
+print(f"jpq.py: {passed} passed, {failed} failed")
+sys.exit(failed > 0)

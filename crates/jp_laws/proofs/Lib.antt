@@ -1,0 +1,20 @@
+-- Proofs of the laws.
+pub mod CommonScale
+pub mod CutPieces
+pub mod Defaults
+pub mod Descendants
+pub mod Distinct
+pub mod Moved
+pub mod NumberOrder
+pub mod PathTexts
+pub mod IndexPlaces
+pub mod Locations
+pub mod PlainSides
+pub mod Reached
+pub mod RowFields
+pub mod Runs
+pub mod Utf8Lines
+pub mod WayBack
+pub mod SingularNodes
+pub mod SliceLoops
+pub mod ValueEquality

@@ -1,0 +1,8 @@
+use Rattle.jp_laws.proofs.NumberOrder.{numbers_decided, strings_decided}
+use Rattle.jp_laws.proofs.comparisons.order_is_decided.Goals as goal
+
+pub returns-clause-numbers : goal.returns-clause-numbers
+returns-clause-numbers c = numbers_decided
+
+pub returns-clause-strings : goal.returns-clause-strings
+returns-clause-strings c = strings_decided

@@ -1,0 +1,5 @@
+use Rattle.jp_laws.proofs.NumberOrder.{less_chain}
+use Rattle.jp_laws.proofs.comparisons.order_is_transitive.Goals as goal
+
+pub returns : goal.returns
+returns c = less_chain

@@ -1,0 +1,7 @@
+-- What the laws speak of beside the definitions of jp_model.
+pub mod Fallbacks
+pub mod Nodes
+pub mod Scripts
+pub mod Slices
+pub mod Spans
+pub mod Values

@@ -1,0 +1,11 @@
+//! Laws of the definitions, each the contract of a function without a body: what a reader may believe of `jp_model/specs`.
+#![tactic(auto)]
+
+pub mod calls;
+pub mod comparisons;
+pub mod cutting;
+pub mod nodes;
+pub mod paths;
+pub mod rows;
+pub mod scripts;
+pub mod slices;
