@@ -145,6 +145,22 @@ def lines_of_one_key(checks):
     checks.check("lines of one key", answered("[true]\n" * count + "{}\n", script), (0, stated))
 
 
+def edits_of_many_lines(checks):
+    """As many edits as there are lines, under an index: their keys rise, fall, are equal or scattered."""
+    count = 400_000
+    orders = {"rising": lambda number: count + number, "falling": lambda number: -number, "equal": lambda number: -1, "scattered": lambda number: number * 7919 % count}
+    for name, key_of in orders.items():
+        keys = [key_of(number) for number in range(count)]
+        script = "index $.a\n" + "".join(f'replace {number + 1} {{"a":{key}}}\n' for number, key in enumerate(keys))
+        stated = f"indexed {count}\n" + "".join(f"replaced {number + 1}\n" for number in range(count))
+        least, most, middle = min(keys), max(keys), sorted(keys)[count // 2]
+        for operator, bound in (("<=", least), (">=", most), ("<", middle), ("==", middle)):
+            found = [number + 1 for number, key in enumerate(keys) if {"<=": key <= bound, ">=": key >= bound, "<": key < bound, "==": key == bound}[operator]]
+            script += f"query $[?$.a{operator}{bound}]\n"
+            stated += "".join(f"{line}\t$['a']\t{keys[line - 1]}\n" for line in found) + f"= {len(found)}\n"
+        checks.check(f"edits with {name} keys", answered("".join(f'{{"a":{number}}}\n' for number in range(count)), script), (0, stated))
+
+
 def texts_of_numbers(checks):
     """Numbers are exact, whatever their digits; an exponent has at most 15 digits behind its leading zeros."""
     digits = "1" + "0" * MILLION
@@ -326,7 +342,7 @@ def sizes(checks):
 def main():
     checks = Checks()
     for part in (texts_of_brackets, texts_cut_short, texts_of_backslashes, texts_about_64_kibibytes, lines_behind_long_ones,
-                 objects_of_many_members, many_lines, lines_of_one_key, texts_of_numbers, texts_of_names, queries, patterns,
+                 objects_of_many_members, many_lines, lines_of_one_key, edits_of_many_lines, texts_of_numbers, texts_of_names, queries, patterns,
                  long_texts, long_numbers, objects_turned, large_objects, filters_from_the_root, devices, sizes):
         part(checks)
     print(f"{checks.passed} passed, {checks.failed} failed")

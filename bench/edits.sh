@@ -1,31 +1,51 @@
 #!/usr/bin/env bash
-# Times 100,000 edits of 100,000 lines under an index, the loading too, beside the same updates in `sqlite3` in one transaction
-# under an index on the expression. It says its machine and makes no claim. Build the program first:
+# Times edits of a collection, as many as it has lines, the loading too, beside the same changes in `sqlite3` in one transaction: each
+# line replaced, or as many appended, under an index on one member and under indexes on sixteen, and each line refused and then whole
+# again, under none. SIZES says how many lines (100,000 to 800,000). It says its machine and makes no claim. Build the program first:
 # (cd crates/jpq && rt run -- /dev/null < /dev/null)
 set -euo pipefail
 cd "$(dirname "${BASH_SOURCE[0]}")/.."
 . bench/timing.sh
-count=100000
+sizes=${SIZES:-100000 200000 400000 800000}
 lines=$folder/lines.jsonl
-awk -v lines="$count" 'BEGIN { for (n = 1; n <= lines; n++) printf "{\"id\":%d,\"key\":\"k%d\",\"user\":{\"name\":\"user %d\"}}\n", n, n, n % 1000 }' > "$lines"
-row() { printf '| %s | %s |\n' "$1" "$(least "${@:2}")"; }
+members=$(seq 0 14)
+# The text of a line, from its number and a key: members that are indexed, whose values sort elsewhere than the lines do.
+text='function text(n, key,  k, all) { all = "{\"id\":" n ",\"key\":\"" key "\""; for (k = 0; k < 15; k++) all = all ",\"k" k "\":" (n * (2 * k + 3)) % 99991; return all "}" }'
+# Each line once, in an order that jumps.
+jumps='function line_of(n) { return (n * 7919) % lines + 1 } function key_of(n) { return "n" (line_of(n) * 31) % lines }'
+make() { awk -v lines="$1" -v quote="'" "$text $jumps BEGIN { for (n = 0; n < lines; n++) { $2 } }"; }
+# An index on the first member, and on the other fifteen.
+paths() { echo "$.key"; if [ "$1" = 16 ]; then for k in $members; do echo "$.k$k"; done; fi; }
+in_sqlite() {
+    echo 'create table t(line text);'
+    printf '.mode list\n.separator |\n.import %s t\n' "$lines"
+    if [ "$1" != 0 ]; then paths "$1" | awk -v quote="'" '{ print "create index i" NR " on t(json_extract(line, " quote $1 quote "));" }'; fi
+    echo 'begin;'
+    cat "$2"
+    echo 'commit;'
+}
+# times NAME SIZE INDEXES COMMANDS STATEMENTS: a row of the table; the commands and statements are parts of an awk program.
+times() {
+    { if [ "$3" != 0 ]; then paths "$3" | sed 's/^/index /'; fi; make "$2" "$4"; } > "$folder/script"
+    local ours theirs=-
+    ours=$(least "$program" "$lines" --script "$folder/script")
+    if has sqlite3; then
+        make "$2" "$5" > "$folder/changes"
+        in_sqlite "$3" "$folder/changes" > "$folder/sql"
+        theirs=$(least sqlite3 :memory: ".read $folder/sql")
+    fi
+    echo "| $2 | $1 | $ours | $theirs |"
+}
 tell_machine
-printf '| %s | seconds |\n|---|---|\n' "$(tell_collection "$lines")"
-# Each line once, in an order that jumps, with a key that sorts elsewhere.
-awk -v lines="$count" 'BEGIN { for (n = 0; n < lines; n++) { line = (n * 7919) % lines + 1; print line, (line * 31) % lines } }' > "$folder/edits"
-{
-    echo 'index $.key'
-    awk '{ printf "replace %d {\"id\":%d,\"key\":\"n%d\",\"user\":{\"name\":\"user %d\"}}\n", $1, $1, $2, $1 }' "$folder/edits"
-} > "$folder/script"
-row 'jpq: load, index, 100,000 edits' "$program" "$lines" --script "$folder/script"
-if has sqlite3; then
-    {
-        echo 'create table t(line text);'
-        printf '.mode list\n.separator |\n.import %s t\n' "$lines"
-        echo "create index k on t(json_extract(line, '\$.key'));"
-        echo 'begin;'
-        awk -v quote="'" '{ printf "update t set line = %s{\"id\":%d,\"key\":\"n%d\",\"user\":{\"name\":\"user %d\"}}%s where rowid = %d;\n", quote, $1, $2, $1, quote, $1 }' "$folder/edits"
-        echo 'commit;'
-    } > "$folder/sql"
-    row 'sqlite3: load, index, 100,000 updates' sqlite3 :memory: ".read $folder/sql"
-fi
+printf '| lines | as many edits | jpq, s | sqlite3, s |\n|---|---|---|---|\n'
+for size in $sizes; do
+    make "$size" 'print text(n + 1, "k" n + 1)' > "$lines"
+    for indexes in 1 16; do
+        times "replaced, indexes: $indexes" "$size" "$indexes" 'print "replace " line_of(n) " " text(line_of(n), key_of(n))' \
+            'print "update t set line = " quote text(line_of(n), key_of(n)) quote " where rowid = " line_of(n) ";"'
+        times "appended, indexes: $indexes" "$size" "$indexes" 'print "append " text(line_of(n), key_of(n))' \
+            'print "insert into t values(" quote text(line_of(n), key_of(n)) quote ");"'
+    done
+    times 'refused and whole again' "$size" 0 'line = line_of(n); print "replace " line " {\"id\":"; print "replace " (line * 31) % lines + 1 " " text(line, "k")' \
+        'line = line_of(n); print "update t set line = " quote "{\"id\":" quote " where rowid = " line ";"; print "update t set line = " quote text(line, "k") quote " where rowid = " (line * 31) % lines + 1 ";"'
+done

@@ -1,12 +1,12 @@
 -- Lists of which each element stands in a relation to those behind it, and where a test of them ends.
-use Rattle.std.proofs.Common.{◌≡◌, ◌≢◌, ◌∙◌, ℕ, zero, suc, ◌+◌, ◌<◌, ◌≤◌, Bool, true, false, List, [], ◌∷◌, length, get_or, take, drop, refl, sym, ap, ap₂, subst, arith, ◌⊎◌, inl, inr}
+use Rattle.std.proofs.Common.{◌≡◌, ◌≢◌, ◌∙◌, ℕ, zero, suc, ◌+◌, ◌<◌, ◌≤◌, Bool, true, List, [], ◌∷◌, ◌++◌, length, get_or, take, drop, refl, sym, ap, ap₂, subst, arith, ◌⊎◌, inl, inr}
 use Rattle.std.specs.Prelude.{All, Contains, insert, remove}
 use Rattle.std.specs.List.{AllPairs, AllWithin}
-use Rattle.std.specs.List.Sorted.{IsPartitionedBy, IsPartitionPoint}
+use Rattle.std.specs.List.Sorted.{IsPartitionedBy}
 use Rattle.std.proofs.lemmas.Bool.{cases_lt}
-use Rattle.std.proofs.lemmas.List.{get_or_default, take-append-drop}
+use Rattle.std.proofs.lemmas.List.{get_or_append_left, get_or-append-add, get_or_default, length-append}
 use Rattle.std.proofs.lemmas.List.Edits.{get_or-remove_below, get_or-remove_above, length-remove}
-use Rattle.std.proofs.lemmas.List.Elements.{All-nil, All-cons, All-contains, All-from_all_within, Contains-append_left, Contains-append_right, Contains-append_cases}
+use Rattle.std.proofs.lemmas.List.Elements.{All-nil, All-cons, All-contains, All-from_all_within}
 use Rattle.std.proofs.lemmas.List.Kept.{AllPairs-cons}
 use Rattle.std.proofs.lemmas.List.Sorted.{All-permutation, IsPermutation-insert}
 
@@ -24,12 +24,12 @@ module _ {X : Type 0} (P : X → Type 0) where
   front_rest : (x : X) (xs : List X) (i : ℕ) → AllWithin P (x ∷ xs) 0 (suc i) → AllWithin P xs 0 i
   front_rest x xs i h k d low high = h (suc k) d (omega arith) (omega arith)
 
-  front_all : (xs : List X) (i : ℕ) → AllWithin P xs 0 i → All P (take i xs)
+  pub front_all : (xs : List X) (i : ℕ) → AllWithin P xs 0 i → All P (take i xs)
   front_all xs zero h = All-nil P
   front_all [] (suc i) h = All-nil P
   front_all (x ∷ xs) (suc i) h = All-cons P x (take i xs) (h zero x (omega arith) (omega arith)) (front_all xs i (front_rest x xs i h))
 
-  behind_all : (xs : List X) (i : ℕ) → AllWithin P xs i (length xs) → All P (drop i xs)
+  pub behind_all : (xs : List X) (i : ℕ) → AllWithin P xs i (length xs) → All P (drop i xs)
   behind_all xs zero h = All-from_all_within P xs h
   behind_all [] (suc i) h = All-nil P
   behind_all (x ∷ xs) (suc i) h = behind_all xs i (within_rest x xs i (length xs) h)
@@ -66,6 +66,26 @@ module _ {X : Type 0} (R : X → X → Type 0) where
         | inr above ↦ let same : i ≡ j = omega arith in ap (λ k. p (get_or xs k d)) same ∙ e
       ]
 
+-- ---- one list behind another
+
+module _ {X : Type 0} (R : X → X → Type 0) (xs ys : List X) (h : AllPairs R (xs ++ ys)) where
+  pub cross : (x y : X) → Contains xs x → Contains ys y → R x y
+  cross x y (i, l, e) (j, m, f) =
+      let n = length-append xs ys in
+      let left : get_or (xs ++ ys) i y ≡ x = get_or_append_left xs ys y i l ∙ get_or_default xs i y x l ∙ e in
+      let right : get_or (xs ++ ys) (length xs + j) y ≡ y = get_or-append-add xs ys j y ∙ f in
+      subst (λ a. R a y) left (subst (R (get_or (xs ++ ys) i y)) right (h i (length xs + j) y (omega arith) (omega arith)))
+
+  pub pairs_left : AllPairs R xs
+  pairs_left i j d l m =
+      let n = length-append xs ys in
+      subst (λ a. R a (get_or xs j d)) (get_or_append_left xs ys d i (omega arith)) (subst (R (get_or (xs ++ ys) i d)) (get_or_append_left xs ys d j m) (h i j d l (omega arith)))
+
+  pub pairs_right : AllPairs R ys
+  pairs_right i j d l m =
+      let n = length-append xs ys in
+      subst (λ a. R a (get_or ys j d)) (get_or-append-add xs ys i d) (subst (R (get_or (xs ++ ys) (length xs + i) d)) (get_or-append-add xs ys j d) (h (length xs + i) (length xs + j) d (omega arith) (omega arith)))
+
 -- ---- elements
 
 pub among_cons : {X : Type 0} (x z : X) (xs : List X) → Contains (x ∷ xs) z → (z ≡ x) ⊎ Contains xs z
@@ -80,32 +100,6 @@ among_rest x z xs h = (suc h.0, omega (arith, h.1), h.2)
 
 pub among_none : {X : Type 0} (z : X) → Contains [] z → ⊥
 among_none z h = omega (arith, h.1)
-
-clash : (b : Bool) → b ≡ true → b ≡ false → ⊥
-clash true h g = absurd (cc)
-clash false h g = absurd (cc)
-
--- the elements in front of where a test ends, and those behind it
-module _ {X : Type 0} (p : X → Bool) (xs : List X) (i : ℕ) (at : IsPartitionPoint (λ x. p x ≡ true) (λ x. p x ≡ false) xs i) where
-  pub in_front : (z : X) → Contains (take i xs) z → Contains xs z × (p z ≡ true)
-  in_front z h = (subst (λ ys. Contains ys z) (take-append-drop i xs) (Contains-append_left (take i xs) (drop i xs) z h), All-contains (λ x. p x ≡ true) (take i xs) z (front_all (λ x. p x ≡ true) xs i at.0) h)
-
-  pub behind : (z : X) → Contains (drop i xs) z → Contains xs z × (p z ≡ false)
-  behind z h = (subst (λ ys. Contains ys z) (take-append-drop i xs) (Contains-append_right (take i xs) (drop i xs) z h), All-contains (λ x. p x ≡ false) (drop i xs) z (behind_all (λ x. p x ≡ false) xs i at.1) h)
-
-  pub all_in_front : (z : X) → Contains xs z → p z ≡ true → Contains (take i xs) z
-  all_in_front z h e =
-      elim (Contains-append_cases (take i xs) (drop i xs) z (subst (λ ys. Contains ys z) (sym (take-append-drop i xs)) h)) [
-        | inl front ↦ front
-        | inr back ↦ absurd (clash (p z) e (behind z back).1)
-      ]
-
-  pub all_behind : (z : X) → Contains xs z → p z ≡ false → Contains (drop i xs) z
-  all_behind z h e =
-      elim (Contains-append_cases (take i xs) (drop i xs) z (subst (λ ys. Contains ys z) (sym (take-append-drop i xs)) h)) [
-        | inl front ↦ absurd (clash (p z) (in_front z front).1 e)
-        | inr back ↦ back
-      ]
 
 -- ---- numbers
 

@@ -1,5 +1,5 @@
 -- Lines in order of the keys of their values.
-use Rattle.std.specs.Prelude.{◌≡◌, ℕ, ◌==◌, true, false, List, All, Contains, remove, Option, Some, None, if◌then◌else◌}
+use Rattle.std.specs.Prelude.{◌≡◌, ℕ, ◌==◌, true, false, List, All, Contains, Option, None, if◌then◌else◌}
 use Rattle.std.specs.List.{AllPairs}
 use Rattle.std.specs.List.Sorted.{IsPartitionPoint}
 use Rattle.std.specs.Option.{option_cmp, is_some}
@@ -30,8 +30,3 @@ but line keys a = if a == line then None else keys a
 -- so many of the lines stand in front of a line, and the others do not
 abbrev pub IsPlaceOf : (ℕ → Option Key) → ℕ → List ℕ → ℕ → Type 0
 IsPlaceOf keys line lines i = IsPartitionPoint (λ a. is_lt (line_order keys a line) ≡ true) (λ a. is_lt (line_order keys a line) ≡ false) lines i
-
--- the lines without the one that stands at a place, if any
-abbrev pub taken_out : Option ℕ → List ℕ → List ℕ
-taken_out None lines = lines
-taken_out (Some place) lines = remove lines place

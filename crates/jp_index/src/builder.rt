@@ -7,6 +7,7 @@ ghost use Rattle.jp_query.specs.SingularPaths.{path_steps};
 ghost use Rattle.jp_tape.specs.Cursors.{root_of};
 ghost use Rattle.jp_index.specs.Entries.{Entry, entry_in};
 
+use crate::chunks::Order;
 use crate::comparing::has_key;
 use crate::index::ValueIndex;
 use crate::order::sort_by_key;
@@ -86,10 +87,11 @@ impl IndexBuilder {
         } = self;
         sort_by_key(&cells, &mut by_key)?;
         let count = cells.iter().filter(|cell| cell.is_some()).count() as u32;
+        let order = Order::from_sorted(*by_key.allocator(), &by_key)?;
         Ok(ValueIndex {
             path,
             cells,
-            by_key,
+            order,
             count,
         })
     }
