@@ -1,8 +1,7 @@
 -- A line with no escape: which of its bytes stand for themselves.
-use Rattle.std.proofs.Common.{◌≡◌, ℕ, suc, ◌+◌, ◌*◌, ◌-◌, ◌%◌, ◌^◌, ◌<◌, ◌≤◌, Bool, true, false, not, cond, ◌&&◌, ◌||◌, eqb, ltb, List, [], ◌∷◌, map, length, get_or, sym, ◌∙◌, ap, subst, refl, arith, bit_or}
+use Rattle.std.proofs.Common.{◌≡◌, ℕ, suc, ◌+◌, ◌*◌, ◌-◌, ◌%◌, ◌^◌, ◌<◌, ◌≤◌, Bool, true, false, not, cond, ◌&&◌, ◌||◌, List, [], ◌∷◌, map, length, get_or, take, get_or-take, length-take, sym, ◌∙◌, ap, subst, refl, arith, bit_or}
 use lib.Lanes.{mask_l, zip2, top, chunk}
-use Rattle.std.specs.Prelude.{replicate}
-use Rattle.std.proofs.lemmas.Simd.{zip2_splat, zip2_of_maps, map-map, mask_l-mod, length-chunk, get_or-chunk}
+use Rattle.std.proofs.lemmas.Simd.{zip2_of_maps, map-map, mask_l-mod, length-chunk, get_or-chunk}
 use Rattle.std.proofs.lemmas.List.{length-map}
 use Rattle.std.proofs.lemmas.Bool.Decides.{nat_tests}
 use Rattle.jp_lanes.specs.Search.{is_special}
@@ -10,13 +9,13 @@ use Rattle.jp_model.specs.Characters.{is_quote, is_backslash}
 use Rattle.jp_model.specs.Json.Places.{byte_at}
 use Rattle.jp_model.specs.Json.Marks.{is_escaped}
 use Rattle.jp_strings.specs.Plain.{ArePlain}
-use Rattle.jp_tape.specs.Places.{is_escape, HasEscape, IsUnescaped, IsUnquoted}
+use Rattle.jp_tape.specs.Places.{is_escape, HasEscape, AreUnescaped, IsUnescaped, IsUnquoted}
 use Rattle.jp_tape.proofs.Ahead.{free_next}
 
 -- ---- lanes
 
 -- a lane of ones or of zeros
-abbrev lane : Bool → ℕ
+abbrev pub lane : Bool → ℕ
 lane b = cond b 255 0
 
 either_lane : (a b : Bool) → top 7 (bit_or (lane a) (lane b)) ≡ (a || b)
@@ -28,14 +27,13 @@ either_lane false false = refl
 same_map : {A B : Type 0} (f g : A → B) (xs : List A) → ((x : A) → f x ≡ g x) → map f xs ≡ map g xs
 same_map f g xs e = λ t. map (λ x. e x t) xs
 
-pub escape_mask : (xs : List ℕ) (n : ℕ) → length xs ≡ n → n ≤ 64
-    → mask_l (map (top 7) (zip2 bit_or (zip2 (λ a b. lane (eqb a b)) xs (replicate n 0x5C)) (zip2 (λ a b. lane (ltb a b)) xs (replicate n 0x20)))) % 2 ^ 64 ≡ mask_l (map is_escape xs)
-escape_mask xs n e few =
-    let backslashes = zip2_splat (λ a b. lane (eqb a b)) xs n 0x5C e in
-    let controls = zip2_splat (λ a b. lane (ltb a b)) xs n 0x20 e in
-    let two = zip2_of_maps bit_or (λ x. lane (eqb x 0x5C)) (λ x. lane (ltb x 0x20)) xs backslashes controls in
-    let tops = ap (map (top 7)) two ∙ (map-map (top 7) (λ x. bit_or (lane (eqb x 0x5C)) (lane (ltb x 0x20))) xs ∙ same_map _ is_escape xs (λ x. either_lane (eqb x 0x5C) (ltb x 0x20))) in
-    ap (λ ms. mask_l ms % 2 ^ 64) tops ∙ mask_l-mod (map is_escape xs) 64 (let l = length-map xs is_escape in omega (arith, l, e, few))
+-- the lanes of which one test or another is true
+pub either_mask : (p q is : ℕ → Bool) (xs : List ℕ) {ys zs : List ℕ} → ys ≡ map (λ x. lane (p x)) xs → zs ≡ map (λ x. lane (q x)) xs → ((x : ℕ) → (p x || q x) ≡ is x) → length xs ≤ 64
+    → mask_l (map (top 7) (zip2 bit_or ys zs)) % 2 ^ 64 ≡ mask_l (map is xs)
+either_mask p q is xs first second right few =
+    let two = zip2_of_maps bit_or (λ x. lane (p x)) (λ x. lane (q x)) xs first second in
+    let tops = ap (map (top 7)) two ∙ (map-map (top 7) (λ x. bit_or (lane (p x)) (lane (q x))) xs ∙ same_map _ is xs (λ x. either_lane (p x) (q x) ∙ right x)) in
+    ap (λ ms. mask_l ms % 2 ^ 64) tops ∙ mask_l-mod (map is xs) 64 (let l = length-map xs is in omega (arith, l, few))
 
 -- a mask that is not empty tells of a byte
 some_from_mask : (xs : List ℕ) → (mask_l (map is_escape xs) ≡ 0 → ⊥) → (k : ℕ) × (k < length xs) × (is_escape (get_or xs k 0) ≡ true)
@@ -53,6 +51,24 @@ some_in_chunk line at n l some =
     let size = length-chunk at n line l in
     let within : found.0 < n = let w = found.1 in omega (arith, w, size) in
     record { place = at + found.0; within = omega (arith, within, l); escapes = ap is_escape (sym (get_or-chunk at n line found.0 0 within)) ∙ found.2 }
+
+-- ---- all bytes but the last
+
+front_byte : (line : List ℕ) (k : ℕ) → k + 1 < length line → byte_at (take (length line - 1) line) k ≡ byte_at line k
+front_byte line k l = get_or-take (length line - 1) line k 0 (omega (arith, l))
+
+pub unescaped_front : (line : List ℕ) → AreUnescaped (take (length line - 1) line) → IsUnescaped line
+unfolding AreUnescaped IsUnescaped
+unescaped_front line p k l =
+    let size = length-take (length line - 1) line in
+    sym (ap is_escape (front_byte line k l)) ∙ p k (omega (arith, size, l))
+
+pub escape_in_front : (line : List ℕ) → HasEscape (take (length line - 1) line) → HasEscape line
+escape_in_front line h =
+    let size = length-take (length line - 1) line in
+    let w = h.within in
+    let inside : h.place + 1 < length line = omega (arith, size, w) in
+    record { place = h.place; within = omega (arith, inside); escapes = ap is_escape (sym (front_byte line h.place inside)) ∙ h.escapes }
 
 -- ---- strings
 

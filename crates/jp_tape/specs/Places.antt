@@ -1,10 +1,14 @@
 -- Where tokens end.
-use Rattle.std.specs.Prelude.{◌≡◌, ℕ, ◌<◌, ◌≤◌, ◌||◌, ◌==◌, Bool, true, false, List, length}
+use Rattle.std.specs.Prelude.{◌≡◌, ℕ, ◌+◌, ◌<◌, ◌≤◌, ◌||◌, ◌==◌, Bool, true, false, not, List, length}
 use Rattle.jp_model.specs.Characters.{is_white, is_digit, is_backslash, is_control}
 use Rattle.jp_lanes.specs.Search.{is_special}
 use Rattle.jp_model.specs.Json.Places.{byte_at}
 use Rattle.jp_model.specs.Json.Marks.{is_unescaped_quote}
 use Rattle.jp_model.specs.Json.Strings.{SpellsCharacters}
+
+-- a byte that is no digit
+abbrev pub is_other : ℕ → Bool
+is_other b = not (is_digit b)
 
 -- a byte of a number's spelling (RFC 8259, section 6)
 abbrev pub in_number : ℕ → Bool
@@ -36,9 +40,13 @@ pub record HasEscape (line : List ℕ) : Type 0 where
   pub within : place < length line
   pub escapes : is_escape (byte_at line place) ≡ true
 
--- none does
+-- none is among these bytes
+unfoldable pub AreUnescaped : List ℕ → Type 0
+AreUnescaped bytes = (k : ℕ) → k < length bytes → is_escape (byte_at bytes k) ≡ false
+
+-- none stands before the last byte of the line, which is in no string that ends
 unfoldable pub IsUnescaped : List ℕ → Type 0
-IsUnescaped line = (k : ℕ) → k < length line → is_escape (byte_at line k) ≡ false
+IsUnescaped line = (k : ℕ) → k + 1 < length line → is_escape (byte_at line k) ≡ false
 
 -- no quote that ends a string stands from a place up to another
 unfoldable pub IsUnquoted : List ℕ → ℕ → ℕ → Type 0

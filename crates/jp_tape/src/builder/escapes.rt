@@ -2,7 +2,7 @@
 
 ghost use Rattle.std.specs.Prelude.{◌≡◌, ℕ, ◌+◌, ◌<◌, ◌≤◌, true, false, map, length, slice_index};
 ghost use Rattle.std.specs.Simd.Lanes.{mask_l};
-ghost use Rattle.jp_tape.specs.Places.{is_escape, HasEscape, IsUnescaped};
+ghost use Rattle.jp_tape.specs.Places.{is_escape, HasEscape, AreUnescaped, IsUnescaped};
 
 use std::simd::prelude::*;
 
@@ -50,7 +50,7 @@ fn has_escape_by<const N: usize>(line: &[u8]) -> bool
     requires some { 0 < N }
     requires few { N ≤ 64 }
     requires block { N ≤ length line.now }
-    ensures none { result ≡ false → IsUnescaped line.now }
+    ensures none { result ≡ false → AreUnescaped line.now }
     ensures some { result ≡ true → HasEscape line.now }
 {
     let last = line.len() - N;
@@ -66,7 +66,7 @@ fn has_escape_by<const N: usize>(line: &[u8]) -> bool
 
 /// Whether a line has an escape, byte by byte.
 fn has_escape_plainly(line: &[u8]) -> bool
-    ensures none { result ≡ false → IsUnescaped line.now }
+    ensures none { result ≡ false → AreUnescaped line.now }
     ensures some { result ≡ true → HasEscape line.now }
 {
     for byte in line {
@@ -77,10 +77,9 @@ fn has_escape_plainly(line: &[u8]) -> bool
     false
 }
 
-/// Whether a reverse solidus or a control character is in the line. Where none is, the body of each string stands for
-/// itself, and none has to be searched on its own.
-pub(super) fn has_escape(line: &[u8]) -> bool
-    ensures none { result ≡ false → IsUnescaped line.now }
+/// Whether a reverse solidus or a control character is among the bytes.
+fn has_escape_among(line: &[u8]) -> bool
+    ensures none { result ≡ false → AreUnescaped line.now }
     ensures some { result ≡ true → HasEscape line.now }
 {
     if line.len() >= BLOCK {
@@ -90,4 +89,17 @@ pub(super) fn has_escape(line: &[u8]) -> bool
         return has_escape_by::<QUARTER>(line);
     }
     has_escape_plainly(line)
+}
+
+/// Whether a reverse solidus or a control character is in the line before its last byte. Where none is, the body of each
+/// string stands for itself, and none has to be searched on its own. The last byte is in no string that ends: in a file with
+/// CR LF it is a carriage return.
+pub(super) fn has_escape(line: &[u8]) -> bool
+    ensures none { result ≡ false → IsUnescaped line.now }
+    ensures some { result ≡ true → HasEscape line.now }
+{
+    if line.len() < 2 {
+        return false;
+    }
+    has_escape_among(&line[..line.len() - 1])
 }

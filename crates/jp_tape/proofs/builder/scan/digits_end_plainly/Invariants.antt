@@ -1,7 +1,7 @@
 use Rattle.std.proofs.Common.{length, ◌-◌, ℕ, ◌≤◌, ◌<◌, ◌≡◌, true}
 use Rattle.jp_model.specs.Json.Places.{byte_at}
 use Rattle.jp_model.specs.Characters.{is_digit}
-use Rattle.jp_tape.proofs.builder.scan.digits_end.Given as goal
+use Rattle.jp_tape.proofs.builder.scan.digits_end_plainly.Given as goal
 
 abbrev pub invariant-loop-at : goal.invariant-loop-at
 invariant-loop-at l = record {
