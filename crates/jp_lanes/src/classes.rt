@@ -1,6 +1,8 @@
 //! The classes of 64 bytes, by lane compares, and the padding of a short block.
 
-ghost use Rattle.std.specs.Prelude.{◌≡◌, ◌==◌, ◌-◌, ◌≤◌, ◌++◌, length, replicate, slice_index};
+ghost use Rattle.std.specs.Prelude.{◌≡◌, ◌↔◌, ◌==◌, ◌-◌, ◌≤◌, ◌++◌, IsTrue, nat_lt, map, length, replicate, slice_index};
+ghost use Rattle.std.specs.Simd.Lanes.{mask_l};
+ghost use Rattle.std.specs.Str.{IsAscii};
 ghost use Rattle.jp_model.specs.Characters.{is_white, is_structural, is_backslash, is_quote, is_control};
 ghost use Rattle.jp_lanes.specs.Word.{Says};
 
@@ -21,8 +23,6 @@ pub struct Classes {
     pub control: u64,
     /// The line feed, which ends a line (profile).
     pub line_feed: u64,
-    /// RS, 1E, which begins a text of a sequence (RFC 7464, section 2.2).
-    pub separator: u64,
 }
 
 /// Whether each lane is that byte.
@@ -71,7 +71,6 @@ pub fn classify(bytes: &[u8; 64]) -> Classes
     ensures white { Says result.white (λ i. is_white (slice_index bytes.now i)) }
     ensures control { Says result.control (λ i. is_control (slice_index bytes.now i)) }
     ensures line_feed { Says result.line_feed (λ i. slice_index bytes.now i == 0x0A) }
-    ensures separator { Says result.separator (λ i. slice_index bytes.now i == 0x1E) }
 {
     let lanes = u8x64::from_array(*bytes);
     Classes {
@@ -81,8 +80,31 @@ pub fn classify(bytes: &[u8; 64]) -> Classes
         white: white_of(lanes),
         control: control_of(lanes),
         line_feed: equal_to(lanes, b'\n'),
-        separator: equal_to(lanes, 0x1E),
     }
+}
+
+/// The separators of 64 bytes: bit i tells whether byte i is RS, 1E, which begins a text of a sequence (RFC 7464, section 2.2).
+/// Few collections are sequences.
+#[inline(never)]
+pub fn separators(bytes: &[u8; 64]) -> u64
+    ensures { Says result (λ i. slice_index bytes.now i == 0x1E) }
+{
+    equal_to(u8x64::from_array(*bytes), 0x1E)
+}
+
+/// Bit i tells whether lane i is above 7F.
+fn high_of(lanes: u8x64) -> u64
+    ensures { result ≡ mask_l (map (nat_lt 0x7F) lanes) }
+{
+    lanes.simd_gt(u8x64::splat(0x7F)).to_bitmask()
+}
+
+/// Whether each of 64 bytes is an ASCII character.
+#[inline(always)]
+pub fn are_ascii(bytes: &[u8; 64]) -> bool
+    ensures { IsTrue result ↔ IsAscii bytes.now }
+{
+    high_of(u8x64::from_array(*bytes)) == 0
 }
 
 /// At most 64 bytes as a block: the bytes, and zeros after them.

@@ -12,5 +12,5 @@ mod search;
 #[cfg(test)]
 mod tests;
 
-pub use classes::{Classes, classify, pad};
+pub use classes::{Classes, are_ascii, classify, pad, separators};
 pub use search::{equal_bytes, first_special, has_special};

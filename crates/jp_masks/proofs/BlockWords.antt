@@ -1,17 +1,15 @@
 -- The words of one block against what is known before each of its bytes.
-use Rattle.std.proofs.Common.{◌≡◌, ℕ, zero, suc, ◌+◌, ◌<◌, ◌≤◌, ◌^◌, Bool, true, false, not, ◌&&◌, List, Option, Some, None, ◌==◌, get_or, refl, ap, ap₂, ◌∙◌, arith, add-one}
+use Rattle.std.proofs.Common.{◌≡◌, ℕ, zero, suc, ◌+◌, ◌<◌, ◌≤◌, ◌^◌, Bool, true, false, not, ◌&&◌, List, Option, get_or, refl, ap, ap₂, ◌∙◌, arith, add-one}
 use lib.Bits.{bit_and, bit_or}
 use Rattle.jp_model.specs.Characters.{is_white, is_structural, is_backslash, is_quote}
 use Rattle.jp_lanes.specs.Word.{bit, Says}
 use Rattle.jp_masks.specs.Machine.{xor, opens, is_marked, before}
 use Rattle.jp_masks.specs.Runs.{parity, restarted, carried, escaped_at}
 use Rattle.jp_masks.specs.declared.block.Carry.{Carry}
-use Rattle.jp_masks.proofs.Bits.{flipped, says_and, says_not, bit_zero}
+use Rattle.jp_masks.proofs.Bits.{flipped, says_and, says_not}
 use Rattle.jp_lanes.proofs.Words.{says_or}
 use Rattle.jp_model.specs.declared.Framing.{Framing}
-use Rattle.jp_model.specs.declared.Framing.TheVariants.{Lines, Sequence}
-use Rattle.jp_lanes.specs.declared.classes.Classes.{Classes}
-use Rattle.jp_masks.specs.Ends.{is_end, ends_word}
+use Rattle.jp_masks.specs.Ends.{is_end}
 
 xor-comm : (a b : Bool) → xor a b ≡ xor b a
 xor-comm true true = refl
@@ -29,13 +27,6 @@ xor_step false true true = refl
 xor_step false true false = refl
 xor_step false false true = refl
 xor_step false false false = refl
-
--- the word of the bytes that end a line
-pub ends_say : (framing : Option Framing) (bytes : List ℕ) (classes : Classes) (word : ℕ) → word ≡ ends_word framing classes
-    → Says classes.line_feed (λ i. get_or bytes i 0 == 0x0A) → Says classes.separator (λ i. get_or bytes i 0 == 0x1E) → Says word (λ i. is_end framing (get_or bytes i 0))
-ends_say None bytes classes word e at_feed at_separator i within = ap (λ n. bit n i) e ∙ bit_zero i
-ends_say (Some Lines) bytes classes word e at_feed at_separator i within = ap (λ n. bit n i) e ∙ at_feed i within
-ends_say (Some Sequence) bytes classes word e at_feed at_separator i within = ap (λ n. bit n i) e ∙ at_separator i within
 
 module _ (framing : Option Framing) (bytes : List ℕ) (first : Carry) where
   abbrev byte : ℕ → ℕ

@@ -5,6 +5,7 @@ use Rattle.std.proofs.Math.Seq.{drop-append_seam, take-append_seam}
 use Rattle.jp_model.specs.declared.Framing.{Framing}
 use Rattle.jp_model.specs.Lines.{separator_of, closed_pieces, open_piece}
 use Rattle.jp_model.specs.Json.Marks.{marks}
+use Rattle.jp_masks.specs.Written.{written}
 use Rattle.jp_masks.specs.declared.row.Row.{Row}
 use Rattle.jp_masks.specs.declared.lines.Marks.{Marks}
 use Rattle.jp_masks.specs.declared.progress.Progress.{Progress}
@@ -46,7 +47,7 @@ found_pieces framing places front tail start (piece ∷ rest) e =
     (ap (λ n. map (line_of places) (rows_of framing (start + length piece + 1) n rest)) (sym (length-append front (marks piece))) ∙ found_pieces framing places (front ++ marks piece) tail (start + length piece + 1) rest later)
 
 -- what is stored of a text
-pub found_stored : (framing : Framing) (text : List ℕ) (sink : Marks) → sink.rows.items ≡ (sink_of framing text).rows → sink.places.items ≡ (sink_of framing text).places → found sink ≡ closed_at framing text
+pub found_stored : (framing : Framing) (text : List ℕ) (sink : Marks) → sink.rows.items ≡ (sink_of framing text).rows → (written sink.places) ≡ (sink_of framing text).places → found sink ≡ closed_at framing text
 unfolding found closed_at sink_of
 found_stored framing text sink e f =
     (λ t. map (line_of (f t)) (e t))
@@ -71,7 +72,7 @@ found_fed framing text scanner sink was =
 
 -- the lines with the last one
 pub found_all : (framing : Framing) (text : List ℕ) (sink : Marks) (rows : List Row) (places : List ℕ) (before start end : ℕ) → stored rows places before start ≡ sink_of framing text
-    → sink.rows.items ≡ rows ++ row_if (is_last_line framing start end) start end before (length places) → sink.places.items ≡ places → end ≡ length text → found sink ≡ all_at framing text
+    → sink.rows.items ≡ rows ++ row_if (is_last_line framing start end) start end before (length places) → (written sink.places) ≡ places → end ≡ length text → found sink ≡ all_at framing text
 unfolding found closed_at all_at sink_of
 found_all framing text sink rows places before start end was e f l =
     let closed = closed_pieces (separator_of framing) text in

@@ -11,7 +11,6 @@ mod LineMore
 mod Along
 mod Chunks
 mod SetBits
-mod Written
 mod ByteRows
 mod ByteSteps
 mod LineBlocks

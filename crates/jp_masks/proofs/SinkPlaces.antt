@@ -89,6 +89,13 @@ set_left a b i set = left (bit a i) (bit b i) (sym (bit-and a b i) ∙ set)
     left true y e = refl
     left false y e = e
 
+pub set_second : (a b i : ℕ) → bit (bit_and a b) i ≡ true → bit b i ≡ true
+set_second a b i set = second (bit a i) (bit b i) (sym (bit-and a b i) ∙ set)
+  where
+    second : (x y : Bool) → (x && y) ≡ true → y ≡ true
+    second true y e = e
+    second false y e = absurd (cc)
+
 pub set_right : (a b i : ℕ) → bit b i ≡ true → bit (bit_or a b) i ≡ true
 set_right a b i set = bit-or a b i ∙ or-true (bit a i) (bit b i) set
 

@@ -2,6 +2,7 @@
 use Rattle.std.proofs.Common.{◌≡◌, ◌∙◌, ℕ, length, take, sym, map, Result, Ok, Err}
 use Rattle.std.specs.Result.{OnErr}
 use Rattle.std.proofs.Math.Seq.{take-append_seam}
+use Rattle.jp_masks.specs.Written.{written}
 use Rattle.jp_masks.specs.declared.lines.Marks.{Marks}
 use Rattle.jp_masks.specs.Found.{found, line_of}
 use Rattle.jp_masks.specs.Scanned.{stored, IsUnchanged, Grows, IsAsBefore}
@@ -22,7 +23,7 @@ as_before old new same = record {
       in_blocks = was.in_blocks.in_blocks;
       stored = (λ t. stored (same.rows t) (same.places t) (same.places_before t) scanner.progress.start) ∙ was.in_blocks.stored;
       known = was.in_blocks.known;
-      read = was.in_blocks.read;
+      tested = was.in_blocks.tested;
     };
   };
   all = λ framing text a. record {
@@ -37,12 +38,12 @@ as_before old new same = record {
 }
 
 -- what was added and is cut off again
-pub cut_unchanged : (old more new : Marks) (rows places : ℕ) → Grows old more → rows ≡ length old.rows.items → places ≡ length old.places.items
-    → new.rows.items ≡ take rows more.rows.items → new.places.items ≡ take places more.places.items → new.places_before ≡ old.places_before → new.is_utf8 ≡ more.is_utf8
+pub cut_unchanged : (old more new : Marks) (rows places : ℕ) → Grows old more → rows ≡ length old.rows.items → places ≡ length (written old.places)
+    → new.rows.items ≡ take rows more.rows.items → (written new.places) ≡ take places (written more.places) → new.places_before ≡ old.places_before → new.is_utf8 ≡ more.is_utf8
     → IsUnchanged old new
 cut_unchanged old more new rows places grown rows_is places_is rows_are places_are before utf8 = record {
   rows = rows_are ∙ (λ t. take (rows_is t) (grown.rows t)) ∙ take-append_seam old.rows.items grown.more_rows;
-  places = places_are ∙ (λ t. take (places_is t) (grown.places t)) ∙ take-append_seam old.places.items grown.more_places;
+  places = places_are ∙ (λ t. take (places_is t) (grown.places t)) ∙ take-append_seam (written old.places) grown.more_places;
   places_before = before;
   is_utf8 = utf8 ∙ grown.is_utf8;
 }

@@ -4,6 +4,7 @@ use Rattle.jp_model.specs.declared.Framing.{Framing}
 use Rattle.jp_model.specs.declared.Framing.TheVariants.{Lines, Sequence}
 use Rattle.jp_model.specs.Lines.{separator_of, closed_pieces, open_piece, text_lines, sequence_texts}
 use Rattle.jp_model.specs.Json.Marks.{marks}
+use Rattle.jp_masks.specs.Written.{written}
 use Rattle.jp_masks.specs.declared.row.Row.{Row}
 use Rattle.jp_masks.specs.declared.lines.Marks.{Marks}
 
@@ -64,4 +65,4 @@ line_of places row = record { start = row.start; end = row.end; positions = slic
 
 -- the lines that were found
 unfoldable pub found : Marks → List LineAt
-found sink = map (line_of sink.places.items) sink.rows.items
+found sink = map (line_of (written sink.places)) sink.rows.items

@@ -5,7 +5,9 @@ pub mod Places
 pub mod Runs
 pub mod OneLine
 pub mod Rows
+pub mod Written
 pub mod Found
 pub mod Sinks
 pub mod Scanned
 pub mod Tokens
+pub mod Validity

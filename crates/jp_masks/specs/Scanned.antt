@@ -2,7 +2,8 @@
 use Rattle.std.specs.Prelude.{◌≡◌, ℕ, ◌+◌, ◌*◌, ◌/◌, ◌%◌, List, [], ◌++◌, length, take, true, Some}
 use Rattle.std.specs.Str.{IsUtf8}
 use Rattle.std.specs.Vec.{vec_capacity}
-use Rattle.simdutf8.specs.Tracks.{HasRead}
+use Rattle.jp_masks.specs.Written.{written}
+use Rattle.jp_masks.specs.Validity.{HasTested}
 use Rattle.jp_model.specs.declared.Framing.{Framing}
 use Rattle.jp_masks.specs.Machine.{start, before}
 use Rattle.jp_masks.specs.Found.{found, all_at}
@@ -21,9 +22,9 @@ pub record InBlocks (framing : Framing) (whole : List ℕ) (progress : Progress)
   pub framed : progress.framing ≡ framing
   pub scanned : progress.scanned ≡ length whole
   pub in_blocks : length whole % 64 ≡ 0
-  pub stored : stored sink.rows.items sink.places.items sink.places_before progress.start ≡ sink_of framing whole
+  pub stored : stored sink.rows.items (written sink.places) sink.places_before progress.start ≡ sink_of framing whole
   pub known : progress.carry ≡ before (Some framing) start whole (length whole)
-  pub read : HasRead progress.checker whole
+  pub tested : HasTested progress.validity whole
 
 -- The text was fed. Its whole blocks were scanned, and the rest, which is shorter than a block, is held.
 pub record HasScanned (framing : Framing) (text : List ℕ) (scanner : Scanner) (sink : Marks) : Type 0 where
@@ -38,18 +39,18 @@ bytes_fed scanner = scanner.progress.scanned + scanner.held_len
 -- nothing was found
 pub record IsEmpty (sink : Marks) : Type 0 where
   pub rows : sink.rows.items ≡ []
-  pub places : sink.places.items ≡ []
+  pub places : written sink.places ≡ []
   pub places_before : sink.places_before ≡ 0
 
 -- the memory stayed
 pub record HasRoomOf (old new : Marks) : Type 0 where
   pub rows : vec_capacity new.rows ≡ vec_capacity old.rows
-  pub places : vec_capacity new.places ≡ vec_capacity old.places
+  pub places : vec_capacity new.places.room ≡ vec_capacity old.places.room
 
 -- both hold the same
 pub record IsUnchanged (old new : Marks) : Type 0 where
   pub rows : new.rows.items ≡ old.rows.items
-  pub places : new.places.items ≡ old.places.items
+  pub places : written new.places ≡ written old.places
   pub places_before : new.places_before ≡ old.places_before
   pub is_utf8 : new.is_utf8 ≡ old.is_utf8
 
@@ -58,7 +59,7 @@ pub record Grows (old new : Marks) : Type 0 where
   pub more_rows : List Row
   pub more_places : List ℕ
   pub rows : new.rows.items ≡ old.rows.items ++ more_rows
-  pub places : new.places.items ≡ old.places.items ++ more_places
+  pub places : written new.places ≡ written old.places ++ more_places
   pub is_utf8 : new.is_utf8 ≡ old.is_utf8
 
 -- the blocks of 64 bytes at the front

@@ -1,20 +1,19 @@
 //! One block of 64 bytes: its marks, and what the next block has to know.
 
-ghost use Rattle.std.specs.Prelude.{◌≡◌, ℕ, ◌+◌, ◌-◌, ◌%◌, ◌^◌, ◌<◌, ◌≤◌, ◌++◌, true, map, take, length, slice_index, OnOk, OnErr};
+ghost use Rattle.std.specs.Prelude.{◌≡◌, ◌==◌, ℕ, ◌+◌, ◌-◌, ◌%◌, ◌^◌, ◌<◌, ◌≤◌, ◌++◌, true, map, take, length, slice_index};
 ghost use Rattle.jp_lanes.specs.Word.{bit, Says};
-ghost use Rattle.jp_masks.specs.Ends.{is_end, ends_word};
+ghost use Rattle.jp_masks.specs.Ends.{is_end};
 ghost use Rattle.jp_masks.specs.Places.{set_bits, byte_bits, HasByteBits};
 ghost use Rattle.jp_masks.specs.Runs.{odd_run, parity, restarted, carried, escaped_at};
 ghost use Rattle.jp_masks.specs.Machine.{before, is_marked};
 
 use crate::byte_bits::SET_BITS;
-use jp_lanes::{Classes, classify};
+use jp_lanes::{classify, separators};
 use jp_model::Framing;
-use std::alloc::AllocError;
 use std::simd::prelude::*;
 
 /// How many bytes a block has, and so how many places at most.
-const BLOCK: usize = 64;
+pub const BLOCK: usize = 64;
 
 /// What is known before a byte: whether a backslash escapes it, whether it is inside a string, and whether a token may
 /// begin there.
@@ -111,13 +110,14 @@ fn escaped_bytes(backslash: u64, first: bool) -> u64
 }
 
 /// The bytes that end a line: none where one line stands alone.
-fn ends_of(framing: Option<Framing>, classes: &Classes) -> u64
-    ensures { result ≡ ends_word framing classes.now }
+fn ends_of(framing: Option<Framing>, line_feeds: u64, bytes: &[u8; 64]) -> u64
+    requires { Says line_feeds (λ i. slice_index bytes.now i == 0x0A) }
+    ensures { Says result (λ i. is_end framing (slice_index bytes.now i)) }
 {
     match framing {
         None => 0,
-        Some(Framing::Lines) => classes.line_feed,
-        Some(Framing::Sequence) => classes.separator,
+        Some(Framing::Lines) => line_feeds,
+        Some(Framing::Sequence) => separators(bytes),
     }
 }
 
@@ -137,7 +137,7 @@ pub fn scan_block(bytes: &[u8; 64], framing: Option<Framing>, first: Carry) -> F
     ensures carry { result.next ≡ before framing first bytes.now 64 }
 {
     let classes = classify(bytes);
-    let ends = ends_of(framing, &classes);
+    let ends = ends_of(framing, classes.line_feed, bytes);
     let escaped = escaped_bytes(classes.backslash, first.escaped);
     let quotes = classes.quote & !escaped;
     let strings = prefix_xor(quotes) ^ spread(first.inside);
@@ -183,15 +183,14 @@ fn write_byte(places: &mut [u32], at: usize, base: u32, byte: u8) -> usize
     byte.count_ones() as usize
 }
 
-/// Writes the places of the set bits of a block that begins at `base`, lowest first, and tells how many they are. A byte writes
-/// eight places, so the last one ends within those of the block.
+/// Writes the places of the set bits of a block that begins at `base`, lowest first and each modulo 2^32, and returns how many
+/// they are. A byte writes eight places, so the last one ends within those of the block.
 #[inline(always)]
 fn write_places(places: &mut [u32], base: u32, word: u64) -> usize
     requires room { BLOCK ≤ length places.old }
-    requires fits { (i : ℕ) → i < 64 → bit word i ≡ true → base + i < 2 ^ 32 }
-    ensures written { take result places.new ≡ map (λ i. base + i) (set_bits word) }
+    ensures written { take result places.new ≡ map (λ i. (base + i) % 2 ^ 32) (set_bits word) }
     ensures within { result ≤ BLOCK }
-    ensures long { BLOCK ≤ length places.new }
+    ensures long { length places.new ≡ length places.old }
 {
     let mut count = 0;
     let mut rest = word;
@@ -199,66 +198,29 @@ fn write_places(places: &mut [u32], base: u32, word: u64) -> usize
         if rest == 0 {
             return count;
         }
-        let from = base as u64 + (byte * LANES) as u64;
+        let from = base.wrapping_add((byte * LANES) as u32);
         let bits = (rest % (1 << LANES)) as u8;
-        count += write_byte(places, count, (from % (1 << 32)) as u32, bits);
+        count += write_byte(places, count, from, bits);
         rest >>= LANES;
     }
     count
 }
 
-/// Writes the same places one by one, each counted from `start`.
+/// Writes the same places from the first set bit on, each counted from `start`, which none is before. The block may begin
+/// before `start`: the sums are modulo 2^32.
 #[inline(always)]
-fn write_places_from(places: &mut [u32], base: u32, start: u32, word: u64) -> usize
+pub fn write_block(places: &mut [u32], base: u32, start: u32, word: u64) -> usize
     requires room { BLOCK ≤ length places.old }
     requires fits { (i : ℕ) → i < 64 → bit word i ≡ true → base + i < 2 ^ 32 }
+    requires order { (i : ℕ) → i < 64 → bit word i ≡ true → start ≤ base + i }
     ensures written { take result places.new ≡ map (λ i. base + i - start) (set_bits word) }
     ensures within { result ≤ BLOCK }
-    ensures long { BLOCK ≤ length places.new }
+    ensures long { length places.new ≡ length places.old }
 {
-    let mut count = 0;
-    let mut rest = word;
-    while rest != 0 {
-        let at = base + rest.trailing_zeros();
-        places[count] = at.saturating_sub(start);
-        count += 1;
-        rest &= rest - 1;
+    if word == 0 {
+        return 0;
     }
-    count
-}
-
-/// Writes them by bytes, where the line begins before the block, as most do: nothing is then left to subtract from each place.
-#[inline(always)]
-fn write_block(places: &mut [u32], base: u32, start: u32, word: u64) -> usize
-    requires room { BLOCK ≤ length places.old }
-    requires fits { (i : ℕ) → i < 64 → bit word i ≡ true → base + i < 2 ^ 32 }
-    ensures written { take result places.new ≡ map (λ i. base + i - start) (set_bits word) }
-    ensures within { result ≤ BLOCK }
-    ensures long { BLOCK ≤ length places.new }
-{
-    if start <= base {
-        write_places(places, base - start, word)
-    } else {
-        write_places_from(places, base, start, word)
-    }
-}
-
-/// Adds the places of the set bits of a block that begins at `base`, lowest first, each counted from `start`. After an
-/// `Err` the places are as before.
-pub fn push_places(
-    places: &mut Vec<u32>,
-    base: u32,
-    start: u32,
-    word: u64,
-) -> Result<(), AllocError>
-    requires { (i : ℕ) → i < 64 → bit word i ≡ true → base + i < 2 ^ 32 }
-    ensures ok { OnOk result (places.new.items ≡ places.old.items ++ map (λ i. base + i - start) (set_bits word)) }
-    ensures err { OnErr result (places.new.items ≡ places.old.items) }
-{
-    // A loop over a slice has its address and its length at hand, where one that pushes loads and stores them.
-    let from = places.len();
-    places.resize(from + BLOCK, 0)?;
-    let count = write_block(&mut places[from..], base, start, word);
-    places.truncate(from + count);
-    Ok(())
+    let skipped = word.trailing_zeros();
+    let from = base.wrapping_sub(start).wrapping_add(skipped);
+    write_places(places, from, word >> skipped)
 }

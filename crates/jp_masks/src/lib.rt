@@ -14,10 +14,12 @@ pub mod laws;
 mod lines;
 mod one_line;
 mod progress;
+mod room;
 mod row;
 mod scanner;
 #[cfg(test)]
 mod tests;
+mod validity;
 
 pub use lines::{LineMarks, Marks};
 pub use one_line::line_marks;

@@ -4,10 +4,11 @@ ghost use Rattle.std.specs.Prelude.{◌≡◌, ℕ, ◌+◌, ◌-◌, ◌^◌, �
 ghost use Rattle.std.specs.Str.{IsUtf8};
 ghost use Rattle.jp_model.specs.Json.Places.{bytes_between};
 ghost use Rattle.jp_masks.specs.Rows.{rows_within};
+ghost use Rattle.jp_masks.specs.Written.{written};
 
-use crate::block::push_places;
 use crate::framed::is_line;
 use crate::one_line::first_bits;
+use crate::room::Places;
 use crate::row::Row;
 use jp_model::{Framing, Span};
 use std::alloc::{AllocError, Global};
@@ -24,12 +25,12 @@ pub struct LineMarks<'a> {
 #[derive(Drop)]
 pub struct Marks {
     rows: Vec<Row>,
-    places: Vec<u32>,
+    places: Places,
     /// How many places come before the line that is not yet ended.
     places_before: usize,
     is_utf8: bool,
-    ghost in_places: { rows_within rows.items (length places.items) ≡ true },
-    ghost in_order: { places_before ≤ length places.items },
+    ghost in_places: { rows_within rows.items (length (written places)) ≡ true },
+    ghost in_order: { places_before ≤ length (written places) },
 }
 
 /// Whether the bytes of a span are UTF-8.
@@ -64,7 +65,7 @@ impl Marks {
     {
         Marks {
             rows: Vec::new(alloc),
-            places: Vec::new(alloc),
+            places: Places::new(alloc),
             places_before: 0,
             is_utf8: false,
         }
@@ -100,7 +101,7 @@ impl Marks {
                 start: row.start,
                 end: row.end,
             },
-            positions: part(&self.places, row.places_start, row.places_end),
+            positions: part(self.places.as_slice(), row.places_start, row.places_end),
         }
     }
 
@@ -121,7 +122,7 @@ impl Marks {
     /// How many rows and places there are, and how many places come before the open line.
     pub(crate) fn sizes(&self) -> (usize, usize, usize)
         ensures rows { result.0 ≡ length self.now.rows.items }
-        ensures places { result.1 ≡ length self.now.places.items }
+        ensures places { result.1 ≡ length (written self.now.places) }
         ensures before { result.2 ≡ self.now.places_before }
     {
         (self.rows.len(), self.places.len(), self.places_before)
@@ -130,10 +131,10 @@ impl Marks {
     /// Leaves the first rows and places, as they were.
     pub(crate) fn cut_back(&mut self, rows: usize, places: usize, places_before: usize)
         requires within { rows_within (take rows self.old.rows.items) places ≡ true }
-        requires there { places ≤ length self.old.places.items }
+        requires there { places ≤ length (written self.old.places) }
         requires order { places_before ≤ places }
         ensures rows { self.new.rows.items ≡ take rows self.old.rows.items }
-        ensures places { self.new.places.items ≡ take places self.old.places.items }
+        ensures places { written self.new.places ≡ take places (written self.old.places) }
         ensures before { self.new.places_before ≡ places_before }
         ensures utf8 { self.new.is_utf8 ≡ self.old.is_utf8 }
     {
@@ -154,20 +155,21 @@ impl Marks {
 
     /// Adds marks of a block that begins at `base`, all of the open line, which begins at `start`.
     fn add_marks(&mut self, base: u32, start: u32, marks: u64) -> Result<(), AllocError>
-        requires { (i : ℕ) → i < 64 → bit marks i ≡ true → base + i < 2 ^ 32 }
-        ensures places { OnOk result (self.new.places.items ≡ self.old.places.items ++ map (λ i. base + i - start) (set_bits marks)) }
+        requires fits { (i : ℕ) → i < 64 → bit marks i ≡ true → base + i < 2 ^ 32 }
+        requires order { (i : ℕ) → i < 64 → bit marks i ≡ true → start ≤ base + i }
+        ensures places { OnOk result (written self.new.places ≡ written self.old.places ++ map (λ i. base + i - start) (set_bits marks)) }
         ensures rows { self.new.rows ≡ self.old.rows }
         ensures before { self.new.places_before ≡ self.old.places_before }
         ensures utf8 { self.new.is_utf8 ≡ self.old.is_utf8 }
         ensures err { OnErr result (IsUnchanged self.old self.new) }
     {
-        push_places(&mut self.places, base, start, marks)
+        self.places.push_block(base, start, marks)
     }
 
     /// Keeps the open line, which ends at `end`.
     fn add_row(&mut self, start: u32, end: u32) -> Result<(), AllocError>
         ensures rows { OnOk result (self.new.rows.items ≡ self.old.rows.items
-            ++ row_if true start end self.old.places_before (length self.old.places.items)) }
+            ++ row_if true start end self.old.places_before (length (written self.old.places))) }
         ensures err { OnErr result (self.new.rows.items ≡ self.old.rows.items) }
         ensures places { self.new.places ≡ self.old.places }
         ensures before { self.new.places_before ≡ self.old.places_before }
@@ -186,8 +188,8 @@ impl Marks {
     /// Ends the open line at `end`, and keeps it if it counts.
     pub(crate) fn close(&mut self, is_line: bool, start: u32, end: u32) -> Result<(), AllocError>
         ensures rows { OnOk result (self.new.rows.items ≡ self.old.rows.items
-            ++ row_if is_line start end self.old.places_before (length self.old.places.items)) }
-        ensures before { OnOk result (self.new.places_before ≡ length self.old.places.items) }
+            ++ row_if is_line start end self.old.places_before (length (written self.old.places))) }
+        ensures before { OnOk result (self.new.places_before ≡ length (written self.old.places)) }
         ensures places { self.new.places ≡ self.old.places }
         ensures utf8 { self.new.is_utf8 ≡ self.old.is_utf8 }
         ensures err { OnErr result (IsUnchanged self.old self.new) }
@@ -209,10 +211,12 @@ impl Marks {
         marks: u64,
         ends: u64,
     ) -> Result<u32, AllocError>
-        requires { (i : ℕ) → i < 64 → bit (bit_or marks ends) i ≡ true → base + i + 1 < 2 ^ 32 }
-        ensures added { IfOk result (λ next. stored self.new.rows.items self.new.places.items self.new.places_before next
-            ≡ add_places framing ends base (stored self.old.rows.items self.old.places.items self.old.places_before from)
+        requires fits { (i : ℕ) → i < 64 → bit (bit_or marks ends) i ≡ true → base + i + 1 < 2 ^ 32 }
+        requires order { from ≤ base }
+        ensures added { IfOk result (λ next. stored self.new.rows.items (written self.new.places) self.new.places_before next
+            ≡ add_places framing ends base (stored self.old.rows.items (written self.old.places) self.old.places_before from)
             (set_bits (bit_or marks ends))) }
+        ensures order { IfOk result (λ next. next ≤ base + 64) }
         ensures grown { Grows self.old self.new }
     {
         let mut start = from;

@@ -7,8 +7,10 @@ ghost use Rattle.jp_model.specs.Json.Tree.{Tree};
 ghost use Rattle.jp_masks.specs.Tokens.{tokens};
 ghost use Rattle.jp_lanes.specs.Word.{Says};
 ghost use Rattle.jp_masks.specs.OneLine.{HasMarked};
+ghost use Rattle.jp_masks.specs.Written.{written};
 
-use crate::block::{Carry, push_places, scan_block};
+use crate::block::{Carry, scan_block};
+use crate::room::Places;
 use jp_lanes::pad;
 use std::alloc::{AllocError, Global};
 
@@ -31,17 +33,17 @@ pub fn first_bits(count: usize) -> u64
 
 /// Adds the marks of a whole block that begins at `base`, and returns what is known after it.
 fn mark_block(
-    places: &mut Vec<u32>,
+    places: &mut Places,
     base: u32,
     known: Carry,
     block: &[u8; 64],
 ) -> Result<Carry, AllocError>
     requires { base + 64 ≤ 2 ^ 32 }
-    ensures { (read : List ℕ) → HasMarked read places.old.items known base
-        → IfOk result (λ next. HasMarked (read ++ block.now) places.new.items next (base + 64)) }
+    ensures { (read : List ℕ) → HasMarked read (written places.old) known base
+        → IfOk result (λ next. HasMarked (read ++ block.now) (written places.new) next (base + 64)) }
 {
     let found = scan_block(block, None, known);
-    push_places(places, base, 0, found.marks)?;
+    places.push_block(base, 0, found.marks)?;
     Ok(found.next)
 }
 
@@ -55,7 +57,7 @@ pub fn line_marks(alloc: Global, line: &[u8]) -> Result<Vec<u32>, AllocError>
     ensures tokens { (t : Tree) (text : Text line.now t) → IfOk result (λ found. found.items ≡ tokens line.now t text.value) }
 {
     let (blocks, rest) = split_blocks(line);
-    let mut places = Vec::new(alloc);
+    let mut places = Places::new(alloc);
     let mut known = Carry::START;
     let mut base = 0;
     for block in blocks {
@@ -63,6 +65,6 @@ pub fn line_marks(alloc: Global, line: &[u8]) -> Result<Vec<u32>, AllocError>
         base += 64;
     }
     let found = scan_block(&pad(rest), None, known);
-    push_places(&mut places, base, 0, found.marks & first_bits(rest.len()))?;
-    Ok(places)
+    places.push_block(base, 0, found.marks & first_bits(rest.len()))?;
+    Ok(places.into_vec())
 }

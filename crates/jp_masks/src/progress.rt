@@ -4,10 +4,9 @@ ghost use Rattle.std.specs.Prelude.{◌≡◌, ℕ, List, [], ◌+◌, ◌*◌, 
 
 use crate::block::{Carry, scan_block};
 use crate::lines::Marks;
+use crate::validity::Validity;
 use jp_model::Framing;
-use simdutf8::Checker;
 use std::alloc::AllocError;
-use std::simd::prelude::*;
 
 /// What is known after the whole blocks that were scanned.
 #[derive(Clone, Copy, Drop)]
@@ -17,7 +16,8 @@ pub struct Progress {
     /// Where the open line begins.
     pub start: u32,
     pub carry: Carry,
-    pub checker: Checker,
+    pub validity: Validity,
+    ghost in_order: { start ≤ scanned },
 }
 
 impl Progress {
@@ -36,7 +36,7 @@ impl Progress {
             scanned: 0,
             start: 0,
             carry: Carry::START,
-            checker: Checker::new(),
+            validity: Validity::new(),
         }
     }
 
@@ -59,7 +59,7 @@ impl Progress {
             block_found.ends,
         )?;
         self.carry = block_found.next;
-        self.checker = self.checker.step(u8x64::from_array(*block));
+        self.validity.step(block);
         self.scanned += 64;
         Ok(())
     }

@@ -10,7 +10,6 @@ use crate::progress::Progress;
 use jp_lanes::pad;
 use jp_model::Framing;
 use std::alloc::AllocError;
-use std::simd::prelude::*;
 
 /// Finds the marks of all lines of a collection in one pass. It keeps at most one unfinished block.
 #[derive(Clone, Copy, Drop)]
@@ -131,8 +130,9 @@ impl Scanner {
         )?;
         let end = base + self.held_len as u32;
         sink.close(is_last_line(framing, start, end), start, end)?;
-        let checker = self.progress.checker.step(u8x64::from_array(block));
-        sink.tell_utf8(checker.finish());
+        let mut validity = self.progress.validity;
+        validity.step(&block);
+        sink.tell_utf8(validity.finish());
         Ok(())
     }
 

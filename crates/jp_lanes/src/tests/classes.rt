@@ -2,7 +2,7 @@
 
 ghost use Rattle.std.specs.Prelude.{◌<◌};
 
-use crate::{classify, pad};
+use crate::{are_ascii, classify, pad, separators};
 use std::process::Abort;
 
 /// A byte in a lane, with letters in the others.
@@ -25,7 +25,8 @@ fn is_told(rt: &impl Abort, byte: u8, lane: usize)
     );
     assert_eq!(rt; classes.control, bit(byte < 0x20));
     assert_eq!(rt; classes.line_feed, bit(byte == b'\n'));
-    assert_eq!(rt; classes.separator, bit(byte == 0x1E));
+    assert_eq!(rt; separators(&block), bit(byte == 0x1E));
+    assert_eq!(rt; are_ascii(&block), byte < 0x80);
 }
 
 #[test]

@@ -1,14 +1,14 @@
 use Rattle.std.proofs.Common.{◌∙◌, arith}
 use lib.Bits.{or_lt}
 use Rattle.jp_masks.proofs.Bits.{says_xor}
-use Rattle.jp_masks.proofs.BlockWords.{ends_say, marks_say, escaped_next, begin_next, inside_next, known_next}
+use Rattle.jp_masks.proofs.BlockWords.{marks_say, escaped_next, begin_next, inside_next, known_next}
 use Rattle.jp_masks.proofs.block.scan_block.Goals as goal
 
 pub returns-clause-marks : goal.returns-clause-marks
 returns-clause-marks c =
     let k = c.classify-classes.result in
     let says = c.classify-classes.ensures in
-    let ends = ends_say c.args.framing c.args.bytes.now k c.ends_of-ends.result c.ends_of-ends.ensures says.line_feed says.separator in
+    let ends = c.ends_of-ends.ensures in
     marks_say c.args.framing c.args.bytes.now c.args.first k.backslash k.quote k.structural k.white c.ends_of-ends.result c.escaped_bytes-escaped.result (omega arith)
     says.backslash says.quote says.structural says.white ends c.escaped_bytes-escaped.ensures
     _ c.restart-inside_after.result (says_xor _ _ _ _ c.prefix_xor.ensures c.spread.ensures) c.restart-inside_after.ensures
@@ -18,7 +18,7 @@ pub returns-clause-carry : goal.returns-clause-carry
 returns-clause-carry c =
     let k = c.classify-classes.result in
     let says = c.classify-classes.ensures in
-    let ends = ends_say c.args.framing c.args.bytes.now k c.ends_of-ends.result c.ends_of-ends.ensures says.line_feed says.separator in
+    let ends = c.ends_of-ends.ensures in
     known_next c.args.framing c.args.bytes.now c.args.first 63 _ _ _
     (c.top_bit.ensures ∙ escaped_next c.args.framing c.args.bytes.now c.args.first k.backslash k.quote k.structural k.white c.ends_of-ends.result c.escaped_bytes-escaped.result (omega arith)
     says.backslash says.quote says.structural says.white ends c.escaped_bytes-escaped.ensures 63 (omega arith))
@@ -27,8 +27,3 @@ returns-clause-carry c =
     _ c.restart-inside_after.result (says_xor _ _ _ _ c.prefix_xor.ensures c.spread.ensures) c.restart-inside_after.ensures 63 (omega arith))
     (c.top_bit-3.ensures ∙ begin_next c.args.framing c.args.bytes.now c.args.first k.backslash k.quote k.structural k.white c.ends_of-ends.result c.escaped_bytes-escaped.result (omega arith)
     says.backslash says.quote says.structural says.white ends c.escaped_bytes-escaped.ensures 63 (omega arith))
-
-pub returns-clause-ends : goal.returns-clause-ends
-returns-clause-ends c =
-    let says = c.classify-classes.ensures in
-    ends_say c.args.framing c.args.bytes.now c.classify-classes.result c.ends_of-ends.result c.ends_of-ends.ensures says.line_feed says.separator

@@ -1,14 +1,12 @@
-use Rattle.std.proofs.Common.{◌≡◌, ℕ, ◌+◌, ◌-◌, ◌*◌, ◌^◌, ◌<◌, ◌≤◌, ◌++◌, true, map, take, length}
-use Rattle.jp_lanes.specs.Word.{bit}
+use Rattle.std.proofs.Common.{◌≡◌, ◌+◌, ◌-◌, ◌*◌, ◌%◌, ◌^◌, ◌<◌, ◌≤◌, ◌++◌, map, take, length}
 use Rattle.jp_masks.specs.Places.{set_bits}
 use Rattle.jp_masks.proofs.block.write_places.Given as goal
 
 -- the places of the bits that are left come behind those that are written, eight at most to a byte
 abbrev pub invariant-loop-byte : goal.invariant-loop-byte
 invariant-loop-byte l = record {
-  written : take l.count l.places ++ map (λ i. l.base + l.byte * 8 + i) (set_bits l.rest) ≡ map (λ i. l.base + i) (set_bits l.word);
+  written : take l.count l.places ++ map (λ i. (l.base + l.byte * 8 + i) % 2 ^ 32) (set_bits l.rest) ≡ map (λ i. (l.base + i) % 2 ^ 32) (set_bits l.word);
   few : l.count ≤ l.byte * 8;
   small : l.rest < 2 ^ (64 - l.byte * 8);
-  long : 64 ≤ length l.places;
-  short : (i : ℕ) → i < 64 → bit l.rest i ≡ true → l.base + l.byte * 8 + i < 2 ^ 32;
+  long : length l.places ≡ length l.fn.places;
 }

@@ -1,6 +1,7 @@
 use Rattle.std.proofs.Common.{◌≡◌, [], ◌+◌, ◌++◌, take, get_or, flat_map, refl, sym, ap, ◌∙◌, arith, subst, take_all, None}
 use Rattle.jp_model.specs.Json.Marks.{marks}
 use Rattle.jp_lanes.specs.Word.{Says}
+use Rattle.jp_masks.specs.Written.{written}
 use Rattle.jp_masks.specs.OneLine.{HasMarked}
 use Rattle.jp_masks.specs.Machine.{is_marked, before}
 use Rattle.jp_masks.proofs.LineBlocks.{read-more, last_marked}
@@ -13,7 +14,7 @@ use Rattle.jp_masks.proofs.one_line.line_marks.Goals as goal
 
 pub loop-block-init : goal.loop-block-init
 unfolding marks before
-loop-block-init c = record { marked = record { placed = c.new-places.ensures.items; knows = refl; long = refl }; base = refl }
+loop-block-init c = record { marked = record { placed = c.new-places.ensures; knows = refl; long = refl }; base = refl }
 
 pub loop-block-preserved : goal.loop-block-preserved
 loop-block-preserved c =
@@ -21,7 +22,7 @@ loop-block-preserved c =
     let blocks = c.split_blocks.result.0.now in
     let more = read-more blocks l.block-index [] c.loop-block-test.true in
     record {
-      marked = subst (λ t. HasMarked t c.mark_block.new.places.items c.in_ok-known.known (l.base + 64)) (sym more) (c.in_ok-known.ensures (flat_map (λ b. b) (take l.block-index blocks)) l.invariant.marked);
+      marked = subst (λ t. HasMarked t (written c.mark_block.new.places) c.in_ok-known.known (l.base + 64)) (sym more) (c.in_ok-known.ensures (flat_map (λ b. b) (take l.block-index blocks)) l.invariant.marked);
       base = omega (arith, l.invariant.base);
     }
 
@@ -33,9 +34,10 @@ returns-clause-marks c =
     let read = flat_map (λ b. b) (take l.block-index blocks) in
     let all : read ≡ flat_map (λ b. b) blocks = ap (flat_map (λ b. b)) (take_all l.block-index blocks (omega arith)) in
     let was = l.invariant.marked in
-    c.in_ok-push_places.ensures.ok
-    ∙ from_first l.places.items (set_bits (bit_and c.scan_block-found.result.marks c.first_bits.result)) l.base
-    ∙ last_marked read rest l.places.items l.known l.base c.scan_block-found.result.marks c.first_bits.result c.split_blocks.ensures.short was.placed was.knows was.long
+    c.into_vec.ensures
+    ∙ c.in_ok-push_block.ensures.ok
+    ∙ from_first (written l.places) (set_bits (bit_and c.scan_block-found.result.marks c.first_bits.result)) l.base
+    ∙ last_marked read rest (written l.places) l.known l.base c.scan_block-found.result.marks c.first_bits.result c.split_blocks.ensures.short was.placed was.knows was.long
     (subst (λ b. Says c.scan_block-found.result.marks (λ i. is_marked (before None l.known b i) (get_or b i 0))) c.pad.ensures c.scan_block-found.ensures.marks) c.first_bits.ensures
     ∙ ap (λ t. marks (t ++ rest)) all ∙ ap marks c.split_blocks.ensures.all
 

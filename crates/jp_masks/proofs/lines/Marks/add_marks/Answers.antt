@@ -1,4 +1,5 @@
 use Rattle.std.proofs.Common.{length, map, ◌+◌, ◌-◌, arith}
+use Rattle.jp_masks.specs.Written.{written}
 use Rattle.jp_masks.specs.Places.{set_bits}
 use Rattle.jp_masks.proofs.RowsLaw.{more_places, places_came}
 use Rattle.jp_masks.proofs.lines.Marks.add_marks.Goals as goal
@@ -6,6 +7,7 @@ use Rattle.jp_masks.proofs.lines.Marks.add_marks.Goals as goal
 pub invariant_of-self : goal.invariant_of-self
 invariant_of-self c =
     let m = c.args.self.now in
-    let after = c.push_places.new.places.items in
-    let more = places_came c.push_places.result m.places.items (map (λ i. c.args.base + i - c.args.start) (set_bits c.args.marks)) after c.push_places.ensures.ok c.push_places.ensures.err in
-    record { in_places = more_places m.rows.items (length m.places.items) (length after) more m.in_places; in_order = omega (arith, m.in_order, more) }
+    let before = written m.places in
+    let after = written c.push_block.new.self in
+    let more = places_came c.push_block.result before (map (λ i. c.args.base + i - c.args.start) (set_bits c.args.marks)) after c.push_block.ensures.ok c.push_block.ensures.err in
+    record { in_places = more_places m.rows.items (length before) (length after) more m.in_places; in_order = omega (arith, m.in_order, more) }

@@ -1,4 +1,5 @@
 use Rattle.std.proofs.Common.{length, arith, is_ok}
+use Rattle.jp_masks.specs.Written.{written}
 use Rattle.jp_masks.proofs.RowsLaw.{rows_pushed}
 use Rattle.jp_masks.proofs.lines.Marks.add_row.Goals as goal
 
@@ -6,6 +7,6 @@ pub invariant_of-self : goal.invariant_of-self
 invariant_of-self c =
     let m = c.args.self.now in
     record {
-      in_places = rows_pushed (is_ok c.push.result) m.rows.items c.push.new.self.items (length m.places.items) c.args.start c.args.end m.places_before c.len.result c.push.ensures.items (omega (arith, m.in_order, c.len.ensures)) (omega (arith, c.len.ensures)) m.in_places;
+      in_places = rows_pushed (is_ok c.push.result) m.rows.items c.push.new.self.items (length (written m.places)) c.args.start c.args.end m.places_before c.len.result c.push.ensures.items (omega (arith, m.in_order, c.len.ensures)) (omega (arith, c.len.ensures)) m.in_places;
       in_order = m.in_order;
     }

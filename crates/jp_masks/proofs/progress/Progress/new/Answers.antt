@@ -12,5 +12,5 @@ returns-clause-start c sink empty = record {
   in_blocks = refl;
   stored = λ t. record { rows = empty.rows t; places = empty.places t; before = empty.places_before t; start = 0 };
   known = refl;
-  read = c.new.ensures;
+  tested = c.new.ensures;
 }

@@ -35,5 +35,5 @@ returns-clause-scanned c framing whole was =
           ∙ law ∙ ap (λ l. sink_of framing (whole ++ l)) (take_all 64 block (omega arith));
       known = c.scan_block-block_found.ensures.carry ∙ (λ t. before (Some (was.framed t)) (was.known t) block 64) ∙ sym (before-part (Some framing) start whole block 64)
           ∙ ap (λ n. before (Some framing) start (whole ++ block) n) (let total : length whole + 64 ≡ length (whole ++ block) = omega (arith, long, longer) in total);
-      read = c.step-self.ensures whole was.read;
+      tested = c.step.ensures whole was.tested;
     }

@@ -3,6 +3,7 @@ use Rattle.std.proofs.lemmas.List.{length-take, length-append}
 use lib.Bits.{bit_and, bit_or}
 use Rattle.jp_model.specs.declared.Framing.{Framing}
 use Rattle.jp_lanes.specs.Word.{Says}
+use Rattle.jp_masks.specs.Written.{written}
 use Rattle.jp_masks.specs.Places.{set_bits}
 use Rattle.jp_masks.specs.Ends.{is_end}
 use Rattle.jp_masks.specs.Machine.{is_marked, before}
@@ -16,10 +17,12 @@ use Rattle.jp_masks.proofs.LastBlock.{set_below, last_law, utf8_law}
 use Rattle.jp_masks.proofs.scanner.Scanner.last_block.Goals as goal
 
 pub add_block-requires : goal.add_block-requires
-add_block-requires c i within set =
+add_block-requires c =
     let s = c.args.self.now in
-    let low = set_below c.first_bits-read.result s.held_len c.first_bits-read.ensures c.scan_block-block_found.result.marks c.scan_block-block_found.result.ends i within set in
-    omega (arith, low, s.fits)
+    record {
+      fits = λ i within set. (let low = set_below c.first_bits-read.result s.held_len c.first_bits-read.ensures c.scan_block-block_found.result.marks c.scan_block-block_found.result.ends i within set in omega (arith, low, s.fits));
+      order = s.progress.in_order;
+    }
 
 pub returns-clause-all : goal.returns-clause-all
 returns-clause-all c framing text was =
@@ -44,11 +47,11 @@ returns-clause-all c framing text was =
     ∙ law in
     let last_is = c.is_last_line.ensures ∙ ap (λ (f : Framing). is_last_line f start (s.progress.scanned + s.held_len)) blocks.framed in
     let rows_are = ap (λ v. v.items) c.tell_utf8.ensures.rows ∙ c.in_ok-close.ensures.rows
-    ∙ ap (λ is. sink.rows.items ++ row_if is start (s.progress.scanned + s.held_len) sink.places_before (length sink.places.items)) last_is in
-    let places_are = ap (λ v. v.items) c.tell_utf8.ensures.places ∙ ap (λ v. v.items) c.in_ok-close.ensures.places in
+    ∙ ap (λ is. sink.rows.items ++ row_if is start (s.progress.scanned + s.held_len) sink.places_before (length (written sink.places))) last_is in
+    let places_are = ap written c.tell_utf8.ensures.places ∙ ap written c.in_ok-close.ensures.places in
     record {
-      lines = found_all framing text c.tell_utf8.new.self sink.rows.items sink.places.items sink.places_before start (s.progress.scanned + s.held_len) stored_is rows_are places_are
+      lines = found_all framing text c.tell_utf8.new.self sink.rows.items (written sink.places) sink.places_before start (s.progress.scanned + s.held_len) stored_is rows_are places_are
           (omega (arith, blocks.scanned, n_is, ap length was.joined, length-append whole held));
       utf8 = λ told. utf8_law read s.held_len c.first_bits-read.ensures text whole held block n_is s.short c.pad-block.ensures was.joined
-          ((c.finish.ensures (whole ++ block) (c.step-checker.ensures whole blocks.read)).0 (sym c.tell_utf8.ensures.utf8 ∙ told));
+          ((c.finish.ensures (whole ++ block) (c.step.ensures whole blocks.tested)).0 (sym c.tell_utf8.ensures.utf8 ∙ told));
     }
