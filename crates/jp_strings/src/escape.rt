@@ -14,6 +14,7 @@ pub(crate) fn is_high_surrogate(unit: u32) -> bool
 }
 
 // What a hexadecimal digit of either case stands for.
+#[inline(always)]
 fn digit_at(body: &[u8], at: usize) -> Option<u32>
     ensures { result ≡ (if char.is_digit (byte_at body.now at) 16
         then Some (char.digit_value (byte_at body.now at)) else None) }
@@ -23,6 +24,7 @@ fn digit_at(body: &[u8], at: usize) -> Option<u32>
 }
 
 // What the four hexadecimal digits of the escape at a place stand for.
+#[inline(always)]
 fn four_digits(body: &[u8], at: usize) -> Option<u32>
     requires { at ≤ length body.now }
     ensures { result ≡ four_digits_value (byte_at body.now (at + 2)) (byte_at body.now (at + 3))
@@ -36,6 +38,7 @@ fn four_digits(body: &[u8], at: usize) -> Option<u32>
 }
 
 // What a backslash and a letter stand for, but for `u`.
+#[inline(always)]
 fn short_escape(letter: u8) -> Option<u32>
     ensures { result ≡ short_escape_unit letter }
 {

@@ -18,7 +18,7 @@ use Rattle.jp_model.proofs.Reader.Lexical.{clash}
 use Rattle.jp_strings.proofs.Runs.{plain_differ}
 use Rattle.jp_tape.specs.declared.builder.body.Body.{Body}
 use Rattle.jp_tape.specs.Names.{points, all_points}
-use Rattle.jp_tape.specs.Keys.{key_of, keys_of, place_of, AreApart}
+use Rattle.jp_tape.specs.Keys.{key_of, keys_of, AreApart}
 use Rattle.jp_tape.proofs.Held.{left_false, right_false}
 use Rattle.jp_tape.proofs.Repeated.{text_is, same_repeated, sorted_distinct}
 
@@ -77,11 +77,11 @@ one_more_plain xs i b l is t all =
 
 -- ---- places of their own
 
--- none of some plain bodies has the text of another, of which no one has the place
-none_there : (a : Body) (xs : List Body) → IsTrue a.is_plain → All (λ (b : Body). IsTrue b.is_plain) xs → ((k : ℕ) → k < length xs → place_of (get_or xs k a).bytes.now ≡ place_of a.bytes.now → ⊥) → list_any (text_equal (points a)) (all_points xs) ≡ false
+-- none of some plain bodies has the text of another, of which no one has the bytes
+none_there : (a : Body) (xs : List Body) → IsTrue a.is_plain → All (λ (b : Body). IsTrue b.is_plain) xs → ((k : ℕ) → k < length xs → (get_or xs k a).bytes.now ≡ a.bytes.now → ⊥) → list_any (text_equal (points a)) (all_points xs) ≡ false
 none_there a [] p all h = refl
 none_there a (x ∷ xs) p all h =
-    ap₂ (λ u v. u || v) (bytes_differ a x p (all 0 x (omega arith)) (λ e. h 0 (omega arith) (ap place_of (sym e)))) (none_there a xs p (λ k d l. all (suc k) d (omega (arith, l))) (λ k l. h (suc k) (omega (arith, l))))
+    ap₂ (λ u v. u || v) (bytes_differ a x p (all 0 x (omega arith)) (λ e. h 0 (omega arith) (sym e))) (none_there a xs p (λ k d l. all (suc k) d (omega (arith, l))) (λ k l. h (suc k) (omega (arith, l))))
 
 -- a mark stays where another is made
 kept_mark : (ts : List Bool) (i j : ℕ) → i < length ts → get_or ts j false ≡ true → get_or (set ts i true) j false ≡ true
@@ -94,40 +94,53 @@ kept_mark ts i j w o =
       ]
     ]
 
--- those from a place of the list on are plain, differ, and have taken their places
-pub record HaveOwn (xs : List Body) (from : ℕ) (taken : List Bool) : Type 0 where
-  pub plain : All (λ (b : Body). IsTrue b.is_plain) (drop from xs)
-  pub apart : has_repeated (all_points (drop from xs)) ≡ false
-  pub marked : (k : ℕ) (d : Body) → from ≤ k → k < length xs → get_or taken (place_of (get_or xs k d).bytes.now) false ≡ true
+-- those from a place of the list on have taken their places
+pub record HaveOwn (place : List ℕ → ℕ) (xs : List Body) (from : ℕ) (taken : List Bool) : Type 0 where
+  pub marked : (k : ℕ) (d : Body) → from ≤ k → k < length xs → get_or taken (place (get_or xs k d).bytes.now) false ≡ true
   pub size : length taken ≡ 64
 
-pub none_yet : (xs : List Body) → HaveOwn xs (length xs) (replicate 64 false)
-none_yet xs =
-    let none : drop (length xs) xs ≡ [] = drop_all (length xs) xs (omega arith) in
-    record {
-      plain = subst (All (λ (b : Body). IsTrue b.is_plain)) (sym none) (λ k d l. absurd (omega arith));
-      apart = ap (λ ys. has_repeated (all_points ys)) none;
-      marked = λ k d low high. absurd (omega (arith, low, high));
-      size = refl;
-    }
+pub none_taken : (place : List ℕ → ℕ) (xs : List Body) → HaveOwn place xs (length xs) (replicate 64 false)
+none_taken place xs = record { marked = λ k d low high. absurd (omega (arith, low, high)); size = refl }
 
-pub one_more_place : (xs : List Body) (from at : ℕ) (taken : List Bool) (b : Body) → at + 1 ≡ from → at < length xs → b ≡ get_or xs at b → IsTrue b.is_plain → place_of b.bytes.now < 64 → get_or taken (place_of b.bytes.now) false ≡ false → HaveOwn xs from taken
-    → HaveOwn xs at (set taken (place_of b.bytes.now) true)
-one_more_place xs from at taken b next l is p small free h =
-    let parted : drop at xs ≡ b ∷ drop from xs = drop_more xs at b l ∙ ap₂ (λ (x : Body) (n : ℕ). x ∷ drop n xs) (sym is) next in
-    let rest = length-drop from xs in
-    let here : place_of b.bytes.now < length taken = omega (arith, small, h.size) in
+-- a body whose place is free has other bytes
+pub is_free : (place : List ℕ → ℕ) (xs : List Body) (from : ℕ) (taken : List Bool) (b : Body) → HaveOwn place xs from taken → get_or taken (place b.bytes.now) false ≡ false
+    → (k : ℕ) → from ≤ k → k < length xs → (get_or xs k b).bytes.now ≡ b.bytes.now → ⊥
+is_free place xs from taken b h free k low high e = clash _ (h.marked k b low high) (ap (λ bytes. get_or taken (place bytes) false) e ∙ free)
+
+pub one_more_place : (place : List ℕ → ℕ) (xs : List Body) (from at : ℕ) (taken : List Bool) (b : Body) → at + 1 ≡ from → at < length xs → b ≡ get_or xs at b → place b.bytes.now < 64 → HaveOwn place xs from taken → HaveOwn place xs at (set taken (place b.bytes.now) true)
+one_more_place place xs from at taken b next l is small h =
+    let here : place b.bytes.now < length taken = omega (arith, small, h.size) in
     record {
-      plain = subst (All (λ (x : Body). IsTrue x.is_plain)) (sym parted) (All-cons (λ (x : Body). IsTrue x.is_plain) b (drop from xs) p h.plain);
-      apart = ap (λ ys. has_repeated (all_points ys)) parted
-          ∙ ap₂ (λ u v. u || v) (none_there b (drop from xs) p h.plain (λ k w e. clash _ (h.marked (from + k) b (omega arith) (omega (arith, rest, w))) (ap (λ (x : Body). get_or taken (place_of x.bytes.now) false) (sym (get_or-drop from xs k b)) ∙ (ap (λ n. get_or taken n false) e ∙ free)))) h.apart;
       marked = λ k d low high. elim (cases_lt at k) [
-        | inl lt ↦ (let o = h.marked k d (omega (arith, lt, next)) high in kept_mark taken (place_of b.bytes.now) (place_of (get_or xs k d).bytes.now) here o)
+        | inl lt ↦ (let o = h.marked k d (omega (arith, lt, next)) high in kept_mark taken (place b.bytes.now) (place (get_or xs k d).bytes.now) here o)
         | inr le ↦ (
             let same : k ≡ at = omega (arith, low, le) in
             let own : get_or xs k d ≡ b = ap (λ n. get_or xs n d) same ∙ (get_or_default xs at d b l ∙ sym is) in
-            ap (λ (x : Body). get_or (set taken (place_of b.bytes.now) true) (place_of x.bytes.now) false) own ∙ get_or-set_same taken (place_of b.bytes.now) true false here
+            ap (λ (x : Body). get_or (set taken (place b.bytes.now) true) (place x.bytes.now) false) own ∙ get_or-set_same taken (place b.bytes.now) true false here
             )
       ];
-      size = length-set taken (place_of b.bytes.now) true ∙ h.size;
+      size = length-set taken (place b.bytes.now) true ∙ h.size;
     }
+
+-- those from a place of the list on are plain, and differ
+pub record Differ (xs : List Body) (from : ℕ) : Type 0 where
+  pub plain : All (λ (b : Body). IsTrue b.is_plain) (drop from xs)
+  pub apart : has_repeated (all_points (drop from xs)) ≡ false
+
+pub none_yet : (xs : List Body) → Differ xs (length xs)
+none_yet xs =
+    let none : drop (length xs) xs ≡ [] = drop_all (length xs) xs (omega arith) in
+    record { plain = subst (All (λ (b : Body). IsTrue b.is_plain)) (sym none) (λ k d l. absurd (omega arith)); apart = ap (λ ys. has_repeated (all_points ys)) none }
+
+pub one_more : (xs : List Body) (from at : ℕ) (b : Body) → at + 1 ≡ from → at < length xs → b ≡ get_or xs at b → IsTrue b.is_plain → ((k : ℕ) → from ≤ k → k < length xs → (get_or xs k b).bytes.now ≡ b.bytes.now → ⊥) → Differ xs from → Differ xs at
+one_more xs from at b next l is p free h =
+    let parted : drop at xs ≡ b ∷ drop from xs = drop_more xs at b l ∙ ap₂ (λ (x : Body) (n : ℕ). x ∷ drop n xs) (sym is) next in
+    let rest = length-drop from xs in
+    record {
+      plain = subst (All (λ (x : Body). IsTrue x.is_plain)) (sym parted) (All-cons (λ (x : Body). IsTrue x.is_plain) b (drop from xs) p h.plain);
+      apart = ap (λ ys. has_repeated (all_points ys)) parted
+          ∙ ap₂ (λ u v. u || v) (none_there b (drop from xs) p h.plain (λ k w e. free (from + k) (omega arith) (omega (arith, rest, w)) (ap (λ (x : Body). x.bytes.now) (sym (get_or-drop from xs k b)) ∙ e))) h.apart;
+    }
+
+pub all_differ : (xs : List Body) (left : ℕ) → left ≡ 0 → Differ xs left → has_repeated (all_points xs) ≡ false
+all_differ xs left first h = ap (λ n. has_repeated (all_points (drop n xs))) (sym first) ∙ h.apart

@@ -1,5 +1,5 @@
 -- A word that stands for the bytes of a name.
-use Rattle.std.specs.Prelude.{◌≡◌, ◌+◌, ◌-◌, ◌*◌, ◌^◌, ◌%◌, ◌++◌, ◌∷◌, [], ℕ, List, length, map, get_or, take, drop, replicate, cond, nat_lt, false}
+use Rattle.std.specs.Prelude.{◌≡◌, ◌+◌, ◌-◌, ◌*◌, ◌^◌, ◌/◌, ◌%◌, ◌++◌, ◌∷◌, [], ℕ, List, length, map, get_or, take, drop, replicate, cond, nat_lt, false}
 use Rattle.std.specs.Int.{w64, from_le_bytes}
 use Rattle.jp_model.specs.Json.Faults.{has_repeated}
 use Rattle.jp_tape.specs.declared.builder.body.Body.{Body}
@@ -15,6 +15,10 @@ key_of bytes = cond (nat_lt (length bytes) 8) (from_le_bytes w64 (bytes ++ repli
 -- one of 64 places, by the length and the first byte
 unfoldable pub place_of : List ℕ → ℕ
 place_of bytes = (length bytes % 64 + get_or bytes 0 0) % 64
+
+-- another one, by the length and the last and the middle byte
+unfoldable pub other_place_of : List ℕ → ℕ
+other_place_of bytes = (length bytes % 64 * 4 + 3 * get_or bytes (length bytes - 1) 0 + get_or bytes (length bytes / 2) 0) % 64
 
 -- the keys of bodies
 abbrev pub keys_of : List Body → List ℕ

@@ -4,7 +4,7 @@ ghost use Rattle.std.specs.Prelude.{◌≡◌, ◌<◌, ◌≤◌, ◌+◌, ◌-
 ghost use Rattle.jp_model.specs.Json.Faults.{has_repeated};
 ghost use Rattle.jp_tape.specs.declared.builder.body.Body.{Body};
 ghost use Rattle.jp_tape.specs.Names.{all_points};
-ghost use Rattle.jp_tape.specs.Keys.{word_at as the_word, key_of, keys_of, place_of, AreApart};
+ghost use Rattle.jp_tape.specs.Keys.{word_at as the_word, key_of, keys_of, place_of, other_place_of, AreApart};
 
 use super::body::Body;
 use std::alloc::AllocError;
@@ -82,6 +82,42 @@ pub(super) fn have_own_places(bodies: &[Body<'_>]) -> bool
             return false;
         }
         taken[place] = true;
+    }
+    true
+}
+
+/// Another number below 64 for a name, by its last byte, the middle one and its length.
+#[inline(always)]
+#[tactic(auto, unfolding(crate::specs::Keys::other_place_of))]
+fn other_place(bytes: &[u8]) -> usize
+    ensures value { result ≡ other_place_of bytes.now }
+    ensures within { result < 64 }
+{
+    if bytes.is_empty() {
+        return 0;
+    }
+    let last = bytes[bytes.len() - 1] as usize;
+    let middle = bytes[bytes.len() / 2] as usize;
+    (bytes.len() % 64 * 4 + 3 * last + middle) % 64
+}
+
+/// Whether each body has one of two places of its own, so that they differ. Where it says no, they may differ still.
+pub(super) fn have_one_of_two_places(bodies: &[Body<'_>]) -> bool
+    ensures { IsTrue result → has_repeated (all_points bodies.now) ≡ false }
+{
+    let mut taken = [false; 64];
+    let mut others_taken = [false; 64];
+    let mut left = bodies.len();
+    while left > 0 {
+        left -= 1;
+        let body = &bodies[left];
+        let place = place(body.bytes);
+        let other = other_place(body.bytes);
+        if !body.is_plain || taken[place] && others_taken[other] {
+            return false;
+        }
+        taken[place] = true;
+        others_taken[other] = true;
     }
     true
 }

@@ -8,14 +8,17 @@ ghost use Rattle.jp_model.specs.Json.Faults.{has_repeated};
 ghost use Rattle.jp_tape.specs.Names.{points, all_points};
 
 use super::body::Body;
-use super::keys::{are_distinct, have_own_places};
+use super::keys::{are_distinct, have_one_of_two_places, have_own_places};
 use jp_lanes::equal_bytes;
 use jp_strings::{compare, equal};
 use std::alloc::AllocError;
 use std::cmp::Ordering;
 
-/// So many bodies are compared by pairs, and more are sorted.
-const MOST_PAIRED: usize = 8;
+/// So many bodies are compared by pairs, where two share a place.
+const MOST_PAIRED: usize = 5;
+
+/// So many bodies seldom share both of their places, and more are sorted.
+const MOST_PLACED: usize = 32;
 
 /// Fewer bodies than these have no equal ones.
 const PAIR: usize = 2;
@@ -99,6 +102,9 @@ pub(super) fn has_equal(bodies: &mut [Body<'_>], keys: &mut Vec<u64>) -> Result<
     }
     if bodies.len() <= MOST_PAIRED {
         return Ok(!have_own_places(bodies) && has_equal_pair(bodies));
+    }
+    if bodies.len() <= MOST_PLACED && have_one_of_two_places(bodies) {
+        return Ok(false);
     }
     if are_distinct(bodies, keys)? {
         return Ok(false);
