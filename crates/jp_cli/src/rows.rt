@@ -18,126 +18,61 @@ ghost use Rattle.jp_cli.specs.Runs.{FitsSetup, AnswersOne, Adds, at, most_lines}
 use crate::query::read_query;
 use crate::reply::{refuse_query, write_refused_growth, write_reply};
 use jp_model::{Framing, Setup, Watched};
-use jp_plan::{Answer, Plan, Row, laws};
-use jp_rows::{WriteFault, is_short, write_count, write_node, write_refusal, write_short_node};
-use jp_store::{Opened, Store};
+use jp_plan::{LineRows, Plan, Rows, laws};
+use jp_rows::{WriteFault, write_count, write_node, write_refusal};
+use jp_store::{LineView, Opened, Store};
 use jp_types::Checked;
 use std::alloc::{AllocError, Global};
 use std::io::Write;
 
-/// So many rows are looked at together before they are written.
-const BLOCK: usize = 16;
-
-/// Writes a row. Nodes that are known to be short are not tested again.
-#[inline(always)]
-fn write_row<W: Write>(
-    row: &Row<'_>,
-    short: bool,
+/// Writes the row of each node at some places of a line.
+fn write_nodes<W: Write>(
+    line: u32,
+    view: LineView<'_>,
+    places: &[u32],
     framing: Framing,
     out: &mut Watched<W>,
 ) -> Result<(), WriteFault>
-    requires { out.old.failed ≡ false }
-    ensures text { Writes W.contents out.old out.new result (found_text framing row.now) }
-    ensures fault { out.new.failed ≡ is_err result }
-    ensures after { out.new.after ≡ out.old.after }
 {
-    match row {
-        Row::Node { line, cursor } if short => write_short_node(*line, *cursor, framing, out),
-        Row::Node { line, cursor } => write_node(*line, *cursor, framing, out),
-        Row::Refused { line, fault } => write_refusal(*line, *fault, framing, out),
-    }
-}
-
-fn is_node(row: &Row<'_>) -> bool
-    ensures { result ≡ is_found_node row.now }
-{
-    matches!(row, Row::Node { .. })
-}
-
-/// Whether a row is of no long node.
-fn is_short_row(row: &Row<'_>) -> bool
-    ensures { result ≡ is_short_found row.now }
-{
-    match row {
-        Row::Node { cursor, .. } => is_short(*cursor),
-        Row::Refused { .. } => true,
-    }
-}
-
-/// Whether none of some rows is of a long node.
-fn are_short(rows: &[Row<'_>]) -> bool
-    ensures { result ≡ list_all is_short_found rows.now }
-{
-    rows.iter().all(|row| is_short_row(row))
-}
-
-/// Writes some rows. It first tests whether all their nodes are short: that is in tapes which lie far apart, and are
-/// then fetched from memory together, and not each when its row is written.
-fn write_block<W: Write>(
-    rows: &[Row<'_>],
-    framing: Framing,
-    out: &mut Watched<W>,
-) -> Result<(), WriteFault>
-    requires { out.old.failed ≡ false }
-    ensures text { Writes W.contents out.old out.new result (flat_map (found_text framing) rows.now) }
-    ensures fault { out.new.failed ≡ is_err result }
-    ensures after { out.new.after ≡ out.old.after }
-{
-    let short = are_short(rows);
-    for row in rows {
-        if let Err(fault) = write_row(row, short, framing, out) {
+    let root = view.root();
+    for place in places {
+        if let Err(fault) = write_node(line, root.go_to(*place), framing, out) {
             return Err(fault);
         }
     }
     Ok(())
 }
 
-fn count_nodes(rows: &[Row<'_>]) -> usize
-    ensures { result ≡ count_by is_found_node rows.now }
-{
-    rows.iter().filter(|row| is_node(row)).count()
-}
-
-/// Writes all rows, and answers how many are of nodes.
+/// Writes all rows.
 fn write_rows<W: Write>(
-    rows: &[Row<'_>],
-    framing: Framing,
-    out: &mut Watched<W>,
-) -> Result<usize, WriteFault>
-    requires { out.old.failed ≡ false }
-    ensures text { Writes W.contents out.old out.new result (flat_map (found_text framing) rows.now) }
-    ensures count { IfOk result (λ count. count ≡ count_by is_found_node rows.now) }
-    ensures fault { out.new.failed ≡ is_err result }
-    ensures after { out.new.after ≡ out.old.after }
-{
-    let mut count = 0;
-    let mut start = 0;
-    while start < rows.len() {
-        let end = start + BLOCK.min(rows.len() - start);
-        let block = &rows[start..end];
-        if let Err(fault) = write_block(block, framing, out) {
-            return Err(fault);
-        }
-        count += count_nodes(block);
-        start = end;
-    }
-    Ok(count)
-}
-
-fn write_rows_and_count<W: Write>(
-    rows: &[Row<'_>],
+    rows: &Rows<'_>,
     framing: Framing,
     out: &mut Watched<W>,
 ) -> Result<(), WriteFault>
-    requires { out.old.failed ≡ false }
-    ensures text { Writes W.contents out.old out.new result (flat_map (found_text framing) rows.now ++ count_line (count_by is_found_node rows.now)) }
-    ensures fault { out.new.failed ≡ is_err result }
-    ensures after { out.new.after ≡ out.old.after }
 {
-    match write_rows(rows, framing, out) {
-        Ok(count) => write_count(count, out),
-        Err(fault) => Err(fault),
+    let mut places = rows.places.as_slice();
+    for of_line in &rows.lines {
+        match of_line {
+            LineRows::Nodes { line, view, count } => {
+                let (here, behind) = places.split_at(*count);
+                write_nodes(*line, *view, here, framing, out)?;
+                places = behind;
+            }
+            LineRows::Refused { line, fault } => write_refusal(*line, *fault, framing, out)?,
+        }
     }
+    Ok(())
+}
+
+/// Writes all rows, and how many are of nodes.
+fn write_rows_and_count<W: Write>(
+    rows: &Rows<'_>,
+    framing: Framing,
+    out: &mut Watched<W>,
+) -> Result<(), WriteFault>
+{
+    write_rows(rows, framing, out)?;
+    write_count(rows.places.len(), out)
 }
 
 /// The rows of a query, by the plan that the indexes of the store allow. The lines that it opens are counted.
@@ -146,7 +81,7 @@ fn find_rows<'s>(
     checked: &'s Checked,
     store: &'s Store,
     opened: &mut Opened,
-) -> Result<Answer<'s>, AllocError>
+) -> Result<Rows<'s>, AllocError>
     requires { opened.old + most_lines < 2 ^ 64 }
     ensures rows { IfOk result (λ answer. (rows_view answer.rows.items ≡ rows_of (checked_view checked.now) (statuses_in store.now))
         × AreOnTheirLines store.now.state.lines answer.rows.items) }
@@ -157,7 +92,7 @@ fn find_rows<'s>(
     let plan = Plan::new(alloc, checked, store)?;
     // There is room for all lines of the store, and the plan opens no more.
     prove!(opened.count() <= u64::MAX - u64::from(store.line_count()));
-    plan.answer(opened)
+    plan.rows(opened)
 }
 
 /// Answers a query, whose rows are whole before the first byte is written.
@@ -180,7 +115,7 @@ fn answer_checked<W: Write>(
     ensures after { out.new.after ≡ out.old.after }
 {
     match find_rows(alloc, checked, store, opened) {
-        Ok(answer) => write_rows_and_count(answer.rows.as_slice(), setup.framing, out),
+        Ok(rows) => write_rows_and_count(&rows, setup.framing, out),
         Err(_) => write_refused_growth(out),
     }
 }

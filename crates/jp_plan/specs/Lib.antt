@@ -1,5 +1,6 @@
 -- What the contracts of plans speak of.
 pub mod Behind
+pub mod ByLine
 pub mod Found
 pub mod Passing
 pub mod Paths

@@ -13,7 +13,8 @@ ghost use Rattle.jp_query.specs.View.{segments_view};
 ghost use Rattle.jp_tape.specs.Cursors.{line_of, node_of};
 ghost use Rattle.jp_store.specs.Collections.{line_status};
 ghost use Rattle.jp_store.specs.Views.{text_of_view, tree_of_view};
-ghost use Rattle.jp_plan.specs.Found.{rows_view, node_row, AreOnTheirLines};
+ghost use Rattle.jp_plan.specs.ByLine.{found_rows, IsInTurn, AreOfTheirLines};
+ghost use Rattle.jp_plan.specs.Found.{rows_view, AreOnTheirLines};
 ghost use Rattle.jp_plan.specs.Passing.{seek_status, IsLineOf};
 ghost use Rattle.jp_plan.specs.Paths.{path_at};
 ghost use Rattle.jp_plan.specs.PlanViews.{plan_of};
@@ -22,6 +23,7 @@ ghost use Rattle.jp_plan.specs.Routes.{IsRouteOf, steps_or_none};
 
 use crate::plan::Plan;
 use crate::route::{Route, find_route};
+use crate::rows::Rows;
 use crate::turn::{Turn, behind_first, next_turn};
 use jp_eval::Program;
 use jp_model::LineFault;
@@ -44,37 +46,20 @@ pub struct Answer<'s> {
     pub rows: Vec<Row<'s>>,
 }
 
-/// Appends a row of each node of a line to others.
-fn push_cursors<'s>(
-    line: u32,
-    found: &[Cursor<'s>],
-    rows: &mut Vec<Row<'s>>,
-) -> Result<(), AllocError>
-    ensures ok { OnOk result (rows.new.items ≡ rows.old.items ++ map (node_row line) found.now) }
-    ensures lines { (lines : List (List ℕ)) → All (λ c. slice_get lines (line - 1) ≡ Some (line_of c)) found.now → AreOnTheirLines lines rows.old.items → AreOnTheirLines lines rows.new.items }
-{
-    rows.reserve(found.len())?;
-    for cursor in found {
-        rows.push(Row::Node {
-            line,
-            cursor: *cursor,
-        })?;
-    }
-    Ok(())
-}
-
 impl<'s> Plan<'s> {
-    /// The row of a refused line.
-    fn push_refusal(&self, line: u32, rows: &mut Vec<Row<'s>>) -> Result<(), AllocError>
+    /// Appends the row of a refused line to others.
+    fn push_refusal(&self, line: u32, rows: &mut Rows<'s>) -> Result<(), AllocError>
         requires line { IsLineOf (plan_of self.now).over line }
         requires refused { is_refused_status (line_status line (plan_of self.now).over) ≡ true }
-        ensures rows { OnOk result (rows_view rows.new.items ≡ rows_view rows.old.items ++ status_rows (plan_of self.now).query line (line_status line (plan_of self.now).over)) }
-        ensures lines { AreOnTheirLines (plan_of self.now).over.state.lines rows.old.items → AreOnTheirLines (plan_of self.now).over.state.lines rows.new.items }
+        requires turn { IsInTurn rows.old }
+        ensures rows { OnOk result (found_rows rows.new ≡ found_rows rows.old ++ status_rows (plan_of self.now).query line (line_status line (plan_of self.now).over)) }
+        ensures turn { OnOk result (IsInTurn rows.new) }
+        ensures lines { OnOk result (AreOfTheirLines (plan_of self.now).over.state.lines rows.old → AreOfTheirLines (plan_of self.now).over.state.lines rows.new) }
     {
-        if let Status::Refused(fault) = self.store.line_status(line) {
-            rows.push(Row::Refused { line, fault })?;
+        match self.store.line_status(line) {
+            Status::Refused(fault) => rows.push_refusal(line, fault),
+            Status::Blank | Status::Tree => Ok(()),
         }
-        Ok(())
     }
 
     /// The node from which the rest of the query is evaluated: that of the seek, or the root.
@@ -103,16 +88,18 @@ impl<'s> Plan<'s> {
         line: u32,
         opened: &mut Opened,
         found: &mut Vec<Cursor<'s>>,
-        rows: &mut Vec<Row<'s>>,
+        rows: &mut Rows<'s>,
     ) -> Result<(), AllocError>
         requires route { IsRouteOf route (plan_of self.now).query (plan_of self.now).over }
         requires program { program_view program.now ≡ segments_view route.rest.now }
         requires line { IsLineOf (plan_of self.now).over line }
         requires opened { is_opened (plan_of self.now).query (plan_of self.now).over.state.paths (line_status line (plan_of self.now).over) ≡ true }
         requires room { opened.old + 1 < 2 ^ 64 }
+        requires turn { IsInTurn rows.old }
         ensures count { opened.new ≡ opened.old + 1 }
-        ensures rows { OnOk result (rows_view rows.new.items ≡ rows_view rows.old.items ++ status_rows (plan_of self.now).query line (line_status line (plan_of self.now).over)) }
-        ensures lines { AreOnTheirLines (plan_of self.now).over.state.lines rows.old.items → AreOnTheirLines (plan_of self.now).over.state.lines rows.new.items }
+        ensures rows { OnOk result (found_rows rows.new ≡ found_rows rows.old ++ status_rows (plan_of self.now).query line (line_status line (plan_of self.now).over)) }
+        ensures turn { OnOk result (IsInTurn rows.new) }
+        ensures lines { OnOk result (AreOfTheirLines (plan_of self.now).over.state.lines rows.old → AreOfTheirLines (plan_of self.now).over.state.lines rows.new) }
     {
         let Some(view) = self.store.view(line, opened) else {
             return Ok(());
@@ -120,7 +107,7 @@ impl<'s> Plan<'s> {
         let start = self.start(route.seek, line, view);
         found.clear();
         program.run(self.alloc, start, view.root(), found)?;
-        push_cursors(line, found.as_slice(), rows)
+        rows.push_nodes(line, view, found.as_slice())
     }
 
     /// The rows of the lines to be opened, and of the refused lines, in the order of their lines.
@@ -130,18 +117,19 @@ impl<'s> Plan<'s> {
         program: &Program,
         lines: &[u32],
         opened: &mut Opened,
-    ) -> Result<Vec<Row<'s>>, AllocError>
+    ) -> Result<Rows<'s>, AllocError>
         requires route { IsRouteOf route (plan_of self.now).query (plan_of self.now).over }
         requires program { program_view program.now ≡ segments_view route.rest.now }
         requires lines { lines.now ≡ lines_opened (plan_of self.now) }
         requires room { opened.old + length lines.now < 2 ^ 64 }
-        ensures rows { IfOk result (λ rows. rows_view rows.items ≡ rows_of (plan_of self.now)) }
-        ensures lines { IfOk result (λ rows. AreOnTheirLines (plan_of self.now).over.state.lines rows.items) }
+        ensures rows { IfOk result (λ rows. found_rows rows ≡ rows_of (plan_of self.now)) }
+        ensures turn { IfOk result (λ rows. IsInTurn rows) }
+        ensures lines { IfOk result (λ rows. AreOfTheirLines (plan_of self.now).over.state.lines rows) }
         ensures count { OnOk result (opened.new ≡ opened.old + length lines.now) }
         ensures least { opened.old ≤ opened.new }
         ensures most { opened.new ≤ opened.old + length lines.now }
     {
-        let mut rows = Vec::new(self.alloc);
+        let mut rows = Rows::new(self.alloc);
         let mut found = Vec::new(self.alloc);
         let mut to_open = lines;
         let mut to_refuse = self.store.refused_lines();
@@ -160,8 +148,27 @@ impl<'s> Plan<'s> {
         Ok(rows)
     }
 
-    /// The rows of the query, line by line: those of the nodes that it selects, and those of the refused lines. It opens the
-    /// lines that the plan has to open and no other, and adds their number to the count, which has room for it.
+    /// The rows of the query by line: those of the nodes that it selects, and those of the refused lines. It opens the lines
+    /// that the plan has to open and no other, and adds their number to the count, which has room for it.
+    ///
+    /// # Errors
+    ///
+    /// Memory ran out. Some lines may have been opened and counted then, and no more than without that.
+    pub fn rows(&self, opened: &mut Opened) -> Result<Rows<'s>, AllocError>
+        requires { opened.old + length (lines_opened (plan_of self.now)) < 2 ^ 64 }
+        ensures rows { IfOk result (λ rows. found_rows rows ≡ rows_of (plan_of self.now)) }
+        ensures turn { IfOk result (λ rows. IsInTurn rows) }
+        ensures lines { IfOk result (λ rows. AreOfTheirLines (plan_of self.now).over.state.lines rows) }
+        ensures count { OnOk result (opened.new ≡ opened.old + length (lines_opened (plan_of self.now))) }
+        ensures most { OnErr result ((opened.old ≤ opened.new) × (opened.new ≤ opened.old + length (lines_opened (plan_of self.now)))) }
+    {
+        let route = find_route(self.query.segments(), self.store);
+        let program = Program::compile(self.alloc, route.rest)?;
+        let lines = self.opened_lines(route)?;
+        self.rows_in_turn(route, &program, &lines, opened)
+    }
+
+    /// The rows of the query as `rows` finds them, one by one.
     ///
     /// # Errors
     ///
@@ -173,10 +180,7 @@ impl<'s> Plan<'s> {
         ensures count { OnOk result (opened.new ≡ opened.old + length (lines_opened (plan_of self.now))) }
         ensures most { OnErr result ((opened.old ≤ opened.new) × (opened.new ≤ opened.old + length (lines_opened (plan_of self.now)))) }
     {
-        let route = find_route(self.query.segments(), self.store);
-        let program = Program::compile(self.alloc, route.rest)?;
-        let lines = self.opened_lines(route)?;
-        let rows = self.rows_in_turn(route, &program, &lines, opened)?;
+        let rows = self.rows(opened)?.one_by_one(self.alloc)?;
         Ok(Answer { rows })
     }
 }

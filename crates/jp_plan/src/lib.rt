@@ -2,8 +2,9 @@
 //!
 //! Public calls:
 //!
-//! - `Plan::new`, `answer`, `Answer`, `Row`: a plan of a checked query over a store, and its rows, line by line; only lines
-//!   that have to be opened are opened
+//! - `Plan::new`, `rows`, `Rows`, `LineRows`: a plan of a checked query over a store, and its rows by line; only lines that
+//!   have to be opened are opened
+//! - `Plan::answer`, `Answer`, `Row`: the same rows, one by one
 //! - `Plan::explain`: the plan in words, and how many lines it opens
 #![tactic(auto)]
 
@@ -15,6 +16,7 @@ pub mod laws;
 mod lines;
 mod plan;
 mod route;
+mod rows;
 mod seek;
 mod segments;
 mod singular;
@@ -23,3 +25,4 @@ mod turn;
 
 pub use answer::{Answer, Row};
 pub use plan::Plan;
+pub use rows::{LineRows, Rows};

@@ -5,5 +5,5 @@ mod Turns
 mod Plain
 mod Named
 mod Summaries
-mod Heads
+mod Ends
 mod Blocks

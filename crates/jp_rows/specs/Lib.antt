@@ -1,4 +1,2 @@
 -- What the contracts of the rows speak of.
 pub mod Names
-pub mod Rooms
-pub mod Shortness

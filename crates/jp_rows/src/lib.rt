@@ -4,25 +4,22 @@
 //!
 //! - `write_whole`, `WriteFault`: bytes, in as many writes as they need
 //! - `write_path`, `write_node`, `write_refusal`: a normalized path; the row of a node; the row of a refused line
-//! - `is_short`, `write_short_node`: whether at most 128 bytes spell a node; the row of one that is known to be short
 //! - `write_steps`, `push_steps`: the path of an index; the same appended to a text
 //! - `push_name_step`, `push_index_step`, `push_quoted`: a step of a path; a name or string between single quotes
 //! - `write_count`, `write_numbered`, `write_summary`: the line `= n` that ends an answer; a line of words and a number; the
 //!   line that ends `check`
 #![tactic(auto)]
 
-mod body;
-mod head;
 mod names;
 mod path;
-mod room;
 mod rows;
+mod short;
 mod singular;
 mod summary;
 mod whole;
 
 pub use path::write_path;
-pub use rows::{is_short, write_count, write_node, write_refusal, write_short_node};
+pub use rows::{write_count, write_node, write_refusal};
 pub use singular::{push_index_step, push_name_step, push_quoted, push_steps, write_steps};
 pub use summary::{write_numbered, write_summary};
 pub use whole::{WriteFault, write_whole};

@@ -1,7 +1,7 @@
 //! The rows of all nodes of a line.
 
 use super::paths::tape_of;
-use crate::{is_short, write_node, write_short_node};
+use crate::write_node;
 use jp_model::{Framing, Watched};
 use jp_tape::Cursor;
 use std::alloc::{AllocError, Global};
@@ -70,7 +70,7 @@ fn around_name(
 fn long_paths_are_written_piece_by_piece(rt: HostRuntime) -> Result<(), Fail> {
     // The shortest of these names leave room for all of each row, longer ones for what stands before a value, and the longest for
     // neither.
-    for letters in 220..=260 {
+    for letters in 92..=132 {
         let line = around_name(rt.alloc(), b"{\"", letters, b"\":[0]}")?;
         let mut want = around_name(rt.alloc(), b"1\t$\t{\"", letters, b"\":[0]}\n")?;
         let child = around_name(rt.alloc(), b"1\t$['", letters, b"']\t[0]\n")?;
@@ -85,29 +85,12 @@ fn long_paths_are_written_piece_by_piece(rt: HostRuntime) -> Result<(), Fail> {
 
 #[test]
 fn many_bytes_are_written_from_the_line(rt: HostRuntime) -> Result<(), Fail> {
-    for (letters, writes) in [(126, 1), (127, 3), (1000, 3)] {
+    for (letters, writes) in [(112, 1), (113, 3), (1000, 3)] {
         let line = around_name(rt.alloc(), b"\"", letters, b"\"")?;
         let want = around_name(rt.alloc(), b"1\t$\t\"", letters, b"\"\n")?;
         let rows = rows_of(rt.alloc(), 1, &line, Framing::Lines).ok_or("no tape")?;
         assert_eq!(rt; rows.calls(), writes);
         assert_eq!(rt; rows.into_inner().as_slice(), want.as_slice());
-    }
-    Ok(())
-}
-
-#[test]
-fn a_node_of_128_bytes_is_short(rt: HostRuntime) -> Result<(), Fail> {
-    // Its quotes are two of them. One more, and the row is as before.
-    for (letters, short) in [(126, true), (127, false)] {
-        let line = around_name(rt.alloc(), b"\"", letters, b"\"")?;
-        let want = around_name(rt.alloc(), b"1\t$\t\"", letters, b"\"\n")?;
-        let tape = tape_of(rt.alloc(), &line).ok_or("no tape")?;
-        let root = Cursor::root(&tape, &line);
-        assert_eq!(rt; is_short(root), short);
-        let mut out = Watched::new(Vec::new(rt.alloc()));
-        let written = write_short_node(1, root, Framing::Lines, &mut out).is_ok();
-        assert_eq!(rt; written, true);
-        assert_eq!(rt; out.into_inner().as_slice(), want.as_slice());
     }
     Ok(())
 }
