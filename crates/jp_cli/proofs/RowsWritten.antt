@@ -1,11 +1,19 @@
 -- The texts of rows, or of other things, that are written one after another.
-use Rattle.std.proofs.Common.{◌≡◌, ◌∙◌, ◌+◌, ◌-◌, ◌<◌, ℕ, zero, List, [], ◌∷◌, ◌++◌, length, flat_map, take, drop, get_or, sym, ap, subst, arith, append-nil, take-append-drop, Option}
-use Rattle.std.specs.Prelude.{suc, slice_range}
-use Rattle.std.proofs.Math.Seq.{take-nil, take-suc}
+use Rattle.std.proofs.Common.{◌≡◌, ◌∙◌, ◌+◌, ◌-◌, ◌<◌, ℕ, zero, List, [], ◌∷◌, ◌++◌, length, flat_map, take, drop, get_or, sym, ap, subst, arith, append-nil, append_assoc, take-append-drop, map, refl, Option}
+use Rattle.std.specs.Prelude.{suc}
+use Rattle.std.proofs.Math.Seq.{take-suc}
 use Rattle.std.proofs.lemmas.Grind.{flat_map-append}
 use Rattle.std.proofs.KnownBytes.{Appends-trans}
 use Rattle.std.specs.Io.KnownBytes.{Appends}
+use Rattle.jp_model.specs.declared.Framing.{Framing}
+use Rattle.jp_model.specs.declared.LineFault.{LineFault}
+use Rattle.jp_model.specs.Rows.{refusal_text}
 use Rattle.jp_rows.proofs.Chains.{Part, part_more, part_behind}
+use Rattle.jp_store.specs.declared.view.LineView.{LineView}
+use Rattle.jp_plan.specs.ByLine.{at_place, expanded}
+use Rattle.jp_plan.specs.declared.rows.LineRows.{LineRows}
+use Rattle.jp_plan.specs.declared.rows.LineRows.TheVariants as by_line
+use Rattle.jp_cli.specs.Found.{place_text, found_text}
 
 module _ {X : Type 0} (text : X → List ℕ) (rows : List X) (i : ℕ) (row : X) (l : i < length rows) (is : row ≡ get_or rows i row) where
   one_more : flat_map text (take (i + 1) rows) ≡ flat_map text (take i rows) ++ text row
@@ -31,32 +39,28 @@ module _ {X : Type 0} (text : X → List ℕ) (rows : List X) (i : ℕ) (row : X
       subst (Part old new) (sym whole_is)
       (part_more old new (flat_map text (take i rows) ++ text row) (flat_map text (drop (i + 1) rows)) (part_behind old mid new (flat_map text (take i rows)) (text row) a p))
 
--- ---- blocks of rows
+-- ---- rows by line
 
-take_more : {X : Type 0} (xs : List X) (a n : ℕ) → take (a + n) xs ≡ take a xs ++ take n (drop a xs)
-take_more xs zero n = (let none : 0 + n ≡ n = omega arith in ap (λ k. take k xs) none)
-take_more [] (suc a) n = take-nil (suc a + n) ∙ sym (take-nil n)
-take_more (x ∷ xs) (suc a) n = (let one : suc a + n ≡ suc (a + n) = omega arith in ap (λ k. take k (x ∷ xs)) one ∙ ap (λ l. x ∷ l) (take_more xs a n))
+-- the texts of the rows of the next line, and of those behind it
+pub nodes_text : (f : Framing) (ls rest : List LineRows) (line : ℕ) (view : LineView) (count : ℕ) (ps : List ℕ) → ls ≡ by_line.Nodes line view count ∷ rest
+    → flat_map (found_text f) (expanded ls ps) ≡ flat_map (place_text f line view) (take count ps) ++ flat_map (found_text f) (expanded rest (drop count ps))
+nodes_text f ls rest line view count ps e =
+    ap (λ (xs : List LineRows). flat_map (found_text f) (expanded xs ps)) e
+    ∙ (flat_map-append (found_text f) (map (at_place line view) (take count ps)) (expanded rest (drop count ps))
+    ∙ ap (λ (t : List ℕ). t ++ flat_map (found_text f) (expanded rest (drop count ps))) (texts_of (take count ps)))
+  where
+    texts_of : (xs : List ℕ) → flat_map (found_text f) (map (at_place line view) xs) ≡ flat_map (place_text f line view) xs
+    texts_of [] = refl
+    texts_of (x ∷ xs) = ap (λ (t : List ℕ). place_text f line view x ++ t) (texts_of xs)
 
-module _ {X : Type 0} (text : X → List ℕ) (rows : List X) (start n : ℕ) where
-  pub block_more : take (start + n) rows ≡ take start rows ++ slice_range rows start (start + n)
-  block_more =
-      let size : start + n - start ≡ n = omega arith in
-      take_more rows start n ∙ ap (λ k. take start rows ++ take k (drop start rows)) (sym size)
+pub refusal_told : (f : Framing) (ls rest : List LineRows) (line : ℕ) (fault : LineFault) (ps : List ℕ) → ls ≡ by_line.Refused line fault ∷ rest
+    → flat_map (found_text f) (expanded ls ps) ≡ refusal_text f line fault ++ flat_map (found_text f) (expanded rest ps)
+refusal_told f ls rest line fault ps e = ap (λ (xs : List LineRows). flat_map (found_text f) (expanded xs ps)) e
 
-  texts_more : flat_map text (take (start + n) rows) ≡ flat_map text (take start rows) ++ flat_map text (slice_range rows start (start + n))
-  texts_more = ap (flat_map text) block_more ∙ flat_map-append text (take start rows) (slice_range rows start (start + n))
+-- a piece behind what is written, where the rest is still to come
+module _ (done a b left whole : List ℕ) (parts : left ≡ a ++ b) (all : done ++ left ≡ whole) where
+  pub piece_all : (done ++ a) ++ b ≡ whole
+  piece_all = append_assoc done a b ∙ (ap (λ (t : List ℕ). done ++ t) (sym parts) ∙ all)
 
-  texts_are : flat_map text rows ≡ (flat_map text (take start rows) ++ flat_map text (slice_range rows start (start + n))) ++ flat_map text (drop (start + n) rows)
-  texts_are =
-      ap (flat_map text) (sym (take-append-drop (start + n) rows))
-      ∙ flat_map-append text (take (start + n) rows) (drop (start + n) rows)
-      ∙ ap (λ t. t ++ flat_map text (drop (start + n) rows)) texts_more
-
-  pub block_written : (old mid new : Option (List ℕ)) → Appends old mid (flat_map text (take start rows)) → Appends mid new (flat_map text (slice_range rows start (start + n))) → Appends old new (flat_map text (take (start + n) rows))
-  block_written old mid new a b = subst (Appends old new) (sym texts_more) (Appends-trans old mid new (flat_map text (take start rows)) (flat_map text (slice_range rows start (start + n))) a b)
-
-  pub block_in_part : (old mid new : Option (List ℕ)) → Appends old mid (flat_map text (take start rows)) → Part mid new (flat_map text (slice_range rows start (start + n))) → Part old new (flat_map text rows)
-  block_in_part old mid new a p =
-      subst (Part old new) (sym texts_are)
-      (part_more old new (flat_map text (take start rows) ++ flat_map text (slice_range rows start (start + n))) (flat_map text (drop (start + n) rows)) (part_behind old mid new (flat_map text (take start rows)) (flat_map text (slice_range rows start (start + n))) a p))
+  pub piece_in_part : (old mid new : Option (List ℕ)) → Appends old mid done → Part mid new a → Part old new whole
+  piece_in_part old mid new p q = subst (Part old new) piece_all (part_more old new (done ++ a) b (part_behind old mid new done a p q))

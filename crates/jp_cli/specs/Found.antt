@@ -2,27 +2,20 @@
 use Rattle.std.specs.Prelude.{ℕ, Bool, true, false, List}
 use Rattle.jp_model.specs.declared.Framing.{Framing}
 use Rattle.jp_model.specs.Rows as rows
-use Rattle.jp_plan.specs.declared.answer.Row.{Row}
-use Rattle.jp_plan.specs.declared.answer.Row.TheVariants as found
-use Rattle.jp_tape.specs.declared.cursor.Cursor.{Cursor}
-use Rattle.jp_tape.specs.Cursors.{line_of, node_of}
-use Rattle.jp_rows.specs.Shortness.{is_short_value}
+use Rattle.jp_store.specs.Views.{text_of_view}
+use Rattle.jp_store.specs.declared.view.LineView.{LineView}
+use Rattle.jp_plan.specs.ByLine.{Found, at_place, of_fault, node_at}
 
--- the text of a cursor's row, on the line of that number
-abbrev pub cursor_text : Framing → ℕ → Cursor → List ℕ
-cursor_text framing line cursor = rows.node_text framing line (line_of cursor) (node_of cursor)
+-- the text of the row of the node at a place, on the line of that number
+abbrev pub place_text : Framing → ℕ → LineView → ℕ → List ℕ
+place_text framing line view place = rows.node_text framing line (text_of_view view) (node_at view place)
 
 -- the text of a row that was found
-abbrev pub found_text : Framing → Row → List ℕ
-found_text framing (found.Node line cursor) = cursor_text framing line cursor
-found_text framing (found.Refused line fault) = rows.refusal_text framing line fault
+abbrev pub found_text : Framing → Found → List ℕ
+found_text framing (at_place line view place) = place_text framing line view place
+found_text framing (of_fault line fault) = rows.refusal_text framing line fault
 
 -- the row is of a node
-abbrev pub is_found_node : Row → Bool
-is_found_node (found.Node line cursor) = true
-is_found_node (found.Refused line fault) = false
-
--- the row is of no long node
-abbrev pub is_short_found : Row → Bool
-is_short_found (found.Node line cursor) = is_short_value (node_of cursor).tree
-is_short_found (found.Refused line fault) = true
+abbrev pub is_found_node : Found → Bool
+is_found_node (at_place line view place) = true
+is_found_node (of_fault line fault) = false

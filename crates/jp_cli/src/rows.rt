@@ -1,7 +1,6 @@
 //! What `query` answers: the rows of the selected nodes and of the refused lines, and how many nodes there are.
 
-ghost use Rattle.std.specs.Prelude.{◌≡◌, ◌+◌, ◌^◌, ◌<◌, ◌≤◌, ◌++◌, length, false, is_err, IfOk, flat_map, count_by};
-ghost use Rattle.std.specs.List.{list_all};
+ghost use Rattle.std.specs.Prelude.{◌≡◌, ◌+◌, ◌^◌, ◌<◌, ◌≤◌, ◌++◌, length, false, is_err, All, IfOk, flat_map, count_by};
 ghost use Rattle.jp_model.specs.Devices.{Writes};
 ghost use Rattle.jp_model.specs.Plans.{opened as opened_lines};
 ghost use Rattle.jp_model.specs.Rows.{rows as rows_of};
@@ -11,8 +10,8 @@ ghost use Rattle.jp_query.specs.Status.{query_of};
 ghost use Rattle.jp_model.specs.Query.Status.{query};
 ghost use Rattle.jp_types.specs.Checks.{checked_view};
 ghost use Rattle.jp_store.specs.Collections.{statuses_in};
-ghost use Rattle.jp_plan.specs.Found.{rows_view, AreOnTheirLines};
-ghost use Rattle.jp_cli.specs.Found.{found_text, is_found_node, is_short_found};
+ghost use Rattle.jp_plan.specs.ByLine.{found_in, found_rows, IsInTurn, IsPlaceIn, AreOfTheirLines};
+ghost use Rattle.jp_cli.specs.Found.{place_text, found_text, is_found_node};
 ghost use Rattle.jp_cli.specs.Runs.{FitsSetup, AnswersOne, Adds, at, most_lines};
 
 use crate::query::read_query;
@@ -33,10 +32,14 @@ fn write_nodes<W: Write>(
     framing: Framing,
     out: &mut Watched<W>,
 ) -> Result<(), WriteFault>
+    requires places { All (IsPlaceIn view) places.now }
+    requires working { out.old.failed ≡ false }
+    ensures text { Writes W.contents out.old out.new result (flat_map (place_text framing line view.entry) places.now) }
+    ensures fault { out.new.failed ≡ is_err result }
+    ensures after { out.new.after ≡ out.old.after }
 {
-    let root = view.root();
     for place in places {
-        if let Err(fault) = write_node(line, root.go_to(*place), framing, out) {
+        if let Err(fault) = write_node(line, view.at(*place), framing, out) {
             return Err(fault);
         }
     }
@@ -49,6 +52,11 @@ fn write_rows<W: Write>(
     framing: Framing,
     out: &mut Watched<W>,
 ) -> Result<(), WriteFault>
+    requires turn { IsInTurn rows.now }
+    requires working { out.old.failed ≡ false }
+    ensures text { Writes W.contents out.old out.new result (flat_map (found_text framing) (found_in rows.now)) }
+    ensures fault { out.new.failed ≡ is_err result }
+    ensures after { out.new.after ≡ out.old.after }
 {
     let mut places = rows.places.as_slice();
     for of_line in &rows.lines {
@@ -70,6 +78,11 @@ fn write_rows_and_count<W: Write>(
     framing: Framing,
     out: &mut Watched<W>,
 ) -> Result<(), WriteFault>
+    requires turn { IsInTurn rows.now }
+    requires working { out.old.failed ≡ false }
+    ensures text { Writes W.contents out.old out.new result (flat_map (found_text framing) (found_in rows.now) ++ count_line (count_by is_found_node (found_in rows.now))) }
+    ensures fault { out.new.failed ≡ is_err result }
+    ensures after { out.new.after ≡ out.old.after }
 {
     write_rows(rows, framing, out)?;
     write_count(rows.places.len(), out)
@@ -83,8 +96,9 @@ fn find_rows<'s>(
     opened: &mut Opened,
 ) -> Result<Rows<'s>, AllocError>
     requires { opened.old + most_lines < 2 ^ 64 }
-    ensures rows { IfOk result (λ answer. (rows_view answer.rows.items ≡ rows_of (checked_view checked.now) (statuses_in store.now))
-        × AreOnTheirLines store.now.state.lines answer.rows.items) }
+    ensures rows { IfOk result (λ rows. found_rows rows ≡ rows_of (checked_view checked.now) (statuses_in store.now)) }
+    ensures turn { IfOk result (λ rows. IsInTurn rows) }
+    ensures lines { IfOk result (λ rows. AreOfTheirLines store.now.state.lines rows) }
     ensures opened { Adds (is_err result) (length (opened_lines (checked_view checked.now) store.now.state.paths (statuses_in store.now))) opened.old opened.new }
     ensures few { opened.new ≤ opened.old + most_lines }
 {

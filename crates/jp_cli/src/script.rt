@@ -168,15 +168,8 @@ pub(crate) fn run_script<R: Read, W: Write>(
         if read == 0 {
             break;
         }
-        if let Err(fault) = answer_lines(
-            store,
-            opened,
-            alloc,
-            setup,
-            &mut held,
-            &piece[..read.min(left)],
-            out,
-        ) {
+        let allowed = &piece[..read.min(left)];
+        if let Err(fault) = answer_lines(store, opened, alloc, setup, &mut held, allowed, out) {
             return Err(fault);
         }
         if read > left {

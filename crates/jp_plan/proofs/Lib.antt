@@ -1,4 +1,5 @@
 -- What the proofs of plans share.
+pub mod ByLine
 pub mod Entries
 pub mod Evaluated
 pub mod Explained

@@ -49,31 +49,6 @@ not_sought c path n t is s h k =
     let at_none : not (length {A = Node} [] == 0) ≡ true = subst (λ (ns : List Node). not (length ns == 0) ≡ true) none passes in
     absurd (cc)
 
--- rows behind others
-view_append : (xs ys : List Row) → rows_view (xs ++ ys) ≡ rows_view xs ++ rows_view ys
-view_append [] ys = refl
-view_append (x ∷ xs) ys = ap (λ l. row_view x ∷ l) (view_append xs ys)
-
-pub refusal_rows : (q : Segments) (n : ℕ) (s : LineStatus) (fault : LineFault) (old new : List Row) → told.Refused fault ≡ status_kind s → new ≡ old ++ found.Refused n fault ∷ [] → rows_view new ≡ rows_view old ++ status_rows q n s
-refusal_rows q n blank fault old new e h = absurd (cc)
-refusal_rows q n (refused f) fault old new e h =
-    let same : fault ≡ f = cc in
-    ap rows_view h ∙ (view_append old (found.Refused n fault ∷ []) ∙ ap (λ g. rows_view old ++ model.refusal_row n g ∷ []) same)
-refusal_rows q n (parsed t) fault old new e h = absurd (cc)
-
-views : (n : ℕ) (cs : List Cursor) → rows_view (map (node_row n) cs) ≡ map (model.node_row n) (map node_of cs)
-views n [] = refl
-views n (c ∷ cs) = ap (λ l. model.node_row n (node_of c) ∷ l) (views n cs)
-
--- what the rest selects from the node of the seek are the rows of the line
-pub node_rows : (q rest : Segments) (steps : List Step) (n : ℕ) (s : LineStatus) (t : Tree) (old new : List Row) (cs : List Cursor) (start : Node) → s ≡ parsed t → segments_behind steps q ≡ Some rest
-    → start ∷ [] ≡ nodes (steps_query steps) (root_node t ∷ []) t → map node_of cs ≡ nodes rest (start ∷ []) t → new ≡ old ++ map (node_row n) cs → rows_view new ≡ rows_view old ++ status_rows q n s
-node_rows q rest steps n s t old new cs start e b h k i =
-    let all : map node_of cs ≡ nodes q (root_node t ∷ []) t = k ∙ (ap (λ ns. nodes rest ns t) h ∙ sym (behind_nodes steps q rest (root_node t ∷ []) t b)) in
-    ap rows_view i ∙ (view_append old (map (node_row n) cs)
-    ∙ (ap (λ l. rows_view old ++ l) (views n cs ∙ ap (map (model.node_row n)) all)
-    ∙ ap (λ u. rows_view old ++ status_rows q n u) (sym e)))
-
 pub on_ok : {A E : Type 0} {P Q : Type 0} (r : Result A E) → OnOk r P → (P → Q) → OnOk r Q
 on_ok (Ok x) p f = f p
 on_ok (Err e) p f = p
@@ -83,11 +58,3 @@ pub tree_told : (s : LineStatus) → is_told_tree (status_kind s) ≡ is_tree s
 tree_told blank = refl
 tree_told (refused fault) = refl
 tree_told (parsed t) = refl
-
--- rows of cursors that stand on a line, behind others
-pub on_lines : (lines : List (List ℕ)) (n : ℕ) (cs : List Cursor) (old new : List Row) → new ≡ old ++ map (node_row n) cs → All (λ c. slice_get lines (n - 1) ≡ Some (line_of c)) cs → AreOnTheirLines lines old → AreOnTheirLines lines new
-on_lines lines n cs old new e here all = All-same (IsOnItsLine lines) new (old ++ map (node_row n) cs) e (All-append (IsOnItsLine lines) old (map (node_row n) cs) all (All-map (IsOnItsLine lines) (node_row n) cs here))
-
--- cursors that were found in a line stand on it
-pub stand_on : (c : Collection) (n : ℕ) (text : List ℕ) (cs : List Cursor) → IsLineOf c n → text ≡ line_text n c → All (λ d. line_of d ≡ text) cs → All (λ d. slice_get c.state.lines (n - 1) ≡ Some (line_of d)) cs
-stand_on c n text cs is e all = All-weaker (λ d. line_of d ≡ text) (λ d. slice_get c.state.lines (n - 1) ≡ Some (line_of d)) (λ d h. text_at c n is ∙ ap Some (sym (h ∙ e))) cs all

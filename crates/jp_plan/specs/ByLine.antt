@@ -16,7 +16,7 @@ pub data Found : Type 0 where
   of_fault : (line : ℕ) → LineFault → Found
 
 -- the rows of these lines: each takes its places in turn
-pub expanded : List LineRows → List ℕ → List Found
+abbrev pub expanded : List LineRows → List ℕ → List Found
 expanded [] places = []
 expanded (by_line.Nodes line view count ∷ lines) places = map (at_place line view) (take count places) ++ expanded lines (drop count places)
 expanded (by_line.Refused line fault ∷ lines) places = of_fault line fault ∷ expanded lines places
@@ -26,7 +26,7 @@ abbrev pub IsPlaceIn : LineView → ℕ → Type 0
 IsPlaceIn view place = place < length (subtree (root_node (tree_of_view view)))
 
 -- the places are those of the lines, one for each row of a node
-pub AreInTurn : List LineRows → List ℕ → Type 0
+abbrev pub AreInTurn : List LineRows → List ℕ → Type 0
 AreInTurn [] places = places ≡ []
 AreInTurn (by_line.Nodes line view count ∷ lines) places = (count ≤ length places) × All (IsPlaceIn view) (take count places) × AreInTurn lines (drop count places)
 AreInTurn (by_line.Refused line fault ∷ lines) places = AreInTurn lines places

@@ -3,7 +3,7 @@
 ghost use Rattle.std.specs.Prelude.{◌≡◌, ◌++◌, ◌-◌, ◌∷◌, ℕ, List, [], All, Some, map, slice_get, IfOk, OnOk};
 ghost use Rattle.jp_store.specs.Views.{text_of_view};
 ghost use Rattle.jp_tape.specs.Cursors.{line_of, place_of};
-ghost use Rattle.jp_plan.specs.ByLine.{at_place, of_fault, found_in, found_row, found_rows, IsInTurn, IsPlaceIn, AreOfTheirLines};
+ghost use Rattle.jp_plan.specs.ByLine.{at_place, of_fault, found_in, found_row, found_rows, IsInTurn, IsPlaceIn, IsOfItsLine, AreOfTheirLines};
 ghost use Rattle.jp_plan.specs.Found.{rows_view, AreOnTheirLines};
 
 use crate::answer::Row;
@@ -22,7 +22,10 @@ pub enum LineRows<'s> {
         count: usize,
     },
     /// The one row of a line that is refused.
-    Refused { line: u32, fault: LineFault },
+    Refused {
+        line: u32,
+        fault: LineFault,
+    },
 }
 
 /// The rows of a query, line by line, with four bytes a node. It borrows the store.
@@ -41,8 +44,8 @@ fn push_nodes<'s>(
     rows: &mut Vec<Row<'s>>,
 ) -> Result<(), AllocError>
     requires { All (IsPlaceIn view) places.now }
-    ensures rows { OnOk result (rows_view rows.new.items ≡ rows_view rows.old.items ++ map (λ place. found_row (at_place line view place)) places.now) }
-    ensures lines { (lines : List (List ℕ)) → slice_get lines (line - 1) ≡ Some (text_of_view view) → AreOnTheirLines lines rows.old.items → AreOnTheirLines lines rows.new.items }
+    ensures rows { OnOk result (rows_view rows.new.items ≡ rows_view rows.old.items ++ map found_row (map (at_place line view.entry) places.now)) }
+    ensures lines { (lines : List (List ℕ)) → All (λ place. IsOfItsLine lines (at_place line view.entry place)) places.now → AreOnTheirLines lines rows.old.items → AreOnTheirLines lines rows.new.items }
 {
     for place in places {
         let cursor = view.at(*place);
@@ -72,7 +75,7 @@ impl<'s> Rows<'s> {
     ) -> Result<(), AllocError>
         requires turn { IsInTurn self.old }
         requires nodes { All (λ node. line_of node ≡ text_of_view view) nodes.now }
-        ensures rows { OnOk result (found_in self.new ≡ found_in self.old ++ map (λ node. at_place line view (place_of node)) nodes.now) }
+        ensures rows { OnOk result (found_in self.new ≡ found_in self.old ++ map (at_place line view.entry) (map place_of nodes.now)) }
         ensures turn { OnOk result (IsInTurn self.new) }
     {
         if nodes.is_empty() {

@@ -1,6 +1,6 @@
 -- The rows of the nodes that the rest selects from the node of the seek.
 use Rattle.std.proofs.Common.{◌≡◌, ◌∙◌, List, [], ◌∷◌, ◌++◌, map, ap}
-use Rattle.std.proofs.lemmas.List.Elements.{All-nil, All-same}
+use Rattle.std.proofs.lemmas.List.Elements.{All-nil, All-same, All-weaker}
 use Rattle.jp_query.specs.View.{segments_view}
 use Rattle.jp_store.specs.Collections.{line_status}
 use Rattle.jp_plan.specs.Paths.{path_at}
@@ -11,10 +11,16 @@ use Rattle.jp_model.specs.Query.Syntax.{Segments}
 use Rattle.jp_model.specs.Meaning.Selecting.{nodes}
 use Rattle.jp_tape.specs.Cursors.{line_of, node_of}
 use Rattle.jp_tape.specs.declared.cursor.Cursor.{Cursor}
-use Rattle.jp_store.specs.Views.{tree_of_view}
+use Rattle.jp_store.specs.Views.{text_of_view, tree_of_view}
+use Rattle.jp_plan.specs.ByLine.{found_in}
 use Rattle.jp_eval.specs.Found.{AreOf}
-use Rattle.jp_plan.proofs.Starts.{on_ok, node_rows, stand_on}
+use Rattle.jp_plan.proofs.ByLine.{node_rows, nodes_of_line, of_view, is_there}
+use Rattle.jp_plan.proofs.Starts.{on_ok}
 use Rattle.jp_plan.proofs.plan.Plan.push_nodes.Goals as goal
+
+pub push_nodes-requires-clause-nodes : goal.push_nodes-requires-clause-nodes
+push_nodes-requires-clause-nodes c =
+    of_view c.in-Some.view c.root.result c.clear.new.self.items _ c.as_slice.result.now c.root.ensures.line c.clear.ensures.items c.in_ok-run.ensures.lines c.as_slice.ensures.value
 
 pub returns-clause-rows : goal.returns-clause-rows
 returns-clause-rows c =
@@ -28,14 +34,13 @@ returns-clause-rows c =
     ∙ (ap (λ (ss : Segments). map node_of c.clear.new.self.items ++ nodes ss (start ∷ []) (node_of c.root.result).tree) c.requires.program
     ∙ (ap (λ (ds : List Cursor). map node_of ds ++ nodes rest (start ∷ []) (node_of c.root.result).tree) c.clear.ensures.items
     ∙ ap (λ (n : Node). nodes rest (start ∷ []) n.tree) c.root.ensures.node))) in
-    on_ok c.push_cursors.result c.push_cursors.ensures.ok
-    (λ e. node_rows p.query rest (steps_or_none (path_at p.over.state.paths c.args.route.seek)) c.args.line (line_status c.args.line p.over) t c.args.rows.now.items c.push_cursors.new.rows.items c.as_slice.result.now start
-    c.in-Some.ensures.0 c.requires.route.rest_is c.start-start.ensures.node nodes_are e)
+    on_ok c.push_nodes.result c.push_nodes.ensures.rows
+    (λ e. node_rows p.query rest (steps_or_none (path_at p.over.state.paths c.args.route.seek)) c.args.line (line_status c.args.line p.over) t (found_in c.args.rows.now) (found_in c.push_nodes.new.self) c.in-Some.view c.as_slice.result.now start
+    c.in-Some.ensures.0 c.requires.route.rest_is c.start-start.ensures.node nodes_are (of_view c.in-Some.view c.root.result c.clear.new.self.items _ c.as_slice.result.now c.root.ensures.line c.clear.ensures.items c.in_ok-run.ensures.lines c.as_slice.ensures.value) e)
 
 pub returns-clause-lines : goal.returns-clause-lines
 returns-clause-lines c =
     let p = plan_of c.args.self.now in
-    let lines = p.over.state.lines in
-    let none : AreOf (line_of c.root.result) c.clear.new.self.items = All-same (λ d. line_of d ≡ line_of c.root.result) _ _ c.clear.ensures.items (All-nil _) in
-    let found = All-same (λ d. line_of d ≡ line_of c.root.result) _ _ c.as_slice.ensures.value (c.in_ok-run.ensures.lines none) in
-    λ all. c.push_cursors.ensures.lines lines (stand_on p.over c.args.line (line_of c.root.result) c.as_slice.result.now c.requires.line (c.root.ensures.line ∙ c.in-Some.ensures.1) found) all
+    on_ok c.push_nodes.result c.push_nodes.ensures.rows
+    (λ e. nodes_of_line p.over.state.lines c.args.line c.in-Some.view c.as_slice.result.now (found_in c.args.rows.now) (found_in c.push_nodes.new.self) e
+    (is_there p.over c.args.line (text_of_view c.in-Some.view) c.requires.line c.in-Some.ensures.1))
