@@ -1,5 +1,5 @@
 -- The texts of rows, or of other things, that are written one after another.
-use Rattle.std.proofs.Common.{◌≡◌, ◌∙◌, ◌+◌, ◌-◌, ◌<◌, ℕ, zero, List, [], ◌∷◌, ◌++◌, length, flat_map, take, drop, get_or, sym, ap, subst, arith, append-nil, append_assoc, take-append-drop, map, refl, Option}
+use Rattle.std.proofs.Common.{◌≡◌, ◌∙◌, ◌+◌, ◌-◌, ◌<◌, ℕ, zero, List, [], ◌∷◌, ◌++◌, length, flat_map, take, drop, get_or, sym, ap, ap₂, subst, arith, false, append-nil, append_assoc, take-append-drop, map, refl, Option}
 use Rattle.std.specs.Prelude.{suc}
 use Rattle.std.proofs.Math.Seq.{take-suc}
 use Rattle.std.proofs.lemmas.Grind.{flat_map-append}
@@ -7,10 +7,16 @@ use Rattle.std.proofs.KnownBytes.{Appends-trans}
 use Rattle.std.specs.Io.KnownBytes.{Appends}
 use Rattle.jp_model.specs.declared.Framing.{Framing}
 use Rattle.jp_model.specs.declared.LineFault.{LineFault}
-use Rattle.jp_model.specs.Rows.{refusal_text}
+use Rattle.jp_model.specs.Devices.{Device, Received}
+use Rattle.jp_model.specs.Meaning.Nodes.{Node}
+use Rattle.jp_model.specs.Rows.{node_text, refusal_text}
 use Rattle.jp_rows.proofs.Chains.{Part, part_more, part_behind}
 use Rattle.jp_store.specs.declared.view.LineView.{LineView}
-use Rattle.jp_plan.specs.ByLine.{at_place, expanded}
+use Rattle.jp_store.specs.Views.{text_of_view}
+use Rattle.jp_tape.specs.Cursors.{line_of, node_of, place_of}
+use Rattle.jp_tape.specs.declared.cursor.Cursor.{Cursor}
+use Rattle.jp_plan.specs.ByLine.{at_place, expanded, node_at, AreInTurn}
+use Rattle.jp_plan.proofs.ByLine.{found_at}
 use Rattle.jp_plan.specs.declared.rows.LineRows.{LineRows}
 use Rattle.jp_plan.specs.declared.rows.LineRows.TheVariants as by_line
 use Rattle.jp_cli.specs.Found.{place_text, found_text}
@@ -57,10 +63,74 @@ pub refusal_told : (f : Framing) (ls rest : List LineRows) (line : ℕ) (fault :
     → flat_map (found_text f) (expanded ls ps) ≡ refusal_text f line fault ++ flat_map (found_text f) (expanded rest ps)
 refusal_told f ls rest line fault ps e = ap (λ (xs : List LineRows). flat_map (found_text f) (expanded xs ps)) e
 
--- a piece behind what is written, where the rest is still to come
-module _ (done a b left whole : List ℕ) (parts : left ≡ a ++ b) (all : done ++ left ≡ whole) where
-  pub piece_all : (done ++ a) ++ b ≡ whole
-  piece_all = append_assoc done a b ∙ (ap (λ (t : List ℕ). done ++ t) (sym parts) ∙ all)
+-- the row of the node that a place leads to
+pub placed : (f : Framing) (line : ℕ) (view : LineView) (place : ℕ) (c : Cursor) → line_of c ≡ text_of_view view → place_of c ≡ place → node_text f line (line_of c) (node_of c) ≡ place_text f line view place
+placed f line view place c e at = ap₂ (λ (text : List ℕ) (node : Node). node_text f line text node) e (sym (found_at view c e) ∙ ap (node_at view) at)
 
-  pub piece_in_part : (old mid new : Option (List ℕ)) → Appends old mid done → Part mid new a → Part old new whole
-  piece_in_part old mid new p q = subst (Part old new) piece_all (part_more old new (done ++ a) b (part_behind old mid new done a p q))
+-- the rows of some lines are written, and those of the others are still to come; no write failed
+pub record IsWritten {W : Type 0} (contents : W → Option (List ℕ)) (f : Framing) (whole : List ℕ) (initial : Device W) (ls : List LineRows) (ps : List ℕ) (out : Device W) : Type 0 where
+  pub turn : AreInTurn ls ps
+  pub working : out.failed ≡ false
+  pub early : out.after ≡ initial.after
+  pub done : List ℕ
+  pub written : Received contents initial out done
+  pub all : done ++ flat_map (found_text f) (expanded ls ps) ≡ whole
+
+module _ {W : Type 0} (contents : W → Option (List ℕ)) (f : Framing) (whole : List ℕ) (initial out : Device W) (ls rest : List LineRows) (ps : List ℕ) (so : IsWritten contents f whole initial ls ps out) where
+  -- a piece behind what is written, where the rest is still to come
+  module _ (piece left : List ℕ) (parts : flat_map (found_text f) (expanded ls ps) ≡ piece ++ left) where
+    piece_all : (so.done ++ piece) ++ left ≡ whole
+    piece_all = append_assoc so.done piece left ∙ (ap (λ (t : List ℕ). so.done ++ t) (sym parts) ∙ so.all)
+
+    in_part : (new : Device W) → Part (contents out.device) (contents new.device) piece → Part (contents initial.device) (contents new.device) whole
+    in_part new p =
+        subst (Part (contents initial.device) (contents new.device)) piece_all
+        (part_more (contents initial.device) (contents new.device) (so.done ++ piece) left (part_behind (contents initial.device) (contents out.device) (contents new.device) so.done piece so.written p))
+
+    more : (new : Device W) → Received contents out new piece → Received contents initial new (so.done ++ piece)
+    more new r = Appends-trans (contents initial.device) (contents out.device) (contents new.device) so.done piece so.written r
+
+  module _ (line : ℕ) (view : LineView) (count : ℕ) (e : ls ≡ by_line.Nodes line view count ∷ rest) where
+    pub turned : AreInTurn (by_line.Nodes line view count ∷ rest) ps
+    turned = subst (λ (xs : List LineRows). AreInTurn xs ps) e so.turn
+
+    abbrev here : List ℕ
+    here = flat_map (place_text f line view) (take count ps)
+
+    abbrev left : List ℕ
+    left = flat_map (found_text f) (expanded rest (drop count ps))
+
+    pub nodes_written : (mine behind : List ℕ) (new : Device W) → mine ≡ take count ps → behind ≡ drop count ps → Received contents out new (flat_map (place_text f line view) mine)
+        → new.failed ≡ false → new.after ≡ out.after → IsWritten contents f whole initial rest behind new
+    nodes_written mine behind new m b r works after = subst (λ (qs : List ℕ). IsWritten contents f whole initial rest qs new) (sym b) (record {
+      turn = turned.2;
+      working = works;
+      early = after ∙ so.early;
+      done = so.done ++ here;
+      written = more here left (nodes_text f ls rest line view count ps e) new (subst (λ (qs : List ℕ). Received contents out new (flat_map (place_text f line view) qs)) m r);
+      all = piece_all here left (nodes_text f ls rest line view count ps e);
+    })
+
+    pub nodes_in_part : (mine : List ℕ) (new : Device W) → mine ≡ take count ps → Part (contents out.device) (contents new.device) (flat_map (place_text f line view) mine)
+        → Part (contents initial.device) (contents new.device) whole
+    nodes_in_part mine new m p =
+        in_part here left (nodes_text f ls rest line view count ps e) new (subst (λ (qs : List ℕ). Part (contents out.device) (contents new.device) (flat_map (place_text f line view) qs)) m p)
+
+  module _ (line : ℕ) (fault : LineFault) (e : ls ≡ by_line.Refused line fault ∷ rest) where
+    pub refusal_written : (new : Device W) → Received contents out new (refusal_text f line fault) → new.failed ≡ false → new.after ≡ out.after → IsWritten contents f whole initial rest ps new
+    refusal_written new r works after = record {
+      turn = subst (λ (xs : List LineRows). AreInTurn xs ps) e so.turn;
+      working = works;
+      early = after ∙ so.early;
+      done = so.done ++ refusal_text f line fault;
+      written = more (refusal_text f line fault) (flat_map (found_text f) (expanded rest ps)) (refusal_told f ls rest line fault ps e) new r;
+      all = piece_all (refusal_text f line fault) (flat_map (found_text f) (expanded rest ps)) (refusal_told f ls rest line fault ps e);
+    }
+
+    pub refusal_in_part : (new : Device W) → Part (contents out.device) (contents new.device) (refusal_text f line fault) → Part (contents initial.device) (contents new.device) whole
+    refusal_in_part new p = in_part (refusal_text f line fault) (flat_map (found_text f) (expanded rest ps)) (refusal_told f ls rest line fault ps e) new p
+
+-- at the end all are written
+pub all_written : {W : Type 0} (contents : W → Option (List ℕ)) (f : Framing) (whole : List ℕ) (initial out : Device W) (ls : List LineRows) (ps : List ℕ) → IsWritten contents f whole initial ls ps out → ls ≡ [] → Received contents initial out whole
+all_written contents f whole initial out ls ps so none =
+    subst (Received contents initial out) (sym (append-nil so.done) ∙ (ap (λ (xs : List LineRows). so.done ++ flat_map (found_text f) (expanded xs ps)) (sym none) ∙ so.all)) so.written

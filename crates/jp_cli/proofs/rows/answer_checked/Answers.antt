@@ -3,8 +3,7 @@ use Rattle.std.proofs.Common.{ℕ, List, ap, subst, sym, refl, true, ◌∙◌}
 use Rattle.jp_query.specs.Status.{query_of}
 use Rattle.jp_model.specs.Script.Commands.{query_line}
 use Rattle.jp_types.specs.Checks.{checked_view}
-use Rattle.jp_plan.specs.Found.{rows_view, AreOnTheirLines}
-use Rattle.jp_plan.specs.declared.answer.Row.{Row}
+use Rattle.jp_plan.specs.ByLine.{found_in}
 use Rattle.jp_cli.specs.Runs.{Adds, at}
 use Rattle.jp_cli.proofs.Replied.{starved}
 use Rattle.jp_cli.proofs.RowsTold.{rows_answered, lines_are}
@@ -14,9 +13,8 @@ pub returns-in-Ok-clause-ran : goal.returns-in-Ok-clause-ran
 returns-in-Ok-clause-ran g c =
     let over = c.args.store.now in
     rows_answered query_of c.args.setup over c.requires.fits c.args.text.now (checked_view c.args.checked.now) c.requires.query g.W.Write.contents c.args.out.now c.write_rows_and_count.new.out
-    c.write_rows_and_count.result c.as_slice.result.now c.args.opened.now c.find_rows.new.opened
-    (ap rows_view c.as_slice.ensures.value ∙ c.in-Ok.ensures.rows.0) (subst (λ (rows : List Row). AreOnTheirLines over.state.lines rows) (sym c.as_slice.ensures.value) c.in-Ok.ensures.rows.1)
-    c.in-Ok.ensures.opened c.write_rows_and_count.ensures.text
+    c.write_rows_and_count.result (found_in c.in-Ok.rows) c.args.opened.now c.find_rows.new.opened
+    c.in-Ok.ensures.rows c.in-Ok.ensures.lines c.in-Ok.ensures.opened c.write_rows_and_count.ensures.text
 
 pub returns-in-Err-clause-ran : goal.returns-in-Err-clause-ran
 returns-in-Err-clause-ran g c =

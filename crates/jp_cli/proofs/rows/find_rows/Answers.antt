@@ -9,8 +9,8 @@ at_most : {A E : Type 0} (result : Result A E) (old new lines : ℕ) → OnOk re
 at_most (Ok x) old new lines e m = omega (arith, e)
 at_most (Err x) old new lines e m = m.1
 
-pub answer-requires : goal.answer-requires
-answer-requires c =
+pub rows-requires : goal.rows-requires
+rows-requires c =
     let few = c.no_more_lines_are_opened.ensures (plan_of c.in_ok-plan.plan) in
     let over = ap (λ (p : Planned). length p.over.state.lines) c.in_ok-plan.ensures in
     omega (arith, few, over, c.line_count.ensures, c.requires)
@@ -19,5 +19,5 @@ pub returns-clause-few : goal.returns-clause-few
 returns-clause-few c =
     let few = c.no_more_lines_are_opened.ensures (plan_of c.in_ok-plan.plan) in
     let over = ap (λ (p : Planned). length p.over.state.lines) c.in_ok-plan.ensures in
-    let most = at_most c.answer.result c.args.opened.now c.answer.new.opened (length (lines_opened (plan_of c.in_ok-plan.plan))) c.answer.ensures.count c.answer.ensures.most in
+    let most = at_most c.rows.result c.args.opened.now c.rows.new.opened (length (lines_opened (plan_of c.in_ok-plan.plan))) c.rows.ensures.count c.rows.ensures.most in
     omega (arith, few, over, most, c.line_count.ensures)

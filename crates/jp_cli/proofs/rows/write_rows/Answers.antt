@@ -1,27 +1,54 @@
--- One block more is written and counted, or a beginning of it is written.
-use Rattle.std.proofs.Common.{◌∙◌, ◌+◌, List, take, arith, sym, ap, ap₂}
-use Rattle.std.specs.Prelude.{count_by, slice_range}
-use Rattle.jp_plan.specs.declared.answer.Row.{Row}
-use Rattle.jp_cli.specs.Found.{found_text, is_found_node}
-use Rattle.jp_cli.proofs.RowsTold.{count_append}
-use Rattle.jp_cli.proofs.RowsWritten.{block_more, block_written, block_in_part}
+-- The rows of one line more are written, or a beginning of them.
+use Rattle.std.proofs.Common.{◌∙◌, ◌+◌, ◌∷◌, ℕ, List, drop, take, flat_map, ap, sym, subst, Bor}
+use Rattle.std.proofs.lemmas.List.Elements.{All-same}
+use Rattle.jp_model.specs.Devices.{Device}
+use Rattle.jp_rows.proofs.Chains.{ends_in_part}
+use Rattle.jp_plan.specs.ByLine.{found_in, IsPlaceIn}
+use Rattle.jp_plan.specs.declared.rows.LineRows.{LineRows}
+use Rattle.jp_plan.proofs.ByLine.{line_next}
+use Rattle.jp_cli.specs.Found.{found_text}
+use Rattle.jp_cli.proofs.RowsWritten.{IsWritten, turned, nodes_written, nodes_in_part, refusal_written, refusal_in_part}
+use Rattle.jp_cli.proofs.rows.write_rows.Goals.{in-Nodes+in_ok-write_nodes-in-Nodes, in-Refused+in_ok-write_refusal-in-Refused}
 use Rattle.jp_cli.proofs.rows.write_rows.Goals as goal
 
-pub returns-in-Err-clause-text : goal.returns-in-Err-clause-text
-returns-in-Err-clause-text g c =
-    block_in_part (found_text c.args.framing) c.args.rows.now c.loop-start.start c.min.result _ _ _ c.loop-start.invariant.written c.in-Err.ensures.text
+pub returns-in_err-write_nodes-in-Nodes-clause-text : goal.returns-in_err-write_nodes-in-Nodes-clause-text
+returns-in_err-write_nodes-in-Nodes-clause-text g c =
+    let lines : List LineRows = c.args.rows.now.lines.items in
+    let i = c.loop-of_line.of_line-index in
+    let next = line_next lines c.deref-of_line-items.result.now i c.of_line-item.result c.deref-of_line-items.ensures.value c.loop-of_line-test.true c.of_line-item.is in
+    ends_in_part c.from_residual.result _ _ _ c.from_residual.ensures.0
+    (nodes_in_part g.W.Write.contents c.args.framing (flat_map (found_text c.args.framing) (found_in c.args.rows.now)) c.args.out.now c.loop-of_line.out (drop i lines) (drop (i + 1) lines) c.loop-of_line.places.now
+    c.loop-of_line.invariant c.in-Nodes.line c.in-Nodes.view c.in-Nodes.count (next ∙ ap (λ (l : LineRows). l ∷ drop (i + 1) lines) c.in-Nodes.is)
+    c.split_at.result.0.now c.write_nodes.new.out c.split_at.ensures.front c.in_err-write_nodes-in-Nodes.ensures.text)
 
-pub loop-start-preserved : goal.loop-start-preserved
-loop-start-preserved g c =
-    let l = c.loop-start in
-    let rows : List Row = c.args.rows.now in
-    let text = found_text c.args.framing in
-    let front : List Row = take l.start rows in
-    let block : List Row = slice_range rows l.start (l.start + c.min.result) in
-    record {
-      within = omega (arith, c.min.ensures, c.loop-start-test.true);
-      counted = ap₂ (λ a b. a + b) l.invariant.counted c.count_nodes-count.ensures ∙ sym (count_append is_found_node front block) ∙ ap (count_by is_found_node) (sym (block_more text rows l.start c.min.result));
-      working = c.in_default.ensures.fault;
-      early = c.in_default.ensures.after ∙ l.invariant.early;
-      written = block_written text rows l.start c.min.result _ _ _ l.invariant.written c.in_default.ensures.text;
-    }
+pub returns-in_err-write_refusal-in-Refused-clause-text : goal.returns-in_err-write_refusal-in-Refused-clause-text
+returns-in_err-write_refusal-in-Refused-clause-text g c =
+    let lines : List LineRows = c.args.rows.now.lines.items in
+    let i = c.loop-of_line.of_line-index in
+    let next = line_next lines c.deref-of_line-items.result.now i c.of_line-item.result c.deref-of_line-items.ensures.value c.loop-of_line-test.true c.of_line-item.is in
+    ends_in_part c.from_residual-in_err-write_refusal-in-Refused.result _ _ _ c.from_residual-in_err-write_refusal-in-Refused.ensures.0
+    (refusal_in_part g.W.Write.contents c.args.framing (flat_map (found_text c.args.framing) (found_in c.args.rows.now)) c.args.out.now c.loop-of_line.out (drop i lines) (drop (i + 1) lines) c.loop-of_line.places.now
+    c.loop-of_line.invariant c.in-Refused.line c.in-Refused.fault (next ∙ ap (λ (l : LineRows). l ∷ drop (i + 1) lines) c.in-Refused.is) c.write_refusal.new.out c.in_err-write_refusal-in-Refused.ensures.text)
+
+pub loop-of_line-preserved : goal.loop-of_line-preserved
+loop-of_line-preserved g c =
+    let lines : List LineRows = c.args.rows.now.lines.items in
+    let f = c.args.framing in
+    let whole : List ℕ = flat_map (found_text f) (found_in c.args.rows.now) in
+    let i = c.loop-of_line.of_line-index in
+    let rest : List LineRows = drop (i + 1) lines in
+    let next = line_next lines c.deref-of_line-items.result.now i c.of_line-item.result c.deref-of_line-items.ensures.value c.loop-of_line-test.true c.of_line-item.is in
+    elim c.match-of_line.branch [
+      | in-Nodes+in_ok-write_nodes-in-Nodes w ↦
+          subst (IsWritten g.W.Write.contents f whole c.args.out.now rest c.match-of_line.places.now) (sym w.out-is)
+          (nodes_written g.W.Write.contents f whole c.args.out.now c.loop-of_line.out (drop i lines) rest c.loop-of_line.places.now c.loop-of_line.invariant
+          w.in-Nodes.line w.in-Nodes.view w.in-Nodes.count (next ∙ ap (λ (l : LineRows). l ∷ rest) w.in-Nodes.is) w.split_at.result.0.now c.match-of_line.places.now w.write_nodes.new.out
+          w.split_at.ensures.front (ap (λ (b : Bor (List ℕ)). b.now) w.places-is ∙ w.split_at.ensures.back)
+          w.in_ok-write_nodes-in-Nodes.ensures.text w.in_ok-write_nodes-in-Nodes.ensures.fault w.in_ok-write_nodes-in-Nodes.ensures.after)
+      | in-Refused+in_ok-write_refusal-in-Refused w ↦
+          subst (IsWritten g.W.Write.contents f whole c.args.out.now rest c.match-of_line.places.now) (sym w.out-is)
+          (subst (λ (b : Bor (List ℕ)). IsWritten g.W.Write.contents f whole c.args.out.now rest b.now w.write_refusal.new.out) (sym w.places-is)
+          (refusal_written g.W.Write.contents f whole c.args.out.now c.loop-of_line.out (drop i lines) rest c.loop-of_line.places.now c.loop-of_line.invariant
+          w.in-Refused.line w.in-Refused.fault (next ∙ ap (λ (l : LineRows). l ∷ rest) w.in-Refused.is) w.write_refusal.new.out
+          w.in_ok-write_refusal-in-Refused.ensures.text w.in_ok-write_refusal-in-Refused.ensures.fault w.in_ok-write_refusal-in-Refused.ensures.after))
+    ]
