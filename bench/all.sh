@@ -29,4 +29,4 @@ TEXT
 section Loading '`check`: every line is read and kept, and the refused ones are listed. In brackets: the time of jpq, as a multiple of the other'"'"'s.' load
 section Queries 'The seconds of the whole program, and in brackets those beyond its loading.' queries
 section 'Look-ups by an index' 'An index on a member, and 1,000 look-ups by it.' plans
-section 'Edits under an index' 'Each line is replaced once, under an index on a member.' edits
+section 'Edits under an index' 'As many edits as there are lines: each line replaced, or as many appended, under an index on one member and on sixteen; each line refused and whole again, under none.' edits

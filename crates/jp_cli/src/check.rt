@@ -64,7 +64,7 @@ pub(crate) fn write_check<W: Write>(
     match write_refusals(store, framing, out) {
         Ok(()) => {
             let lines = store.line_count() as usize;
-            let refused = store.refused_lines().len();
+            let refused = store.refused_count();
             let blank = lines - store.tree_count() as usize - refused;
             write_summary(lines, refused, blank, out)
         }

@@ -132,7 +132,8 @@ impl<'s> Plan<'s> {
         let mut rows = Rows::new(self.alloc);
         let mut found = Vec::new(self.alloc);
         let mut to_open = lines;
-        let mut to_refuse = self.store.refused_lines();
+        let refused = self.store.refused_lines()?;
+        let mut to_refuse = refused.as_slice();
         while let Some(turn) = next_turn(to_open, to_refuse) {
             match turn {
                 Turn::Open(line) => {

@@ -14,6 +14,7 @@ use Rattle.jp_index.specs.declared.index.ValueIndex.{ValueIndex}
 use Rattle.jp_store.specs.Edits.{AreEdited, AreSame}
 use Rattle.jp_model.specs.Numbered.{numbers_where}
 use Rattle.jp_store.specs.Numbered.{with_number}
+use Rattle.jp_store.specs.LineSetViews.{numbers_of}
 use Rattle.jp_store.specs.Stored.{AreCounted, IsKept, IsOver, IsRead, is_refused_kind, is_tree_kind, kind_tree, path_of, stored_text}
 use Rattle.jp_store.specs.declared.counts.Counts.{Counts}
 use Rattle.jp_store.specs.declared.line.Line.{Line}
@@ -49,7 +50,7 @@ same_many n line bytes xs ys h =
     sym (length-map ys path_of) ∙ ap length (edited_paths n (kind_tree line.kind (stored_text bytes line)) xs ys h) ∙ length-map xs path_of
 
 -- the same lines, counts of the same, and the same entries
-pub kept_same : (f : Framing) (bytes : List ℕ) (lines : List Line) (old new : Counts) (xs ys : List ValueIndex) → IsKept f bytes lines old xs → new.held ≡ old.held → new.trees ≡ old.trees → new.refused.items ≡ old.refused.items
+pub kept_same : (f : Framing) (bytes : List ℕ) (lines : List Line) (old new : Counts) (xs ys : List ValueIndex) → IsKept f bytes lines old xs → new.held ≡ old.held → new.trees ≡ old.trees → numbers_of new.refused ≡ numbers_of old.refused
     → AreSame xs ys → IsKept f bytes lines new ys
 kept_same f bytes lines old new xs ys kept held trees gone same = record {
   each = kept.each;
@@ -136,7 +137,7 @@ module _ (f : Framing) (bytes : List ℕ) (lines : List Line) (line : Line) (rea
         xs ys h all
 
     module _ (old new : Counts) (held : new.held ≡ old.held + (length text + 1)) (tree : new.trees + cond false 1 0 ≡ old.trees + cond (is_tree_kind line.kind) 1 0)
-        (gone : new.refused.items ≡ with_number n (is_refused_kind line.kind) old.refused.items) (c : AreCounted f texts old) where
+        (gone : numbers_of new.refused ≡ with_number n (is_refused_kind line.kind) (numbers_of old.refused)) (c : AreCounted f texts old) where
       counted_more : AreCounted f (map (stored_text bytes) (lines ++ line ∷ [])) new
       counted_more =
           let size : new.held ≡ bytes_held (texts ++ text ∷ []) = omega (arith, held, c.held_is, held_more texts text) in
@@ -147,13 +148,13 @@ module _ (f : Framing) (bytes : List ℕ) (lines : List Line) (line : Line) (rea
             held_is = size ∙ ap bytes_held (sym texts_more);
             trees_is = count ∙ ap (count_by is_tree) (sym statuses_more);
             refused_is =
-                gone ∙ ap (λ b. with_number n b old.refused.items) refusals ∙ ap (with_number n (is_refused_status s)) c.refused_is
+                gone ∙ ap (λ b. with_number n b (numbers_of old.refused)) refusals ∙ ap (with_number n (is_refused_status s)) c.refused_is
                 ∙ lines_more is_refused_status 1 ss n s (omega (arith, next, many)) ∙ ap (numbers_where is_refused_status 1) (sym statuses_more);
           }
 
     -- with one line more
     pub kept_more : (old new : Counts) (xs ys : List ValueIndex) → IsKept f bytes lines old xs → n < 2 ^ 32 → new.held ≡ old.held + (length text + 1) → new.trees + cond false 1 0 ≡ old.trees + cond (is_tree_kind line.kind) 1 0
-        → new.refused.items ≡ with_number n (is_refused_kind line.kind) old.refused.items → AreEdited n (kind_tree line.kind text) xs ys → IsKept f bytes (lines ++ line ∷ []) new ys
+        → numbers_of new.refused ≡ with_number n (is_refused_kind line.kind) (numbers_of old.refused) → AreEdited n (kind_tree line.kind text) xs ys → IsKept f bytes (lines ++ line ∷ []) new ys
     kept_more old new xs ys kept fits held tree gone edited = record {
       each = All-append (IsRead f bytes) lines (line ∷ []) kept.each one_read;
       few = omega (arith, fits, next, length-append lines (line ∷ []));
@@ -184,7 +185,7 @@ module _ (f : Framing) (bytes : List ℕ) (lines : List Line) (line : Line) (rea
 
     module _ (old new : Counts) (each : All (IsRead f bytes) lines) (c : AreCounted f texts old) where
       counted_set : new.held + (length (stored_text bytes was_line) + 1) ≡ old.held + (length text + 1) → new.trees + cond (is_tree_kind was_line.kind) 1 0 ≡ old.trees + cond (is_tree_kind line.kind) 1 0
-          → new.refused.items ≡ with_number n (is_refused_kind line.kind) old.refused.items → AreCounted f (map (stored_text bytes) (set lines i line)) new
+          → numbers_of new.refused ≡ with_number n (is_refused_kind line.kind) (numbers_of old.refused) → AreCounted f (map (stored_text bytes) (set lines i line)) new
       counted_set held tree gone =
           let sizes = sum_by-set (λ (l : List ℕ). length l + 1) texts i text (stored_text bytes before) (omega (arith, within, length-map lines (stored_text bytes))) in
           let size : new.held ≡ bytes_held (set texts i text) = omega (arith, held, c.held_is, sizes, ap length (text_was f bytes lines i before within old each c)) in
@@ -196,13 +197,13 @@ module _ (f : Framing) (bytes : List ℕ) (lines : List Line) (line : Line) (rea
             held_is = size ∙ ap bytes_held (sym texts_set);
             trees_is = count ∙ ap (count_by is_tree) (sym statuses_set);
             refused_is =
-                gone ∙ ap (λ b. with_number n b old.refused.items) refusals ∙ ap (with_number n (is_refused_status s)) c.refused_is
+                gone ∙ ap (λ b. with_number n b (numbers_of old.refused)) refusals ∙ ap (with_number n (is_refused_status s)) c.refused_is
                 ∙ lines_set is_refused_status 1 ss i n s (omega (arith, within, many)) (omega (arith, is)) ∙ ap (numbers_where is_refused_status 1) (sym statuses_set);
           }
 
     -- with another line in the place of one
     pub kept_set : (old new : Counts) (xs ys : List ValueIndex) → IsKept f bytes lines old xs → new.held + (length (stored_text bytes was_line) + 1) ≡ old.held + (length text + 1)
-        → new.trees + cond (is_tree_kind was_line.kind) 1 0 ≡ old.trees + cond (is_tree_kind line.kind) 1 0 → new.refused.items ≡ with_number n (is_refused_kind line.kind) old.refused.items
+        → new.trees + cond (is_tree_kind was_line.kind) 1 0 ≡ old.trees + cond (is_tree_kind line.kind) 1 0 → numbers_of new.refused ≡ with_number n (is_refused_kind line.kind) (numbers_of old.refused)
         → AreEdited n (kind_tree line.kind text) xs ys → IsKept f bytes (set lines i line) new ys
     kept_set old new xs ys kept held tree gone edited = record {
       each = All-set (IsRead f bytes) lines i line read kept.each;

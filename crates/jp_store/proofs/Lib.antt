@@ -7,7 +7,7 @@ pub mod Places
 pub mod Counted
 pub mod Edited
 pub mod Numbered
-pub mod Placed
+pub mod SetBits
 pub mod Commits
 pub mod Replaced
 pub mod Parts

@@ -1,5 +1,5 @@
 -- One line more is counted.
-use Rattle.std.proofs.Common.{◌≡◌, ◌∙◌, ◌<◌, ◌≤◌, ◌+◌, ℕ, List, [], ◌∷◌, ◌++◌, length, map, take, get_or, sym, ap, subst, arith, zero-add, take_all, if◌then◌else◌}
+use Rattle.std.proofs.Common.{◌≡◌, ◌∙◌, ◌<◌, ◌≤◌, ◌+◌, ℕ, List, [], ◌∷◌, ◌++◌, length, map, take, get_or, sym, ap, subst, arith, zero-add, take_all}
 use Rattle.std.specs.Prelude.{count_by, cond, All}
 use Rattle.std.proofs.lemmas.List.{take_more, take-map, map-append, length-map, length-take-le}
 use Rattle.std.proofs.lemmas.List.Sums.{sum_by-append, sum_by-take-drop, count_by-le-length}
@@ -11,8 +11,9 @@ use Rattle.jp_store.specs.declared.line.Line.{Line}
 use Rattle.jp_store.specs.declared.counts.Counts.{Counts}
 use Rattle.jp_model.specs.Numbered.{numbers_where}
 use Rattle.jp_store.specs.Stored.{AreCounted, IsRead, stored_text, is_tree_kind, is_refused_kind}
+use Rattle.jp_store.specs.Numbered.{with_number}
 use Rattle.jp_store.proofs.Kept.{kind_is_refused, kind_is_tree}
-use Rattle.jp_model.proofs.Numbered.{numbers_where-append}
+use Rattle.jp_store.proofs.Numbered.{lines_more}
 
 module _ (bytes : List ℕ) (lines : List Line) (i : ℕ) (line : Line) (within : i < length lines) (here : line ≡ get_or lines i line) where
   abbrev texts : ℕ → List (List ℕ)
@@ -41,14 +42,13 @@ module _ (bytes : List ℕ) (lines : List Line) (i : ℕ) (line : Line) (within 
         ∙ ap (λ n. count_by is_tree (statuses framing (texts i)) + n) (zero-add (cond (is_tree (status_of framing (stored_text bytes line))) 1 0))
         ∙ ap (λ b. count_by is_tree (statuses framing (texts i)) + cond b 1 0) (sym (kind_is_tree framing line.kind (stored_text bytes line) read.kind))
 
-    pub refused_more : numbers_where is_refused_status 1 (statuses framing (texts (i + 1)))
-        ≡ numbers_where is_refused_status 1 (statuses framing (texts i)) ++ (if is_refused_kind line.kind then (i + 1) ∷ [] else [])
+    pub refused_more : with_number (i + 1) (is_refused_kind line.kind) (numbers_where is_refused_status 1 (statuses framing (texts i))) ≡ numbers_where is_refused_status 1 (statuses framing (texts (i + 1)))
     refused_more =
+        let status = status_of framing (stored_text bytes line) in
         let size : length (statuses framing (texts i)) ≡ i =
         length-map (texts i) (status_of framing) ∙ length-map (take i lines) (stored_text bytes) ∙ length-take-le i lines (omega (arith, within)) in
-        ap (numbers_where is_refused_status 1) statuses_more
-        ∙ numbers_where-append is_refused_status 1 (i + 1) (statuses framing (texts i)) (status_of framing (stored_text bytes line)) (omega (arith, size))
-        ∙ ap (λ b. numbers_where is_refused_status 1 (statuses framing (texts i)) ++ (if b then (i + 1) ∷ [] else [])) (sym (kind_is_refused framing line.kind (stored_text bytes line) read.kind))
+        ap (λ b. with_number (i + 1) b (numbers_where is_refused_status 1 (statuses framing (texts i)))) (kind_is_refused framing line.kind (stored_text bytes line) read.kind)
+        ∙ (lines_more is_refused_status 1 (statuses framing (texts i)) (i + 1) status (omega (arith, size)) ∙ ap (numbers_where is_refused_status 1) (sym statuses_more))
 
 -- what was counted of all
 pub all_counted : (framing : Framing) (bytes : List ℕ) (lines : List Line) (i : ℕ) (counts : Counts) → length lines ≤ i → AreCounted framing (map (stored_text bytes) (take i lines)) counts

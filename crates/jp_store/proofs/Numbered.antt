@@ -1,11 +1,10 @@
 -- The numbers of the lines that pass a test, where a line changes or is added.
-use Rattle.std.proofs.Common.{◌≡◌, ◌∙◌, ◌<◌, ◌≤◌, ◌+◌, ℕ, zero, suc, List, [], ◌∷◌, ◌++◌, length, set, get_or, Bool, true, false, refl, sym, ap, ap₂, append-nil, append_assoc, arith, if◌then◌else◌}
+use Rattle.std.proofs.Common.{◌≡◌, ◌∙◌, ◌<◌, ◌≤◌, ◌+◌, ℕ, zero, suc, List, [], ◌∷◌, ◌++◌, length, set, Bool, true, false, refl, sym, ap, ap₂, append-nil, append_assoc, arith, if◌then◌else◌}
 use Rattle.std.specs.Prelude.{filter, nat_lt}
 use Rattle.std.proofs.lemmas.List.Elements.{filter-append}
-use Rattle.jp_model.specs.Json.Status.{LineStatus}
 use Rattle.jp_model.specs.Numbered.{numbers_where}
 use Rattle.jp_model.proofs.Numbered.{numbers_where-append}
-use Rattle.jp_store.specs.Numbered.{with_number, AreRising}
+use Rattle.jp_store.specs.Numbered.{with_number}
 
 -- the number itself, or nothing
 abbrev one : Bool → ℕ → List ℕ
@@ -23,28 +22,28 @@ one_none : (t : ℕ → Bool) (b : Bool) (n : ℕ) → t n ≡ false → filter 
 one_none t true n e = ap (λ c. if c then n ∷ [] else []) e
 one_none t false n e = refl
 
-module _ (p : LineStatus → Bool) where
-  parts : (n : ℕ) (s : LineStatus) (ss : List LineStatus) → numbers_where p n (s ∷ ss) ≡ one (p s) n ++ numbers_where p (n + 1) ss
+module _ {X : Type 0} (p : X → Bool) where
+  parts : (n : ℕ) (s : X) (ss : List X) → numbers_where p n (s ∷ ss) ≡ one (p s) n ++ numbers_where p (n + 1) ss
   parts n s ss = step (p s) n (numbers_where p (n + 1) ss)
 
-  filtered : (t : ℕ → Bool) (n : ℕ) (s : LineStatus) (ss : List LineStatus) → filter t (numbers_where p n (s ∷ ss)) ≡ filter t (one (p s) n) ++ filter t (numbers_where p (n + 1) ss)
+  filtered : (t : ℕ → Bool) (n : ℕ) (s : X) (ss : List X) → filter t (numbers_where p n (s ∷ ss)) ≡ filter t (one (p s) n) ++ filter t (numbers_where p (n + 1) ss)
   filtered t n s ss = ap (filter t) (parts n s ss) ∙ filter-append t (one (p s) n) (numbers_where p (n + 1) ss)
 
-  all_stay : (t : ℕ → Bool) (n : ℕ) (ss : List LineStatus) → ((k : ℕ) → n ≤ k → k < n + length ss → t k ≡ true) → filter t (numbers_where p n ss) ≡ numbers_where p n ss
+  all_stay : (t : ℕ → Bool) (n : ℕ) (ss : List X) → ((k : ℕ) → n ≤ k → k < n + length ss → t k ≡ true) → filter t (numbers_where p n ss) ≡ numbers_where p n ss
   all_stay t n [] all = refl
   all_stay t n (s ∷ ss) all =
       filtered t n s ss
       ∙ ap₂ (λ (x y : List ℕ). x ++ y) (one_all t (p s) n (all n (omega arith) (omega arith))) (all_stay t (n + 1) ss (λ k l m. all k (omega arith) (omega arith)))
       ∙ sym (parts n s ss)
 
-  none_stay : (t : ℕ → Bool) (n : ℕ) (ss : List LineStatus) → ((k : ℕ) → n ≤ k → k < n + length ss → t k ≡ false) → filter t (numbers_where p n ss) ≡ []
+  none_stay : (t : ℕ → Bool) (n : ℕ) (ss : List X) → ((k : ℕ) → n ≤ k → k < n + length ss → t k ≡ false) → filter t (numbers_where p n ss) ≡ []
   none_stay t n [] all = refl
   none_stay t n (s ∷ ss) all =
       filtered t n s ss
       ∙ ap₂ (λ (x y : List ℕ). x ++ y) (one_none t (p s) n (all n (omega arith) (omega arith))) (none_stay t (n + 1) ss (λ k l m. all k (omega arith) (omega arith)))
 
   -- another status in the place of one
-  pub lines_set : (n : ℕ) (ss : List LineStatus) (i m : ℕ) (s : LineStatus) → i < length ss → m ≡ n + i → with_number m (p s) (numbers_where p n ss) ≡ numbers_where p n (set ss i s)
+  pub lines_set : (n : ℕ) (ss : List X) (i m : ℕ) (s : X) → i < length ss → m ≡ n + i → with_number m (p s) (numbers_where p n ss) ≡ numbers_where p n (set ss i s)
   lines_set n [] i m s l e = absurd (omega arith)
   lines_set n (r ∷ ss) zero m s l e =
       let same : m ≡ n = omega (arith, e) in
@@ -68,30 +67,9 @@ module _ (p : LineStatus → Bool) where
       ∙ sym (parts n r (set ss i s))
 
   -- one status more, in front of whose number are all others
-  pub lines_more : (n : ℕ) (ss : List LineStatus) (m : ℕ) (s : LineStatus) → m ≡ n + length ss → with_number m (p s) (numbers_where p n ss) ≡ numbers_where p n (ss ++ s ∷ [])
+  pub lines_more : (n : ℕ) (ss : List X) (m : ℕ) (s : X) → m ≡ n + length ss → with_number m (p s) (numbers_where p n ss) ≡ numbers_where p n (ss ++ s ∷ [])
   lines_more n ss m s e =
       let ls = numbers_where p n ss in
       let before : filter (λ k. nat_lt k m) ls ≡ ls = all_stay (λ k. nat_lt k m) n ss (λ k low high. search (arith, e)) in
       let behind : filter (λ k. nat_lt m k) ls ≡ [] = none_stay (λ k. nat_lt m k) n ss (λ k low high. search (arith, e)) in
       ap₂ (λ (x y : List ℕ). x ++ one (p s) m ++ y) before behind ∙ append-nil (ls ++ one (p s) m) ∙ sym (numbers_where-append p n m ss s e)
-
-  low_kept : (b : Bool) (n : ℕ) (xs : List ℕ) → ((k : ℕ) → k < length xs → n + 1 ≤ get_or xs k 0) → (k : ℕ) → k < length (if b then n ∷ xs else xs) → n ≤ get_or (if b then n ∷ xs else xs) k 0
-  low_kept true n xs h zero l = omega arith
-  low_kept true n xs h (suc k) l = let more = h k (omega (arith, l)) in omega (arith, more)
-  low_kept false n xs h k l = let more = h k l in omega (arith, more)
-
-  least : (n : ℕ) (ss : List LineStatus) (k : ℕ) → k < length (numbers_where p n ss) → n ≤ get_or (numbers_where p n ss) k 0
-  least n [] k l = absurd (omega (arith, l))
-  least n (s ∷ ss) k l = low_kept (p s) n (numbers_where p (n + 1) ss) (least (n + 1) ss) k l
-
-  rise_kept : (b : Bool) (n : ℕ) (xs : List ℕ) → ((k : ℕ) → k < length xs → n + 1 ≤ get_or xs k 0) → AreRising xs → AreRising (if b then n ∷ xs else xs)
-  rise_kept true n xs low rise zero zero a l = absurd (omega (arith, a))
-  rise_kept true n xs low rise zero (suc j) a l = let more = low j (omega (arith, l)) in omega (arith, more)
-  rise_kept true n xs low rise (suc i) zero a l = absurd (omega (arith, a))
-  rise_kept true n xs low rise (suc i) (suc j) a l = rise i j (omega (arith, a)) (omega (arith, l))
-  rise_kept false n xs low rise i j a l = rise i j a l
-
-  -- the numbers ascend
-  pub rising : (n : ℕ) (ss : List LineStatus) → AreRising (numbers_where p n ss)
-  rising n [] i j a l = absurd (omega (arith, l))
-  rising n (s ∷ ss) i j a l = rise_kept (p s) n (numbers_where p (n + 1) ss) (least (n + 1) ss) (rising (n + 1) ss) i j a l

@@ -14,6 +14,7 @@ use Rattle.jp_index.specs.Entries.{entries_of}
 use Rattle.jp_index.specs.Indexes.{IsIndexOf}
 use Rattle.jp_index.specs.declared.index.ValueIndex.{ValueIndex}
 use Rattle.jp_model.specs.Numbered.{numbers_where}
+use Rattle.jp_store.specs.LineSetViews.{numbers_of}
 use Rattle.jp_store.specs.declared.counts.Counts.{Counts}
 use Rattle.jp_store.specs.declared.line.Line.{Line}
 use Rattle.jp_store.specs.declared.line.LineKind.{LineKind}
@@ -78,7 +79,7 @@ IsOver statuses index = IsIndexOf index (path_of index) (entries_of (path_of ind
 pub record AreCounted (framing : Framing) (texts : List (List ℕ)) (counts : Counts) : Type 0 where
   pub held_is : counts.held ≡ bytes_held texts
   pub trees_is : counts.trees ≡ count_by is_tree (statuses framing texts)
-  pub refused_is : counts.refused.items ≡ numbers_where is_refused_status 1 (statuses framing texts)
+  pub refused_is : numbers_of counts.refused ≡ numbers_where is_refused_status 1 (statuses framing texts)
 
 -- The lines are read, few enough to be numbered by 32 bits, and counted, and each index is of them.
 pub record IsKept (framing : Framing) (bytes : List ℕ) (lines : List Line) (counts : Counts) (indexes : List ValueIndex) : Type 0 where

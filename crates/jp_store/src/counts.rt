@@ -1,10 +1,10 @@
 //! What is counted of all lines.
 
 ghost use Rattle.std.specs.Prelude.{◌≡◌, ◌+◌, ◌<◌, ◌≤◌, ◌^◌, OnOk, cond};
-ghost use Rattle.std.specs.Vec.{vec_capacity, vec_len};
-ghost use Rattle.jp_store.specs.Numbered.{AreRising, with_number};
+ghost use Rattle.jp_store.specs.Numbered.{with_number};
 
 use crate::line::Line;
+use crate::line_set::LineSet;
 use std::alloc::AllocError;
 
 /// What is counted of all lines, so that an edit reads no line but its own.
@@ -14,42 +14,22 @@ pub(crate) struct Counts {
     pub(crate) held: u64,
     /// How many lines have a tree.
     pub(crate) trees: u32,
-    /// The numbers of the refused lines, from 1, ascending.
-    pub(crate) refused: Vec<u32>,
-}
-
-/// Puts a number among ascending ones, or takes it out. It allocates nothing.
-fn set_number(numbers: &mut Vec<u32>, number: u32, is_in: bool)
-    requires rising { AreRising numbers.old.items }
-    requires room { vec_len numbers.old < vec_capacity numbers.old }
-    ensures { numbers.new.items ≡ with_number number is_in numbers.old.items }
-{
-    match numbers.binary_search(&number) {
-        Ok(place) => {
-            if is_in {
-                return;
-            }
-            numbers.remove(place);
-        }
-        Err(place) => {
-            if is_in {
-                let _ = numbers.insert(place, number);
-            }
-        }
-    }
+    /// The refused lines.
+    pub(crate) refused: LineSet,
 }
 
 impl Counts {
+    ghost use Rattle.jp_store.specs.LineSetViews.{numbers_of, room_in};
     ghost use Rattle.jp_store.specs.Stored.{is_refused_kind, is_tree_kind};
 
-    /// Makes room for one refused line more. The counts stay, also after an `Err`.
-    pub(crate) fn reserve(&mut self) -> Result<(), AllocError>
+    /// Makes room for the lines up to one. The counts stay, also after an `Err`.
+    pub(crate) fn reserve(&mut self, number: u32) -> Result<(), AllocError>
         ensures held { self.new.held ≡ self.old.held }
         ensures trees { self.new.trees ≡ self.old.trees }
-        ensures refused { self.new.refused.items ≡ self.old.refused.items }
-        ensures room { OnOk result (vec_len self.new.refused < vec_capacity self.new.refused) }
+        ensures refused { numbers_of self.new.refused ≡ numbers_of self.old.refused }
+        ensures room { OnOk result (number < room_in self.new.refused) }
     {
-        self.refused.reserve(1)
+        self.refused.reserve(number)
     }
 
     /// Counts a line in the place of another, or of none, which had a tree or not; all are then of this size. It takes no
@@ -57,15 +37,15 @@ impl Counts {
     pub(crate) fn change(&mut self, held: u64, number: u32, had_tree: bool, line: &Line)
         requires least { cond had_tree 1 0 ≤ self.old.trees }
         requires most { self.old.trees + 1 < 2 ^ 32 + cond had_tree 1 0 }
-        requires rising { AreRising self.old.refused.items }
-        requires room { vec_len self.old.refused < vec_capacity self.old.refused }
+        requires room { number < room_in self.old.refused }
         ensures held { self.new.held ≡ held }
         ensures trees { self.new.trees + cond had_tree 1 0 ≡ self.old.trees + cond (is_tree_kind line.now.kind) 1 0 }
-        ensures refused { self.new.refused.items ≡ with_number number (is_refused_kind line.now.kind) self.old.refused.items }
+        ensures refused { numbers_of self.new.refused ≡ with_number number (is_refused_kind line.now.kind) (numbers_of self.old.refused) }
+        ensures room { room_in self.new.refused ≡ room_in self.old.refused }
     {
         self.held = held;
         self.trees -= u32::from(had_tree);
         self.trees += u32::from(line.is_tree());
-        set_number(&mut self.refused, number, line.is_refused());
+        self.refused.set(number, line.is_refused());
     }
 }

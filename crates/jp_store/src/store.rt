@@ -1,6 +1,6 @@
 //! The lines of a collection and the indexes over them.
 
-ghost use Rattle.std.specs.Prelude.{◌≡◌, ◌+◌, ◌<◌, ◌≤◌, ◌^◌, true, false, List, length, count_by, slice_get, Some, None, is_ok, MatchOption, MatchResult};
+ghost use Rattle.std.specs.Prelude.{◌≡◌, ◌+◌, ◌<◌, ◌≤◌, ◌^◌, true, false, List, length, count_by, slice_get, Some, None, is_ok, IfOk, MatchOption, MatchResult};
 ghost use Rattle.jp_model.specs.Devices.{Came, GaveUpTo};
 ghost use Rattle.jp_model.specs.Json.Status.{parsed};
 ghost use Rattle.jp_model.specs.Lines.{is_framed};
@@ -32,7 +32,7 @@ use jp_index::{ValueIndex, laws};
 use jp_model::{Framing, Watched};
 use jp_query::SingularPath;
 use jp_tape::Cursor;
-use std::alloc::Global;
+use std::alloc::{AllocError, Global};
 use std::io::Read;
 use std::marker::Model;
 
@@ -124,11 +124,18 @@ impl Store {
         self.counts.trees
     }
 
-    /// The numbers of the refused lines, from 1, ascending.
-    pub fn refused_lines(&self) -> &[u32]
-        ensures { result.now ≡ numbers_where is_refused_status 1 (statuses_in self.now) }
+    /// The number of refused lines.
+    pub fn refused_count(&self) -> usize
+        ensures { result ≡ length (numbers_where is_refused_status 1 (statuses_in self.now)) }
     {
-        self.counts.refused.as_slice()
+        self.counts.refused.count()
+    }
+
+    /// The numbers of the refused lines, from 1, ascending. Where there is one, a bit is looked at for each line.
+    pub fn refused_lines(&self) -> Result<Vec<u32>, AllocError>
+        ensures { IfOk result (λ lines. lines.items ≡ numbers_where is_refused_status 1 (statuses_in self.now)) }
+    {
+        self.counts.refused.numbers(self.alloc)
     }
 
     /// What line `n` is. Lines count from 1.
@@ -253,10 +260,10 @@ impl Store {
         let Ok(()) = self.lines.reserve(1) else {
             return Err(EditFault::Memory);
         };
-        let Ok(()) = self.counts.reserve() else {
+        let n = self.lines.len() as u32 + 1;
+        let Ok(()) = self.counts.reserve(n) else {
             return Err(EditFault::Memory);
         };
-        let n = self.lines.len() as u32 + 1;
         let root = root_of_line(&self.bytes, &line);
         let Ok(()) = edit_indexes(self.alloc, &mut self.indexes, 0, n, root) else {
             return Err(EditFault::Memory);
@@ -290,7 +297,7 @@ impl Store {
         let Ok(line) = read_edited(self.alloc, self.framing, text) else {
             return Err(EditFault::Memory);
         };
-        let Ok(()) = self.counts.reserve() else {
+        let Ok(()) = self.counts.reserve(n) else {
             return Err(EditFault::Memory);
         };
         let root = root_of_line(&self.bytes, &line);

@@ -1,11 +1,12 @@
 -- One line after another is counted.
-use Rattle.std.proofs.Common.{◌∙◌, ◌+◌, ◌++◌, ◌∷◌, [], ap, ap₂, sym, arith, length, cond, List, ℕ, if◌then◌else◌}
+use Rattle.std.proofs.Common.{◌≡◌, ◌∙◌, ◌+◌, ap, ap₂, sym, arith, length, cond, List, ℕ}
+use Rattle.jp_store.specs.Numbered.{with_number}
 use Rattle.jp_store.specs.Stored.{is_tree_kind, is_refused_kind}
 use Rattle.jp_store.proofs.Measured.{held_more, held_part, trees_few, trees_more, refused_more, all_counted}
 use Rattle.jp_store.proofs.measuring.measure.Goals as goal
 
-pub count_line-requires-clause-held : goal.count_line-requires-clause-held
-count_line-requires-clause-held c =
+pub overflow_add-held : goal.overflow_add-held
+overflow_add-held c =
     let counted = c.loop-line.invariant.counted c.requires.read.0 c.requires.read.1 in
     let bytes = c.args.bytes.now in
     let lines = c.args.lines.now in
@@ -18,8 +19,8 @@ count_line-requires-clause-held c =
       ap length c.text_of.ensures,
     )
 
-pub count_line-requires-clause-trees : goal.count_line-requires-clause-trees
-count_line-requires-clause-trees c =
+pub change-requires-clause-most : goal.change-requires-clause-most
+change-requires-clause-most c =
     let counted = c.loop-line.invariant.counted c.requires.read.0 c.requires.read.1 in
     omega (
       arith,
@@ -36,19 +37,21 @@ loop-line-preserved c =
     let i = c.loop-line.line-index in
     let line = c.line-item.result in
     let number = ap (λ n. n + 1) c.loop-line.invariant.number in
+    let trees : c.change.new.self.trees ≡ c.loop-line.counts.trees + cond (is_tree_kind line.kind) 1 0 = omega (arith, c.change.ensures.trees) in
     record {
       counted = λ framing all.
           let counted = c.loop-line.invariant.counted framing all in
-          let added = c.in_ok-count_line.ensures in
+          let added = c.change.ensures in
           record {
             held_is = added.held ∙ ap₂ (λ (m n : ℕ). m + (n + 1)) counted.held_is (ap length c.text_of.ensures) ∙ sym (held_more bytes lines i line c.loop-line-test.true c.line-item.is);
-            trees_is = added.trees ∙ ap (λ n. n + cond (is_tree_kind line.kind) 1 0) counted.trees_is ∙ sym (trees_more bytes lines i line c.loop-line-test.true c.line-item.is framing all);
+            trees_is = trees ∙ ap (λ n. n + cond (is_tree_kind line.kind) 1 0) counted.trees_is ∙ sym (trees_more bytes lines i line c.loop-line-test.true c.line-item.is framing all);
             refused_is =
                 added.refused
-                ∙ ap₂ (λ (ns : List ℕ) (n : ℕ). ns ++ (if is_refused_kind line.kind then n ∷ [] else [])) counted.refused_is number
-                ∙ sym (refused_more bytes lines i line c.loop-line-test.true c.line-item.is framing all);
+                ∙ ap₂ (λ (ns : List ℕ) (n : ℕ). with_number n (is_refused_kind line.kind) ns) counted.refused_is number
+                ∙ refused_more bytes lines i line c.loop-line-test.true c.line-item.is framing all;
           };
       number = number;
+      room = omega (arith, c.change.ensures.room, c.loop-line.invariant.room);
     }
 
 pub returns : goal.returns

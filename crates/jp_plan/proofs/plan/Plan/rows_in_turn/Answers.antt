@@ -18,8 +18,8 @@ push_nodes-requires-clause-room c =
     let off = one_off c.in-Some.turn c.in-Open.line c.loop-turn.to_open.now c.loop-turn.to_refuse.now c.in-Some.ensures c.in-Open.is in
     omega (arith, off, c.loop-turn.invariant.counted, c.requires.room)
 
-pub loop-turn-preserved-in-Continue-1 : goal.loop-turn-preserved-in-Continue-1
-loop-turn-preserved-in-Continue-1 c =
+pub loop-turn-preserved-in-Continue-branch-2 : goal.loop-turn-preserved-in-Continue-branch-2
+loop-turn-preserved-in-Continue-branch-2 c =
     let p = plan_of c.args.self.now in
     let now = open_now p c.in-Some.turn c.in-Open.line c.loop-turn.to_open.now c.loop-turn.to_refuse.now (found_rows c.loop-turn.rows) c.in-Some.ensures c.in-Open.is c.loop-turn.invariant.left in
     let off = one_off c.in-Some.turn c.in-Open.line c.loop-turn.to_open.now c.loop-turn.to_refuse.now c.in-Some.ensures c.in-Open.is in

@@ -2,17 +2,16 @@
 use Rattle.std.proofs.Common.{◌≡◌, ◌∙◌, ◌≤◌, ◌+◌, ◌++◌, List, [], ◌∷◌, ℕ, ap, ap₂, sym, subst, arith, length, map}
 use Rattle.std.specs.Prelude.{None}
 use Rattle.std.proofs.lemmas.List.{length-map, map-append}
-use Rattle.jp_model.specs.Script.Machine.{statuses, bytes_held, is_refused_status}
+use Rattle.jp_model.specs.Script.Machine.{bytes_held}
 use Rattle.jp_model.specs.Steps.{Step}
 use Rattle.jp_store.specs.Collections.{Collection, appended, with_lines}
 use Rattle.jp_store.specs.Edits.{AreEdited}
 use Rattle.jp_store.specs.Faults.{append_fault}
-use Rattle.jp_store.specs.Numbered.{AreRising, with_number}
+use Rattle.jp_store.specs.Numbered.{with_number}
 use Rattle.jp_store.specs.Stored.{IsKept, IsRead, is_refused_kind, kind_tree, stored_text, path_of}
 use Rattle.jp_store.specs.declared.line.Line.{Line}
 use Rattle.jp_store.proofs.Commits.{few_trees, kept_same, kept_more}
 use Rattle.jp_store.proofs.Edited.{lines_fit, same_paths, edited_paths, appends}
-use Rattle.jp_store.proofs.Numbered.{rising}
 use Rattle.jp_store.proofs.store.Store.append.Goals as goal
 
 pub root_of_line-root-requires : goal.root_of_line-root-requires
@@ -47,11 +46,6 @@ change-requires-clause-most c =
     let s = c.self.inside in
     let texts : List (List ℕ) = map (stored_text s.bytes.items) s.lines.items in
     omega (arith, c.in-Ok.ensures.0, c.in-Ok.ensures.1, c.self.invariant.counted.held_is, c.self.invariant.counted.trees_is, lines_fit texts, few_trees s.framing texts, c.in-Ok-reserve-2.ensures.trees)
-
-pub change-requires-clause-rising : goal.change-requires-clause-rising
-change-requires-clause-rising c =
-    let s = c.self.inside in
-    subst AreRising (sym (c.in-Ok-reserve-2.ensures.refused ∙ c.self.invariant.counted.refused_is)) (rising is_refused_status 1 (statuses s.framing (map (stored_text s.bytes.items) s.lines.items)))
 
 module _ (c : goal.After-push_reserved) where
   read : IsRead c.self.inside.framing c.self.inside.bytes.items c.in-Ok-read_edited.line

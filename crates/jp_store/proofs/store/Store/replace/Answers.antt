@@ -1,17 +1,15 @@
 -- The line stands in the place of the other, and the counts and the indexes are of it too; after a refusal they are as before.
-use Rattle.std.proofs.Common.{◌≡◌, ◌∙◌, ◌≤◌, ◌-◌, List, ℕ, ap, ap₂, sym, refl, subst, arith, length, map, set, get_or}
+use Rattle.std.proofs.Common.{◌≡◌, ◌∙◌, ◌≤◌, ◌-◌, List, ℕ, ap, ap₂, refl, subst, arith, length, map, set, get_or}
 use Rattle.std.specs.Prelude.{None}
 use Rattle.std.proofs.lemmas.List.{map-set}
-use Rattle.jp_model.specs.Script.Machine.{statuses, is_refused_status}
 use Rattle.jp_store.specs.Collections.{replaced, with_lines}
 use Rattle.jp_store.specs.Edits.{AreEdited}
 use Rattle.jp_store.specs.Faults.{RefusesEdit, replace_fault}
-use Rattle.jp_store.specs.Numbered.{AreRising, with_number}
+use Rattle.jp_store.specs.Numbered.{with_number}
 use Rattle.jp_store.specs.Stored.{IsRead, is_refused_kind, is_tree_kind, kind_tree, stored_text, path_of}
 use Rattle.jp_store.specs.declared.line.Line.{Line}
 use Rattle.jp_store.proofs.Commits.{bit, kept_same, kept_set, trees_least, trees_most}
 use Rattle.jp_store.proofs.Edited.{edited_paths, same_paths}
-use Rattle.jp_store.proofs.Numbered.{rising}
 use Rattle.jp_store.proofs.Replaced.{nothing, others, shown, something}
 use Rattle.jp_store.proofs.store.Store.replace.Goals as goal
 
@@ -93,11 +91,6 @@ change-requires-clause-most c =
     let high : c.args.n ≤ length s.lines.items = omega (arith, c.if-n-len.false, c.len.ensures) in
     let had = ap bit (c.is_tree-had_tree.ensures ∙ ap (λ (l : Line). is_tree_kind l.kind) c.index-old.ensures) in
     omega (arith, trees_most s.framing s.bytes.items s.lines.items (c.args.n - 1) c.index-old.result.now (omega (arith, low, high)) s.counts c.self.invariant.each c.self.invariant.counted, had, c.in-Ok-reserve.ensures.trees, c.self.invariant.few)
-
-pub change-requires-clause-rising : goal.change-requires-clause-rising
-change-requires-clause-rising c =
-    let s = c.self.inside in
-    subst AreRising (sym (c.in-Ok-reserve.ensures.refused ∙ c.self.invariant.counted.refused_is)) (rising is_refused_status 1 (statuses s.framing (map (stored_text s.bytes.items) s.lines.items)))
 
 module _ (c : goal.Joined-index_mut-line-2) where
   read : IsRead c.self.inside.framing c.self.inside.bytes.items c.in-Ok-read_edited.line

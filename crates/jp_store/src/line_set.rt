@@ -1,0 +1,121 @@
+//! A set of lines.
+
+ghost use Rattle.std.specs.Prelude.{◌≡◌, ℕ, ◌+◌, ◌*◌, ◌<◌, ◌≤◌, ◌^◌, ◌==◌, [], IfOk, OnOk, cond, get_or, length, set};
+ghost use Rattle.jp_store.specs.LineSets.{bit_of, bits_of, numbers_in};
+ghost use Rattle.jp_store.specs.Numbered.{with_number};
+
+use std::alloc::{AllocError, Global};
+
+/// Some lines of a collection, a bit for each line.
+#[derive(Drop)]
+pub(crate) struct LineSet {
+    /// Bit i of word k is that of line 64 k + i.
+    words: Vec<u64>,
+    /// The number of lines that are in it.
+    count: usize,
+    ghost few: { length words.items ≤ 2 ^ 26 },
+    ghost counted: { count ≡ length (numbers_in words.items) },
+}
+
+/// Whether the bit at a place is set.
+fn has_bit(words: &[u64], place: usize) -> bool
+    requires { place < 64 * length words.now }
+    ensures { result ≡ (bit_of words.now place == 1) }
+{
+    (words[place / 64] >> (place % 64)) & 1 == 1
+}
+
+/// Sets the bit at a place, or clears it.
+fn set_bit(words: &mut Vec<u64>, place: usize, is_set: bool)
+    requires { place < 64 * length words.old.items }
+    ensures bits { bits_of words.new.items ≡ set (bits_of words.old.items) place (cond is_set 1 0) }
+    ensures length { length words.new.items ≡ length words.old.items }
+{
+    let bit = 1 << (place % 64);
+    if is_set {
+        words[place / 64] |= bit;
+    } else {
+        words[place / 64] &= !bit;
+    }
+}
+
+/// The first place, from one on, whose bit is set, or the place behind all.
+fn next_place(words: &[u64], from: usize) -> usize
+    requires few { length words.now ≤ 2 ^ 26 }
+    requires within { from ≤ 64 * length words.now }
+    ensures from { from ≤ result }
+    ensures within { result ≤ 64 * length words.now }
+    ensures between { (k : ℕ) → from ≤ k → k < result → bit_of words.now k ≡ 0 }
+    ensures there { result < 64 * length words.now → bit_of words.now result ≡ 1 }
+{
+    let mut place = from;
+    while place < 64 * words.len() {
+        let rest = words[place / 64] >> (place % 64);
+        if rest != 0 {
+            return place + rest.trailing_zeros() as usize;
+        }
+        place = (place / 64 + 1) * 64;
+    }
+    place
+}
+
+impl LineSet {
+    ghost use Rattle.jp_store.specs.LineSetViews.{room_in, numbers_of};
+
+    /// No line. It allocates nothing.
+    pub(crate) fn new(alloc: Global) -> LineSet
+        ensures { numbers_of result ≡ [] }
+    {
+        LineSet {
+            words: Vec::new(alloc),
+            count: 0,
+        }
+    }
+
+    /// The number of lines that are in it.
+    pub(crate) fn count(&self) -> usize
+        ensures { result ≡ length (numbers_of self.now) }
+    {
+        self.count
+    }
+
+    /// Makes room for the lines up to one. The set stays, also after an `Err`.
+    pub(crate) fn reserve(&mut self, line: u32) -> Result<(), AllocError>
+        ensures same { numbers_of self.new ≡ numbers_of self.old }
+        ensures room { OnOk result (line < room_in self.new) }
+    {
+        while 64 * self.words.len() <= line as usize {
+            self.words.push(0)?;
+        }
+        Ok(())
+    }
+
+    /// Puts a line in, or takes it out. It allocates nothing.
+    pub(crate) fn set(&mut self, line: u32, is_in: bool)
+        requires { line < room_in self.old }
+        ensures lines { numbers_of self.new ≡ with_number line is_in (numbers_of self.old) }
+        ensures room { room_in self.new ≡ room_in self.old }
+    {
+        let place = line as usize;
+        let count = self.count - usize::from(has_bit(&self.words, place)) + usize::from(is_in);
+        set_bit(&mut self.words, place, is_in);
+        self.count = count;
+    }
+
+    /// The numbers of its lines, ascending, in the time of their count and of a bit for each line.
+    pub(crate) fn numbers(&self, alloc: Global) -> Result<Vec<u32>, AllocError>
+        ensures { IfOk result (λ numbers. numbers.items ≡ numbers_of self.now) }
+    {
+        let mut numbers = Vec::new(alloc);
+        if self.count == 0 {
+            return Ok(numbers);
+        }
+        let end = 64 * self.words.len();
+        let mut place = next_place(&self.words, 0);
+        while place < end {
+            numbers.push(place as u32)?;
+            place = next_place(&self.words, place + 1);
+        }
+        Ok(numbers)
+    }
+}
