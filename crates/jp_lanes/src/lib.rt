@@ -3,6 +3,7 @@
 //! Public calls:
 //!
 //! - `classify`, `pad`, `Classes`: the classes of 64 bytes; fewer bytes padded with zeros
+//! - `separators`, `are_ascii`: which of 64 bytes are RS; whether all of them are ASCII characters
 //! - `first_special`, `has_special`, `equal_bytes`: the next quote, backslash or control byte; whether there is one; equality
 //!   of bytes
 #![tactic(auto)]

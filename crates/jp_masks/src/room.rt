@@ -1,7 +1,6 @@
 //! The places of marks, in a list whose room is used again.
 
 ghost use Rattle.std.specs.Prelude.{◌≡◌, ℕ, ◌+◌, ◌-◌, ◌^◌, ◌<◌, ◌≤◌, ◌++◌, [], true, map, take, length, OnOk, OnErr};
-ghost use Rattle.std.specs.Vec.{vec_capacity};
 
 use crate::block::{BLOCK, write_block};
 use std::alloc::{AllocError, Global};

@@ -11,8 +11,8 @@ use std::simd::prelude::*;
 /// What is known of the blocks that were tested. Up to the first byte above 7F nothing is asked of the checker.
 #[derive(Clone, Copy, Drop)]
 pub struct Validity {
-    pub is_ascii: bool,
-    pub checker: Checker,
+    is_ascii: bool,
+    checker: Checker,
 }
 
 impl Validity {
