@@ -1,5 +1,5 @@
 -- What the parts of a compiled query mean, and those of the query that they are made of, one level deep.
-use Rattle.std.proofs.Common.{◌≡◌, ◌∙◌, ℕ, ℤ, sym, ap, Vec, Global, Box, Option}
+use Rattle.std.proofs.Common.{◌≡◌, ◌∙◌, ℕ, ℤ, map, sym, ap, Vec, Global, Box, Option}
 use Rattle.jp_model.specs.Query.Syntax as syntax
 use Rattle.jp_query.specs.View.{segment_view, selectors_view, selector_view, logicals_view, logical_view, comparable_view, call_view, path_view, op_view, literal_view, argument_step, comparable_step, logical_step, segment_step, selector_step, call_step, path_step}
 use Rattle.jp_query.specs.declared.tree.Call.{Call}
@@ -17,7 +17,11 @@ use Rattle.jp_query.specs.declared.tree.Argument.TheOpen.{Logical-F, Selector-F,
 use Rattle.jp_eval.specs.Programs.{Table, slot_in, choice_step, condition_step, given_step, nodes_step, side_step, step_step, invoked_step, choice_view, condition_view, given_view, nodes_view, side_view, step_view, invoked_view, steps_view, choices_view, conditions_view, givens_view}
 use Rattle.jp_eval.specs.declared.leaves.Constant.{Constant}
 use Rattle.jp_eval.specs.declared.leaves.LiteralPattern.{LiteralPattern}
-use Rattle.jp_eval.specs.declared.leaves.MemberName.{MemberName}
+use Rattle.jp_eval.specs.declared.question.Key.{Key}
+use Rattle.jp_eval.specs.declared.question.Question.{Question}
+use Rattle.jp_eval.specs.Keys.{key_view}
+use Rattle.jp_eval.specs.Questions.{question_view}
+use Rattle.jp_model.specs.Query.Singular.{step_selector, steps_query}
 use Rattle.jp_eval.specs.declared.program.Step.{Step, fold-roll-Step}
 use Rattle.jp_eval.specs.declared.program.Step.TheVariants as steps
 use Rattle.jp_eval.specs.declared.program.Choice.{Choice, fold-roll-Choice}
@@ -85,9 +89,6 @@ not_is table x = ap (condition_view table) (sym (conditions.rolls-Not x)) ∙ fo
 pub compare_is : (table : Table) (a : Side) (op : CompareOp) (b : Side) → condition_view table (conditions.Compare a op b) ≡ syntax.compare (side_view table a) (op_view op) (side_view table b)
 compare_is table a op b = ap (condition_view table) (sym (conditions.rolls-Compare a op b)) ∙ fold-roll-Condition syntax.Selector syntax.Logical syntax.Argument syntax.Path syntax.Comparable syntax.Segment syntax.Call choice_step condition_step given_step (nodes_step table) side_step step_step invoked_step (Condition-F.Compare a op b)
 
-pub exists_is : (table : Table) (x : Nodes) → condition_view table (conditions.Exists x) ≡ syntax.exists (nodes_view table x)
-exists_is table x = ap (condition_view table) (sym (conditions.rolls-Exists x)) ∙ fold-roll-Condition syntax.Selector syntax.Logical syntax.Argument syntax.Path syntax.Comparable syntax.Segment syntax.Call choice_step condition_step given_step (nodes_step table) side_step step_step invoked_step (Condition-F.Exists x)
-
 pub test_is : (table : Table) (x : Invoked) → condition_view table (conditions.Test x) ≡ syntax.test (invoked_view table x)
 test_is table x = ap (condition_view table) (sym (conditions.rolls-Test x)) ∙ fold-roll-Condition syntax.Selector syntax.Logical syntax.Argument syntax.Path syntax.Comparable syntax.Segment syntax.Call choice_step condition_step given_step (nodes_step table) side_step step_step invoked_step (Condition-F.Test x)
 
@@ -118,14 +119,20 @@ current_is table x = ap (nodes_view table) (sym (paths.rolls-Current x)) ∙ fol
 pub invoked_is : (table : Table) (x : Invoked) → invoked_view table x ≡ syntax.call (chars (string_bytes x.named.name)) (givens_view table x.arguments.items)
 invoked_is table x = fold_out-Invoked syntax.Selector syntax.Logical syntax.Argument syntax.Path syntax.Comparable syntax.Segment syntax.Call choice_step condition_step given_step (nodes_step table) side_step step_step invoked_step x
 
-pub name_is : (table : Table) (x : MemberName) → choice_view table (choices.Name x) ≡ syntax.name_selector (chars (string_bytes x.text))
-name_is table x = ap (choice_view table) (sym (choices.rolls-Name x)) ∙ fold-roll-Choice syntax.Selector syntax.Logical syntax.Argument syntax.Path syntax.Comparable syntax.Segment syntax.Call choice_step condition_step given_step (nodes_step table) side_step step_step invoked_step (Choice-F.Name x)
-
-pub index_is : (table : Table) (i : ℤ) → choice_view table (choices.Index i) ≡ syntax.index_selector i
-index_is table i = ap (choice_view table) (sym (choices.rolls-Index i)) ∙ fold-roll-Choice syntax.Selector syntax.Logical syntax.Argument syntax.Path syntax.Comparable syntax.Segment syntax.Call choice_step condition_step given_step (nodes_step table) side_step step_step invoked_step (Choice-F.Index i)
-
 pub slice_is : (table : Table) (first last step : Option ℤ) → choice_view table (choices.Slice first last step) ≡ syntax.slice_selector first last step
 slice_is table first last step = ap (choice_view table) (sym (choices.rolls-Slice first last step)) ∙ fold-roll-Choice syntax.Selector syntax.Logical syntax.Argument syntax.Path syntax.Comparable syntax.Segment syntax.Call choice_step condition_step given_step (nodes_step table) side_step step_step invoked_step (Choice-F.Slice first last step)
 
 pub pattern_given : (table : Table) (x : LiteralPattern) → given_view table (givens.Pattern x) ≡ syntax.constant_argument (literal_view x.constant.literal)
 pattern_given table x = ap (given_view table) (sym (givens.rolls-Pattern x)) ∙ fold-roll-Given syntax.Selector syntax.Logical syntax.Argument syntax.Path syntax.Comparable syntax.Segment syntax.Call choice_step condition_step given_step (nodes_step table) side_step step_step invoked_step (Given-F.Pattern x)
+
+pub asks_is : (table : Table) (x : Nodes) (q : Question) → condition_view table (conditions.Asks x q) ≡ question_view q (nodes_view table x)
+asks_is table x q = ap (condition_view table) (sym (conditions.rolls-Asks x q)) ∙ fold-roll-Condition syntax.Selector syntax.Logical syntax.Argument syntax.Path syntax.Comparable syntax.Segment syntax.Call choice_step condition_step given_step (nodes_step table) side_step step_step invoked_step (Condition-F.Asks x q)
+
+pub chosen_is : (table : Table) (x : Key) → choice_view table (choices.One x) ≡ step_selector (key_view x)
+chosen_is table x = ap (choice_view table) (sym (choices.rolls-One x)) ∙ fold-roll-Choice syntax.Selector syntax.Logical syntax.Argument syntax.Path syntax.Comparable syntax.Segment syntax.Call choice_step condition_step given_step (nodes_step table) side_step step_step invoked_step (Choice-F.Choice::One x)
+
+pub one_is : (table : Table) (x : Key) → step_view table (steps.One x) ≡ syntax.child_segment (syntax.selector (step_selector (key_view x)) syntax.no_selectors)
+one_is table x = ap (step_view table) (sym (steps.rolls-One x)) ∙ fold-roll-Step syntax.Selector syntax.Logical syntax.Argument syntax.Path syntax.Comparable syntax.Segment syntax.Call choice_step condition_step given_step (nodes_step table) side_step step_step invoked_step (Step-F.Step::One x)
+
+pub path_is : (table : Table) (x : Vec Key Global) → nodes_view table (paths.Path x) ≡ syntax.path syntax.current (steps_query (map key_view x.items))
+path_is table x = ap (nodes_view table) (sym (paths.rolls-Path x)) ∙ fold-roll-Nodes syntax.Selector syntax.Logical syntax.Argument syntax.Path syntax.Comparable syntax.Segment syntax.Call choice_step condition_step given_step (nodes_step table) side_step step_step invoked_step (Nodes-F.Path x)

@@ -74,11 +74,6 @@ pub filter_none : (p : Node → Bool) (ns : List Node) → ((n : Node) → p n �
 filter_none p [] h = refl
 filter_none p (n ∷ ns) h = filter_passed p n ns (h n) ∙ filter_none p ns h
 
--- by another test that says the same
-pub filter_alike : (p q : Node → Bool) (ns : List Node) → ((n : Node) → p n ≡ q n) → filter p ns ≡ filter q ns
-filter_alike p q [] h = refl
-filter_alike p q (n ∷ ns) h = ap (λ b. cond b (n ∷ filter p ns) (filter p ns)) (h n) ∙ ap (λ (l : List Node). cond (q n) (n ∷ l) l) (filter_alike p q ns h)
-
 -- no node adds nothing
 pub nothing_added : (most : ℕ) (old : List Cursor) (ss : Segments) (t : Tree) (found : List Node) → length old ≤ most → found ≡ [] → map node_of old ≡ take most (map node_of old ++ nodes ss found t)
 nothing_added most old ss t found h e =

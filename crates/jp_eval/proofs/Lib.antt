@@ -20,5 +20,7 @@ pub mod Answered
 pub mod Entered
 pub mod SingularSteps
 pub mod Following
+pub mod KeyQueries
+pub mod Asked
 pub mod Childless
 mod Literals

@@ -24,12 +24,12 @@ abbrev mutual
   size_of_logical (and_all ls) = size_of_logicals ls + 1
   size_of_logical (negated l) = size_of_logical l + 2
   size_of_logical (compare a op b) = size_of_comparable a + size_of_comparable b + 3
-  size_of_logical (exists p) = size_of_path p + 3
-  size_of_logical (test c) = size_of_call c + 1
+  size_of_logical (exists p) = size_of_path p + 4
+  size_of_logical (test c) = size_of_call c + 2
 
   pub size_of_logicals : Logicals → ℕ
   size_of_logicals no_logicals = 0
-  size_of_logicals (logical l ls) = size_of_logical l + 1 + size_of_logicals ls
+  size_of_logicals (logical l ls) = size_of_logical l + 2 + size_of_logicals ls
 
   pub size_of_comparable : Comparable → ℕ
   size_of_comparable (constant c) = 0

@@ -1,10 +1,10 @@
 -- Expressions and their literals.
-use Rattle.std.specs.Prelude.{◌≡◌, Bool, true, false, not}
+use Rattle.std.specs.Prelude.{Bool, true, false, not}
 use Rattle.jp_model.specs.Json.Tree.{Tree}
 use Rattle.jp_model.specs.Meaning.Nodes.{Node}
-use Rattle.jp_model.specs.Meaning.Selecting.{truth, some_true, each_true}
+use Rattle.jp_model.specs.Meaning.Selecting.{some_true, each_true}
 use Rattle.jp_model.specs.Query.Limits.{Tests}
-use Rattle.jp_model.specs.Query.Syntax.{Logical, Logicals}
+use Rattle.jp_model.specs.Query.Syntax.{Logicals}
 use Rattle.jp_query.specs.Sound.{is_sound}
 
 -- each literal can be read
@@ -15,7 +15,3 @@ readable = record { integer = λ i. true; literal = is_sound; function = λ f. t
 abbrev pub all_are : Bool → Logicals → Node → Tree → Bool
 all_are true ls n t = each_true ls n t
 all_are false ls n t = not (some_true ls n t)
-
--- a logical expression holds of each node of a tree, or of none
-abbrev pub IsSameForAll : Logical → Type 0
-IsSameForAll l = (m n : Node) (t : Tree) → truth l m t ≡ truth l n t

@@ -9,4 +9,5 @@ pub mod Compiled
 pub mod Answers
 pub mod Frames
 pub mod Steps
-pub mod MemberTests
+pub mod Questions
+pub mod Keys

@@ -2,6 +2,9 @@
 use Rattle.std.specs.Prelude.{◌≡◌, ℕ, List, ◌++◌, map, chars, string_bytes, Option, Some, None, slice_get}
 use Rattle.jp_model.specs.Query.Syntax as syntax
 use Rattle.jp_query.specs.View.{segments_of, selectors_of, logicals_of, arguments_of, literal_view, op_view}
+use Rattle.jp_model.specs.Query.Singular.{step_selector, steps_query}
+use Rattle.jp_eval.specs.Keys.{key_view}
+use Rattle.jp_eval.specs.Questions.{question_view}
 use Rattle.jp_eval.specs.declared.program.Step.{Step, fold-Step}
 use Rattle.jp_eval.specs.declared.program.Choice.{Choice, fold-Choice}
 use Rattle.jp_eval.specs.declared.program.Condition.{Condition, fold-Condition}
@@ -30,9 +33,8 @@ slot_in table place = syntax.path syntax.root (segments_or_none (slice_get table
 
 -- a selector
 abbrev pub choice_step : Choice-F syntax.Selector syntax.Logical syntax.Argument syntax.Path syntax.Comparable syntax.Segment syntax.Call → syntax.Selector
-choice_step (Choice-F.Name x) = syntax.name_selector (chars (string_bytes x.text))
+choice_step (Choice-F.Choice::One key) = step_selector (key_view key)
 choice_step Choice-F.Wildcard = syntax.wildcard_selector
-choice_step (Choice-F.Index i) = syntax.index_selector i
 choice_step (Choice-F.Slice first last step) = syntax.slice_selector first last step
 choice_step (Choice-F.Filter l) = syntax.filter_selector l
 
@@ -42,7 +44,7 @@ condition_step (Condition-F.Or ls) = syntax.or_all (logicals_of ls.items)
 condition_step (Condition-F.And ls) = syntax.and_all (logicals_of ls.items)
 condition_step (Condition-F.Not l) = syntax.negated l.value
 condition_step (Condition-F.Compare a op b) = syntax.compare a (op_view op) b
-condition_step (Condition-F.Exists p) = syntax.exists p
+condition_step (Condition-F.Asks p question) = question_view question p
 condition_step (Condition-F.Test c) = syntax.test c
 
 -- an argument
@@ -56,6 +58,7 @@ given_step (Given-F.Given::Result c) = syntax.result_argument c
 -- a query within a filter
 abbrev pub nodes_step : Table → Nodes-F syntax.Selector syntax.Logical syntax.Argument syntax.Path syntax.Comparable syntax.Segment syntax.Call → syntax.Path
 nodes_step table (Nodes-F.Slot place) = slot_in table place
+nodes_step table (Nodes-F.Path keys) = syntax.path syntax.current (steps_query (map key_view keys.items))
 nodes_step table (Nodes-F.Current ss) = syntax.path syntax.current (segments_of ss.items)
 
 -- a side of a comparison
@@ -66,6 +69,7 @@ side_step (Side-F.Side::Result c) = syntax.result c
 
 -- a segment
 abbrev pub step_step : Step-F syntax.Selector syntax.Logical syntax.Argument syntax.Path syntax.Comparable syntax.Segment syntax.Call → syntax.Segment
+step_step (Step-F.Step::One key) = syntax.child_segment (syntax.selector (step_selector (key_view key)) syntax.no_selectors)
 step_step (Step-F.Child ss) = syntax.child_segment (selectors_of ss.items)
 step_step (Step-F.Descendant ss) = syntax.descendant_segment (selectors_of ss.items)
 

@@ -38,7 +38,7 @@ pub(crate) fn first_answers<'a>(
     ensures { (run : AnyRun) → IfOk result (λ answers. AreKept run answers.items) }
 {
     match steps {
-        [Step::Child(_)] => Ok(Vec::new(alloc)),
+        [Step::One(_) | Step::Child(_)] => Ok(Vec::new(alloc)),
         _ => no_answers(alloc, count),
     }
 }
@@ -106,7 +106,7 @@ impl<'p, 'a> Run<'p, 'a> {
     {
         match nodes {
             Nodes::Slot(place) => self.kept_at(*place, frame),
-            Nodes::Current(_) => None,
+            Nodes::Path(_) | Nodes::Current(_) => None,
         }
     }
 
@@ -115,7 +115,7 @@ impl<'p, 'a> Run<'p, 'a> {
     pub(crate) fn keeps(self, nodes: &Nodes, frame: &Frame<'a>) -> bool {
         match nodes {
             Nodes::Slot(place) => *place < frame.answers.len(),
-            Nodes::Current(_) => false,
+            Nodes::Path(_) | Nodes::Current(_) => false,
         }
     }
 

@@ -1,21 +1,27 @@
 //! A query is compiled: once, and not for each line.
 
-ghost use Rattle.std.specs.Prelude.{◌≡◌, true, IfOk, option_map, chars, string_bytes};
+ghost use Rattle.std.specs.Prelude.{◌≡◌, map, true, IfOk, IfSome, option_map, chars, string_bytes};
 ghost use Rattle.jp_decimal.specs.Decimals.{numeral_number};
 ghost use Rattle.jp_eval.specs.Constants.{is_read_as};
 ghost use Rattle.jp_eval.specs.Expressions.{readable};
+ghost use Rattle.jp_eval.specs.Questions.{passing_name};
 ghost use Rattle.jp_eval.specs.Programs.{Table, Means, steps_view, step_view, choices_view, choice_view, conditions_view, condition_view, side_view, nodes_view, invoked_view, givens_view, given_view};
 ghost use Rattle.jp_model.specs.Query.Limits.{segments_pass, segment_passes, selectors_pass, selector_passes, logical_passes, logicals_pass, comparable_passes, path_passes, call_passes, arguments_pass, argument_passes};
-ghost use Rattle.jp_model.specs.Query.Syntax.{string_literal};
+ghost use Rattle.jp_eval.specs.Keys.{key_view};
+ghost use Rattle.jp_model.specs.Query.Singular.{step_selector, steps_query};
+ghost use Rattle.jp_model.specs.Query.Syntax.{argument, call as syntax_call, child_segment, compare, constant_argument, no_arguments, no_selectors, nodes_argument, selector, string_literal, test};
 ghost use Rattle.jp_query.specs.Sound.{is_sound};
-ghost use Rattle.jp_query.specs.View.{literal_view, segments_view, segment_view, selectors_view, selector_view, logicals_view, logical_view, comparable_view, path_view, call_view, arguments_view, argument_view};
+ghost use Rattle.jp_query.specs.View.{op_view, literal_view, segments_view, segment_view, selectors_view, selector_view, logicals_view, logical_view, comparable_view, path_view, call_view, arguments_view, argument_view};
 
-use crate::functions::function_of;
+use crate::functions::{Function, function_of};
 use crate::leaves::{Constant, LiteralPattern, MemberName, Named};
 use crate::program::{Choice, Condition, Given, Invoked, Nodes, Side, Slot, Step};
+use crate::question::{Key, Question};
 use jp_decimal::{Decimal, Numeral};
 use jp_iregexp::Pattern;
-use jp_query::{Argument, Call, Comparable, Literal, Logical, Origin, Path, Segment, Selector};
+use jp_query::{
+    Argument, Call, Comparable, CompareOp, Literal, Logical, Origin, Path, Segment, Selector,
+};
 use jp_strings::is_plain;
 use std::alloc::{AllocError, Global};
 
@@ -90,6 +96,37 @@ fn compile_name(alloc: Global, name: &str) -> Result<Named, AllocError>
     Ok(Named { name, function })
 }
 
+/// The key of a segment that is singular, and None of any other (RFC 9535, section 2.3.5.1).
+fn compile_key(alloc: Global, segment: &Segment) -> Result<Option<Key>, AllocError>
+    ensures { IfOk result (λ found. IfSome found (λ key. segment_view segment.now ≡ child_segment (selector (step_selector (key_view key)) no_selectors))) }
+{
+    let Segment::Child(selectors) = segment else {
+        return Ok(None);
+    };
+    match selectors.as_slice() {
+        [Selector::Name(name)] => {
+            let name = compile_member_name(alloc, name)?;
+            Ok(Some(Key::Name(name)))
+        }
+        [Selector::Index(index)] => Ok(Some(Key::Index(*index))),
+        _ => Ok(None),
+    }
+}
+
+/// The keys of segments that are singular, and None of any other (RFC 9535, section 2.3.5.1).
+fn compile_keys(alloc: Global, segments: &[Segment]) -> Result<Option<Vec<Key>>, AllocError>
+    ensures { IfOk result (λ found. IfSome found (λ keys. segments_view segments.now ≡ steps_query (map key_view keys.items))) }
+{
+    let mut keys = Vec::new(alloc);
+    for segment in segments {
+        let Some(key) = compile_key(alloc, segment)? else {
+            return Ok(None);
+        };
+        keys.push(key)?;
+    }
+    Ok(Some(keys))
+}
+
 /// The steps of segments, in their order.
 #[cycle(compile)]
 pub(crate) fn compile_segments(
@@ -118,6 +155,9 @@ fn compile_segment(
     requires literals { segment_passes (segment_view segment.now) readable ≡ true }
     ensures { IfOk result (λ step. Means slots.old.items slots.new.items (λ (table : Table). step_view table step) (segment_view segment.now)) }
 {
+    if let Some(key) = compile_key(alloc, segment)? {
+        return Ok(Step::One(key));
+    }
     match segment {
         Segment::Child(selectors) => {
             let choices = compile_selectors(alloc, selectors, slots)?;
@@ -161,10 +201,10 @@ fn compile_selector(
     match selector {
         Selector::Name(name) => {
             let name = compile_member_name(alloc, name)?;
-            Ok(Choice::Name(name))
+            Ok(Choice::One(Key::Name(name)))
         }
         Selector::Wildcard => Ok(Choice::Wildcard),
-        Selector::Index(index) => Ok(Choice::Index(*index)),
+        Selector::Index(index) => Ok(Choice::One(Key::Index(*index))),
         Selector::Slice { first, last, step } => Ok(Choice::Slice {
             first: *first,
             last: *last,
@@ -221,21 +261,67 @@ pub(crate) fn compile_logical(
         Logical::Compare { left, op, right } => {
             let left = compile_side(alloc, left, slots)?;
             let right = compile_side(alloc, right, slots)?;
-            Ok(Condition::Compare {
-                left,
-                op: *op,
-                right,
-            })
+            Ok(comparison(left, *op, right))
         }
         Logical::Exists(path) => {
             let nodes = compile_path(alloc, path, slots)?;
-            Ok(Condition::Exists(nodes))
+            Ok(Condition::Asks(nodes, Question::Exists))
         }
-        Logical::Test(call) => {
-            let invoked = compile_call(alloc, call, slots)?;
-            Ok(Condition::Test(invoked))
-        }
+        Logical::Test(call) => compile_test(alloc, call, slots),
     }
+}
+
+/// The condition of a comparison.
+fn comparison(left: Side, op: CompareOp, right: Side) -> Condition
+    ensures { (table : Table) → condition_view table result ≡ compare (side_view table left) (op_view op) (side_view table right) }
+{
+    match (left, right) {
+        (Side::Single(nodes), Side::Constant(constant)) => {
+            Condition::Asks(nodes, Question::Compares(op, constant))
+        }
+        (left, right) => Condition::Compare { left, op, right },
+    }
+}
+
+/// Whether the function of this name is to pass all of a text, or a part of it. None of another name.
+fn is_whole(name: &str) -> Option<bool>
+    ensures { IfSome result (λ whole. chars name.now ≡ passing_name whole) }
+{
+    match function_of(name) {
+        Some(Function::Match) => Some(true),
+        Some(Function::Search) => Some(false),
+        _ => None,
+    }
+}
+
+/// Whether a call matches a text as a whole, and the query of the text and the pattern, where the call is of `match` or `search`
+/// and spells its pattern.
+fn match_of(call: &Call) -> Option<(bool, &Path, &str)>
+    ensures { IfSome result (λ r. call_view call.now ≡ syntax_call (passing_name r.0) (argument (nodes_argument (path_view r.1.now)) (argument (constant_argument (string_literal (chars r.2.now))) no_arguments))) }
+{
+    let whole = is_whole(&call.name)?;
+    match call.arguments.as_slice() {
+        [
+            Argument::Nodes(path),
+            Argument::Constant(Literal::Text(text)),
+        ] => Some((whole, path, text.as_str())),
+        _ => None,
+    }
+}
+
+/// The condition of a call that answers a truth.
+#[cycle(compile)]
+fn compile_test(alloc: Global, call: &Call, slots: &mut Vec<Slot>) -> Result<Condition, AllocError>
+    requires literals { call_passes (call_view call.now) readable ≡ true }
+    ensures { IfOk result (λ condition. Means slots.old.items slots.new.items (λ (table : Table). condition_view table condition) (test (call_view call.now))) }
+{
+    if let Some((whole, path, text)) = match_of(call) {
+        let nodes = compile_path(alloc, path, slots)?;
+        let pattern = compile_pattern(alloc, text)?;
+        return Ok(Condition::Asks(nodes, Question::Passes(whole, pattern)));
+    }
+    let invoked = compile_call(alloc, call, slots)?;
+    Ok(Condition::Test(invoked))
 }
 
 /// The side of a comparison.
@@ -276,6 +362,9 @@ fn compile_path(alloc: Global, path: &Path, slots: &mut Vec<Slot>) -> Result<Nod
             Ok(Nodes::Slot(place))
         }
         Origin::Current => {
+            if let Some(keys) = compile_keys(alloc, &path.segments)? {
+                return Ok(Nodes::Path(keys));
+            }
             let steps = compile_segments(alloc, &path.segments, slots)?;
             Ok(Nodes::Current(steps))
         }

@@ -10,15 +10,12 @@
 mod answers;
 mod children;
 mod compile;
-mod direct;
 mod evaluate;
 mod frame;
 mod functions;
 mod leaves;
-mod member;
 mod program;
-mod push;
-mod rooted;
+mod question;
 mod run;
 mod singular;
 mod steps;

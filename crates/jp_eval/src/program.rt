@@ -1,12 +1,15 @@
 //! A compiled query: the steps from nodes to nodes, with all that is the same for each line found beforehand.
 
-use crate::leaves::{Constant, LiteralPattern, MemberName, Named};
+use crate::leaves::{Constant, LiteralPattern, Named};
+use crate::question::{Key, Question};
 use jp_query::CompareOp;
 
 /// A step from nodes to nodes (RFC 9535, section 2.5).
 #[cycle(program)]
 #[derive(Drop)]
 pub(crate) enum Step {
+    /// To the child that a name or an index alone selects.
+    One(Key),
     Child(Vec<Choice>),
     Descendant(Vec<Choice>),
 }
@@ -15,9 +18,8 @@ pub(crate) enum Step {
 #[cycle(program)]
 #[derive(Drop)]
 pub(crate) enum Choice {
-    Name(MemberName),
+    One(Key),
     Wildcard,
-    Index(i64),
     Slice {
         first: Option<i64>,
         last: Option<i64>,
@@ -33,12 +35,13 @@ pub(crate) enum Condition {
     Or(Vec<Condition>),
     And(Vec<Condition>),
     Not(Box<Condition>),
+    /// What is asked of the nodes of a query, beside what the filter spells. Most filters ask no more.
+    Asks(Nodes, Question),
     Compare {
         left: Side,
         op: CompareOp,
         right: Side,
     },
-    Exists(Nodes),
     Test(Invoked),
 }
 
@@ -69,6 +72,8 @@ pub(crate) enum Given {
 pub(crate) enum Nodes {
     /// The query from the root that has this place among the slots around it.
     Slot(usize),
+    /// From the node that is filtered, by names and indexes alone: to one node, or to none.
+    Path(Vec<Key>),
     /// From the node that is filtered.
     Current(Vec<Step>),
 }

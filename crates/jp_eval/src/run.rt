@@ -11,28 +11,43 @@ ghost use Rattle.jp_model.specs.Meaning.Selecting.{selected, select, truth as tr
 ghost use Rattle.jp_model.specs.Meaning.Slices.{is_index, sliced};
 ghost use Rattle.jp_query.specs.View.{op_view};
 ghost use Rattle.jp_tape.specs.Cursors.{line_of, node_of};
-ghost use Rattle.jp_eval.specs.Expressions.{all_are, IsSameForAll};
+ghost use Rattle.jp_eval.specs.Expressions.{all_are};
 ghost use Rattle.jp_eval.specs.Found.{node_list, AreOf};
 ghost use Rattle.jp_eval.specs.Frames.{table_in, tree_in, reached, passes_given, AreKept, Stands, Pushes, Lends};
-ghost use Rattle.jp_eval.specs.MemberTests.{tested};
+ghost use Rattle.jp_eval.specs.Questions.{answered};
 ghost use Rattle.jp_eval.specs.Programs.{choices_view, choice_view, conditions_view, condition_view, side_view, nodes_view, invoked_view, given_view};
 ghost use Rattle.jp_eval.specs.Walks.{rises};
 ghost use Rattle.jp_values.specs.Values.{value_view, is_sound_value};
 
 use crate::answers::no_answers;
-use crate::children::{Rising, Slice, find_element, find_falling, find_member};
-use crate::direct::{compare_end, match_end};
+use crate::children::{Rising, Slice, find_falling};
 use crate::frame::{Answer, Frame, Run};
 use crate::functions::{Function, in_pattern, length_of, read_passes};
-use crate::member::{MemberTest, member_test, name_of_step};
 use crate::program::{Choice, Condition, Given, Invoked, Nodes, Side, Step};
-use crate::push::{push_end, push_members};
-use crate::rooted::asks_root_alone;
-use crate::singular::{singular_child, value_of};
+use crate::question::{Question, find_at};
+use crate::singular::value_of;
 use jp_query::CompareOp;
 use jp_tape::Cursor;
 use jp_values::{Value, compare_in};
 use std::alloc::AllocError;
+
+/// Adds the node, as long as fewer nodes than `most` were found.
+#[inline(always)]
+fn push_found<'a>(
+    run: Run<'_, 'a>,
+    node: Cursor<'a>,
+    most: usize,
+    frame: &mut Frame<'a>,
+) -> Result<(), AllocError>
+    requires stands { Stands run node frame.old }
+    requires room { length frame.old.found.items ≤ most }
+    ensures { Pushes run.entry most frame.old frame.new result (node_of node.entry ∷ []) }
+{
+    if frame.found.len() < most {
+        frame.found.push(node)?;
+    }
+    Ok(())
+}
 
 /// Adds what the steps select from a node, as long as fewer nodes than `most` were found. Where none is left, that is the node.
 #[cycle(eval)]
@@ -49,7 +64,7 @@ pub(crate) fn push_steps<'a>(
     ensures { Pushes run.entry most frame.old frame.new result (reached run.entry steps.now (node_of node.entry ∷ [])) }
 {
     if steps.is_empty() {
-        return push_end(run, Some(node), most, frame);
+        return push_found(run, node, most, frame);
     }
     push_next(run, steps, node, most, frame)
 }
@@ -68,13 +83,12 @@ fn push_next<'a>(
     requires room { length frame.old.found.items ≤ most }
     ensures { Pushes run.entry most frame.old frame.new result (reached run.entry steps.now (node_of node.entry ∷ [])) }
 {
-    if let [last] = steps
-        && let Some(end) = singular_child(last, node)
-    {
-        return push_end(run, end, most, frame);
-    }
     match steps.split_first() {
-        None => push_end(run, Some(node), most, frame),
+        None => push_found(run, node, most, frame),
+        Some((Step::One(key), rest)) => match key.find(node) {
+            Some(child) => push_steps(run, rest, child, most, frame),
+            None => Ok(()),
+        },
         Some((Step::Child(choices), rest)) => push_choices(run, choices, rest, node, most, frame),
         Some((Step::Descendant(choices), rest)) => {
             push_descendants(run, choices, rest, node, most, frame)
@@ -147,11 +161,7 @@ fn push_choice<'a>(
     ensures { Pushes run.entry most frame.old frame.new result (reached run.entry rest.now (select (choice_view (table_in run.entry) choice.now) (node_of node.entry) (tree_in run.entry))) }
 {
     match choice {
-        Choice::Name(name) => match find_member(node, name.text.as_str(), name.plain) {
-            Some(child) => push_steps(run, rest, child, most, frame),
-            None => Ok(()),
-        },
-        Choice::Index(index) => match find_element(node, *index) {
+        Choice::One(key) => match key.find(node) {
             Some(child) => push_steps(run, rest, child, most, frame),
             None => Ok(()),
         },
@@ -278,11 +288,14 @@ fn push_filtered<'a>(
     requires room { length frame.old.found.items ≤ most }
     ensures { Pushes run.entry most frame.old frame.new result (reached run.entry rest.now (filter (λ c. truth_of (condition_view (table_in run.entry) condition.now) c (tree_in run.entry)) (children (node_of node.entry)))) }
 {
-    if asks_root_alone(condition) {
-        return push_all_or_none(run, condition, rest, node, most, frame);
-    }
-    if let Some(test) = member_test(condition) {
-        return push_tested(run, test, rest, node, most, frame);
+    if let Condition::Asks(nodes, question) = condition
+        && let Nodes::Slot(_) = nodes
+    {
+        return if ask(run, nodes, question, node, frame)? {
+            push_children(run, rest, node, most, frame)
+        } else {
+            Ok(())
+        };
     }
     run.prepare(frame)?;
     let mut next = node.first_child();
@@ -298,65 +311,7 @@ fn push_filtered<'a>(
     Ok(())
 }
 
-/// Adds what the steps select from each child of which the test of a member holds.
-#[cycle(eval)]
-#[inline(never)]
-fn push_tested<'a>(
-    run: Run<'_, 'a>,
-    test: MemberTest<'_>,
-    rest: &[Step],
-    node: Cursor<'a>,
-    most: usize,
-    frame: &mut Frame<'a>,
-) -> Result<(), AllocError>
-    requires stands { Stands run node frame.old }
-    requires room { length frame.old.found.items ≤ most }
-    ensures { Pushes run.entry most frame.old frame.new result (reached run.entry rest.now (filter (tested test.entry) (children (node_of node.entry)))) }
-{
-    if let [step] = rest
-        && let Some(name) = name_of_step(step)
-    {
-        return push_members(run, test, name, node, most, frame);
-    }
-    let mut next = node.first_child();
-    while let Some(child) = next {
-        if frame.found.len() == most {
-            return Ok(());
-        }
-        if test.holds_of(run.alloc, child)? {
-            push_steps(run, rest, child, most, frame)?;
-        }
-        next = child.next_sibling();
-    }
-    Ok(())
-}
-
-/// Adds what the steps select from each child, where the condition holds of the first: it holds of all of them, or of none.
-#[cycle(eval)]
-fn push_all_or_none<'a>(
-    run: Run<'_, 'a>,
-    condition: &Condition,
-    rest: &[Step],
-    node: Cursor<'a>,
-    most: usize,
-    frame: &mut Frame<'a>,
-) -> Result<(), AllocError>
-    requires stands { Stands run node frame.old }
-    requires room { length frame.old.found.items ≤ most }
-    requires same { IsSameForAll (condition_view (table_in run) condition.now) }
-    ensures { Pushes run.entry most frame.old frame.new result (reached run.entry rest.now (filter (λ c. truth_of (condition_view (table_in run.entry) condition.now) c (tree_in run.entry)) (children (node_of node.entry)))) }
-{
-    let Some(child) = node.first_child() else {
-        return Ok(());
-    };
-    if holds(run, condition, child, frame)? {
-        push_children(run, rest, node, most, frame)
-    } else {
-        Ok(())
-    }
-}
-
-/// Whether the condition holds of a node. It stops at what decides.
+/// Whether the condition holds of a node. Most ask of it what names and indexes lead to, which costs no call.
 #[cycle(eval)]
 #[inline(always)]
 pub(crate) fn holds<'a>(
@@ -369,22 +324,16 @@ pub(crate) fn holds<'a>(
     ensures lends { Lends run.entry frame.old frame.new result }
     ensures value { IfOk result (λ b. b ≡ truth_of (condition_view (table_in run.entry) condition.now) (node_of node.entry) (tree_in run.entry)) }
 {
-    match condition {
-        Condition::Or(parts) => Ok(!are_all(run, parts, false, node, frame)?),
-        Condition::And(parts) => are_all(run, parts, true, node, frame),
-        Condition::Not(inner) => Ok(!holds_within(run, inner, node, frame)?),
-        Condition::Compare { left, op, right } => {
-            compare_values(run, *op, left, right, node, frame)
-        }
-        Condition::Exists(nodes) => has_node(run, nodes, node, frame),
-        Condition::Test(invoked) => call_truth(run, invoked, node, frame),
+    if let Condition::Asks(Nodes::Path(keys), question) = condition {
+        return question.answer(run.alloc, find_at(keys, node));
     }
+    holds_by_parts(run, condition, node, frame)
 }
 
-/// Whether a condition within another holds. It is not inlined where it is asked.
+/// Whether the condition holds of a node. It stops at what decides.
 #[cycle(eval)]
 #[inline(never)]
-fn holds_within<'a>(
+fn holds_by_parts<'a>(
     run: Run<'_, 'a>,
     condition: &Condition,
     node: Cursor<'a>,
@@ -394,7 +343,16 @@ fn holds_within<'a>(
     ensures lends { Lends run.entry frame.old frame.new result }
     ensures value { IfOk result (λ b. b ≡ truth_of (condition_view (table_in run.entry) condition.now) (node_of node.entry) (tree_in run.entry)) }
 {
-    holds(run, condition, node, frame)
+    match condition {
+        Condition::Or(parts) => Ok(!are_all(run, parts, false, node, frame)?),
+        Condition::And(parts) => are_all(run, parts, true, node, frame),
+        Condition::Not(inner) => Ok(!holds(run, inner, node, frame)?),
+        Condition::Asks(nodes, question) => ask(run, nodes, question, node, frame),
+        Condition::Compare { left, op, right } => {
+            compare_values(run, *op, left, right, node, frame)
+        }
+        Condition::Test(invoked) => call_truth(run, invoked, node, frame),
+    }
 }
 
 /// Whether each part is true, or each is false.
@@ -418,31 +376,40 @@ fn are_all<'a>(
     Ok(true)
 }
 
-/// Whether a comparison holds of a node (RFC 9535, section 2.3.5.2.2).
+/// Whether the nodes that a query within a filter selects are as a question asks.
 #[cycle(eval)]
 #[inline(never)]
-fn compare_values<'a>(
+fn ask<'a>(
     run: Run<'_, 'a>,
-    op: CompareOp,
-    left: &Side,
-    right: &Side,
+    nodes: &Nodes,
+    question: &Question,
     node: Cursor<'a>,
     frame: &mut Frame<'a>,
 ) -> Result<bool, AllocError>
     requires { Stands run node frame.old }
     ensures lends { Lends run.entry frame.old frame.new result }
-    ensures value { IfOk result (λ b. b ≡ compared (op_view op) (compared_value (side_view (table_in run.entry) left.now) (node_of node.entry) (tree_in run.entry)) (compared_value (side_view (table_in run.entry) right.now) (node_of node.entry) (tree_in run.entry))) }
+    ensures value { IfOk result (λ b. b ≡ answered question.now (path_nodes (nodes_view (table_in run.entry) nodes.now) (node_of node.entry) (tree_in run.entry))) }
 {
-    match compare_end(run, op, left, right, node, frame) {
-        Some(answer) => Ok(answer),
-        None => compare_sides(run, op, left, right, node, frame),
+    if let Some(end) = run.singular_alone(nodes, node, frame) {
+        return question.answer(run.alloc, end);
+    }
+    match question {
+        Question::Exists => has_node(run, nodes, node, frame),
+        Question::Compares(op, constant) => {
+            let value = single_value(run, nodes, node, frame)?;
+            compare_in(run.alloc, *op, value, constant.value())
+        }
+        Question::Passes(whole, pattern) => {
+            let value = single_value(run, nodes, node, frame)?;
+            read_passes(run.alloc, &pattern.read, *whole, value)
+        }
     }
 }
 
-/// Whether a comparison holds, by the values of both sides.
+/// Whether a comparison holds of a node (RFC 9535, section 2.3.5.2.2).
 #[cycle(eval)]
 #[inline(never)]
-fn compare_sides<'a>(
+fn compare_values<'a>(
     run: Run<'_, 'a>,
     op: CompareOp,
     left: &Side,
@@ -496,6 +463,12 @@ fn push_nodes<'a>(
 {
     let place = match nodes {
         Nodes::Slot(place) => *place,
+        Nodes::Path(keys) => {
+            return match find_at(keys, node) {
+                Some(end) => push_found(run, end, most, frame),
+                None => Ok(()),
+            };
+        }
         Nodes::Current(steps) => return push_steps(run, steps, node, most, frame),
     };
     let (inner, steps) = run.enter(place);
@@ -782,8 +755,5 @@ fn call_truth<'a>(
         Some(Function::Search) => false,
         _ => return Ok(false),
     };
-    match match_end(run, whole, text, pattern, node, frame) {
-        Some(answer) => answer,
-        None => match_given(run, whole, text, pattern, node, frame),
-    }
+    match_given(run, whole, text, pattern, node, frame)
 }

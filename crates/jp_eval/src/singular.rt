@@ -11,30 +11,11 @@ ghost use Rattle.jp_eval.specs.Frames.{table_in, tree_in};
 ghost use Rattle.jp_eval.specs.Programs.{Table, nodes_view, step_view, steps_view};
 ghost use Rattle.jp_values.specs.Values.{value_view, is_sound_value};
 
-use crate::children::{find_element, find_member};
 use crate::frame::{Frame, Run};
-use crate::program::{Choice, Nodes, Step};
+use crate::program::{Nodes, Step};
+use crate::question::find_at;
 use jp_tape::Cursor;
 use jp_values::Value;
-
-/// The child that a step by one name or by one index selects, if there is one. None at another step.
-#[inline(always)]
-pub(crate) fn singular_child<'a>(step: &Step, node: Cursor<'a>) -> Option<Option<Cursor<'a>>>
-    ensures nodes { (table : Table) (t : Tree) → IfSome result (λ end. node_list end ≡ segment_nodes (step_view table step.now) (node_of node.entry) t) }
-    ensures line { IfSome result (λ end. IfSome end (λ c. line_of c ≡ line_of node.entry)) }
-{
-    let Step::Child(choices) = step else {
-        return None;
-    };
-    let [choice] = choices.as_slice() else {
-        return None;
-    };
-    match choice {
-        Choice::Name(name) => Some(find_member(node, name.text.as_str(), name.plain)),
-        Choice::Index(index) => Some(find_element(node, *index)),
-        _ => None,
-    }
-}
 
 /// The node that any number of steps by names and indexes lead to, if there is one. None where another step is met.
 #[inline(never)]
@@ -44,27 +25,15 @@ fn singular_path<'a>(steps: &[Step], start: Cursor<'a>) -> Option<Option<Cursor<
 {
     let mut node = start;
     for step in steps {
-        let Some(end) = singular_child(step, node) else {
+        let Step::One(key) = step else {
             return None;
         };
-        let Some(child) = end else {
+        let Some(child) = key.find(node) else {
             return Some(None);
         };
         node = child;
     }
     Some(Some(node))
-}
-
-/// Follows the steps as `singular_path` does, with no loop if there is one step, as in most queries within a filter.
-#[inline(always)]
-fn singular_end<'a>(steps: &[Step], start: Cursor<'a>) -> Option<Option<Cursor<'a>>>
-    ensures nodes { (table : Table) (t : Tree) → IfSome result (λ end. node_list end ≡ nodes_of (steps_view table steps.now) (node_of start.entry ∷ []) t) }
-    ensures line { IfSome result (λ end. IfSome end (λ c. line_of c ≡ line_of start.entry)) }
-{
-    match steps {
-        [only] => singular_child(only, start),
-        _ => singular_path(steps, start),
-    }
 }
 
 /// The value of a node, if there is one.
@@ -88,8 +57,9 @@ impl<'p, 'a> Run<'p, 'a> {
         ensures line { IfSome result (λ end. IfSome end (λ c. line_of c ≡ line_of self.entry.root.now)) }
     {
         match nodes {
-            Nodes::Current(steps) => singular_end(steps, node),
-            Nodes::Slot(place) => singular_end(self.enter(*place).1, *self.root),
+            Nodes::Slot(place) => singular_path(self.enter(*place).1, *self.root),
+            Nodes::Path(keys) => Some(find_at(keys, node)),
+            Nodes::Current(_) => None,
         }
     }
     /// The node of a query of which nothing is kept. Of one that is kept, the node is looked for once in a line.

@@ -2,5 +2,5 @@
 use Rattle.jp_eval.proofs.Answered.{none_in}
 use Rattle.jp_eval.proofs.answers.first_answers.Goals as goal
 
-pub returns-in-Child : goal.returns-in-Child
-returns-in-Child c run place answer e = absurd ((none_in _ c.new.ensures.items).none place answer e)
+pub returns-in-One : goal.returns-in-One
+returns-in-One c run place answer e = absurd ((none_in _ c.new.ensures.items).none place answer e)

@@ -1,8 +1,8 @@
 -- What was compiled means what it was made of.
-use Rattle.std.proofs.Common.{rules, arith, ◌≡◌, ◌∙◌, ℕ, ◌+◌, true, List, ◌∷◌, map, drop, sym, ap, subst, chars, string_bytes}
+use Rattle.std.proofs.Common.{rules, arith, ◌≡◌, ◌∙◌, ℕ, ◌+◌, true, List, ◌∷◌, map, drop, sym, ap, refl, subst, chars, string_bytes}
 use Rattle.std.proofs.lemmas.Bool.{and_parts}
 use Rattle.jp_model.specs.Query.Syntax as syntax
-use Rattle.jp_model.specs.Query.Limits.{segments_pass, selectors_pass, logicals_pass, arguments_pass, logical_passes, comparable_passes}
+use Rattle.jp_model.specs.Query.Limits.{segments_pass, selectors_pass, logicals_pass, arguments_pass, logical_passes, comparable_passes, call_passes}
 use Rattle.jp_query.specs.View.{origin_view, op_view, segments_of, selectors_of, logicals_of, arguments_of, segments_view, segment_view, selectors_view, selector_view, logicals_view, logical_view, comparable_view, path_view, call_view, arguments_view, argument_view}
 use Rattle.jp_query.specs.declared.tree.Segment.{Segment}
 use Rattle.jp_query.specs.declared.tree.Selector.{Selector}
@@ -10,6 +10,7 @@ use Rattle.jp_query.specs.declared.tree.Logical.{Logical}
 use Rattle.jp_query.specs.declared.tree.Argument.{Argument}
 use Rattle.jp_query.specs.declared.tree.Origin.{Origin}
 use Rattle.jp_eval.specs.Expressions.{readable}
+use Rattle.jp_eval.specs.Questions.{passing_name, question_view}
 use Rattle.jp_eval.specs.Programs.{Table, step_view, choice_view, condition_view, given_view, nodes_view, side_view, invoked_view, givens_view}
 use Rattle.jp_eval.specs.declared.program.Step.TheVariants as steps
 use Rattle.jp_eval.specs.declared.program.Choice.TheVariants as choices
@@ -17,15 +18,16 @@ use Rattle.jp_eval.specs.declared.program.Condition.TheVariants as conditions
 use Rattle.jp_eval.specs.declared.program.Side.TheVariants as sides
 use Rattle.jp_eval.specs.declared.program.Given.TheVariants as givens
 use Rattle.jp_eval.specs.declared.program.Nodes.TheVariants as paths
+use Rattle.jp_eval.specs.declared.question.Question.TheVariants as questions
 use Rattle.jp_eval.specs.declared.program.Invoked.{Invoked}
 use Rattle.jp_eval.specs.declared.program.Slot.{Slot}
 use Rattle.jp_eval.specs.declared.program.Slot.TheOpen.{Slot-F}
 use Rattle.jp_eval.specs.declared.program.Slot.TheViews.{roll-Slot}
 use Rattle.std.proofs.lemmas.List.{drop_all}
 use Rattle.jp_eval.proofs.Lists.{item_at}
-use Rattle.jp_eval.proofs.Sizes.{size_of_segments, size_of_selectors, size_of_logical, size_of_logicals, size_of_arguments}
+use Rattle.jp_eval.proofs.Sizes.{size_of_segments, size_of_selectors, size_of_logical, size_of_logicals, size_of_arguments, size_of_call}
 use Rattle.jp_eval.proofs.Views.{path_viewed, call_viewed, compare_viewed, nodes_viewed, condition_viewed, result_viewed}
-use Rattle.jp_eval.proofs.Compiled.{child_seen, descendant_seen, filter_seen, or_seen, and_seen, not_seen, exists_seen, test_seen, single_seen, result_seen, child_is, descendant_is, filter_is, or_is, and_is, not_is, compare_is, exists_is, test_is, single_is, result_is, nodes_given, condition_given, result_given, slot_is, current_is, invoked_is}
+use Rattle.jp_eval.proofs.Compiled.{child_seen, descendant_seen, filter_seen, or_seen, and_seen, not_seen, exists_seen, single_seen, result_seen, child_is, descendant_is, filter_is, or_is, and_is, not_is, asks_is, test_is, single_is, result_is, nodes_given, condition_given, result_given, slot_is, current_is, invoked_is}
 use Rattle.jp_eval.proofs.Meanings.{means_by, both_mean, one_more, none_more, slot_means, slot_made, whole}
 use Rattle.jp_eval.proofs.compile.+compile.Goals as goal
 
@@ -45,10 +47,7 @@ pub compile_logical-returns-in_ok-parts-in-And : goal.compile_logical-returns-in
 compile_logical-returns-in_ok-parts-in-And t c = means_by syntax.and_all (λ (table : Table). condition_view table (conditions.And c.in_ok-parts-in-And.parts)) (logical_view c.args.expression.now) (λ table. and_is table c.in_ok-parts-in-And.parts) (ap logical_view c.in-And.is ∙ (and_seen c.in-And.parts ∙ ap (λ (l : List Logical). syntax.and_all (logicals_view l)) (sym c.deref-in-And.ensures.value))) c.in_ok-parts-in-And.ensures
 
 pub compile_logical-returns-in_ok-nodes-in-Exists : goal.compile_logical-returns-in_ok-nodes-in-Exists
-compile_logical-returns-in_ok-nodes-in-Exists t c = means_by syntax.exists (λ (table : Table). condition_view table (conditions.Exists c.in_ok-nodes-in-Exists.nodes)) (logical_view c.args.expression.now) (λ table. exists_is table c.in_ok-nodes-in-Exists.nodes) (ap logical_view c.in-Exists.is ∙ exists_seen c.in-Exists.path) c.in_ok-nodes-in-Exists.ensures
-
-pub compile_logical-returns-in_ok-invoked-in-Test : goal.compile_logical-returns-in_ok-invoked-in-Test
-compile_logical-returns-in_ok-invoked-in-Test t c = means_by syntax.test (λ (table : Table). condition_view table (conditions.Test c.in_ok-invoked-in-Test.invoked)) (logical_view c.args.expression.now) (λ table. test_is table c.in_ok-invoked-in-Test.invoked) (ap logical_view c.in-Test.is ∙ test_seen c.in-Test.call) c.in_ok-invoked-in-Test.ensures
+compile_logical-returns-in_ok-nodes-in-Exists t c = means_by syntax.exists (λ (table : Table). condition_view table (conditions.Asks c.in_ok-nodes-in-Exists.nodes questions.Exists)) (logical_view c.args.expression.now) (λ table. asks_is table c.in_ok-nodes-in-Exists.nodes questions.Exists) (ap logical_view c.in-Exists.is ∙ exists_seen c.in-Exists.path) c.in_ok-nodes-in-Exists.ensures
 
 pub compile_side-returns-in_ok-nodes-in-Single : goal.compile_side-returns-in_ok-nodes-in-Single
 compile_side-returns-in_ok-nodes-in-Single t c = means_by syntax.single (λ (table : Table). side_view table (sides.Single c.in_ok-nodes-in-Single.nodes)) (comparable_view c.args.side.now) (λ table. single_is table c.in_ok-nodes-in-Single.nodes) (ap comparable_view c.in-Single.is ∙ single_seen c.in-Single.path) c.in_ok-nodes-in-Single.ensures
@@ -74,8 +73,8 @@ compile_logical-returns-in_ok-new-in-Not t c =
 pub compile_logical-returns-in_ok-right-in-Compare : goal.compile_logical-returns-in_ok-right-in-Compare
 compile_logical-returns-in_ok-right-in-Compare t c =
     let op = c.in-Compare.op in
-    both_mean (λ (a b : syntax.Comparable). syntax.compare a (op_view op) b) (λ (table : Table). condition_view table (conditions.Compare c.in_ok-left-in-Compare.left op c.in_ok-right-in-Compare.right)) (logical_view c.args.expression.now)
-    (λ table. compare_is table c.in_ok-left-in-Compare.left op c.in_ok-right-in-Compare.right)
+    both_mean (λ (a b : syntax.Comparable). syntax.compare a (op_view op) b) (λ (table : Table). condition_view table c.comparison.result) (logical_view c.args.expression.now)
+    c.comparison.ensures
     (ap logical_view c.in-Compare.is ∙ compare_viewed c.in-Compare.left op c.in-Compare.right)
     c.in_ok-left-in-Compare.ensures c.in_ok-right-in-Compare.ensures
 
@@ -91,7 +90,7 @@ pub compile_path-returns-in_ok-steps-in-Current : goal.compile_path-returns-in_o
 compile_path-returns-in_ok-steps-in-Current t c =
     means_by (syntax.path syntax.current) (λ (table : Table). nodes_view table (paths.Current c.in_ok-steps-in-Current.steps)) (path_view c.args.path.now)
     (λ table. current_is table c.in_ok-steps-in-Current.steps)
-    (path_viewed c.args.path.now ∙ (ap (λ (o : Origin). syntax.path (origin_view o) (segments_view c.args.path.now.segments.items)) c.in-Current.is ∙ ap (λ (l : List Segment). syntax.path syntax.current (segments_view l)) (sym c.deref-in-Current.ensures.value)))
+    (path_viewed c.args.path.now ∙ (ap (λ (o : Origin). syntax.path (origin_view o) (segments_view c.args.path.now.segments.items)) c.in-Current.is ∙ ap (λ (l : List Segment). syntax.path syntax.current (segments_view l)) (sym c.deref-in-Current-2.ensures.value)))
     c.in_ok-steps-in-Current.ensures
 
 pub compile_logical-compile_side-requires-in-Compare : goal.compile_logical-compile_side-requires-in-Compare
@@ -177,3 +176,22 @@ compile_arguments-loop-argument-preserved t c =
 
 pub compile_arguments-returns : goal.compile_arguments-returns
 compile_arguments-returns t c = none_more given_view c.loop-argument.compiled.items arguments_of (ap (map argument_view) (drop_all c.loop-argument.argument-index c.args.arguments.now c.loop-argument-test.false)) c.loop-argument.invariant.means
+
+-- ---- a text that the query matches with a pattern that it spells
+
+pub compile_test-compile_path-requires : goal.compile_test-compile_path-requires
+compile_test-compile_path-requires t c =
+    let seen = c.in-Some.ensures in
+    let passes = subst (λ (v : syntax.Call). call_passes v readable ≡ true) seen c.requires.literals in
+    let size = ap size_of_call seen in
+    (omega (arith, size, c.decreases), (and_parts _ _ passes).0)
+
+pub compile_test-returns : goal.compile_test-returns
+compile_test-returns t c = means_by syntax.test (λ (table : Table). condition_view table (conditions.Test c.in_ok-invoked.invoked)) (syntax.test (call_view c.args.call.now)) (λ table. test_is table c.in_ok-invoked.invoked) refl c.in_ok-invoked.ensures
+
+pub compile_test-returns-in-Some : goal.compile_test-returns-in-Some
+compile_test-returns-in-Some t c =
+    let asked = questions.Passes c.in-Some.whole c.in_ok-pattern.pattern in
+    means_by (question_view asked) (λ (table : Table). condition_view table (conditions.Asks c.in_ok-nodes.nodes asked)) (syntax.test (call_view c.args.call.now)) (λ table. asks_is table c.in_ok-nodes.nodes asked)
+    (ap syntax.test (c.in-Some.ensures ∙ ap (λ (l : syntax.Literal). syntax.call (passing_name c.in-Some.whole) (syntax.argument (syntax.nodes_argument (path_view c.in-Some.path.now)) (syntax.argument (syntax.constant_argument l) syntax.no_arguments))) (sym c.in_ok-pattern.ensures)))
+    c.in_ok-nodes.ensures

@@ -1,11 +1,11 @@
 -- What was added is what the steps select, and what was answered is what the parts of a filter mean.
-use Rattle.std.proofs.Common.{rules, w64, ℤ, Bool, ◌≡◌, ◌∙◌, ◌+◌, ◌-◌, ◌++◌, [], ◌∷◌, List, ℕ, true, false, refl, map, take, drop, length, filter, flat_map, sym, ap, ap₂, subst, arith, Some, Option}
+use Rattle.std.proofs.Common.{rules, w64, ℤ, Bool, ◌≡◌, ◌∙◌, ◌+◌, ◌-◌, ◌++◌, [], ◌∷◌, List, ℕ, true, false, refl, map, take, drop, length, filter, flat_map, sym, ap, ap₂, append-nil, subst, arith, Some, Option}
 use Rattle.std.specs.Prelude.{IfOk, OnOk, not}
 use Rattle.jp_model.specs.Json.Tree.{Tree, Value}
 use Rattle.jp_model.specs.Meaning.Nodes.{Node, children, children_where, subtree}
 use Rattle.jp_model.specs.Steps.{Step}
-use Rattle.jp_model.specs.Meaning.Selecting.{nodes, selected, select, truth, path_nodes, given_by, call_value, call_truth}
-use Rattle.jp_model.specs.Meaning.Slices.{named, indexed, sliced, is_index}
+use Rattle.jp_model.specs.Meaning.Selecting.{nodes, segment_nodes, selected, select, truth, path_nodes, given_by, call_value, call_truth}
+use Rattle.jp_model.specs.Meaning.Slices.{sliced, is_index}
 use Rattle.jp_model.specs.Meaning.Functions.{counted, in_pattern, single_value, literal_value}
 use Rattle.jp_model.specs.Query.Syntax as syntax
 use Rattle.jp_model.specs.Query.Syntax.{Segments}
@@ -14,11 +14,12 @@ use Rattle.jp_tape.specs.declared.cursor.Cursor.{Cursor}
 use Rattle.jp_tape.specs.Cursors.{line_of, place_of, node_of, nodes_from, nodes_after}
 use Rattle.jp_values.specs.declared.value.Value.{Value as Side}
 use Rattle.jp_values.specs.Values.{value_view}
-use Rattle.jp_eval.specs.Found.{node_list}
-use Rattle.jp_eval.specs.Frames.{table_in, passes_given, AreKept}
+use Rattle.jp_eval.specs.Frames.{table_in, passes_given, AreKept, Pushes}
 use Rattle.jp_eval.specs.Functions.{passing}
-use Rattle.jp_eval.specs.MemberTests.{tested}
-use Rattle.jp_eval.specs.Programs.{steps_view, choices_view, choice_view, condition_view, nodes_view, invoked_view, given_view}
+use Rattle.jp_eval.specs.Questions.{answered}
+use Rattle.jp_eval.specs.Keys.{key_view}
+use Rattle.jp_eval.specs.Steps.{step_nodes}
+use Rattle.jp_eval.specs.Programs.{Table, slot_in, step_view, steps_view, choices_view, choice_view, condition_view, nodes_view, invoked_view, given_view}
 use Rattle.jp_eval.specs.Walks.{IsAt, rises}
 use Rattle.jp_eval.specs.declared.frame.Answer.{Answer}
 use Rattle.jp_eval.specs.declared.frame.Frame.{Frame}
@@ -29,43 +30,33 @@ use Rattle.jp_query.specs.View.{literal_view}
 use Rattle.std.proofs.Math.Logic.{∥∥₁_elim}
 use Rattle.jp_eval.specs.declared.leaves.LiteralPattern.{LiteralPattern}
 use Rattle.jp_eval.specs.declared.program.Choice.{Choice}
+use Rattle.jp_eval.specs.declared.program.Condition.{Condition}
+use Rattle.jp_eval.specs.declared.program.Nodes.{Nodes}
+use Rattle.jp_eval.specs.declared.program.Step.{Step as ProgramStep}
+use Rattle.jp_eval.specs.declared.question.Question.{Question}
 use Rattle.jp_eval.specs.declared.program.Given.{Given as Held}
 use Rattle.jp_eval.specs.declared.program.Invoked.{Invoked}
 use Rattle.jp_eval.proofs.Answered.{told_before}
 use Rattle.jp_eval.proofs.Childless.{none_first, none_selected}
 use Rattle.jp_eval.proofs.Calls.{called, match_called, search_called, few_called, many_called, none_called, several_called}
-use Rattle.jp_eval.proofs.Compiled.{name_is, index_is, slice_is, nodes_given, pattern_given}
+use Rattle.jp_eval.proofs.Compiled.{chosen_is, asks_is, slot_is, slice_is, nodes_given, pattern_given}
 use Rattle.jp_eval.proofs.Counts.{counted_so, single_found, none_single}
 use Rattle.jp_eval.proofs.Descendants.{below_at}
-use Rattle.jp_eval.proofs.Goes.{Goes, others_are, goes_from, is_done, is_full, now_is, filter_taken, filter_passed, filter_alike, filter_all, filter_none, nothing_added}
+use Rattle.jp_eval.proofs.Goes.{Goes, others_are, goes_from, is_done, is_full, now_is, filter_taken, filter_passed, filter_all, filter_none, nothing_added}
 use Rattle.jp_eval.proofs.Kept.{adds_none, adds_more, cut_back, line_on, line_of_some}
 use Rattle.jp_eval.proofs.Lists.{item_at, one_item, two_items}
 use Rattle.jp_eval.proofs.Patterns.{told, one_proof}
-use Rattle.jp_eval.proofs.SingularSteps.{last_goes, last_goes_from}
+use Rattle.jp_eval.proofs.Following.{select_is}
+use Rattle.jp_eval.proofs.Asked.{asks_so}
+use Rattle.jp_eval.proofs.SingularSteps.{one_selects}
 use Rattle.jp_eval.proofs.Sizes.{size_of_selectors}
 use Rattle.jp_eval.proofs.Slices.{none_risen}
 use Rattle.jp_eval.proofs.Walks.{chosen_from, chosen_here, passed_here, at_next, index_fits}
 use Rattle.std.proofs.lemmas.Bool.{ltb-true, ltb-false}
 use Rattle.std.proofs.lemmas.List.{drop_all}
-use Rattle.std.specs.Str.{chars}
-use Rattle.std.specs.Prelude.{string_bytes}
 use mir.Val.{to_z, of_z}
 use Rattle.jp_eval.proofs.run.+eval.Goals as goal
-use Rattle.jp_eval.proofs.run.+eval.Goals.{push_filtered-then-branch+in_ok-push_steps, push_filtered-else-branch, push_tested-then-branch+in_ok-push_steps, push_tested-else-branch, call_value-in_default-via-then-as_slice-lt1, call_value-in_default-via-else-as_slice-lt1+else-this-lt2, call_truth-in-Some-Match, call_truth-in-Some-Search, push_rising-then-has+in_ok-push_steps, push_rising-else-has, push_rising-then-len-most-via-then-len-most, push_rising-then-len-most-via-else-len-most+then-ends_before, find_single-then-len-before, find_single-else-len-before}
-
--- ---- the last step
-
-pub push_next-returns : goal.push_next-returns
-push_next-returns t c =
-    let u : Tree = (node_of c.args.run.root.now).tree in
-    let found : List Node = nodes (steps_view (table_in c.args.run) c.args.steps.now) (node_of c.args.node ∷ []) u in
-    let last : node_list c.in-Some.end ≡ found =
-    last_goes (table_in c.args.run) u c.args.steps.now c.last-item.result (node_of c.args.node) (node_list c.in-Some.end) (omega arith) c.last-item.is (c.in-Some.ensures.nodes (table_in c.args.run) u) in
-    record {
-      adds = c.push_end.ensures.adds;
-      kept = c.push_end.ensures.kept;
-      nodes = subst (λ (l : List Node). OnOk c.push_end.result (map node_of c.push_end.new.frame.found.items ≡ take c.args.most (map node_of c.args.frame.now.found.items ++ l))) last c.push_end.ensures.nodes;
-    }
+use Rattle.jp_eval.proofs.run.+eval.Goals.{call_truth-in-Some-Match, call_truth-in-Some-Search, push_filtered-then-branch, push_filtered-else-branch, push_filtered-then-branch-2+in_ok-push_steps, push_filtered-else-branch-2, call_value-in_default-via-then-as_slice-lt1, call_value-in_default-via-else-as_slice-lt1+else-this-lt2, push_rising-then-has+in_ok-push_steps, push_rising-else-has, push_rising-then-len-most-via-then-len-most, push_rising-then-len-most-via-else-len-most+then-ends_before, find_single-then-len-before, find_single-else-len-before}
 
 -- ---- children
 
@@ -143,158 +134,39 @@ push_filtered-loop-next-preserved t c =
     let u : Tree = (node_of c.args.run.root.now).tree in
     let ss : Segments = steps_view (table_in c.args.run) c.args.rest.now in
     let p = λ (n : Node). truth (condition_view (table_in c.args.run) c.args.condition.now) n u in
-    let child : Cursor = c.in-Some-next.child in
+    let child : Cursor = c.in-Some.child in
     let kept = c.loop-next.invariant in
     let next : Option Cursor = c.next_sibling-next.result in
     let here : Goes (line_of c.args.run.root.now) c.args.most c.args.frame.now.found.items c.holds.new.frame.found.items (nodes ss (filter p (node_of child ∷ nodes_after child)) u) (nodes ss (filter p (children (node_of c.args.node))) u) =
-    now_is c.holds.new.frame.found.items c.in_ok-holds.ensures.lends.same (others_are (nodes ss (filter p (nodes_from (Some child))) u) (ap (λ (o : Option Cursor). nodes ss (filter p (nodes_from o)) u) c.in-Some-next.is) kept.goes) in
-    let goes : Goes (line_of c.args.run.root.now) c.args.most c.args.frame.now.found.items c.if-branch.frame.found.items (nodes ss (filter p (nodes_after child)) u) (nodes ss (filter p (children (node_of c.args.node))) u) =
-    elim c.if-branch.branch [
-      | push_filtered-then-branch+in_ok-push_steps w ↦
-          (let taken : p (node_of child) ≡ true = sym c.in_ok-holds.ensures.value ∙ w.if-branch.true in
-          now_is c.if-branch.frame.found.items (ap (λ (v : Frame). v.found.items) w.frame-is)
+    now_is c.holds.new.frame.found.items c.in_ok-holds.ensures.lends.same (others_are (nodes ss (filter p (nodes_from (Some child))) u) (ap (λ (o : Option Cursor). nodes ss (filter p (nodes_from o)) u) c.in-Some.is) kept.goes) in
+    let goes : Goes (line_of c.args.run.root.now) c.args.most c.args.frame.now.found.items c.if-branch-2.frame.found.items (nodes ss (filter p (nodes_after child)) u) (nodes ss (filter p (children (node_of c.args.node))) u) =
+    elim c.if-branch-2.branch [
+      | push_filtered-then-branch-2+in_ok-push_steps w ↦
+          (let taken : p (node_of child) ≡ true = sym c.in_ok-holds.ensures.value ∙ w.if-branch-2.true in
+          now_is c.if-branch-2.frame.found.items (ap (λ (v : Frame). v.found.items) w.frame-is)
           (goes_from w.push_steps.new.frame.found.items ss u (node_of child ∷ []) (filter p (nodes_after child))
           (others_are (nodes ss (node_of child ∷ filter p (nodes_after child)) u) (ap (λ (l : List Node). nodes ss l u) (filter_taken p (node_of child) (nodes_after child) taken)) here)
           w.in_ok-push_steps.ensures.adds w.in_ok-push_steps.ensures.nodes))
-      | push_filtered-else-branch w ↦
-          (let passed : p (node_of child) ≡ false = sym c.in_ok-holds.ensures.value ∙ w.if-branch.false in
-          now_is c.if-branch.frame.found.items (ap (λ (v : Frame). v.found.items) w.frame-is)
+      | push_filtered-else-branch-2 w ↦
+          (let passed : p (node_of child) ≡ false = sym c.in_ok-holds.ensures.value ∙ w.if-branch-2.false in
+          now_is c.if-branch-2.frame.found.items (ap (λ (v : Frame). v.found.items) w.frame-is)
           (others_are (nodes ss (filter p (nodes_after child)) u) (ap (λ (l : List Node). nodes ss l u) (filter_passed p (node_of child) (nodes_after child) passed)) here))
     ] in
     record {
       goes = others_are (nodes ss (filter p (nodes_from next)) u) (ap (λ (l : List Node). nodes ss (filter p l) u) (sym c.next_sibling-next.ensures.nodes)) goes;
-      kept = elim c.if-branch.branch [
-        | push_filtered-then-branch+in_ok-push_steps w ↦ subst (λ (f : Frame). AreKept c.args.run f.answers.items) (sym w.frame-is) w.in_ok-push_steps.ensures.kept
-        | push_filtered-else-branch w ↦ subst (λ (f : Frame). AreKept c.args.run f.answers.items) (sym w.frame-is) c.in_ok-holds.ensures.lends.kept
+      kept = elim c.if-branch-2.branch [
+        | push_filtered-then-branch-2+in_ok-push_steps w ↦ subst (λ (f : Frame). AreKept c.args.run f.answers.items) (sym w.frame-is) w.in_ok-push_steps.ensures.kept
+        | push_filtered-else-branch-2 w ↦ subst (λ (f : Frame). AreKept c.args.run f.answers.items) (sym w.frame-is) c.in_ok-holds.ensures.lends.kept
       ];
-      line = line_on next _ _ c.next_sibling-next.ensures.line (line_of_some _ child _ c.in-Some-next.is kept.line);
+      line = line_on next _ _ c.next_sibling-next.ensures.line (line_of_some _ child _ c.in-Some.is kept.line);
     }
 
-pub push_filtered-returns : goal.push_filtered-returns
-push_filtered-returns t c =
+pub push_filtered-returns-2 : goal.push_filtered-returns-2
+push_filtered-returns-2 t c =
     let u : Tree = (node_of c.args.run.root.now).tree in
     let ss : Segments = steps_view (table_in c.args.run) c.args.rest.now in
     let p = λ (n : Node). truth (condition_view (table_in c.args.run) c.args.condition.now) n u in
-    record { adds = c.loop-next.invariant.goes.kept; kept = c.loop-next.invariant.kept; nodes = is_done c.loop-next.invariant.goes (ap (λ (o : Option Cursor). nodes ss (filter p (nodes_from o)) u) c.in_default-next.is ∙ no_nodes ss u) }
-
-pub push_filtered-returns-in-Some : goal.push_filtered-returns-in-Some
-push_filtered-returns-in-Some t c =
-    let u : Tree = (node_of c.args.run.root.now).tree in
-    let ss : Segments = steps_view (table_in c.args.run) c.args.rest.now in
-    let p = λ (n : Node). truth (condition_view (table_in c.args.run) c.args.condition.now) n u in
-    let same : filter (tested c.in-Some.test) (children (node_of c.args.node)) ≡ filter p (children (node_of c.args.node)) =
-    filter_alike (tested c.in-Some.test) p (children (node_of c.args.node)) (λ n. sym (c.in-Some.ensures (table_in c.args.run) n u)) in
-    record {
-      adds = c.push_tested.ensures.adds;
-      kept = c.push_tested.ensures.kept;
-      nodes = subst (λ (l : List Node). OnOk c.push_tested.result (map node_of c.push_tested.new.frame.found.items ≡ take c.args.most (map node_of c.args.frame.now.found.items ++ nodes ss l u))) same c.push_tested.ensures.nodes;
-    }
-
--- ---- tests of a member
-
-pub push_tested-returns-in_err-holds_of : goal.push_tested-returns-in_err-holds_of
-push_tested-returns-in_err-holds_of t c = record { adds = c.loop-next.invariant.goes.kept; kept = c.loop-next.invariant.kept; nodes = search rules }
-
-pub push_tested-returns-in_err-push_steps : goal.push_tested-returns-in_err-push_steps
-push_tested-returns-in_err-push_steps t c = record { adds = adds_more c.loop-next.invariant.goes.kept c.in_err-push_steps.ensures.adds; kept = c.in_err-push_steps.ensures.kept; nodes = search rules }
-
-pub push_tested-loop-next-preserved : goal.push_tested-loop-next-preserved
-push_tested-loop-next-preserved t c =
-    let u : Tree = (node_of c.args.run.root.now).tree in
-    let ss : Segments = steps_view (table_in c.args.run) c.args.rest.now in
-    let p = tested c.args.test in
-    let child : Cursor = c.in-Some-next.child in
-    let kept = c.loop-next.invariant in
-    let next : Option Cursor = c.next_sibling-next.result in
-    let here : Goes (line_of c.args.run.root.now) c.args.most c.args.frame.now.found.items c.loop-next.frame.found.items (nodes ss (filter p (node_of child ∷ nodes_after child)) u) (nodes ss (filter p (children (node_of c.args.node))) u) =
-    others_are (nodes ss (filter p (nodes_from (Some child))) u) (ap (λ (o : Option Cursor). nodes ss (filter p (nodes_from o)) u) c.in-Some-next.is) kept.goes in
-    let goes : Goes (line_of c.args.run.root.now) c.args.most c.args.frame.now.found.items c.if-branch.frame.found.items (nodes ss (filter p (nodes_after child)) u) (nodes ss (filter p (children (node_of c.args.node))) u) =
-    elim c.if-branch.branch [
-      | push_tested-then-branch+in_ok-push_steps w ↦
-          (let taken : p (node_of child) ≡ true = sym c.in_ok-holds_of.ensures ∙ w.if-branch.true in
-          now_is c.if-branch.frame.found.items (ap (λ (v : Frame). v.found.items) w.frame-is)
-          (goes_from w.push_steps.new.frame.found.items ss u (node_of child ∷ []) (filter p (nodes_after child))
-          (others_are (nodes ss (node_of child ∷ filter p (nodes_after child)) u) (ap (λ (l : List Node). nodes ss l u) (filter_taken p (node_of child) (nodes_after child) taken)) here)
-          w.in_ok-push_steps.ensures.adds w.in_ok-push_steps.ensures.nodes))
-      | push_tested-else-branch w ↦
-          (let passed : p (node_of child) ≡ false = sym c.in_ok-holds_of.ensures ∙ w.if-branch.false in
-          now_is c.if-branch.frame.found.items (ap (λ (v : Frame). v.found.items) w.frame-is)
-          (others_are (nodes ss (filter p (nodes_after child)) u) (ap (λ (l : List Node). nodes ss l u) (filter_passed p (node_of child) (nodes_after child) passed)) here))
-    ] in
-    record {
-      goes = others_are (nodes ss (filter p (nodes_from next)) u) (ap (λ (l : List Node). nodes ss (filter p l) u) (sym c.next_sibling-next.ensures.nodes)) goes;
-      kept = elim c.if-branch.branch [
-        | push_tested-then-branch+in_ok-push_steps w ↦ subst (λ (f : Frame). AreKept c.args.run f.answers.items) (sym w.frame-is) w.in_ok-push_steps.ensures.kept
-        | push_tested-else-branch w ↦ subst (λ (f : Frame). AreKept c.args.run f.answers.items) (sym w.frame-is) kept.kept
-      ];
-      line = line_on next _ _ c.next_sibling-next.ensures.line (line_of_some _ child _ c.in-Some-next.is kept.line);
-    }
-
-pub push_tested-returns-2 : goal.push_tested-returns-2
-push_tested-returns-2 t c =
-    let u : Tree = (node_of c.args.run.root.now).tree in
-    let ss : Segments = steps_view (table_in c.args.run) c.args.rest.now in
-    record { adds = c.loop-next.invariant.goes.kept; kept = c.loop-next.invariant.kept; nodes = is_done c.loop-next.invariant.goes (ap (λ (o : Option Cursor). nodes ss (filter (tested c.args.test) (nodes_from o)) u) c.in_default.is ∙ no_nodes ss u) }
-
-pub push_tested-returns : goal.push_tested-returns
-push_tested-returns t c =
-    let u : Tree = (node_of c.args.run.root.now).tree in
-    let member : Node → List Node = named (chars (string_bytes c.in-Some.name.now.text)) in
-    let starts : List Node = filter (tested c.args.test) (children (node_of c.args.node)) in
-    let last : flat_map member starts ≡ nodes (steps_view (table_in c.args.run) c.args.rest.now) starts u =
-    last_goes_from (table_in c.args.run) u c.args.rest.now c.step-item.result member starts (omega arith) c.step-item.is (λ n. c.in-Some.ensures (table_in c.args.run) n u) in
-    record {
-      adds = c.push_members.ensures.adds;
-      kept = c.push_members.ensures.kept;
-      nodes = subst (λ (l : List Node). OnOk c.push_members.result (map node_of c.push_members.new.frame.found.items ≡ take c.args.most (map node_of c.args.frame.now.found.items ++ l))) last c.push_members.ensures.nodes;
-    }
-
--- ---- all children, or none
-
-pub push_all_or_none-returns-in_default : goal.push_all_or_none-returns-in_default
-push_all_or_none-returns-in_default t c =
-    let u : Tree = (node_of c.args.run.root.now).tree in
-    let ss : Segments = steps_view (table_in c.args.run) c.args.rest.now in
-    let p = λ (n : Node). truth (condition_view (table_in c.args.run) c.args.condition.now) n u in
-    let none : filter p (children (node_of c.args.node)) ≡ [] = ap (filter p) (sym c.first_child.ensures.nodes ∙ ap nodes_from c.in_default.is) in
-    record {
-      adds = adds_none (line_of c.args.run.root.now) c.args.frame.now.found.items c.args.frame.now.found.items refl;
-      kept = c.requires.stands.kept;
-      nodes = nothing_added c.args.most c.args.frame.now.found.items ss u (filter p (children (node_of c.args.node))) c.requires.room none;
-    }
-
-pub push_all_or_none-returns-then-branch : goal.push_all_or_none-returns-then-branch
-push_all_or_none-returns-then-branch t c =
-    let u : Tree = (node_of c.args.run.root.now).tree in
-    let ss : Segments = steps_view (table_in c.args.run) c.args.rest.now in
-    let p = λ (n : Node). truth (condition_view (table_in c.args.run) c.args.condition.now) n u in
-    let old : List Cursor = c.args.frame.now.found.items in
-    let new : List Cursor = c.push_children.new.frame.found.items in
-    let below : List Node = children (node_of c.args.node) in
-    let child : Node = node_of c.in-Some.child in
-    let first : p child ≡ true = sym c.in_ok-holds.ensures.value ∙ c.if-branch.true in
-    let all : filter p below ≡ below = filter_all p below (λ n. c.requires.same n child u ∙ first) in
-    record {
-      adds = adds_more c.in_ok-holds.ensures.lends.adds c.push_children.ensures.adds;
-      kept = c.push_children.ensures.kept;
-      nodes = subst (λ (l : List Node). OnOk c.push_children.result (map node_of new ≡ take c.args.most (map node_of old ++ nodes ss l u))) (sym all)
-          (subst (λ (l : List Cursor). OnOk c.push_children.result (map node_of new ≡ take c.args.most (map node_of l ++ nodes ss below u))) c.in_ok-holds.ensures.lends.same c.push_children.ensures.nodes);
-    }
-
-pub push_all_or_none-returns-else-branch : goal.push_all_or_none-returns-else-branch
-push_all_or_none-returns-else-branch t c =
-    let u : Tree = (node_of c.args.run.root.now).tree in
-    let ss : Segments = steps_view (table_in c.args.run) c.args.rest.now in
-    let p = λ (n : Node). truth (condition_view (table_in c.args.run) c.args.condition.now) n u in
-    let below : List Node = children (node_of c.args.node) in
-    let child : Node = node_of c.in-Some.child in
-    let first : p child ≡ false = sym c.in_ok-holds.ensures.value ∙ c.if-branch.false in
-    let none : filter p below ≡ [] = filter_none p below (λ n. c.requires.same n child u ∙ first) in
-    record {
-      adds = c.in_ok-holds.ensures.lends.adds;
-      kept = c.in_ok-holds.ensures.lends.kept;
-      nodes = ap (map node_of) c.in_ok-holds.ensures.lends.same ∙ nothing_added c.args.most c.args.frame.now.found.items ss u (filter p below) c.requires.room none;
-    }
+    record { adds = c.loop-next.invariant.goes.kept; kept = c.loop-next.invariant.kept; nodes = is_done c.loop-next.invariant.goes (ap (λ (o : Option Cursor). nodes ss (filter p (nodes_from o)) u) c.in_default-2.is ∙ no_nodes ss u) }
 
 -- ---- from each of some nodes
 
@@ -368,24 +240,6 @@ push_choices-returns t c =
     let n : Node = node_of c.args.node in
     let all : List Choice = c.args.choices.now in
     record { adds = c.loop-choice.invariant.goes.kept; kept = c.loop-choice.invariant.kept; nodes = is_done c.loop-choice.invariant.goes (ap (λ (l : List Choice). nodes ss (selected (choices_view (table_in c.args.run) l) n u) u) (drop_all c.loop-choice.choice-index all c.loop-choice-test.false) ∙ no_nodes ss u) }
-
-pub push_choice-returns-in-None : goal.push_choice-returns-in-None
-push_choice-returns-in-None t c =
-    let u : Tree = (node_of c.args.run.root.now).tree in
-    let ss : Segments = steps_view (table_in c.args.run) c.args.rest.now in
-    let n : Node = node_of c.args.node in
-    let none : select (choice_view (table_in c.args.run) c.args.choice.now) n u ≡ [] =
-    ap (λ (x : Choice). select (choice_view (table_in c.args.run) x) n u) c.in-Name.is ∙ (ap (λ (x : syntax.Selector). select x n u) (name_is (table_in c.args.run) c.in-Name.name) ∙ (ap (λ (x : List ℕ). named (chars x) n) (sym c.as_str.ensures.value) ∙ sym c.in-None.ensures.nodes)) in
-    record { adds = adds_none (line_of c.args.run.root.now) c.args.frame.now.found.items c.args.frame.now.found.items refl; kept = c.requires.stands.kept; nodes = nothing_added c.args.most c.args.frame.now.found.items ss u (select (choice_view (table_in c.args.run) c.args.choice.now) n u) c.requires.room none }
-
-pub push_choice-returns-in-None-find_element : goal.push_choice-returns-in-None-find_element
-push_choice-returns-in-None-find_element t c =
-    let u : Tree = (node_of c.args.run.root.now).tree in
-    let ss : Segments = steps_view (table_in c.args.run) c.args.rest.now in
-    let n : Node = node_of c.args.node in
-    let there : indexed c.in-Index.index n ≡ [] = search (rules, c.in-None-find_element.ensures.nodes) in
-    let none : select (choice_view (table_in c.args.run) c.args.choice.now) n u ≡ [] = ap (λ (x : Choice). select (choice_view (table_in c.args.run) x) n u) c.in-Index.is ∙ (ap (λ (x : syntax.Selector). select x n u) (index_is (table_in c.args.run) c.in-Index.index) ∙ there) in
-    record { adds = adds_none (line_of c.args.run.root.now) c.args.frame.now.found.items c.args.frame.now.found.items refl; kept = c.requires.stands.kept; nodes = nothing_added c.args.most c.args.frame.now.found.items ss u (select (choice_view (table_in c.args.run) c.args.choice.now) n u) c.requires.room none }
 
 -- ---- queries within filters
 
@@ -472,36 +326,6 @@ match_given-returns-in-Pattern-clause-value t c =
     let second : value c.args.pattern.now ≡ spelled = ap value c.in-Pattern.is ∙ ap (λ (a : syntax.Argument). (given_by a (node_of c.args.node) (node_of c.args.run.root.now).tree).value) (pattern_given (table_in c.args.run) pattern) in
     ∥∥₁_elim pattern.spelled (one_proof c.read_passes.result _)
     (λ e. subst (λ (v : Bool). IfOk c.read_passes.result (λ b. b ≡ v)) (ap₂ (λ (x y : Option Value). in_pattern (passing c.args.whole) x y) c.in_ok-text.ensures.value (sym second)) (told c.read_passes.result (passing c.args.whole) _ (value_view c.in_ok-text.text) spelled e c.read_passes.ensures))
-
-pub call_truth-returns-in-Some-clause-value : goal.call_truth-returns-in-Some-clause-value
-call_truth-returns-in-Some-clause-value t c =
-    let call : Invoked = c.args.invoked.now in
-    let n : Node = node_of c.args.node in
-    let run : Run = c.args.run in
-    let text : Held = c.text-item.result in
-    let pattern : Held = c.pattern-item.result in
-    let are : text ∷ pattern ∷ [] ≡ call.arguments.items = sym (sym c.as_slice.ensures.value ∙ two_items c.as_slice.result.now text pattern c.text-item.is c.pattern-item.is c.in-len2.len_at_least c.in-len2.len_below) in
-    let answer : passes_given run c.match-which-2.whole text pattern n ≡ call_truth (invoked_view (table_in run) call) n (node_of run.root.now).tree =
-    elim c.match-which-2.branch [
-      | call_truth-in-Some-Match w ↦ (let so : call.named.function ≡ Some functions.Match = cc in ap (λ (b : Bool). passes_given run b text pattern n) w.whole-is ∙ match_called run call text pattern n are so)
-      | call_truth-in-Some-Search w ↦ (let so : call.named.function ≡ Some functions.Search = cc in ap (λ (b : Bool). passes_given run b text pattern n) w.whole-is ∙ search_called run call text pattern n are so)
-    ] in
-    subst (λ (v : Bool). IfOk c.in-Some.answer (λ b. b ≡ v)) answer c.in-Some.ensures
-
-pub call_truth-returns-in-None-clause-value : goal.call_truth-returns-in-None-clause-value
-call_truth-returns-in-None-clause-value t c =
-    let call : Invoked = c.args.invoked.now in
-    let n : Node = node_of c.args.node in
-    let run : Run = c.args.run in
-    let text : Held = c.text-item.result in
-    let pattern : Held = c.pattern-item.result in
-    let are : text ∷ pattern ∷ [] ≡ call.arguments.items = sym (sym c.as_slice.ensures.value ∙ two_items c.as_slice.result.now text pattern c.text-item.is c.pattern-item.is c.in-len2.len_at_least c.in-len2.len_below) in
-    let answer : passes_given run c.match-which-2.whole text pattern n ≡ call_truth (invoked_view (table_in run) call) n (node_of run.root.now).tree =
-    elim c.match-which-2.branch [
-      | call_truth-in-Some-Match w ↦ (let so : call.named.function ≡ Some functions.Match = cc in ap (λ (b : Bool). passes_given run b text pattern n) w.whole-is ∙ match_called run call text pattern n are so)
-      | call_truth-in-Some-Search w ↦ (let so : call.named.function ≡ Some functions.Search = cc in ap (λ (b : Bool). passes_given run b text pattern n) w.whole-is ∙ search_called run call text pattern n are so)
-    ] in
-    subst (λ (v : Bool). IfOk c.match_given.result (λ b. b ≡ v)) answer c.match_given.ensures.value
 
 pub call_value-returns-in_default-clause-value : goal.call_value-returns-in_default-clause-value
 call_value-returns-in_default-clause-value t c =
@@ -631,3 +455,104 @@ push_rising-returns-then-len-most t c =
             is_done c.loop-next.invariant.goes (ap (λ (l : List Node). nodes ss l u) none ∙ no_nodes ss u))
       ];
     }
+
+-- ---- a filter that asks the root
+
+pub push_filtered-returns : goal.push_filtered-returns
+push_filtered-returns t c =
+    let table : Table = table_in c.args.run in
+    let u : Tree = (node_of c.args.run.root.now).tree in
+    let ss : Segments = steps_view table c.args.rest.now in
+    let most : ℕ = c.args.most in
+    let p = λ (n : Node). truth (condition_view table c.args.condition.now) n u in
+    let q : Question = c.in-Asks.question in
+    let asked : Nodes = c.in-Asks.nodes in
+    let old : List Cursor = c.args.frame.now.found.items in
+    let below : List Node = children (node_of c.args.node) in
+    let path : nodes_view table asked ≡ slot_in table c.in-Slot.field-0 = ap (nodes_view table) c.in-Slot.is ∙ slot_is table c.in-Slot.field-0 in
+    let same : (n : Node) → p n ≡ c.in_ok-ask.field-0 = λ n.
+    ap (λ (x : Condition). truth (condition_view table x) n u) c.in-Asks.is
+    ∙ (ap (λ (l : syntax.Logical). truth l n u) (asks_is table asked q)
+    ∙ (asks_so q (nodes_view table asked) n u
+    ∙ (ap (λ (x : syntax.Path). answered q (path_nodes x n u)) path
+    ∙ (sym (ap (λ (x : syntax.Path). answered q (path_nodes x (node_of c.args.node) u)) path) ∙ sym c.in_ok-ask.ensures.value)))) in
+    elim c.if-branch.branch [
+      | push_filtered-then-branch w ↦
+          (let new : List Cursor = w.push_children.new.frame.found.items in
+          let all : filter p below ≡ below = filter_all p below (λ n. same n ∙ w.if-branch.true) in
+          subst (λ (f : Frame). Pushes c.args.run most c.args.frame.now f c.if-branch.result (nodes ss (filter p below) u)) (sym w.frame-is)
+          (subst (λ r. Pushes c.args.run most c.args.frame.now w.push_children.new.frame r (nodes ss (filter p below) u)) (sym w.result-is)
+          (record {
+            adds = adds_more c.in_ok-ask.ensures.lends.adds w.push_children.ensures.adds;
+            kept = w.push_children.ensures.kept;
+            nodes = subst (λ (l : List Node). OnOk w.push_children.result (map node_of new ≡ take most (map node_of old ++ nodes ss l u))) (sym all)
+                (subst (λ (l : List Cursor). OnOk w.push_children.result (map node_of new ≡ take most (map node_of l ++ nodes ss below u))) c.in_ok-ask.ensures.lends.same w.push_children.ensures.nodes);
+          })))
+      | push_filtered-else-branch w ↦
+          (let none : filter p below ≡ [] = filter_none p below (λ n. same n ∙ w.if-branch.false) in
+          subst (λ (f : Frame). Pushes c.args.run most c.args.frame.now f c.if-branch.result (nodes ss (filter p below) u)) (sym w.frame-is)
+          (subst (λ r. Pushes c.args.run most c.args.frame.now c.ask.new.frame r (nodes ss (filter p below) u)) (sym w.result-is)
+          (record {
+            adds = c.in_ok-ask.ensures.lends.adds;
+            kept = c.in_ok-ask.ensures.lends.kept;
+            nodes = ap (map node_of) c.in_ok-ask.ensures.lends.same ∙ nothing_added most old ss u (filter p below) c.requires.room none;
+          })))
+    ]
+
+-- ---- no child of that name or index
+
+pub push_choice-returns-in-None : goal.push_choice-returns-in-None
+push_choice-returns-in-None t c =
+    let u : Tree = (node_of c.args.run.root.now).tree in
+    let ss : Segments = steps_view (table_in c.args.run) c.args.rest.now in
+    let n : Node = node_of c.args.node in
+    let none : select (choice_view (table_in c.args.run) c.args.choice.now) n u ≡ [] =
+    ap (λ (x : Choice). select (choice_view (table_in c.args.run) x) n u) c.in-One.is ∙ (ap (λ (x : syntax.Selector). select x n u) (chosen_is (table_in c.args.run) c.in-One.key) ∙ (select_is (key_view c.in-One.key) n u ∙ sym c.in-None.ensures.nodes)) in
+    record { adds = adds_none (line_of c.args.run.root.now) c.args.frame.now.found.items c.args.frame.now.found.items refl; kept = c.requires.stands.kept; nodes = nothing_added c.args.most c.args.frame.now.found.items ss u (select (choice_view (table_in c.args.run) c.args.choice.now) n u) c.requires.room none }
+
+pub push_next-returns-in-None-find : goal.push_next-returns-in-None-find
+push_next-returns-in-None-find t c =
+    let table : Table = table_in c.args.run in
+    let u : Tree = (node_of c.args.run.root.now).tree in
+    let n : Node = node_of c.args.node in
+    let old : List Cursor = c.args.frame.now.found.items in
+    let step : ProgramStep = c.in-Some-One-default.field-0-0.now in
+    let rest : List ProgramStep = c.in-Some-One-default.rest.now in
+    let there : step_nodes (key_view c.in-Some-One-default.key) n ≡ [] = search (rules, c.in-None-find.ensures.nodes) in
+    let none : segment_nodes (step_view table step) n u ≡ [] = one_selects table step c.in-Some-One-default.key n u c.in-Some-One-default.field-0-0-is ∙ there in
+    let all : nodes (steps_view table c.args.steps.now) (n ∷ []) u ≡ nodes (steps_view table rest) (segment_nodes (step_view table step) n u) u =
+    ap (λ (l : List ProgramStep). nodes (steps_view table l) (n ∷ []) u) c.in-Some-One-default.ensures.cases.0 ∙ ap (λ (l : List Node). nodes (steps_view table rest) l u) (append-nil (segment_nodes (step_view table step) n u)) in
+    record {
+      adds = adds_none (line_of c.args.run.root.now) old old refl;
+      kept = c.requires.stands.kept;
+      nodes = subst (λ (l : List Node). map node_of old ≡ take c.args.most (map node_of old ++ l)) (sym all) (nothing_added c.args.most old (steps_view table rest) u (segment_nodes (step_view table step) n u) c.requires.room none);
+    }
+
+-- ---- patterns that the query spells
+
+pub ask-returns-in_ok-value-in-Passes-clause-value : goal.ask-returns-in_ok-value-in-Passes-clause-value
+ask-returns-in_ok-value-in-Passes-clause-value t c =
+    let pattern : LiteralPattern = c.in-Passes.pattern in
+    let spelled : Option Value = Some (literal_value (literal_view pattern.constant.literal)) in
+    let own : Option Value = value_view c.in_ok-value-in-Passes.value in
+    let found : List Node = path_nodes (nodes_view (table_in c.args.run) c.args.nodes.now) (node_of c.args.node) (node_of c.args.run.root.now).tree in
+    let test = passing c.in-Passes.whole in
+    let is : in_pattern test own spelled ≡ answered c.args.question.now found =
+    ap (λ (v : Option Value). in_pattern test v spelled) c.in_ok-value-in-Passes.ensures.value ∙ sym (ap (λ (q : Question). answered q found) c.in-Passes.is) in
+    ∥∥₁_elim pattern.spelled (one_proof c.read_passes.result _)
+    (λ e. subst (λ (b : Bool). IfOk c.read_passes.result (λ a. a ≡ b)) is (told c.read_passes.result test _ own spelled e c.read_passes.ensures))
+
+pub call_truth-returns-clause-value : goal.call_truth-returns-clause-value
+call_truth-returns-clause-value t c =
+    let call : Invoked = c.args.invoked.now in
+    let n : Node = node_of c.args.node in
+    let run : Run = c.args.run in
+    let text : Held = c.text-item.result in
+    let pattern : Held = c.pattern-item.result in
+    let are : text ∷ pattern ∷ [] ≡ call.arguments.items = sym (sym c.as_slice.ensures.value ∙ two_items c.as_slice.result.now text pattern c.text-item.is c.pattern-item.is c.in-len2.len_at_least c.in-len2.len_below) in
+    let answer : passes_given run c.match-which-2.whole text pattern n ≡ call_truth (invoked_view (table_in run) call) n (node_of run.root.now).tree =
+    elim c.match-which-2.branch [
+      | call_truth-in-Some-Match w ↦ (let so : call.named.function ≡ Some functions.Match = cc in ap (λ (b : Bool). passes_given run b text pattern n) w.whole-is ∙ match_called run call text pattern n are so)
+      | call_truth-in-Some-Search w ↦ (let so : call.named.function ≡ Some functions.Search = cc in ap (λ (b : Bool). passes_given run b text pattern n) w.whole-is ∙ search_called run call text pattern n are so)
+    ] in
+    subst (λ (v : Bool). IfOk c.match_given.result (λ b. b ≡ v)) answer c.match_given.ensures.value

@@ -7,7 +7,6 @@ use Rattle.jp_model.specs.Meaning.Slices.{is_index}
 use Rattle.jp_tape.specs.Cursors.{line_of, place_of, node_of, nodes_from}
 use Rattle.jp_eval.specs.Expressions.{all_are}
 use Rattle.jp_eval.specs.Frames.{table_in, tree_in, AreKept}
-use Rattle.jp_eval.specs.MemberTests.{tested}
 use Rattle.jp_eval.specs.Programs.{steps_view, choices_view, choice_view, conditions_view, condition_view, side_view, nodes_view, invoked_view, given_view}
 use Rattle.jp_eval.specs.Walks.{IsAt, rises}
 use Rattle.jp_eval.proofs.Goes.{Goes}
@@ -45,26 +44,20 @@ decreases-push_from_each l = size_of_segments (steps_view (table_in l.run) l.res
 abbrev pub decreases-push_filtered : goal.decreases-push_filtered
 decreases-push_filtered l = size_of_logical (condition_view (table_in l.run) l.condition.now) + size_of_segments (steps_view (table_in l.run) l.rest.now) + 4
 
-abbrev pub decreases-push_tested : goal.decreases-push_tested
-decreases-push_tested l = size_of_segments (steps_view (table_in l.run) l.rest.now) + 2
-
-abbrev pub decreases-push_all_or_none : goal.decreases-push_all_or_none
-decreases-push_all_or_none l = size_of_logical (condition_view (table_in l.run) l.condition.now) + size_of_segments (steps_view (table_in l.run) l.rest.now) + 3
-
 abbrev pub decreases-holds : goal.decreases-holds
-decreases-holds l = size_of_logical (condition_view (table_in l.run) l.condition.now)
+decreases-holds l = size_of_logical (condition_view (table_in l.run) l.condition.now) + 1
+
+abbrev pub decreases-holds_by_parts : goal.decreases-holds_by_parts
+decreases-holds_by_parts l = size_of_logical (condition_view (table_in l.run) l.condition.now)
+
+abbrev pub decreases-ask : goal.decreases-ask
+decreases-ask l = size_of_path (nodes_view (table_in l.run) l.nodes.now) + 3
 
 abbrev pub decreases-are_all : goal.decreases-are_all
 decreases-are_all l = size_of_logicals (conditions_view (table_in l.run) l.parts.now)
 
-abbrev pub decreases-holds_within : goal.decreases-holds_within
-decreases-holds_within l = size_of_logical (condition_view (table_in l.run) l.condition.now) + 1
-
 abbrev pub decreases-compare_values : goal.decreases-compare_values
 decreases-compare_values l = size_of_comparable (side_view (table_in l.run) l.left.now) + size_of_comparable (side_view (table_in l.run) l.right.now) + 2
-
-abbrev pub decreases-compare_sides : goal.decreases-compare_sides
-decreases-compare_sides l = size_of_comparable (side_view (table_in l.run) l.left.now) + size_of_comparable (side_view (table_in l.run) l.right.now) + 1
 
 abbrev pub decreases-side_value : goal.decreases-side_value
 decreases-side_value l = size_of_comparable (side_view (table_in l.run) l.side.now)
@@ -152,18 +145,6 @@ invariant-push_filtered-loop-next l =
 
 abbrev pub decreases-push_filtered-loop-next : goal.decreases-push_filtered-loop-next
 decreases-push_filtered-loop-next l = length (nodes_from l.next)
-
-abbrev pub invariant-push_tested-loop-next : goal.invariant-push_tested-loop-next
-invariant-push_tested-loop-next l =
-    let t = tree_in l.run in
-    record {
-      goes : Goes (line_of l.run.root.now) l.most l.fn.frame.found.items l.frame.found.items (nodes (steps_view (table_in l.run) l.rest) (filter (tested l.test) (nodes_from l.next)) t) (nodes (steps_view (table_in l.run) l.rest) (filter (tested l.test) (children (node_of l.node))) t);
-      kept : AreKept l.run l.frame.answers.items;
-      line : IfSome l.next (λ c. line_of c ≡ line_of l.run.root.now);
-    }
-
-abbrev pub decreases-push_tested-loop-next : goal.decreases-push_tested-loop-next
-decreases-push_tested-loop-next l = length (nodes_from l.next)
 
 abbrev pub invariant-push_from_each-loop-start : goal.invariant-push_from_each-loop-start
 invariant-push_from_each-loop-start l =

@@ -8,22 +8,22 @@ use Rattle.jp_tape.specs.declared.cursor.Cursor.{Cursor}
 use Rattle.jp_eval.specs.Found.{node_list}
 use Rattle.jp_eval.specs.Programs.{steps_view}
 use Rattle.jp_eval.specs.declared.program.Step.{Step}
-use Rattle.jp_eval.proofs.SingularSteps.{goes_on}
+use Rattle.jp_eval.proofs.SingularSteps.{goes_on, one_selects}
 use Rattle.jp_eval.proofs.singular.singular_path.Goals as goal
 
-pub returns-in_default-end-clause-nodes : goal.returns-in_default-end-clause-nodes
-returns-in_default-end-clause-nodes c = λ table t.
+pub returns-in_default-find-clause-nodes : goal.returns-in_default-find-clause-nodes
+returns-in_default-find-clause-nodes c = λ table t.
     let all : List Step = c.args.steps.now in
     let i = c.loop-step.step-index in
     sym (no_nodes (steps_view table (drop (i + 1) all)) t)
     ∙ goes_on table t all i c.step-item.result (node_of c.loop-step.node) [] _ c.loop-step-test.true c.step-item.is
-    (ap node_list (sym c.in_default-end.is) ∙ c.in-Some.ensures.nodes table t) (c.loop-step.invariant.left table t)
+    (ap node_list (sym c.in_default-find.is) ∙ (c.find.ensures.nodes ∙ sym (one_selects table c.step-item.result c.in-One.key (node_of c.loop-step.node) t c.in-One.is))) (c.loop-step.invariant.left table t)
 
 pub loop-step-preserved : goal.loop-step-preserved
 loop-step-preserved c = record {
   left = λ table t.
-      goes_on table t c.args.steps.now c.loop-step.step-index c.step-item.result (node_of c.loop-step.node) (node_of c.in-Some-end.child ∷ []) _ c.loop-step-test.true c.step-item.is
-      (ap node_list (sym c.in-Some-end.is) ∙ c.in-Some.ensures.nodes table t) (c.loop-step.invariant.left table t);
+      goes_on table t c.args.steps.now c.loop-step.step-index c.step-item.result (node_of c.loop-step.node) (node_of c.in-Some.child ∷ []) _ c.loop-step-test.true c.step-item.is
+      (ap node_list (sym c.in-Some.is) ∙ (c.find.ensures.nodes ∙ sym (one_selects table c.step-item.result c.in-One.key (node_of c.loop-step.node) t c.in-One.is))) (c.loop-step.invariant.left table t);
   line = search rules;
 }
 
