@@ -32,3 +32,4 @@ pub mod Truncated
 pub mod Refused
 pub mod Statuses
 mod Apart
+mod Doubts

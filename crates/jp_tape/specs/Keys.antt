@@ -1,5 +1,5 @@
 -- A word that stands for the bytes of a name.
-use Rattle.std.specs.Prelude.{◌≡◌, ◌+◌, ◌-◌, ◌*◌, ◌^◌, ◌/◌, ◌%◌, ◌++◌, ◌∷◌, [], ℕ, List, length, map, get_or, take, drop, replicate, cond, nat_lt, false}
+use Rattle.std.specs.Prelude.{◌≡◌, ◌<◌, ◌+◌, ◌-◌, ◌*◌, ◌^◌, ◌/◌, ◌%◌, ◌++◌, ◌∷◌, [], ℕ, List, length, map, get_or, take, drop, replicate, cond, nat_lt, Bool, false, ◌==◌}
 use Rattle.std.specs.Int.{w64, from_le_bytes}
 use Rattle.jp_model.specs.Json.Faults.{has_repeated}
 use Rattle.jp_tape.specs.declared.builder.body.Body.{Body}
@@ -23,6 +23,24 @@ other_place_of bytes = (length bytes % 64 * 4 + 3 * get_or bytes (length bytes -
 -- the keys of bodies
 abbrev pub keys_of : List Body → List ℕ
 keys_of bodies = map (λ (b : Body). key_of b.bytes.now) bodies
+
+-- one of 2^16 slots for a key
+unfoldable pub slot_of : ℕ → ℕ
+slot_of key = key * 0xD6E8FEB86659FD93 % 2 ^ 64 / 2 ^ 48
+
+-- how often a slot was hit, after one more hit; 2 stands for more than once
+abbrev pub hit_again : ℕ → ℕ
+hit_again hits = cond (hits == 0) 1 2
+
+-- the key shares its slot with another
+abbrev pub shares_slot : List ℕ → ℕ → Bool
+shares_slot hits key = get_or hits (slot_of key) 0 == 2
+
+-- the first keys have hit their slots, and equal ones more than once
+pub record AreHit (keys : List ℕ) (count : ℕ) (hits : List ℕ) : Type 0 where
+  pub size : length hits ≡ 2 ^ 16
+  pub once : (k : ℕ) → k < count → 0 < get_or hits (slot_of (get_or keys k 0)) 0
+  pub twice : (j k : ℕ) → j < k → k < count → get_or keys j 0 ≡ get_or keys k 0 → get_or hits (slot_of (get_or keys k 0)) 0 ≡ 2
 
 -- no two numbers are the same
 abbrev pub AreApart : List ℕ → Type 0

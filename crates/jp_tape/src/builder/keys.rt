@@ -4,10 +4,10 @@ ghost use Rattle.std.specs.Prelude.{◌≡◌, ◌<◌, ◌≤◌, ◌+◌, ◌-
 ghost use Rattle.jp_model.specs.Json.Faults.{has_repeated};
 ghost use Rattle.jp_tape.specs.declared.builder.body.Body.{Body};
 ghost use Rattle.jp_tape.specs.Names.{all_points};
-ghost use Rattle.jp_tape.specs.Keys.{word_at as the_word, key_of, keys_of, place_of, other_place_of, AreApart};
+ghost use Rattle.jp_tape.specs.Keys.{word_at as the_word, key_of, keys_of, place_of, other_place_of, slot_of, hit_again, shares_slot, AreApart, AreHit};
 
 use super::body::Body;
-use std::alloc::AllocError;
+use std::alloc::{AllocError, Global};
 
 /// The eight bytes at a place.
 #[inline(always)]
@@ -151,11 +151,97 @@ fn push_keys(bodies: &[Body<'_>], keys: &mut Vec<u64>) -> Result<bool, AllocErro
     Ok(true)
 }
 
-/// Whether the bodies differ, judged by their keys. Where it says no, they may differ still. `keys` lends its memory.
-pub(super) fn are_distinct(bodies: &[Body<'_>], keys: &mut Vec<u64>) -> Result<bool, AllocError>
+/// So many keys are sorted at once; of more, only those that share a slot with another.
+const MOST_SORTED: usize = 1 << 10;
+
+/// Keys fall on so many slots. Of more keys than slots most share one, so they are sorted at once too.
+const SLOTS: usize = 1 << 16;
+
+/// Memory for the keys of an object, and for finding those that share a slot.
+#[derive(Drop)]
+pub(super) struct Keys {
+    keys: Vec<u64>,
+    hits: Vec<u8>,
+    doubtful: Vec<u64>,
+}
+
+impl Keys {
+    /// No memory yet.
+    pub(super) fn new(alloc: Global) -> Keys {
+        Keys {
+            keys: Vec::new(alloc),
+            hits: Vec::new(alloc),
+            doubtful: Vec::new(alloc),
+        }
+    }
+}
+
+/// The slot of a key.
+#[inline(always)]
+#[tactic(auto, unfolding(crate::specs::Keys::slot_of))]
+fn slot(key: u64) -> usize
+    ensures value { result ≡ slot_of key }
+    ensures within { result < SLOTS }
+{
+    (key.wrapping_mul(0xD6E8_FEB8_6659_FD93) >> 48) as usize
+}
+
+/// How often a slot was hit, after one more hit: once, or more often, which is 2.
+#[inline(always)]
+fn hit(hits: u8) -> u8
+    ensures { result ≡ hit_again hits }
+{
+    if hits == 0 { 1 } else { 2 }
+}
+
+/// Whether a key shares its slot with another.
+#[inline(always)]
+fn is_shared(hits: &[u8], key: u64) -> bool
+    requires { length hits.now ≡ SLOTS }
+    ensures { result ≡ shares_slot hits.now key }
+{
+    hits[slot(key)] == 2
+}
+
+/// Counts how many keys fall on each slot: none, one, or more, which is 2.
+fn count_hits(keys: &[u64], hits: &mut Vec<u8>) -> Result<(), AllocError>
+    ensures { IfOk result (λ _. AreHit keys.now (length keys.now) hits.new.items) }
+{
+    hits.clear();
+    hits.resize(SLOTS, 0)?;
+    for key in keys {
+        let slot = slot(*key);
+        hits[slot] = hit(hits[slot]);
+    }
+    Ok(())
+}
+
+/// Lists the keys that share a slot with another. All that are equal are among them.
+fn list_doubtful(keys: &[u64], hits: &[u8], doubtful: &mut Vec<u64>) -> Result<(), AllocError>
+    requires { AreHit keys.now (length keys.now) hits.now }
+    ensures { IfOk result (λ _. AreApart doubtful.new.items → AreApart keys.now) }
+{
+    doubtful.clear();
+    for key in keys {
+        if is_shared(hits, *key) {
+            doubtful.push(*key)?;
+        }
+    }
+    Ok(())
+}
+
+/// Whether the bodies differ, judged by their keys. Where it says no, they may differ still. `memory` is lent.
+pub(super) fn are_distinct(bodies: &[Body<'_>], memory: &mut Keys) -> Result<bool, AllocError>
     ensures { IfOk result (λ are_apart. IsTrue are_apart → has_repeated (all_points bodies.now) ≡ false) }
 {
-    keys.clear();
-    let are_plain = push_keys(bodies, keys)?;
-    Ok(are_plain && are_apart(keys))
+    memory.keys.clear();
+    if !push_keys(bodies, &mut memory.keys)? {
+        return Ok(false);
+    }
+    if bodies.len() <= MOST_SORTED || bodies.len() > SLOTS {
+        return Ok(are_apart(&mut memory.keys));
+    }
+    count_hits(&memory.keys, &mut memory.hits)?;
+    list_doubtful(&memory.keys, &memory.hits, &mut memory.doubtful)?;
+    Ok(are_apart(&mut memory.doubtful))
 }

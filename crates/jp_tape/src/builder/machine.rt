@@ -20,6 +20,7 @@ ghost use Rattle.jp_tape.specs.declared.builder.machine.Turn.TheVariants as turn
 use super::BuildFault;
 use super::body::Body;
 use super::escapes::has_escape;
+use super::keys::Keys;
 use super::names::has_equal;
 use super::scan::{is_at, marks_behind, next_token, skip_white};
 use super::tokens::{Label, Scalar, name_at, no_name, plain_name_at, scalar_at, text_at};
@@ -70,7 +71,7 @@ pub struct Builder<'a> {
     /// The bodies of the names in them.
     names: Vec<Body<'a>>,
     /// Memory for their keys.
-    keys: Vec<u64>,
+    keys: Keys,
     /// The marks that are to come.
     marks: &'a [u32],
     pub(super) deepest: usize,
@@ -194,7 +195,6 @@ impl<'a> Builder<'a> {
         ensures words { result.words.items ≡ [] }
         ensures opened { result.opened.items ≡ [] }
         ensures names { result.names.items ≡ [] }
-        ensures keys { result.keys.items ≡ [] }
         ensures marks { result.marks.now ≡ [] }
         ensures deepest { result.deepest ≡ 0 }
         ensures surrogate { result.has_surrogate ≡ false }
@@ -205,7 +205,7 @@ impl<'a> Builder<'a> {
             words: Vec::new(alloc),
             opened: Vec::new(alloc),
             names: Vec::new(alloc),
-            keys: Vec::new(alloc),
+            keys: Keys::new(alloc),
             marks: &[],
             deepest: 0,
             has_surrogate: false,

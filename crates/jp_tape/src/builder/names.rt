@@ -8,7 +8,7 @@ ghost use Rattle.jp_model.specs.Json.Faults.{has_repeated};
 ghost use Rattle.jp_tape.specs.Names.{points, all_points};
 
 use super::body::Body;
-use super::keys::{are_distinct, have_one_of_two_places, have_own_places};
+use super::keys::{Keys, are_distinct, have_one_of_two_places, have_own_places};
 use jp_lanes::equal_bytes;
 use jp_strings::{compare, equal};
 use std::alloc::AllocError;
@@ -94,7 +94,7 @@ fn has_equal_pair(bodies: &[Body<'_>]) -> bool
 
 /// Whether two bodies are equal. It changes their order. `keys` lends its memory.
 #[inline(always)]
-pub(super) fn has_equal(bodies: &mut [Body<'_>], keys: &mut Vec<u64>) -> Result<bool, AllocError>
+pub(super) fn has_equal(bodies: &mut [Body<'_>], keys: &mut Keys) -> Result<bool, AllocError>
     ensures { IfOk result (λ is_repeated. is_repeated ≡ has_repeated (all_points bodies.old)) }
 {
     if bodies.len() < PAIR {
