@@ -4,11 +4,11 @@ use Rattle.std.specs.Prelude.{All, Contains, insert, remove}
 use Rattle.std.specs.Cmp.{IsTotalOrder}
 use Rattle.std.specs.List.Sorted.{IsPartitionPoint, IsPermutation}
 use Rattle.std.specs.Option.{is_some, option_cmp}
-use Rattle.std.specs.Ordering.{is_lt, nat_cmp, ordering_then, ordering_reverse}
+use Rattle.std.specs.Ordering.{is_eq, is_lt, nat_cmp, ordering_then, ordering_reverse}
 use Rattle.std.specs.Cmp.Lexicographic.{options_total}
 use Rattle.std.proofs.lemmas.Bool.{cases_lt}
 use Rattle.std.proofs.lemmas.Bool.Decides.{nat_tests}
-use Rattle.std.proofs.lemmas.Cmp.{nat_cmp_total, on_total, then_total, tied_itself}
+use Rattle.std.proofs.lemmas.Cmp.{alike_right, nat_cmp_total, on_total, then_total, tied_itself}
 use Rattle.std.proofs.lemmas.List.Elements.{All-cons, All-tail}
 use Rattle.std.proofs.lemmas.List.Quantifiers.{all_pairs_remove}
 use Rattle.std.proofs.lemmas.List.Sorted.{All-permutation, Contains-permutation, IsPermutation-insert, IsPermutation-remove}
@@ -30,6 +30,11 @@ less_is : (o : Ordering) → is_lt o ≡ true → o ≡ Less
 less_is Less e = refl
 less_is Equal e = absurd (cc)
 less_is Greater e = absurd (cc)
+
+pub equal_is : (o : Ordering) → true ≡ is_eq o → o ≡ Equal
+equal_is Less e = absurd (cc)
+equal_is Equal e = refl
+equal_is Greater e = absurd (cc)
 
 -- what is not less, nor equal, is greater
 turned : (o p : Ordering) → o ≡ ordering_reverse p → is_lt o ≡ false → (o ≡ Equal → ⊥) → p ≡ Less
@@ -151,3 +156,25 @@ module _ (keys : ℕ → Option Key) where
 
 pub before_falls : (keys : ℕ → Option Key) (line a b : ℕ) → line_order keys a b ≡ Less → is_lt (line_order keys b line) ≡ true → is_lt (line_order keys a line) ≡ true
 before_falls keys line a b e f = ap is_lt ((lines_total keys).trans a b line e (less_is (line_order keys b line) f))
+
+-- ---- keys that are the same in order
+
+same_some : (k l : Option Key) → option_cmp key_order k l ≡ Equal → is_some k ≡ is_some l
+same_some None None e = refl
+same_some None (Some l) e = absurd (cc)
+same_some (Some k) None e = absurd (cc)
+same_some (Some k) (Some l) e = refl
+
+module _ (keys others : ℕ → Option Key) (same : (a : ℕ) → option_cmp key_order (keys a) (others a) ≡ Equal) where
+  same_order : (a b : ℕ) → line_order keys a b ≡ line_order others a b
+  same_order a b =
+      let total = options_total keys_total in
+      ap (λ o. ordering_then o (nat_cmp a b)) (total.congr (keys a) (others a) (keys b) (same a) ∙ alike_right total (keys b) (others b) (others a) (same b))
+
+  -- the order of the lines stays
+  pub by_same_keys : (lines : List ℕ) → AreByKey keys lines → AreByKey others lines
+  by_same_keys lines h = record {
+    ascend = λ j k d low high. sym (same_order _ _) ∙ h.ascend j k d low high;
+    have_keys = λ k d l. sym (same_some _ _ (same (get_or lines k d))) ∙ h.have_keys k d l;
+    are_all = λ a e. h.are_all a (same_some _ _ (same a) ∙ e);
+  }

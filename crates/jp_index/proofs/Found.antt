@@ -1,13 +1,15 @@
 -- The lines that an index finds, and those that it has.
-use Rattle.std.proofs.Common.{◌≡◌, ◌∙◌, ◌↔◌, ℕ, zero, suc, ◌+◌, ◌-◌, ◌^◌, ◌<◌, ◌≤◌, ◌==◌, Bool, true, false, cond, List, [], ◌∷◌, ◌++◌, length, map, get_or, set, drop, Option, Some, None, refl, sym, ap, ap₂, subst, arith, length-append, inl, inr, if◌then◌else◌}
+use Rattle.std.proofs.Common.{◌≡◌, ◌∙◌, ◌↔◌, ℕ, zero, suc, ◌+◌, ◌-◌, ◌^◌, ◌<◌, ◌≤◌, ◌==◌, Bool, true, false, cond, List, [], ◌∷◌, ◌++◌, length, map, get_or, set, drop, Option, Some, None, refl, sym, ap, ap₂, subst, arith, length-append, inl, inr, Equal, if◌then◌else◌}
 use Rattle.std.specs.Prelude.{All, Contains, count_by, filter}
 use Rattle.std.specs.List.{AllPairs}
 use Rattle.std.specs.List.Sorted.{IsPermutation, IsSorted, IsStrictlyIncreasing}
-use Rattle.std.specs.Option.{is_some}
+use Rattle.std.specs.Cmp.Lexicographic.{options_total}
+use Rattle.std.specs.Option.{is_some, option_cmp}
 use Rattle.std.specs.Ordering.{nat_cmp}
 use Rattle.std.proofs.Math.ListN.{length-set}
 use Rattle.std.proofs.lemmas.Bool.{cases_lt}
-use Rattle.std.proofs.lemmas.List.{drop_more, drop_all, map-append, get_or-set_other, get_or_append_left, get_or_past}
+use Rattle.std.proofs.lemmas.Cmp.{tied_itself}
+use Rattle.std.proofs.lemmas.List.{drop_more, drop_all, map-append, get_or-set_other, get_or-set_same, get_or_append_left, get_or_default, get_or_past}
 use Rattle.std.proofs.lemmas.List.Elements.{All-nil, All-cons, All-head, All-tail, All-map}
 use Rattle.std.proofs.lemmas.List.Kept.{AllPairs-cons, AllPairs-filter}
 use Rattle.std.proofs.lemmas.List.Sorted.{Contains-permutation, IsPermutation-sym}
@@ -16,7 +18,8 @@ use Rattle.jp_model.specs.Json.Tree.{Value}
 use Rattle.jp_model.specs.Meaning.Compare.{compared}
 use Rattle.jp_model.specs.Query.Syntax.{CompareOp, not_equal}
 use Rattle.jp_model.specs.Steps.{Step}
-use Rattle.jp_values.specs.Keys.{IsKeyOf}
+use Rattle.jp_values.specs.Keys.{IsKeyOf, key_order}
+use Rattle.jp_values.specs.KeyLaws.{keys_total}
 use Rattle.jp_values.specs.declared.key.Key.{Key}
 use Rattle.jp_index.specs.ByKey.{Ascend, AreByKey, but}
 use Rattle.jp_model.specs.Numbered.{numbers_where}
@@ -26,6 +29,7 @@ use Rattle.jp_index.specs.Entries.{Entry, entry_value, lines_where, entries_at}
 use Rattle.jp_index.specs.Indexes.{IsKeyFor, CellIs, CellsAre}
 use Rattle.jp_index.specs.declared.slot.Slot.{Slot}
 use Rattle.jp_index.proofs.Ascending.{Below, first_of_pairs, rest_of_pairs, same_rising}
+use Rattle.jp_index.proofs.ByKey.{same_or_not}
 use Rattle.jp_index.proofs.Cells.{cell_at, none_below, none_above}
 use Rattle.jp_index.proofs.Edges.{between_is}
 use Rattle.jp_index.proofs.Numbers.{numbers_rise, keyed_passes, passes_keyed, sorted_rise}
@@ -174,6 +178,17 @@ but_set cs line i c e (suc j) = elim (cases_lt j i) [
 
 pub count_set : (cs : List (Option Slot)) (i : ℕ) (c d : Option Slot) → i < length cs → d ≡ get_or cs i d → count_by is_some (set cs i c) + cond (is_some d) 1 0 ≡ count_by is_some cs + cond (is_some c) 1 0
 count_set cs i c d l e = ap (λ x. count_by is_some (set cs i c) + cond (is_some x) 1 0) e ∙ sum_by-set (λ (x : Option Slot). cond (is_some x) 1 0) cs i c d l
+
+-- a cell with the same key
+pub same_set : (cs : List (Option Slot)) (i : ℕ) (c d : Option Slot) → i < length cs → d ≡ get_or cs i d → option_cmp key_order (cell_key d) (cell_key c) ≡ Equal
+    → (a : ℕ) → option_cmp key_order (key_at cs a) (key_at (set cs i c) a) ≡ Equal
+same_set cs i c d l e same zero = refl
+same_set cs i c d l e same (suc j) = elim (same_or_not j i) [
+  | inl is ↦
+      ap₂ (λ (x y : Option Slot). option_cmp key_order (cell_key x) (cell_key y)) (ap (λ k. get_or cs k None) is ∙ (get_or_default cs i None d l ∙ sym e)) (ap (λ k. get_or (set cs i c) k None) is ∙ get_or-set_same cs i c None l)
+      ∙ same
+  | inr other ↦ ap (λ x. option_cmp key_order (key_at cs (suc j)) (cell_key x)) (get_or-set_other cs i j c None other) ∙ tied_itself (options_total keys_total) (key_at cs (suc j))
+]
 
 -- the next cell
 pub numbers_next : (test : Option Slot → Bool) (n : ℕ) (cs : List (Option Slot)) (i : ℕ) (c : Option Slot) → i < length cs → c ≡ get_or cs i c
