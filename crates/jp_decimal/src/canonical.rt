@@ -4,20 +4,21 @@ ghost use Rattle.jp_decimal.specs.Magnitudes.{digits, unsigned_mantissa, exponen
 ghost use Rattle.jp_decimal.specs.Keys.{IsKeyOf, IsSizeOf};
 
 use crate::decimal::Decimal;
-use crate::key::{DecimalKey, KeySize};
+use crate::key::{DecimalKey, Digits, KeySize};
 use crate::measured::Measured;
 use crate::parts::Magnitude;
+use smallvec::SmallVec;
 use std::alloc::{AllocError, Global};
 use std::cmp::Reverse;
 
 impl Magnitude<'_> {
     /// The digits from a place up to another.
-    fn digits_between(&self, alloc: Global, from: usize, to: usize) -> Result<Vec<u8>, AllocError>
+    fn digits_between(&self, alloc: Global, from: usize, to: usize) -> Result<Digits, AllocError>
         requires order { from ≤ to }
         requires within { to ≤ length (digits self.now) }
         ensures { IfOk result (λ found. found.items ≡ slice_range (digits self.now) from to) }
     {
-        let mut found = Vec::new(alloc);
+        let mut found = SmallVec::new(alloc);
         for place in from..to {
             found.push(self.digit(place))?;
         }

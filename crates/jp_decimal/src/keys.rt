@@ -6,6 +6,7 @@ ghost use Rattle.jp_decimal.specs.Keys.{IsKeyOf, key_order};
 ghost use Rattle.jp_decimal.specs.KeyLaws.{keys_total};
 
 use crate::key::{DecimalKey, KeySize};
+use smallvec::SmallVec;
 use std::alloc::{AllocError, Global};
 use std::cmp::{Ordering, Reverse};
 
@@ -17,7 +18,7 @@ impl KeySize {
     {
         Ok(KeySize {
             power: self.power,
-            digits: Vec::from_slice(alloc, self.digits.as_slice())?,
+            digits: SmallVec::from_slice(alloc, self.digits.as_slice())?,
         })
     }
 }

@@ -5,6 +5,6 @@ use Rattle.jp_decimal.proofs.parts.Magnitude.digits_between.Goals as goal
 
 pub loop-place-preserved : goal.loop-place-preserved
 loop-place-preserved c =
-    c.in_ok-push.ensures.items
+    c.in_ok-push.ensures.ok
     ∙ (ap₂ (λ (xs : List ℕ) (d : ℕ). xs ++ d ∷ []) c.loop-place.invariant c.digit.ensures
     ∙ sym (between_more (digits c.args.self.now) c.args.from c.loop-place.place 0x30 (omega arith) (omega arith)))
