@@ -1,5 +1,5 @@
 -- Proofs of the laws.
-pub mod CommonScale
+pub mod Shifted
 pub mod CutPieces
 pub mod Defaults
 pub mod Descendants

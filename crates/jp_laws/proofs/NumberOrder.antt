@@ -3,23 +3,22 @@ use Rattle.std.proofs.Common.{◌≡◌, ℕ, ◌<◌, ℤ, nat_lt, nat_eq, List
 use Rattle.std.specs.Ordering.{ordering_reverse}
 use Rattle.std.proofs.lemmas.Bool.{cases_order, lt-ltb, le-ltb, eq-eqb, ne_eqb, or_cases, or_left, or_right, and_parts, and_from, ltb-true, eqb-true}
 use Rattle.std.proofs.lemmas.Cmp.{tied_back, alike_right}
-use Rattle.jp_laws.proofs.CommonScale.{Decimal, order_total, ten, lower, shifted}
+use Rattle.std.specs.Cmp.{IsTotalOrder}
+use Rattle.jp_decimal.specs.Values.{Number, order}
+use Rattle.jp_laws.proofs.Shifted.{ten, lower, shifted}
 use Rattle.jp_model.specs.Json.Numbers.{number_order, number_less, number_equal}
 use Rattle.jp_model.specs.Json.Tree.{Value, null, boolean, number, string, container, array, object}
 use Rattle.jp_model.specs.Meaning.Compare.{compared, text_less, value_less, values_equal}
 use Rattle.jp_model.specs.Query.Syntax.{CompareOp, equal, not_equal, less, less_equal, greater, greater_equal}
 use Rattle.jp_laws.specs.Values.{exactly_one}
 
-abbrev of : ℤ → ℤ → Decimal
-of m e = record { digits = m; scale = e }
+abbrev of : ℤ → ℤ → Number
+of m e = record { mantissa = m; scale = e }
 
 one_order : (o : Ordering) → exactly_one (is_lt o) (is_eq o) (is_lt (ordering_reverse o)) ≡ true
 one_order Less = refl
 one_order Equal = refl
 one_order Greater = refl
-
-pub numbers_decided : (m e n f : ℤ) → exactly_one (number_less m e n f) (number_equal m e n f) (number_less n f m e) ≡ true
-numbers_decided m e n f = rw (order_total.antisymm (of n f) (of m e)) (one_order (number_order m e n f))
 
 is_equal : (o : Ordering) → is_eq o ≡ true → o ≡ Equal
 is_equal Less h = absurd (cc)
@@ -31,22 +30,28 @@ is_below Less h = refl
 is_below Equal h = absurd (cc)
 is_below Greater h = absurd (cc)
 
-pub numbers_same : (m e n f k g : ℤ) → number_equal m e n f ≡ true → number_equal n f k g ≡ true → number_equal m e k g ≡ true
-numbers_same m e n f k g p q = rw (order_total.congr (of m e) (of n f) (of k g) (is_equal _ p)) q
+-- ---- numbers, by the law that their order is total
 
-pub number_back : (m e n f : ℤ) → number_equal m e n f ≡ true → number_equal n f m e ≡ true
-number_back m e n f p = rw (tied_back order_total (of m e) (of n f) (is_equal _ p)) refl
+module _ (order_total : IsTotalOrder order) where
+  pub numbers_decided : (m e n f : ℤ) → exactly_one (number_less m e n f) (number_equal m e n f) (number_less n f m e) ≡ true
+  numbers_decided m e n f = rw (order_total.antisymm (of n f) (of m e)) (one_order (number_order m e n f))
 
-pub number_itself : (m e : ℤ) → number_equal m e m e ≡ true
-number_itself m e = number_self (number_order m e m e) (order_total.antisymm (of m e) (of m e))
-  where
-    number_self : (o : Ordering) → o ≡ ordering_reverse o → is_eq o ≡ true
-    number_self Less h = absurd (cc)
-    number_self Equal h = refl
-    number_self Greater h = absurd (cc)
+  pub numbers_same : (m e n f k g : ℤ) → number_equal m e n f ≡ true → number_equal n f k g ≡ true → number_equal m e k g ≡ true
+  numbers_same m e n f k g p q = rw (order_total.congr (of m e) (of n f) (of k g) (is_equal _ p)) q
 
-numbers_chain : (m e n f k g : ℤ) → number_less m e n f ≡ true → number_less n f k g ≡ true → number_less m e k g ≡ true
-numbers_chain m e n f k g p q = rw (order_total.trans (of m e) (of n f) (of k g) (is_below _ p) (is_below _ q)) refl
+  pub number_back : (m e n f : ℤ) → number_equal m e n f ≡ true → number_equal n f m e ≡ true
+  number_back m e n f p = rw (tied_back order_total (of m e) (of n f) (is_equal _ p)) refl
+
+  pub number_itself : (m e : ℤ) → number_equal m e m e ≡ true
+  number_itself m e = number_self (number_order m e m e) (order_total.antisymm (of m e) (of m e))
+    where
+      number_self : (o : Ordering) → o ≡ ordering_reverse o → is_eq o ≡ true
+      number_self Less h = absurd (cc)
+      number_self Equal h = refl
+      number_self Greater h = absurd (cc)
+
+  numbers_chain : (m e n f k g : ℤ) → number_less m e n f ≡ true → number_less n f k g ≡ true → number_less m e k g ≡ true
+  numbers_chain m e n f k g p q = rw (order_total.trans (of m e) (of n f) (of k g) (is_below _ p) (is_below _ q)) refl
 
 -- ---- strings
 
@@ -82,73 +87,77 @@ strings_chain (a ∷ x) (b ∷ y) (c ∷ z) p q = join (less_parts a b x y p) (l
     join (inr l) (inl m) again = less_first a c x z (let e = l.0 in omega arith)
     join (inr l) (inr m) again = less_later a c x z (l.0 ∙ m.0) (again l.1 m.1)
 
-values_chain : (x y z : Value) → value_less x y ≡ true → value_less y z ≡ true → value_less x z ≡ true
-values_chain (number m e) (number n f) (number k g) p q = numbers_chain m e n f k g p q
-values_chain (string x) (string y) (string z) p q = strings_chain x y z p q
-values_chain (number m e) (number n f) z p q = absurd (cc)
-values_chain (string x) (string y) z p q = absurd (cc)
-values_chain x y z p q = absurd (cc)
+-- ---- both
 
-pub less_chain : (x y z : Option Value) → compared less x y ≡ true → compared less y z ≡ true → compared less x z ≡ true
-less_chain (Some x) (Some y) (Some z) p q = values_chain x y z p q
-less_chain (Some x) (Some y) None p q = absurd (cc)
-less_chain x y z p q = absurd (cc)
+module _ (order_total : IsTotalOrder order) where
+  values_chain : (x y z : Value) → value_less x y ≡ true → value_less y z ≡ true → value_less x z ≡ true
+  values_chain (number m e) (number n f) (number k g) p q = numbers_chain order_total m e n f k g p q
+  values_chain (string x) (string y) (string z) p q = strings_chain x y z p q
+  values_chain (number m e) (number n f) z p q = absurd (cc)
+  values_chain (string x) (string y) z p q = absurd (cc)
+  values_chain x y z p q = absurd (cc)
+
+  pub less_chain : (x y z : Option Value) → compared less x y ≡ true → compared less y z ≡ true → compared less x z ≡ true
+  less_chain (Some x) (Some y) (Some z) p q = values_chain x y z p q
+  less_chain (Some x) (Some y) None p q = absurd (cc)
+  less_chain x y z p q = absurd (cc)
 
 -- ---- a number by its value
 
 pub same_value : (m e : ℤ) → compared equal (Some (number m e)) (Some (number (ten m) (lower e))) ≡ true
 same_value m e = rw (shifted m e) refl
 
-order_left : (m e n f : ℤ) → number_order (ten m) (lower e) n f ≡ number_order m e n f
-order_left m e n f = sym (order_total.congr (of m e) (of (ten m) (lower e)) (of n f) (shifted m e))
+module _ (order_total : IsTotalOrder order) where
+  order_left : (m e n f : ℤ) → number_order (ten m) (lower e) n f ≡ number_order m e n f
+  order_left m e n f = sym (order_total.congr (of m e) (of (ten m) (lower e)) (of n f) (shifted m e))
 
-order_right : (m e n f : ℤ) → number_order n f (ten m) (lower e) ≡ number_order n f m e
-order_right m e n f = sym (alike_right order_total (of m e) (of (ten m) (lower e)) (of n f) (shifted m e))
+  order_right : (m e n f : ℤ) → number_order n f (ten m) (lower e) ≡ number_order n f m e
+  order_right m e n f = sym (alike_right order_total (of m e) (of (ten m) (lower e)) (of n f) (shifted m e))
 
-equal_left : (m e : ℤ) (y : Value) → values_equal (number (ten m) (lower e)) y ≡ values_equal (number m e) y
-equal_left m e (number n f) = ap is_eq (order_left m e n f)
-equal_left m e y = refl
+  equal_left : (m e : ℤ) (y : Value) → values_equal (number (ten m) (lower e)) y ≡ values_equal (number m e) y
+  equal_left m e (number n f) = ap is_eq (order_left m e n f)
+  equal_left m e y = refl
 
-equal_right : (m e : ℤ) (y : Value) → values_equal y (number (ten m) (lower e)) ≡ values_equal y (number m e)
-equal_right m e (number n f) = ap is_eq (order_right m e n f)
-equal_right m e null = refl
-equal_right m e (boolean b) = refl
-equal_right m e (string x) = refl
-equal_right m e (container array cs) = refl
-equal_right m e (container object cs) = refl
+  equal_right : (m e : ℤ) (y : Value) → values_equal y (number (ten m) (lower e)) ≡ values_equal y (number m e)
+  equal_right m e (number n f) = ap is_eq (order_right m e n f)
+  equal_right m e null = refl
+  equal_right m e (boolean b) = refl
+  equal_right m e (string x) = refl
+  equal_right m e (container array cs) = refl
+  equal_right m e (container object cs) = refl
 
-less_left : (m e : ℤ) (y : Value) → value_less (number (ten m) (lower e)) y ≡ value_less (number m e) y
-less_left m e (number n f) = ap is_lt (order_left m e n f)
-less_left m e y = refl
+  less_left : (m e : ℤ) (y : Value) → value_less (number (ten m) (lower e)) y ≡ value_less (number m e) y
+  less_left m e (number n f) = ap is_lt (order_left m e n f)
+  less_left m e y = refl
 
-less_right : (m e : ℤ) (y : Value) → value_less y (number (ten m) (lower e)) ≡ value_less y (number m e)
-less_right m e (number n f) = ap is_lt (order_right m e n f)
-less_right m e y = refl
+  less_right : (m e : ℤ) (y : Value) → value_less y (number (ten m) (lower e)) ≡ value_less y (number m e)
+  less_right m e (number n f) = ap is_lt (order_right m e n f)
+  less_right m e y = refl
 
-pub value_left : (op : CompareOp) (m e : ℤ) (y : Option Value) → compared op (Some (number (ten m) (lower e))) y ≡ compared op (Some (number m e)) y
-value_left equal m e None = refl
-value_left not_equal m e None = refl
-value_left less m e None = refl
-value_left less_equal m e None = refl
-value_left greater m e None = refl
-value_left greater_equal m e None = refl
-value_left equal m e (Some y) = equal_left m e y
-value_left not_equal m e (Some y) = ap not (equal_left m e y)
-value_left less m e (Some y) = less_left m e y
-value_left less_equal m e (Some y) = ap₂ (λ a b. a || b) (less_left m e y) (equal_left m e y)
-value_left greater m e (Some y) = less_right m e y
-value_left greater_equal m e (Some y) = ap₂ (λ a b. a || b) (less_right m e y) (equal_left m e y)
+  pub value_left : (op : CompareOp) (m e : ℤ) (y : Option Value) → compared op (Some (number (ten m) (lower e))) y ≡ compared op (Some (number m e)) y
+  value_left equal m e None = refl
+  value_left not_equal m e None = refl
+  value_left less m e None = refl
+  value_left less_equal m e None = refl
+  value_left greater m e None = refl
+  value_left greater_equal m e None = refl
+  value_left equal m e (Some y) = equal_left m e y
+  value_left not_equal m e (Some y) = ap not (equal_left m e y)
+  value_left less m e (Some y) = less_left m e y
+  value_left less_equal m e (Some y) = ap₂ (λ a b. a || b) (less_left m e y) (equal_left m e y)
+  value_left greater m e (Some y) = less_right m e y
+  value_left greater_equal m e (Some y) = ap₂ (λ a b. a || b) (less_right m e y) (equal_left m e y)
 
-pub value_right : (op : CompareOp) (m e : ℤ) (y : Option Value) → compared op y (Some (number (ten m) (lower e))) ≡ compared op y (Some (number m e))
-value_right equal m e None = refl
-value_right not_equal m e None = refl
-value_right less m e None = refl
-value_right less_equal m e None = refl
-value_right greater m e None = refl
-value_right greater_equal m e None = refl
-value_right equal m e (Some y) = equal_right m e y
-value_right not_equal m e (Some y) = ap not (equal_right m e y)
-value_right less m e (Some y) = less_right m e y
-value_right less_equal m e (Some y) = ap₂ (λ a b. a || b) (less_right m e y) (equal_right m e y)
-value_right greater m e (Some y) = less_left m e y
-value_right greater_equal m e (Some y) = ap₂ (λ a b. a || b) (less_left m e y) (equal_right m e y)
+  pub value_right : (op : CompareOp) (m e : ℤ) (y : Option Value) → compared op y (Some (number (ten m) (lower e))) ≡ compared op y (Some (number m e))
+  value_right equal m e None = refl
+  value_right not_equal m e None = refl
+  value_right less m e None = refl
+  value_right less_equal m e None = refl
+  value_right greater m e None = refl
+  value_right greater_equal m e None = refl
+  value_right equal m e (Some y) = equal_right m e y
+  value_right not_equal m e (Some y) = ap not (equal_right m e y)
+  value_right less m e (Some y) = less_right m e y
+  value_right less_equal m e (Some y) = ap₂ (λ a b. a || b) (less_right m e y) (equal_right m e y)
+  value_right greater m e (Some y) = less_left m e y
+  value_right greater_equal m e (Some y) = ap₂ (λ a b. a || b) (less_left m e y) (equal_right m e y)

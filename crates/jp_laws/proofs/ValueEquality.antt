@@ -3,6 +3,8 @@ use Rattle.std.proofs.Common.{◌≡◌, ℕ, suc, ◌+◌, ◌≤◌, nat_eq, L
 use Rattle.std.specs.List.{list_any}
 use Rattle.std.proofs.lemmas.Bool.{and_parts, and_from, or_parts, or_cases, or_left, or_right, not-true, eqb-true, eq-eqb, false_from_ne_true, both_ways}
 use Rattle.std.proofs.lemmas.Slice.Eq.{bytes_eq-Decides}
+use Rattle.std.specs.Cmp.{IsTotalOrder}
+use Rattle.jp_decimal.specs.Values.{order}
 use Rattle.jp_model.specs.declared.Span.{Span}
 use Rattle.jp_model.specs.Json.Faults.{names, has_repeated, value_has_duplicate, children_have_duplicate}
 use Rattle.jp_model.specs.Json.Spelling.{Spells, SpellsValue, SpellsFirst, SpellsMore}
@@ -175,23 +177,6 @@ boolean_itself : (b : Bool) → boolean_equal b b ≡ true
 boolean_itself true = refl
 boolean_itself false = refl
 
-mutual
-  pub itself : (v : Value) → Itself v
-  itself null d = refl
-  itself (boolean b) d = boolean_itself b
-  itself (number m e) d = number_itself m e
-  itself (string x) d = text_itself x
-  itself (container array cs) d = elements_itself cs (each_itself cs) (or_parts (has_repeated (names cs)) (children_have_duplicate cs) d).1
-  itself (container object cs) d =
-      let p = or_parts (has_repeated (names cs)) (children_have_duplicate cs) d in
-      and_from _ _ (eq-eqb (count_children cs) (count_children cs) refl) (members_itself cs (each_itself cs) p.0 p.1)
-
-  each_itself : (cs : Children) → Each Itself cs
-  each_itself no_child = tt
-  each_itself (child name (node s v) more) = (itself v, each_itself more)
-
--- ---- symmetric
-
 pub record Plain (v : Value) : Type 0 where
   pub distinct : value_has_duplicate v ≡ false
   pub members : has_members v ≡ true
@@ -203,186 +188,206 @@ plain_each (child name (node s v) more) d m =
     let q = and_parts _ _ m in
     (record { distinct = p.0; members = q.0 }, plain_each more p.1 q.1)
 
-abbrev Back : Value → Type 0
-Back v = (w : Value) → Plain v → Plain w → values_equal v w ≡ true → values_equal w v ≡ true
+-- ---- by the law that the order of numbers is total
 
-boolean_same : (a b : Bool) → boolean_equal a b ≡ true → a ≡ b
-boolean_same true b h = sym h
-boolean_same false true h = absurd (cc)
-boolean_same false false h = refl
+module _ (order_total : IsTotalOrder order) where
+  mutual
+    pub itself : (v : Value) → Itself v
+    itself null d = refl
+    itself (boolean b) d = boolean_itself b
+    itself (number m e) d = number_itself order_total m e
+    itself (string x) d = text_itself x
+    itself (container array cs) d = elements_itself cs (each_itself cs) (or_parts (has_repeated (names cs)) (children_have_duplicate cs) d).1
+    itself (container object cs) d =
+        let p = or_parts (has_repeated (names cs)) (children_have_duplicate cs) d in
+        and_from _ _ (eq-eqb (count_children cs) (count_children cs) refl) (members_itself cs (each_itself cs) p.0 p.1)
 
-elements_back : (xs ys : Children) → Each Back xs → Each Plain xs → Each Plain ys → elements_equal xs ys ≡ true → elements_equal ys xs ≡ true
-elements_back no_child no_child a p q h = refl
-elements_back no_child (child b (node t y) ys) a p q h = absurd (cc)
-elements_back (child n (node s x) xs) no_child a p q h = absurd (cc)
-elements_back (child n (node s x) xs) (child b (node t y) ys) a p q h =
-    let e = and_parts (values_equal x y) (elements_equal xs ys) h in
-    and_from _ _ (a.0 y p.0 q.0 e.0) (elements_back xs ys a.1 p.1 q.1 e.1)
+    each_itself : (cs : Children) → Each Itself cs
+    each_itself no_child = tt
+    each_itself (child name (node s v) more) = (itself v, each_itself more)
 
-names_counted : (cs : Children) → length (names cs) ≤ count_children cs
-names_counted no_child = omega arith
-names_counted (child None t more) = let h = names_counted more in omega arith
-names_counted (child (Some name) t more) = let h = names_counted more in omega arith
+  -- ---- symmetric
 
-members_counted : (cs : Children) → are_members cs ≡ true → count_children cs ≡ length (names cs)
-members_counted no_child m = refl
-members_counted (child None t more) m = absurd (cc)
-members_counted (child (Some name) t more) m = ap suc (members_counted more m)
+  abbrev Back : Value → Type 0
+  Back v = (w : Value) → Plain v → Plain w → values_equal v w ≡ true → values_equal w v ≡ true
 
-members_back : (xs ys : Children) → Each Back xs → Each Plain xs → Each Plain ys → has_repeated (names xs) ≡ false → has_repeated (names ys) ≡ false → are_members xs ≡ true → count_children xs ≡ count_children ys
-    → members_within xs ys ≡ true → members_within ys xs ≡ true
-members_back xs ys a p q r u m c h =
-    let there : Matched xs ys = within_matched xs ys h in
-    let within : (k : List ℕ) → among k (names xs) ≡ true → among k (names ys) ≡ true =
-    λ k g. let f = named_found k xs g in let w = there k f.0 f.1 in found_named k ys w.0 w.1 in
-    let shorter : length (names ys) ≤ length (names xs) = let i = names_counted ys in let j = members_counted xs m in omega arith in
-    matched_within ys xs u (λ k w f.
-    let g = named_found k xs (all_among (names xs) (names ys) r within shorter k (found_named k ys w f)) in
-    let e = there k g.0 g.1 in
-    let same : e.0 ≡ w = unsome (sym e.1 ∙ f) in
-    let forth : values_equal g.0 w ≡ true = subst (λ z. values_equal g.0 z ≡ true) same e.2 in
-    (g.0, g.1, each_found Back k xs g.0 a g.1 w (each_found Plain k xs g.0 p g.1) (each_found Plain k ys w q f) forth))
+  boolean_same : (a b : Bool) → boolean_equal a b ≡ true → a ≡ b
+  boolean_same true b h = sym h
+  boolean_same false true h = absurd (cc)
+  boolean_same false false h = refl
 
-mutual
-  pub back : (v : Value) → Back v
-  back null null p q h = refl
-  back null w p q h = absurd (cc)
-  back (boolean a) (boolean b) p q h = rw (boolean_same a b h) (boolean_itself b)
-  back (boolean a) w p q h = absurd (cc)
-  back (number m e) (number n f) p q h = number_back m e n f h
-  back (number m e) w p q h = absurd (cc)
-  back (string x) (string y) p q h = rw (text_same x y h) (text_itself y)
-  back (string x) w p q h = absurd (cc)
-  back (container array xs) (container array ys) p q h = elements_back xs ys (each_back xs)
-      (plain_each xs (or_parts (has_repeated (names xs)) _ p.distinct).1 p.members) (plain_each ys (or_parts (has_repeated (names ys)) _ q.distinct).1 q.members) h
-  back (container array xs) w p q h = absurd (cc)
-  back (container object xs) (container object ys) p q h =
-      let d = or_parts (has_repeated (names xs)) (children_have_duplicate xs) p.distinct in
-      let e = or_parts (has_repeated (names ys)) (children_have_duplicate ys) q.distinct in
-      let m = and_parts (are_members xs) (each_has_members xs) p.members in
-      let n = and_parts (are_members ys) (each_has_members ys) q.members in
-      let g = and_parts (nat_eq (count_children xs) (count_children ys)) (members_within xs ys) h in
-      let c : count_children xs ≡ count_children ys = eqb-true _ _ g.0 in
-      and_from _ _ (eq-eqb (count_children ys) (count_children xs) (sym c)) (members_back xs ys (each_back xs) (plain_each xs d.1 m.1) (plain_each ys e.1 n.1) d.0 e.0 m.0 c g.1)
-  back (container object xs) w p q h = absurd (cc)
+  elements_back : (xs ys : Children) → Each Back xs → Each Plain xs → Each Plain ys → elements_equal xs ys ≡ true → elements_equal ys xs ≡ true
+  elements_back no_child no_child a p q h = refl
+  elements_back no_child (child b (node t y) ys) a p q h = absurd (cc)
+  elements_back (child n (node s x) xs) no_child a p q h = absurd (cc)
+  elements_back (child n (node s x) xs) (child b (node t y) ys) a p q h =
+      let e = and_parts (values_equal x y) (elements_equal xs ys) h in
+      and_from _ _ (a.0 y p.0 q.0 e.0) (elements_back xs ys a.1 p.1 q.1 e.1)
 
-  each_back : (cs : Children) → Each Back cs
-  each_back no_child = tt
-  each_back (child name (node s v) more) = (back v, each_back more)
+  names_counted : (cs : Children) → length (names cs) ≤ count_children cs
+  names_counted no_child = omega arith
+  names_counted (child None t more) = let h = names_counted more in omega arith
+  names_counted (child (Some name) t more) = let h = names_counted more in omega arith
 
--- ---- transitive
+  members_counted : (cs : Children) → are_members cs ≡ true → count_children cs ≡ length (names cs)
+  members_counted no_child m = refl
+  members_counted (child None t more) m = absurd (cc)
+  members_counted (child (Some name) t more) m = ap suc (members_counted more m)
 
-abbrev On : Value → Type 0
-On v = (w u : Value) → values_equal v w ≡ true → values_equal w u ≡ true → values_equal v u ≡ true
+  members_back : (xs ys : Children) → Each Back xs → Each Plain xs → Each Plain ys → has_repeated (names xs) ≡ false → has_repeated (names ys) ≡ false → are_members xs ≡ true → count_children xs ≡ count_children ys
+      → members_within xs ys ≡ true → members_within ys xs ≡ true
+  members_back xs ys a p q r u m c h =
+      let there : Matched xs ys = within_matched xs ys h in
+      let within : (k : List ℕ) → among k (names xs) ≡ true → among k (names ys) ≡ true =
+      λ k g. let f = named_found k xs g in let w = there k f.0 f.1 in found_named k ys w.0 w.1 in
+      let shorter : length (names ys) ≤ length (names xs) = let i = names_counted ys in let j = members_counted xs m in omega arith in
+      matched_within ys xs u (λ k w f.
+      let g = named_found k xs (all_among (names xs) (names ys) r within shorter k (found_named k ys w f)) in
+      let e = there k g.0 g.1 in
+      let same : e.0 ≡ w = unsome (sym e.1 ∙ f) in
+      let forth : values_equal g.0 w ≡ true = subst (λ z. values_equal g.0 z ≡ true) same e.2 in
+      (g.0, g.1, each_found Back k xs g.0 a g.1 w (each_found Plain k xs g.0 p g.1) (each_found Plain k ys w q f) forth))
 
-elements_on : (xs ys zs : Children) → Each On xs → elements_equal xs ys ≡ true → elements_equal ys zs ≡ true → elements_equal xs zs ≡ true
-elements_on no_child no_child zs a h g = g
-elements_on no_child (child b (node t y) ys) zs a h g = absurd (cc)
-elements_on (child n (node s x) xs) no_child zs a h g = absurd (cc)
-elements_on (child n (node s x) xs) (child b (node t y) ys) no_child a h g = absurd (cc)
-elements_on (child n (node s x) xs) (child b (node t y) ys) (child c (node u z) zs) a h g =
-    let p = and_parts (values_equal x y) (elements_equal xs ys) h in
-    let q = and_parts (values_equal y z) (elements_equal ys zs) g in
-    and_from _ _ (a.0 y z p.0 q.0) (elements_on xs ys zs a.1 p.1 q.1)
+  mutual
+    pub back : (v : Value) → Back v
+    back null null p q h = refl
+    back null w p q h = absurd (cc)
+    back (boolean a) (boolean b) p q h = rw (boolean_same a b h) (boolean_itself b)
+    back (boolean a) w p q h = absurd (cc)
+    back (number m e) (number n f) p q h = number_back order_total m e n f h
+    back (number m e) w p q h = absurd (cc)
+    back (string x) (string y) p q h = rw (text_same x y h) (text_itself y)
+    back (string x) w p q h = absurd (cc)
+    back (container array xs) (container array ys) p q h = elements_back xs ys (each_back xs)
+        (plain_each xs (or_parts (has_repeated (names xs)) _ p.distinct).1 p.members) (plain_each ys (or_parts (has_repeated (names ys)) _ q.distinct).1 q.members) h
+    back (container array xs) w p q h = absurd (cc)
+    back (container object xs) (container object ys) p q h =
+        let d = or_parts (has_repeated (names xs)) (children_have_duplicate xs) p.distinct in
+        let e = or_parts (has_repeated (names ys)) (children_have_duplicate ys) q.distinct in
+        let m = and_parts (are_members xs) (each_has_members xs) p.members in
+        let n = and_parts (are_members ys) (each_has_members ys) q.members in
+        let g = and_parts (nat_eq (count_children xs) (count_children ys)) (members_within xs ys) h in
+        let c : count_children xs ≡ count_children ys = eqb-true _ _ g.0 in
+        and_from _ _ (eq-eqb (count_children ys) (count_children xs) (sym c)) (members_back xs ys (each_back xs) (plain_each xs d.1 m.1) (plain_each ys e.1 n.1) d.0 e.0 m.0 c g.1)
+    back (container object xs) w p q h = absurd (cc)
 
-members_on : (xs ys zs : Children) → Each On xs → members_within xs ys ≡ true → Matched ys zs → members_within xs zs ≡ true
-members_on no_child ys zs a h g = refl
-members_on (child None (node s x) xs) ys zs a h g = members_on xs ys zs a.1 h g
-members_on (child (Some name) (node s x) xs) ys zs a h g =
-    let p = and_parts (member_passes name.points (λ y. values_equal x y) ys) (members_within xs ys) h in
-    let f = passes_found name.points (λ y. values_equal x y) ys p.0 in
-    let e = g name.points f.0 f.1 in
-    and_from _ _ (found_passes name.points (λ z. values_equal x z) zs e.0 e.1 (a.0 f.0 e.0 f.2 e.2)) (members_on xs ys zs a.1 p.1 g)
+    each_back : (cs : Children) → Each Back cs
+    each_back no_child = tt
+    each_back (child name (node s v) more) = (back v, each_back more)
 
-mutual
-  pub on : (v : Value) → On v
-  on null null u h g = g
-  on null w u h g = absurd (cc)
-  on (boolean a) (boolean b) u h g = subst (λ z. values_equal (boolean z) u ≡ true) (sym (boolean_same a b h)) g
-  on (boolean a) w u h g = absurd (cc)
-  on (number m e) (number n f) (number k i) h g = numbers_same m e n f k i h g
-  on (number m e) (number n f) u h g = absurd (cc)
-  on (number m e) w u h g = absurd (cc)
-  on (string x) (string y) u h g = subst (λ z. values_equal (string z) u ≡ true) (sym (text_same x y h)) g
-  on (string x) w u h g = absurd (cc)
-  on (container array xs) (container array ys) (container array zs) h g = elements_on xs ys zs (each_on xs) h g
-  on (container array xs) (container array ys) u h g = absurd (cc)
-  on (container array xs) w u h g = absurd (cc)
-  on (container object xs) (container object ys) (container object zs) h g =
-      let p = and_parts (nat_eq (count_children xs) (count_children ys)) (members_within xs ys) h in
-      let q = and_parts (nat_eq (count_children ys) (count_children zs)) (members_within ys zs) g in
-      and_from _ _ (eq-eqb (count_children xs) (count_children zs) (eqb-true _ _ p.0 ∙ eqb-true _ _ q.0)) (members_on xs ys zs (each_on xs) p.1 (within_matched ys zs q.1))
-  on (container object xs) (container object ys) u h g = absurd (cc)
-  on (container object xs) w u h g = absurd (cc)
+  -- ---- transitive
 
-  each_on : (cs : Children) → Each On cs
-  each_on no_child = tt
-  each_on (child name (node s v) more) = (on v, each_on more)
+  abbrev On : Value → Type 0
+  On v = (w u : Value) → values_equal v w ≡ true → values_equal w u ≡ true → values_equal v u ≡ true
 
--- ---- members in another order
+  elements_on : (xs ys zs : Children) → Each On xs → elements_equal xs ys ≡ true → elements_equal ys zs ≡ true → elements_equal xs zs ≡ true
+  elements_on no_child no_child zs a h g = g
+  elements_on no_child (child b (node t y) ys) zs a h g = absurd (cc)
+  elements_on (child n (node s x) xs) no_child zs a h g = absurd (cc)
+  elements_on (child n (node s x) xs) (child b (node t y) ys) no_child a h g = absurd (cc)
+  elements_on (child n (node s x) xs) (child b (node t y) ys) (child c (node u z) zs) a h g =
+      let p = and_parts (values_equal x y) (elements_equal xs ys) h in
+      let q = and_parts (values_equal y z) (elements_equal ys zs) g in
+      and_from _ _ (a.0 y z p.0 q.0) (elements_on xs ys zs a.1 p.1 q.1)
 
-swap_by : (p q : Bool) (v w : Value) (rest : Option Value) → (p ≡ true → q ≡ true → ⊥) → cond p (Some v) (cond q (Some w) rest) ≡ cond q (Some w) (cond p (Some v) rest)
-swap_by true true v w rest h = absurd (h refl refl)
-swap_by true false v w rest h = refl
-swap_by false true v w rest h = refl
-swap_by false false v w rest h = refl
+  members_on : (xs ys zs : Children) → Each On xs → members_within xs ys ≡ true → Matched ys zs → members_within xs zs ≡ true
+  members_on no_child ys zs a h g = refl
+  members_on (child None (node s x) xs) ys zs a h g = members_on xs ys zs a.1 h g
+  members_on (child (Some name) (node s x) xs) ys zs a h g =
+      let p = and_parts (member_passes name.points (λ y. values_equal x y) ys) (members_within xs ys) h in
+      let f = passes_found name.points (λ y. values_equal x y) ys p.0 in
+      let e = g name.points f.0 f.1 in
+      and_from _ _ (found_passes name.points (λ z. values_equal x z) zs e.0 e.1 (a.0 f.0 e.0 f.2 e.2)) (members_on xs ys zs a.1 p.1 g)
 
-found_swapped : (k : List ℕ) (front rest : Children) (a b : Name) (x y : Tree) → bytes_eq a.points b.points ≡ false
-    → found k (joined front (child (Some a) x (child (Some b) y rest))) ≡ found k (joined front (child (Some b) y (child (Some a) x rest)))
-found_swapped k no_child rest a b (node s v) (node t w) d =
-    swap_by (bytes_eq k a.points) (bytes_eq k b.points) v w (found k rest) (λ p q. both_ways (bytes_eq a.points b.points) d ((bytes_eq-Decides a.points b.points).1 (sym (text_same k a.points p) ∙ text_same k b.points q)))
-found_swapped k (child None t more) rest a b x y d = found_swapped k more rest a b x y d
-found_swapped k (child (Some name) (node s v) more) rest a b x y d = ap (cond (bytes_eq k name.points) (Some v)) (found_swapped k more rest a b x y d)
+  mutual
+    pub on : (v : Value) → On v
+    on null null u h g = g
+    on null w u h g = absurd (cc)
+    on (boolean a) (boolean b) u h g = subst (λ z. values_equal (boolean z) u ≡ true) (sym (boolean_same a b h)) g
+    on (boolean a) w u h g = absurd (cc)
+    on (number m e) (number n f) (number k i) h g = numbers_same order_total m e n f k i h g
+    on (number m e) (number n f) u h g = absurd (cc)
+    on (number m e) w u h g = absurd (cc)
+    on (string x) (string y) u h g = subst (λ z. values_equal (string z) u ≡ true) (sym (text_same x y h)) g
+    on (string x) w u h g = absurd (cc)
+    on (container array xs) (container array ys) (container array zs) h g = elements_on xs ys zs (each_on xs) h g
+    on (container array xs) (container array ys) u h g = absurd (cc)
+    on (container array xs) w u h g = absurd (cc)
+    on (container object xs) (container object ys) (container object zs) h g =
+        let p = and_parts (nat_eq (count_children xs) (count_children ys)) (members_within xs ys) h in
+        let q = and_parts (nat_eq (count_children ys) (count_children zs)) (members_within ys zs) g in
+        and_from _ _ (eq-eqb (count_children xs) (count_children zs) (eqb-true _ _ p.0 ∙ eqb-true _ _ q.0)) (members_on xs ys zs (each_on xs) p.1 (within_matched ys zs q.1))
+    on (container object xs) (container object ys) u h g = absurd (cc)
+    on (container object xs) w u h g = absurd (cc)
 
-neighbours_differ : (front rest : Children) (a b : Name) (x y : Tree) → has_repeated (names (joined front (child (Some a) x (child (Some b) y rest)))) ≡ false → bytes_eq a.points b.points ≡ false
-neighbours_differ no_child rest a b x y h =
-    let p = or_parts (among a.points (b.points ∷ names rest)) (has_repeated (b.points ∷ names rest)) h in
-    (or_parts (bytes_eq a.points b.points) (among a.points (names rest)) p.0).0
-neighbours_differ (child None t more) rest a b x y h = neighbours_differ more rest a b x y h
-neighbours_differ (child (Some name) t more) rest a b x y h = neighbours_differ more rest a b x y (or_parts (among name.points (names (joined more (child (Some a) x (child (Some b) y rest))))) (has_repeated (names (joined more (child (Some a) x (child (Some b) y rest))))) h).1
+    each_on : (cs : Children) → Each On cs
+    each_on no_child = tt
+    each_on (child name (node s v) more) = (on v, each_on more)
 
-swapped_count : (front rest : Children) (a b : Name) (x y : Tree) → count_children (joined front (child (Some a) x (child (Some b) y rest))) ≡ count_children (joined front (child (Some b) y (child (Some a) x rest)))
-swapped_count no_child rest a b x y = refl
-swapped_count (child name t more) rest a b x y = ap suc (swapped_count more rest a b x y)
+  -- ---- members in another order
 
--- ---- sides of comparisons
+  swap_by : (p q : Bool) (v w : Value) (rest : Option Value) → (p ≡ true → q ≡ true → ⊥) → cond p (Some v) (cond q (Some w) rest) ≡ cond q (Some w) (cond p (Some v) rest)
+  swap_by true true v w rest h = absurd (h refl refl)
+  swap_by true false v w rest h = refl
+  swap_by false true v w rest h = refl
+  swap_by false false v w rest h = refl
 
-plain_value : (v : Value) → is_plain (Some v) ≡ true → Plain v
-plain_value v h = let p = and_parts _ _ h in record { distinct = not-true _ p.0; members = p.1 }
+  found_swapped : (k : List ℕ) (front rest : Children) (a b : Name) (x y : Tree) → bytes_eq a.points b.points ≡ false
+      → found k (joined front (child (Some a) x (child (Some b) y rest))) ≡ found k (joined front (child (Some b) y (child (Some a) x rest)))
+  found_swapped k no_child rest a b (node s v) (node t w) d =
+      swap_by (bytes_eq k a.points) (bytes_eq k b.points) v w (found k rest) (λ p q. both_ways (bytes_eq a.points b.points) d ((bytes_eq-Decides a.points b.points).1 (sym (text_same k a.points p) ∙ text_same k b.points q)))
+  found_swapped k (child None t more) rest a b x y d = found_swapped k more rest a b x y d
+  found_swapped k (child (Some name) (node s v) more) rest a b x y d = ap (cond (bytes_eq k name.points) (Some v)) (found_swapped k more rest a b x y d)
 
-pub reflexive : (x : Option Value) → is_plain x ≡ true → compared equal x x ≡ true
-reflexive None h = refl
-reflexive (Some v) h = itself v (plain_value v h).distinct
+  neighbours_differ : (front rest : Children) (a b : Name) (x y : Tree) → has_repeated (names (joined front (child (Some a) x (child (Some b) y rest)))) ≡ false → bytes_eq a.points b.points ≡ false
+  neighbours_differ no_child rest a b x y h =
+      let p = or_parts (among a.points (b.points ∷ names rest)) (has_repeated (b.points ∷ names rest)) h in
+      (or_parts (bytes_eq a.points b.points) (among a.points (names rest)) p.0).0
+  neighbours_differ (child None t more) rest a b x y h = neighbours_differ more rest a b x y h
+  neighbours_differ (child (Some name) t more) rest a b x y h = neighbours_differ more rest a b x y (or_parts (among name.points (names (joined more (child (Some a) x (child (Some b) y rest))))) (has_repeated (names (joined more (child (Some a) x (child (Some b) y rest))))) h).1
 
-alike : (a b : Bool) → (a ≡ true → b ≡ true) → (b ≡ true → a ≡ true) → a ≡ b
-alike true b f g = sym (f refl)
-alike false true f g = g refl
-alike false false f g = refl
+  swapped_count : (front rest : Children) (a b : Name) (x y : Tree) → count_children (joined front (child (Some a) x (child (Some b) y rest))) ≡ count_children (joined front (child (Some b) y (child (Some a) x rest)))
+  swapped_count no_child rest a b x y = refl
+  swapped_count (child name t more) rest a b x y = ap suc (swapped_count more rest a b x y)
 
-pub symmetric : (x y : Option Value) → is_plain x ≡ true → is_plain y ≡ true → compared equal x y ≡ compared equal y x
-symmetric None None h g = refl
-symmetric None (Some w) h g = refl
-symmetric (Some v) None h g = refl
-symmetric (Some v) (Some w) h g = alike _ _ (back v w (plain_value v h) (plain_value w g)) (back w v (plain_value w g) (plain_value v h))
+  -- ---- sides of comparisons
 
-pub transitive : (x y z : Option Value) → compared equal x y ≡ true → compared equal y z ≡ true → compared equal x z ≡ true
-transitive None None z h g = g
-transitive None (Some w) z h g = absurd (cc)
-transitive (Some v) None z h g = absurd (cc)
-transitive (Some v) (Some w) None h g = absurd (cc)
-transitive (Some v) (Some w) (Some u) h g = on v w u h g
+  plain_value : (v : Value) → is_plain (Some v) ≡ true → Plain v
+  plain_value v h = let p = and_parts _ _ h in record { distinct = not-true _ p.0; members = p.1 }
 
-pub in_any_order : (front rest : Children) (a b : Name) (x y : Tree) → is_plain (Some (container object (joined front (child (Some a) x (child (Some b) y rest))))) ≡ true
-    → compared equal (Some (container object (joined front (child (Some a) x (child (Some b) y rest))))) (Some (container object (joined front (child (Some b) y (child (Some a) x rest))))) ≡ true
-in_any_order front rest a b x y h =
-    let cs : Children = joined front (child (Some a) x (child (Some b) y rest)) in
-    let ds : Children = joined front (child (Some b) y (child (Some a) x rest)) in
-    let p = or_parts (has_repeated (names cs)) (children_have_duplicate cs) (plain_value (container object cs) h).distinct in
-    let same : Matched cs ds = λ k v f. (v, sym (found_swapped k front rest a b x y (neighbours_differ front rest a b x y p.0)) ∙ f, each_found Itself k cs v (each_itself cs) f (each_found (λ w. value_has_duplicate w ≡ false) k cs v (distinct_each cs p.1) f)) in
-    and_from _ _ (eq-eqb (count_children cs) (count_children ds) (swapped_count front rest a b x y)) (matched_within cs ds p.0 same)
+  pub reflexive : (x : Option Value) → is_plain x ≡ true → compared equal x x ≡ true
+  reflexive None h = refl
+  reflexive (Some v) h = itself v (plain_value v h).distinct
 
-pub turned : (x y : Option Value) → is_plain x ≡ true → is_plain y ≡ true → compared greater_equal x y ≡ compared less_equal y x
-turned x y h g = ap (λ b. is_less y x || b) (symmetric x y h g)
+  alike : (a b : Bool) → (a ≡ true → b ≡ true) → (b ≡ true → a ≡ true) → a ≡ b
+  alike true b f g = sym (f refl)
+  alike false true f g = g refl
+  alike false false f g = refl
+
+  pub symmetric : (x y : Option Value) → is_plain x ≡ true → is_plain y ≡ true → compared equal x y ≡ compared equal y x
+  symmetric None None h g = refl
+  symmetric None (Some w) h g = refl
+  symmetric (Some v) None h g = refl
+  symmetric (Some v) (Some w) h g = alike _ _ (back v w (plain_value v h) (plain_value w g)) (back w v (plain_value w g) (plain_value v h))
+
+  pub transitive : (x y z : Option Value) → compared equal x y ≡ true → compared equal y z ≡ true → compared equal x z ≡ true
+  transitive None None z h g = g
+  transitive None (Some w) z h g = absurd (cc)
+  transitive (Some v) None z h g = absurd (cc)
+  transitive (Some v) (Some w) None h g = absurd (cc)
+  transitive (Some v) (Some w) (Some u) h g = on v w u h g
+
+  pub in_any_order : (front rest : Children) (a b : Name) (x y : Tree) → is_plain (Some (container object (joined front (child (Some a) x (child (Some b) y rest))))) ≡ true
+      → compared equal (Some (container object (joined front (child (Some a) x (child (Some b) y rest))))) (Some (container object (joined front (child (Some b) y (child (Some a) x rest))))) ≡ true
+  in_any_order front rest a b x y h =
+      let cs : Children = joined front (child (Some a) x (child (Some b) y rest)) in
+      let ds : Children = joined front (child (Some b) y (child (Some a) x rest)) in
+      let p = or_parts (has_repeated (names cs)) (children_have_duplicate cs) (plain_value (container object cs) h).distinct in
+      let same : Matched cs ds = λ k v f. (v, sym (found_swapped k front rest a b x y (neighbours_differ front rest a b x y p.0)) ∙ f, each_found Itself k cs v (each_itself cs) f (each_found (λ w. value_has_duplicate w ≡ false) k cs v (distinct_each cs p.1) f)) in
+      and_from _ _ (eq-eqb (count_children cs) (count_children ds) (swapped_count front rest a b x y)) (matched_within cs ds p.0 same)
+
+  pub turned : (x y : Option Value) → is_plain x ≡ true → is_plain y ≡ true → compared greater_equal x y ≡ compared less_equal y x
+  turned x y h g = ap (λ b. is_less y x || b) (symmetric x y h g)
 
 -- ---- members have names
 

@@ -1,4 +1,4 @@
-//! Laws of the definitions, each the contract of a function without a body: what a reader may believe of `jp_model/specs`.
+//! Laws of the definitions, each the contract of a function that does nothing: what a reader may believe of `jp_model/specs`.
 #![tactic(auto)]
 
 pub mod calls;

@@ -132,6 +132,10 @@ impl Store {
     }
 
     /// The numbers of the refused lines, from 1, ascending. Where there is one, a bit is looked at for each line.
+    ///
+    /// # Errors
+    ///
+    /// Memory ran out.
     pub fn refused_lines(&self) -> Result<Vec<u32>, AllocError>
         ensures { IfOk result (λ lines. lines.items ≡ numbers_where is_refused_status 1 (statuses_in self.now)) }
     {
