@@ -1,7 +1,8 @@
 #!/usr/bin/env bash
 # Times edits of a collection, as many as it has lines, the loading too, beside the same changes in `sqlite3` in one transaction: each
 # line replaced, or as many appended, under an index on one member and under indexes on sixteen, and each line refused and then whole
-# again, under none. SIZES says how many lines (100,000 to 800,000). It says its machine and makes no claim. Build the program first:
+# again, under none. Each has one thread, and the seconds are those of the processor. SIZES says how many lines (100,000 to 800,000).
+# It says its machine and makes no claim. Build the program first:
 # (cd crates/jpq && rt run -- /dev/null < /dev/null)
 set -euo pipefail
 cd "$(dirname "${BASH_SOURCE[0]}")/.."
@@ -28,11 +29,11 @@ in_sqlite() {
 times() {
     { if [ "$3" != 0 ]; then paths "$3" | sed 's/^/index /'; fi; make "$2" "$4"; } > "$folder/script"
     local ours theirs=-
-    ours=$(least "$program" "$lines" --script "$folder/script")
+    ours=$(least_used "$program" "$lines" --script "$folder/script")
     if has sqlite3; then
         make "$2" "$5" > "$folder/changes"
         in_sqlite "$3" "$folder/changes" > "$folder/sql"
-        theirs=$(least sqlite3 :memory: ".read $folder/sql")
+        theirs=$(least_used sqlite3 :memory: ".read $folder/sql")
     fi
     echo "| $2 | $1 | $ours | $theirs |"
 }

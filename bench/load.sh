@@ -1,5 +1,5 @@
 #!/usr/bin/env bash
-# Times `check` over about 50 MB (or as many as the first argument says) of each of seven kinds of lines, and tells the memory at
+# Times `check` over about 50 MB (or as many as the first argument says) of each of ten kinds of lines, and tells the memory at
 # the peak: beside a program that parses line by line into trees of simdjson's and keeps none (where g++ and Debian's
 # libsimdjson-dev are installed), `sqlite3` (all lines into a table in memory, then `json_valid`) and `jq empty`, where they are
 # installed. It says its machine and makes no claim. Build the program first: (cd crates/jpq && rt run -- /dev/null < /dev/null)
@@ -18,7 +18,7 @@ measured() {
 times_own() { awk -v own="$1" -v other="$2" 'BEGIN { printf "%.2f (%.1f)", other, own / other }'; }
 row() {
     local kind=$1 bytes own peak dom=- sqlite=- jq=- seconds
-    bench/load/lines.sh "$kind" $((megabytes * 1000000)) > "$lines"
+    bench/load/lines.sh "$kind" $((megabytes * 1000000)) > "$lines" || return 0
     bytes=$(stat -c %s "$lines")
     read -r own peak <<< "$(measured "$program" "$lines" --script "$folder/check")"
     if [ "$has_dom" ]; then read -r seconds _ <<< "$(measured "$folder/dom" "$lines")"; dom=$(times_own "$own" "$seconds"); fi
@@ -34,4 +34,4 @@ row() {
 tell_machine
 echo '| lines | jpq, seconds | MB/s | memory at the peak, times the file | simdjson | sqlite3 | jq |'
 echo '|---|---|---|---|---|---|---|'
-for kind in log posts numbers wide array escapes tiny; do row "$kind"; done
+for kind in log crlf orders records posts numbers wide array escapes tiny; do row "$kind"; done

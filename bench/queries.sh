@@ -1,5 +1,5 @@
 #!/usr/bin/env bash
-# Times queries over about 50 MB of orders, beside `jq`, `gojq` and `sqlite3` where they are installed (Debian has them). A cell
+# Times queries over about 40 MB of orders, beside `jq`, `gojq` and `sqlite3` where they are installed (Debian has them). A cell
 # tells the seconds of the whole program by the clock, and in brackets those beyond its loading: for jpq beyond a script of no
 # command, for `jq` and `gojq` beyond `empty`, for `sqlite3` beyond a table in memory with a line a row. It says its machine and
 # makes no claim. Build the program first: (cd crates/jpq && rt run -- /dev/null < /dev/null)
@@ -7,15 +7,6 @@ set -euo pipefail
 cd "$(dirname "${BASH_SOURCE[0]}")/.."
 . bench/timing.sh
 lines=$folder/lines.jsonl
-orders() {
-    awk 'BEGIN {
-        split("open paid sent late", status); split("Oslo Rome Graz Bern Lodz", city)
-        for (n = 0; n < 85800; n++) {
-            printf "{\"key\":\"k%d\",\"status\":\"%s\",\"customer\":{\"name\":\"customer %d\",\"city\":\"%s\"},\"total\":%d.%02d,", n, status[n % 4 + 1], n % 1000, city[n % 5 + 1], n % 700, n % 100
-            printf "\"currency\":\"EUR\",\"paid\":%s,\"created\":\"2026-%02d-%02dT10:%02d:00Z\",\"weight\":%d,\"note\":\"order number %d, please ring twice\",\"items\":[", n % 3 ? "true" : "false", n % 12 + 1, n % 28 + 1, n % 60, n % 90, n
-            for (m = 0; m < 6; m++) printf "%s{\"name\":\"pen %d\",\"price\":%d.5,\"count\":%d}", (m ? "," : ""), m, (n + m * 17) % 100, m + 1
-            print "]}" } }'
-}
 script() { printf '%s\n' "$@" > "$folder/script"; }
 sql() {
     { printf '.mode ascii\n.separator "\\037" "\\n"\nCREATE TABLE lines (line TEXT);\n.import %s lines\n.mode list\n' "$lines"; printf '%s\n' "$@"; } > "$folder/sql"
@@ -40,7 +31,7 @@ row() {
 }
 head_of_table() { printf '| %s | jpq | jq | gojq | sqlite3 |\n|---|---|---|---|---|\n' "$1"; }
 tell_machine
-orders > "$lines"
+bench/load/lines.sh orders 40000000 > "$lines"
 head_of_table "orders: $(tell_collection "$lines")"
 tell_bases
 row '$.total' '.total' "SELECT json_extract(line, '\$.total') FROM lines;"
