@@ -13,7 +13,7 @@ use Rattle.jp_model.specs.Json.Spelling.{opening, closing}
 use Rattle.jp_model.specs.Json.Marks.{is_mark, is_inside, is_escaped, is_unescaped_quote, may_begin, backslashes_before, quotes_before, marks}
 use Rattle.jp_model.proofs.Reader.Lexical.{end_stops}
 use Rattle.jp_tape.specs.Places.{Stops, in_number}
-use Rattle.jp_tape.specs.Ahead.{marks_from, IsAhead, IsPassed, first_or, in_token, IsSolid}
+use Rattle.jp_tape.specs.Ahead.{marks_from, IsAhead, IsNext, IsPassed, first_or, in_token, IsSolid}
 
 -- ---- lists of marks
 
@@ -341,7 +341,7 @@ solid line ms from to a l w p =
     go clear true m = inl (a.are ∙ (marked line from (omega arith) m ∙ ap (λ xs. from ∷ xs) clear))
     go clear false m = inr (a.are ∙ (unmarked line from (omega arith) m ∙ clear))
 
-pub passes_own : (line ms : List ℕ) (from to d : ℕ) → IsAhead line from ms → from < to → to ≤ length line → IsSolid line from to → 0 < length ms → get_or ms 0 d ≡ from → IsPassed line ms 1 to
+passes_own : (line ms : List ℕ) (from to d : ℕ) → IsAhead line from ms → from < to → to ≤ length line → IsSolid line from to → 0 < length ms → get_or ms 0 d ≡ from → IsPassed line ms 1 to
 passes_own line [] from to d a l w p some e = absurd (omega (arith, some))
 passes_own line (m ∷ ms) from to d a l w p some e =
     let found = solid line (m ∷ ms) from to a l w p in
@@ -350,13 +350,10 @@ passes_own line (m ∷ ms) from to d a l w p some e =
       | inr other ↦ (let behind = mark_behind line to m ms (sym other) in absurd (omega (arith, behind, e, l)))
     ]
 
-pub passes_none : (line ms : List ℕ) (from to : ℕ) → IsAhead line from ms → from < to → to ≤ length line → IsSolid line from to → (0 < length ms → get_or ms 0 0 ≡ from → ⊥) → IsPassed line ms 0 to
-passes_none line ms from to a l w p other_place =
-    let found = solid line ms from to a l w p in
-    elim found.0 [
-      | inl own ↦ (let n = ap length own in absurd (other_place (omega (arith, n)) (ap (λ (xs : List ℕ). get_or xs 0 0) own)))
-      | inr other ↦ record { within = omega arith; ahead = record { outside = found.2; unescaped = found.1; are = other } }
-    ]
+-- a number or a word has one mark, its first byte
+pub passes_solid : (line ms : List ℕ) (from to : ℕ) → IsNext line from ms → from < to → to ≤ length line → IsSolid line from to → IsPassed line ms 1 to
+passes_solid line [] from to n l w p = let e = n.first in absurd (omega (arith, e, l, w))
+passes_solid line (m ∷ ms) from to n l w p = passes_own line (m ∷ ms) from to 0 n.ahead l w p (omega arith) (sym n.first)
 
 -- ---- which bytes are those of numbers and words
 
@@ -403,3 +400,8 @@ closing_structural object b e = ap is_structural e
 pub all_ahead : (line ms : List ℕ) → ms ≡ marks line → IsAhead line 0 ms
 unfolding marks marks_from quotes_before backslashes_before
 all_ahead line ms e = let n : length line ≡ length line - 0 = omega arith in record { outside = refl; unescaped = refl; are = e ∙ ap (λ n. filter (is_mark line) (range_with_len 0 n)) n }
+
+-- a token may begin at the first byte
+pub begins_first : (line : List ℕ) → may_begin line 0 ≡ true
+unfolding may_begin
+begins_first line = refl

@@ -1,5 +1,5 @@
 -- The marks that are to come while a line is read.
-use Rattle.std.specs.Prelude.{◌≡◌, ℕ, ◌-◌, ◌<◌, ◌≤◌, Bool, true, false, not, ◌||◌, List, [], ◌∷◌, length, drop, Option, Some, None}
+use Rattle.std.specs.Prelude.{◌≡◌, ℕ, ◌+◌, ◌-◌, ◌*◌, ◌/◌, ◌<◌, ◌≤◌, Bool, true, false, not, ◌||◌, List, [], ◌∷◌, length, drop, Option, Some, None, vec_capacity}
 use Rattle.std.specs.List.{filter, range_with_len}
 use Rattle.jp_model.specs.declared.Span.{Span}
 use Rattle.jp_model.specs.Characters.{is_white, is_structural, is_quote, is_backslash}
@@ -24,6 +24,11 @@ abbrev pub first_or : List ℕ → ℕ → ℕ
 first_or [] end = end
 first_or (m ∷ ms) end = m
 
+-- the same, and a token begins at the place, with the first of them, or the line ends there
+pub record IsNext (line : List ℕ) (at : ℕ) (marks : List ℕ) : Type 0 where
+  pub ahead : IsAhead line at marks
+  pub first : at ≡ first_or marks (length line)
+
 -- so many of the marks stand before a place, which is outside of every string
 pub record IsPassed (line marks : List ℕ) (count to : ℕ) : Type 0 where
   pub within : count ≤ length marks
@@ -42,8 +47,13 @@ abbrev pub name_marks : Option Span → ℕ
 name_marks None = 0
 name_marks (Some body) = 3
 
--- the marks ahead of a turn
+-- the lists have room for a node at each mark that is to come, and for a name at each third of them
+pub record HasRoom (b : Builder) : Type 0 where
+  pub words : length b.words.items + 3 * length b.marks.now ≤ vec_capacity b.words
+  pub names : length b.names.items + length b.marks.now / 3 ≤ vec_capacity b.names
+
+-- the marks ahead of a turn, for which there is room
 abbrev pub IsAheadOf : List ℕ → Turn → Builder → Type 0
-IsAheadOf line (turns.Value name at) b = IsAhead line at b.marks.now
-IsAheadOf line (turns.After at) b = IsAhead line at b.marks.now
+IsAheadOf line (turns.Value name at) b = IsNext line at b.marks.now × HasRoom b
+IsAheadOf line (turns.After at) b = IsAhead line at b.marks.now × HasRoom b
 IsAheadOf line turns.End b = Unit {0}

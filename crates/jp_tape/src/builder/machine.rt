@@ -1,6 +1,6 @@
 //! The walk over a line: a machine with a stack of open containers, which writes the words of the nodes.
 
-ghost use Rattle.std.specs.Prelude.{◌≡◌, ◌+◌, ◌*◌, ◌^◌, ◌<◌, ◌≤◌, ◌++◌, ◌∷◌, [], ℕ, max, length, drop, List, true, false, IfOk, IfErr, IsTrue, IsUtf8};
+ghost use Rattle.std.specs.Prelude.{◌≡◌, ◌+◌, ◌*◌, ◌^◌, ◌<◌, ◌≤◌, ◌||◌, ◌++◌, ◌∷◌, [], ℕ, max, length, drop, List, true, false, IfOk, IfErr, IsTrue, IsUtf8, vec_capacity};
 ghost use Rattle.jp_model.specs.Json.Places.{Has, White, byte_at, bytes_between};
 ghost use Rattle.jp_tape.specs.Names.{points};
 ghost use Rattle.jp_strings.specs.Plain.{ArePlain};
@@ -11,7 +11,7 @@ ghost use Rattle.jp_model.specs.Json.Status.{IsNoText};
 ghost use Rattle.jp_model.specs.Json.Marks.{marks as marks_of};
 ghost use Rattle.jp_tape.specs.Words.{head_word, span_word, container_code};
 ghost use Rattle.jp_tape.specs.Places.{Stops, IsUnescaped};
-ghost use Rattle.jp_tape.specs.Ahead.{IsAhead, IsAheadOf, IsPassed, name_marks};
+ghost use Rattle.jp_tape.specs.Ahead.{HasRoom, IsAhead, IsAheadOf, IsNext, IsPassed, first_or, name_marks};
 ghost use Rattle.jp_tape.specs.Reading.{body_word, code_of, container_if, FoundScalar, FoundLabel, IsPlainLabel, NoLabel, OnFault};
 ghost use Rattle.jp_tape.specs.Machine.{Steps, NoStep, IsBehind, Labelled, IsFinished, IsCounted, IsClosed, Holds, next_above};
 ghost use Rattle.jp_tape.specs.declared.builder.machine.Open.{Open};
@@ -26,7 +26,7 @@ use super::scan::{is_at, marks_behind, next_token, skip_white};
 use super::tokens::{Label, Scalar, name_at, no_name, plain_name_at, scalar_at, text_at};
 use crate::Kind;
 use jp_model::{LineFault, Span};
-use std::alloc::Global;
+use std::alloc::{AllocError, Global};
 
 /// A container that is open.
 #[derive(Clone, Copy)]
@@ -89,6 +89,16 @@ fn larger(a: usize, b: usize) -> usize
     if a < b { b } else { a }
 }
 
+/// Raises a flag, where it has to be.
+#[inline(always)]
+fn raise(flag: &mut bool, is_raised: bool)
+    ensures { flag.new ≡ (flag.old || is_raised) }
+{
+    if is_raised {
+        *flag = true;
+    }
+}
+
 fn closing_of(is_object: bool) -> u8
     ensures { result ≡ closing (container_if is_object) }
 {
@@ -147,17 +157,14 @@ fn label_to_word(name: Option<Span>, index: u32) -> u64
 
 /// Writes a node.
 #[inline(always)]
-fn write_node(words: &mut Vec<u64>, head: u64, span: u64, label: u64) -> Result<(), BuildFault>
-    ensures written { IfOk result (λ _. words.new.items ≡ words.old.items ++ head ∷ span ∷ label ∷ []) }
-    ensures memory { IfErr result (λ fault. OnFault fault ⊥) }
+fn write_node(words: &mut Vec<u64>, head: u64, span: u64, label: u64)
+    requires room { length words.old.items + 3 ≤ vec_capacity words.old }
+    ensures written { words.new.items ≡ words.old.items ++ head ∷ span ∷ label ∷ [] }
+    ensures capacity { vec_capacity words.new ≡ vec_capacity words.old }
 {
-    if words.reserve(3).is_err() {
-        return Err(BuildFault::Memory);
-    }
     words.push_reserved(head);
     words.push_reserved(span);
     words.push_reserved(label);
-    Ok(())
 }
 
 /// The bytes of a name; none where a surrogate stands alone in it, since such names are not compared.
@@ -214,8 +221,8 @@ impl<'a> Builder<'a> {
         }
     }
 
-    /// Forgets the line before.
-    fn start(&mut self, marks: &'a [u32])
+    /// Forgets the line before, and gets room for the words and names of this one: a node has a mark at least, and a name three.
+    fn start(&mut self, marks: &'a [u32]) -> Result<(), AllocError>
         ensures words { self.new.words.items ≡ [] }
         ensures opened { self.new.opened.items ≡ [] }
         ensures names { self.new.names.items ≡ [] }
@@ -224,6 +231,7 @@ impl<'a> Builder<'a> {
         ensures surrogate { self.new.has_surrogate ≡ false }
         ensures long { self.new.has_long_exponent ≡ false }
         ensures duplicate { self.new.has_duplicate ≡ false }
+        ensures room { IfOk result (λ _. HasRoom self.new) }
     {
         self.words.clear();
         self.opened.clear();
@@ -233,6 +241,8 @@ impl<'a> Builder<'a> {
         self.has_surrogate = false;
         self.has_long_exponent = false;
         self.has_duplicate = false;
+        self.words.reserve(3 * marks.len())?;
+        self.names.reserve(marks.len() / 3)
     }
 
     /// Where the next value is: it is a child of the innermost container, or the root.
@@ -255,26 +265,24 @@ impl<'a> Builder<'a> {
 
     /// Keeps the name that comes before a child's value.
     #[inline(always)]
-    fn keep_label(&mut self, line: &'a [u8], label: Label) -> Result<Turn, BuildFault>
+    fn keep_label(&mut self, line: &'a [u8], label: Label) -> Turn
         requires within { label.value ≤ length line.now }
         requires room { length line.now < 2 ^ 32 }
         requires found { (kind : Container) × (from : ℕ) × FoundLabel line.now kind from label }
         requires plain { IsPlainLabel line.now label }
         requires ahead { IsPassed line.now self.old.marks.now (name_marks label.name) label.value }
-        ensures found { (kind : Container) (from : ℕ) → FoundLabel line.now kind from label → from ≤ label.value → IfOk result (λ turn. Labelled line.now kind from turn self.old self.new) }
-        ensures ahead { IfOk result (λ turn. IsAheadOf line.now turn self.new) }
-        ensures memory { IfErr result (λ fault. OnFault fault ⊥) }
+        requires first { label.value ≡ first_or (drop (name_marks label.name) self.old.marks.now) (length line.now) }
+        requires spare { HasRoom self.old }
+        ensures found { (kind : Container) (from : ℕ) → FoundLabel line.now kind from label → from ≤ label.value → Labelled line.now kind from result self.old self.new }
+        ensures ahead { IsAheadOf line.now result self.new }
     {
-        self.has_surrogate |= label.is_lone;
+        raise(&mut self.has_surrogate, label.is_lone);
         if let Some(span) = label.name {
             self.marks = marks_behind(self.marks, 3);
             let body = kept_body(line, span, label.is_lone, label.is_plain);
-            if self.names.reserve(1).is_err() {
-                return Err(BuildFault::Memory);
-            }
             self.names.push_reserved(body);
         }
-        Ok(Turn::Value(label.name, label.value))
+        Turn::Value(label.name, label.value)
     }
 
     /// Reads what comes before a member's value, and keeps its name.
@@ -290,6 +298,7 @@ impl<'a> Builder<'a> {
         requires room { length line.now < 2 ^ 32 }
         requires utf8 { IsUtf8 line.now }
         requires ahead { IsAhead line.now from self.old.marks.now }
+        requires spare { HasRoom self.old }
         ensures found { IfOk result (λ turn. Labelled line.now object from turn self.old self.new) }
         ensures ahead { IfOk result (λ turn. IsAheadOf line.now turn self.new) }
         ensures stuck { IfErr result (λ fault. OnFault fault (NoLabel line.now object from)) }
@@ -297,7 +306,7 @@ impl<'a> Builder<'a> {
         let Some(label) = name_at(line, is_unescaped, self.marks, from) else {
             return Err(GRAMMAR);
         };
-        self.keep_label(line, label)
+        Ok(self.keep_label(line, label))
     }
 
     /// Reads what comes before a child's value, and keeps its name. Most names are in a line with no escape.
@@ -314,17 +323,18 @@ impl<'a> Builder<'a> {
         requires room { length line.now < 2 ^ 32 }
         requires utf8 { IsUtf8 line.now }
         requires stops { Stops line.now from }
-        requires ahead { IsAhead line.now from self.old.marks.now }
+        requires ahead { IsNext line.now from self.old.marks.now }
+        requires spare { HasRoom self.old }
         ensures found { IfOk result (λ turn. Labelled line.now (container_if is_object) from turn self.old self.new) }
         ensures ahead { IfOk result (λ turn. IsAheadOf line.now turn self.new) }
         ensures stuck { IfErr result (λ fault. OnFault fault (NoLabel line.now (container_if is_object) from)) }
     {
         if !is_object {
-            return self.keep_label(line, no_name(from));
+            return Ok(self.keep_label(line, no_name(from)));
         }
         if is_unescaped {
             if let Some(label) = plain_name_at(line, self.marks, from) {
-                return self.keep_label(line, label);
+                return Ok(self.keep_label(line, label));
             }
         }
         self.next_member(line, is_unescaped, from)
@@ -345,7 +355,7 @@ impl<'a> Builder<'a> {
         requires room { length line.now < 2 ^ 32 }
         requires utf8 { IsUtf8 line.now }
         requires few { length self.old.words.items ≤ 3 * at }
-        requires ahead { IsAhead line.now at self.old.marks.now }
+        requires ahead { IsAheadOf line.now (turns.Value name at) self.old }
         ensures goes_on { IfOk result (λ turn. Steps line.now (turns.Value name at) self.old turn self.new) }
         ensures behind { IfOk result (λ turn. IsBehind line.now at turn self.new) }
         ensures ahead { IfOk result (λ turn. IsAheadOf line.now turn self.new) }
@@ -361,10 +371,8 @@ impl<'a> Builder<'a> {
             self.marks = marks_behind(self.marks, 1);
             let span = span_to_word(at as u32, (inside + 1) as u32);
             let head = head(container_kind(is_object), 0, above.parent);
-            return match write_node(&mut self.words, head, span, label) {
-                Ok(()) => Ok(Turn::After(inside + 1)),
-                Err(fault) => Err(fault),
-            };
+            write_node(&mut self.words, head, span, label);
+            return Ok(Turn::After(inside + 1));
         }
         let container = Open {
             place: place as u32,
@@ -373,10 +381,7 @@ impl<'a> Builder<'a> {
             names: self.names.len(),
             is_object,
         };
-        match write_node(&mut self.words, 0, 0, label) {
-            Ok(()) => {}
-            Err(fault) => return Err(fault),
-        }
+        write_node(&mut self.words, 0, 0, label);
         if self.opened.reserve(1).is_err() {
             return Err(BuildFault::Memory);
         }
@@ -386,32 +391,25 @@ impl<'a> Builder<'a> {
 
     /// Writes the node of a value that has no children.
     #[inline(always)]
-    fn keep_scalar(
-        &mut self,
-        at: usize,
-        name: Option<Span>,
-        scalar: Scalar,
-    ) -> Result<(), BuildFault>
+    fn keep_scalar(&mut self, at: usize, name: Option<Span>, scalar: Scalar)
         requires order { at < scalar.end }
         requires room { scalar.end < 2 ^ 32 }
+        requires some { 0 < scalar.marks }
         requires marks { scalar.marks ≤ length self.old.marks.now }
-        ensures goes_on { (line : List ℕ) → FoundScalar line at scalar → IfOk result (λ _. Steps line (turns.Value name at) self.old (turns.After scalar.end) self.new) }
-        ensures marks { IfOk result (λ _. self.new.marks.now ≡ drop scalar.marks self.old.marks.now) }
-        ensures few { IfOk result (λ _. length self.new.words.items ≡ length self.old.words.items + 3) }
-        ensures memory { IfErr result (λ fault. OnFault fault ⊥) }
+        requires spare { HasRoom self.old }
+        ensures goes_on { (line : List ℕ) → FoundScalar line at scalar → Steps line (turns.Value name at) self.old (turns.After scalar.end) self.new }
+        ensures marks { self.new.marks.now ≡ drop scalar.marks self.old.marks.now }
+        ensures few { length self.new.words.items ≡ length self.old.words.items + 3 }
+        ensures spare { HasRoom self.new }
     {
         self.marks = marks_behind(self.marks, scalar.marks);
         let above = self.above();
         let head = head(scalar.kind, 0, above.parent);
         let span = span_to_word(at as u32, scalar.end as u32);
         let label = label_to_word(name, above.index);
-        match write_node(&mut self.words, head, span, label) {
-            Ok(()) => {}
-            Err(fault) => return Err(fault),
-        }
-        self.has_surrogate |= scalar.is_lone;
-        self.has_long_exponent |= scalar.is_long;
-        Ok(())
+        write_node(&mut self.words, head, span, label);
+        raise(&mut self.has_surrogate, scalar.is_lone);
+        raise(&mut self.has_long_exponent, scalar.is_long);
     }
 
     /// Closes the innermost container, which ends before `end`.
@@ -422,8 +420,10 @@ impl<'a> Builder<'a> {
         requires names { container.names ≤ length self.old.names.items }
         requires few { length self.old.words.items < 3 * end }
         requires room { end < 2 ^ 32 }
+        requires spare { HasRoom self.old }
         ensures closed { IfOk result (λ _. IsClosed container end self.old self.new) }
         ensures marks { IfOk result (λ _. self.new.marks.now ≡ self.old.marks.now) }
+        ensures spare { IfOk result (λ _. HasRoom self.new) }
         ensures memory { IfErr result (λ fault. OnFault fault ⊥) }
     {
         if !self.has_surrogate {
@@ -448,6 +448,7 @@ impl<'a> Builder<'a> {
         requires some { 0 < length self.old.opened.items }
         requires room { (outer : List Open) (o : Open) → self.old.opened.items ≡ outer ++ o ∷ [] → o.children + 1 < 2 ^ 32 }
         ensures counted { IsCounted self.old self.new }
+        ensures spare { HasRoom self.old → HasRoom self.new }
         ensures marks { self.new.marks.now ≡ self.old.marks.now }
     {
         let last = self.opened.len() - 1;
@@ -470,6 +471,7 @@ impl<'a> Builder<'a> {
         requires utf8 { IsUtf8 line.now }
         requires few { length self.old.words.items ≤ 3 * at }
         requires ahead { IsAhead line.now next self.old.marks.now }
+        requires spare { HasRoom self.old }
         requires holds { Holds line.now (turns.After at) self.old }
         ensures goes_on { IfOk result (λ turn. Steps line.now (turns.After at) self.old turn self.new) }
         ensures behind { IfOk result (λ turn. IsBehind line.now at turn self.new) }
@@ -508,7 +510,7 @@ impl<'a> Builder<'a> {
         requires room { length line.now < 2 ^ 32 }
         requires utf8 { IsUtf8 line.now }
         requires few { length self.old.words.items ≤ 3 * at }
-        requires ahead { IsAhead line.now at self.old.marks.now }
+        requires ahead { IsAheadOf line.now (turns.After at) self.old }
         requires holds { Holds line.now (turns.After at) self.old }
         ensures goes_on { IfOk result (λ turn. Steps line.now (turns.After at) self.old turn self.new) }
         ensures behind { IfOk result (λ turn. IsBehind line.now at turn self.new) }
@@ -532,7 +534,7 @@ impl<'a> Builder<'a> {
         requires room { length line.now < 2 ^ 32 }
         requires utf8 { IsUtf8 line.now }
         requires few { length self.old.words.items ≤ 3 * at }
-        requires ahead { IsAhead line.now at self.old.marks.now }
+        requires ahead { IsAheadOf line.now (turns.Value name at) self.old }
         requires holds { Holds line.now (turns.Value name at) self.old }
         ensures goes_on { IfOk result (λ turn. Steps line.now (turns.Value name at) self.old turn self.new) }
         ensures behind { IfOk result (λ turn. IsBehind line.now at turn self.new) }
@@ -543,10 +545,8 @@ impl<'a> Builder<'a> {
             return Err(GRAMMAR);
         };
         let next = next_token(line, marks_behind(self.marks, text.marks), text.end);
-        match self.keep_scalar(at, name, text) {
-            Ok(()) => self.follow(line, true, text.end, next),
-            Err(fault) => Err(fault),
-        }
+        self.keep_scalar(at, name, text);
+        self.follow(line, true, text.end, next)
     }
 
     /// Reads the value at `at`, which is neither an array nor an object, and what follows it.
@@ -565,7 +565,7 @@ impl<'a> Builder<'a> {
         requires room { length line.now < 2 ^ 32 }
         requires utf8 { IsUtf8 line.now }
         requires few { length self.old.words.items ≤ 3 * at }
-        requires ahead { IsAhead line.now at self.old.marks.now }
+        requires ahead { IsAheadOf line.now (turns.Value name at) self.old }
         requires holds { Holds line.now (turns.Value name at) self.old }
         ensures goes_on { IfOk result (λ turn. Steps line.now (turns.Value name at) self.old turn self.new) }
         ensures behind { IfOk result (λ turn. IsBehind line.now at turn self.new) }
@@ -575,10 +575,8 @@ impl<'a> Builder<'a> {
         let Some(scalar) = scalar_at(line, is_unescaped, self.marks, at) else {
             return Err(GRAMMAR);
         };
-        match self.keep_scalar(at, name, scalar) {
-            Ok(()) => self.go_on(line, is_unescaped, scalar.end),
-            Err(fault) => Err(fault),
-        }
+        self.keep_scalar(at, name, scalar);
+        self.go_on(line, is_unescaped, scalar.end)
     }
 
     /// Reads the value at `at`, and after a value that has no children what follows it.
@@ -595,7 +593,7 @@ impl<'a> Builder<'a> {
         requires room { length line.now < 2 ^ 32 }
         requires utf8 { IsUtf8 line.now }
         requires few { length self.old.words.items ≤ 3 * at }
-        requires ahead { IsAhead line.now at self.old.marks.now }
+        requires ahead { IsAheadOf line.now (turns.Value name at) self.old }
         requires holds { Holds line.now (turns.Value name at) self.old }
         ensures goes_on { IfOk result (λ turn. Steps line.now (turns.Value name at) self.old turn self.new) }
         ensures behind { IfOk result (λ turn. IsBehind line.now at turn self.new) }
@@ -628,9 +626,11 @@ pub(super) fn walk<'a>(
     ensures found { IfOk result (λ _. (t : Tree) × Text line.now t × IsFinished line.now builder.new t) }
     ensures refused { IfErr result (λ fault. OnFault fault (IsNoText line.now)) }
 {
-    builder.start(marks);
+    let Ok(()) = builder.start(marks) else {
+        return Err(BuildFault::Memory);
+    };
     let is_unescaped = !has_escape(line);
-    let mut turn = Turn::Value(None, skip_white(line, marks, 0));
+    let mut turn = Turn::Value(None, next_token(line, marks, 0));
     loop {
         turn = match turn {
             Turn::Value(name, at) => builder.read_on(line, is_unescaped, at, name)?,

@@ -6,7 +6,7 @@ ghost use Rattle.jp_model.specs.Characters.{is_white, is_digit};
 ghost use Rattle.jp_model.specs.Json.Places.{White, Has, Reads, byte_at};
 ghost use Rattle.jp_model.specs.Json.Marks.{may_begin};
 ghost use Rattle.jp_tape.specs.Places.{in_number, is_other, Ended, Stops};
-ghost use Rattle.jp_tape.specs.Ahead.{IsAhead, IsPassed, IsSolid, first_or};
+ghost use Rattle.jp_tape.specs.Ahead.{IsAhead, IsNext, first_or};
 
 use std::simd::prelude::*;
 
@@ -79,6 +79,7 @@ pub(super) fn next_token(line: &[u8], marks: &[u32], from: usize) -> usize
     ensures stops { Stops line.now result }
     ensures ahead { IsAhead line.now result marks.now }
     ensures inside { 0 < length marks.now → result < length line.now }
+    ensures next { IsNext line.now result marks.now }
 {
     first_mark(line, marks)
 }
@@ -90,17 +91,6 @@ pub(super) fn marks_behind(marks: &[u32], count: usize) -> &[u32]
     ensures { result.now ≡ drop count marks.now }
 {
     &marks[count..]
-}
-
-/// How many marks a number or a word at `from` has: its first byte is one where a token may begin.
-#[inline(always)]
-pub(super) fn own_marks(marks: &[u32], from: usize) -> usize
-    ensures { (line : List ℕ) (to : ℕ) → IsAhead line from marks.now → from < to → to ≤ length line → IsSolid line from to → IsPassed line marks.now result to }
-{
-    if marks.is_empty() {
-        return 0;
-    }
-    if marks[0] as usize == from { 1 } else { 0 }
 }
 
 /// So many bytes are looked at together for digits.

@@ -1,6 +1,6 @@
 //! The tokens of a line: strings, numbers, words and names.
 
-ghost use Rattle.std.specs.Prelude.{◌≡◌, ℕ, ◌+◌, ◌-◌, ◌^◌, ◌<◌, ◌≤◌, Bool, true, false, length, List, Some, None, IfSome, IfNone, IsSome, IsTrue, IsUtf8, ℤ};
+ghost use Rattle.std.specs.Prelude.{◌≡◌, ℕ, ◌+◌, ◌-◌, ◌^◌, ◌<◌, ◌≤◌, Bool, true, false, length, drop, List, Some, None, IfSome, IfNone, IsSome, IsTrue, IsUtf8, ℤ};
 ghost use Rattle.std.specs.List.{list_all};
 ghost use Rattle.jp_model.specs.Json.Places.{Has, Reads, byte_at, bytes_between};
 ghost use Rattle.jp_model.specs.Json.Numbers.{AreDigits, IsInt, SpellsNumber, minus_bytes, fraction_bytes, numeral_of, is_long_exponent};
@@ -9,13 +9,13 @@ ghost use Rattle.jp_model.specs.Json.Spelling.{SpellsString};
 ghost use Rattle.jp_model.specs.Json.Tree.{array, object};
 ghost use Rattle.jp_model.specs.Json.Marks.{may_begin};
 ghost use Rattle.jp_tape.specs.Places.{Ended, Stops, IsUnescaped, IsUnquoted};
-ghost use Rattle.jp_tape.specs.Ahead.{IsAhead, IsPassed, IsSolid, in_token, name_marks};
+ghost use Rattle.jp_tape.specs.Ahead.{IsAhead, IsNext, IsPassed, IsSolid, first_or, in_token, name_marks};
 ghost use Rattle.jp_tape.specs.Reading.{FoundScalar, NoValue, FoundLabel, NoLabel, IsPlainLabel};
 ghost use Rattle.jp_strings.specs.Plain.{ArePlain};
 
 use super::scan::{
-    digits_end, is_at, is_number_at, marks_behind, next_token, number_bytes_end, own_marks,
-    skip_white, word_end,
+    digits_end, is_at, is_number_at, marks_behind, next_token, number_bytes_end, skip_white,
+    word_end,
 };
 use crate::Kind;
 use jp_decimal::{Decimal, NumberFault};
@@ -258,6 +258,7 @@ pub(super) fn name_at(line: &[u8], is_unescaped: bool, marks: &[u32], from: usiz
     ensures within { IfSome result (λ r. (from < r.value) × (r.value ≤ length line.now)) }
     ensures stops { IfSome result (λ r. Stops line.now r.value) }
     ensures ahead { IfSome result (λ r. IsPassed line.now marks.now 3 r.value) }
+    ensures first { IfSome result (λ r. r.value ≡ first_or (drop (name_marks r.name) marks.now) (length line.now)) }
     ensures is_named { IfSome result (λ r. IsSome r.name) }
     ensures plain { IfSome result (λ r. IsPlainLabel line.now r) }
     ensures found { IfSome result (λ r. FoundLabel line.now object from r) }
@@ -281,7 +282,7 @@ pub(super) fn name_at(line: &[u8], is_unescaped: bool, marks: &[u32], from: usiz
         name: Some(body),
         is_lone: name.is_lone,
         is_plain: name.is_plain,
-        value: skip_white(line, marks_behind(marks, 3), colon + 1),
+        value: next_token(line, marks_behind(marks, 3), colon + 1),
     })
 }
 
@@ -300,6 +301,7 @@ pub(super) fn plain_name_at(line: &[u8], marks: &[u32], from: usize) -> Option<L
     ensures within { IfSome result (λ r. (from ≤ r.value) × (r.value ≤ length line.now)) }
     ensures stops { IfSome result (λ r. Stops line.now r.value) }
     ensures ahead { IfSome result (λ r. IsPassed line.now marks.now (name_marks r.name) r.value) }
+    ensures first { IfSome result (λ r. r.value ≡ first_or (drop (name_marks r.name) marks.now) (length line.now)) }
     ensures plain { IfSome result (λ r. IsPlainLabel line.now r) }
     ensures found { IfSome result (λ r. FoundLabel line.now object from r) }
 {
@@ -345,9 +347,10 @@ fn word_at(line: &[u8], marks: &[u32], from: usize, word: &[u8], kind: Kind) -> 
     requires within { from ≤ length line.now }
     requires some { 0 < length word.now }
     requires plain { IsTrue (list_all in_token word.now) }
-    requires ahead { IsAhead line.now from marks.now }
+    requires ahead { IsNext line.now from marks.now }
     ensures found { IfSome result (λ r. Reads line.now from r.end word.now × (r.end ≡ from + length word.now) × (r.kind ≡ kind) × (r.is_lone ≡ false) × (r.is_long ≡ false)) }
     ensures ahead { IfSome result (λ r. IsPassed line.now marks.now r.marks r.end) }
+    ensures marks { IfSome result (λ r. 0 < r.marks) }
     ensures none { IfNone result ((to : ℕ) → Reads line.now from to word.now → ⊥) }
 {
     match word_end(line, from, word) {
@@ -356,7 +359,7 @@ fn word_at(line: &[u8], marks: &[u32], from: usize, word: &[u8], kind: Kind) -> 
             end,
             is_lone: false,
             is_long: false,
-            marks: own_marks(marks, from),
+            marks: 1,
         }),
         None => None,
     }
@@ -371,6 +374,7 @@ pub(super) fn text_at(line: &[u8], is_unescaped: bool, marks: &[u32], from: usiz
     requires ahead { IsAhead line.now from marks.now }
     ensures within { IfSome result (λ r. (from < r.end) × (r.end ≤ length line.now)) }
     ensures ahead { IfSome result (λ r. IsPassed line.now marks.now r.marks r.end) }
+    ensures marks { IfSome result (λ r. 0 < r.marks) }
     ensures begins { IfSome result (λ r. may_begin line.now r.end ≡ true) }
     ensures found { IfSome result (λ r. FoundScalar line.now from r) }
     ensures none { IfNone result (NoValue line.now from) }
@@ -399,11 +403,12 @@ pub(super) fn scalar_at(
     requires inside { from < length line.now }
     requires room { length line.now < 2 ^ 32 }
     requires utf8 { IsUtf8 line.now }
-    requires ahead { IsAhead line.now from marks.now }
+    requires ahead { IsNext line.now from marks.now }
     requires no_array { byte_at line.now from ≡ 0x5B → ⊥ }
     requires no_object { byte_at line.now from ≡ 0x7B → ⊥ }
     ensures within { IfSome result (λ r. (from < r.end) × (r.end ≤ length line.now)) }
     ensures ahead { IfSome result (λ r. IsPassed line.now marks.now r.marks r.end) }
+    ensures marks { IfSome result (λ r. 0 < r.marks) }
     ensures found { IfSome result (λ r. FoundScalar line.now from r) }
     ensures none { IfNone result (NoValue line.now from) }
 {
@@ -426,7 +431,7 @@ pub(super) fn scalar_at(
             end: number.end,
             is_lone: false,
             is_long: number.is_long,
-            marks: own_marks(marks, from),
+            marks: 1,
         }),
         None => None,
     }

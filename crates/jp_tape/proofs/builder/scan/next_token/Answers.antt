@@ -5,4 +5,4 @@ pub returns : goal.returns
 returns c =
     let r = c.requires in
     let s = skips_to_mark c.args.line.now c.args.marks.now c.args.from _ r.within r.begins r.ahead c.first_mark.ensures.value in
-    record { white = s.white; stops = s.stops; ahead = s.ahead; inside = c.first_mark.ensures.inside c.args.from r.ahead }
+    record { white = s.white; stops = s.stops; ahead = s.ahead; inside = c.first_mark.ensures.inside c.args.from r.ahead; next = record { ahead = s.ahead; first = c.first_mark.ensures.value } }

@@ -1,8 +1,8 @@
-use Rattle.std.proofs.Common.{◌≡◌, ℕ, ◌+◌, ◌-◌, ◌<◌, ◌≤◌, List, length, drop, ap, sym, subst, arith}
+use Rattle.std.proofs.Common.{◌≡◌, ℕ, ◌+◌, ◌-◌, ◌<◌, ◌≤◌, List, length, drop, ap, ◌∙◌, sym, subst, arith}
 use Rattle.std.proofs.lemmas.List.{length-drop}
 use Rattle.jp_model.specs.Characters.{is_structural}
 use Rattle.jp_model.specs.Json.Places.{byte_at, Has}
-use Rattle.jp_tape.specs.Ahead.{IsAhead}
+use Rattle.jp_tape.specs.Ahead.{IsAhead, first_or}
 use Rattle.jp_tape.proofs.Ahead.{passes_colon, structural_begins}
 use Rattle.jp_tape.proofs.Labels.{found_name}
 use Rattle.jp_tape.proofs.builder.tokens.plain_name_at.Goals as goal
@@ -36,3 +36,6 @@ returns-clause-found c =
     let i = c.in-Some.ensures.within.0 in
     let h = colon_at c.args.line.now c.args.marks.now c.marks_behind.result.now c.next_token-colon.result c.marks_behind.ensures c.if-marks-lt-NAME_AND_MORE.false w.inside c.if-line-colon-ne58.false in
     found_name c.args.line.now c.args.from c.in-Some.name.end c.next_token-colon.result c.next_token.result c.in-Some.name.is_lone c.in-Some.name.is_plain f.0 f.1 f.2 w.white h v.white v.stops (c.in-Some.name.end - 1) (omega (arith, i))
+
+pub returns-clause-first : goal.returns-clause-first
+returns-clause-first c = c.next_token.ensures.next.first ∙ ap (λ (xs : List ℕ). first_or xs (length c.args.line.now)) c.marks_behind-2.ensures

@@ -3,6 +3,7 @@ use Rattle.std.specs.Option.{IfNone}
 use Rattle.std.proofs.lemmas.Option.{IfSome_then}
 use Rattle.jp_model.specs.Json.Reader.{lead_of}
 use Rattle.jp_tape.specs.Reading.{code_of}
+use Rattle.jp_tape.proofs.Ahead.{passes_solid}
 use Rattle.jp_tape.proofs.Scalars.{found_null, found_boolean, found_number, no_null, no_boolean, no_number}
 use Rattle.jp_tape.proofs.builder.tokens.scalar_at.Goals as goal
 
@@ -31,7 +32,7 @@ returns-then-byte-eq102-clause-none c = none_then c.word_at-then-byte-eq102.resu
 pub returns-in-Some-clause-found : goal.returns-in-Some-clause-found
 returns-in-Some-clause-found c =
     let f = c.in-Some.ensures.found in
-    found_number c.args.line.now c.args.from c.in-Some.number.end c.own_marks.result c.in-Some.number.is_long f.0 f.1 f.2 f.3 f.4
+    found_number c.args.line.now c.args.from c.in-Some.number.end 1 c.in-Some.number.is_long f.0 f.1 f.2 f.3 f.4
 
 pub returns-in-None-clause-none : goal.returns-in-None-clause-none
 returns-in-None-clause-none c =
@@ -40,4 +41,4 @@ returns-in-None-clause-none c =
 pub returns-in-Some-clause-ahead : goal.returns-in-Some-clause-ahead
 returns-in-Some-clause-ahead c =
     let e = c.in-Some.ensures in
-    c.own_marks.ensures c.args.line.now c.in-Some.number.end c.requires.ahead e.within.0 e.within.1 e.solid
+    passes_solid c.args.line.now c.args.marks.now c.args.from c.in-Some.number.end c.requires.ahead e.within.0 e.within.1 e.solid

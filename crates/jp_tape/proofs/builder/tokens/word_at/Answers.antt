@@ -1,5 +1,5 @@
 use Rattle.std.proofs.Common.{arith}
-use Rattle.jp_tape.proofs.Ahead.{word_solid}
+use Rattle.jp_tape.proofs.Ahead.{passes_solid, word_solid}
 use Rattle.jp_tape.proofs.builder.tokens.word_at.Goals as goal
 
 pub returns-in-Some-clause-ahead : goal.returns-in-Some-clause-ahead
@@ -9,4 +9,4 @@ returns-in-Some-clause-ahead c =
     let w = r.within in
     let l = e.1 in
     let some = c.requires.some in
-    c.own_marks.ensures c.args.line.now c.in-Some.end c.requires.ahead (omega (arith, l, some)) w (word_solid c.args.line.now c.args.word.now c.args.from c.in-Some.end r c.requires.plain)
+    passes_solid c.args.line.now c.args.marks.now c.args.from c.in-Some.end c.requires.ahead (omega (arith, l, some)) w (word_solid c.args.line.now c.args.word.now c.args.from c.in-Some.end r c.requires.plain)

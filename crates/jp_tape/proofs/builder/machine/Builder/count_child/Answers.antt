@@ -23,5 +23,6 @@ returns c =
         names = refl;
         duplicate = refl;
       };
+      spare = λ h. record { words = h.words; names = h.names };
       marks = refl;
     }

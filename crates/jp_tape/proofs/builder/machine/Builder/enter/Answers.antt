@@ -1,10 +1,14 @@
-use Rattle.std.proofs.Common.{List, ℕ, ◌+◌, ◌++◌, ◌∷◌, [], max, sym, ◌∙◌, ap, ap₂, subst, refl}
+use Rattle.std.proofs.Common.{◌≡◌, List, ℕ, ◌+◌, ◌≤◌, ◌++◌, ◌∷◌, [], max, length, drop, vec_capacity, sym, ◌∙◌, ap, ap₂, subst, refl, arith, length-append}
+use Rattle.std.proofs.lemmas.List.{length-drop}
 use Rattle.std.proofs.lemmas.Result.{IfOk-weaker, IfErr-weaker}
 use Rattle.jp_model.specs.Json.Places.{Has, byte_at}
-use Rattle.jp_tape.specs.Ahead.{IsAhead}
+use Rattle.jp_tape.specs.Ahead.{IsAhead, HasRoom}
 use Rattle.jp_tape.specs.declared.builder.machine.Above.{Above}
 use Rattle.jp_tape.specs.declared.builder.machine.Builder.{Builder}
 use Rattle.jp_tape.specs.declared.builder.machine.Open.{Open}
+use Rattle.jp_tape.specs.declared.builder.body.Body.{Body}
+use Rattle.std.specs.Prelude.{Vec}
+use Rattle.std.specs.Global.{Global}
 use Rattle.jp_tape.specs.Words.{head_word}
 use Rattle.jp_tape.specs.Reading.{body_word, container_if}
 use Rattle.jp_tape.proofs.Held.{or_false}
@@ -12,14 +16,27 @@ use Rattle.jp_tape.proofs.Ahead.{passes_structural, structural_begins, bracket_s
 use Rattle.jp_tape.proofs.Walk.{node_is, opened_is, empty_goes_on, enter_goes_on, no_enter, on_fault}
 use Rattle.jp_tape.proofs.builder.machine.Builder.enter.Goals as goal
 
-pub returns-in-Ok-clause-goes_on : goal.returns-in-Ok-clause-goes_on
-returns-in-Ok-clause-goes_on c =
+-- behind two marks a node is written
+room_behind_two : (b new : Builder) (mid : List ℕ) (h s l : ℕ) → HasRoom b → new.words.items ≡ b.words.items ++ h ∷ s ∷ l ∷ [] → vec_capacity new.words ≡ vec_capacity b.words → new.names ≡ b.names →
+    mid ≡ drop 1 b.marks.now → new.marks.now ≡ drop 1 mid → 1 ≤ length mid → HasRoom new
+room_behind_two b new mid h s l r w c n f g some =
+    let written = ap length w ∙ length-append b.words.items (h ∷ s ∷ l ∷ []) in
+    let first = ap length f ∙ length-drop 1 b.marks.now in
+    let second = ap length g ∙ length-drop 1 mid in
+    let words = r.words in
+    let names = r.names in
+    let items = ap (λ (v : Vec Body Global). length v.items) n in
+    let capacity = ap (λ (v : Vec Body Global). vec_capacity v) n in
+    record { words = omega (arith, words, written, c, first, second, some); names = omega (arith, names, items, capacity, first, second, some) }
+
+pub returns-then-is_at-clause-goes_on : goal.returns-then-is_at-clause-goes_on
+returns-then-is_at-clause-goes_on c =
     let b = c.args.self.now in
     let kind = container_if c.args.is_object in
     empty_goes_on c.args.line.now c.args.at c.next_token-inside.result c.args.name b _ kind c.requires.opens c.next_token-inside.ensures.white
     (subst (λ x. Has c.args.line.now c.next_token-inside.result x) c.closing_of.ensures (c.is_at.ensures.yes c.if-is_at.true))
     (record {
-      words_are = node_is b.words.items _ _ _ _ _ _ _ c.in-Ok.ensures.written
+      words_are = node_is b.words.items _ _ _ _ _ _ _ c.write_node.ensures.written
           (c.head-head.ensures ∙ ap₂ (λ (x : ℕ) (a : Above). head_word x 0 a.parent) c.container_kind.ensures c.above-above.ensures) c.span_to_word-span.ensures
           (c.label_to_word-label.ensures ∙ ap (λ (a : Above). body_word a.index c.args.name) c.above-above.ensures);
       opened = refl;
@@ -40,7 +57,7 @@ returns-clause-goes_on c =
     (λ turn l. enter_goes_on c.args.line.now c.args.at c.next_token-inside.result c.args.name b mid c.next_child.new.self turn kind c.requires.opens w.white w.stops
     (λ h. c.is_at.ensures.no c.if-is_at.false (subst (λ x. Has c.args.line.now c.next_token-inside.result x) (sym c.closing_of.ensures) h))
     (record {
-      words = node_is b.words.items _ _ _ _ _ _ _ c.in-Ok-write_node.ensures.written refl refl (c.label_to_word-label.ensures ∙ ap (λ (a : Above). body_word a.index c.args.name) c.above-above.ensures);
+      words = node_is b.words.items _ _ _ _ _ _ _ c.write_node-2.ensures.written refl refl (c.label_to_word-label.ensures ∙ ap (λ (a : Above). body_word a.index c.args.name) c.above-above.ensures);
       opened = (rw c.reserve.ensures.items at c.push_reserved.ensures.items) ∙ ap (λ (o : Open). b.opened.items ++ o ∷ []) (opened_is c.args.is_object _ _ _ _ c.args.at (c.len-place.ensures ∙ b.words.ok.0) (c.len-2.ensures ∙ b.names.ok.0));
       names = refl;
       deepest = c.larger-self.ensures ∙ ap (λ n. max b.deepest (n + 1)) (c.len.ensures ∙ b.opened.ok.0);
@@ -61,14 +78,14 @@ returns-clause-stuck c =
     c.next_child.ensures.stuck
 
 pub marks_behind-self-requires : goal.marks_behind-self-requires
-marks_behind-self-requires c = (passes_structural c.args.line.now c.args.self.now.marks.now c.args.at c.requires.opens.inside (bracket_structural (container_if c.args.is_object) (byte_at c.args.line.now c.args.at) c.requires.opens.is) c.requires.ahead).within
+marks_behind-self-requires c = (passes_structural c.args.line.now c.args.self.now.marks.now c.args.at c.requires.opens.inside (bracket_structural (container_if c.args.is_object) (byte_at c.args.line.now c.args.at) c.requires.opens.is) c.requires.ahead.0.ahead).within
 
 pub next_token-inside-requires-clause-begins : goal.next_token-inside-requires-clause-begins
 next_token-inside-requires-clause-begins c = structural_begins c.args.line.now c.args.at (bracket_structural (container_if c.args.is_object) (byte_at c.args.line.now c.args.at) c.requires.opens.is)
 
 pub next_token-inside-requires-clause-ahead : goal.next_token-inside-requires-clause-ahead
 next_token-inside-requires-clause-ahead c =
-    let p = passes_structural c.args.line.now c.args.self.now.marks.now c.args.at c.requires.opens.inside (bracket_structural (container_if c.args.is_object) (byte_at c.args.line.now c.args.at) c.requires.opens.is) c.requires.ahead in
+    let p = passes_structural c.args.line.now c.args.self.now.marks.now c.args.at c.requires.opens.inside (bracket_structural (container_if c.args.is_object) (byte_at c.args.line.now c.args.at) c.requires.opens.is) c.requires.ahead.0.ahead in
     subst (λ (ms : List ℕ). IsAhead c.args.line.now (c.args.at + 1) ms) (sym c.marks_behind-self.ensures) p.ahead
 
 pub marks_behind-self-requires-then-is_at : goal.marks_behind-self-requires-then-is_at
@@ -76,8 +93,11 @@ marks_behind-self-requires-then-is_at c =
     let h = subst (λ x. Has c.args.line.now c.next_token-inside.result x) c.closing_of.ensures (c.is_at.ensures.yes c.if-is_at.true) in
     (passes_structural c.args.line.now c.marks_behind-self.result.now c.next_token-inside.result h.inside (closing_structural (container_if c.args.is_object) (byte_at c.args.line.now c.next_token-inside.result) h.is) c.next_token-inside.ensures.ahead).within
 
-pub returns-in-Ok-clause-ahead : goal.returns-in-Ok-clause-ahead
-returns-in-Ok-clause-ahead c =
+pub returns-then-is_at-clause-ahead : goal.returns-then-is_at-clause-ahead
+returns-then-is_at-clause-ahead c =
     let h = subst (λ x. Has c.args.line.now c.next_token-inside.result x) c.closing_of.ensures (c.is_at.ensures.yes c.if-is_at.true) in
-    let p = passes_structural c.args.line.now c.marks_behind-self.result.now c.next_token-inside.result h.inside (closing_structural (container_if c.args.is_object) (byte_at c.args.line.now c.next_token-inside.result) h.is) c.next_token-inside.ensures.ahead in
-    subst (λ (ms : List ℕ). IsAhead c.args.line.now (c.next_token-inside.result + 1) ms) (sym c.marks_behind-self-then-is_at.ensures) p.ahead
+    let p = passes_structural c.args.line.now c.marks_behind-self.result.now c.next_token-inside.result h.inside (closing_structural (container_if c.args.is_object) (byte_at c.args.line.now c.next_token-inside.result) h.is) c.next_token-inside.ensures.ahead in (
+      subst (λ (ms : List ℕ). IsAhead c.args.line.now (c.next_token-inside.result + 1) ms) (sym c.marks_behind-self-then-is_at.ensures) p.ahead,
+      room_behind_two c.args.self.now _ c.marks_behind-self.result.now _ _ _ c.requires.ahead.1 c.write_node.ensures.written c.write_node.ensures.capacity refl c.marks_behind-self.ensures c.marks_behind-self-then-is_at.ensures
+          ((passes_structural c.args.line.now c.marks_behind-self.result.now c.next_token-inside.result h.inside (closing_structural (container_if c.args.is_object) (byte_at c.args.line.now c.next_token-inside.result) h.is) c.next_token-inside.ensures.ahead).within),
+    )

@@ -143,4 +143,4 @@ returns-in-Ok-clause-ahead c =
     let o = c.index-container.result.now in
     let h = subst (λ y. Has c.args.line.now c.args.next y) c.closing_of.ensures (c.is_at-2.ensures.yes c.if-not-is_at.false) in
     let p = passes_structural c.args.line.now c.args.self.now.marks.now c.args.next h.inside (closing_structural (container_if o.is_object) (byte_at c.args.line.now c.args.next) h.is) c.requires.ahead in
-    subst (λ (ms : List ℕ). IsAhead c.args.line.now (c.args.next + 1) ms) (sym (c.in-Ok.ensures.marks ∙ c.marks_behind-self-2.ensures)) p.ahead
+    (subst (λ (ms : List ℕ). IsAhead c.args.line.now (c.args.next + 1) ms) (sym (c.in-Ok.ensures.marks ∙ c.marks_behind-self-2.ensures)) p.ahead, c.in-Ok.ensures.spare)

@@ -7,10 +7,10 @@ kept_body-body-requires-clause-text c l =
     let f = c.requires.found in
     (kept_text c.args.line.now f.0 f.1 c.args.label f.2 c.in-Some.span c.in-Some.is l).0
 
-pub returns-else-is_err-clause-found : goal.returns-else-is_err-clause-found
-returns-else-is_err-clause-found c kind from found order =
-    labelled_named c.args.line.now kind from c.args.label found c.args.self.now _ c.in-Some.span c.kept_body-body.result c.in-Some.is order c.requires.within c.kept_body-body.ensures (rw c.reserve.ensures.items at c.push_reserved.ensures.items) refl refl refl refl refl refl
+pub returns-in-Some-clause-found : goal.returns-in-Some-clause-found
+returns-in-Some-clause-found c kind from found order =
+    labelled_named c.args.line.now kind from c.args.label found c.args.self.now _ c.in-Some.span c.kept_body-body.result c.in-Some.is order c.requires.within c.kept_body-body.ensures c.push_reserved.ensures.items refl refl refl c.raise.ensures refl refl
 
 pub returns-in_default-clause-found : goal.returns-in_default-clause-found
 returns-in_default-clause-found c kind from found order =
-    labelled_bare c.args.line.now kind from c.args.label found c.args.self.now _ c.in_default.is order c.requires.within refl refl refl refl refl refl refl
+    labelled_bare c.args.line.now kind from c.args.label found c.args.self.now _ c.in_default.is order c.requires.within refl refl refl refl c.raise.ensures refl refl

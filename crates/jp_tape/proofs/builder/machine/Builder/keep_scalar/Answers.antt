@@ -11,13 +11,13 @@ returns-clause-goes_on c line found =
     let r = c.args.scalar in
     scalar_goes_on line c.args.at c.args.name b _ r found
     (record {
-      words_are = node_is b.words.items _ _ _ _ _ _ _ c.in-Ok.ensures.written
+      words_are = node_is b.words.items _ _ _ _ _ _ _ c.write_node.ensures.written
           (c.head-head.ensures ∙ ap (λ (a : Above). head_word (code_of r.kind) 0 a.parent) c.above-above.ensures) c.span_to_word-span.ensures
           (c.label_to_word-label.ensures ∙ ap (λ (a : Above). body_word a.index c.args.name) c.above-above.ensures);
       opened = refl;
       names = refl;
       deepest_is = refl;
-      surrogate = refl;
-      exponent = refl;
+      surrogate = c.raise.ensures;
+      exponent = c.raise-2.ensures;
       duplicate = refl;
     })
