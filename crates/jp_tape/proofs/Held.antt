@@ -1,11 +1,11 @@
 -- What the builder holds is that of the state.
-use Rattle.std.proofs.Common.{◌≡◌, ℕ, suc, ◌+◌, ◌-◌, ◌*◌, ◌/◌, ◌<◌, ◌≤◌, max, Bool, true, false, ◌||◌, List, [], ◌∷◌, ◌++◌, length, set, take, get_or, sym, ◌∙◌, ap, ap₂, refl, arith, Option, Some, None, append_assoc, append-nil, add-zero, add_assoc, length-append, get_or-append-add, true≢false}
+use Rattle.std.proofs.Common.{◌≡◌, ℕ, suc, ◌+◌, ◌-◌, ◌*◌, ◌/◌, ◌≤◌, max, Bool, true, false, ◌||◌, List, [], ◌∷◌, ◌++◌, length, take, get_or, sym, ◌∙◌, ap, ap₂, refl, arith, Option, Some, None, append_assoc, append-nil, add-zero, add_assoc, length-append, get_or-append-add, true≢false}
 use Rattle.std.proofs.Math.Seq.{take-append_seam}
 use Rattle.jp_model.specs.Json.Tree.{Tree, node, Value, null, boolean, number, string, container, Children, no_child, child, Name, count_children, joined}
 use Rattle.jp_model.specs.Json.Faults.{depth, greatest_depth, name_has_lone_surrogate, has_surrogate, children_have_surrogate, has_long_exponent, children_have_long_exponent, name_points, names, has_duplicate, children_have_duplicate}
 use Rattle.jp_tape.specs.declared.builder.machine.Open.{Open}
 use Rattle.jp_tape.specs.Words.{node_count, value_node_count, children_node_count, label_word, words_from, words_below, children_words}
-use Rattle.jp_tape.specs.Machine.{Frame, open_count, open_words, open_names, opens, open_of, next_parent, next_index, next_above, open_depth, open_surrogate, open_long, open_duplicate}
+use Rattle.jp_tape.specs.Machine.{Frame, open_count, open_words, open_names, opens, open_of, next_parent, next_index, no_container, open_depth, open_surrogate, open_long, open_duplicate}
 
 -- ---- tests
 
@@ -130,27 +130,6 @@ pub joined_count : (a : Children) (own : Option Name) (t : Tree) → count_child
 joined_count no_child own t = refl
 joined_count (child o u rest) own t = let h = joined_count rest own t in omega (arith, h)
 
--- where the next value stands, by the innermost container, which is the last
-above_behind : (os : List Open) (o : Open) → next_above (os ++ o ∷ []) ≡ record { parent = o.place; index = o.children }
-above_behind [] o = refl
-above_behind (p ∷ []) o = refl
-above_behind (p ∷ q ∷ os) o = above_behind (q ∷ os) o
-
-pub above_of_frames : (frames : List Frame) → next_above (opens frames) ≡ record { parent = next_parent frames; index = next_index frames }
-above_of_frames [] = refl
-above_of_frames (f ∷ frames) = above_behind (opens frames) (open_of f frames)
-
-pub above_of_none : (os : List Open) → length os ≡ 0 → next_above os ≡ record { parent = 0; index = 0 }
-above_of_none [] h = refl
-above_of_none (o ∷ os) h = absurd (omega (arith, h))
-
-pub above_of_last : (os : List Open) (o : Open) → 0 < length os → o ≡ get_or os (length os - 1) o → next_above os ≡ record { parent = o.place; index = o.children }
-above_of_last [] o l h = absurd (omega (arith, l))
-above_of_last (p ∷ []) o l h = ap (λ (x : Open). record { parent = x.place; index = x.children }) (sym h)
-above_of_last (p ∷ q ∷ os) o l h =
-    let e : suc (suc (length os)) - 1 ≡ suc (suc (length os) - 1) = omega arith in
-    above_of_last (q ∷ os) o (omega arith) (h ∙ ap (λ n. get_or (p ∷ q ∷ os) n o) e)
-
 -- ---- depths
 
 open_depth_above : (frames : List Frame) → length frames ≤ open_depth frames
@@ -163,12 +142,12 @@ flat_depth frames d e = let h = open_depth_above frames in omega (arith, h, e)
 pub root_depth : (d : ℕ) → max 0 (0 + d) ≡ d
 root_depth d = omega arith
 
-pub opens_count : (frames : List Frame) → length (opens frames) ≡ length frames
+opens_count : (frames : List Frame) → length (opens frames) ≡ length frames
 opens_count [] = refl
 opens_count (f ∷ frames) = let h = opens_count frames in let l = length-append (opens frames) (open_of f frames ∷ []) in omega (arith, h, l)
 
-pub deeper : (frames : List Frame) (deep : ℕ) (os : List Open) → deep ≡ open_depth frames → os ≡ opens frames → max deep (length os + 1) ≡ max (open_depth frames) (length frames + 1)
-deeper frames deep os e p = let n : length os ≡ length frames = ap (λ (xs : List Open). length xs) p ∙ opens_count frames in omega (arith, e, n)
+pub deeper : (frames : List Frame) (deep n : ℕ) → deep ≡ open_depth frames → n ≡ length frames → max deep (n + 1) ≡ max (open_depth frames) (length frames + 1)
+deeper frames deep n e l = omega (arith, e, l)
 
 joined_depth : (a : Children) (own : Option Name) (t : Tree) → greatest_depth (joined a (child own t no_child)) ≡ max (greatest_depth a) (depth t)
 joined_depth no_child own t = omega arith
@@ -236,29 +215,53 @@ grown_names f frames own t = append_assoc (outer_names f frames) (names f.done) 
 -- ---- the innermost container
 
 -- lists with one more at the end are equal only where their fronts are
-pub snoc_front : {A : Type 0} (xs ys : List A) (a b : A) → xs ++ a ∷ [] ≡ ys ++ b ∷ [] → xs ≡ ys
+snoc_front : {A : Type 0} (xs ys : List A) (a b : A) → xs ++ a ∷ [] ≡ ys ++ b ∷ [] → xs ≡ ys
 snoc_front {A} xs ys a b e =
     let l : length xs + 1 ≡ length ys + 1 = sym (length-append xs (a ∷ [])) ∙ (ap (λ (zs : List A). length zs) e ∙ length-append ys (b ∷ [])) in
     let m : length xs ≡ length ys = omega arith in
     sym (take-append_seam xs (a ∷ [])) ∙ (ap₂ (λ n (zs : List A). take n zs) m e ∙ take-append_seam ys (b ∷ []))
 
-pub last_of : {A : Type 0} (xs : List A) (y d : A) → get_or (xs ++ y ∷ []) (length (xs ++ y ∷ []) - 1) d ≡ y
+last_of : {A : Type 0} (xs : List A) (y d : A) → get_or (xs ++ y ∷ []) (length (xs ++ y ∷ []) - 1) d ≡ y
 last_of {A} xs y d =
     let l = length-append xs (y ∷ []) in
     let e : length (xs ++ y ∷ []) - 1 ≡ length xs + 0 = omega (arith, l) in
     ap (λ n. get_or (xs ++ y ∷ []) n d) e ∙ get_or-append-add xs (y ∷ []) 0 d
 
-pub front_of : {A : Type 0} (xs : List A) (y : A) → take (length (xs ++ y ∷ []) - 1) (xs ++ y ∷ []) ≡ xs
-front_of {A} xs y =
-    let l = length-append xs (y ∷ []) in
-    let e : length (xs ++ y ∷ []) - 1 ≡ length xs = omega (arith, l) in
-    ap (λ n. take n (xs ++ y ∷ [])) e ∙ take-append_seam xs (y ∷ [])
+snoc_last : {A : Type 0} (xs ys : List A) (a b : A) → xs ++ a ∷ [] ≡ ys ++ b ∷ [] → a ≡ b
+snoc_last {A} xs ys a b e = sym (last_of xs a a) ∙ (ap (λ (zs : List A). get_or zs (length zs - 1) a) e ∙ last_of ys b a)
 
--- a list that is not empty has a front and a last item, in whose place another can stand
-pub set_last : {A : Type 0} (xs : List A) (x y : A) → 0 < length xs → x ≡ get_or xs (length xs - 1) x → (front : List A) × (xs ≡ front ++ x ∷ []) × (set xs (length xs - 1) y ≡ front ++ y ∷ [])
-set_last [] x y l e = absurd (omega (arith, l))
-set_last (z ∷ []) x y l e = ([], ap (λ a. a ∷ []) (sym e), refl)
-set_last {A} (z ∷ w ∷ xs) x y l e =
-    let n : suc (suc (length xs)) - 1 ≡ suc (suc (length xs) - 1) = omega arith in
-    let r = set_last (w ∷ xs) x y (omega arith) (e ∙ ap (λ k. get_or (z ∷ w ∷ xs) k x) n) in
-    (z ∷ r.0, ap (λ (a : List A). z ∷ a) r.1, ap (λ k. set (z ∷ w ∷ xs) k y) n ∙ ap (λ (a : List A). z ∷ a) r.2)
+-- ---- the innermost container, and those around it
+
+-- that of the state
+abbrev pub innermost_of : List Frame → Open
+innermost_of [] = no_container
+innermost_of (f ∷ frames) = open_of f frames
+
+pub innermost_is : (frames : List Frame) (os : List Open) (o : Open) → os ++ o ∷ [] ≡ no_container ∷ opens frames → o ≡ innermost_of frames
+innermost_is [] os o e = snoc_last os [] o no_container e
+innermost_is (f ∷ frames) os o e = snoc_last os (no_container ∷ opens frames) o (open_of f frames) e
+
+pub outer_is : (f : Frame) (frames : List Frame) (os : List Open) (o : Open) → os ++ o ∷ [] ≡ no_container ∷ opens (f ∷ frames) → os ≡ no_container ∷ opens frames
+outer_is f frames os o e = snoc_front os (no_container ∷ opens frames) o (open_of f frames) e
+
+pub outer_count : (frames : List Frame) (os : List Open) (o : Open) → os ++ o ∷ [] ≡ no_container ∷ opens frames → length os ≡ length frames
+outer_count frames os o e =
+    let l = length-append os (o ∷ []) in
+    let n = ap (λ (xs : List Open). length xs) e in
+    let c = opens_count frames in
+    omega (arith, l, n, c)
+
+place_of : (frames : List Frame) → (innermost_of frames).place ≡ next_parent frames
+place_of [] = refl
+place_of (f ∷ frames) = refl
+
+index_of : (frames : List Frame) → (innermost_of frames).children ≡ next_index frames
+index_of [] = refl
+index_of (f ∷ frames) = refl
+
+-- where the next value stands
+pub parent_place : (frames : List Frame) (os : List Open) (o : Open) → os ++ o ∷ [] ≡ no_container ∷ opens frames → o.place ≡ next_parent frames
+parent_place frames os o e = ap (λ (x : Open). x.place) (innermost_is frames os o e) ∙ place_of frames
+
+pub child_index : (frames : List Frame) (os : List Open) (o : Open) → os ++ o ∷ [] ≡ no_container ∷ opens frames → o.children ≡ next_index frames
+child_index frames os o e = ap (λ (x : Open). x.children) (innermost_is frames os o e) ∙ index_of frames

@@ -13,9 +13,9 @@ use Rattle.jp_tape.specs.declared.builder.machine.Builder.{Builder}
 use Rattle.jp_tape.specs.declared.builder.machine.Turn.{Turn}
 use Rattle.jp_tape.specs.declared.builder.machine.Turn.TheVariants as turns
 use Rattle.jp_tape.specs.declared.builder.tokens.Label.{Label}
-use Rattle.jp_tape.specs.Machine.{Labelled, IsBehind}
+use Rattle.jp_tape.specs.Machine.{Labelled, IsBehind, held}
 use Rattle.jp_tape.specs.Names.{points, all_points}
-use Rattle.jp_tape.specs.Reading.{body_of, FoundLabel}
+use Rattle.jp_tape.specs.Reading.{body_of, body_word, FoundLabel}
 use Rattle.jp_strings.specs.Points.{is_text_from, points_of}
 use Rattle.jp_strings.proofs.Slices.{text_of_slice, points_of_slice}
 use Rattle.jp_strings.proofs.Texts.{text_of_body}
@@ -57,15 +57,15 @@ kept_span line kind from r f s e =
     let i = q.3.inside in
     (o, omega (arith, i))
 
-pub labelled_named : (line : List ℕ) (kind : Container) (from : ℕ) (r : Label) (f : FoundLabel line kind from r) (old new : Builder) (s : Span) (b : Body) → r.name ≡ Some s → from ≤ r.value → r.value ≤ length line →
-    (r.is_lone ≡ false → points b ≡ points_of (bytes_between line s.start s.end)) → new.names.items ≡ old.names.items ++ b ∷ [] → new.words.items ≡ old.words.items → new.opened.items ≡ old.opened.items → new.deepest ≡ old.deepest →
-    new.has_surrogate ≡ old.has_surrogate || r.is_lone → new.has_long_exponent ≡ old.has_long_exponent → new.has_duplicate ≡ old.has_duplicate → Labelled line kind from (turns.Value r.name r.value) old new
-labelled_named line kind from r f old new s b e o i p n w q d u l v =
+pub labelled_named : (line : List ℕ) (kind : Container) (from : ℕ) (r : Label) (f : FoundLabel line kind from r) (old new : Builder) (s : Span) (b : Body) (word : ℕ) → word ≡ body_word old.innermost.children r.name → r.name ≡ Some s → from ≤ r.value → r.value ≤ length line →
+    (r.is_lone ≡ false → points b ≡ points_of (bytes_between line s.start s.end)) → new.names.items ≡ old.names.items ++ b ∷ [] → new.words.items ≡ old.words.items → held new ≡ held old → new.deepest ≡ old.deepest →
+    new.has_surrogate ≡ old.has_surrogate || r.is_lone → new.has_long_exponent ≡ old.has_long_exponent → new.has_duplicate ≡ old.has_duplicate → Labelled line kind from (turns.Value word r.value) old new
+labelled_named line kind from r f old new s b word m e o i p n w q d u l v =
     let named = label_named line kind from r f s e in
     record {
       label = r;
       found = f;
-      is_turn = refl;
+      is_turn = ap (λ (x : ℕ). turns.Value x r.value) m;
       order = o;
       within = i;
       words = w;
@@ -80,15 +80,15 @@ labelled_named line kind from r f old new s b e o i p n w q d u l v =
       duplicate = v;
     }
 
-pub labelled_bare : (line : List ℕ) (kind : Container) (from : ℕ) (r : Label) (f : FoundLabel line kind from r) (old new : Builder) → r.name ≡ None → from ≤ r.value → r.value ≤ length line →
-    new.names.items ≡ old.names.items → new.words.items ≡ old.words.items → new.opened.items ≡ old.opened.items → new.deepest ≡ old.deepest →
-    new.has_surrogate ≡ old.has_surrogate || r.is_lone → new.has_long_exponent ≡ old.has_long_exponent → new.has_duplicate ≡ old.has_duplicate → Labelled line kind from (turns.Value r.name r.value) old new
-labelled_bare line kind from r f old new e o i n w q d u l v =
+pub labelled_bare : (line : List ℕ) (kind : Container) (from : ℕ) (r : Label) (f : FoundLabel line kind from r) (old new : Builder) (word : ℕ) → word ≡ body_word old.innermost.children r.name → r.name ≡ None → from ≤ r.value → r.value ≤ length line →
+    new.names.items ≡ old.names.items → new.words.items ≡ old.words.items → held new ≡ held old → new.deepest ≡ old.deepest →
+    new.has_surrogate ≡ old.has_surrogate || r.is_lone → new.has_long_exponent ≡ old.has_long_exponent → new.has_duplicate ≡ old.has_duplicate → Labelled line kind from (turns.Value word r.value) old new
+labelled_bare line kind from r f old new word m e o i n w q d u l v =
     let bare : f.name ≡ None = name_none f.name (sym f.is_body ∙ e) in
     record {
       label = r;
       found = f;
-      is_turn = refl;
+      is_turn = ap (λ (x : ℕ). turns.Value x r.value) m;
       order = o;
       within = i;
       words = w;

@@ -1,5 +1,5 @@
 -- What the builder does is a step from a state to one that completes alike.
-use Rattle.std.proofs.Common.{◌≡◌, ℕ, ◌+◌, ◌-◌, ◌*◌, ◌/◌, ◌<◌, ◌≤◌, max, Bool, true, false, ◌||◌, List, [], ◌∷◌, ◌++◌, length, set, take, drop, get_or, sym, ◌∙◌, ap, ap₂, subst, refl, arith, Option, Some, None, append_assoc, append-nil, add-zero, length-append}
+use Rattle.std.proofs.Common.{◌≡◌, ℕ, ◌+◌, ◌-◌, ◌*◌, ◌/◌, ◌<◌, ◌≤◌, max, Bool, true, false, ◌||◌, List, [], ◌∷◌, ◌++◌, length, set, take, drop, sym, ◌∙◌, ap, ap₂, subst, refl, arith, Option, Some, None, append_assoc, append-nil, add-zero, length-append}
 use Rattle.std.specs.List.{take-map, drop-map}
 use Rattle.std.proofs.lemmas.List.{length-take-le}
 use Rattle.std.proofs.Math.Seq.{set-append_seam, take-append_seam, drop-append_seam}
@@ -8,7 +8,6 @@ use Rattle.jp_model.specs.Json.Places.{White, Has}
 use Rattle.jp_model.specs.Json.Tree.{Tree, node, container, Container, array, object, no_child, Name, count_children}
 use Rattle.jp_model.specs.Json.Faults.{depth, name_has_lone_surrogate, has_surrogate, has_long_exponent, name_points, names, has_repeated, has_duplicate, children_have_duplicate}
 use Rattle.jp_model.specs.Json.Spelling.{opening, closing}
-use Rattle.jp_tape.specs.declared.builder.machine.Above.{Above}
 use Rattle.jp_tape.specs.declared.builder.machine.Builder.{Builder}
 use Rattle.jp_tape.specs.declared.builder.machine.Open.{Open}
 use Rattle.jp_tape.specs.declared.builder.machine.Turn.{Turn}
@@ -23,9 +22,9 @@ use Rattle.jp_model.specs.declared.LineFault.TheVariants as line_faults
 use Rattle.jp_tape.specs.declared.builder.BuildFault.{BuildFault}
 use Rattle.jp_tape.specs.declared.builder.BuildFault.TheVariants as faults
 use Rattle.jp_tape.specs.Words.{kind_code, nodes_below, label_word, children_words, children_node_count, head_word, span_word, container_code}
-use Rattle.jp_tape.specs.Machine.{Frame, State, Value_at, After_value, Finished, Alike, IsStuck, Keeps, Stands, GoesOn, Steps, NoStep, Labelled, IsCounted, IsClosed, IsInnermost, next_above, next_parent, next_index, open_count, open_words, open_names, opens, open_of, open_depth, open_surrogate, open_long, open_duplicate, is_object}
+use Rattle.jp_tape.specs.Machine.{Frame, State, Value_at, After_value, Finished, Alike, IsStuck, Keeps, Stands, GoesOn, Steps, NoStep, Labelled, IsCounted, IsClosed, IsInnermost, held, no_container, next_parent, next_index, open_count, open_words, open_names, opens, open_of, open_depth, open_surrogate, open_long, open_duplicate, is_object}
 use Rattle.jp_tape.proofs.Steps.{scalar_step, no_value_step, empty_step, enter_step, enter_stuck, entered, comma_step, comma_stuck, close_step, neither_stuck, grown, end_step, no_end_stuck}
-use Rattle.jp_tape.proofs.Held.{or_false, or_swap, left_false, right_false, open_length, with_child, outer_names, next_label, next_words, grown_tail, grown_length, grown_few, joined_count, third, above_of_frames, snoc_front, last_of, front_of, flat_depth, root_depth, deeper, grown_depth, closed_depth, grown_surrogate, grown_long, grown_duplicate, grown_names}
+use Rattle.jp_tape.proofs.Held.{or_false, or_swap, left_false, right_false, open_length, with_child, outer_names, next_label, next_words, grown_tail, grown_length, grown_few, joined_count, third, innermost_is, outer_is, outer_count, parent_place, child_index, flat_depth, root_depth, deeper, grown_depth, closed_depth, grown_surrogate, grown_long, grown_duplicate, grown_names}
 
 word_of_body : (index : ℕ) (own : Option Name) → body_word index (body_of own) ≡ label_word index own
 word_of_body index None = refl
@@ -44,7 +43,7 @@ KeepsBehind line b frames own t =
 -- the node of a value is written
 pub record Written (b new : Builder) (words : List ℕ) (deepest : ℕ) (lone long : Bool) : Type 0 where
   pub words_are : new.words.items ≡ b.words.items ++ words
-  pub opened : new.opened.items ≡ b.opened.items
+  pub opened : held new ≡ held b
   pub names : new.names.items ≡ b.names.items
   pub deepest_is : new.deepest ≡ deepest
   pub surrogate : new.has_surrogate ≡ b.has_surrogate || lone
@@ -67,57 +66,54 @@ keeps_value line frames own t b new ws d lone long k w e f g h i = record {
 place_is : (line : List ℕ) (frames : List Frame) (own : Option Name) (b : Builder) → KeepsBefore line b frames own → length b.words.items / 3 ≡ open_count frames
 place_is line frames own b k = third _ _ (ap length k.words ∙ open_length frames)
 
-above_is : (line : List ℕ) (frames : List Frame) (own : Option Name) (b : Builder) → KeepsBefore line b frames own → next_above b.opened.items ≡ record { parent = next_parent frames; index = next_index frames }
-above_is line frames own b k = ap next_above k.opened ∙ above_of_frames frames
-
--- where its parent is, and its third word
-parent_is : (line : List ℕ) (frames : List Frame) (own : Option Name) (b : Builder) → KeepsBefore line b frames own → (next_above b.opened.items).parent ≡ next_parent frames
-parent_is line frames own b k = ap (λ (a : Above). a.parent) (above_is line frames own b k)
-
-label_is : (line : List ℕ) (frames : List Frame) (own : Option Name) (b : Builder) (body : Option Span) → KeepsBefore line b frames own → body ≡ body_of own → body_word (next_above b.opened.items).index body ≡ next_label frames own
-label_is line frames own b body k e = ap₂ (λ (a : Above) (o : Option Span). body_word a.index o) (above_is line frames own b k) e ∙ word_of_body (next_index frames) own
+-- where its parent is
+parent_is : (line : List ℕ) (frames : List Frame) (own : Option Name) (b : Builder) → KeepsBefore line b frames own → b.innermost.place ≡ next_parent frames
+parent_is line frames own b k = parent_place frames b.opened.items b.innermost k.opened
 
 -- a scalar is read
-pub scalar_goes_on : (line : List ℕ) (at : ℕ) (body : Option Span) (b new : Builder) (r : Scalar) → FoundScalar line at r →
-    Written b new (head_word (code_of r.kind) 0 (next_above b.opened.items).parent ∷ span_word (record { start = at; end = r.end }) ∷ body_word (next_above b.opened.items).index body ∷ []) b.deepest r.is_lone r.is_long → Steps line (turns.Value body at) b (turns.After r.end) new
-scalar_goes_on line at body b new r s w (After_value frames own t from) h = absurd h
-scalar_goes_on line at body b new r s w (Finished t) h = absurd h
-scalar_goes_on line at body b new r s w (Value_at frames own from) h =
+pub scalar_goes_on : (line : List ℕ) (at label : ℕ) (b new : Builder) (r : Scalar) → FoundScalar line at r →
+    Written b new (head_word (code_of r.kind) 0 b.innermost.place ∷ span_word (record { start = at; end = r.end }) ∷ label ∷ []) b.deepest r.is_lone r.is_long → Steps line (turns.Value label at) b (turns.After r.end) new
+scalar_goes_on line at label b new r s w (After_value frames own t from) h = absurd h
+scalar_goes_on line at label b new r s w (Finished t) h = absurd h
+scalar_goes_on line at label b new r s w (Value_at frames own from) h =
     let here : Span = record { start = at; end = r.end } in
     let t = node here s.value in
     let parent = parent_is line frames own b h.3 in
-    let label = label_is line frames own b body h.3 h.0 in
-    let head : head_word (code_of r.kind) 0 (next_above b.opened.items).parent ≡ head_word (kind_code s.value) (nodes_below s.value) (next_parent frames) =
-    ap₂ (λ x y. head_word x y (next_above b.opened.items).parent) (sym s.is_kind) (sym s.leaf) ∙ ap (head_word (kind_code s.value) (nodes_below s.value)) parent in
-    let one : head_word (code_of r.kind) 0 (next_above b.opened.items).parent ∷ span_word here ∷ body_word (next_above b.opened.items).index body ∷ [] ≡ next_words frames own t =
-    ap₂ (λ (x : ℕ) (xs : List ℕ). x ∷ span_word here ∷ xs) head (ap₂ (λ (x : ℕ) (xs : List ℕ). x ∷ xs) label (sym (s.bare (open_count frames)))) in
+    let head : head_word (code_of r.kind) 0 b.innermost.place ≡ head_word (kind_code s.value) (nodes_below s.value) (next_parent frames) =
+    ap₂ (λ x y. head_word x y b.innermost.place) (sym s.is_kind) (sym s.leaf) ∙ ap (head_word (kind_code s.value) (nodes_below s.value)) parent in
+    let one : head_word (code_of r.kind) 0 b.innermost.place ∷ span_word here ∷ label ∷ [] ≡ next_words frames own t =
+    ap₂ (λ (x : ℕ) (xs : List ℕ). x ∷ span_word here ∷ xs) head (ap₂ (λ (x : ℕ) (xs : List ℕ). x ∷ xs) h.0 (sym (s.bare (open_count frames)))) in
     record {
       next = After_value frames own t r.end;
       stands = (refl, h.2, keeps_value line frames own t b new _ _ _ _ h.3 w one (h.3.deepest ∙ flat_depth frames (depth t) s.flat) (sym s.surrogate) (sym s.exponent) s.duplicate);
       alike = subst (λ f. Alike line (Value_at frames own f) (After_value frames own t r.end)) h.1 (scalar_step line frames own at r s);
     }
 
-pub no_value : (line : List ℕ) (at : ℕ) (body : Option Span) (b : Builder) → NoValue line at → NoStep line (turns.Value body at) b
-no_value line at body b n (After_value frames own t from) h = absurd h
-no_value line at body b n (Finished t) h = absurd h
-no_value line at body b n (Value_at frames own from) h = no_value_step line frames own from (subst (λ x. NoValue line x) h.1 n)
+pub no_value : (line : List ℕ) (at label : ℕ) (b : Builder) → NoValue line at → NoStep line (turns.Value label at) b
+no_value line at label b n (After_value frames own t from) h = absurd h
+no_value line at label b n (Finished t) h = absurd h
+no_value line at label b n (Value_at frames own from) h = no_value_step line frames own from (subst (λ x. NoValue line x) h.1 n)
 
 -- an empty container is read
-pub empty_goes_on : (line : List ℕ) (at place : ℕ) (body : Option Span) (b new : Builder) (kind : Container) → Has line at (opening kind) → White line (at + 1) place → Has line place (closing kind) →
-    Written b new (head_word (container_code kind) 0 (next_above b.opened.items).parent ∷ span_word (record { start = at; end = place + 1 }) ∷ body_word (next_above b.opened.items).index body ∷ []) (max b.deepest (length b.opened.items + 1)) false false →
-    Steps line (turns.Value body at) b (turns.After (place + 1)) new
-empty_goes_on line at place body b new kind o w c r (After_value frames own t from) h = absurd h
-empty_goes_on line at place body b new kind o w c r (Finished t) h = absurd h
-empty_goes_on line at place body b new kind o w c r (Value_at frames own from) h =
+pub empty_goes_on : (line : List ℕ) (at place label : ℕ) (b new : Builder) (kind : Container) → Has line at (opening kind) → White line (at + 1) place → Has line place (closing kind) →
+    Written b new (head_word (container_code kind) 0 b.innermost.place ∷ span_word (record { start = at; end = place + 1 }) ∷ label ∷ []) (max b.deepest (length b.opened.items + 1)) false false →
+    Steps line (turns.Value label at) b (turns.After (place + 1)) new
+empty_goes_on line at place label b new kind o w c r (After_value frames own t from) h = absurd h
+empty_goes_on line at place label b new kind o w c r (Finished t) h = absurd h
+empty_goes_on line at place label b new kind o w c r (Value_at frames own from) h =
     let here : Span = record { start = at; end = place + 1 } in
     let t = node here (container kind no_child) in
-    let one : head_word (container_code kind) 0 (next_above b.opened.items).parent ∷ span_word here ∷ body_word (next_above b.opened.items).index body ∷ [] ≡ next_words frames own t =
-    ap₂ (λ (x y : ℕ). head_word (container_code kind) 0 x ∷ span_word here ∷ y ∷ []) (parent_is line frames own b h.3) (label_is line frames own b body h.3 h.0) in
+    let one : head_word (container_code kind) 0 b.innermost.place ∷ span_word here ∷ label ∷ [] ≡ next_words frames own t =
+    ap₂ (λ (x y : ℕ). head_word (container_code kind) 0 x ∷ span_word here ∷ y ∷ []) (parent_is line frames own b h.3) h.0 in
     record {
       next = After_value frames own t (place + 1);
-      stands = (refl, h.2, keeps_value line frames own t b new _ _ _ _ h.3 r one (deeper frames b.deepest b.opened.items h.3.deepest h.3.opened) refl refl refl);
+      stands = (refl, h.2, keeps_value line frames own t b new _ _ _ _ h.3 r one (deeper frames b.deepest (length b.opened.items) h.3.deepest (outer_count frames b.opened.items b.innermost h.3.opened)) refl refl refl);
       alike = subst (λ f. Alike line (Value_at frames own f) (After_value frames own t (place + 1))) h.1 (empty_step line kind at place frames own o w c);
     }
+
+-- the third word of a child
+label_is : (frames : List Frame) (b : Builder) (body : Option Span) (own : Option Name) → held b ≡ no_container ∷ opens frames → body ≡ body_of own → body_word b.innermost.children body ≡ label_word (next_index frames) own
+label_is frames b body own e n = ap₂ (λ (i : ℕ) (o : Option Span). body_word i o) (child_index frames b.opened.items b.innermost e) n ∙ word_of_body (next_index frames) own
 
 -- what a label adds
 label_keeps : (line : List ℕ) (kind : Container) (from : ℕ) (turn : Turn) (old new : Builder) (l : Labelled line kind from turn old new) (ws : List ℕ) (os : List Open) (d : ℕ) (lone long : Bool) (ps : List (List ℕ)) (dup : Bool) →
@@ -134,25 +130,25 @@ label_keeps line kind from turn old new l ws os d lone long ps dup k = record {
 }
 
 -- a container with a child is entered
-pub record Entered (b mid : Builder) (at : ℕ) (body : Option Span) (kind : Container) : Type 0 where
-  pub words : mid.words.items ≡ b.words.items ++ 0 ∷ 0 ∷ body_word (next_above b.opened.items).index body ∷ []
-  pub opened : mid.opened.items ≡ b.opened.items ++ record { place = length b.words.items / 3; start = at; children = 0; names = length b.names.items; is_object = is_object kind } ∷ []
+pub record Entered (b mid : Builder) (at label : ℕ) (kind : Container) : Type 0 where
+  pub words : mid.words.items ≡ b.words.items ++ 0 ∷ 0 ∷ label ∷ []
+  pub opened : held mid ≡ held b ++ record { place = length b.words.items / 3; start = at; children = 0; names = length b.names.items; is_object = is_object kind } ∷ []
   pub names : mid.names.items ≡ b.names.items
   pub deepest : mid.deepest ≡ max b.deepest (length b.opened.items + 1)
   pub surrogate : mid.has_surrogate ≡ b.has_surrogate
   pub exponent : mid.has_long_exponent ≡ b.has_long_exponent
   pub duplicate : mid.has_duplicate ≡ b.has_duplicate
 
-keeps_entered : (line : List ℕ) (frames : List Frame) (own : Option Name) (b mid : Builder) (at : ℕ) (body : Option Span) (kind : Container) → KeepsBefore line b frames own → body ≡ body_of own → Entered b mid at body kind →
+keeps_entered : (line : List ℕ) (frames : List Frame) (own : Option Name) (b mid : Builder) (at label : ℕ) (kind : Container) → KeepsBefore line b frames own → label ≡ label_word (next_index frames) own → Entered b mid at label kind →
     Keeps mid (open_words (entered kind at own ∷ frames)) (opens (entered kind at own ∷ frames)) (open_depth (entered kind at own ∷ frames)) (open_surrogate (entered kind at own ∷ frames)) (open_long line (entered kind at own ∷ frames)) (open_names (entered kind at own ∷ frames))
     (open_duplicate (entered kind at own ∷ frames))
-keeps_entered line frames own b mid at body kind k n e =
+keeps_entered line frames own b mid at label kind k n e =
     let one : record { place = length b.words.items / 3; start = at; children = 0; names = length b.names.items; is_object = is_object kind } ≡ open_of (entered kind at own) frames =
     ap₂ (λ (x y : ℕ). record { place = x; start = at; children = 0; names = y; is_object = is_object kind }) (place_is line frames own b k) k.count in
     record {
-      words = e.words ∙ ap₂ (λ (xs ys : List ℕ). xs ++ 0 ∷ 0 ∷ ys) k.words (ap (λ (x : ℕ). x ∷ []) (label_is line frames own b body k n));
+      words = e.words ∙ ap₂ (λ (xs ys : List ℕ). xs ++ 0 ∷ 0 ∷ ys) k.words (ap (λ (x : ℕ). x ∷ []) n);
       opened = e.opened ∙ ap₂ (λ (xs : List Open) (x : Open). xs ++ x ∷ []) k.opened one;
-      deepest = e.deepest ∙ (deeper frames b.deepest b.opened.items k.deepest k.opened ∙ ap (λ x. max (open_depth frames) x) (sym (add-zero (length frames + 1))));
+      deepest = e.deepest ∙ (deeper frames b.deepest (length b.opened.items) k.deepest (outer_count frames b.opened.items b.innermost k.opened) ∙ ap (λ x. max (open_depth frames) x) (sym (add-zero (length frames + 1))));
       surrogate = e.surrogate ∙ (k.surrogate ∙ sym (or_false _));
       long = e.exponent ∙ (k.long ∙ sym (or_false _));
       count = ap length e.names ∙ (k.count ∙ ap (λ (x : List (List ℕ)). length x) (sym (append-nil (open_names frames ++ name_points own []))));
@@ -160,24 +156,25 @@ keeps_entered line frames own b mid at body kind k n e =
       duplicate = λ z. e.duplicate ∙ (k.duplicate (left_false _ _ z) ∙ sym (or_false _));
     }
 
-pub enter_goes_on : (line : List ℕ) (at place : ℕ) (body : Option Span) (b mid new : Builder) (turn : Turn) (kind : Container) → Has line at (opening kind) → White line (at + 1) place → Stops line place → (Has line place (closing kind) → ⊥) →
-    Entered b mid at body kind → Labelled line kind place turn mid new → Steps line (turns.Value body at) b turn new
-enter_goes_on line at place body b mid new turn kind o w s c e l (After_value frames own t from) h = absurd h
-enter_goes_on line at place body b mid new turn kind o w s c e l (Finished t) h = absurd h
-enter_goes_on line at place body b mid new turn kind o w s c e l (Value_at frames own from) h =
+pub enter_goes_on : (line : List ℕ) (at place label : ℕ) (b mid new : Builder) (turn : Turn) (kind : Container) → Has line at (opening kind) → White line (at + 1) place → Stops line place → (Has line place (closing kind) → ⊥) →
+    Entered b mid at label kind → Labelled line kind place turn mid new → Steps line (turns.Value label at) b turn new
+enter_goes_on line at place label b mid new turn kind o w s c e l (After_value frames own t from) h = absurd h
+enter_goes_on line at place label b mid new turn kind o w s c e l (Finished t) h = absurd h
+enter_goes_on line at place label b mid new turn kind o w s c e l (Value_at frames own from) h =
     let f = l.found in
     let inner = entered kind at own ∷ frames in
+    let k = keeps_entered line frames own b mid at label kind h.3 h.0 e in
     subst (λ x. GoesOn line (Value_at frames own from) x new) (sym l.is_turn)
     (record {
       next = Value_at inner f.name l.label.value;
-      stands = (f.is_body, refl, h.2, label_keeps line kind place turn mid new l _ _ _ _ _ _ _ (keeps_entered line frames own b mid at body kind h.3 h.0 e));
+      stands = (label_is inner mid l.label.name f.name k.opened f.is_body, refl, h.2, label_keeps line kind place turn mid new l _ _ _ _ _ _ _ k);
       alike = subst (λ y. Alike line (Value_at frames own y) (Value_at inner f.name l.label.value)) h.1 (enter_step line kind at place frames own o w s c l.label f);
     })
 
-pub no_enter : (line : List ℕ) (at place : ℕ) (body : Option Span) (b : Builder) (kind : Container) → Has line at (opening kind) → White line (at + 1) place → Stops line place → (Has line place (closing kind) → ⊥) → NoLabel line kind place → NoStep line (turns.Value body at) b
-no_enter line at place body b kind o w s c l (After_value frames own t from) h = absurd h
-no_enter line at place body b kind o w s c l (Finished t) h = absurd h
-no_enter line at place body b kind o w s c l (Value_at frames own from) h = subst (λ f. IsStuck line (Value_at frames own f)) h.1 (enter_stuck line kind at place frames own o w s c l)
+pub no_enter : (line : List ℕ) (at place label : ℕ) (b : Builder) (kind : Container) → Has line at (opening kind) → White line (at + 1) place → Stops line place → (Has line place (closing kind) → ⊥) → NoLabel line kind place → NoStep line (turns.Value label at) b
+no_enter line at place label b kind o w s c l (After_value frames own t from) h = absurd h
+no_enter line at place label b kind o w s c l (Finished t) h = absurd h
+no_enter line at place label b kind o w s c l (Value_at frames own from) h = subst (λ f. IsStuck line (Value_at frames own f)) h.1 (enter_stuck line kind at place frames own o w s c l)
 
 -- ---- behind a value
 
@@ -188,11 +185,11 @@ kind_of object = refl
 innermost_kind : (o : Open) (f : Frame) (frames : List Frame) → o ≡ open_of f frames → container_if o.is_object ≡ f.kind
 innermost_kind o f frames e = ap (λ (x : Open). container_if x.is_object) e ∙ kind_of f.kind
 
-pub is_innermost : (line : List ℕ) (at : ℕ) (b : Builder) (o : Open) → 0 < length b.opened.items → o ≡ get_or b.opened.items (length b.opened.items - 1) o → (x : State) → Stands line (turns.After at) b x → IsInnermost o x
-is_innermost line at b o l e (Value_at frames own from) h = absurd h
-is_innermost line at b o l e (Finished t) h = absurd h
-is_innermost line at b o l e (After_value [] own t from) h = let z : length b.opened.items ≡ 0 = ap length h.2.opened in absurd (omega (arith, l, z))
-is_innermost line at b o l e (After_value (f ∷ frames) own t from) h = e ∙ (ap (λ (xs : List Open). get_or xs (length xs - 1) o) h.2.opened ∙ last_of (opens frames) (open_of f frames) o)
+pub is_innermost : (line : List ℕ) (at : ℕ) (b : Builder) → 0 < length b.opened.items → (x : State) → Stands line (turns.After at) b x → IsInnermost b.innermost x
+is_innermost line at b l (Value_at frames own from) h = absurd h
+is_innermost line at b l (Finished t) h = absurd h
+is_innermost line at b l (After_value [] own t from) h = let n = outer_count [] b.opened.items b.innermost h.2.opened in absurd (omega (arith, l, n))
+is_innermost line at b l (After_value (f ∷ frames) own t from) h = innermost_is (f ∷ frames) b.opened.items b.innermost h.2.opened
 
 -- where its node stands, and its names
 pub innermost_place : (line : List ℕ) (at : ℕ) (b : Builder) (o : Open) (x : State) → Stands line (turns.After at) b x → IsInnermost o x → 3 * o.place + 2 < length b.words.items
@@ -226,15 +223,13 @@ innermost_children line at b o (After_value (f ∷ frames) own t from) h i =
     omega (arith, p, n, l)
 
 -- the child is one of the innermost container, which counts it
-counted_open : (f : Frame) (frames : List Frame) (own : Option Name) (t : Tree) (b mid : Builder) → b.opened.items ≡ opens (f ∷ frames) → IsCounted b mid → mid.opened.items ≡ opens (grown f own t ∷ frames)
+counted_open : (f : Frame) (frames : List Frame) (own : Option Name) (t : Tree) (b mid : Builder) → held b ≡ no_container ∷ opens (f ∷ frames) → IsCounted b mid → held mid ≡ no_container ∷ opens (grown f own t ∷ frames)
 counted_open f frames own t b mid k c =
-    let e : c.outer ++ c.innermost ∷ [] ≡ opens frames ++ open_of f frames ∷ [] = sym c.before ∙ k in
-    let outer : c.outer ≡ opens frames = snoc_front c.outer (opens frames) c.innermost (open_of f frames) e in
-    let last : c.innermost ≡ open_of f frames =
-    sym (last_of c.outer c.innermost (open_of f frames)) ∙ (ap (λ (xs : List Open). get_or xs (length xs - 1) (open_of f frames)) e ∙ last_of (opens frames) (open_of f frames) (open_of f frames)) in
-    c.after
-    ∙ (ap₂ (λ (xs : List Open) (x : Open). xs ++ record x { children = x.children + 1 } ∷ []) outer last
-    ∙ ap (λ (n : ℕ). opens frames ++ record (open_of f frames) { children = n } ∷ []) (sym (joined_count f.done own t)))
+    let outer = outer_is f frames b.opened.items b.innermost k in
+    let innermost : b.innermost ≡ open_of f frames = innermost_is (f ∷ frames) b.opened.items b.innermost k in
+    let counted : mid.innermost ≡ open_of (grown f own t) frames =
+    c.innermost ∙ (ap (λ (x : Open). record x { children = x.children + 1 }) innermost ∙ ap (λ (n : ℕ). record (open_of f frames) { children = n }) (sym (joined_count f.done own t))) in
+    ap₂ (λ (xs : List Open) (x : Open). xs ++ x ∷ []) (c.opened ∙ outer) counted
 
 keeps_grown : (line : List ℕ) (f : Frame) (frames : List Frame) (own : Option Name) (t : Tree) (b mid : Builder) → KeepsBehind line b (f ∷ frames) own t → IsCounted b mid →
     Keeps mid (open_words (grown f own t ∷ frames)) (opens (grown f own t ∷ frames)) (open_depth (grown f own t ∷ frames)) (open_surrogate (grown f own t ∷ frames)) (open_long line (grown f own t ∷ frames)) (open_names (grown f own t ∷ frames)) (open_duplicate (grown f own t ∷ frames))
@@ -258,10 +253,11 @@ comma_goes_on line at next from b mid new turn o w c v s n l (After_value [] own
 comma_goes_on line at next from b mid new turn o w c v s n l (After_value (f ∷ frames) own t y) h i =
     let m : Labelled line f.kind from turn mid new = subst (λ k. Labelled line k from turn mid new) (innermost_kind o f frames i) l in
     let inner = grown f own t ∷ frames in
+    let k = keeps_grown line f frames own t b mid h.2 n in
     subst (λ z. GoesOn line (After_value (f ∷ frames) own t y) z new) (sym m.is_turn)
     (record {
       next = Value_at inner m.found.name m.label.value;
-      stands = (m.found.is_body, refl, h.1, label_keeps line f.kind from turn mid new m _ _ _ _ _ _ _ (keeps_grown line f frames own t b mid h.2 n));
+      stands = (label_is inner mid m.label.name m.found.name k.opened m.found.is_body, refl, h.1, label_keeps line f.kind from turn mid new m _ _ _ _ _ _ _ k);
       alike = subst (λ z. Alike line (After_value (f ∷ frames) own t z) (Value_at inner m.found.name m.label.value)) h.0 (comma_step line f frames own t at next from w c v s m.label m.found);
     })
 
@@ -291,21 +287,20 @@ set_two front rest h s x y =
     ∙ (ap (λ n. set ((front ++ h ∷ []) ++ y ∷ rest) n s) l ∙ (set-append_seam (front ++ h ∷ []) y rest s ∙ append_assoc front (h ∷ []) (s ∷ rest)))
 
 -- the first word of a container that is closed
-closed_head : (f : Frame) (frames : List Frame) (own : Option Name) (t : Tree) (o : Open) (old : List ℕ) (os : List Open) → old ≡ open_words (f ∷ frames) ++ next_words (f ∷ frames) own t → o ≡ open_of f frames → os ≡ opens frames →
-    head_word (container_code (container_if o.is_object)) (length old / 3 - o.place - 1) (next_above os).parent ≡ head_word (container_code f.kind) (children_node_count (with_child f own t)) (next_parent frames)
-closed_head f frames own t o old os e i p =
+closed_head : (f : Frame) (frames : List Frame) (own : Option Name) (t : Tree) (o : Open) (old : List ℕ) (parent : ℕ) → old ≡ open_words (f ∷ frames) ++ next_words (f ∷ frames) own t → o ≡ open_of f frames → parent ≡ next_parent frames →
+    head_word (container_code (container_if o.is_object)) (length old / 3 - o.place - 1) parent ≡ head_word (container_code f.kind) (children_node_count (with_child f own t)) (next_parent frames)
+closed_head f frames own t o old parent e i p =
     let count : length old / 3 ≡ open_count frames + (1 + children_node_count (with_child f own t)) = third (length old) _ (ap length e ∙ grown_length f frames own t) in
     let place : o.place ≡ open_count frames = ap (λ (y : Open). y.place) i in
     let below : length old / 3 - o.place - 1 ≡ children_node_count (with_child f own t) = omega (arith, count, place) in
-    let parent : (next_above os).parent ≡ next_parent frames = ap (λ (xs : List Open). (next_above xs).parent) p ∙ ap (λ (a : Above). a.parent) (above_of_frames frames) in
-    ap₂ (λ (k : Container) (q : ℕ × ℕ). head_word (container_code k) q.0 q.1) (innermost_kind o f frames i) (ap₂ (λ (x y : ℕ). (x, y)) below parent)
+    ap₂ (λ (k : Container) (q : ℕ × ℕ). head_word (container_code k) q.0 q.1) (innermost_kind o f frames i) (ap₂ (λ (x y : ℕ). (x, y)) below p)
 
-closed_words : (f : Frame) (frames : List Frame) (own : Option Name) (t : Tree) (o : Open) (end : ℕ) (old new : List ℕ) (os : List Open) → old ≡ open_words (f ∷ frames) ++ next_words (f ∷ frames) own t → o ≡ open_of f frames → os ≡ opens frames →
-    new ≡ set (set old (3 * o.place) (head_word (container_code (container_if o.is_object)) (length old / 3 - o.place - 1) (next_above os).parent)) (3 * o.place + 1) (span_word (record { start = o.start; end = end })) →
+closed_words : (f : Frame) (frames : List Frame) (own : Option Name) (t : Tree) (o : Open) (end : ℕ) (old new : List ℕ) (parent : ℕ) → old ≡ open_words (f ∷ frames) ++ next_words (f ∷ frames) own t → o ≡ open_of f frames → parent ≡ next_parent frames →
+    new ≡ set (set old (3 * o.place) (head_word (container_code (container_if o.is_object)) (length old / 3 - o.place - 1) parent)) (3 * o.place + 1) (span_word (record { start = o.start; end = end })) →
     new ≡ open_words frames ++ next_words frames f.name (node (record { start = f.start; end = end }) (container f.kind (with_child f own t)))
-closed_words f frames own t o end old new os e i p n =
+closed_words f frames own t o end old new parent e i p n =
     let place : 3 * o.place ≡ length (open_words frames) = ap (λ (y : Open). 3 * y.place) i ∙ sym (open_length frames) in
-    let head = closed_head f frames own t o old os e i p in
+    let head = closed_head f frames own t o old parent e i p in
     let start : o.start ≡ f.start = ap (λ (y : Open). y.start) i in
     n
     ∙ (ap₂ (λ (p : List ℕ × ℕ) (q : ℕ × ℕ). set (set p.0 p.1 q.0) (p.1 + 1) (span_word (record { start = q.1; end = end }))) (ap₂ (λ (xs : List ℕ) (m : ℕ). (xs, m)) (e ∙ grown_tail f frames own t) place) (ap₂ (λ (x y : ℕ). (x, y)) head start)
@@ -332,7 +327,8 @@ close_goes_on line at next b new o w c r (After_value (f ∷ frames) own t y) h 
     let base : o.names ≡ length outer = ap (λ (z : Open). z.names) i in
     let spelled = grown_names f frames own t in
     let lone = grown_surrogate f frames own t in
-    let behind : new.opened.items ≡ opens frames = r.opened ∙ (ap (λ (os : List Open). take (length os - 1) os) k.opened ∙ front_of (opens frames) (open_of f frames)) in
+    let behind : held new ≡ no_container ∷ opens frames = r.opened ∙ outer_is f frames b.opened.items b.innermost k.opened in
+    let parent = parent_place frames new.opened.items new.innermost behind in
     let k_names = λ (z : (open_surrogate frames || name_has_lone_surrogate f.name) || has_surrogate closed ≡ false). k.names (lone ∙ z) ∙ spelled in
     record {
       next = After_value frames f.name closed (next + 1);
@@ -340,7 +336,7 @@ close_goes_on line at next b new o w c r (After_value (f ∷ frames) own t y) h 
         refl,
         h.1,
         record {
-          words = closed_words f frames own t o (next + 1) b.words.items new.words.items new.opened.items k.words i behind r.words;
+          words = closed_words f frames own t o (next + 1) b.words.items new.words.items new.innermost.place k.words i parent r.words;
           opened = behind;
           deepest = r.deepest ∙ (k.deepest ∙ closed_depth f frames own t);
           surrogate = r.surrogate ∙ (k.surrogate ∙ lone);
@@ -363,9 +359,7 @@ pub end_goes_on : (line : List ℕ) (at : ℕ) (b : Builder) → White line at (
 end_goes_on line at b w z (Value_at frames own y) h = absurd h
 end_goes_on line at b w z (Finished t) h = absurd h
 end_goes_on line at b w z (After_value (f ∷ frames) own t y) h =
-    let n = ap length h.2.opened in
-    let l = length-append (opens frames) (open_of f frames ∷ []) in
-    absurd (omega (arith, n, l, z))
+    let n = ap (λ (os : List Open). length os) (outer_is f frames b.opened.items b.innermost h.2.opened) in absurd (omega (arith, n, z))
 end_goes_on line at b w z (After_value [] own t y) h =
     let k : KeepsBehind line b [] None t = subst (λ o. KeepsBehind line b [] o t) h.1 h.2 in
     record {
@@ -378,9 +372,7 @@ pub no_end : (line : List ℕ) (at next : ℕ) (b : Builder) → White line at n
 no_end line at next b w s n z (Value_at frames own y) h = absurd h
 no_end line at next b w s n z (Finished t) h = absurd h
 no_end line at next b w s n z (After_value (f ∷ frames) own t y) h =
-    let m = ap length h.2.opened in
-    let l = length-append (opens frames) (open_of f frames ∷ []) in
-    absurd (omega (arith, m, l, z))
+    let m = ap (λ (os : List Open). length os) (outer_is f frames b.opened.items b.innermost h.2.opened) in absurd (omega (arith, m, z))
 no_end line at next b w s n z (After_value [] own t y) h = subst (λ x. IsStuck line (After_value [] own t x)) h.0 (no_end_stuck line own t at next w s n)
 
 -- what a fault promises follows from what another promises

@@ -54,6 +54,6 @@ pub record HasRoom (b : Builder) : Type 0 where
 
 -- the marks ahead of a turn, for which there is room
 abbrev pub IsAheadOf : List ℕ → Turn → Builder → Type 0
-IsAheadOf line (turns.Value name at) b = IsNext line at b.marks.now × HasRoom b
+IsAheadOf line (turns.Value label at) b = IsNext line at b.marks.now × HasRoom b
 IsAheadOf line (turns.After at) b = IsAhead line at b.marks.now × HasRoom b
 IsAheadOf line turns.End b = Unit {0}

@@ -5,13 +5,12 @@ use Rattle.jp_model.specs.Json.Tree.{Tree, node, container, Container, array, ob
 use Rattle.jp_model.specs.Json.Faults.{depth, greatest_depth, name_has_lone_surrogate, has_surrogate, children_have_surrogate, has_long_exponent, children_have_long_exponent, name_points, names, has_repeated, has_duplicate, children_have_duplicate}
 use Rattle.jp_model.specs.Json.Spelling.{Spells, SpellsMore, Text}
 use Rattle.jp_tape.specs.declared.builder.machine.Open.{Open}
-use Rattle.jp_tape.specs.declared.builder.machine.Above.{Above}
 use Rattle.jp_tape.specs.declared.builder.machine.Builder.{Builder}
 use Rattle.jp_tape.specs.declared.builder.machine.Turn.{Turn}
 use Rattle.jp_tape.specs.declared.builder.machine.Turn.TheVariants as turns
 use Rattle.jp_tape.specs.Words.{children_node_count, label_word, words_from, children_words, tape_words, head_word, container_code, span_word}
 use Rattle.jp_tape.specs.declared.builder.tokens.Label.{Label}
-use Rattle.jp_tape.specs.Reading.{body_of, container_if, FoundLabel}
+use Rattle.jp_tape.specs.Reading.{body_word, container_if, FoundLabel}
 use Rattle.jp_tape.specs.Names.{all_points}
 
 -- a container that is open: where it begins, its own name, and its children so far
@@ -84,11 +83,13 @@ abbrev pub opens : List Frame → List Open
 opens [] = []
 opens (f ∷ frames) = opens frames ++ open_of f frames ∷ []
 
--- where the next value stands: it is a child of the innermost container, which is the last, or the root
-abbrev pub next_above : List Open → Above
-next_above [] = record { parent = 0; index = 0 }
-next_above (o ∷ []) = record { parent = o.place; index = o.children }
-next_above (o ∷ p ∷ os) = next_above (p ∷ os)
+-- what stands for the container around the root
+abbrev pub no_container : Open
+no_container = record { place = 0; start = 0; children = 0; names = 0; is_object = false }
+
+-- the containers that the builder holds, the innermost last
+abbrev pub held : Builder → List Open
+held b = b.opened.items ++ b.innermost ∷ []
 
 -- how deep the open containers and what is read in them nest
 abbrev pub open_depth : List Frame → ℕ
@@ -118,7 +119,7 @@ NoRootName (f ∷ frames) own = NoRootName frames f.name
 -- what the builder holds. Names are kept, and compared, only as long as no surrogate stands alone.
 pub record Keeps (b : Builder) (ws : List ℕ) (os : List Open) (d : ℕ) (lone too_long : Bool) (ps : List (List ℕ)) (repeated : Bool) : Type 0 where
   pub words : b.words.items ≡ ws
-  pub opened : b.opened.items ≡ os
+  pub opened : held b ≡ no_container ∷ os
   pub deepest : b.deepest ≡ d
   pub surrogate : b.has_surrogate ≡ lone
   pub long : b.has_long_exponent ≡ too_long
@@ -132,8 +133,8 @@ IsFinished line b t = Keeps b (tape_words t) [] (depth t) (has_surrogate t) (has
 
 -- what the builder holds stands for the state
 abbrev pub Stands : List ℕ → Turn → Builder → State → Type 0
-Stands line (turns.Value name at) b (Value_at frames own from) =
-    (name ≡ body_of own) × (at ≡ from) × NoRootName frames own
+Stands line (turns.Value label at) b (Value_at frames own from) =
+    (label ≡ label_word (next_index frames) own) × (at ≡ from) × NoRootName frames own
     × Keeps b (open_words frames) (opens frames) (open_depth frames) (open_surrogate frames || name_has_lone_surrogate own) (open_long line frames) (open_names frames ++ name_points own []) (open_duplicate frames)
 Stands line (turns.After at) b (After_value frames own t from) =
     (at ≡ from) × NoRootName frames own
@@ -169,19 +170,19 @@ pub record Reached (line : List ℕ) (turn : Turn) (b : Builder) : Type 0 where
 
 -- how much is left to read
 abbrev pub turn_left : List ℕ → Turn → ℕ
-turn_left line (turns.Value name at) = suc (length line - at)
+turn_left line (turns.Value label at) = suc (length line - at)
 turn_left line (turns.After at) = suc (length line - at)
 turn_left line turns.End = 0
 
 -- the turn is at a place of the line, and three words at most are written for a byte that was read
 abbrev pub IsWithin : List ℕ → Turn → Builder → Type 0
-IsWithin line (turns.Value name at) b = (at ≤ length line) × (length b.words.items ≤ 3 * at)
+IsWithin line (turns.Value label at) b = (at ≤ length line) × (length b.words.items ≤ 3 * at)
 IsWithin line (turns.After at) b = (at ≤ length line) × (length b.words.items ≤ 3 * at)
 IsWithin line turns.End b = Unit {0}
 
 -- the turn is behind this place, and within the line
 abbrev pub IsBehind : List ℕ → ℕ → Turn → Builder → Type 0
-IsBehind line from (turns.Value name at) b = (from < at) × IsWithin line (turns.Value name at) b
+IsBehind line from (turns.Value label at) b = (from < at) × IsWithin line (turns.Value label at) b
 IsBehind line from (turns.After at) b = (from < at) × IsWithin line (turns.After at) b
 IsBehind line from turns.End b = Unit {0}
 
@@ -194,11 +195,11 @@ IsInnermost o state = ⊥
 pub record Labelled (line : List ℕ) (kind : Container) (from : ℕ) (turn : Turn) (old new : Builder) : Type 0 where
   pub label : Label
   pub found : FoundLabel line kind from label
-  pub is_turn : turn ≡ turns.Value label.name label.value
+  pub is_turn : turn ≡ turns.Value (body_word old.innermost.children label.name) label.value
   pub order : from ≤ label.value
   pub within : label.value ≤ length line
   pub words : new.words.items ≡ old.words.items
-  pub opened : new.opened.items ≡ old.opened.items
+  pub opened : held new ≡ held old
   pub deepest : new.deepest ≡ old.deepest
   pub surrogate : new.has_surrogate ≡ old.has_surrogate || label.is_lone
   pub long : new.has_long_exponent ≡ old.has_long_exponent
@@ -208,10 +209,8 @@ pub record Labelled (line : List ℕ) (kind : Container) (from : ℕ) (turn : Tu
 
 -- one more child of the innermost container was read
 pub record IsCounted (old new : Builder) : Type 0 where
-  pub outer : List Open
-  pub innermost : Open
-  pub before : old.opened.items ≡ outer ++ innermost ∷ []
-  pub after : new.opened.items ≡ outer ++ record innermost { children = innermost.children + 1 } ∷ []
+  pub opened : new.opened.items ≡ old.opened.items
+  pub innermost : new.innermost ≡ record old.innermost { children = old.innermost.children + 1 }
   pub words : new.words.items ≡ old.words.items
   pub deepest : new.deepest ≡ old.deepest
   pub surrogate : new.has_surrogate ≡ old.has_surrogate
@@ -225,8 +224,8 @@ Holds line turn b = (x : State) × Stands line turn b x
 
 -- the innermost container is closed
 pub record IsClosed (container : Open) (end : ℕ) (old new : Builder) : Type 0 where
-  pub words : new.words.items ≡ slice_set (slice_set old.words.items (3 * container.place) (head_word (container_code (container_if container.is_object)) (length old.words.items / 3 - container.place - 1) (next_above new.opened.items).parent)) (3 * container.place + 1) (span_word (record { start = container.start; end = end }))
-  pub opened : new.opened.items ≡ take (length old.opened.items - 1) old.opened.items
+  pub words : new.words.items ≡ slice_set (slice_set old.words.items (3 * container.place) (head_word (container_code (container_if container.is_object)) (length old.words.items / 3 - container.place - 1) new.innermost.place)) (3 * container.place + 1) (span_word (record { start = container.start; end = end }))
+  pub opened : held new ≡ old.opened.items
   pub deepest : new.deepest ≡ old.deepest
   pub surrogate : new.has_surrogate ≡ old.has_surrogate
   pub long : new.has_long_exponent ≡ old.has_long_exponent

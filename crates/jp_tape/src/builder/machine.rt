@@ -13,7 +13,7 @@ ghost use Rattle.jp_tape.specs.Words.{head_word, span_word, container_code};
 ghost use Rattle.jp_tape.specs.Places.{Stops, IsUnescaped};
 ghost use Rattle.jp_tape.specs.Ahead.{HasRoom, IsAhead, IsAheadOf, IsNext, IsPassed, first_or, name_marks};
 ghost use Rattle.jp_tape.specs.Reading.{body_word, code_of, container_if, FoundScalar, FoundLabel, IsPlainLabel, NoLabel, OnFault};
-ghost use Rattle.jp_tape.specs.Machine.{Steps, NoStep, IsBehind, Labelled, IsFinished, IsCounted, IsClosed, Holds, next_above};
+ghost use Rattle.jp_tape.specs.Machine.{Steps, NoStep, IsBehind, Labelled, IsFinished, IsCounted, IsClosed, Holds, held, no_container};
 ghost use Rattle.jp_tape.specs.declared.builder.machine.Open.{Open};
 ghost use Rattle.jp_tape.specs.declared.builder.machine.Turn.TheVariants as turns;
 
@@ -42,20 +42,20 @@ struct Open {
     is_object: bool,
 }
 
-/// Where a value is among the nodes.
-#[derive(Clone, Copy)]
-struct Above {
-    /// The place of its parent; 0 for the root.
-    parent: u32,
-    /// How many of its siblings come before it.
-    index: u32,
-}
+/// What is kept as the innermost container where none is open: the root's parent has place 0, and the root is its first child.
+const NO_CONTAINER: Open = Open {
+    place: 0,
+    start: 0,
+    children: 0,
+    names: 0,
+    is_object: false,
+};
 
 /// What is read next.
 #[derive(Clone, Copy)]
 enum Turn {
-    /// A value, after its name.
-    Value(Option<Span>, usize),
+    /// A value, whose node has this third word.
+    Value(u64, usize),
     /// What follows a value.
     After(usize),
     End,
@@ -66,8 +66,9 @@ enum Turn {
 pub struct Builder<'a> {
     /// Three words to a node. The first two of an open container are not known yet.
     pub(super) words: Vec<u64>,
-    /// The containers that are open, the innermost last.
+    /// The containers that are open around the innermost one, after `NO_CONTAINER`.
     opened: Vec<Open>,
+    innermost: Open,
     /// The bodies of the names in them.
     names: Vec<Body<'a>>,
     /// Memory for their keys.
@@ -196,11 +197,22 @@ fn kept_body<'a>(line: &'a [u8], span: Span, is_lone: bool, is_plain: bool) -> B
     Body { bytes, is_plain }
 }
 
+/// Leaves the innermost container.
+#[inline(always)]
+fn leave(opened: &mut Vec<Open>, innermost: &mut Open)
+    requires { 0 < length opened.old.items }
+    ensures { opened.new.items ++ innermost.new ∷ [] ≡ opened.old.items }
+{
+    if let Some(outer) = opened.pop() {
+        *innermost = outer;
+    }
+}
+
 impl<'a> Builder<'a> {
     /// A builder that has read nothing. Its lists get memory as they grow, and keep it from line to line.
     pub fn new(alloc: Global) -> Builder<'a>
         ensures words { result.words.items ≡ [] }
-        ensures opened { result.opened.items ≡ [] }
+        ensures opened { held result ≡ no_container ∷ [] }
         ensures names { result.names.items ≡ [] }
         ensures marks { result.marks.now ≡ [] }
         ensures deepest { result.deepest ≡ 0 }
@@ -211,6 +223,7 @@ impl<'a> Builder<'a> {
         Builder {
             words: Vec::new(alloc),
             opened: Vec::new(alloc),
+            innermost: NO_CONTAINER,
             names: Vec::new(alloc),
             keys: Keys::new(alloc),
             marks: &[],
@@ -224,7 +237,7 @@ impl<'a> Builder<'a> {
     /// Forgets the line before, and gets room for the words and names of this one: a node has a mark at least, and a name three.
     fn start(&mut self, marks: &'a [u32]) -> Result<(), AllocError>
         ensures words { self.new.words.items ≡ [] }
-        ensures opened { self.new.opened.items ≡ [] }
+        ensures opened { held self.new ≡ no_container ∷ [] }
         ensures names { self.new.names.items ≡ [] }
         ensures marks { self.new.marks.now ≡ marks.now }
         ensures deepest { self.new.deepest ≡ 0 }
@@ -235,6 +248,7 @@ impl<'a> Builder<'a> {
     {
         self.words.clear();
         self.opened.clear();
+        self.innermost = NO_CONTAINER;
         self.names.clear();
         self.marks = marks;
         self.deepest = 0;
@@ -243,24 +257,6 @@ impl<'a> Builder<'a> {
         self.has_duplicate = false;
         self.words.reserve(3 * marks.len())?;
         self.names.reserve(marks.len() / 3)
-    }
-
-    /// Where the next value is: it is a child of the innermost container, or the root.
-    #[inline(always)]
-    fn above(&self) -> Above
-        ensures { result ≡ next_above self.now.opened.items }
-    {
-        if self.opened.is_empty() {
-            return Above {
-                parent: 0,
-                index: 0,
-            };
-        }
-        let parent = self.opened[self.opened.len() - 1];
-        Above {
-            parent: parent.place,
-            index: parent.children,
-        }
     }
 
     /// Keeps the name that comes before a child's value.
@@ -276,13 +272,14 @@ impl<'a> Builder<'a> {
         ensures found { (kind : Container) (from : ℕ) → FoundLabel line.now kind from label → from ≤ label.value → Labelled line.now kind from result self.old self.new }
         ensures ahead { IsAheadOf line.now result self.new }
     {
+        let word = label_to_word(label.name, self.innermost.children);
         raise(&mut self.has_surrogate, label.is_lone);
         if let Some(span) = label.name {
             self.marks = marks_behind(self.marks, 3);
             let body = kept_body(line, span, label.is_lone, label.is_plain);
             self.names.push_reserved(body);
         }
-        Turn::Value(label.name, label.value)
+        Turn::Value(word, label.value)
     }
 
     /// Reads what comes before a member's value, and keeps its name.
@@ -348,29 +345,27 @@ impl<'a> Builder<'a> {
         is_unescaped: bool,
         at: usize,
         is_object: bool,
-        name: Option<Span>,
+        label: u64,
     ) -> Result<Turn, BuildFault>
         requires unescaped { is_unescaped ≡ true → IsUnescaped line.now }
         requires opens { Has line.now at (opening (container_if is_object)) }
         requires room { length line.now < 2 ^ 32 }
         requires utf8 { IsUtf8 line.now }
         requires few { length self.old.words.items ≤ 3 * at }
-        requires ahead { IsAheadOf line.now (turns.Value name at) self.old }
-        ensures goes_on { IfOk result (λ turn. Steps line.now (turns.Value name at) self.old turn self.new) }
+        requires ahead { IsAheadOf line.now (turns.Value label at) self.old }
+        ensures goes_on { IfOk result (λ turn. Steps line.now (turns.Value label at) self.old turn self.new) }
         ensures behind { IfOk result (λ turn. IsBehind line.now at turn self.new) }
         ensures ahead { IfOk result (λ turn. IsAheadOf line.now turn self.new) }
-        ensures stuck { IfErr result (λ fault. OnFault fault (NoStep line.now (turns.Value name at) self.old)) }
+        ensures stuck { IfErr result (λ fault. OnFault fault (NoStep line.now (turns.Value label at) self.old)) }
     {
         self.marks = marks_behind(self.marks, 1);
         let inside = next_token(line, self.marks, at + 1);
         let place = self.words.len() / 3;
-        let above = self.above();
-        let label = label_to_word(name, above.index);
         self.deepest = larger(self.deepest, self.opened.len() + 1);
         if is_at(line, inside, closing_of(is_object)) {
             self.marks = marks_behind(self.marks, 1);
             let span = span_to_word(at as u32, (inside + 1) as u32);
-            let head = head(container_kind(is_object), 0, above.parent);
+            let head = head(container_kind(is_object), 0, self.innermost.place);
             write_node(&mut self.words, head, span, label);
             return Ok(Turn::After(inside + 1));
         }
@@ -385,28 +380,27 @@ impl<'a> Builder<'a> {
         if self.opened.reserve(1).is_err() {
             return Err(BuildFault::Memory);
         }
-        self.opened.push_reserved(container);
+        self.opened.push_reserved(self.innermost);
+        self.innermost = container;
         self.next_child(line, is_unescaped, is_object, inside)
     }
 
     /// Writes the node of a value that has no children.
     #[inline(always)]
-    fn keep_scalar(&mut self, at: usize, name: Option<Span>, scalar: Scalar)
+    fn keep_scalar(&mut self, at: usize, label: u64, scalar: Scalar)
         requires order { at < scalar.end }
         requires room { scalar.end < 2 ^ 32 }
         requires some { 0 < scalar.marks }
         requires marks { scalar.marks ≤ length self.old.marks.now }
         requires spare { HasRoom self.old }
-        ensures goes_on { (line : List ℕ) → FoundScalar line at scalar → Steps line (turns.Value name at) self.old (turns.After scalar.end) self.new }
+        ensures goes_on { (line : List ℕ) → FoundScalar line at scalar → Steps line (turns.Value label at) self.old (turns.After scalar.end) self.new }
         ensures marks { self.new.marks.now ≡ drop scalar.marks self.old.marks.now }
         ensures few { length self.new.words.items ≡ length self.old.words.items + 3 }
         ensures spare { HasRoom self.new }
     {
         self.marks = marks_behind(self.marks, scalar.marks);
-        let above = self.above();
-        let head = head(scalar.kind, 0, above.parent);
+        let head = head(scalar.kind, 0, self.innermost.place);
         let span = span_to_word(at as u32, scalar.end as u32);
-        let label = label_to_word(name, above.index);
         write_node(&mut self.words, head, span, label);
         raise(&mut self.has_surrogate, scalar.is_lone);
         raise(&mut self.has_long_exponent, scalar.is_long);
@@ -414,18 +408,19 @@ impl<'a> Builder<'a> {
 
     /// Closes the innermost container, which ends before `end`.
     #[inline(always)]
-    fn close(&mut self, container: Open, end: usize) -> Result<(), BuildFault>
-        requires place { 3 * container.place + 2 < length self.old.words.items }
+    fn close(&mut self, end: usize) -> Result<(), BuildFault>
+        requires place { 3 * self.old.innermost.place + 2 < length self.old.words.items }
         requires last { 0 < length self.old.opened.items }
-        requires names { container.names ≤ length self.old.names.items }
+        requires names { self.old.innermost.names ≤ length self.old.names.items }
         requires few { length self.old.words.items < 3 * end }
         requires room { end < 2 ^ 32 }
         requires spare { HasRoom self.old }
-        ensures closed { IfOk result (λ _. IsClosed container end self.old self.new) }
+        ensures closed { IfOk result (λ _. IsClosed self.old.innermost end self.old self.new) }
         ensures marks { IfOk result (λ _. self.new.marks.now ≡ self.old.marks.now) }
         ensures spare { IfOk result (λ _. HasRoom self.new) }
         ensures memory { IfErr result (λ fault. OnFault fault ⊥) }
     {
+        let container = self.innermost;
         if !self.has_surrogate {
             let Ok(is_repeated) = has_equal(&mut self.names[container.names..], &mut self.keys)
             else {
@@ -434,25 +429,23 @@ impl<'a> Builder<'a> {
             self.has_duplicate |= is_repeated;
         }
         self.names.truncate(container.names);
-        self.opened.pop();
+        leave(&mut self.opened, &mut self.innermost);
         let place = container.place as usize;
         let kind = container_kind(container.is_object);
         let below = self.words.len() / 3 - place - 1;
-        self.words[3 * place] = head(kind, below, self.above().parent);
+        self.words[3 * place] = head(kind, below, self.innermost.place);
         self.words[3 * place + 1] = span_to_word(container.start, end as u32);
         Ok(())
     }
 
     /// Counts a child of the innermost container, which was read.
     fn count_child(&mut self)
-        requires some { 0 < length self.old.opened.items }
-        requires room { (outer : List Open) (o : Open) → self.old.opened.items ≡ outer ++ o ∷ [] → o.children + 1 < 2 ^ 32 }
+        requires room { self.old.innermost.children + 1 < 2 ^ 32 }
         ensures counted { IsCounted self.old self.new }
         ensures spare { HasRoom self.old → HasRoom self.new }
         ensures marks { self.new.marks.now ≡ self.old.marks.now }
     {
-        let last = self.opened.len() - 1;
-        self.opened[last].children += 1;
+        self.innermost.children += 1;
     }
 
     /// Reads the token at `next`, which is the first after a value that ends at `at`.
@@ -485,18 +478,18 @@ impl<'a> Builder<'a> {
                 Err(GRAMMAR)
             };
         }
-        let container = self.opened[self.opened.len() - 1];
+        let is_object = self.innermost.is_object;
         if is_at(line, next, b',') {
             self.marks = marks_behind(self.marks, 1);
             self.count_child();
             let child = next_token(line, self.marks, next + 1);
-            return self.next_child(line, is_unescaped, container.is_object, child);
+            return self.next_child(line, is_unescaped, is_object, child);
         }
-        if !is_at(line, next, closing_of(container.is_object)) {
+        if !is_at(line, next, closing_of(is_object)) {
             return Err(GRAMMAR);
         }
         self.marks = marks_behind(self.marks, 1);
-        match self.close(container, next + 1) {
+        match self.close(next + 1) {
             Ok(()) => Ok(Turn::After(next + 1)),
             Err(fault) => Err(fault),
         }
@@ -523,29 +516,24 @@ impl<'a> Builder<'a> {
 
     /// Reads the string at `at`, which is in a line with no escape, and what follows it.
     #[inline(always)]
-    fn read_text(
-        &mut self,
-        line: &'a [u8],
-        at: usize,
-        name: Option<Span>,
-    ) -> Result<Turn, BuildFault>
+    fn read_text(&mut self, line: &'a [u8], at: usize, label: u64) -> Result<Turn, BuildFault>
         requires unescaped { IsUnescaped line.now }
         requires opens { Has line.now at 0x22 }
         requires room { length line.now < 2 ^ 32 }
         requires utf8 { IsUtf8 line.now }
         requires few { length self.old.words.items ≤ 3 * at }
-        requires ahead { IsAheadOf line.now (turns.Value name at) self.old }
-        requires holds { Holds line.now (turns.Value name at) self.old }
-        ensures goes_on { IfOk result (λ turn. Steps line.now (turns.Value name at) self.old turn self.new) }
+        requires ahead { IsAheadOf line.now (turns.Value label at) self.old }
+        requires holds { Holds line.now (turns.Value label at) self.old }
+        ensures goes_on { IfOk result (λ turn. Steps line.now (turns.Value label at) self.old turn self.new) }
         ensures behind { IfOk result (λ turn. IsBehind line.now at turn self.new) }
         ensures ahead { IfOk result (λ turn. IsAheadOf line.now turn self.new) }
-        ensures stuck { IfErr result (λ fault. OnFault fault (NoStep line.now (turns.Value name at) self.old)) }
+        ensures stuck { IfErr result (λ fault. OnFault fault (NoStep line.now (turns.Value label at) self.old)) }
     {
         let Some(text) = text_at(line, true, self.marks, at) else {
             return Err(GRAMMAR);
         };
         let next = next_token(line, marks_behind(self.marks, text.marks), text.end);
-        self.keep_scalar(at, name, text);
+        self.keep_scalar(at, label, text);
         self.follow(line, true, text.end, next)
     }
 
@@ -556,7 +544,7 @@ impl<'a> Builder<'a> {
         line: &'a [u8],
         is_unescaped: bool,
         at: usize,
-        name: Option<Span>,
+        label: u64,
     ) -> Result<Turn, BuildFault>
         requires unescaped { is_unescaped ≡ true → IsUnescaped line.now }
         requires inside { at < length line.now }
@@ -565,17 +553,17 @@ impl<'a> Builder<'a> {
         requires room { length line.now < 2 ^ 32 }
         requires utf8 { IsUtf8 line.now }
         requires few { length self.old.words.items ≤ 3 * at }
-        requires ahead { IsAheadOf line.now (turns.Value name at) self.old }
-        requires holds { Holds line.now (turns.Value name at) self.old }
-        ensures goes_on { IfOk result (λ turn. Steps line.now (turns.Value name at) self.old turn self.new) }
+        requires ahead { IsAheadOf line.now (turns.Value label at) self.old }
+        requires holds { Holds line.now (turns.Value label at) self.old }
+        ensures goes_on { IfOk result (λ turn. Steps line.now (turns.Value label at) self.old turn self.new) }
         ensures behind { IfOk result (λ turn. IsBehind line.now at turn self.new) }
         ensures ahead { IfOk result (λ turn. IsAheadOf line.now turn self.new) }
-        ensures stuck { IfErr result (λ fault. OnFault fault (NoStep line.now (turns.Value name at) self.old)) }
+        ensures stuck { IfErr result (λ fault. OnFault fault (NoStep line.now (turns.Value label at) self.old)) }
     {
         let Some(scalar) = scalar_at(line, is_unescaped, self.marks, at) else {
             return Err(GRAMMAR);
         };
-        self.keep_scalar(at, name, scalar);
+        self.keep_scalar(at, label, scalar);
         self.go_on(line, is_unescaped, scalar.end)
     }
 
@@ -586,31 +574,31 @@ impl<'a> Builder<'a> {
         line: &'a [u8],
         is_unescaped: bool,
         at: usize,
-        name: Option<Span>,
+        label: u64,
     ) -> Result<Turn, BuildFault>
         requires unescaped { is_unescaped ≡ true → IsUnescaped line.now }
         requires within { at ≤ length line.now }
         requires room { length line.now < 2 ^ 32 }
         requires utf8 { IsUtf8 line.now }
         requires few { length self.old.words.items ≤ 3 * at }
-        requires ahead { IsAheadOf line.now (turns.Value name at) self.old }
-        requires holds { Holds line.now (turns.Value name at) self.old }
-        ensures goes_on { IfOk result (λ turn. Steps line.now (turns.Value name at) self.old turn self.new) }
+        requires ahead { IsAheadOf line.now (turns.Value label at) self.old }
+        requires holds { Holds line.now (turns.Value label at) self.old }
+        ensures goes_on { IfOk result (λ turn. Steps line.now (turns.Value label at) self.old turn self.new) }
         ensures behind { IfOk result (λ turn. IsBehind line.now at turn self.new) }
         ensures ahead { IfOk result (λ turn. IsAheadOf line.now turn self.new) }
-        ensures stuck { IfErr result (λ fault. OnFault fault (NoStep line.now (turns.Value name at) self.old)) }
+        ensures stuck { IfErr result (λ fault. OnFault fault (NoStep line.now (turns.Value label at) self.old)) }
     {
         if at >= line.len() {
             return Err(GRAMMAR);
         }
         if is_unescaped && is_at(line, at, b'"') {
-            return self.read_text(line, at, name);
+            return self.read_text(line, at, label);
         }
         let is_object = is_at(line, at, b'{');
         if is_object || is_at(line, at, b'[') {
-            return self.enter(line, is_unescaped, at, is_object, name);
+            return self.enter(line, is_unescaped, at, is_object, label);
         }
-        self.read_scalar(line, is_unescaped, at, name)
+        self.read_scalar(line, is_unescaped, at, label)
     }
 }
 
@@ -630,10 +618,10 @@ pub(super) fn walk<'a>(
         return Err(BuildFault::Memory);
     };
     let is_unescaped = !has_escape(line);
-    let mut turn = Turn::Value(None, next_token(line, marks, 0));
+    let mut turn = Turn::Value(0, next_token(line, marks, 0));
     loop {
         turn = match turn {
-            Turn::Value(name, at) => builder.read_on(line, is_unescaped, at, name)?,
+            Turn::Value(label, at) => builder.read_on(line, is_unescaped, at, label)?,
             Turn::After(at) => builder.go_on(line, is_unescaped, at)?,
             Turn::End => return Ok(()),
         };

@@ -3,14 +3,13 @@ use Rattle.std.proofs.lemmas.List.{length-drop}
 use Rattle.std.proofs.lemmas.Result.{IfOk-weaker, IfErr-weaker}
 use Rattle.jp_model.specs.Json.Places.{Has, byte_at}
 use Rattle.jp_tape.specs.Ahead.{IsAhead, HasRoom}
-use Rattle.jp_tape.specs.declared.builder.machine.Above.{Above}
 use Rattle.jp_tape.specs.declared.builder.machine.Builder.{Builder}
 use Rattle.jp_tape.specs.declared.builder.machine.Open.{Open}
 use Rattle.jp_tape.specs.declared.builder.body.Body.{Body}
 use Rattle.std.specs.Prelude.{Vec}
 use Rattle.std.specs.Global.{Global}
 use Rattle.jp_tape.specs.Words.{head_word}
-use Rattle.jp_tape.specs.Reading.{body_word, container_if}
+use Rattle.jp_tape.specs.Reading.{container_if}
 use Rattle.jp_tape.proofs.Held.{or_false}
 use Rattle.jp_tape.proofs.Ahead.{passes_structural, structural_begins, bracket_structural, closing_structural}
 use Rattle.jp_tape.proofs.Walk.{node_is, opened_is, empty_goes_on, enter_goes_on, no_enter, on_fault}
@@ -33,12 +32,11 @@ pub returns-then-is_at-clause-goes_on : goal.returns-then-is_at-clause-goes_on
 returns-then-is_at-clause-goes_on c =
     let b = c.args.self.now in
     let kind = container_if c.args.is_object in
-    empty_goes_on c.args.line.now c.args.at c.next_token-inside.result c.args.name b _ kind c.requires.opens c.next_token-inside.ensures.white
+    empty_goes_on c.args.line.now c.args.at c.next_token-inside.result c.args.label b _ kind c.requires.opens c.next_token-inside.ensures.white
     (subst (λ x. Has c.args.line.now c.next_token-inside.result x) c.closing_of.ensures (c.is_at.ensures.yes c.if-is_at.true))
     (record {
       words_are = node_is b.words.items _ _ _ _ _ _ _ c.write_node.ensures.written
-          (c.head-head.ensures ∙ ap₂ (λ (x : ℕ) (a : Above). head_word x 0 a.parent) c.container_kind.ensures c.above-above.ensures) c.span_to_word-span.ensures
-          (c.label_to_word-label.ensures ∙ ap (λ (a : Above). body_word a.index c.args.name) c.above-above.ensures);
+          (c.head-head.ensures ∙ ap (λ (x : ℕ). head_word x 0 b.innermost.place) c.container_kind.ensures) c.span_to_word-span.ensures refl;
       opened = refl;
       names = refl;
       deepest_is = c.larger-self.ensures ∙ ap (λ n. max b.deepest (n + 1)) (c.len.ensures ∙ b.opened.ok.0);
@@ -52,13 +50,13 @@ returns-clause-goes_on c =
     let b = c.args.self.now in
     let kind = container_if c.args.is_object in
     let w = c.next_token-inside.ensures in
-    let mid : Builder = record { words = c.write_node-2.new.words; opened = c.push_reserved.new.self; names = b.names; keys = b.keys; marks = c.marks_behind-self.result; deepest = c.larger-self.result; has_surrogate = b.has_surrogate; has_long_exponent = b.has_long_exponent; has_duplicate = b.has_duplicate } in
+    let mid : Builder = record { words = c.write_node-2.new.words; opened = c.push_reserved.new.self; innermost = record { place = _; start = c.args.at; children = 0; names = _; is_object = c.args.is_object }; names = b.names; keys = b.keys; marks = c.marks_behind-self.result; deepest = c.larger-self.result; has_surrogate = b.has_surrogate; has_long_exponent = b.has_long_exponent; has_duplicate = b.has_duplicate } in
     IfOk-weaker c.next_child.result _ _
-    (λ turn l. enter_goes_on c.args.line.now c.args.at c.next_token-inside.result c.args.name b mid c.next_child.new.self turn kind c.requires.opens w.white w.stops
+    (λ turn l. enter_goes_on c.args.line.now c.args.at c.next_token-inside.result c.args.label b mid c.next_child.new.self turn kind c.requires.opens w.white w.stops
     (λ h. c.is_at.ensures.no c.if-is_at.false (subst (λ x. Has c.args.line.now c.next_token-inside.result x) (sym c.closing_of.ensures) h))
     (record {
-      words = node_is b.words.items _ _ _ _ _ _ _ c.write_node-2.ensures.written refl refl (c.label_to_word-label.ensures ∙ ap (λ (a : Above). body_word a.index c.args.name) c.above-above.ensures);
-      opened = (rw c.reserve.ensures.items at c.push_reserved.ensures.items) ∙ ap (λ (o : Open). b.opened.items ++ o ∷ []) (opened_is c.args.is_object _ _ _ _ c.args.at (c.len-place.ensures ∙ b.words.ok.0) (c.len-2.ensures ∙ b.names.ok.0));
+      words = node_is b.words.items _ _ _ _ _ _ _ c.write_node-2.ensures.written refl refl refl;
+      opened = ap₂ (λ (os : List Open) (o : Open). os ++ o ∷ []) (rw c.reserve.ensures.items at c.push_reserved.ensures.items) (opened_is c.args.is_object _ _ _ _ c.args.at (c.len-place.ensures ∙ b.words.ok.0) (c.len-2.ensures ∙ b.names.ok.0));
       names = refl;
       deepest = c.larger-self.ensures ∙ ap (λ n. max b.deepest (n + 1)) (c.len.ensures ∙ b.opened.ok.0);
       surrogate = refl;
@@ -73,7 +71,7 @@ returns-clause-stuck c =
     let kind = container_if c.args.is_object in
     let w = c.next_token-inside.ensures in
     IfErr-weaker c.next_child.result _ _
-    (λ fault. on_fault fault (λ l. no_enter c.args.line.now c.args.at c.next_token-inside.result c.args.name b kind c.requires.opens w.white w.stops
+    (λ fault. on_fault fault (λ l. no_enter c.args.line.now c.args.at c.next_token-inside.result c.args.label b kind c.requires.opens w.white w.stops
     (λ h. c.is_at.ensures.no c.if-is_at.false (subst (λ x. Has c.args.line.now c.next_token-inside.result x) (sym c.closing_of.ensures) h)) l))
     c.next_child.ensures.stuck
 

@@ -1,4 +1,4 @@
-use Rattle.std.proofs.Common.{ℕ, List, get_or, length, ◌-◌, ◌==◌, ◌<◌, ◌≡◌, false, subst, sym, ap, ◌∙◌, ◌+◌, arith}
+use Rattle.std.proofs.Common.{ℕ, List, ◌==◌, ◌<◌, ◌≡◌, false, subst, sym, ap, ◌∙◌, ◌+◌, arith}
 use Rattle.std.proofs.lemmas.Bool.{eqb-true, eqb-false}
 use Rattle.std.proofs.lemmas.Result.{IfOk-weaker, IfErr-weaker}
 use Rattle.jp_model.specs.Characters.{is_structural}
@@ -11,7 +11,6 @@ use Rattle.jp_tape.specs.Ahead.{IsAhead}
 use Rattle.jp_tape.specs.Reading.{container_if}
 use Rattle.jp_tape.proofs.Ahead.{passes_structural, structural_begins, closing_structural}
 use Rattle.jp_tape.proofs.Walk.{on_fault}
-use Rattle.jp_tape.proofs.Held.{last_of}
 use Rattle.jp_tape.proofs.Walk.{is_innermost, innermost_children, innermost_place, innermost_names, comma_goes_on, no_comma, no_neither, close_goes_on, end_goes_on, no_end}
 use Rattle.jp_tape.proofs.builder.machine.Builder.follow.Goals as goal
 
@@ -27,27 +26,20 @@ returns-else-next-line-clause-stuck c =
 some_open : (n m : ℕ) → n ≡ m → false ≡ (n == 0) → 0 < m
 some_open n m e h = let z : n ≡ 0 → ⊥ = eqb-false n 0 (sym h) in omega (arith, z, e)
 
-last_read : (os : List Open) (n m : ℕ) (o : Open) → n ≡ m → m ≡ length os → o ≡ get_or os (n - 1) o → o ≡ get_or os (length os - 1) o
-last_read os n m o e f h = h ∙ ap (λ k. get_or os (k - 1) o) (e ∙ f)
-
 -- what is counted and closed are no marks
 counted_from : (b : Builder) (marks : Bor (List ℕ)) (new : Builder) → IsCounted (record b { marks = marks }) new → IsCounted b new
-counted_from b marks new i = record { outer = i.outer; innermost = i.innermost; before = i.before; after = i.after; words = i.words; deepest = i.deepest; surrogate = i.surrogate; long = i.long; names = i.names; duplicate = i.duplicate }
+counted_from b marks new i = record { opened = i.opened; innermost = i.innermost; words = i.words; deepest = i.deepest; surrogate = i.surrogate; long = i.long; names = i.names; duplicate = i.duplicate }
 
 closed_from : (b : Builder) (marks : Bor (List ℕ)) (new : Builder) (o : Open) (end : ℕ) → IsClosed o end (record b { marks = marks }) new → IsClosed o end b new
 closed_from b marks new o end i = record { words = i.words; opened = i.opened; deepest = i.deepest; surrogate = i.surrogate; long = i.long; names = i.names; duplicate = i.duplicate }
 
-pub count_child-requires-clause-some : goal.count_child-requires-clause-some
-count_child-requires-clause-some c = some_open _ _ c.args.self.now.opened.ok.0 c.if-is_empty.ensures
-
-pub count_child-requires-clause-room : goal.count_child-requires-clause-room
-count_child-requires-clause-room c outer o e =
+pub count_child-requires : goal.count_child-requires
+count_child-requires c =
     let b = c.args.self.now in
     let some = some_open _ _ b.opened.ok.0 c.if-is_empty.ensures in
     let x = c.requires.holds.0 in
     let h = c.requires.holds.1 in
-    let last : o ≡ get_or b.opened.items (length b.opened.items - 1) o = sym (ap (λ (os : List Open). get_or os (length os - 1) o) e ∙ last_of outer o o) in
-    let n = innermost_children c.args.line.now c.args.at b o x h (is_innermost c.args.line.now c.args.at b o some last x h) in
+    let n = innermost_children c.args.line.now c.args.at b b.innermost x h (is_innermost c.args.line.now c.args.at b some x h) in
     let few = c.requires.few in
     let order = c.requires.white.order in
     let within = c.requires.white.within in
@@ -59,12 +51,11 @@ returns-then-is_at-clause-goes_on c =
     let w = c.requires in
     let v = c.next_token-child.ensures in
     let b = c.args.self.now in
-    let o = c.index-container.result.now in
+    let o = c.args.self.now.innermost in
     let some = some_open _ _ b.opened.ok.0 c.if-is_empty.ensures in
-    let last = last_read b.opened.items _ _ o c.len.ensures b.opened.ok.0 c.index-container.ensures in
     IfOk-weaker c.next_child.result _ _
     (λ turn l x h. comma_goes_on c.args.line.now c.args.at c.args.next c.next_token-child.result b c.count_child.new.self c.next_child.new.self turn o w.white (c.is_at.ensures.yes c.if-is_at.true) v.white v.stops (counted_from b c.marks_behind-self.result c.count_child.new.self c.count_child.ensures.counted) l x h
-    (is_innermost c.args.line.now c.args.at b o some last x h))
+    (is_innermost c.args.line.now c.args.at b some x h))
     c.next_child.ensures.found
 
 pub returns-then-is_at-clause-stuck : goal.returns-then-is_at-clause-stuck
@@ -72,53 +63,48 @@ returns-then-is_at-clause-stuck c =
     let w = c.requires in
     let v = c.next_token-child.ensures in
     let b = c.args.self.now in
-    let o = c.index-container.result.now in
+    let o = c.args.self.now.innermost in
     let some = some_open _ _ b.opened.ok.0 c.if-is_empty.ensures in
-    let last = last_read b.opened.items _ _ o c.len.ensures b.opened.ok.0 c.index-container.ensures in
     IfErr-weaker c.next_child.result _ _
     (λ fault. on_fault fault (λ l x h. no_comma c.args.line.now c.args.at c.args.next c.next_token-child.result b o w.white (c.is_at.ensures.yes c.if-is_at.true) v.white v.stops l x h
-    (is_innermost c.args.line.now c.args.at b o some last x h)))
+    (is_innermost c.args.line.now c.args.at b some x h)))
     c.next_child.ensures.stuck
 
 pub returns-then-not-is_at-clause-stuck : goal.returns-then-not-is_at-clause-stuck
 returns-then-not-is_at-clause-stuck c x h =
     let w = c.requires in
     let b = c.args.self.now in
-    let o = c.index-container.result.now in
+    let o = c.args.self.now.innermost in
     let some = some_open _ _ b.opened.ok.0 c.if-is_empty.ensures in
-    let last = last_read b.opened.items _ _ o c.len.ensures b.opened.ok.0 c.index-container.ensures in
     no_neither c.args.line.now c.args.at c.args.next b o w.white w.stops (c.is_at.ensures.no c.if-is_at.false)
-    (λ e. c.is_at-2.ensures.no c.if-not-is_at.true (subst (λ y. Has c.args.line.now c.args.next y) (sym c.closing_of.ensures) e)) x h (is_innermost c.args.line.now c.args.at b o some last x h)
+    (λ e. c.is_at-2.ensures.no c.if-not-is_at.true (subst (λ y. Has c.args.line.now c.args.next y) (sym c.closing_of.ensures) e)) x h (is_innermost c.args.line.now c.args.at b some x h)
 
 pub close-requires-clause-place : goal.close-requires-clause-place
 close-requires-clause-place c =
     let b = c.args.self.now in
-    let o = c.index-container.result.now in
+    let o = c.args.self.now.innermost in
     let some = some_open _ _ b.opened.ok.0 c.if-is_empty.ensures in
-    let last = last_read b.opened.items _ _ o c.len.ensures b.opened.ok.0 c.index-container.ensures in
     let x = c.requires.holds.0 in
     let h = c.requires.holds.1 in
-    innermost_place c.args.line.now c.args.at b o x h (is_innermost c.args.line.now c.args.at b o some last x h)
+    innermost_place c.args.line.now c.args.at b o x h (is_innermost c.args.line.now c.args.at b some x h)
 
 pub close-requires-clause-names : goal.close-requires-clause-names
 close-requires-clause-names c =
     let b = c.args.self.now in
-    let o = c.index-container.result.now in
+    let o = c.args.self.now.innermost in
     let some = some_open _ _ b.opened.ok.0 c.if-is_empty.ensures in
-    let last = last_read b.opened.items _ _ o c.len.ensures b.opened.ok.0 c.index-container.ensures in
     let x = c.requires.holds.0 in
     let h = c.requires.holds.1 in
-    innermost_names c.args.line.now c.args.at b o x h (is_innermost c.args.line.now c.args.at b o some last x h)
+    innermost_names c.args.line.now c.args.at b o x h (is_innermost c.args.line.now c.args.at b some x h)
 
 pub returns-in-Ok-clause-goes_on : goal.returns-in-Ok-clause-goes_on
 returns-in-Ok-clause-goes_on c x h =
     let w = c.requires in
     let b = c.args.self.now in
-    let o = c.index-container.result.now in
+    let o = c.args.self.now.innermost in
     let some = some_open _ _ b.opened.ok.0 c.if-is_empty.ensures in
-    let last = last_read b.opened.items _ _ o c.len.ensures b.opened.ok.0 c.index-container.ensures in
     close_goes_on c.args.line.now c.args.at c.args.next b c.close.new.self o w.white (subst (λ y. Has c.args.line.now c.args.next y) c.closing_of.ensures (c.is_at-2.ensures.yes c.if-not-is_at.false)) (closed_from b c.marks_behind-self-2.result c.close.new.self o (c.args.next + 1) c.in-Ok.ensures.closed) x h
-    (is_innermost c.args.line.now c.args.at b o some last x h)
+    (is_innermost c.args.line.now c.args.at b some x h)
 
 pub marks_behind-self-requires : goal.marks_behind-self-requires
 marks_behind-self-requires c = let h = c.is_at.ensures.yes c.if-is_at.true in (passes_structural c.args.line.now c.args.self.now.marks.now c.args.next h.inside (ap is_structural h.is) c.requires.ahead).within
@@ -134,13 +120,13 @@ next_token-child-requires-clause-ahead c =
 
 pub marks_behind-self-requires-2 : goal.marks_behind-self-requires-2
 marks_behind-self-requires-2 c =
-    let o = c.index-container.result.now in
+    let o = c.args.self.now.innermost in
     let h = subst (λ y. Has c.args.line.now c.args.next y) c.closing_of.ensures (c.is_at-2.ensures.yes c.if-not-is_at.false) in
     (passes_structural c.args.line.now c.args.self.now.marks.now c.args.next h.inside (closing_structural (container_if o.is_object) (byte_at c.args.line.now c.args.next) h.is) c.requires.ahead).within
 
 pub returns-in-Ok-clause-ahead : goal.returns-in-Ok-clause-ahead
 returns-in-Ok-clause-ahead c =
-    let o = c.index-container.result.now in
+    let o = c.args.self.now.innermost in
     let h = subst (λ y. Has c.args.line.now c.args.next y) c.closing_of.ensures (c.is_at-2.ensures.yes c.if-not-is_at.false) in
     let p = passes_structural c.args.line.now c.args.self.now.marks.now c.args.next h.inside (closing_structural (container_if o.is_object) (byte_at c.args.line.now c.args.next) h.is) c.requires.ahead in
     (subst (λ (ms : List ℕ). IsAhead c.args.line.now (c.args.next + 1) ms) (sym (c.in-Ok.ensures.marks ∙ c.marks_behind-self-2.ensures)) p.ahead, c.in-Ok.ensures.spare)

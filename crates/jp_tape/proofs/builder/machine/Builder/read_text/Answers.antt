@@ -4,10 +4,10 @@ use Rattle.jp_tape.proofs.Walk.{no_value, steps_then}
 use Rattle.jp_tape.proofs.builder.machine.Builder.read_text.Goals as goal
 
 pub returns-in_default-clause-stuck : goal.returns-in_default-clause-stuck
-returns-in_default-clause-stuck c = no_value c.args.line.now c.args.at c.args.name c.args.self.now c.in_default.ensures.none
+returns-in_default-clause-stuck c = no_value c.args.line.now c.args.at c.args.label c.args.self.now c.in_default.ensures.none
 
 pub returns-clause-goes_on : goal.returns-clause-goes_on
 returns-clause-goes_on c =
     IfOk-weaker c.follow.result _ _
-    (λ turn l. steps_then c.args.line.now (turns.Value c.args.name c.args.at) (turns.After c.in-Some.text.end) turn c.args.self.now _ _ (c.keep_scalar.ensures.goes_on c.args.line.now c.in-Some.ensures.found) l)
+    (λ turn l. steps_then c.args.line.now (turns.Value c.args.label c.args.at) (turns.After c.in-Some.text.end) turn c.args.self.now _ _ (c.keep_scalar.ensures.goes_on c.args.line.now c.in-Some.ensures.found) l)
     c.follow.ensures.goes_on
