@@ -186,6 +186,12 @@ IsBehind line from (turns.Value label at) b = (from < at) × IsWithin line (turn
 IsBehind line from (turns.After at) b = (from < at) × IsWithin line (turns.After at) b
 IsBehind line from turns.End b = Unit {0}
 
+-- a value is read next, or nothing
+abbrev pub IsSettled : Turn → Type 0
+IsSettled (turns.Value label at) = Unit {0}
+IsSettled (turns.After at) = ⊥
+IsSettled turns.End = Unit {0}
+
 -- the innermost open container of the state is this one
 abbrev pub IsInnermost : Open → State → Type 0
 IsInnermost o (After_value (f ∷ frames) own t from) = o ≡ open_of f frames

@@ -13,7 +13,7 @@ ghost use Rattle.jp_tape.specs.Words.{head_word, span_word, container_code};
 ghost use Rattle.jp_tape.specs.Places.{Stops, IsUnescaped};
 ghost use Rattle.jp_tape.specs.Ahead.{HasRoom, IsAhead, IsAheadOf, IsNext, IsPassed, first_or, name_marks};
 ghost use Rattle.jp_tape.specs.Reading.{body_word, code_of, container_if, FoundScalar, FoundLabel, IsPlainLabel, NoLabel, OnFault};
-ghost use Rattle.jp_tape.specs.Machine.{Steps, NoStep, IsBehind, Labelled, IsFinished, IsCounted, IsClosed, Holds, held, no_container};
+ghost use Rattle.jp_tape.specs.Machine.{Steps, NoStep, Reached, IsWithin, IsBehind, IsSettled, Labelled, IsFinished, IsCounted, IsClosed, Holds, held, no_container};
 ghost use Rattle.jp_tape.specs.declared.builder.machine.Open.{Open};
 ghost use Rattle.jp_tape.specs.declared.builder.machine.Turn.TheVariants as turns;
 
@@ -514,6 +514,28 @@ impl<'a> Builder<'a> {
         self.follow(line, is_unescaped, at, next)
     }
 
+    /// Reads what follows values, up to the next value or to the end.
+    #[inline(always)]
+    fn settle(&mut self, line: &'a [u8], is_unescaped: bool, from: Turn) -> Result<Turn, BuildFault>
+        requires unescaped { is_unescaped ≡ true → IsUnescaped line.now }
+        requires room { length line.now < 2 ^ 32 }
+        requires utf8 { IsUtf8 line.now }
+        requires reached { Reached line.now from self.old }
+        requires within { IsWithin line.now from self.old }
+        requires ahead { IsAheadOf line.now from self.old }
+        ensures reached { IfOk result (λ turn. Reached line.now turn self.new) }
+        ensures behind { IfOk result (λ turn. (k : ℕ) → IsBehind line.now k from self.old → IsBehind line.now k turn self.new) }
+        ensures ahead { IfOk result (λ turn. IsAheadOf line.now turn self.new) }
+        ensures settled { IfOk result IsSettled }
+        ensures refused { IfErr result (λ fault. OnFault fault (IsNoText line.now)) }
+    {
+        let mut turn = from;
+        while let Turn::After(at) = turn {
+            turn = self.go_on(line, is_unescaped, at)?;
+        }
+        Ok(turn)
+    }
+
     /// Reads the string at `at`, which is in a line with no escape, and what follows it.
     #[inline(always)]
     fn read_text(&mut self, line: &'a [u8], at: usize, label: u64) -> Result<Turn, BuildFault>
@@ -619,11 +641,9 @@ pub(super) fn walk<'a>(
     };
     let is_unescaped = !has_escape(line);
     let mut turn = Turn::Value(0, next_token(line, marks, 0));
-    loop {
-        turn = match turn {
-            Turn::Value(label, at) => builder.read_on(line, is_unescaped, at, label)?,
-            Turn::After(at) => builder.go_on(line, is_unescaped, at)?,
-            Turn::End => return Ok(()),
-        };
+    while let Turn::Value(label, at) = turn {
+        let read = builder.read_on(line, is_unescaped, at, label)?;
+        turn = builder.settle(line, is_unescaped, read)?;
     }
+    Ok(())
 }

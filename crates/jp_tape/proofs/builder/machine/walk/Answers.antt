@@ -26,6 +26,7 @@ loop-turn-init c =
       };
       within = (w.white.within, omega (arith, n));
       ahead = (subst (λ (ms : List ℕ). IsNext line c.next_token.result ms) (sym e.marks) w.next, e.room);
+      settled = tt;
     }
 
 pub next_token-requires-clause-ahead : goal.next_token-requires-clause-ahead

@@ -1,4 +1,4 @@
-use Rattle.jp_tape.specs.Machine.{Reached, IsWithin, turn_left}
+use Rattle.jp_tape.specs.Machine.{Reached, IsWithin, IsSettled, turn_left}
 use Rattle.jp_tape.specs.Ahead.{IsAheadOf}
 use Rattle.jp_tape.proofs.builder.machine.walk.Given as goal
 
@@ -7,6 +7,7 @@ invariant-loop-turn l = record {
   reached : Reached l.line l.turn l.builder;
   within : IsWithin l.line l.turn l.builder;
   ahead : IsAheadOf l.line l.turn l.builder;
+  settled : IsSettled l.turn;
 }
 
 abbrev pub decreases-loop-turn : goal.decreases-loop-turn
