@@ -536,10 +536,16 @@ impl<'a> Builder<'a> {
         Ok(turn)
     }
 
-    /// Reads the string at `at`, which is in a line with no escape, and what follows it.
+    /// Reads the string at `at`, and what follows it.
     #[inline(always)]
-    fn read_text(&mut self, line: &'a [u8], at: usize, label: u64) -> Result<Turn, BuildFault>
-        requires unescaped { IsUnescaped line.now }
+    fn read_text(
+        &mut self,
+        line: &'a [u8],
+        is_unescaped: bool,
+        at: usize,
+        label: u64,
+    ) -> Result<Turn, BuildFault>
+        requires unescaped { is_unescaped ≡ true → IsUnescaped line.now }
         requires opens { Has line.now at 0x22 }
         requires room { length line.now < 2 ^ 32 }
         requires utf8 { IsUtf8 line.now }
@@ -551,15 +557,15 @@ impl<'a> Builder<'a> {
         ensures ahead { IfOk result (λ turn. IsAheadOf line.now turn self.new) }
         ensures stuck { IfErr result (λ fault. OnFault fault (NoStep line.now (turns.Value label at) self.old)) }
     {
-        let Some(text) = text_at(line, true, self.marks, at) else {
+        let Some(text) = text_at(line, is_unescaped, self.marks, at) else {
             return Err(GRAMMAR);
         };
         let next = next_token(line, marks_behind(self.marks, text.marks), text.end);
         self.keep_scalar(at, label, text);
-        self.follow(line, true, text.end, next)
+        self.follow(line, is_unescaped, text.end, next)
     }
 
-    /// Reads the value at `at`, which is neither an array nor an object, and what follows it.
+    /// Reads the value at `at`, which is neither a text nor an array nor an object, and what follows it.
     #[inline(always)]
     fn read_scalar(
         &mut self,
@@ -570,6 +576,7 @@ impl<'a> Builder<'a> {
     ) -> Result<Turn, BuildFault>
         requires unescaped { is_unescaped ≡ true → IsUnescaped line.now }
         requires inside { at < length line.now }
+        requires no_text { byte_at line.now at ≡ 0x22 → ⊥ }
         requires no_array { byte_at line.now at ≡ 0x5B → ⊥ }
         requires no_object { byte_at line.now at ≡ 0x7B → ⊥ }
         requires room { length line.now < 2 ^ 32 }
@@ -582,14 +589,14 @@ impl<'a> Builder<'a> {
         ensures ahead { IfOk result (λ turn. IsAheadOf line.now turn self.new) }
         ensures stuck { IfErr result (λ fault. OnFault fault (NoStep line.now (turns.Value label at) self.old)) }
     {
-        let Some(scalar) = scalar_at(line, is_unescaped, self.marks, at) else {
+        let Some(scalar) = scalar_at(line, self.marks, at) else {
             return Err(GRAMMAR);
         };
         self.keep_scalar(at, label, scalar);
         self.go_on(line, is_unescaped, scalar.end)
     }
 
-    /// Reads the value at `at`, and after a value that has no children what follows it.
+    /// Reads the value at `at`, and after a value that has no children what follows it. Texts of lines with no escape go their own way.
     #[inline(always)]
     fn read_on(
         &mut self,
@@ -613,8 +620,11 @@ impl<'a> Builder<'a> {
         if at >= line.len() {
             return Err(GRAMMAR);
         }
-        if is_unescaped && is_at(line, at, b'"') {
-            return self.read_text(line, at, label);
+        if is_at(line, at, b'"') {
+            if is_unescaped {
+                return self.read_text(line, true, at, label);
+            }
+            return self.read_text(line, false, at, label);
         }
         let is_object = is_at(line, at, b'{');
         if is_object || is_at(line, at, b'[') {

@@ -92,14 +92,11 @@ fn has_equal_pair(bodies: &[Body<'_>]) -> bool
     false
 }
 
-/// Whether two bodies are equal. It changes their order. `keys` lends its memory.
-#[inline(always)]
-pub(super) fn has_equal(bodies: &mut [Body<'_>], keys: &mut Keys) -> Result<bool, AllocError>
+/// Whether two of several bodies are equal, as `has_equal` finds it.
+#[inline(never)]
+fn has_equal_of_some(bodies: &mut [Body<'_>], keys: &mut Keys) -> Result<bool, AllocError>
     ensures { IfOk result (λ is_repeated. is_repeated ≡ has_repeated (all_points bodies.old)) }
 {
-    if bodies.len() < PAIR {
-        return Ok(false);
-    }
     if bodies.len() <= MOST_PAIRED {
         return Ok(!have_own_places(bodies) && has_equal_pair(bodies));
     }
@@ -111,4 +108,15 @@ pub(super) fn has_equal(bodies: &mut [Body<'_>], keys: &mut Keys) -> Result<bool
     }
     bodies.sort_unstable();
     Ok(has_equal_neighbours(bodies))
+}
+
+/// Whether two bodies are equal. It changes their order. `keys` lends its memory. Arrays and many objects have fewer than two.
+#[inline(always)]
+pub(super) fn has_equal(bodies: &mut [Body<'_>], keys: &mut Keys) -> Result<bool, AllocError>
+    ensures { IfOk result (λ is_repeated. is_repeated ≡ has_repeated (all_points bodies.old)) }
+{
+    if bodies.len() < PAIR {
+        return Ok(false);
+    }
+    has_equal_of_some(bodies, keys)
 }

@@ -391,19 +391,13 @@ pub(super) fn text_at(line: &[u8], is_unescaped: bool, marks: &[u32], from: usiz
     })
 }
 
-/// The value at `from`, which is neither an array nor an object.
+/// The value at `from`, which is neither a text nor an array nor an object.
 #[inline(always)]
-pub(super) fn scalar_at(
-    line: &[u8],
-    is_unescaped: bool,
-    marks: &[u32],
-    from: usize,
-) -> Option<Scalar>
-    requires unescaped { is_unescaped ≡ true → IsUnescaped line.now }
+pub(super) fn scalar_at(line: &[u8], marks: &[u32], from: usize) -> Option<Scalar>
     requires inside { from < length line.now }
     requires room { length line.now < 2 ^ 32 }
-    requires utf8 { IsUtf8 line.now }
     requires ahead { IsNext line.now from marks.now }
+    requires no_text { byte_at line.now from ≡ 0x22 → ⊥ }
     requires no_array { byte_at line.now from ≡ 0x5B → ⊥ }
     requires no_object { byte_at line.now from ≡ 0x7B → ⊥ }
     ensures within { IfSome result (λ r. (from < r.end) × (r.end ≤ length line.now)) }
@@ -421,9 +415,6 @@ pub(super) fn scalar_at(
     }
     if byte == b'f' {
         return word_at(line, marks, from, b"false", Kind::False);
-    }
-    if byte == b'"' {
-        return text_at(line, is_unescaped, marks, from);
     }
     match number_end(line, from) {
         Some(number) => Some(Scalar {

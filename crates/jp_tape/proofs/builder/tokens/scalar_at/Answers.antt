@@ -36,7 +36,7 @@ returns-in-Some-clause-found c =
 
 pub returns-in-None-clause-none : goal.returns-in-None-clause-none
 returns-in-None-clause-none c =
-    no_number c.args.line.now c.args.from c.if-byte-eq110.false c.if-byte-eq116.false c.if-byte-eq102.false c.if-byte-eq34.false c.requires.no_array c.requires.no_object c.in-None.ensures.none
+    no_number c.args.line.now c.args.from c.if-byte-eq110.false c.if-byte-eq116.false c.if-byte-eq102.false c.requires.no_text c.requires.no_array c.requires.no_object c.in-None.ensures.none
 
 pub returns-in-Some-clause-ahead : goal.returns-in-Some-clause-ahead
 returns-in-Some-clause-ahead c =
