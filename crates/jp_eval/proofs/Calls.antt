@@ -17,10 +17,10 @@ use Rattle.jp_model.proofs.Seek.{text_same}
 use Rattle.jp_eval.specs.Programs.{Table, invoked_view, givens_view}
 use Rattle.jp_eval.specs.declared.program.Invoked.{Invoked}
 use Rattle.jp_eval.specs.declared.program.Given.{Given}
-use Rattle.jp_eval.specs.declared.frame.Run.{Run}
+use Rattle.jp_eval.specs.declared.frame.At.{At}
 use Rattle.jp_eval.specs.declared.functions.Function.{Function}
 use Rattle.jp_eval.specs.declared.functions.Function.TheVariants as functions
-use Rattle.jp_eval.specs.Frames.{table_in, tree_in, passes_given}
+use Rattle.jp_eval.specs.Frames.{here, table_at, tree_at, passes_given}
 use Rattle.jp_eval.specs.Functions.{function_named}
 use Rattle.jp_eval.proofs.Compiled.{invoked_is}
 
@@ -61,13 +61,13 @@ called table c items o f h =
     ∙ ap₂ (λ (x : List ℕ) (y : List Given). syntax.call x (givens_view table y)) (named_so (chars (string_bytes c.named.name)) o (sym c.named.known ∙ h)) (sym f)
 
 -- the two that are asked of a text and a pattern
-pub match_called : (run : Run) (c : Invoked) (text pattern : Given) (n : Node) → text ∷ pattern ∷ [] ≡ c.arguments.items → c.named.function ≡ Some functions.Match
-    → passes_given run true text pattern n ≡ call_truth (invoked_view (table_in run) c) n (tree_in run)
-match_called run c text pattern n are so = sym (ap (λ (v : syntax.Call). call_truth v n (tree_in run)) (called (table_in run) c (text ∷ pattern ∷ []) functions.Match are so))
+pub match_called : (at : At) (c : Invoked) (text pattern : Given) → text ∷ pattern ∷ [] ≡ c.arguments.items → c.named.function ≡ Some functions.Match
+    → passes_given at true text pattern ≡ call_truth (invoked_view (table_at at) c) (here at) (tree_at at)
+match_called at c text pattern are so = sym (ap (λ (v : syntax.Call). call_truth v (here at) (tree_at at)) (called (table_at at) c (text ∷ pattern ∷ []) functions.Match are so))
 
-pub search_called : (run : Run) (c : Invoked) (text pattern : Given) (n : Node) → text ∷ pattern ∷ [] ≡ c.arguments.items → c.named.function ≡ Some functions.Search
-    → passes_given run false text pattern n ≡ call_truth (invoked_view (table_in run) c) n (tree_in run)
-search_called run c text pattern n are so = sym (ap (λ (v : syntax.Call). call_truth v n (tree_in run)) (called (table_in run) c (text ∷ pattern ∷ []) functions.Search are so))
+pub search_called : (at : At) (c : Invoked) (text pattern : Given) → text ∷ pattern ∷ [] ≡ c.arguments.items → c.named.function ≡ Some functions.Search
+    → passes_given at false text pattern ≡ call_truth (invoked_view (table_at at) c) (here at) (tree_at at)
+search_called at c text pattern are so = sym (ap (λ (v : syntax.Call). call_truth v (here at) (tree_at at)) (called (table_at at) c (text ∷ pattern ∷ []) functions.Search are so))
 
 -- with no function of one argument, or of two
 few : (table : Table) (items : List Given) (n : Node) (t : Tree) → length items < 2 → (f : List ℕ) → false ≡ logical_function f (given (givens_view table items) n t)

@@ -1,5 +1,5 @@
 -- What a call promises of the frame that it is lent.
-use Rattle.std.specs.Prelude.{◌≡◌, ℕ, Bool, List, ◌++◌, map, take, Option, Some, Result, OnOk, slice_get}
+use Rattle.std.specs.Prelude.{◌≡◌, ◌≤◌, ℕ, Bool, List, ◌++◌, length, map, take, Option, Some, Result, OnOk, slice_get}
 use Rattle.jp_model.specs.Json.Tree.{Tree}
 use Rattle.jp_model.specs.Meaning.Nodes.{Node}
 use Rattle.jp_model.specs.Meaning.Functions.{in_pattern}
@@ -8,12 +8,12 @@ use Rattle.jp_eval.specs.Answers.{IsAnswer}
 use Rattle.jp_eval.specs.Found.{Adds}
 use Rattle.jp_eval.specs.Functions.{passing}
 use Rattle.jp_eval.specs.Programs.{Table, table_of, slot_in, steps_view, given_view}
+use Rattle.jp_eval.specs.declared.frame.At.{At}
 use Rattle.jp_eval.specs.declared.frame.Run.{Run}
 use Rattle.jp_eval.specs.declared.frame.Answer.{Answer}
 use Rattle.jp_eval.specs.declared.frame.Frame.{Frame}
 use Rattle.jp_eval.specs.declared.program.Given.{Given}
 use Rattle.jp_eval.specs.declared.program.Step.{Step}
-use Rattle.jp_tape.specs.declared.cursor.Cursor.{Cursor}
 use Rattle.jp_tape.specs.Cursors.{line_of, node_of}
 
 -- the meanings of the slots
@@ -23,6 +23,16 @@ table_in run = table_of run.slots.now
 -- the line's tree
 abbrev pub tree_in : Run → Tree
 tree_in run = (node_of run.root.now).tree
+
+-- the same of a node's run, and the node
+abbrev pub table_at : At → Table
+table_at at = table_in at.run.now
+
+abbrev pub tree_at : At → Tree
+tree_at at = tree_in at.run.now
+
+abbrev pub here : At → Node
+here at = node_of at.node
 
 -- what some steps select from some nodes
 abbrev pub reached : Run → List Step → List Node → List Node
@@ -36,24 +46,24 @@ slot_nodes run place = path_nodes (slot_in (table_in run) place) (node_of run.ro
 abbrev pub AreKept : Run → List (Option Answer) → Type 0
 AreKept run answers = (place : ℕ) (answer : Answer) → slice_get answers place ≡ Some (Some answer) → IsAnswer (slot_nodes run place) answer
 
--- a node of the line, and a frame whose answers are right
-pub record Stands (run : Run) (node : Cursor) (frame : Frame) : Type 0 where
-  pub line : line_of node ≡ line_of run.root.now
-  pub kept : AreKept run frame.answers.items
+-- a frame whose answers are right, and that has no more nodes than are looked for
+pub record Stands (at : At) (frame : Frame) : Type 0 where
+  pub kept : AreKept at.run.now frame.answers.items
+  pub room : length frame.found.items ≤ at.most
 
--- these nodes were added, as long as there were fewer than `most`
-pub record Pushes {E : Type 0} {U : Type 0} (run : Run) (most : ℕ) (old new : Frame) (result : Result U E) (found : List Node) : Type 0 where
-  pub adds : Adds (line_of run.root.now) old.found.items new.found.items
-  pub kept : AreKept run new.answers.items
-  pub nodes : OnOk result (map node_of new.found.items ≡ take most (map node_of old.found.items ++ found))
+-- these nodes were added, as long as there was room
+pub record Pushes {E : Type 0} {U : Type 0} (at : At) (old new : Frame) (result : Result U E) (found : List Node) : Type 0 where
+  pub adds : Adds (line_of at.run.now.root.now) old.found.items new.found.items
+  pub kept : AreKept at.run.now new.answers.items
+  pub nodes : OnOk result (map node_of new.found.items ≡ take at.most (map node_of old.found.items ++ found))
 
 -- the frame was lent, and has the nodes that it had
-pub record Lends {E : Type 0} {A : Type 0} (run : Run) (old new : Frame) (result : Result A E) : Type 0 where
-  pub adds : Adds (line_of run.root.now) old.found.items new.found.items
-  pub kept : AreKept run new.answers.items
+pub record Lends {E : Type 0} {A : Type 0} (at : At) (old new : Frame) (result : Result A E) : Type 0 where
+  pub adds : Adds (line_of at.run.now.root.now) old.found.items new.found.items
+  pub kept : AreKept at.run.now new.answers.items
   pub same : OnOk result (new.found.items ≡ old.found.items)
 
 -- the value of the first argument is a string that passes the pattern of the second: all of it, or a part of it
-abbrev pub passes_given : Run → Bool → Given → Given → Node → Bool
-passes_given run whole text pattern n =
-    in_pattern (passing whole) (given_by (given_view (table_in run) text) n (tree_in run)).value (given_by (given_view (table_in run) pattern) n (tree_in run)).value
+abbrev pub passes_given : At → Bool → Given → Given → Bool
+passes_given at whole text pattern =
+    in_pattern (passing whole) (given_by (given_view (table_at at) text) (here at) (tree_at at)).value (given_by (given_view (table_at at) pattern) (here at) (tree_at at)).value

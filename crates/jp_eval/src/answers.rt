@@ -10,15 +10,13 @@ ghost use Rattle.jp_eval.specs.declared.frame.Run.{Run as AnyRun};
 ghost use Rattle.jp_eval.specs.declared.program.Nodes.TheVariants as slots;
 ghost use Rattle.jp_tape.specs.Cursors.{node_of};
 
+use crate::Result;
 use crate::frame::{Answer, Frame, Run};
 use crate::program::{Nodes, Step};
-use std::alloc::{AllocError, Global};
+use std::alloc::Global;
 
 /// No answer, at so many places.
-pub(crate) fn no_answers<'a>(
-    alloc: Global,
-    count: usize,
-) -> Result<Vec<Option<Answer<'a>>>, AllocError>
+pub(crate) fn no_answers<'a>(alloc: Global, count: usize) -> Result<Vec<Option<Answer<'a>>>>
     ensures { (run : AnyRun) → IfOk result (λ answers. AreKept run answers.items) }
 {
     let mut answers = Vec::with_capacity(alloc, count)?;
@@ -34,7 +32,7 @@ pub(crate) fn first_answers<'a>(
     alloc: Global,
     steps: &[Step],
     count: usize,
-) -> Result<Vec<Option<Answer<'a>>>, AllocError>
+) -> Result<Vec<Option<Answer<'a>>>>
     ensures { (run : AnyRun) → IfOk result (λ answers. AreKept run answers.items) }
 {
     match steps {
@@ -78,7 +76,7 @@ impl<'p, 'a> Run<'p, 'a> {
     }
 
     /// Makes room for answers, where a filter is going to ask of one child after another. What is asked once is not kept.
-    pub(crate) fn prepare(self, frame: &mut Frame<'a>) -> Result<(), AllocError>
+    pub(crate) fn prepare(self, frame: &mut Frame<'a>) -> Result<()>
         requires { AreKept self frame.old.answers.items }
         ensures kept { AreKept self.entry frame.new.answers.items }
         ensures found { frame.new.found ≡ frame.old.found }

@@ -13,9 +13,10 @@ ghost use Rattle.jp_tape.specs.declared.Kind.TheVariants as kinds;
 ghost use Rattle.jp_eval.specs.Found.{node_list, AreOf};
 ghost use Rattle.jp_eval.specs.Walks.{IsAt, rises};
 
+use crate::Result;
 use jp_strings::spells_known;
 use jp_tape::{Cursor, Kind};
-use std::alloc::{AllocError, Global};
+use std::alloc::Global;
 
 /// Whether the node is the member of this name. Of a plain name each byte stands for itself.
 #[inline(always)]
@@ -236,11 +237,7 @@ fn is_behind(count: u32, first: Option<i64>, index: u32) -> bool
 }
 
 /// The elements that a slice with a step below 0 selects, in their own order.
-fn falling_elements<'a>(
-    alloc: Global,
-    node: Cursor<'a>,
-    slice: Slice,
-) -> Result<Vec<Cursor<'a>>, AllocError>
+fn falling_elements<'a>(alloc: Global, node: Cursor<'a>, slice: Slice) -> Result<Vec<Cursor<'a>>>
     requires { slice.step <ℤ pos 0 }
     ensures nodes { IfOk result (λ found. map node_of found.items ≡ children_where (is_index (downward (count_of (node_of node.entry)) slice.first slice.last slice.step)) (node_of node.entry)) }
     ensures lines { IfOk result (λ found. AreOf (line_of node.entry) found.items) }
@@ -268,7 +265,7 @@ pub(crate) fn find_falling<'a>(
     alloc: Global,
     node: Cursor<'a>,
     slice: Slice,
-) -> Result<Vec<Cursor<'a>>, AllocError>
+) -> Result<Vec<Cursor<'a>>>
     requires { slice.step ≤ℤ pos 0 }
     ensures nodes { IfOk result (λ found. map node_of found.items ≡ sliced slice.first slice.last slice.step (node_of node.entry)) }
     ensures lines { IfOk result (λ found. AreOf (line_of node.entry) found.items) }

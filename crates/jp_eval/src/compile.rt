@@ -13,6 +13,7 @@ ghost use Rattle.jp_model.specs.Query.Syntax.{argument, call as syntax_call, chi
 ghost use Rattle.jp_query.specs.Sound.{is_sound};
 ghost use Rattle.jp_query.specs.View.{op_view, literal_view, segments_view, segment_view, selectors_view, selector_view, logicals_view, logical_view, comparable_view, path_view, call_view, arguments_view, argument_view};
 
+use crate::Result;
 use crate::functions::{Function, function_of};
 use crate::leaves::{Constant, LiteralPattern, MemberName, Named};
 use crate::program::{Choice, Condition, Given, Invoked, Nodes, Side, Slot, Step};
@@ -23,10 +24,10 @@ use jp_query::{
     Argument, Call, Comparable, CompareOp, Literal, Logical, Origin, Path, Segment, Selector,
 };
 use jp_strings::is_plain;
-use std::alloc::{AllocError, Global};
+use std::alloc::Global;
 
 /// A copy of the literal.
-fn copy_literal(alloc: Global, literal: &Literal) -> Result<Literal, AllocError>
+fn copy_literal(alloc: Global, literal: &Literal) -> Result<Literal>
     ensures { IfOk result (λ copy. literal_view copy ≡ literal_view literal.now) }
 {
     Ok(match literal {
@@ -39,7 +40,7 @@ fn copy_literal(alloc: Global, literal: &Literal) -> Result<Literal, AllocError>
 }
 
 /// The number that a literal spells, where it spells one.
-fn read_literal(alloc: Global, literal: &Literal) -> Result<Option<Numeral>, AllocError>
+fn read_literal(alloc: Global, literal: &Literal) -> Result<Option<Numeral>>
     requires literals { is_sound (literal_view literal.now) ≡ true }
     ensures { IfOk result (λ number. is_read_as (option_map numeral_number number) (literal_view literal.now) ≡ true) }
 {
@@ -54,7 +55,7 @@ fn read_literal(alloc: Global, literal: &Literal) -> Result<Option<Numeral>, All
 }
 
 /// A value of the query.
-fn compile_literal(alloc: Global, literal: &Literal) -> Result<Constant, AllocError>
+fn compile_literal(alloc: Global, literal: &Literal) -> Result<Constant>
     requires literals { is_sound (literal_view literal.now) ≡ true }
     ensures { IfOk result (λ constant. literal_view constant.literal ≡ literal_view literal.now) }
 {
@@ -64,7 +65,7 @@ fn compile_literal(alloc: Global, literal: &Literal) -> Result<Constant, AllocEr
 }
 
 /// The text of a query, and the pattern that it spells.
-fn compile_pattern(alloc: Global, text: &str) -> Result<LiteralPattern, AllocError>
+fn compile_pattern(alloc: Global, text: &str) -> Result<LiteralPattern>
     ensures { IfOk result (λ pattern. literal_view pattern.constant.literal ≡ string_literal (chars text.now)) }
 {
     let read = Pattern::parse(alloc, text)?;
@@ -79,7 +80,7 @@ fn compile_pattern(alloc: Global, text: &str) -> Result<LiteralPattern, AllocErr
 }
 
 /// The name of a member.
-fn compile_member_name(alloc: Global, name: &str) -> Result<MemberName, AllocError>
+fn compile_member_name(alloc: Global, name: &str) -> Result<MemberName>
     ensures { IfOk result (λ member. string_bytes member.text ≡ name.now) }
 {
     let plain = is_plain(name.as_bytes());
@@ -88,7 +89,7 @@ fn compile_member_name(alloc: Global, name: &str) -> Result<MemberName, AllocErr
 }
 
 /// The name of a function, which is looked for.
-fn compile_name(alloc: Global, name: &str) -> Result<Named, AllocError>
+fn compile_name(alloc: Global, name: &str) -> Result<Named>
     ensures { IfOk result (λ named. string_bytes named.name ≡ name.now) }
 {
     let function = function_of(name);
@@ -97,7 +98,7 @@ fn compile_name(alloc: Global, name: &str) -> Result<Named, AllocError>
 }
 
 /// The key of a segment that is singular, and None of any other (RFC 9535, section 2.3.5.1).
-fn compile_key(alloc: Global, segment: &Segment) -> Result<Option<Key>, AllocError>
+fn compile_key(alloc: Global, segment: &Segment) -> Result<Option<Key>>
     ensures { IfOk result (λ found. IfSome found (λ key. segment_view segment.now ≡ child_segment (selector (step_selector (key_view key)) no_selectors))) }
 {
     let Segment::Child(selectors) = segment else {
@@ -114,7 +115,7 @@ fn compile_key(alloc: Global, segment: &Segment) -> Result<Option<Key>, AllocErr
 }
 
 /// The keys of segments that are singular, and None of any other (RFC 9535, section 2.3.5.1).
-fn compile_keys(alloc: Global, segments: &[Segment]) -> Result<Option<Vec<Key>>, AllocError>
+fn compile_keys(alloc: Global, segments: &[Segment]) -> Result<Option<Vec<Key>>>
     ensures { IfOk result (λ found. IfSome found (λ keys. segments_view segments.now ≡ steps_query (map key_view keys.items))) }
 {
     let mut keys = Vec::new(alloc);
@@ -133,7 +134,7 @@ pub(crate) fn compile_segments(
     alloc: Global,
     segments: &[Segment],
     slots: &mut Vec<Slot>,
-) -> Result<Vec<Step>, AllocError>
+) -> Result<Vec<Step>>
     requires literals { segments_pass (segments_view segments.now) readable ≡ true }
     ensures { IfOk result (λ steps. Means slots.old.items slots.new.items (λ (table : Table). steps_view table steps.items) (segments_view segments.now)) }
 {
@@ -147,11 +148,7 @@ pub(crate) fn compile_segments(
 
 /// The step of a segment.
 #[cycle(compile)]
-fn compile_segment(
-    alloc: Global,
-    segment: &Segment,
-    slots: &mut Vec<Slot>,
-) -> Result<Step, AllocError>
+fn compile_segment(alloc: Global, segment: &Segment, slots: &mut Vec<Slot>) -> Result<Step>
     requires literals { segment_passes (segment_view segment.now) readable ≡ true }
     ensures { IfOk result (λ step. Means slots.old.items slots.new.items (λ (table : Table). step_view table step) (segment_view segment.now)) }
 {
@@ -176,7 +173,7 @@ fn compile_selectors(
     alloc: Global,
     selectors: &[Selector],
     slots: &mut Vec<Slot>,
-) -> Result<Vec<Choice>, AllocError>
+) -> Result<Vec<Choice>>
     requires literals { selectors_pass (selectors_view selectors.now) readable ≡ true }
     ensures { IfOk result (λ choices. Means slots.old.items slots.new.items (λ (table : Table). choices_view table choices.items) (selectors_view selectors.now)) }
 {
@@ -190,11 +187,7 @@ fn compile_selectors(
 
 /// The choice of a selector.
 #[cycle(compile)]
-fn compile_selector(
-    alloc: Global,
-    selector: &Selector,
-    slots: &mut Vec<Slot>,
-) -> Result<Choice, AllocError>
+fn compile_selector(alloc: Global, selector: &Selector, slots: &mut Vec<Slot>) -> Result<Choice>
     requires literals { selector_passes (selector_view selector.now) readable ≡ true }
     ensures { IfOk result (λ choice. Means slots.old.items slots.new.items (λ (table : Table). choice_view table choice) (selector_view selector.now)) }
 {
@@ -223,7 +216,7 @@ fn compile_logicals(
     alloc: Global,
     parts: &[Logical],
     slots: &mut Vec<Slot>,
-) -> Result<Vec<Condition>, AllocError>
+) -> Result<Vec<Condition>>
     requires literals { logicals_pass (logicals_view parts.now) readable ≡ true }
     ensures { IfOk result (λ conditions. Means slots.old.items slots.new.items (λ (table : Table). conditions_view table conditions.items) (logicals_view parts.now)) }
 {
@@ -241,7 +234,7 @@ pub(crate) fn compile_logical(
     alloc: Global,
     expression: &Logical,
     slots: &mut Vec<Slot>,
-) -> Result<Condition, AllocError>
+) -> Result<Condition>
     requires literals { logical_passes (logical_view expression.now) readable ≡ true }
     ensures { IfOk result (λ condition. Means slots.old.items slots.new.items (λ (table : Table). condition_view table condition) (logical_view expression.now)) }
 {
@@ -311,7 +304,7 @@ fn match_of(call: &Call) -> Option<(bool, &Path, &str)>
 
 /// The condition of a call that answers a truth.
 #[cycle(compile)]
-fn compile_test(alloc: Global, call: &Call, slots: &mut Vec<Slot>) -> Result<Condition, AllocError>
+fn compile_test(alloc: Global, call: &Call, slots: &mut Vec<Slot>) -> Result<Condition>
     requires literals { call_passes (call_view call.now) readable ≡ true }
     ensures { IfOk result (λ condition. Means slots.old.items slots.new.items (λ (table : Table). condition_view table condition) (test (call_view call.now))) }
 {
@@ -326,7 +319,7 @@ fn compile_test(alloc: Global, call: &Call, slots: &mut Vec<Slot>) -> Result<Con
 
 /// The side of a comparison.
 #[cycle(compile)]
-fn compile_side(alloc: Global, side: &Comparable, slots: &mut Vec<Slot>) -> Result<Side, AllocError>
+fn compile_side(alloc: Global, side: &Comparable, slots: &mut Vec<Slot>) -> Result<Side>
     requires literals { comparable_passes (comparable_view side.now) readable ≡ true }
     ensures { IfOk result (λ compiled. Means slots.old.items slots.new.items (λ (table : Table). side_view table compiled) (comparable_view side.now)) }
 {
@@ -348,7 +341,7 @@ fn compile_side(alloc: Global, side: &Comparable, slots: &mut Vec<Slot>) -> Resu
 
 /// The query within a filter. One from the root becomes a slot, and those within its filters are slots of its own.
 #[cycle(compile)]
-fn compile_path(alloc: Global, path: &Path, slots: &mut Vec<Slot>) -> Result<Nodes, AllocError>
+fn compile_path(alloc: Global, path: &Path, slots: &mut Vec<Slot>) -> Result<Nodes>
     requires literals { path_passes (path_view path.now) readable ≡ true }
     ensures { IfOk result (λ nodes. Means slots.old.items slots.new.items (λ (table : Table). nodes_view table nodes) (path_view path.now)) }
 {
@@ -373,7 +366,7 @@ fn compile_path(alloc: Global, path: &Path, slots: &mut Vec<Slot>) -> Result<Nod
 
 /// The call of a function.
 #[cycle(compile)]
-fn compile_call(alloc: Global, call: &Call, slots: &mut Vec<Slot>) -> Result<Invoked, AllocError>
+fn compile_call(alloc: Global, call: &Call, slots: &mut Vec<Slot>) -> Result<Invoked>
     requires literals { call_passes (call_view call.now) readable ≡ true }
     ensures { IfOk result (λ invoked. Means slots.old.items slots.new.items (λ (table : Table). invoked_view table invoked) (call_view call.now)) }
 {
@@ -388,7 +381,7 @@ fn compile_arguments(
     alloc: Global,
     arguments: &[Argument],
     slots: &mut Vec<Slot>,
-) -> Result<Vec<Given>, AllocError>
+) -> Result<Vec<Given>>
     requires literals { arguments_pass (arguments_view arguments.now) readable ≡ true }
     ensures { IfOk result (λ givens. Means slots.old.items slots.new.items (λ (table : Table). givens_view table givens.items) (arguments_view arguments.now)) }
 {
@@ -402,11 +395,7 @@ fn compile_arguments(
 
 /// The argument of a call. A text may be a pattern, so it is read as one.
 #[cycle(compile)]
-fn compile_argument(
-    alloc: Global,
-    argument: &Argument,
-    slots: &mut Vec<Slot>,
-) -> Result<Given, AllocError>
+fn compile_argument(alloc: Global, argument: &Argument, slots: &mut Vec<Slot>) -> Result<Given>
     requires literals { argument_passes (argument_view argument.now) readable ≡ true }
     ensures { IfOk result (λ given. Means slots.old.items slots.new.items (λ (table : Table). given_view table given) (argument_view argument.now)) }
 {

@@ -10,9 +10,8 @@ ghost use Rattle.jp_eval.specs.Found.{Adds, AreOf};
 
 use crate::answers::{first_answers, no_answers};
 use crate::compile::{compile_logical, compile_segments};
-use crate::frame::{Frame, Run};
+use crate::frame::{At, Frame, Run};
 use crate::program::{Slot, Step};
-use crate::run::{holds, push_steps};
 use jp_query::{Logical, Segment};
 use jp_tape::Cursor;
 use std::alloc::{AllocError, Global};
@@ -61,7 +60,12 @@ impl Program {
             found: std::mem::replace(out, Vec::new(alloc)),
             answers,
         };
-        let result = push_steps(run, &self.steps, start, usize::MAX, &mut frame);
+        let at = At {
+            run: &run,
+            node: start,
+            most: usize::MAX,
+        };
+        let result = at.push_steps(&self.steps, &mut frame);
         std::mem::swap(out, &mut frame.found);
         result
     }
@@ -142,5 +146,10 @@ pub fn truth<'a>(
         slots: &slots,
         root: &root,
     };
-    holds(run, &condition, node, &mut frame)
+    let at = At {
+        run: &run,
+        node,
+        most: usize::MAX,
+    };
+    at.holds(&condition, &mut frame)
 }

@@ -1,7 +1,7 @@
 //! What an evaluation carries with it.
 
 ghost use Rattle.std.specs.Prelude.{◌≡◌};
-ghost use Rattle.jp_tape.specs.Cursors.{place_of};
+ghost use Rattle.jp_tape.specs.Cursors.{line_of, place_of};
 
 use crate::program::Slot;
 use jp_tape::Cursor;
@@ -16,6 +16,16 @@ pub(crate) struct Run<'p, 'a> {
     pub(crate) slots: &'p [Slot],
     pub(crate) root: &'p Cursor<'a>,
     ghost at_root: { place_of root.now ≡ 0 },
+}
+
+/// A node of the line, from which as many nodes are looked for as there is room for.
+#[derive(Clone, Copy)]
+pub(crate) struct At<'r, 'a> {
+    pub(crate) run: &'r Run<'r, 'a>,
+    pub(crate) node: Cursor<'a>,
+    /// How many nodes are found at most, with those that were found before.
+    pub(crate) most: usize,
+    ghost in_line: { line_of node ≡ line_of run.now.root.now },
 }
 
 /// The answer to what was asked of the nodes that a query selects.

@@ -11,12 +11,13 @@ ghost use Rattle.jp_iregexp.specs.Trees.{pattern_view};
 ghost use Rattle.jp_strings.specs.Points.{IsText, points_of};
 ghost use Rattle.jp_values.specs.Values.{value_view, is_sound_value};
 
+use crate::Result;
 use jp_iregexp::Pattern;
 use jp_query::Literal;
 use jp_strings::{plain_text, scalar_count, unescape};
 use jp_tape::{Cursor, Kind};
 use jp_values::Value;
-use std::alloc::{AllocError, Global};
+use std::alloc::Global;
 
 /// How many scalars a text has.
 fn count_scalars(text: &str) -> u64
@@ -53,12 +54,7 @@ pub(crate) fn length_of<'a>(value: Value<'a>) -> Value<'a>
 
 /// Whether a text passes a pattern: all of it, or a part of it.
 #[inline(always)]
-fn text_passes(
-    alloc: Global,
-    pattern: &Pattern,
-    whole: bool,
-    text: &str,
-) -> Result<bool, AllocError>
+fn text_passes(alloc: Global, pattern: &Pattern, whole: bool, text: &str) -> Result<bool>
     ensures { IfOk result (λ b. b ≡ passing whole (pattern_view pattern.now) (chars text.now)) }
 {
     if whole {
@@ -70,12 +66,7 @@ fn text_passes(
 
 /// Whether the text that a body with an escape spells passes a pattern.
 #[inline(never)]
-fn escaped_passes(
-    alloc: Global,
-    pattern: &Pattern,
-    whole: bool,
-    body: &[u8],
-) -> Result<bool, AllocError>
+fn escaped_passes(alloc: Global, pattern: &Pattern, whole: bool, body: &[u8]) -> Result<bool>
     requires { IsText body.now }
     ensures { IfOk result (λ b. b ≡ passing whole (pattern_view pattern.now) (points_of body.now)) }
 {
@@ -84,12 +75,7 @@ fn escaped_passes(
 
 /// Whether the text that a body spells passes a pattern. It is copied only where it has an escape.
 #[inline(always)]
-fn body_passes(
-    alloc: Global,
-    pattern: &Pattern,
-    whole: bool,
-    body: &[u8],
-) -> Result<bool, AllocError>
+fn body_passes(alloc: Global, pattern: &Pattern, whole: bool, body: &[u8]) -> Result<bool>
     requires { IsText body.now }
     ensures { IfOk result (λ b. b ≡ passing whole (pattern_view pattern.now) (points_of body.now)) }
 {
@@ -100,7 +86,7 @@ fn body_passes(
 }
 
 /// The pattern that a string spells.
-fn read_pattern(alloc: Global, value: Value<'_>) -> Result<Option<Pattern>, AllocError>
+fn read_pattern(alloc: Global, value: Value<'_>) -> Result<Option<Pattern>>
     ensures { IfOk result (λ found. option_map pattern_view found ≡ pattern_in (value_view value.entry)) }
 {
     match value {
@@ -115,12 +101,7 @@ fn read_pattern(alloc: Global, value: Value<'_>) -> Result<Option<Pattern>, Allo
 
 /// Whether the value of a node is a string that passes a pattern: all of it, or a part of it.
 #[inline(always)]
-fn node_passes(
-    alloc: Global,
-    pattern: &Pattern,
-    whole: bool,
-    node: Cursor<'_>,
-) -> Result<bool, AllocError>
+fn node_passes(alloc: Global, pattern: &Pattern, whole: bool, node: Cursor<'_>) -> Result<bool>
     ensures { IfOk result (λ b. b ≡ passes_as_string (passing whole) (pattern_view pattern.now) (Some (value_of (node_of node.entry).tree))) }
 {
     match node.text() {
@@ -130,12 +111,7 @@ fn node_passes(
 }
 
 /// Whether the value is a string that passes a pattern: all of it, or a part of it.
-fn value_passes(
-    alloc: Global,
-    pattern: &Pattern,
-    whole: bool,
-    value: Value<'_>,
-) -> Result<bool, AllocError>
+fn value_passes(alloc: Global, pattern: &Pattern, whole: bool, value: Value<'_>) -> Result<bool>
     ensures { IfOk result (λ b. b ≡ passes_as_string (passing whole) (pattern_view pattern.now) (value_view value.entry)) }
 {
     match value {
@@ -151,7 +127,7 @@ pub(crate) fn read_passes(
     read: &Option<Pattern>,
     whole: bool,
     value: Value<'_>,
-) -> Result<bool, AllocError>
+) -> Result<bool>
     ensures { IfOk result (λ b. b ≡ passes_where_read (passing whole) (option_map pattern_view read.now) (value_view value.entry)) }
 {
     match read {
@@ -167,7 +143,7 @@ pub(crate) fn end_passes(
     read: &Option<Pattern>,
     whole: bool,
     end: Option<Cursor<'_>>,
-) -> Result<bool, AllocError>
+) -> Result<bool>
     ensures { IfOk result (λ b. b ≡ passes_where_read (passing whole) (option_map pattern_view read.now) (single_value (node_list end.entry))) }
 {
     let Some(pattern) = read else {
@@ -186,7 +162,7 @@ pub(crate) fn in_pattern(
     whole: bool,
     value: Value<'_>,
     pattern: Value<'_>,
-) -> Result<bool, AllocError>
+) -> Result<bool>
     ensures { IfOk result (λ b. b ≡ in_pattern_of (passing whole) (value_view value.entry) (value_view pattern.entry)) }
 {
     let read = read_pattern(alloc, pattern)?;

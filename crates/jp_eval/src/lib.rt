@@ -20,5 +20,8 @@ mod run;
 mod singular;
 mod steps;
 
+/// What a call gives that may be refused memory.
+type Result<T> = std::result::Result<T, std::alloc::AllocError>;
+
 pub use evaluate::{Program, eval_from, truth};
 pub use steps::follow;

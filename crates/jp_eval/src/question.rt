@@ -10,12 +10,13 @@ ghost use Rattle.jp_model.specs.Meaning.Selecting.{nodes};
 ghost use Rattle.jp_model.specs.Query.Singular.{steps_query};
 ghost use Rattle.jp_tape.specs.Cursors.{line_of, node_of};
 
+use crate::Result;
 use crate::children::{find_element, find_member};
 use crate::functions::end_passes;
 use crate::leaves::{Constant, LiteralPattern, MemberName};
 use jp_query::CompareOp;
 use jp_tape::Cursor;
-use std::alloc::{AllocError, Global};
+use std::alloc::Global;
 
 /// What one child is selected by (RFC 9535, sections 2.3.1 and 2.3.3).
 #[derive(Drop)]
@@ -81,7 +82,7 @@ pub(crate) enum Question {
 impl Question {
     /// The answer where one node is selected, or none.
     #[inline(always)]
-    pub(crate) fn answer(&self, alloc: Global, end: Option<Cursor<'_>>) -> Result<bool, AllocError>
+    pub(crate) fn answer(&self, alloc: Global, end: Option<Cursor<'_>>) -> Result<bool>
         ensures { IfOk result (λ b. b ≡ answered self.now (node_list end.entry)) }
     {
         match self {

@@ -7,11 +7,11 @@ ghost use Rattle.jp_model.specs.Meaning.Functions.{single_value};
 ghost use Rattle.jp_model.specs.Meaning.Selecting.{nodes as nodes_of, segment_nodes, path_nodes};
 ghost use Rattle.jp_tape.specs.Cursors.{line_of, node_of};
 ghost use Rattle.jp_eval.specs.Found.{node_list};
-ghost use Rattle.jp_eval.specs.Frames.{table_in, tree_in};
+ghost use Rattle.jp_eval.specs.Frames.{here, table_at, tree_at};
 ghost use Rattle.jp_eval.specs.Programs.{Table, nodes_view, step_view, steps_view};
 ghost use Rattle.jp_values.specs.Values.{value_view, is_sound_value};
 
-use crate::frame::{Frame, Run};
+use crate::frame::{At, Frame};
 use crate::program::{Nodes, Step};
 use crate::question::find_at;
 use jp_tape::Cursor;
@@ -48,34 +48,32 @@ pub(crate) fn value_of<'a>(end: Option<Cursor<'a>>) -> Value<'a>
     }
 }
 
-impl<'p, 'a> Run<'p, 'a> {
+impl<'r, 'a> At<'r, 'a> {
     /// The node that a query by names and indexes leads to, if there is one. None where another step is met.
     #[inline(always)]
-    pub(crate) fn singular(self, nodes: &Nodes, node: Cursor<'a>) -> Option<Option<Cursor<'a>>>
-        requires { line_of node ≡ line_of self.root.now }
-        ensures nodes { IfSome result (λ end. node_list end ≡ path_nodes (nodes_view (table_in self.entry) nodes.now) (node_of node.entry) (tree_in self.entry)) }
-        ensures line { IfSome result (λ end. IfSome end (λ c. line_of c ≡ line_of self.entry.root.now)) }
+    pub(crate) fn singular(self, nodes: &Nodes) -> Option<Option<Cursor<'a>>>
+        ensures nodes { IfSome result (λ end. node_list end ≡ path_nodes (nodes_view (table_at self.entry) nodes.now) (here self.entry) (tree_at self.entry)) }
+        ensures line { IfSome result (λ end. IfSome end (λ c. line_of c ≡ line_of self.entry.run.now.root.now)) }
     {
         match nodes {
-            Nodes::Slot(place) => singular_path(self.enter(*place).1, *self.root),
-            Nodes::Path(keys) => Some(find_at(keys, node)),
+            Nodes::Slot(place) => singular_path(self.run.enter(*place).1, *self.run.root),
+            Nodes::Path(keys) => Some(find_at(keys, self.node)),
             Nodes::Current(_) => None,
         }
     }
+
     /// The node of a query of which nothing is kept. Of one that is kept, the node is looked for once in a line.
     #[inline(always)]
     pub(crate) fn singular_alone(
         self,
         nodes: &Nodes,
-        node: Cursor<'a>,
         frame: &Frame<'a>,
     ) -> Option<Option<Cursor<'a>>>
-        requires { line_of node ≡ line_of self.root.now }
-        ensures { IfSome result (λ end. node_list end ≡ path_nodes (nodes_view (table_in self.entry) nodes.now) (node_of node.entry) (tree_in self.entry)) }
+        ensures { IfSome result (λ end. node_list end ≡ path_nodes (nodes_view (table_at self.entry) nodes.now) (here self.entry) (tree_at self.entry)) }
     {
-        if self.keeps(nodes, frame) {
+        if self.run.keeps(nodes, frame) {
             return None;
         }
-        self.singular(nodes, node)
+        self.singular(nodes)
     }
 }

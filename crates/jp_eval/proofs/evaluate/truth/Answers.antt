@@ -10,10 +10,8 @@ use Rattle.jp_eval.proofs.Meanings.{whole}
 use Rattle.jp_eval.proofs.evaluate.truth.Goals as goal
 
 pub holds-requires : goal.holds-requires
-holds-requires c = record {
-  line = c.requires.line;
-  kept = c.in_ok-answers.ensures (record { alloc = c.args.alloc; slots = c.deref.result; root = record { ref_ptr = c.args.expression.ref_ptr; now = c.args.root }; at_root = c.requires.root });
-}
+holds-requires c =
+    c.in_ok-answers.ensures (record { alloc = c.args.alloc; slots = c.deref.result; root = record { ref_ptr = c.args.expression.ref_ptr; now = c.args.root }; at_root = c.requires.root })
 
 pub returns : goal.returns
 returns c =

@@ -1,5 +1,5 @@
 -- A vector has fewer items than the largest number, so none was cut away. No answer was there.
-use Rattle.std.proofs.Common.{◌≡◌, ◌∙◌, ◌++◌, ◌∷◌, [], ap, ap₂, List, map, arith, Result, Ok, Err, Vec, Global}
+use Rattle.std.proofs.Common.{rules, ◌≡◌, ◌∙◌, ◌++◌, ◌∷◌, [], ap, ap₂, List, map, arith, Result, Ok, Err, Vec, Global}
 use Rattle.std.specs.Prelude.{OnOk}
 use Rattle.jp_model.specs.Json.Tree.{Tree}
 use Rattle.jp_model.specs.Meaning.Nodes.{Node}
@@ -16,10 +16,10 @@ on_ok : {A E : Type 0} (r : Result A E) (P Q : Type 0) → (P → Q) → OnOk r 
 on_ok (Ok x) P Q f h = f h
 on_ok (Err e) P Q f h = tt
 
-pub push_steps-result-requires-clause-stands : goal.push_steps-result-requires-clause-stands
-push_steps-result-requires-clause-stands c = record {
-  line = c.requires.line;
+pub push_steps-result-requires : goal.push_steps-result-requires
+push_steps-result-requires c = record {
   kept = c.in_ok-answers.ensures (record { alloc = c.args.alloc; slots = c.deref-2.result; root = record { ref_ptr = c.args.self.ref_ptr; now = c.args.root }; at_root = c.requires.root });
+  room = search rules;
 }
 
 pub returns-clause-ok : goal.returns-clause-ok

@@ -55,8 +55,8 @@ use Rattle.jp_eval.proofs.Walks.{chosen_from, chosen_here, passed_here, at_next,
 use Rattle.std.proofs.lemmas.Bool.{ltb-true, ltb-false}
 use Rattle.std.proofs.lemmas.List.{drop_all}
 use mir.Val.{to_z, of_z}
-use Rattle.jp_eval.proofs.run.+eval.Goals as goal
-use Rattle.jp_eval.proofs.run.+eval.Goals.{call_truth-in-Some-Match, call_truth-in-Some-Search, push_filtered-then-branch, push_filtered-else-branch, push_filtered-then-branch-2+in_ok-push_steps, push_filtered-else-branch-2, call_value-in_default-via-then-as_slice-lt1, call_value-in_default-via-else-as_slice-lt1+else-this-lt2, push_rising-then-has+in_ok-push_steps, push_rising-else-has, push_rising-then-len-most-via-then-len-most, push_rising-then-len-most-via-else-len-most+then-ends_before, find_single-then-len-before, find_single-else-len-before}
+use Rattle.jp_eval.proofs.frame.At.+eval.Goals as goal
+use Rattle.jp_eval.proofs.frame.At.+eval.Goals.{call_truth-in-Some-Match, call_truth-in-Some-Search, push_filtered-then-branch, push_filtered-else-branch, push_filtered-then-branch-2+in_ok-push_steps, push_filtered-else-branch-2, call_value-in_default-via-then-as_slice-lt1, call_value-in_default-via-else-as_slice-lt1+else-this-lt2, push_rising-then-has+in_ok-push_steps, push_rising-else-has, push_rising-then-len-most-via-then-len-most, push_rising-then-len-most-via-else-len-most+then-ends_before, find_single-then-len-before, find_single-else-len-before}
 
 -- ---- children
 
@@ -65,9 +65,9 @@ push_children-returns-in_err-push_steps t c = record { adds = adds_more c.loop-n
 
 pub push_children-loop-next-preserved : goal.push_children-loop-next-preserved
 push_children-loop-next-preserved t c =
-    let u : Tree = (node_of c.args.run.root.now).tree in
-    let ss : Segments = steps_view (table_in c.args.run) c.args.rest.now in
-    let child : Cursor = c.in-Some.child in
+    let u : Tree = (node_of c.args.self.run.now.root.now).tree in
+    let ss : Segments = steps_view (table_in c.args.self.run.now) c.args.rest.now in
+    let child : Cursor = c.in-Some.node in
     let kept = c.loop-next.invariant in
     record {
       goes = others_are (nodes ss (nodes_from c.next_sibling-next.result) u) (ap (λ (l : List Node). nodes ss l u) (sym c.next_sibling-next.ensures.nodes))
@@ -80,8 +80,8 @@ push_children-loop-next-preserved t c =
 
 pub push_children-returns : goal.push_children-returns
 push_children-returns t c =
-    let u : Tree = (node_of c.args.run.root.now).tree in
-    let ss : Segments = steps_view (table_in c.args.run) c.args.rest.now in
+    let u : Tree = (node_of c.args.self.run.now.root.now).tree in
+    let ss : Segments = steps_view (table_in c.args.self.run.now) c.args.rest.now in
     record { adds = c.loop-next.invariant.goes.kept; kept = c.loop-next.invariant.kept; nodes = is_done c.loop-next.invariant.goes (ap (λ (o : Option Cursor). nodes ss (nodes_from o) u) c.in_default.is ∙ no_nodes ss u) }
 
 -- ---- descendants
@@ -91,18 +91,18 @@ push_descendants-returns-in_err-push_choices t c = record { adds = adds_more c.l
 
 pub push_descendants-loop-place-preserved : goal.push_descendants-loop-place-preserved
 push_descendants-loop-place-preserved t c =
-    let u : Tree = (node_of c.args.run.root.now).tree in
-    let ss : Segments = steps_view (table_in c.args.run) c.args.rest.now in
-    let f = λ (d : Node). selected (choices_view (table_in c.args.run) c.args.choices.now) d u in
-    let n : Cursor = c.args.node in
-    let d : Cursor = c.go_to.result in
+    let u : Tree = (node_of c.args.self.run.now.root.now).tree in
+    let ss : Segments = steps_view (table_in c.args.self.run.now) c.args.rest.now in
+    let f = λ (d : Node). selected (choices_view (table_in c.args.self.run.now) c.args.choices.now) d u in
+    let n : Cursor = c.args.self.node in
+    let d : Cursor = c.go_to-node.result in
     let place : ℕ = c.loop-place.place in
     let all : List Node = subtree (node_of n) in
     let low = c.loop-place.auto.place in
     let start = c.place-place.ensures.value in
     let stop = c.after-place-end.ensures.value in
     let here : drop (place - place_of n) all ≡ node_of d ∷ drop (place + 1 - place_of n) all =
-    below_at n d place c.go_to.ensures.line c.go_to.ensures.place (omega (arith, low, start)) (omega (arith, c.loop-place-test.true, stop)) in
+    below_at n d place c.go_to-node.ensures.line c.go_to-node.ensures.place (omega (arith, low, start)) (omega (arith, c.loop-place-test.true, stop)) in
     record {
       goes = goes_from c.push_choices.new.frame.found.items ss u (f (node_of d)) (flat_map f (drop (place + 1 - place_of n) all))
           (others_are (nodes ss (f (node_of d) ++ flat_map f (drop (place + 1 - place_of n) all)) u) (ap (λ (l : List Node). nodes ss (flat_map f l) u) here) c.loop-place.invariant.goes)
@@ -112,10 +112,10 @@ push_descendants-loop-place-preserved t c =
 
 pub push_descendants-returns : goal.push_descendants-returns
 push_descendants-returns t c =
-    let u : Tree = (node_of c.args.run.root.now).tree in
-    let ss : Segments = steps_view (table_in c.args.run) c.args.rest.now in
-    let f = λ (d : Node). selected (choices_view (table_in c.args.run) c.args.choices.now) d u in
-    let n : Cursor = c.args.node in
+    let u : Tree = (node_of c.args.self.run.now.root.now).tree in
+    let ss : Segments = steps_view (table_in c.args.self.run.now) c.args.rest.now in
+    let f = λ (d : Node). selected (choices_view (table_in c.args.self.run.now) c.args.choices.now) d u in
+    let n : Cursor = c.args.self.node in
     let all : List Node = subtree (node_of n) in
     let stop = c.after-place-end.ensures.value in
     let none : drop (c.loop-place.place - place_of n) all ≡ [] = drop_all (c.loop-place.place - place_of n) all (omega (arith, stop, c.loop-place-test.false)) in
@@ -131,15 +131,15 @@ push_filtered-returns-in_err-push_steps t c = record { adds = adds_more c.loop-n
 
 pub push_filtered-loop-next-preserved : goal.push_filtered-loop-next-preserved
 push_filtered-loop-next-preserved t c =
-    let u : Tree = (node_of c.args.run.root.now).tree in
-    let ss : Segments = steps_view (table_in c.args.run) c.args.rest.now in
-    let p = λ (n : Node). truth (condition_view (table_in c.args.run) c.args.condition.now) n u in
-    let child : Cursor = c.in-Some.child in
+    let u : Tree = (node_of c.args.self.run.now.root.now).tree in
+    let ss : Segments = steps_view (table_in c.args.self.run.now) c.args.rest.now in
+    let p = λ (n : Node). truth (condition_view (table_in c.args.self.run.now) c.args.condition.now) n u in
+    let child : Cursor = c.in-Some.node in
     let kept = c.loop-next.invariant in
     let next : Option Cursor = c.next_sibling-next.result in
-    let here : Goes (line_of c.args.run.root.now) c.args.most c.args.frame.now.found.items c.holds.new.frame.found.items (nodes ss (filter p (node_of child ∷ nodes_after child)) u) (nodes ss (filter p (children (node_of c.args.node))) u) =
+    let here : Goes (line_of c.args.self.run.now.root.now) c.args.self.most c.args.frame.now.found.items c.holds.new.frame.found.items (nodes ss (filter p (node_of child ∷ nodes_after child)) u) (nodes ss (filter p (children (node_of c.args.self.node))) u) =
     now_is c.holds.new.frame.found.items c.in_ok-holds.ensures.lends.same (others_are (nodes ss (filter p (nodes_from (Some child))) u) (ap (λ (o : Option Cursor). nodes ss (filter p (nodes_from o)) u) c.in-Some.is) kept.goes) in
-    let goes : Goes (line_of c.args.run.root.now) c.args.most c.args.frame.now.found.items c.if-branch-2.frame.found.items (nodes ss (filter p (nodes_after child)) u) (nodes ss (filter p (children (node_of c.args.node))) u) =
+    let goes : Goes (line_of c.args.self.run.now.root.now) c.args.self.most c.args.frame.now.found.items c.if-branch-2.frame.found.items (nodes ss (filter p (nodes_after child)) u) (nodes ss (filter p (children (node_of c.args.self.node))) u) =
     elim c.if-branch-2.branch [
       | push_filtered-then-branch-2+in_ok-push_steps w ↦
           (let taken : p (node_of child) ≡ true = sym c.in_ok-holds.ensures.value ∙ w.if-branch-2.true in
@@ -155,17 +155,17 @@ push_filtered-loop-next-preserved t c =
     record {
       goes = others_are (nodes ss (filter p (nodes_from next)) u) (ap (λ (l : List Node). nodes ss (filter p l) u) (sym c.next_sibling-next.ensures.nodes)) goes;
       kept = elim c.if-branch-2.branch [
-        | push_filtered-then-branch-2+in_ok-push_steps w ↦ subst (λ (f : Frame). AreKept c.args.run f.answers.items) (sym w.frame-is) w.in_ok-push_steps.ensures.kept
-        | push_filtered-else-branch-2 w ↦ subst (λ (f : Frame). AreKept c.args.run f.answers.items) (sym w.frame-is) c.in_ok-holds.ensures.lends.kept
+        | push_filtered-then-branch-2+in_ok-push_steps w ↦ subst (λ (f : Frame). AreKept c.args.self.run.now f.answers.items) (sym w.frame-is) w.in_ok-push_steps.ensures.kept
+        | push_filtered-else-branch-2 w ↦ subst (λ (f : Frame). AreKept c.args.self.run.now f.answers.items) (sym w.frame-is) c.in_ok-holds.ensures.lends.kept
       ];
       line = line_on next _ _ c.next_sibling-next.ensures.line (line_of_some _ child _ c.in-Some.is kept.line);
     }
 
 pub push_filtered-returns-2 : goal.push_filtered-returns-2
 push_filtered-returns-2 t c =
-    let u : Tree = (node_of c.args.run.root.now).tree in
-    let ss : Segments = steps_view (table_in c.args.run) c.args.rest.now in
-    let p = λ (n : Node). truth (condition_view (table_in c.args.run) c.args.condition.now) n u in
+    let u : Tree = (node_of c.args.self.run.now.root.now).tree in
+    let ss : Segments = steps_view (table_in c.args.self.run.now) c.args.rest.now in
+    let p = λ (n : Node). truth (condition_view (table_in c.args.self.run.now) c.args.condition.now) n u in
     record { adds = c.loop-next.invariant.goes.kept; kept = c.loop-next.invariant.kept; nodes = is_done c.loop-next.invariant.goes (ap (λ (o : Option Cursor). nodes ss (filter p (nodes_from o)) u) c.in_default-2.is ∙ no_nodes ss u) }
 
 -- ---- from each of some nodes
@@ -175,8 +175,8 @@ push_from_each-returns-in_err-push_steps t c = record { adds = adds_more c.loop-
 
 pub push_from_each-loop-start-preserved : goal.push_from_each-loop-start-preserved
 push_from_each-loop-start-preserved t c =
-    let u : Tree = (node_of c.args.run.root.now).tree in
-    let ss : Segments = steps_view (table_in c.args.run) c.args.rest.now in
+    let u : Tree = (node_of c.args.self.run.now.root.now).tree in
+    let ss : Segments = steps_view (table_in c.args.self.run.now) c.args.rest.now in
     let i : ℕ = c.loop-start.start-index in
     let starts : List Cursor = c.args.starts.now in
     let start : Cursor = c.start-item.result in
@@ -190,8 +190,8 @@ push_from_each-loop-start-preserved t c =
 
 pub push_from_each-returns : goal.push_from_each-returns
 push_from_each-returns t c =
-    let u : Tree = (node_of c.args.run.root.now).tree in
-    let ss : Segments = steps_view (table_in c.args.run) c.args.rest.now in
+    let u : Tree = (node_of c.args.self.run.now.root.now).tree in
+    let ss : Segments = steps_view (table_in c.args.self.run.now) c.args.rest.now in
     let starts : List Cursor = c.args.starts.now in
     record { adds = c.loop-start.invariant.goes.kept; kept = c.loop-start.invariant.kept; nodes = is_done c.loop-start.invariant.goes (ap (λ (l : List Cursor). nodes ss (map node_of l) u) (drop_all c.loop-start.start-index starts c.loop-start-test.false) ∙ no_nodes ss u) }
 
@@ -199,14 +199,14 @@ push_from_each-returns t c =
 
 pub push_choices-returns-then-is_none : goal.push_choices-returns-then-is_none
 push_choices-returns-then-is_none t c =
-    let u : Tree = (node_of c.args.run.root.now).tree in
-    let ss : Segments = steps_view (table_in c.args.run) c.args.rest.now in
-    let n : Node = node_of c.args.node in
+    let u : Tree = (node_of c.args.self.run.now.root.now).tree in
+    let ss : Segments = steps_view (table_in c.args.self.run.now) c.args.rest.now in
+    let n : Node = node_of c.args.self.node in
     let none : children n ≡ [] = sym c.first_child.ensures.nodes ∙ none_first c.first_child.result (c.is_none.ensures ∙ ap not c.if-is_none.true) in
     record {
-      adds = adds_none (line_of c.args.run.root.now) c.args.frame.now.found.items c.args.frame.now.found.items refl;
-      kept = c.requires.stands.kept;
-      nodes = nothing_added c.args.most c.args.frame.now.found.items ss u (selected (choices_view (table_in c.args.run) c.args.choices.now) n u) c.requires.room (none_selected (choices_view (table_in c.args.run) c.args.choices.now) n u none);
+      adds = adds_none (line_of c.args.self.run.now.root.now) c.args.frame.now.found.items c.args.frame.now.found.items refl;
+      kept = c.requires.kept;
+      nodes = nothing_added c.args.self.most c.args.frame.now.found.items ss u (selected (choices_view (table_in c.args.self.run.now) c.args.choices.now) n u) c.requires.room (none_selected (choices_view (table_in c.args.self.run.now) c.args.choices.now) n u none);
     }
 
 pub push_choices-returns-in_err-push_choice : goal.push_choices-returns-in_err-push_choice
@@ -214,20 +214,20 @@ push_choices-returns-in_err-push_choice t c = record { adds = adds_more c.loop-c
 
 pub push_choices-loop-choice-preserved : goal.push_choices-loop-choice-preserved
 push_choices-loop-choice-preserved t c =
-    let u : Tree = (node_of c.args.run.root.now).tree in
-    let ss : Segments = steps_view (table_in c.args.run) c.args.rest.now in
-    let n : Node = node_of c.args.node in
+    let u : Tree = (node_of c.args.self.run.now.root.now).tree in
+    let ss : Segments = steps_view (table_in c.args.self.run.now) c.args.rest.now in
+    let n : Node = node_of c.args.self.node in
     let i : ℕ = c.loop-choice.choice-index in
     let all : List Choice = c.args.choices.now in
     let first : Choice = c.choice-item.result in
     let others : List Choice = drop (i + 1) all in
     let kept = c.loop-choice.invariant in
     let here : drop i all ≡ first ∷ others = item_at all i first c.loop-choice-test.true c.choice-item.is in
-    let size = ap (λ (l : List Choice). size_of_selectors (choices_view (table_in c.args.run) l)) here in
+    let size = ap (λ (l : List Choice). size_of_selectors (choices_view (table_in c.args.self.run.now) l)) here in
     let before = kept.size in
     record {
-      goes = goes_from c.push_choice.new.frame.found.items ss u (select (choice_view (table_in c.args.run) first) n u) (selected (choices_view (table_in c.args.run) others) n u)
-          (others_are (nodes ss (select (choice_view (table_in c.args.run) first) n u ++ selected (choices_view (table_in c.args.run) others) n u) u) (ap (λ (l : List Choice). nodes ss (selected (choices_view (table_in c.args.run) l) n u) u) here) kept.goes)
+      goes = goes_from c.push_choice.new.frame.found.items ss u (select (choice_view (table_in c.args.self.run.now) first) n u) (selected (choices_view (table_in c.args.self.run.now) others) n u)
+          (others_are (nodes ss (select (choice_view (table_in c.args.self.run.now) first) n u ++ selected (choices_view (table_in c.args.self.run.now) others) n u) u) (ap (λ (l : List Choice). nodes ss (selected (choices_view (table_in c.args.self.run.now) l) n u) u) here) kept.goes)
           c.in_ok-push_choice.ensures.adds c.in_ok-push_choice.ensures.nodes;
       kept = c.in_ok-push_choice.ensures.kept;
       size = omega (arith, size, before);
@@ -235,11 +235,11 @@ push_choices-loop-choice-preserved t c =
 
 pub push_choices-returns : goal.push_choices-returns
 push_choices-returns t c =
-    let u : Tree = (node_of c.args.run.root.now).tree in
-    let ss : Segments = steps_view (table_in c.args.run) c.args.rest.now in
-    let n : Node = node_of c.args.node in
+    let u : Tree = (node_of c.args.self.run.now.root.now).tree in
+    let ss : Segments = steps_view (table_in c.args.self.run.now) c.args.rest.now in
+    let n : Node = node_of c.args.self.node in
     let all : List Choice = c.args.choices.now in
-    record { adds = c.loop-choice.invariant.goes.kept; kept = c.loop-choice.invariant.kept; nodes = is_done c.loop-choice.invariant.goes (ap (λ (l : List Choice). nodes ss (selected (choices_view (table_in c.args.run) l) n u) u) (drop_all c.loop-choice.choice-index all c.loop-choice-test.false) ∙ no_nodes ss u) }
+    record { adds = c.loop-choice.invariant.goes.kept; kept = c.loop-choice.invariant.kept; nodes = is_done c.loop-choice.invariant.goes (ap (λ (l : List Choice). nodes ss (selected (choices_view (table_in c.args.self.run.now) l) n u) u) (drop_all c.loop-choice.choice-index all c.loop-choice-test.false) ∙ no_nodes ss u) }
 
 -- ---- queries within filters
 
@@ -260,16 +260,16 @@ find_single-returns-clause-lends t c =
 
 pub has_node-returns-in-Some-Exists-clause-value : goal.has_node-returns-in-Some-Exists-clause-value
 has_node-returns-in-Some-Exists-clause-value t c =
-    told_before c.args.run c.args.nodes.now (node_of c.args.node) c.kept.result _ c.kept.ensures (c.in-Some-Exists.is ∙ ap (λ (a : Answer). Some a) c.in-Some-Exists.field-0-is)
+    told_before c.args.self.run.now c.args.nodes.now (node_of c.args.self.node) c.kept.result _ c.kept.ensures (c.in-Some-Exists.is ∙ ap (λ (a : Answer). Some a) c.in-Some-Exists.field-0-is)
 
 pub count_nodes-returns-in-Some-Count-clause-value : goal.count_nodes-returns-in-Some-Count-clause-value
 count_nodes-returns-in-Some-Count-clause-value t c =
-    told_before c.args.run c.args.nodes.now (node_of c.args.node) c.kept.result _ c.kept.ensures (c.in-Some-Count.is ∙ ap (λ (a : Answer). Some a) c.in-Some-Count.field-0-is)
+    told_before c.args.self.run.now c.args.nodes.now (node_of c.args.self.node) c.kept.result _ c.kept.ensures (c.in-Some-Count.is ∙ ap (λ (a : Answer). Some a) c.in-Some-Count.field-0-is)
 
 pub find_count-returns-clause-value : goal.find_count-returns-clause-value
 find_count-returns-clause-value t c =
     let new = c.push_nodes.new.frame.found in
-    let found : List Node = path_nodes (nodes_view (table_in c.args.run) c.args.nodes.now) (node_of c.args.node) (node_of c.args.run.root.now).tree in
+    let found : List Node = path_nodes (nodes_view (table_in c.args.self.run.now) c.args.nodes.now) (node_of c.args.self.node) (node_of c.args.self.run.now.root.now).tree in
     let size = new.ok in
     let small = new.small in
     let old = c.args.frame.now.found.ok.0 in
@@ -279,7 +279,7 @@ find_count-returns-clause-value t c =
 pub find_single-returns-clause-value : goal.find_single-returns-clause-value
 find_single-returns-clause-value t c =
     let new = c.push_nodes.new.frame.found in
-    let found : List Node = path_nodes (nodes_view (table_in c.args.run) c.args.nodes.now) (node_of c.args.node) (node_of c.args.run.root.now).tree in
+    let found : List Node = path_nodes (nodes_view (table_in c.args.self.run.now) c.args.nodes.now) (node_of c.args.self.node) (node_of c.args.self.run.now.root.now).tree in
     let old : length c.args.frame.now.found.items ≡ c.len-before.result = sym (c.len-before.ensures ∙ c.args.frame.now.found.ok.0) in
     let now : c.len.result ≡ length new.items = c.len.ensures ∙ new.ok.0 in
     elim c.if-len-before.branch [
@@ -292,27 +292,27 @@ find_single-returns-clause-value t c =
 
 pub single_value-returns-in-Some-Single-clause-sound : goal.single_value-returns-in-Some-Single-clause-sound
 single_value-returns-in-Some-Single-clause-sound t c =
-    (told_before c.args.run c.args.nodes.now (node_of c.args.node) c.kept.result _ c.kept.ensures (c.in-Some-Single.is ∙ ap (λ (a : Answer). Some a) c.in-Some-Single.field-0-is)).sound
+    (told_before c.args.self.run.now c.args.nodes.now (node_of c.args.self.node) c.kept.result _ c.kept.ensures (c.in-Some-Single.is ∙ ap (λ (a : Answer). Some a) c.in-Some-Single.field-0-is)).sound
 
 pub single_value-returns-in-Some-Single-clause-value : goal.single_value-returns-in-Some-Single-clause-value
 single_value-returns-in-Some-Single-clause-value t c =
-    (told_before c.args.run c.args.nodes.now (node_of c.args.node) c.kept.result _ c.kept.ensures (c.in-Some-Single.is ∙ ap (λ (a : Answer). Some a) c.in-Some-Single.field-0-is)).value
+    (told_before c.args.self.run.now c.args.nodes.now (node_of c.args.self.node) c.kept.result _ c.kept.ensures (c.in-Some-Single.is ∙ ap (λ (a : Answer). Some a) c.in-Some-Single.field-0-is)).value
 
 pub single_length-returns-in-Some-Length-clause-sound : goal.single_length-returns-in-Some-Length-clause-sound
 single_length-returns-in-Some-Length-clause-sound t c =
-    (told_before c.args.run c.args.nodes.now (node_of c.args.node) c.kept.result _ c.kept.ensures (c.in-Some-Length.is ∙ ap (λ (a : Answer). Some a) c.in-Some-Length.field-0-is)).sound
+    (told_before c.args.self.run.now c.args.nodes.now (node_of c.args.self.node) c.kept.result _ c.kept.ensures (c.in-Some-Length.is ∙ ap (λ (a : Answer). Some a) c.in-Some-Length.field-0-is)).sound
 
 pub single_length-returns-in-Some-Length-clause-value : goal.single_length-returns-in-Some-Length-clause-value
 single_length-returns-in-Some-Length-clause-value t c =
-    (told_before c.args.run c.args.nodes.now (node_of c.args.node) c.kept.result _ c.kept.ensures (c.in-Some-Length.is ∙ ap (λ (a : Answer). Some a) c.in-Some-Length.field-0-is)).value
+    (told_before c.args.self.run.now c.args.nodes.now (node_of c.args.self.node) c.kept.result _ c.kept.ensures (c.in-Some-Length.is ∙ ap (λ (a : Answer). Some a) c.in-Some-Length.field-0-is)).value
 
 -- ---- calls
 
 pub call_truth-returns-in_default-clause-value : goal.call_truth-returns-in_default-clause-value
-call_truth-returns-in_default-clause-value t c = few_called (table_in c.args.run) c.args.invoked.now c.as_slice.result.now (node_of c.args.node) (node_of c.args.run.root.now).tree c.as_slice.ensures.value c.in_default.len_below
+call_truth-returns-in_default-clause-value t c = few_called (table_in c.args.self.run.now) c.args.invoked.now c.as_slice.result.now (node_of c.args.self.node) (node_of c.args.self.run.now.root.now).tree c.as_slice.ensures.value c.in_default.len_below
 
 pub call_truth-returns-in_default-2-clause-value : goal.call_truth-returns-in_default-2-clause-value
-call_truth-returns-in_default-2-clause-value t c = many_called (table_in c.args.run) c.args.invoked.now c.as_slice.result.now (node_of c.args.node) (node_of c.args.run.root.now).tree c.as_slice.ensures.value c.in_default.len_at_least
+call_truth-returns-in_default-2-clause-value t c = many_called (table_in c.args.self.run.now) c.args.invoked.now c.as_slice.result.now (node_of c.args.self.node) (node_of c.args.self.run.now.root.now).tree c.as_slice.ensures.value c.in_default.len_at_least
 
 pub match_given-returns-clause-value : goal.match_given-returns-clause-value
 match_given-returns-clause-value t c =
@@ -320,88 +320,88 @@ match_given-returns-clause-value t c =
 
 pub match_given-returns-in-Pattern-clause-value : goal.match_given-returns-in-Pattern-clause-value
 match_given-returns-in-Pattern-clause-value t c =
-    let value = λ (x : Held). (given_by (given_view (table_in c.args.run) x) (node_of c.args.node) (node_of c.args.run.root.now).tree).value in
+    let value = λ (x : Held). (given_by (given_view (table_in c.args.self.run.now) x) (node_of c.args.self.node) (node_of c.args.self.run.now.root.now).tree).value in
     let pattern : LiteralPattern = c.in-Pattern.pattern in
     let spelled : Option Value = Some (literal_value (literal_view pattern.constant.literal)) in
-    let second : value c.args.pattern.now ≡ spelled = ap value c.in-Pattern.is ∙ ap (λ (a : syntax.Argument). (given_by a (node_of c.args.node) (node_of c.args.run.root.now).tree).value) (pattern_given (table_in c.args.run) pattern) in
+    let second : value c.args.pattern.now ≡ spelled = ap value c.in-Pattern.is ∙ ap (λ (a : syntax.Argument). (given_by a (node_of c.args.self.node) (node_of c.args.self.run.now.root.now).tree).value) (pattern_given (table_in c.args.self.run.now) pattern) in
     ∥∥₁_elim pattern.spelled (one_proof c.read_passes.result _)
     (λ e. subst (λ (v : Bool). IfOk c.read_passes.result (λ b. b ≡ v)) (ap₂ (λ (x y : Option Value). in_pattern (passing c.args.whole) x y) c.in_ok-text.ensures.value (sym second)) (told c.read_passes.result (passing c.args.whole) _ (value_view c.in_ok-text.text) spelled e c.read_passes.ensures))
 
 pub call_value-returns-in_default-clause-value : goal.call_value-returns-in_default-clause-value
 call_value-returns-in_default-clause-value t c =
-    let n : Node = node_of c.args.node in
-    let u : Tree = (node_of c.args.run.root.now).tree in
+    let n : Node = node_of c.args.self.node in
+    let u : Tree = (node_of c.args.self.run.now.root.now).tree in
     elim c.in_default.branch [
-      | call_value-in_default-via-then-as_slice-lt1 w ↦ none_called (table_in c.args.run) c.args.invoked.now c.as_slice.result.now n u c.as_slice.ensures.value (ltb-true (length c.as_slice.result.now) 1 w.if-as_slice-lt1-1.true)
-      | call_value-in_default-via-else-as_slice-lt1+else-this-lt2 w ↦ several_called (table_in c.args.run) c.args.invoked.now c.as_slice.result.now n u c.as_slice.ensures.value (ltb-false (length c.as_slice.result.now) 2 w.if-this-lt2-1.false)
+      | call_value-in_default-via-then-as_slice-lt1 w ↦ none_called (table_in c.args.self.run.now) c.args.invoked.now c.as_slice.result.now n u c.as_slice.ensures.value (ltb-true (length c.as_slice.result.now) 1 w.if-as_slice-lt1-1.true)
+      | call_value-in_default-via-else-as_slice-lt1+else-this-lt2 w ↦ several_called (table_in c.args.self.run.now) c.args.invoked.now c.as_slice.result.now n u c.as_slice.ensures.value (ltb-false (length c.as_slice.result.now) 2 w.if-this-lt2-1.false)
     ]
 
 pub call_value-returns-in_ok-count-in-Nodes-clause-value : goal.call_value-returns-in_ok-count-in-Nodes-clause-value
 call_value-returns-in_ok-count-in-Nodes-clause-value t c =
     let call : Invoked = c.args.invoked.now in
-    let n : Node = node_of c.args.node in
-    let u : Tree = (node_of c.args.run.root.now).tree in
+    let n : Node = node_of c.args.self.node in
+    let u : Tree = (node_of c.args.self.run.now.root.now).tree in
     let items : List Held = c.given-item.result ∷ [] in
     let are : items ≡ call.arguments.items = sym (sym c.as_slice.ensures.value ∙ one_item c.as_slice.result.now c.given-item.result c.given-item.is c.in-len1.len_at_least c.in-len1.len_below) in
     let is_count : call.named.function ≡ Some functions.Count = sym c.which.ensures ∙ (c.in-Some-Count.is ∙ ap (λ (o : Function). Some o) c.in-Some-Count.field-0-is) in
-    let seen = called (table_in c.args.run) call items functions.Count are is_count in
-    let nodes_is = ap (λ (a : syntax.Argument). length (given_by a n u).nodes) (ap (given_view (table_in c.args.run)) c.in-Nodes.is ∙ nodes_given (table_in c.args.run) c.in-Nodes.nodes) in
+    let seen = called (table_in c.args.self.run.now) call items functions.Count are is_count in
+    let nodes_is = ap (λ (a : syntax.Argument). length (given_by a n u).nodes) (ap (given_view (table_in c.args.self.run.now)) c.in-Nodes.is ∙ nodes_given (table_in c.args.self.run.now) c.in-Nodes.nodes) in
     ap (λ (k : ℕ). Some (counted k)) (c.in_ok-count-in-Nodes.ensures.value ∙ sym nodes_is) ∙ sym (ap (λ (v : syntax.Call). call_value v n u) seen)
 
 pub call_value-returns-in-Nodes-given-clause-value : goal.call_value-returns-in-Nodes-given-clause-value
 call_value-returns-in-Nodes-given-clause-value t c =
     let call : Invoked = c.args.invoked.now in
-    let n : Node = node_of c.args.node in
-    let u : Tree = (node_of c.args.run.root.now).tree in
+    let n : Node = node_of c.args.self.node in
+    let u : Tree = (node_of c.args.self.run.now.root.now).tree in
     let items : List Held = c.given-item.result ∷ [] in
     let are : items ≡ call.arguments.items = sym (sym c.as_slice.ensures.value ∙ one_item c.as_slice.result.now c.given-item.result c.given-item.is c.in-len1.len_at_least c.in-len1.len_below) in
     let is_value : call.named.function ≡ Some functions.Value = sym c.which.ensures ∙ (c.in-Some-Value.is ∙ ap (λ (o : Function). Some o) c.in-Some-Value.field-0-is) in
-    let seen = called (table_in c.args.run) call items functions.Value are is_value in
-    let nodes_is = ap (λ (a : syntax.Argument). single_value (given_by a n u).nodes) (ap (given_view (table_in c.args.run)) c.in-Nodes-given.is ∙ nodes_given (table_in c.args.run) c.in-Nodes-given.nodes) in
+    let seen = called (table_in c.args.self.run.now) call items functions.Value are is_value in
+    let nodes_is = ap (λ (a : syntax.Argument). single_value (given_by a n u).nodes) (ap (given_view (table_in c.args.self.run.now)) c.in-Nodes-given.is ∙ nodes_given (table_in c.args.self.run.now) c.in-Nodes-given.nodes) in
     subst (λ (v : Option Value). IfOk c.single_value.result (λ (r : Side). value_view r ≡ v)) (sym nodes_is ∙ sym (ap (λ (v : syntax.Call). call_value v n u) seen)) c.single_value.ensures.value
 
 -- ---- slices
 
 pub push_choice-returns-in-Slice : goal.push_choice-returns-in-Slice
 push_choice-returns-in-Slice t c =
-    let n : Node = node_of c.args.node in
-    let u : Tree = (node_of c.args.run.root.now).tree in
+    let n : Node = node_of c.args.self.node in
+    let u : Tree = (node_of c.args.self.run.now.root.now).tree in
     let fits : to_z w64 (of_z w64 c.unwrap_or.result) ≡ c.unwrap_or.result = search rules in
-    let seen = ap (choice_view (table_in c.args.run)) c.in-Slice.is ∙ slice_is (table_in c.args.run) c.in-Slice.first c.in-Slice.last c.in-Slice.step in
-    let same : sliced c.in-Slice.first c.in-Slice.last (to_z w64 (of_z w64 c.unwrap_or.result)) n ≡ select (choice_view (table_in c.args.run) c.args.choice.now) n u =
+    let seen = ap (choice_view (table_in c.args.self.run.now)) c.in-Slice.is ∙ slice_is (table_in c.args.self.run.now) c.in-Slice.first c.in-Slice.last c.in-Slice.step in
+    let same : sliced c.in-Slice.first c.in-Slice.last (to_z w64 (of_z w64 c.unwrap_or.result)) n ≡ select (choice_view (table_in c.args.self.run.now) c.args.choice.now) n u =
     ap (λ (z : ℤ). sliced c.in-Slice.first c.in-Slice.last z n) (fits ∙ c.unwrap_or.ensures) ∙ sym (ap (λ (x : syntax.Selector). select x n u) seen) in
-    record { adds = c.push_slice.ensures.adds; kept = c.push_slice.ensures.kept; nodes = subst (λ (l : List Node). OnOk c.push_slice.result (map node_of c.push_slice.new.frame.found.items ≡ take c.args.most (map node_of c.args.frame.now.found.items ++ nodes (steps_view (table_in c.args.run) c.args.rest.now) l u))) same c.push_slice.ensures.nodes }
+    record { adds = c.push_slice.ensures.adds; kept = c.push_slice.ensures.kept; nodes = subst (λ (l : List Node). OnOk c.push_slice.result (map node_of c.push_slice.new.frame.found.items ≡ take c.args.self.most (map node_of c.args.frame.now.found.items ++ nodes (steps_view (table_in c.args.self.run.now) c.args.rest.now) l u))) same c.push_slice.ensures.nodes }
 
 pub push_slice-returns-then-slice-gt0 : goal.push_slice-returns-then-slice-gt0
 push_slice-returns-then-slice-gt0 t c =
-    let u : Tree = (node_of c.args.run.root.now).tree in
-    record { adds = c.push_rising.ensures.adds; kept = c.push_rising.ensures.kept; nodes = subst (λ (l : List Node). OnOk c.push_rising.result (map node_of c.push_rising.new.frame.found.items ≡ take c.args.most (map node_of c.args.frame.now.found.items ++ nodes (steps_view (table_in c.args.run) c.args.rest.now) l u))) c.of.ensures c.push_rising.ensures.nodes }
+    let u : Tree = (node_of c.args.self.run.now.root.now).tree in
+    record { adds = c.push_rising.ensures.adds; kept = c.push_rising.ensures.kept; nodes = subst (λ (l : List Node). OnOk c.push_rising.result (map node_of c.push_rising.new.frame.found.items ≡ take c.args.self.most (map node_of c.args.frame.now.found.items ++ nodes (steps_view (table_in c.args.self.run.now) c.args.rest.now) l u))) c.of.ensures c.push_rising.ensures.nodes }
 
 pub push_slice-returns : goal.push_slice-returns
 push_slice-returns t c =
-    let n : Node = node_of c.args.node in
-    let u : Tree = (node_of c.args.run.root.now).tree in
+    let n : Node = node_of c.args.self.node in
+    let u : Tree = (node_of c.args.self.run.now.root.now).tree in
     let same = ap (map node_of) c.deref.ensures.value ∙ c.in_ok-found.ensures.nodes in
-    record { adds = c.push_from_each.ensures.adds; kept = c.push_from_each.ensures.kept; nodes = subst (λ (l : List Node). OnOk c.push_from_each.result (map node_of c.push_from_each.new.frame.found.items ≡ take c.args.most (map node_of c.args.frame.now.found.items ++ nodes (steps_view (table_in c.args.run) c.args.rest.now) l u))) same c.push_from_each.ensures.nodes }
+    record { adds = c.push_from_each.ensures.adds; kept = c.push_from_each.ensures.kept; nodes = subst (λ (l : List Node). OnOk c.push_from_each.result (map node_of c.push_from_each.new.frame.found.items ≡ take c.args.self.most (map node_of c.args.frame.now.found.items ++ nodes (steps_view (table_in c.args.self.run.now) c.args.rest.now) l u))) same c.push_from_each.ensures.nodes }
 
 pub push_rising-returns-in_err-push_steps : goal.push_rising-returns-in_err-push_steps
 push_rising-returns-in_err-push_steps t c = record { adds = adds_more c.loop-next.invariant.goes.kept c.in_err-push_steps.ensures.adds; kept = c.in_err-push_steps.ensures.kept; nodes = search rules }
 
 pub push_rising-loop-next-preserved : goal.push_rising-loop-next-preserved
 push_rising-loop-next-preserved t c =
-    let u : Tree = (node_of c.args.run.root.now).tree in
-    let ss : Segments = steps_view (table_in c.args.run) c.args.rest.now in
-    let n : Node = node_of c.args.node in
+    let u : Tree = (node_of c.args.self.run.now.root.now).tree in
+    let ss : Segments = steps_view (table_in c.args.self.run.now) c.args.rest.now in
+    let n : Node = node_of c.args.self.node in
     let passes : Step → Bool = is_index (rises c.args.slice.low c.args.slice.high c.args.slice.step) in
     let i : ℕ = c.loop-next.index in
-    let child : Cursor = c.in-Some.child in
+    let child : Cursor = c.in-Some.node in
     let next : Option Cursor = c.next_sibling-next.result in
     let kept = c.loop-next.invariant in
     let total : List Node = nodes ss (children_where passes n) u in
     let at : IsAt n i (Some child) = subst (λ (o : Option Cursor). IsAt n i o) c.in-Some.is kept.at in
-    let here : Goes (line_of c.args.run.root.now) c.args.most c.args.frame.now.found.items c.loop-next.frame.found.items (nodes ss (chosen_from passes n i (Some child)) u) total =
+    let here : Goes (line_of c.args.self.run.now.root.now) c.args.self.most c.args.frame.now.found.items c.loop-next.frame.found.items (nodes ss (chosen_from passes n i (Some child)) u) total =
     others_are (nodes ss (chosen_from passes n i (Some child)) u) (ap (λ (o : Option Cursor). nodes ss (chosen_from passes n i o) u) c.in-Some.is) kept.goes in
-    let goes : Goes (line_of c.args.run.root.now) c.args.most c.args.frame.now.found.items c.if-has.frame.found.items (nodes ss (chosen_from passes n (i + 1) next) u) total =
+    let goes : Goes (line_of c.args.self.run.now.root.now) c.args.self.most c.args.frame.now.found.items c.if-has.frame.found.items (nodes ss (chosen_from passes n (i + 1) next) u) total =
     elim c.if-has.branch [
       | push_rising-then-has+in_ok-push_steps w ↦
           (let chosen = chosen_here passes n i child next at c.next_sibling-next.ensures.children (sym c.has.ensures ∙ w.if-has.true) in
@@ -417,8 +417,8 @@ push_rising-loop-next-preserved t c =
     record {
       goes = goes;
       kept = elim c.if-has.branch [
-        | push_rising-then-has+in_ok-push_steps w ↦ subst (λ (f : Frame). AreKept c.args.run f.answers.items) (sym w.frame-is) w.in_ok-push_steps.ensures.kept
-        | push_rising-else-has w ↦ subst (λ (f : Frame). AreKept c.args.run f.answers.items) (sym w.frame-is) kept.kept
+        | push_rising-then-has+in_ok-push_steps w ↦ subst (λ (f : Frame). AreKept c.args.self.run.now f.answers.items) (sym w.frame-is) w.in_ok-push_steps.ensures.kept
+        | push_rising-else-has w ↦ subst (λ (f : Frame). AreKept c.args.self.run.now f.answers.items) (sym w.frame-is) kept.kept
       ];
       at = at_next n i child next at c.next_sibling-next.ensures.nodes c.next_sibling-next.ensures.children;
       line = line_on next _ _ c.next_sibling-next.ensures.line (line_of_some _ child _ c.in-Some.is kept.line);
@@ -426,24 +426,24 @@ push_rising-loop-next-preserved t c =
 
 pub push_rising-returns : goal.push_rising-returns
 push_rising-returns t c =
-    let u : Tree = (node_of c.args.run.root.now).tree in
-    let ss : Segments = steps_view (table_in c.args.run) c.args.rest.now in
-    let n : Node = node_of c.args.node in
+    let u : Tree = (node_of c.args.self.run.now.root.now).tree in
+    let ss : Segments = steps_view (table_in c.args.self.run.now) c.args.rest.now in
+    let n : Node = node_of c.args.self.node in
     record { adds = c.loop-next.invariant.goes.kept; kept = c.loop-next.invariant.kept; nodes = is_done c.loop-next.invariant.goes (ap (λ (o : Option Cursor). nodes ss (chosen_from (is_index (rises c.args.slice.low c.args.slice.high c.args.slice.step)) n c.loop-next.index o) u) c.in_default.is ∙ no_nodes ss u) }
 
 pub push_rising-overflow_add-index : goal.push_rising-overflow_add-index
 push_rising-overflow_add-index t c =
-    let n : Node = node_of c.args.node in
+    let n : Node = node_of c.args.self.node in
     let i : ℕ = c.loop-next.index in
-    let at : IsAt n i (Some c.in-Some.child) = subst (λ (o : Option Cursor). IsAt n i o) c.in-Some.is c.loop-next.invariant.at in
-    let small = index_fits c.args.node i c.in-Some.child at in
+    let at : IsAt n i (Some c.in-Some.node) = subst (λ (o : Option Cursor). IsAt n i o) c.in-Some.is c.loop-next.invariant.at in
+    let small = index_fits c.args.self.node i c.in-Some.node at in
     omega (arith, small)
 
 pub push_rising-returns-then-len-most : goal.push_rising-returns-then-len-most
 push_rising-returns-then-len-most t c =
-    let u : Tree = (node_of c.args.run.root.now).tree in
-    let ss : Segments = steps_view (table_in c.args.run) c.args.rest.now in
-    let n : Node = node_of c.args.node in
+    let u : Tree = (node_of c.args.self.run.now.root.now).tree in
+    let ss : Segments = steps_view (table_in c.args.self.run.now) c.args.rest.now in
+    let n : Node = node_of c.args.self.node in
     let r = c.args.slice in
     record {
       adds = c.loop-next.invariant.goes.kept;
@@ -460,28 +460,28 @@ push_rising-returns-then-len-most t c =
 
 pub push_filtered-returns : goal.push_filtered-returns
 push_filtered-returns t c =
-    let table : Table = table_in c.args.run in
-    let u : Tree = (node_of c.args.run.root.now).tree in
+    let table : Table = table_in c.args.self.run.now in
+    let u : Tree = (node_of c.args.self.run.now.root.now).tree in
     let ss : Segments = steps_view table c.args.rest.now in
-    let most : ℕ = c.args.most in
+    let most : ℕ = c.args.self.most in
     let p = λ (n : Node). truth (condition_view table c.args.condition.now) n u in
     let q : Question = c.in-Asks.question in
     let asked : Nodes = c.in-Asks.nodes in
     let old : List Cursor = c.args.frame.now.found.items in
-    let below : List Node = children (node_of c.args.node) in
+    let below : List Node = children (node_of c.args.self.node) in
     let path : nodes_view table asked ≡ slot_in table c.in-Slot.field-0 = ap (nodes_view table) c.in-Slot.is ∙ slot_is table c.in-Slot.field-0 in
     let same : (n : Node) → p n ≡ c.in_ok-ask.field-0 = λ n.
     ap (λ (x : Condition). truth (condition_view table x) n u) c.in-Asks.is
     ∙ (ap (λ (l : syntax.Logical). truth l n u) (asks_is table asked q)
     ∙ (asks_so q (nodes_view table asked) n u
     ∙ (ap (λ (x : syntax.Path). answered q (path_nodes x n u)) path
-    ∙ (sym (ap (λ (x : syntax.Path). answered q (path_nodes x (node_of c.args.node) u)) path) ∙ sym c.in_ok-ask.ensures.value)))) in
+    ∙ (sym (ap (λ (x : syntax.Path). answered q (path_nodes x (node_of c.args.self.node) u)) path) ∙ sym c.in_ok-ask.ensures.value)))) in
     elim c.if-branch.branch [
       | push_filtered-then-branch w ↦
           (let new : List Cursor = w.push_children.new.frame.found.items in
           let all : filter p below ≡ below = filter_all p below (λ n. same n ∙ w.if-branch.true) in
-          subst (λ (f : Frame). Pushes c.args.run most c.args.frame.now f c.if-branch.result (nodes ss (filter p below) u)) (sym w.frame-is)
-          (subst (λ r. Pushes c.args.run most c.args.frame.now w.push_children.new.frame r (nodes ss (filter p below) u)) (sym w.result-is)
+          subst (λ (f : Frame). Pushes c.args.self c.args.frame.now f c.if-branch.result (nodes ss (filter p below) u)) (sym w.frame-is)
+          (subst (λ r. Pushes c.args.self c.args.frame.now w.push_children.new.frame r (nodes ss (filter p below) u)) (sym w.result-is)
           (record {
             adds = adds_more c.in_ok-ask.ensures.lends.adds w.push_children.ensures.adds;
             kept = w.push_children.ensures.kept;
@@ -490,8 +490,8 @@ push_filtered-returns t c =
           })))
       | push_filtered-else-branch w ↦
           (let none : filter p below ≡ [] = filter_none p below (λ n. same n ∙ w.if-branch.false) in
-          subst (λ (f : Frame). Pushes c.args.run most c.args.frame.now f c.if-branch.result (nodes ss (filter p below) u)) (sym w.frame-is)
-          (subst (λ r. Pushes c.args.run most c.args.frame.now c.ask.new.frame r (nodes ss (filter p below) u)) (sym w.result-is)
+          subst (λ (f : Frame). Pushes c.args.self c.args.frame.now f c.if-branch.result (nodes ss (filter p below) u)) (sym w.frame-is)
+          (subst (λ r. Pushes c.args.self c.args.frame.now c.ask.new.frame r (nodes ss (filter p below) u)) (sym w.result-is)
           (record {
             adds = c.in_ok-ask.ensures.lends.adds;
             kept = c.in_ok-ask.ensures.lends.kept;
@@ -503,18 +503,18 @@ push_filtered-returns t c =
 
 pub push_choice-returns-in-None : goal.push_choice-returns-in-None
 push_choice-returns-in-None t c =
-    let u : Tree = (node_of c.args.run.root.now).tree in
-    let ss : Segments = steps_view (table_in c.args.run) c.args.rest.now in
-    let n : Node = node_of c.args.node in
-    let none : select (choice_view (table_in c.args.run) c.args.choice.now) n u ≡ [] =
-    ap (λ (x : Choice). select (choice_view (table_in c.args.run) x) n u) c.in-One.is ∙ (ap (λ (x : syntax.Selector). select x n u) (chosen_is (table_in c.args.run) c.in-One.key) ∙ (select_is (key_view c.in-One.key) n u ∙ sym c.in-None.ensures.nodes)) in
-    record { adds = adds_none (line_of c.args.run.root.now) c.args.frame.now.found.items c.args.frame.now.found.items refl; kept = c.requires.stands.kept; nodes = nothing_added c.args.most c.args.frame.now.found.items ss u (select (choice_view (table_in c.args.run) c.args.choice.now) n u) c.requires.room none }
+    let u : Tree = (node_of c.args.self.run.now.root.now).tree in
+    let ss : Segments = steps_view (table_in c.args.self.run.now) c.args.rest.now in
+    let n : Node = node_of c.args.self.node in
+    let none : select (choice_view (table_in c.args.self.run.now) c.args.choice.now) n u ≡ [] =
+    ap (λ (x : Choice). select (choice_view (table_in c.args.self.run.now) x) n u) c.in-One.is ∙ (ap (λ (x : syntax.Selector). select x n u) (chosen_is (table_in c.args.self.run.now) c.in-One.key) ∙ (select_is (key_view c.in-One.key) n u ∙ sym c.in-None.ensures.nodes)) in
+    record { adds = adds_none (line_of c.args.self.run.now.root.now) c.args.frame.now.found.items c.args.frame.now.found.items refl; kept = c.requires.kept; nodes = nothing_added c.args.self.most c.args.frame.now.found.items ss u (select (choice_view (table_in c.args.self.run.now) c.args.choice.now) n u) c.requires.room none }
 
 pub push_next-returns-in-None-find : goal.push_next-returns-in-None-find
 push_next-returns-in-None-find t c =
-    let table : Table = table_in c.args.run in
-    let u : Tree = (node_of c.args.run.root.now).tree in
-    let n : Node = node_of c.args.node in
+    let table : Table = table_in c.args.self.run.now in
+    let u : Tree = (node_of c.args.self.run.now.root.now).tree in
+    let n : Node = node_of c.args.self.node in
     let old : List Cursor = c.args.frame.now.found.items in
     let step : ProgramStep = c.in-Some-One-default.field-0-0.now in
     let rest : List ProgramStep = c.in-Some-One-default.rest.now in
@@ -523,9 +523,9 @@ push_next-returns-in-None-find t c =
     let all : nodes (steps_view table c.args.steps.now) (n ∷ []) u ≡ nodes (steps_view table rest) (segment_nodes (step_view table step) n u) u =
     ap (λ (l : List ProgramStep). nodes (steps_view table l) (n ∷ []) u) c.in-Some-One-default.ensures.cases.0 ∙ ap (λ (l : List Node). nodes (steps_view table rest) l u) (append-nil (segment_nodes (step_view table step) n u)) in
     record {
-      adds = adds_none (line_of c.args.run.root.now) old old refl;
-      kept = c.requires.stands.kept;
-      nodes = subst (λ (l : List Node). map node_of old ≡ take c.args.most (map node_of old ++ l)) (sym all) (nothing_added c.args.most old (steps_view table rest) u (segment_nodes (step_view table step) n u) c.requires.room none);
+      adds = adds_none (line_of c.args.self.run.now.root.now) old old refl;
+      kept = c.requires.kept;
+      nodes = subst (λ (l : List Node). map node_of old ≡ take c.args.self.most (map node_of old ++ l)) (sym all) (nothing_added c.args.self.most old (steps_view table rest) u (segment_nodes (step_view table step) n u) c.requires.room none);
     }
 
 -- ---- patterns that the query spells
@@ -535,7 +535,7 @@ ask-returns-in_ok-value-in-Passes-clause-value t c =
     let pattern : LiteralPattern = c.in-Passes.pattern in
     let spelled : Option Value = Some (literal_value (literal_view pattern.constant.literal)) in
     let own : Option Value = value_view c.in_ok-value-in-Passes.value in
-    let found : List Node = path_nodes (nodes_view (table_in c.args.run) c.args.nodes.now) (node_of c.args.node) (node_of c.args.run.root.now).tree in
+    let found : List Node = path_nodes (nodes_view (table_in c.args.self.run.now) c.args.nodes.now) (node_of c.args.self.node) (node_of c.args.self.run.now.root.now).tree in
     let test = passing c.in-Passes.whole in
     let is : in_pattern test own spelled ≡ answered c.args.question.now found =
     ap (λ (v : Option Value). in_pattern test v spelled) c.in_ok-value-in-Passes.ensures.value ∙ sym (ap (λ (q : Question). answered q found) c.in-Passes.is) in
@@ -545,14 +545,14 @@ ask-returns-in_ok-value-in-Passes-clause-value t c =
 pub call_truth-returns-clause-value : goal.call_truth-returns-clause-value
 call_truth-returns-clause-value t c =
     let call : Invoked = c.args.invoked.now in
-    let n : Node = node_of c.args.node in
-    let run : Run = c.args.run in
+    let n : Node = node_of c.args.self.node in
+    let run : Run = c.args.self.run.now in
     let text : Held = c.text-item.result in
     let pattern : Held = c.pattern-item.result in
     let are : text ∷ pattern ∷ [] ≡ call.arguments.items = sym (sym c.as_slice.ensures.value ∙ two_items c.as_slice.result.now text pattern c.text-item.is c.pattern-item.is c.in-len2.len_at_least c.in-len2.len_below) in
-    let answer : passes_given run c.match-which-2.whole text pattern n ≡ call_truth (invoked_view (table_in run) call) n (node_of run.root.now).tree =
+    let answer : passes_given c.args.self c.match-which-2.whole text pattern ≡ call_truth (invoked_view (table_in run) call) n (node_of run.root.now).tree =
     elim c.match-which-2.branch [
-      | call_truth-in-Some-Match w ↦ (let so : call.named.function ≡ Some functions.Match = cc in ap (λ (b : Bool). passes_given run b text pattern n) w.whole-is ∙ match_called run call text pattern n are so)
-      | call_truth-in-Some-Search w ↦ (let so : call.named.function ≡ Some functions.Search = cc in ap (λ (b : Bool). passes_given run b text pattern n) w.whole-is ∙ search_called run call text pattern n are so)
+      | call_truth-in-Some-Match w ↦ (let so : call.named.function ≡ Some functions.Match = cc in ap (λ (b : Bool). passes_given c.args.self b text pattern) w.whole-is ∙ match_called c.args.self call text pattern are so)
+      | call_truth-in-Some-Search w ↦ (let so : call.named.function ≡ Some functions.Search = cc in ap (λ (b : Bool). passes_given c.args.self b text pattern) w.whole-is ∙ search_called c.args.self call text pattern are so)
     ] in
     subst (λ (v : Bool). IfOk c.match_given.result (λ b. b ≡ v)) answer c.match_given.ensures.value

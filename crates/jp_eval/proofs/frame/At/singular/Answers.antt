@@ -14,24 +14,24 @@ use Rattle.jp_eval.specs.Keys.{key_view}
 use Rattle.jp_model.specs.Query.Singular.{steps_query}
 use Rattle.jp_eval.specs.declared.question.Key.{Key}
 use Rattle.jp_eval.proofs.Compiled.{path_is, slot_is}
-use Rattle.jp_eval.proofs.frame.Run.singular.Goals as goal
+use Rattle.jp_eval.proofs.frame.At.singular.Goals as goal
 
 pub returns-in-Path-clause-nodes : goal.returns-in-Path-clause-nodes
 returns-in-Path-clause-nodes c =
-    let table : Table = table_in c.args.self in
-    let t : Tree = tree_in c.args.self in
-    let n : Node = node_of c.args.node in
+    let table : Table = table_in c.args.self.run.now in
+    let t : Tree = tree_in c.args.self.run.now in
+    let n : Node = node_of c.args.self.node in
     c.find_at.ensures.nodes t
     ∙ (ap (λ (keys : List Key). nodes (steps_query (map key_view keys)) (n ∷ []) t) c.deref.ensures.value
     ∙ sym (ap (λ (p : Path). path_nodes p n t) (ap (nodes_view table) c.in-Path.is ∙ path_is table c.in-Path.keys)))
 
 pub returns-in-Slot-clause-nodes : goal.returns-in-Slot-clause-nodes
 returns-in-Slot-clause-nodes c =
-    let table : Table = table_in c.args.self in
-    let t : Tree = tree_in c.args.self in
-    let n : Node = node_of c.args.node in
+    let table : Table = table_in c.args.self.run.now in
+    let t : Tree = tree_in c.args.self.run.now in
+    let n : Node = node_of c.args.self.node in
     let inner : Run = c.enter.result.0 in
-    let same : nodes (steps_view (table_in inner) c.enter.result.1.now) (node_of c.args.self.root.now ∷ []) (tree_in inner) ≡ path_nodes (nodes_view table c.args.nodes.now) n t =
+    let same : nodes (steps_view (table_in inner) c.enter.result.1.now) (node_of c.args.self.run.now.root.now ∷ []) (tree_in inner) ≡ path_nodes (nodes_view table c.args.nodes.now) n t =
     c.enter.ensures.nodes
     ∙ sym (ap (λ (p : Path). path_nodes p n t) (ap (nodes_view table) c.in-Slot.is ∙ slot_is table c.in-Slot.place)) in
     subst (λ (l : List Node). IfSome c.singular_path.result (λ end. node_list end ≡ l)) same (c.singular_path.ensures.nodes (table_in inner) (tree_in inner))

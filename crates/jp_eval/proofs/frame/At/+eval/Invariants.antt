@@ -1,0 +1,179 @@
+-- How far each loop has come, and how large the part of the query is that each function goes into.
+use Rattle.std.proofs.Common.{◌≡◌, ◌≤◌, ◌+◌, ◌-◌, map, length, filter, flat_map, drop}
+use Rattle.std.specs.Prelude.{IfSome}
+use Rattle.jp_model.specs.Meaning.Nodes.{Node, children, children_where, subtree}
+use Rattle.jp_model.specs.Meaning.Selecting.{nodes, selected, truth}
+use Rattle.jp_model.specs.Meaning.Slices.{is_index}
+use Rattle.jp_tape.specs.Cursors.{line_of, place_of, node_of, nodes_from}
+use Rattle.jp_eval.specs.Expressions.{all_are}
+use Rattle.jp_eval.specs.Frames.{table_in, tree_in, AreKept}
+use Rattle.jp_eval.specs.Programs.{steps_view, choices_view, choice_view, conditions_view, condition_view, side_view, nodes_view, invoked_view, given_view}
+use Rattle.jp_eval.specs.Walks.{IsAt, rises}
+use Rattle.jp_eval.proofs.Goes.{Goes}
+use Rattle.jp_eval.proofs.Walks.{chosen_from}
+use Rattle.jp_eval.proofs.Sizes.{size_of_segments, size_of_selectors, size_of_selector, size_of_logical, size_of_logicals, size_of_comparable, size_of_path, size_of_call, size_of_argument}
+use Rattle.jp_eval.proofs.frame.At.+eval.Given as goal
+
+abbrev pub decreases-push_steps : goal.decreases-push_steps
+decreases-push_steps l = size_of_segments (steps_view (table_in l.self.run.now) l.steps.now) + 1
+
+abbrev pub decreases-push_next : goal.decreases-push_next
+decreases-push_next l = size_of_segments (steps_view (table_in l.self.run.now) l.steps.now)
+
+abbrev pub decreases-push_descendants : goal.decreases-push_descendants
+decreases-push_descendants l = size_of_selectors (choices_view (table_in l.self.run.now) l.choices.now) + size_of_segments (steps_view (table_in l.self.run.now) l.rest.now) + 6
+
+abbrev pub decreases-push_choices : goal.decreases-push_choices
+decreases-push_choices l = size_of_selectors (choices_view (table_in l.self.run.now) l.choices.now) + size_of_segments (steps_view (table_in l.self.run.now) l.rest.now) + 5
+
+abbrev pub decreases-push_choice : goal.decreases-push_choice
+decreases-push_choice l = size_of_selector (choice_view (table_in l.self.run.now) l.choice.now) + size_of_segments (steps_view (table_in l.self.run.now) l.rest.now) + 4
+
+abbrev pub decreases-push_children : goal.decreases-push_children
+decreases-push_children l = size_of_segments (steps_view (table_in l.self.run.now) l.rest.now) + 2
+
+abbrev pub decreases-push_slice : goal.decreases-push_slice
+decreases-push_slice l = size_of_segments (steps_view (table_in l.self.run.now) l.rest.now) + 3
+
+abbrev pub decreases-push_rising : goal.decreases-push_rising
+decreases-push_rising l = size_of_segments (steps_view (table_in l.self.run.now) l.rest.now) + 2
+
+abbrev pub decreases-push_from_each : goal.decreases-push_from_each
+decreases-push_from_each l = size_of_segments (steps_view (table_in l.self.run.now) l.rest.now) + 2
+
+abbrev pub decreases-push_filtered : goal.decreases-push_filtered
+decreases-push_filtered l = size_of_logical (condition_view (table_in l.self.run.now) l.condition.now) + size_of_segments (steps_view (table_in l.self.run.now) l.rest.now) + 4
+
+abbrev pub decreases-holds : goal.decreases-holds
+decreases-holds l = size_of_logical (condition_view (table_in l.self.run.now) l.condition.now) + 1
+
+abbrev pub decreases-holds_by_parts : goal.decreases-holds_by_parts
+decreases-holds_by_parts l = size_of_logical (condition_view (table_in l.self.run.now) l.condition.now)
+
+abbrev pub decreases-ask : goal.decreases-ask
+decreases-ask l = size_of_path (nodes_view (table_in l.self.run.now) l.nodes.now) + 3
+
+abbrev pub decreases-are_all : goal.decreases-are_all
+decreases-are_all l = size_of_logicals (conditions_view (table_in l.self.run.now) l.parts.now)
+
+abbrev pub decreases-compare_values : goal.decreases-compare_values
+decreases-compare_values l = size_of_comparable (side_view (table_in l.self.run.now) l.left.now) + size_of_comparable (side_view (table_in l.self.run.now) l.right.now) + 2
+
+abbrev pub decreases-side_value : goal.decreases-side_value
+decreases-side_value l = size_of_comparable (side_view (table_in l.self.run.now) l.side.now)
+
+abbrev pub decreases-push_nodes : goal.decreases-push_nodes
+decreases-push_nodes l = size_of_path (nodes_view (table_in l.self.run.now) l.nodes.now)
+
+abbrev pub decreases-find_any : goal.decreases-find_any
+decreases-find_any l = size_of_path (nodes_view (table_in l.self.run.now) l.nodes.now) + 1
+
+abbrev pub decreases-find_count : goal.decreases-find_count
+decreases-find_count l = size_of_path (nodes_view (table_in l.self.run.now) l.nodes.now) + 1
+
+abbrev pub decreases-find_single : goal.decreases-find_single
+decreases-find_single l = size_of_path (nodes_view (table_in l.self.run.now) l.nodes.now) + 1
+
+abbrev pub decreases-has_node : goal.decreases-has_node
+decreases-has_node l = size_of_path (nodes_view (table_in l.self.run.now) l.nodes.now) + 2
+
+abbrev pub decreases-count_nodes : goal.decreases-count_nodes
+decreases-count_nodes l = size_of_path (nodes_view (table_in l.self.run.now) l.nodes.now) + 2
+
+abbrev pub decreases-single_value : goal.decreases-single_value
+decreases-single_value l = size_of_path (nodes_view (table_in l.self.run.now) l.nodes.now) + 2
+
+abbrev pub decreases-single_length : goal.decreases-single_length
+decreases-single_length l = size_of_path (nodes_view (table_in l.self.run.now) l.nodes.now) + 2
+
+abbrev pub decreases-given_value : goal.decreases-given_value
+decreases-given_value l = size_of_argument (given_view (table_in l.self.run.now) l.given.now)
+
+abbrev pub decreases-given_length : goal.decreases-given_length
+decreases-given_length l = size_of_argument (given_view (table_in l.self.run.now) l.given.now) + 1
+
+abbrev pub decreases-call_value : goal.decreases-call_value
+decreases-call_value l = size_of_call (invoked_view (table_in l.self.run.now) l.invoked.now)
+
+abbrev pub decreases-match_given : goal.decreases-match_given
+decreases-match_given l = size_of_argument (given_view (table_in l.self.run.now) l.text.now) + size_of_argument (given_view (table_in l.self.run.now) l.pattern.now) + 1
+
+abbrev pub decreases-call_truth : goal.decreases-call_truth
+decreases-call_truth l = size_of_call (invoked_view (table_in l.self.run.now) l.invoked.now)
+
+abbrev pub invariant-are_all-loop-part : goal.invariant-are_all-loop-part
+invariant-are_all-loop-part l =
+    let n = node_of l.self.node in
+    let t = tree_in l.self.run.now in
+    record {
+      same : l.frame.found.items ≡ l.fn.frame.found.items;
+      kept : AreKept l.self.run.now l.frame.answers.items;
+      told : all_are l.answer (conditions_view (table_in l.self.run.now) (drop l.part-index l.parts)) n t ≡ all_are l.answer (conditions_view (table_in l.self.run.now) l.parts) n t;
+      size : size_of_logicals (conditions_view (table_in l.self.run.now) (drop l.part-index l.parts)) ≤ size_of_logicals (conditions_view (table_in l.self.run.now) l.parts);
+    }
+
+abbrev pub invariant-push_children-loop-next : goal.invariant-push_children-loop-next
+invariant-push_children-loop-next l =
+    let t = tree_in l.self.run.now in
+    record {
+      goes : Goes (line_of l.self.run.now.root.now) l.self.most l.fn.frame.found.items l.frame.found.items (nodes (steps_view (table_in l.self.run.now) l.rest) (nodes_from l.next) t) (nodes (steps_view (table_in l.self.run.now) l.rest) (children (node_of l.self.node)) t);
+      kept : AreKept l.self.run.now l.frame.answers.items;
+      line : IfSome l.next (λ c. line_of c ≡ line_of l.self.run.now.root.now);
+    }
+
+abbrev pub decreases-push_children-loop-next : goal.decreases-push_children-loop-next
+decreases-push_children-loop-next l = length (nodes_from l.next)
+
+abbrev pub invariant-push_descendants-loop-place : goal.invariant-push_descendants-loop-place
+invariant-push_descendants-loop-place l =
+    let t = tree_in l.self.run.now in
+    let f = λ (d : Node). selected (choices_view (table_in l.self.run.now) l.choices) d t in
+    record {
+      goes : Goes (line_of l.self.run.now.root.now) l.self.most l.fn.frame.found.items l.frame.found.items (nodes (steps_view (table_in l.self.run.now) l.rest) (flat_map f (drop (l.place - place_of l.self.node) (subtree (node_of l.self.node)))) t) (nodes (steps_view (table_in l.self.run.now) l.rest) (flat_map f (subtree (node_of l.self.node))) t);
+      kept : AreKept l.self.run.now l.frame.answers.items;
+    }
+
+abbrev pub invariant-push_filtered-loop-next : goal.invariant-push_filtered-loop-next
+invariant-push_filtered-loop-next l =
+    let t = tree_in l.self.run.now in
+    let p = λ (c : Node). truth (condition_view (table_in l.self.run.now) l.condition) c t in
+    record {
+      goes : Goes (line_of l.self.run.now.root.now) l.self.most l.fn.frame.found.items l.frame.found.items (nodes (steps_view (table_in l.self.run.now) l.rest) (filter p (nodes_from l.next)) t) (nodes (steps_view (table_in l.self.run.now) l.rest) (filter p (children (node_of l.self.node))) t);
+      kept : AreKept l.self.run.now l.frame.answers.items;
+      line : IfSome l.next (λ c. line_of c ≡ line_of l.self.run.now.root.now);
+    }
+
+abbrev pub decreases-push_filtered-loop-next : goal.decreases-push_filtered-loop-next
+decreases-push_filtered-loop-next l = length (nodes_from l.next)
+
+abbrev pub invariant-push_from_each-loop-start : goal.invariant-push_from_each-loop-start
+invariant-push_from_each-loop-start l =
+    let t = tree_in l.self.run.now in
+    record {
+      goes : Goes (line_of l.self.run.now.root.now) l.self.most l.fn.frame.found.items l.frame.found.items (nodes (steps_view (table_in l.self.run.now) l.rest) (map node_of (drop l.start-index l.starts)) t) (nodes (steps_view (table_in l.self.run.now) l.rest) (map node_of l.starts) t);
+      kept : AreKept l.self.run.now l.frame.answers.items;
+    }
+
+abbrev pub invariant-push_rising-loop-next : goal.invariant-push_rising-loop-next
+invariant-push_rising-loop-next l =
+    let t = tree_in l.self.run.now in
+    let passes = is_index (rises l.slice.low l.slice.high l.slice.step) in
+    record {
+      goes : Goes (line_of l.self.run.now.root.now) l.self.most l.fn.frame.found.items l.frame.found.items (nodes (steps_view (table_in l.self.run.now) l.rest) (chosen_from passes (node_of l.self.node) l.index l.next) t) (nodes (steps_view (table_in l.self.run.now) l.rest) (children_where passes (node_of l.self.node)) t);
+      at : IsAt (node_of l.self.node) l.index l.next;
+      kept : AreKept l.self.run.now l.frame.answers.items;
+      line : IfSome l.next (λ c. line_of c ≡ line_of l.self.run.now.root.now);
+    }
+
+abbrev pub decreases-push_rising-loop-next : goal.decreases-push_rising-loop-next
+decreases-push_rising-loop-next l = length (nodes_from l.next)
+
+abbrev pub invariant-push_choices-loop-choice : goal.invariant-push_choices-loop-choice
+invariant-push_choices-loop-choice l =
+    let n = node_of l.self.node in
+    let t = tree_in l.self.run.now in
+    record {
+      goes : Goes (line_of l.self.run.now.root.now) l.self.most l.fn.frame.found.items l.frame.found.items (nodes (steps_view (table_in l.self.run.now) l.rest) (selected (choices_view (table_in l.self.run.now) (drop l.choice-index l.choices)) n t) t) (nodes (steps_view (table_in l.self.run.now) l.rest) (selected (choices_view (table_in l.self.run.now) l.choices) n t) t);
+      kept : AreKept l.self.run.now l.frame.answers.items;
+      size : size_of_selectors (choices_view (table_in l.self.run.now) (drop l.choice-index l.choices)) ≤ size_of_selectors (choices_view (table_in l.self.run.now) l.choices);
+    }
