@@ -1,6 +1,6 @@
 //! A query is compiled: once, and not for each line.
 
-ghost use Rattle.std.specs.Prelude.{◌≡◌, map, true, IfOk, IfSome, option_map, chars, string_bytes};
+ghost use Rattle.std.specs.Prelude.{◌≡◌, [], map, true, IfOk, IfSome, option_map, chars, string_bytes};
 ghost use Rattle.jp_decimal.specs.Decimals.{numeral_number};
 ghost use Rattle.jp_eval.specs.Constants.{is_read_as};
 ghost use Rattle.jp_eval.specs.Expressions.{readable};
@@ -128,142 +128,6 @@ fn compile_keys(alloc: Global, segments: &[Segment]) -> Result<Option<Vec<Key>>>
     Ok(Some(keys))
 }
 
-/// The steps of segments, in their order.
-#[cycle(compile)]
-pub(crate) fn compile_segments(
-    alloc: Global,
-    segments: &[Segment],
-    slots: &mut Vec<Slot>,
-) -> Result<Vec<Step>>
-    requires literals { segments_pass (segments_view segments.now) readable ≡ true }
-    ensures { IfOk result (λ steps. Means slots.old.items slots.new.items (λ (table : Table). steps_view table steps.items) (segments_view segments.now)) }
-{
-    let mut compiled = Vec::new(alloc);
-    for segment in segments {
-        let one = compile_segment(alloc, segment, slots)?;
-        compiled.push(one)?;
-    }
-    Ok(compiled)
-}
-
-/// The step of a segment.
-#[cycle(compile)]
-fn compile_segment(alloc: Global, segment: &Segment, slots: &mut Vec<Slot>) -> Result<Step>
-    requires literals { segment_passes (segment_view segment.now) readable ≡ true }
-    ensures { IfOk result (λ step. Means slots.old.items slots.new.items (λ (table : Table). step_view table step) (segment_view segment.now)) }
-{
-    if let Some(key) = compile_key(alloc, segment)? {
-        return Ok(Step::One(key));
-    }
-    match segment {
-        Segment::Child(selectors) => {
-            let choices = compile_selectors(alloc, selectors, slots)?;
-            Ok(Step::Child(choices))
-        }
-        Segment::Descendant(selectors) => {
-            let choices = compile_selectors(alloc, selectors, slots)?;
-            Ok(Step::Descendant(choices))
-        }
-    }
-}
-
-/// The choices of selectors, in their order.
-#[cycle(compile)]
-fn compile_selectors(
-    alloc: Global,
-    selectors: &[Selector],
-    slots: &mut Vec<Slot>,
-) -> Result<Vec<Choice>>
-    requires literals { selectors_pass (selectors_view selectors.now) readable ≡ true }
-    ensures { IfOk result (λ choices. Means slots.old.items slots.new.items (λ (table : Table). choices_view table choices.items) (selectors_view selectors.now)) }
-{
-    let mut compiled = Vec::new(alloc);
-    for selector in selectors {
-        let one = compile_selector(alloc, selector, slots)?;
-        compiled.push(one)?;
-    }
-    Ok(compiled)
-}
-
-/// The choice of a selector.
-#[cycle(compile)]
-fn compile_selector(alloc: Global, selector: &Selector, slots: &mut Vec<Slot>) -> Result<Choice>
-    requires literals { selector_passes (selector_view selector.now) readable ≡ true }
-    ensures { IfOk result (λ choice. Means slots.old.items slots.new.items (λ (table : Table). choice_view table choice) (selector_view selector.now)) }
-{
-    match selector {
-        Selector::Name(name) => {
-            let name = compile_member_name(alloc, name)?;
-            Ok(Choice::One(Key::Name(name)))
-        }
-        Selector::Wildcard => Ok(Choice::Wildcard),
-        Selector::Index(index) => Ok(Choice::One(Key::Index(*index))),
-        Selector::Slice { first, last, step } => Ok(Choice::Slice {
-            first: *first,
-            last: *last,
-            step: *step,
-        }),
-        Selector::Filter(expression) => {
-            let condition = compile_logical(alloc, expression, slots)?;
-            Ok(Choice::Filter(condition))
-        }
-    }
-}
-
-/// The conditions of the parts of an expression, in their order.
-#[cycle(compile)]
-fn compile_logicals(
-    alloc: Global,
-    parts: &[Logical],
-    slots: &mut Vec<Slot>,
-) -> Result<Vec<Condition>>
-    requires literals { logicals_pass (logicals_view parts.now) readable ≡ true }
-    ensures { IfOk result (λ conditions. Means slots.old.items slots.new.items (λ (table : Table). conditions_view table conditions.items) (logicals_view parts.now)) }
-{
-    let mut compiled = Vec::new(alloc);
-    for part in parts {
-        let one = compile_logical(alloc, part, slots)?;
-        compiled.push(one)?;
-    }
-    Ok(compiled)
-}
-
-/// The condition of an expression.
-#[cycle(compile)]
-pub(crate) fn compile_logical(
-    alloc: Global,
-    expression: &Logical,
-    slots: &mut Vec<Slot>,
-) -> Result<Condition>
-    requires literals { logical_passes (logical_view expression.now) readable ≡ true }
-    ensures { IfOk result (λ condition. Means slots.old.items slots.new.items (λ (table : Table). condition_view table condition) (logical_view expression.now)) }
-{
-    match expression {
-        Logical::Or(parts) => {
-            let parts = compile_logicals(alloc, parts, slots)?;
-            Ok(Condition::Or(parts))
-        }
-        Logical::And(parts) => {
-            let parts = compile_logicals(alloc, parts, slots)?;
-            Ok(Condition::And(parts))
-        }
-        Logical::Not(inner) => {
-            let inner = compile_logical(alloc, inner, slots)?;
-            Ok(Condition::Not(Box::new(alloc, inner)?))
-        }
-        Logical::Compare { left, op, right } => {
-            let left = compile_side(alloc, left, slots)?;
-            let right = compile_side(alloc, right, slots)?;
-            Ok(comparison(left, *op, right))
-        }
-        Logical::Exists(path) => {
-            let nodes = compile_path(alloc, path, slots)?;
-            Ok(Condition::Asks(nodes, Question::Exists))
-        }
-        Logical::Test(call) => compile_test(alloc, call, slots),
-    }
-}
-
 /// The condition of a comparison.
 fn comparison(left: Side, op: CompareOp, right: Side) -> Condition
     ensures { (table : Table) → condition_view table result ≡ compare (side_view table left) (op_view op) (side_view table right) }
@@ -302,123 +166,228 @@ fn match_of(call: &Call) -> Option<(bool, &Path, &str)>
     }
 }
 
-/// The condition of a call that answers a truth.
-#[cycle(compile)]
-fn compile_test(alloc: Global, call: &Call, slots: &mut Vec<Slot>) -> Result<Condition>
-    requires literals { call_passes (call_view call.now) readable ≡ true }
-    ensures { IfOk result (λ condition. Means slots.old.items slots.new.items (λ (table : Table). condition_view table condition) (test (call_view call.now))) }
-{
-    if let Some((whole, path, text)) = match_of(call) {
-        let nodes = compile_path(alloc, path, slots)?;
-        let pattern = compile_pattern(alloc, text)?;
-        return Ok(Condition::Asks(nodes, Question::Passes(whole, pattern)));
-    }
-    let invoked = compile_call(alloc, call, slots)?;
-    Ok(Condition::Test(invoked))
+/// What compiles a query, and the slots of the queries from the root that it has come upon.
+#[derive(Drop)]
+pub(crate) struct Compiler {
+    pub(crate) alloc: Global,
+    pub(crate) slots: Vec<Slot>,
 }
 
-/// The side of a comparison.
-#[cycle(compile)]
-fn compile_side(alloc: Global, side: &Comparable, slots: &mut Vec<Slot>) -> Result<Side>
-    requires literals { comparable_passes (comparable_view side.now) readable ≡ true }
-    ensures { IfOk result (λ compiled. Means slots.old.items slots.new.items (λ (table : Table). side_view table compiled) (comparable_view side.now)) }
-{
-    match side {
-        Comparable::Constant(literal) => {
-            let constant = compile_literal(alloc, literal)?;
-            Ok(Side::Constant(constant))
-        }
-        Comparable::Single(path) => {
-            let nodes = compile_path(alloc, path, slots)?;
-            Ok(Side::Single(nodes))
-        }
-        Comparable::Result(call) => {
-            let invoked = compile_call(alloc, call, slots)?;
-            Ok(Side::Result(invoked))
+impl Compiler {
+    /// With no slot yet.
+    pub(crate) fn new(alloc: Global) -> Compiler
+        ensures { result.slots.items ≡ [] }
+    {
+        Compiler {
+            alloc,
+            slots: Vec::new(alloc),
         }
     }
-}
 
-/// The query within a filter. One from the root becomes a slot, and those within its filters are slots of its own.
-#[cycle(compile)]
-fn compile_path(alloc: Global, path: &Path, slots: &mut Vec<Slot>) -> Result<Nodes>
-    requires literals { path_passes (path_view path.now) readable ≡ true }
-    ensures { IfOk result (λ nodes. Means slots.old.items slots.new.items (λ (table : Table). nodes_view table nodes) (path_view path.now)) }
-{
-    match path.origin {
-        Origin::Root => {
-            let mut own = Vec::new(alloc);
-            let steps = compile_segments(alloc, &path.segments, &mut own)?;
-            let slot = Slot { slots: own, steps };
-            let place = slots.len();
-            slots.push(slot)?;
-            Ok(Nodes::Slot(place))
+    /// The steps of segments, in their order.
+    #[cycle(compile)]
+    pub(crate) fn compile_segments(&mut self, segments: &[Segment]) -> Result<Vec<Step>>
+        requires literals { segments_pass (segments_view segments.now) readable ≡ true }
+        ensures { IfOk result (λ steps. Means self.old.slots.items self.new.slots.items (λ (table : Table). steps_view table steps.items) (segments_view segments.now)) }
+    {
+        let mut compiled = Vec::new(self.alloc);
+        for segment in segments {
+            let one = self.compile_segment(segment)?;
+            compiled.push(one)?;
         }
-        Origin::Current => {
-            if let Some(keys) = compile_keys(alloc, &path.segments)? {
-                return Ok(Nodes::Path(keys));
+        Ok(compiled)
+    }
+
+    /// The step of a segment.
+    #[cycle(compile)]
+    fn compile_segment(&mut self, segment: &Segment) -> Result<Step>
+        requires literals { segment_passes (segment_view segment.now) readable ≡ true }
+        ensures { IfOk result (λ step. Means self.old.slots.items self.new.slots.items (λ (table : Table). step_view table step) (segment_view segment.now)) }
+    {
+        if let Some(key) = compile_key(self.alloc, segment)? {
+            return Ok(Step::One(key));
+        }
+        match segment {
+            Segment::Child(selectors) => Ok(Step::Child(self.compile_selectors(selectors)?)),
+            Segment::Descendant(selectors) => Ok(Step::Descendant(self.compile_selectors(
+                selectors,
+            )?)),
+        }
+    }
+
+    /// The choices of selectors, in their order.
+    #[cycle(compile)]
+    fn compile_selectors(&mut self, selectors: &[Selector]) -> Result<Vec<Choice>>
+        requires literals { selectors_pass (selectors_view selectors.now) readable ≡ true }
+        ensures { IfOk result (λ choices. Means self.old.slots.items self.new.slots.items (λ (table : Table). choices_view table choices.items) (selectors_view selectors.now)) }
+    {
+        let mut compiled = Vec::new(self.alloc);
+        for selector in selectors {
+            let one = self.compile_selector(selector)?;
+            compiled.push(one)?;
+        }
+        Ok(compiled)
+    }
+
+    /// The choice of a selector.
+    #[cycle(compile)]
+    fn compile_selector(&mut self, selector: &Selector) -> Result<Choice>
+        requires literals { selector_passes (selector_view selector.now) readable ≡ true }
+        ensures { IfOk result (λ choice. Means self.old.slots.items self.new.slots.items (λ (table : Table). choice_view table choice) (selector_view selector.now)) }
+    {
+        match selector {
+            Selector::Name(name) => {
+                let name = compile_member_name(self.alloc, name)?;
+                Ok(Choice::One(Key::Name(name)))
             }
-            let steps = compile_segments(alloc, &path.segments, slots)?;
-            Ok(Nodes::Current(steps))
+            Selector::Wildcard => Ok(Choice::Wildcard),
+            Selector::Index(index) => Ok(Choice::One(Key::Index(*index))),
+            Selector::Slice { first, last, step } => Ok(Choice::Slice {
+                first: *first,
+                last: *last,
+                step: *step,
+            }),
+            Selector::Filter(expression) => Ok(Choice::Filter(self.compile_logical(expression)?)),
         }
     }
-}
 
-/// The call of a function.
-#[cycle(compile)]
-fn compile_call(alloc: Global, call: &Call, slots: &mut Vec<Slot>) -> Result<Invoked>
-    requires literals { call_passes (call_view call.now) readable ≡ true }
-    ensures { IfOk result (λ invoked. Means slots.old.items slots.new.items (λ (table : Table). invoked_view table invoked) (call_view call.now)) }
-{
-    let named = compile_name(alloc, &call.name)?;
-    let arguments = compile_arguments(alloc, &call.arguments, slots)?;
-    Ok(Invoked { named, arguments })
-}
-
-/// The arguments of a call, in their order.
-#[cycle(compile)]
-fn compile_arguments(
-    alloc: Global,
-    arguments: &[Argument],
-    slots: &mut Vec<Slot>,
-) -> Result<Vec<Given>>
-    requires literals { arguments_pass (arguments_view arguments.now) readable ≡ true }
-    ensures { IfOk result (λ givens. Means slots.old.items slots.new.items (λ (table : Table). givens_view table givens.items) (arguments_view arguments.now)) }
-{
-    let mut compiled = Vec::new(alloc);
-    for argument in arguments {
-        let one = compile_argument(alloc, argument, slots)?;
-        compiled.push(one)?;
+    /// The conditions of the parts of an expression, in their order.
+    #[cycle(compile)]
+    fn compile_logicals(&mut self, parts: &[Logical]) -> Result<Vec<Condition>>
+        requires literals { logicals_pass (logicals_view parts.now) readable ≡ true }
+        ensures { IfOk result (λ conditions. Means self.old.slots.items self.new.slots.items (λ (table : Table). conditions_view table conditions.items) (logicals_view parts.now)) }
+    {
+        let mut compiled = Vec::new(self.alloc);
+        for part in parts {
+            let one = self.compile_logical(part)?;
+            compiled.push(one)?;
+        }
+        Ok(compiled)
     }
-    Ok(compiled)
-}
 
-/// The argument of a call. A text may be a pattern, so it is read as one.
-#[cycle(compile)]
-fn compile_argument(alloc: Global, argument: &Argument, slots: &mut Vec<Slot>) -> Result<Given>
-    requires literals { argument_passes (argument_view argument.now) readable ≡ true }
-    ensures { IfOk result (λ given. Means slots.old.items slots.new.items (λ (table : Table). given_view table given) (argument_view argument.now)) }
-{
-    match argument {
-        Argument::Constant(Literal::Text(text)) => {
-            let pattern = compile_pattern(alloc, text)?;
-            Ok(Given::Pattern(pattern))
+    /// The condition of an expression.
+    #[cycle(compile)]
+    pub(crate) fn compile_logical(&mut self, expression: &Logical) -> Result<Condition>
+        requires literals { logical_passes (logical_view expression.now) readable ≡ true }
+        ensures { IfOk result (λ condition. Means self.old.slots.items self.new.slots.items (λ (table : Table). condition_view table condition) (logical_view expression.now)) }
+    {
+        match expression {
+            Logical::Or(parts) => Ok(Condition::Or(self.compile_logicals(parts)?)),
+            Logical::And(parts) => Ok(Condition::And(self.compile_logicals(parts)?)),
+            Logical::Not(inner) => {
+                let inner = self.compile_logical(inner)?;
+                Ok(Condition::Not(Box::new(self.alloc, inner)?))
+            }
+            Logical::Compare { left, op, right } => {
+                let left = self.compile_side(left)?;
+                let right = self.compile_side(right)?;
+                Ok(comparison(left, *op, right))
+            }
+            Logical::Exists(path) => {
+                let nodes = self.compile_path(path)?;
+                Ok(Condition::Asks(nodes, Question::Exists))
+            }
+            Logical::Test(call) => self.compile_test(call),
         }
-        Argument::Constant(literal) => {
-            let constant = compile_literal(alloc, literal)?;
-            Ok(Given::Constant(constant))
+    }
+
+    /// The condition of a call that answers a truth.
+    #[cycle(compile)]
+    fn compile_test(&mut self, call: &Call) -> Result<Condition>
+        requires literals { call_passes (call_view call.now) readable ≡ true }
+        ensures { IfOk result (λ condition. Means self.old.slots.items self.new.slots.items (λ (table : Table). condition_view table condition) (test (call_view call.now))) }
+    {
+        if let Some((whole, path, text)) = match_of(call) {
+            let nodes = self.compile_path(path)?;
+            let pattern = compile_pattern(self.alloc, text)?;
+            return Ok(Condition::Asks(nodes, Question::Passes(whole, pattern)));
         }
-        Argument::Nodes(path) => {
-            let nodes = compile_path(alloc, path, slots)?;
-            Ok(Given::Nodes(nodes))
+        Ok(Condition::Test(self.compile_call(call)?))
+    }
+
+    /// The side of a comparison.
+    #[cycle(compile)]
+    fn compile_side(&mut self, side: &Comparable) -> Result<Side>
+        requires literals { comparable_passes (comparable_view side.now) readable ≡ true }
+        ensures { IfOk result (λ compiled. Means self.old.slots.items self.new.slots.items (λ (table : Table). side_view table compiled) (comparable_view side.now)) }
+    {
+        match side {
+            Comparable::Constant(literal) => {
+                let constant = compile_literal(self.alloc, literal)?;
+                Ok(Side::Constant(constant))
+            }
+            Comparable::Single(path) => Ok(Side::Single(self.compile_path(path)?)),
+            Comparable::Result(call) => Ok(Side::Result(self.compile_call(call)?)),
         }
-        Argument::Condition(expression) => {
-            let condition = compile_logical(alloc, expression, slots)?;
-            Ok(Given::Condition(condition))
+    }
+
+    /// The query within a filter. One from the root becomes a slot, and those within its filters are slots of its own.
+    #[cycle(compile)]
+    fn compile_path(&mut self, path: &Path) -> Result<Nodes>
+        requires literals { path_passes (path_view path.now) readable ≡ true }
+        ensures { IfOk result (λ nodes. Means self.old.slots.items self.new.slots.items (λ (table : Table). nodes_view table nodes) (path_view path.now)) }
+    {
+        match path.origin {
+            Origin::Root => {
+                let mut inner = Compiler::new(self.alloc);
+                let steps = inner.compile_segments(&path.segments)?;
+                let slots = inner.slots;
+                let place = self.slots.len();
+                self.slots.push(Slot { slots, steps })?;
+                Ok(Nodes::Slot(place))
+            }
+            Origin::Current => {
+                if let Some(keys) = compile_keys(self.alloc, &path.segments)? {
+                    return Ok(Nodes::Path(keys));
+                }
+                Ok(Nodes::Current(self.compile_segments(&path.segments)?))
+            }
         }
-        Argument::Result(call) => {
-            let invoked = compile_call(alloc, call, slots)?;
-            Ok(Given::Result(invoked))
+    }
+
+    /// The call of a function.
+    #[cycle(compile)]
+    fn compile_call(&mut self, call: &Call) -> Result<Invoked>
+        requires literals { call_passes (call_view call.now) readable ≡ true }
+        ensures { IfOk result (λ invoked. Means self.old.slots.items self.new.slots.items (λ (table : Table). invoked_view table invoked) (call_view call.now)) }
+    {
+        let named = compile_name(self.alloc, &call.name)?;
+        let arguments = self.compile_arguments(&call.arguments)?;
+        Ok(Invoked { named, arguments })
+    }
+
+    /// The arguments of a call, in their order.
+    #[cycle(compile)]
+    fn compile_arguments(&mut self, arguments: &[Argument]) -> Result<Vec<Given>>
+        requires literals { arguments_pass (arguments_view arguments.now) readable ≡ true }
+        ensures { IfOk result (λ givens. Means self.old.slots.items self.new.slots.items (λ (table : Table). givens_view table givens.items) (arguments_view arguments.now)) }
+    {
+        let mut compiled = Vec::new(self.alloc);
+        for argument in arguments {
+            let one = self.compile_argument(argument)?;
+            compiled.push(one)?;
+        }
+        Ok(compiled)
+    }
+
+    /// The argument of a call. A text may be a pattern, so it is read as one.
+    #[cycle(compile)]
+    fn compile_argument(&mut self, argument: &Argument) -> Result<Given>
+        requires literals { argument_passes (argument_view argument.now) readable ≡ true }
+        ensures { IfOk result (λ given. Means self.old.slots.items self.new.slots.items (λ (table : Table). given_view table given) (argument_view argument.now)) }
+    {
+        match argument {
+            Argument::Constant(Literal::Text(text)) => {
+                let pattern = compile_pattern(self.alloc, text)?;
+                Ok(Given::Pattern(pattern))
+            }
+            Argument::Constant(literal) => {
+                let constant = compile_literal(self.alloc, literal)?;
+                Ok(Given::Constant(constant))
+            }
+            Argument::Nodes(path) => Ok(Given::Nodes(self.compile_path(path)?)),
+            Argument::Condition(inner) => Ok(Given::Condition(self.compile_logical(inner)?)),
+            Argument::Result(call) => Ok(Given::Result(self.compile_call(call)?)),
         }
     }
 }

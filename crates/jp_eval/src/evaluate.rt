@@ -9,7 +9,7 @@ ghost use Rattle.jp_eval.specs.Compiled.{program_view};
 ghost use Rattle.jp_eval.specs.Found.{Adds, AreOf};
 
 use crate::answers::{first_answers, no_answers};
-use crate::compile::{compile_logical, compile_segments};
+use crate::compile::Compiler;
 use crate::frame::{At, Frame, Run};
 use crate::program::{Slot, Step};
 use jp_query::{Logical, Segment};
@@ -32,8 +32,9 @@ impl Program {
         requires literals { has_sound_literals (segments_view segments.now) ≡ true }
         ensures { IfOk result (λ program. program_view program ≡ segments_view segments.now) }
     {
-        let mut slots = Vec::new(alloc);
-        let steps = compile_segments(alloc, segments, &mut slots)?;
+        let mut compiler = Compiler::new(alloc);
+        let steps = compiler.compile_segments(segments)?;
+        let slots = compiler.slots;
         Ok(Program { slots, steps })
     }
 
@@ -134,8 +135,9 @@ pub fn truth<'a>(
     requires literals { logical_has_sound_literals (logical_view expression.now) ≡ true }
     ensures { IfOk result (λ answer. answer ≡ truth_of (logical_view expression.now) (node_of node.entry) (node_of root.entry).tree) }
 {
-    let mut slots = Vec::new(alloc);
-    let condition = compile_logical(alloc, expression, &mut slots)?;
+    let mut compiler = Compiler::new(alloc);
+    let condition = compiler.compile_logical(expression)?;
+    let slots = compiler.slots;
     let answers = no_answers(alloc, slots.len())?;
     let mut frame = Frame {
         found: Vec::new(alloc),

@@ -29,40 +29,40 @@ use Rattle.jp_eval.proofs.Sizes.{size_of_segments, size_of_selectors, size_of_lo
 use Rattle.jp_eval.proofs.Views.{path_viewed, call_viewed, compare_viewed, nodes_viewed, condition_viewed, result_viewed}
 use Rattle.jp_eval.proofs.Compiled.{child_seen, descendant_seen, filter_seen, or_seen, and_seen, not_seen, exists_seen, single_seen, result_seen, child_is, descendant_is, filter_is, or_is, and_is, not_is, asks_is, test_is, single_is, result_is, nodes_given, condition_given, result_given, slot_is, current_is, invoked_is}
 use Rattle.jp_eval.proofs.Meanings.{means_by, both_mean, one_more, none_more, slot_means, slot_made, whole}
-use Rattle.jp_eval.proofs.compile.+compile.Goals as goal
+use Rattle.jp_eval.proofs.compile.Compiler.+compile.Goals as goal
 
-pub compile_segment-returns-in_ok-choices-in-Child : goal.compile_segment-returns-in_ok-choices-in-Child
-compile_segment-returns-in_ok-choices-in-Child t c = means_by syntax.child_segment (λ (table : Table). step_view table (steps.Child c.in_ok-choices-in-Child.choices)) (segment_view c.args.segment.now) (λ table. child_is table c.in_ok-choices-in-Child.choices) (ap segment_view c.in-Child.is ∙ (child_seen c.in-Child.selectors ∙ ap (λ (l : List Selector). syntax.child_segment (selectors_view l)) (sym c.deref.ensures.value))) c.in_ok-choices-in-Child.ensures
+pub compile_segment-returns-in_ok-compile_selectors-in-Child : goal.compile_segment-returns-in_ok-compile_selectors-in-Child
+compile_segment-returns-in_ok-compile_selectors-in-Child t c = means_by syntax.child_segment (λ (table : Table). step_view table (steps.Child c.in_ok-compile_selectors-in-Child.field-0)) (segment_view c.args.segment.now) (λ table. child_is table c.in_ok-compile_selectors-in-Child.field-0) (ap segment_view c.in-Child.is ∙ (child_seen c.in-Child.selectors ∙ ap (λ (l : List Selector). syntax.child_segment (selectors_view l)) (sym c.deref.ensures.value))) c.in_ok-compile_selectors-in-Child.ensures
 
-pub compile_segment-returns-in_ok-choices-in-Descendant : goal.compile_segment-returns-in_ok-choices-in-Descendant
-compile_segment-returns-in_ok-choices-in-Descendant t c = means_by syntax.descendant_segment (λ (table : Table). step_view table (steps.Descendant c.in_ok-choices-in-Descendant.choices)) (segment_view c.args.segment.now) (λ table. descendant_is table c.in_ok-choices-in-Descendant.choices) (ap segment_view c.in-Descendant.is ∙ (descendant_seen c.in-Descendant.selectors ∙ ap (λ (l : List Selector). syntax.descendant_segment (selectors_view l)) (sym c.deref-in-Descendant.ensures.value))) c.in_ok-choices-in-Descendant.ensures
+pub compile_segment-returns-in_ok-compile_selectors-in-Descendant : goal.compile_segment-returns-in_ok-compile_selectors-in-Descendant
+compile_segment-returns-in_ok-compile_selectors-in-Descendant t c = means_by syntax.descendant_segment (λ (table : Table). step_view table (steps.Descendant c.in_ok-compile_selectors-in-Descendant.field-0)) (segment_view c.args.segment.now) (λ table. descendant_is table c.in_ok-compile_selectors-in-Descendant.field-0) (ap segment_view c.in-Descendant.is ∙ (descendant_seen c.in-Descendant.selectors ∙ ap (λ (l : List Selector). syntax.descendant_segment (selectors_view l)) (sym c.deref-in-Descendant.ensures.value))) c.in_ok-compile_selectors-in-Descendant.ensures
 
-pub compile_selector-returns-in_ok-condition-in-Filter : goal.compile_selector-returns-in_ok-condition-in-Filter
-compile_selector-returns-in_ok-condition-in-Filter t c = means_by syntax.filter_selector (λ (table : Table). choice_view table (choices.Filter c.in_ok-condition-in-Filter.condition)) (selector_view c.args.selector.now) (λ table. filter_is table c.in_ok-condition-in-Filter.condition) (ap selector_view c.in-Filter.is ∙ filter_seen c.in-Filter.expression) c.in_ok-condition-in-Filter.ensures
+pub compile_selector-returns-in_ok-compile_logical-in-Filter : goal.compile_selector-returns-in_ok-compile_logical-in-Filter
+compile_selector-returns-in_ok-compile_logical-in-Filter t c = means_by syntax.filter_selector (λ (table : Table). choice_view table (choices.Filter c.in_ok-compile_logical-in-Filter.field-0)) (selector_view c.args.selector.now) (λ table. filter_is table c.in_ok-compile_logical-in-Filter.field-0) (ap selector_view c.in-Filter.is ∙ filter_seen c.in-Filter.expression) c.in_ok-compile_logical-in-Filter.ensures
 
-pub compile_logical-returns-in_ok-parts-in-Or : goal.compile_logical-returns-in_ok-parts-in-Or
-compile_logical-returns-in_ok-parts-in-Or t c = means_by syntax.or_all (λ (table : Table). condition_view table (conditions.Or c.in_ok-parts-in-Or.parts)) (logical_view c.args.expression.now) (λ table. or_is table c.in_ok-parts-in-Or.parts) (ap logical_view c.in-Or.is ∙ (or_seen c.in-Or.parts ∙ ap (λ (l : List Logical). syntax.or_all (logicals_view l)) (sym c.deref.ensures.value))) c.in_ok-parts-in-Or.ensures
+pub compile_logical-returns-in_ok-compile_logicals-in-Or : goal.compile_logical-returns-in_ok-compile_logicals-in-Or
+compile_logical-returns-in_ok-compile_logicals-in-Or t c = means_by syntax.or_all (λ (table : Table). condition_view table (conditions.Or c.in_ok-compile_logicals-in-Or.field-0)) (logical_view c.args.expression.now) (λ table. or_is table c.in_ok-compile_logicals-in-Or.field-0) (ap logical_view c.in-Or.is ∙ (or_seen c.in-Or.parts ∙ ap (λ (l : List Logical). syntax.or_all (logicals_view l)) (sym c.deref.ensures.value))) c.in_ok-compile_logicals-in-Or.ensures
 
-pub compile_logical-returns-in_ok-parts-in-And : goal.compile_logical-returns-in_ok-parts-in-And
-compile_logical-returns-in_ok-parts-in-And t c = means_by syntax.and_all (λ (table : Table). condition_view table (conditions.And c.in_ok-parts-in-And.parts)) (logical_view c.args.expression.now) (λ table. and_is table c.in_ok-parts-in-And.parts) (ap logical_view c.in-And.is ∙ (and_seen c.in-And.parts ∙ ap (λ (l : List Logical). syntax.and_all (logicals_view l)) (sym c.deref-in-And.ensures.value))) c.in_ok-parts-in-And.ensures
+pub compile_logical-returns-in_ok-compile_logicals-in-And : goal.compile_logical-returns-in_ok-compile_logicals-in-And
+compile_logical-returns-in_ok-compile_logicals-in-And t c = means_by syntax.and_all (λ (table : Table). condition_view table (conditions.And c.in_ok-compile_logicals-in-And.field-0)) (logical_view c.args.expression.now) (λ table. and_is table c.in_ok-compile_logicals-in-And.field-0) (ap logical_view c.in-And.is ∙ (and_seen c.in-And.parts ∙ ap (λ (l : List Logical). syntax.and_all (logicals_view l)) (sym c.deref-in-And.ensures.value))) c.in_ok-compile_logicals-in-And.ensures
 
 pub compile_logical-returns-in_ok-nodes-in-Exists : goal.compile_logical-returns-in_ok-nodes-in-Exists
 compile_logical-returns-in_ok-nodes-in-Exists t c = means_by syntax.exists (λ (table : Table). condition_view table (conditions.Asks c.in_ok-nodes-in-Exists.nodes questions.Exists)) (logical_view c.args.expression.now) (λ table. asks_is table c.in_ok-nodes-in-Exists.nodes questions.Exists) (ap logical_view c.in-Exists.is ∙ exists_seen c.in-Exists.path) c.in_ok-nodes-in-Exists.ensures
 
-pub compile_side-returns-in_ok-nodes-in-Single : goal.compile_side-returns-in_ok-nodes-in-Single
-compile_side-returns-in_ok-nodes-in-Single t c = means_by syntax.single (λ (table : Table). side_view table (sides.Single c.in_ok-nodes-in-Single.nodes)) (comparable_view c.args.side.now) (λ table. single_is table c.in_ok-nodes-in-Single.nodes) (ap comparable_view c.in-Single.is ∙ single_seen c.in-Single.path) c.in_ok-nodes-in-Single.ensures
+pub compile_side-returns-in_ok-compile_path-in-Single : goal.compile_side-returns-in_ok-compile_path-in-Single
+compile_side-returns-in_ok-compile_path-in-Single t c = means_by syntax.single (λ (table : Table). side_view table (sides.Single c.in_ok-compile_path-in-Single.field-0)) (comparable_view c.args.side.now) (λ table. single_is table c.in_ok-compile_path-in-Single.field-0) (ap comparable_view c.in-Single.is ∙ single_seen c.in-Single.path) c.in_ok-compile_path-in-Single.ensures
 
-pub compile_side-returns-in_ok-invoked-in-Result : goal.compile_side-returns-in_ok-invoked-in-Result
-compile_side-returns-in_ok-invoked-in-Result t c = means_by syntax.result (λ (table : Table). side_view table (sides.Result c.in_ok-invoked-in-Result.invoked)) (comparable_view c.args.side.now) (λ table. result_is table c.in_ok-invoked-in-Result.invoked) (ap comparable_view c.in-Result.is ∙ result_seen c.in-Result.call) c.in_ok-invoked-in-Result.ensures
+pub compile_side-returns-in_ok-compile_call-in-Result : goal.compile_side-returns-in_ok-compile_call-in-Result
+compile_side-returns-in_ok-compile_call-in-Result t c = means_by syntax.result (λ (table : Table). side_view table (sides.Result c.in_ok-compile_call-in-Result.field-0)) (comparable_view c.args.side.now) (λ table. result_is table c.in_ok-compile_call-in-Result.field-0) (ap comparable_view c.in-Result.is ∙ result_seen c.in-Result.call) c.in_ok-compile_call-in-Result.ensures
 
-pub compile_argument-returns-in_ok-nodes-in-Nodes : goal.compile_argument-returns-in_ok-nodes-in-Nodes
-compile_argument-returns-in_ok-nodes-in-Nodes t c = means_by syntax.nodes_argument (λ (table : Table). given_view table (givens.Nodes c.in_ok-nodes-in-Nodes.nodes)) (argument_view c.args.argument.now) (λ table. nodes_given table c.in_ok-nodes-in-Nodes.nodes) (ap argument_view c.in-Nodes.is ∙ nodes_viewed c.in-Nodes.path) c.in_ok-nodes-in-Nodes.ensures
+pub compile_argument-returns-in_ok-compile_path-in-Nodes : goal.compile_argument-returns-in_ok-compile_path-in-Nodes
+compile_argument-returns-in_ok-compile_path-in-Nodes t c = means_by syntax.nodes_argument (λ (table : Table). given_view table (givens.Nodes c.in_ok-compile_path-in-Nodes.field-0)) (argument_view c.args.argument.now) (λ table. nodes_given table c.in_ok-compile_path-in-Nodes.field-0) (ap argument_view c.in-Nodes.is ∙ nodes_viewed c.in-Nodes.path) c.in_ok-compile_path-in-Nodes.ensures
 
-pub compile_argument-returns-in_ok-condition-in-Condition : goal.compile_argument-returns-in_ok-condition-in-Condition
-compile_argument-returns-in_ok-condition-in-Condition t c = means_by syntax.condition (λ (table : Table). given_view table (givens.Condition c.in_ok-condition-in-Condition.condition)) (argument_view c.args.argument.now) (λ table. condition_given table c.in_ok-condition-in-Condition.condition) (ap argument_view c.in-Condition.is ∙ condition_viewed c.in-Condition.expression) c.in_ok-condition-in-Condition.ensures
+pub compile_argument-returns-in_ok-compile_logical-in-Condition : goal.compile_argument-returns-in_ok-compile_logical-in-Condition
+compile_argument-returns-in_ok-compile_logical-in-Condition t c = means_by syntax.condition (λ (table : Table). given_view table (givens.Condition c.in_ok-compile_logical-in-Condition.field-0)) (argument_view c.args.argument.now) (λ table. condition_given table c.in_ok-compile_logical-in-Condition.field-0) (ap argument_view c.in-Condition.is ∙ condition_viewed c.in-Condition.inner) c.in_ok-compile_logical-in-Condition.ensures
 
-pub compile_argument-returns-in_ok-invoked-in-Result : goal.compile_argument-returns-in_ok-invoked-in-Result
-compile_argument-returns-in_ok-invoked-in-Result t c = means_by syntax.result_argument (λ (table : Table). given_view table (givens.Result c.in_ok-invoked-in-Result.invoked)) (argument_view c.args.argument.now) (λ table. result_given table c.in_ok-invoked-in-Result.invoked) (ap argument_view c.in-Result.is ∙ result_viewed c.in-Result.call) c.in_ok-invoked-in-Result.ensures
+pub compile_argument-returns-in_ok-compile_call-in-Result : goal.compile_argument-returns-in_ok-compile_call-in-Result
+compile_argument-returns-in_ok-compile_call-in-Result t c = means_by syntax.result_argument (λ (table : Table). given_view table (givens.Result c.in_ok-compile_call-in-Result.field-0)) (argument_view c.args.argument.now) (λ table. result_given table c.in_ok-compile_call-in-Result.field-0) (ap argument_view c.in-Result.is ∙ result_viewed c.in-Result.call) c.in_ok-compile_call-in-Result.ensures
 
 pub compile_logical-returns-in_ok-new-in-Not : goal.compile_logical-returns-in_ok-new-in-Not
 compile_logical-returns-in_ok-new-in-Not t c =
@@ -80,18 +80,18 @@ compile_logical-returns-in_ok-right-in-Compare t c =
 
 pub compile_path-returns-in_ok-push-in-Root : goal.compile_path-returns-in_ok-push-in-Root
 compile_path-returns-in_ok-push-in-Root t c =
-    let made : Slot-F Slot = record { slots = c.compile_segments.new.slots; steps = c.in_ok-steps-in-Root.steps } in
-    slot_means c.args.slots.now.items c.push.new.self.items (roll-Slot made) (λ (table : Table). nodes_view table (paths.Slot c.len-place.result)) c.len-place.result (segments_view c.args.path.now.segments.items) (path_view c.args.path.now)
+    let made : Slot-F Slot = record { slots = c.compile_segments.new.self.slots; steps = c.in_ok-steps-in-Root.steps } in
+    slot_means c.args.self.now.slots.items c.push.new.self.items (roll-Slot made) (λ (table : Table). nodes_view table (paths.Slot c.len-place.result)) c.len-place.result (segments_view c.args.path.now.segments.items) (path_view c.args.path.now)
     (λ table. slot_is table c.len-place.result)
     (path_viewed c.args.path.now ∙ ap (λ (o : Origin). syntax.path (origin_view o) (segments_view c.args.path.now.segments.items)) c.in-Root.is)
-    (slot_made made ∙ (whole _ _ c.in_ok-steps-in-Root.ensures ∙ ap segments_view c.deref.ensures.value)) c.in_ok-push-in-Root.ensures.items (c.len-place.ensures ∙ c.args.slots.now.ok.0)
+    (slot_made made ∙ (whole _ _ c.in_ok-steps-in-Root.ensures ∙ ap segments_view c.deref.ensures.value)) c.in_ok-push-in-Root.ensures.items (c.len-place.ensures ∙ c.args.self.now.slots.ok.0)
 
-pub compile_path-returns-in_ok-steps-in-Current : goal.compile_path-returns-in_ok-steps-in-Current
-compile_path-returns-in_ok-steps-in-Current t c =
-    means_by (syntax.path syntax.current) (λ (table : Table). nodes_view table (paths.Current c.in_ok-steps-in-Current.steps)) (path_view c.args.path.now)
-    (λ table. current_is table c.in_ok-steps-in-Current.steps)
+pub compile_path-returns-in_ok-compile_segments-in-Current : goal.compile_path-returns-in_ok-compile_segments-in-Current
+compile_path-returns-in_ok-compile_segments-in-Current t c =
+    means_by (syntax.path syntax.current) (λ (table : Table). nodes_view table (paths.Current c.in_ok-compile_segments-in-Current.field-0)) (path_view c.args.path.now)
+    (λ table. current_is table c.in_ok-compile_segments-in-Current.field-0)
     (path_viewed c.args.path.now ∙ (ap (λ (o : Origin). syntax.path (origin_view o) (segments_view c.args.path.now.segments.items)) c.in-Current.is ∙ ap (λ (l : List Segment). syntax.path syntax.current (segments_view l)) (sym c.deref-in-Current-2.ensures.value)))
-    c.in_ok-steps-in-Current.ensures
+    c.in_ok-compile_segments-in-Current.ensures
 
 pub compile_logical-compile_side-requires-in-Compare : goal.compile_logical-compile_side-requires-in-Compare
 compile_logical-compile_side-requires-in-Compare t c =
@@ -187,7 +187,7 @@ compile_test-compile_path-requires t c =
     (omega (arith, size, c.decreases), (and_parts _ _ passes).0)
 
 pub compile_test-returns : goal.compile_test-returns
-compile_test-returns t c = means_by syntax.test (λ (table : Table). condition_view table (conditions.Test c.in_ok-invoked.invoked)) (syntax.test (call_view c.args.call.now)) (λ table. test_is table c.in_ok-invoked.invoked) refl c.in_ok-invoked.ensures
+compile_test-returns t c = means_by syntax.test (λ (table : Table). condition_view table (conditions.Test c.in_ok-compile_call.field-0)) (syntax.test (call_view c.args.call.now)) (λ table. test_is table c.in_ok-compile_call.field-0) refl c.in_ok-compile_call.ensures
 
 pub compile_test-returns-in-Some : goal.compile_test-returns-in-Some
 compile_test-returns-in-Some t c =

@@ -5,7 +5,7 @@ use Rattle.jp_eval.specs.Programs.{Table, Means, step_view, choice_view, conditi
 use Rattle.jp_model.specs.Query.Limits.{segments_pass, selectors_pass, logicals_pass, arguments_pass}
 use Rattle.jp_query.specs.View.{segments_view, segment_view, selectors_view, selector_view, logicals_view, logical_view, comparable_view, path_view, call_view, arguments_view, argument_view}
 use Rattle.jp_eval.proofs.Sizes.{size_of_segments, size_of_segment, size_of_selectors, size_of_selector, size_of_logical, size_of_logicals, size_of_comparable, size_of_path, size_of_call, size_of_arguments, size_of_argument}
-use Rattle.jp_eval.proofs.compile.+compile.Given as goal
+use Rattle.jp_eval.proofs.compile.Compiler.+compile.Given as goal
 
 abbrev pub decreases-compile_segments : goal.decreases-compile_segments
 decreases-compile_segments l = size_of_segments (segments_view l.segments.now) + 1
@@ -45,28 +45,28 @@ decreases-compile_argument l = size_of_argument (argument_view l.argument.now)
 
 abbrev pub invariant-compile_segments-loop-segment : goal.invariant-compile_segments-loop-segment
 invariant-compile_segments-loop-segment l = record {
-  means : Means l.fn.slots.items l.slots.items (λ (table : Table). map (step_view table) l.compiled.items ++ map segment_view (drop l.segment-index l.segments)) (map segment_view l.segments);
+  means : Means l.fn.self.slots.items l.self.slots.items (λ (table : Table). map (step_view table) l.compiled.items ++ map segment_view (drop l.segment-index l.segments)) (map segment_view l.segments);
   literals : segments_pass (segments_view (drop l.segment-index l.segments)) readable ≡ true;
   size : size_of_segments (segments_view (drop l.segment-index l.segments)) ≤ size_of_segments (segments_view l.segments);
 }
 
 abbrev pub invariant-compile_selectors-loop-selector : goal.invariant-compile_selectors-loop-selector
 invariant-compile_selectors-loop-selector l = record {
-  means : Means l.fn.slots.items l.slots.items (λ (table : Table). map (choice_view table) l.compiled.items ++ map selector_view (drop l.selector-index l.selectors)) (map selector_view l.selectors);
+  means : Means l.fn.self.slots.items l.self.slots.items (λ (table : Table). map (choice_view table) l.compiled.items ++ map selector_view (drop l.selector-index l.selectors)) (map selector_view l.selectors);
   literals : selectors_pass (selectors_view (drop l.selector-index l.selectors)) readable ≡ true;
   size : size_of_selectors (selectors_view (drop l.selector-index l.selectors)) ≤ size_of_selectors (selectors_view l.selectors);
 }
 
 abbrev pub invariant-compile_logicals-loop-part : goal.invariant-compile_logicals-loop-part
 invariant-compile_logicals-loop-part l = record {
-  means : Means l.fn.slots.items l.slots.items (λ (table : Table). map (condition_view table) l.compiled.items ++ map logical_view (drop l.part-index l.parts)) (map logical_view l.parts);
+  means : Means l.fn.self.slots.items l.self.slots.items (λ (table : Table). map (condition_view table) l.compiled.items ++ map logical_view (drop l.part-index l.parts)) (map logical_view l.parts);
   literals : logicals_pass (logicals_view (drop l.part-index l.parts)) readable ≡ true;
   size : size_of_logicals (logicals_view (drop l.part-index l.parts)) ≤ size_of_logicals (logicals_view l.parts);
 }
 
 abbrev pub invariant-compile_arguments-loop-argument : goal.invariant-compile_arguments-loop-argument
 invariant-compile_arguments-loop-argument l = record {
-  means : Means l.fn.slots.items l.slots.items (λ (table : Table). map (given_view table) l.compiled.items ++ map argument_view (drop l.argument-index l.arguments)) (map argument_view l.arguments);
+  means : Means l.fn.self.slots.items l.self.slots.items (λ (table : Table). map (given_view table) l.compiled.items ++ map argument_view (drop l.argument-index l.arguments)) (map argument_view l.arguments);
   literals : arguments_pass (arguments_view (drop l.argument-index l.arguments)) readable ≡ true;
   size : size_of_arguments (arguments_view (drop l.argument-index l.arguments)) ≤ size_of_arguments (arguments_view l.arguments);
 }
