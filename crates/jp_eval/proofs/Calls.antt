@@ -4,7 +4,7 @@ use Rattle.std.specs.Prelude.{string_bytes}
 use Rattle.std.specs.Str.{chars, IsUtf8, IsAscii}
 use Rattle.std.proofs.Common.{zero, suc, lit<}
 use Rattle.std.proofs.lemmas.Str.{chars-IsAscii, encodes-chars, encodes-IsAscii}
-use Rattle.std.proofs.lemmas.Bool.{true≢false, and_parts, ltb-true}
+use Rattle.std.proofs.lemmas.Bool.{and_parts, ltb-true}
 use Rattle.std.specs.List.{list_all}
 use Rattle.std.specs.Prelude.{nat_lt, encode_utf8_all}
 use Rattle.jp_model.specs.Characters.{text_equal}
@@ -117,33 +117,14 @@ ascii_by [] h (suc i) = lit< tt
 ascii_by (x ∷ xs) h zero = ltb-true x 128 (and_parts (nat_lt x 128) (list_all (λ x. nat_lt x 128) xs) h).0
 ascii_by (x ∷ xs) h (suc i) = ascii_by xs (and_parts (nat_lt x 128) (list_all (λ x. nat_lt x 128) xs) h).1 i
 
--- a text equals a word of ASCII as its scalars do
-pub same_text : (s w : List ℕ) → IsUtf8 s → IsAscii w → text_equal w w ≡ true → text_equal s w ≡ text_equal (chars s) w
-same_text s w u a r = by (text_equal s w) (text_equal (chars s) w) refl refl
+-- the scalars of a word of ASCII are its bytes
+pub this_word : (s w : List ℕ) → list_all (λ x. nat_lt x 128) w ≡ true → s ≡ w → chars s ≡ w
+this_word s w a e = ap chars e ∙ chars-IsAscii w (ascii_by w a)
+
+-- another text has other scalars
+pub other_word : (s w : List ℕ) → IsUtf8 s → list_all (λ x. nat_lt x 128) w ≡ true → (s ≡ w → ⊥) → text_equal (chars s) w ≡ false
+other_word s w u a h = by (text_equal (chars s) w) refl
   where
-    by : (p q : Bool) → text_equal s w ≡ p → text_equal (chars s) w ≡ q → p ≡ q
-    by true true e f = refl
-    by false false e f = refl
-    by true false e f =
-        let same : s ≡ w = text_same s w e in
-        let plain : chars s ≡ w = ap chars same ∙ chars-IsAscii w a in
-        absurd (true≢false (sym r ∙ (sym (ap (λ x. text_equal x w) plain) ∙ f)))
-    by false true e f =
-        let plain : chars s ≡ w = text_same (chars s) w f in
-        let same : s ≡ w = sym (encodes-chars s u) ∙ (ap encode_utf8_all plain ∙ encodes-IsAscii w a) in
-        absurd (true≢false (sym r ∙ (sym (ap (λ x. text_equal x w) same) ∙ e)))
-
-pub length_name : (s : List ℕ) (b : Bool) → IsUtf8 s → b ≡ text_equal s (codes "length") → text_equal (chars s) (codes "length") ≡ b
-length_name s b u e = sym (e ∙ same_text s (codes "length") u (ascii_by (codes "length") refl) refl)
-
-pub count_name : (s : List ℕ) (b : Bool) → IsUtf8 s → b ≡ text_equal s (codes "count") → text_equal (chars s) (codes "count") ≡ b
-count_name s b u e = sym (e ∙ same_text s (codes "count") u (ascii_by (codes "count") refl) refl)
-
-pub value_name : (s : List ℕ) (b : Bool) → IsUtf8 s → b ≡ text_equal s (codes "value") → text_equal (chars s) (codes "value") ≡ b
-value_name s b u e = sym (e ∙ same_text s (codes "value") u (ascii_by (codes "value") refl) refl)
-
-pub match_name : (s : List ℕ) (b : Bool) → IsUtf8 s → b ≡ text_equal s (codes "match") → text_equal (chars s) (codes "match") ≡ b
-match_name s b u e = sym (e ∙ same_text s (codes "match") u (ascii_by (codes "match") refl) refl)
-
-pub search_name : (s : List ℕ) (b : Bool) → IsUtf8 s → b ≡ text_equal s (codes "search") → text_equal (chars s) (codes "search") ≡ b
-search_name s b u e = sym (e ∙ same_text s (codes "search") u (ascii_by (codes "search") refl) refl)
+    by : (q : Bool) → text_equal (chars s) w ≡ q → q ≡ false
+    by false f = refl
+    by true f = absurd (h (sym (encodes-chars s u) ∙ (ap encode_utf8_all (text_same (chars s) w f) ∙ encodes-IsAscii w (ascii_by w a))))

@@ -183,17 +183,12 @@ pub(crate) enum Function {
 pub(crate) fn function_of(name: &str) -> Option<Function>
     ensures { result ≡ function_named (chars name.now) }
 {
-    if name == "length" {
-        Some(Function::Length)
-    } else if name == "count" {
-        Some(Function::Count)
-    } else if name == "value" {
-        Some(Function::Value)
-    } else if name == "match" {
-        Some(Function::Match)
-    } else if name == "search" {
-        Some(Function::Search)
-    } else {
-        None
+    match name {
+        "length" => Some(Function::Length),
+        "count" => Some(Function::Count),
+        "value" => Some(Function::Value),
+        "match" => Some(Function::Match),
+        "search" => Some(Function::Search),
+        _ => None,
     }
 }

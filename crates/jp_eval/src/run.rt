@@ -390,42 +390,6 @@ impl<'r, 'a> At<'r, 'a> {
         result
     }
 
-    /// Whether a query within a filter selects a node. The first decides.
-    #[cycle(eval)]
-    #[inline(always)]
-    fn find_any(self, nodes: &Nodes, frame: &mut Frame<'a>) -> Result<bool>
-        requires { AreKept self.run.now frame.old.answers.items }
-        ensures lends { Lends self.entry frame.old frame.new result }
-        ensures value { IfOk result (λ b. b ≡ not (length (path_nodes (nodes_view (table_at self.entry) nodes.now) (here self.entry) (tree_at self.entry)) == 0)) }
-    {
-        if let Some(end) = self.singular(nodes) {
-            return Ok(end.is_some());
-        }
-        let before = frame.found.len();
-        let At { run, node, .. } = self;
-        let most = before + 1;
-        At { run, node, most }.push_nodes(nodes, frame)?;
-        let found = frame.found.len() > before;
-        frame.found.truncate(before);
-        Ok(found)
-    }
-
-    /// How many nodes a query within a filter selects.
-    #[cycle(eval)]
-    fn find_count(self, nodes: &Nodes, frame: &mut Frame<'a>) -> Result<u64>
-        requires { AreKept self.run.now frame.old.answers.items }
-        ensures lends { Lends self.entry frame.old frame.new result }
-        ensures value { IfOk result (λ count. count ≡ length (path_nodes (nodes_view (table_at self.entry) nodes.now) (here self.entry) (tree_at self.entry))) }
-    {
-        let before = frame.found.len();
-        let At { run, node, .. } = self;
-        let most = usize::MAX;
-        At { run, node, most }.push_nodes(nodes, frame)?;
-        let count = frame.found.len() - before;
-        frame.found.truncate(before);
-        Ok(count as u64)
-    }
-
     /// The value of the single node that a query within a filter selects, where it selects one. The second decides.
     #[cycle(eval)]
     #[inline(always)]
@@ -451,7 +415,7 @@ impl<'r, 'a> At<'r, 'a> {
         Ok(value)
     }
 
-    /// Whether a query within a filter selects a node. What is found of one from the root is kept.
+    /// Whether a query within a filter selects a node. The first decides, and what is found of one from the root is kept.
     #[cycle(eval)]
     #[inline(never)]
     fn has_node(self, nodes: &Nodes, frame: &mut Frame<'a>) -> Result<bool>
@@ -462,8 +426,13 @@ impl<'r, 'a> At<'r, 'a> {
         if let Some(Answer::Exists(some)) = self.run.kept(nodes, frame) {
             return Ok(some);
         }
-        let some = self.find_any(nodes, frame)?;
-        self.run.keep(nodes, Answer::Exists(some), frame);
+        let At { run, node, .. } = self;
+        let before = frame.found.len();
+        let most = before + 1;
+        At { run, node, most }.push_nodes(nodes, frame)?;
+        let some = frame.found.len() > before;
+        frame.found.truncate(before);
+        run.keep(nodes, Answer::Exists(some), frame);
         Ok(some)
     }
 
@@ -477,8 +446,13 @@ impl<'r, 'a> At<'r, 'a> {
         if let Some(Answer::Count(count)) = self.run.kept(nodes, frame) {
             return Ok(count);
         }
-        let count = self.find_count(nodes, frame)?;
-        self.run.keep(nodes, Answer::Count(count), frame);
+        let At { run, node, .. } = self;
+        let before = frame.found.len();
+        let most = usize::MAX;
+        At { run, node, most }.push_nodes(nodes, frame)?;
+        let count = (frame.found.len() - before) as u64;
+        frame.found.truncate(before);
+        run.keep(nodes, Answer::Count(count), frame);
         Ok(count)
     }
 
@@ -564,10 +538,7 @@ impl<'r, 'a> At<'r, 'a> {
         match invoked.named.which() {
             Some(Function::Length) => self.given_length(given, frame),
             Some(Function::Count) => match given {
-                Given::Nodes(nodes) => {
-                    let count = self.count_nodes(nodes, frame)?;
-                    Ok(Value::Count(count))
-                }
+                Given::Nodes(nodes) => Ok(Value::Count(self.count_nodes(nodes, frame)?)),
                 _ => Ok(Value::Count(0)),
             },
             Some(Function::Value) => match given {

@@ -1,5 +1,5 @@
 -- What was added is what the steps select, and what was answered is what the parts of a filter mean.
-use Rattle.std.proofs.Common.{rules, w64, ℤ, Bool, ◌≡◌, ◌∙◌, ◌+◌, ◌-◌, ◌++◌, [], ◌∷◌, List, ℕ, true, false, refl, map, take, drop, length, filter, flat_map, sym, ap, ap₂, append-nil, subst, arith, Some, Option}
+use Rattle.std.proofs.Common.{rules, w64, ℤ, Bool, ◌≡◌, ◌∙◌, ◌+◌, ◌-◌, ◌++◌, [], ◌∷◌, List, ℕ, true, false, refl, map, take, drop, length, filter, flat_map, sym, ap, ap₂, append-nil, subst, arith, Some, Option, Vec, Global}
 use Rattle.std.specs.Prelude.{IfOk, OnOk, not}
 use Rattle.jp_model.specs.Json.Tree.{Tree, Value}
 use Rattle.jp_model.specs.Meaning.Nodes.{Node, children, children_where, subtree}
@@ -14,7 +14,7 @@ use Rattle.jp_tape.specs.declared.cursor.Cursor.{Cursor}
 use Rattle.jp_tape.specs.Cursors.{line_of, place_of, node_of, nodes_from, nodes_after}
 use Rattle.jp_values.specs.declared.value.Value.{Value as Side}
 use Rattle.jp_values.specs.Values.{value_view}
-use Rattle.jp_eval.specs.Frames.{table_in, passes_given, AreKept, Pushes}
+use Rattle.jp_eval.specs.Frames.{table_in, slot_nodes, passes_given, AreKept, Pushes}
 use Rattle.jp_eval.specs.Functions.{passing}
 use Rattle.jp_eval.specs.Questions.{answered}
 use Rattle.jp_eval.specs.Keys.{key_view}
@@ -243,15 +243,15 @@ push_choices-returns t c =
 
 -- ---- queries within filters
 
-pub find_any-returns-clause-lends : goal.find_any-returns-clause-lends
-find_any-returns-clause-lends t c =
-    let same = c.truncate.ensures.items ∙ cut_back c.len-before.result c.in_ok-push_nodes.ensures.adds (sym (c.len-before.ensures ∙ c.args.frame.now.found.ok.0)) in
-    record { adds = adds_none _ _ _ same; kept = c.in_ok-push_nodes.ensures.kept; same = same }
+pub has_node-returns-clause-lends : goal.has_node-returns-clause-lends
+has_node-returns-clause-lends t c =
+    let same = ap (λ (v : Vec Cursor Global). v.items) c.keep.ensures.found ∙ c.truncate.ensures.items ∙ cut_back c.len-before.result c.in_ok-push_nodes.ensures.adds (sym (c.len-before.ensures ∙ c.args.frame.now.found.ok.0)) in
+    record { adds = adds_none _ _ _ same; kept = c.keep.ensures.kept; same = same }
 
-pub find_count-returns-clause-lends : goal.find_count-returns-clause-lends
-find_count-returns-clause-lends t c =
-    let same = c.truncate.ensures.items ∙ cut_back c.len-before.result c.in_ok-push_nodes.ensures.adds (sym (c.len-before.ensures ∙ c.args.frame.now.found.ok.0)) in
-    record { adds = adds_none _ _ _ same; kept = c.in_ok-push_nodes.ensures.kept; same = same }
+pub count_nodes-returns-clause-lends : goal.count_nodes-returns-clause-lends
+count_nodes-returns-clause-lends t c =
+    let same = ap (λ (v : Vec Cursor Global). v.items) c.keep.ensures.found ∙ c.truncate.ensures.items ∙ cut_back c.len-before.result c.in_ok-push_nodes.ensures.adds (sym (c.len-before.ensures ∙ c.args.frame.now.found.ok.0)) in
+    record { adds = adds_none _ _ _ same; kept = c.keep.ensures.kept; same = same }
 
 pub find_single-returns-clause-lends : goal.find_single-returns-clause-lends
 find_single-returns-clause-lends t c =
@@ -266,8 +266,21 @@ pub count_nodes-returns-in-Some-Count-clause-value : goal.count_nodes-returns-in
 count_nodes-returns-in-Some-Count-clause-value t c =
     told_before c.args.self.run.now c.args.nodes.now (node_of c.args.self.node) c.kept.result _ c.kept.ensures (c.in-Some-Count.is ∙ ap (λ (a : Answer). Some a) c.in-Some-Count.field-0-is)
 
-pub find_count-returns-clause-value : goal.find_count-returns-clause-value
-find_count-returns-clause-value t c =
+pub count_nodes-keep-requires-clause-right : goal.count_nodes-keep-requires-clause-right
+count_nodes-keep-requires-clause-right t c = λ place is.
+    let new = c.push_nodes.new.frame.found in
+    let table : Table = table_in c.args.self.run.now in
+    let select = λ (p : syntax.Path). path_nodes p (node_of c.args.self.node) (node_of c.args.self.run.now.root.now).tree in
+    let found : List Node = select (nodes_view table c.args.nodes.now) in
+    let size = new.ok in
+    let small = new.small in
+    let old = c.args.frame.now.found.ok.0 in
+    let sum = counted_so 18446744073709551615 c.args.frame.now.found.items new.items found c.in_ok-push_nodes.ensures.nodes (omega (arith, size, small)) in
+    let here : length found ≡ length (slot_nodes c.args.self.run.now place) = ap (λ (p : syntax.Path). length (select p)) (ap (nodes_view table) is ∙ slot_is table place) in
+    omega (arith, sum, size, old, c.len.ensures, c.len-before.ensures, here)
+
+pub count_nodes-returns-clause-value : goal.count_nodes-returns-clause-value
+count_nodes-returns-clause-value t c =
     let new = c.push_nodes.new.frame.found in
     let found : List Node = path_nodes (nodes_view (table_in c.args.self.run.now) c.args.nodes.now) (node_of c.args.self.node) (node_of c.args.self.run.now.root.now).tree in
     let size = new.ok in
@@ -336,8 +349,8 @@ call_value-returns-in_default-clause-value t c =
       | call_value-in_default-via-else-as_slice-lt1+else-this-lt2 w ↦ several_called (table_in c.args.self.run.now) c.args.invoked.now c.as_slice.result.now n u c.as_slice.ensures.value (ltb-false (length c.as_slice.result.now) 2 w.if-this-lt2-1.false)
     ]
 
-pub call_value-returns-in_ok-count-in-Nodes-clause-value : goal.call_value-returns-in_ok-count-in-Nodes-clause-value
-call_value-returns-in_ok-count-in-Nodes-clause-value t c =
+pub call_value-returns-in_ok-count_nodes-in-Nodes-clause-value : goal.call_value-returns-in_ok-count_nodes-in-Nodes-clause-value
+call_value-returns-in_ok-count_nodes-in-Nodes-clause-value t c =
     let call : Invoked = c.args.invoked.now in
     let n : Node = node_of c.args.self.node in
     let u : Tree = (node_of c.args.self.run.now.root.now).tree in
@@ -346,7 +359,7 @@ call_value-returns-in_ok-count-in-Nodes-clause-value t c =
     let is_count : call.named.function ≡ Some functions.Count = sym c.which.ensures ∙ (c.in-Some-Count.is ∙ ap (λ (o : Function). Some o) c.in-Some-Count.field-0-is) in
     let seen = called (table_in c.args.self.run.now) call items functions.Count are is_count in
     let nodes_is = ap (λ (a : syntax.Argument). length (given_by a n u).nodes) (ap (given_view (table_in c.args.self.run.now)) c.in-Nodes.is ∙ nodes_given (table_in c.args.self.run.now) c.in-Nodes.nodes) in
-    ap (λ (k : ℕ). Some (counted k)) (c.in_ok-count-in-Nodes.ensures.value ∙ sym nodes_is) ∙ sym (ap (λ (v : syntax.Call). call_value v n u) seen)
+    ap (λ (k : ℕ). Some (counted k)) (c.in_ok-count_nodes-in-Nodes.ensures.value ∙ sym nodes_is) ∙ sym (ap (λ (v : syntax.Call). call_value v n u) seen)
 
 pub call_value-returns-in-Nodes-given-clause-value : goal.call_value-returns-in-Nodes-given-clause-value
 call_value-returns-in-Nodes-given-clause-value t c =

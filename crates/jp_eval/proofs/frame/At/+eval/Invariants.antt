@@ -65,12 +65,6 @@ decreases-side_value l = size_of_comparable (side_view (table_in l.self.run.now)
 abbrev pub decreases-push_nodes : goal.decreases-push_nodes
 decreases-push_nodes l = size_of_path (nodes_view (table_in l.self.run.now) l.nodes.now)
 
-abbrev pub decreases-find_any : goal.decreases-find_any
-decreases-find_any l = size_of_path (nodes_view (table_in l.self.run.now) l.nodes.now) + 1
-
-abbrev pub decreases-find_count : goal.decreases-find_count
-decreases-find_count l = size_of_path (nodes_view (table_in l.self.run.now) l.nodes.now) + 1
-
 abbrev pub decreases-find_single : goal.decreases-find_single
 decreases-find_single l = size_of_path (nodes_view (table_in l.self.run.now) l.nodes.now) + 1
 
