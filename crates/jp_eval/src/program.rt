@@ -1,4 +1,18 @@
 //! A compiled query: the steps from nodes to nodes, with all that is the same for each line found beforehand.
+//!
+//! What stands for what of the syntax tree (`jp_query`), and what it knows beyond it:
+//!
+//! | Syntax tree | Here | What is known |
+//! |---|---|---|
+//! | `Segment` | `Step` | whether it leads to one child, by a `Key` |
+//! | `Selector` | `Choice` | of a name, whether each of its bytes stands for itself |
+//! | `Logical` | `Condition` | whether it asks one query one `Question` |
+//! | `Path` | `Nodes` | the slot of a query from the root; the keys of a singular one from the node |
+//! | `Comparable` | `Side` | the value of a number |
+//! | `Argument` | `Given` | the same, and the pattern that a text spells |
+//! | `Call` | `Invoked` | which of the five functions it is of |
+//!
+//! `specs/Programs.antt` says which part of a syntax tree each value means.
 
 use crate::leaves::{Constant, LiteralPattern, Named};
 use crate::question::{Key, Question};
