@@ -1,12 +1,12 @@
 -- The elements of a slice by its bounds.
-use Rattle.std.proofs.Common.{◌≡◌, ◌∙◌, ℕ, ◌+◌, ◌<◌, ◌≤◌, ◌^◌, ℤ, pos, ◌+ℤ◌, ◌-ℤ◌, List, [], ◌∷◌, length, map, filter, cond, Bool, true, false, ◌&&◌, Option, Some, None, sym, ap, ap₂, refl, arith, unwrap_or}
+use Rattle.std.proofs.Common.{◌≡◌, ◌∙◌, ℕ, ◌+◌, ◌<◌, ◌≤◌, ◌^◌, ℤ, pos, ◌+ℤ◌, List, [], ◌∷◌, length, map, filter, cond, Bool, true, false, ◌&&◌, Option, Some, None, sym, ap, ap₂, refl, arith, unwrap_or}
 use Rattle.std.specs.Prelude.{int_le, int_lt}
 use Rattle.std.specs.Int.{int_min, int_max}
 use Rattle.std.proofs.lemmas.Int.{ints, clamps}
 use Rattle.jp_model.specs.Steps.{Step, index_step}
 use Rattle.jp_model.specs.Json.Tree.{Tree, Children, no_child, child, value_of, count_children}
 use Rattle.jp_model.specs.Meaning.Nodes.{Node, child_of, children, child_count, steps_from, steps_in, children_where}
-use Rattle.jp_model.specs.Meaning.Slices.{is_index, normal, clamped, on_stride, upward, downward}
+use Rattle.jp_model.specs.Meaning.Slices.{is_index, normal, clamped, on_stride, upward}
 use Rattle.jp_tape.specs.Spots.{children_in}
 use Rattle.jp_tape.specs.declared.cursor.Cursor.{Cursor}
 use Rattle.jp_tape.specs.Cursors.{node_of, children_from}
@@ -108,20 +108,3 @@ none_risen low high step parent index next h = none_chosen (rises low high step)
     none : (a b s : Bool) → b ≡ false → (a && b && s) ≡ false
     none true b s e = ap (λ x. x && s) e
     none false b s e = refl
-
--- ---- the upper bound of a step below 0
-
-pub none_fallen : (len : ℕ) (first last : Option ℤ) (step : ℤ) (parent : Node) (index : ℕ) (next : Option Cursor) → int_lt (normal len (unwrap_or first (pos len -ℤ pos 1))) (pos index) ≡ true
-    → chosen_from (is_index (downward len first last step)) parent index next ≡ []
-none_fallen len first last step parent index next h =
-    let x : ℤ = normal len (unwrap_or first (pos len -ℤ pos 1)) in
-    let high : ℤ = clamped (pos 0 -ℤ pos 1) (pos len -ℤ pos 1) x in
-    let low : ℤ = clamped (pos 0 -ℤ pos 1) (pos len -ℤ pos 1) (normal len (unwrap_or last (pos 0 -ℤ pos len -ℤ pos 1))) in
-    none_chosen (downward len first last step) parent index next (λ i a. none (int_lt low (pos i)) (int_le (pos i) high) (on_stride high step (pos i)) (above x i (pos len -ℤ pos 1) index h a))
-  where
-    none : (a b s : Bool) → b ≡ false → (a && b && s) ≡ false
-    none true b s e = ap (λ x. x && s) e
-    none false b s e = refl
-
-    above : (x : ℤ) (i : ℕ) (last : ℤ) (index : ℕ) → int_lt x (pos index) ≡ true → index ≤ i → int_le (pos i) (int_min (int_max x (pos 0 -ℤ pos 1)) last) ≡ false
-    above x i last index h a = same_test (int_le (pos i) (int_min (int_max x (pos 0 -ℤ pos 1)) last)) false (λ p q. omega (arith, ints, clamps, h, a, p)) (λ p q. absurd (cc))

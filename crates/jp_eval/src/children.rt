@@ -229,13 +229,6 @@ fn has_falling(child: Cursor<'_>, count: u32, slice: Slice, index: u32) -> bool
     child.name().is_none() && has_downward(count, slice.first, slice.last, slice.step, index)
 }
 
-/// Whether an index follows the first that a slice with a step below 0 selects, of so many.
-fn is_behind(count: u32, first: Option<i64>, index: u32) -> bool
-    ensures { result ≡ int_lt (normal_of count (unwrap_or first (pos count -ℤ pos 1))) (pos index) }
-{
-    normal(count, first.unwrap_or(i64::from(count) - 1)) < i64::from(index)
-}
-
 /// The elements that a slice with a step below 0 selects, in their own order.
 fn falling_elements<'a>(alloc: Global, node: Cursor<'a>, slice: Slice) -> Result<Vec<Cursor<'a>>>
     requires { slice.step <ℤ pos 0 }
@@ -247,9 +240,6 @@ fn falling_elements<'a>(alloc: Global, node: Cursor<'a>, slice: Slice) -> Result
     let mut next = node.first_child();
     let mut index = 0;
     while let Some(child) = next {
-        if is_behind(count, slice.first, index) {
-            return Ok(found);
-        }
         if has_falling(child, count, slice, index) {
             found.push(child)?;
         }

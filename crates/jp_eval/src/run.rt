@@ -26,7 +26,6 @@ use crate::frame::{Answer, At, Frame};
 use crate::functions::{Function, in_pattern, length_of, read_passes};
 use crate::program::{Choice, Condition, Given, Invoked, Nodes, Side, Step};
 use crate::question::{Question, find_at};
-use crate::singular::value_of;
 use jp_query::CompareOp;
 use jp_tape::Cursor;
 use jp_values::{Value, compare_in};
@@ -312,7 +311,10 @@ impl<'r, 'a> At<'r, 'a> {
         ensures lends { Lends self.entry frame.old frame.new result }
         ensures value { IfOk result (λ b. b ≡ answered question.now (path_nodes (nodes_view (table_at self.entry) nodes.now) (here self.entry) (tree_at self.entry))) }
     {
-        if let Some(end) = self.singular_alone(nodes, frame) {
+        // What is kept is found once in a line, and asked here each time.
+        if !self.run.keeps(nodes, frame)
+            && let Some(end) = self.singular(nodes)
+        {
             return question.answer(self.run.alloc, end);
         }
         match question {
@@ -399,8 +401,10 @@ impl<'r, 'a> At<'r, 'a> {
         ensures sound { IfOk result (λ v. IsTrue (is_sound_value v)) }
         ensures value { IfOk result (λ v. value_view v ≡ single_value_of (path_nodes (nodes_view (table_at self.entry) nodes.now) (here self.entry) (tree_at self.entry))) }
     {
-        if let Some(end) = self.singular(nodes) {
-            return Ok(value_of(end));
+        match self.singular(nodes) {
+            Some(Some(node)) => return Ok(Value::Node(node)),
+            Some(None) => return Ok(Value::Nothing),
+            None => {}
         }
         let before = frame.found.len();
         let At { run, node, .. } = self;

@@ -20,8 +20,7 @@ use jp_values::Value;
 /// The node that any number of steps by names and indexes lead to, if there is one. None where another step is met.
 #[inline(never)]
 fn singular_path<'a>(steps: &[Step], start: Cursor<'a>) -> Option<Option<Cursor<'a>>>
-    ensures nodes { (table : Table) (t : Tree) → IfSome result (λ end. node_list end ≡ nodes_of (steps_view table steps.now) (node_of start.entry ∷ []) t) }
-    ensures line { IfSome result (λ end. IfSome end (λ c. line_of c ≡ line_of start.entry)) }
+    ensures { (table : Table) (t : Tree) → IfSome result (λ end. node_list end ≡ nodes_of (steps_view table steps.now) (node_of start.entry ∷ []) t) }
 {
     let mut node = start;
     for step in steps {
@@ -36,44 +35,16 @@ fn singular_path<'a>(steps: &[Step], start: Cursor<'a>) -> Option<Option<Cursor<
     Some(Some(node))
 }
 
-/// The value of a node, if there is one.
-#[inline(always)]
-pub(crate) fn value_of<'a>(end: Option<Cursor<'a>>) -> Value<'a>
-    ensures sound { IsTrue (is_sound_value result) }
-    ensures value { value_view result ≡ single_value (node_list end.entry) }
-{
-    match end {
-        Some(node) => Value::Node(node),
-        None => Value::Nothing,
-    }
-}
-
 impl<'r, 'a> At<'r, 'a> {
     /// The node that a query by names and indexes leads to, if there is one. None where another step is met.
     #[inline(always)]
     pub(crate) fn singular(self, nodes: &Nodes) -> Option<Option<Cursor<'a>>>
-        ensures nodes { IfSome result (λ end. node_list end ≡ path_nodes (nodes_view (table_at self.entry) nodes.now) (here self.entry) (tree_at self.entry)) }
-        ensures line { IfSome result (λ end. IfSome end (λ c. line_of c ≡ line_of self.entry.run.now.root.now)) }
+        ensures { IfSome result (λ end. node_list end ≡ path_nodes (nodes_view (table_at self.entry) nodes.now) (here self.entry) (tree_at self.entry)) }
     {
         match nodes {
             Nodes::Slot(place) => singular_path(self.run.enter(*place).1, *self.run.root),
             Nodes::Path(keys) => Some(find_at(keys, self.node)),
             Nodes::Current(_) => None,
         }
-    }
-
-    /// The node of a query of which nothing is kept. Of one that is kept, the node is looked for once in a line.
-    #[inline(always)]
-    pub(crate) fn singular_alone(
-        self,
-        nodes: &Nodes,
-        frame: &Frame<'a>,
-    ) -> Option<Option<Cursor<'a>>>
-        ensures { IfSome result (λ end. node_list end ≡ path_nodes (nodes_view (table_at self.entry) nodes.now) (here self.entry) (tree_at self.entry)) }
-    {
-        if self.run.keeps(nodes, frame) {
-            return None;
-        }
-        self.singular(nodes)
     }
 }

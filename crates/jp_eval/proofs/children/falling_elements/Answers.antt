@@ -1,5 +1,5 @@
 -- The child is added where the slice selects it.
-use Rattle.std.proofs.Common.{◌≡◌, ◌∙◌, ◌+◌, ◌++◌, ◌∷◌, [], List, ℕ, map, sym, ap, subst, append_assoc, append-nil, Option, Some, Vec, Global, Bool}
+use Rattle.std.proofs.Common.{◌≡◌, ◌∙◌, ◌+◌, ◌++◌, ◌∷◌, [], List, ℕ, map, sym, ap, subst, append_assoc, Option, Some, Vec, Global, Bool}
 use Rattle.std.proofs.lemmas.List.{map-append}
 use Rattle.std.proofs.lemmas.List.Elements.{All-push, All-same}
 use Rattle.jp_model.specs.Steps.{Step}
@@ -11,7 +11,6 @@ use Rattle.jp_eval.specs.Found.{AreOf}
 use Rattle.jp_eval.specs.Walks.{IsAt}
 use Rattle.jp_eval.proofs.Kept.{line_on, line_of_some}
 use Rattle.jp_eval.proofs.Walks.{at_next, chosen_from, chosen_here, passed_here}
-use Rattle.jp_eval.proofs.Slices.{none_fallen}
 use Rattle.jp_eval.proofs.children.falling_elements.Goals as goal
 use Rattle.jp_eval.proofs.children.falling_elements.Goals.{then-has_falling+in_ok-push, else-has_falling}
 
@@ -53,13 +52,3 @@ loop-next-preserved c =
       lines = now.1;
       line = line_on next _ _ c.next_sibling-next.ensures.line here;
     }
-
-pub returns-then-is_behind-clause-nodes : goal.returns-then-is_behind-clause-nodes
-returns-then-is_behind-clause-nodes c =
-    let n : Node = node_of c.args.node in
-    let s = c.args.slice in
-    let passes : Step → Bool = is_index (downward c.child_count-count.result s.first s.last s.step) in
-    let now : List Node = map node_of c.loop-next.found.items in
-    let none = none_fallen c.child_count-count.result s.first s.last s.step n c.loop-next.index c.loop-next.next (sym c.is_behind.ensures ∙ c.if-is_behind.true) in
-    let all : now ≡ children_where passes n = sym (append-nil now) ∙ (ap (λ (l : List Node). now ++ l) (sym none) ∙ c.loop-next.invariant.told) in
-    all ∙ ap (λ (k : ℕ). children_where (is_index (downward k s.first s.last s.step)) n) c.child_count-count.ensures.nodes

@@ -16,8 +16,8 @@ use Rattle.jp_eval.specs.declared.question.Key.{Key}
 use Rattle.jp_eval.proofs.Compiled.{path_is, slot_is}
 use Rattle.jp_eval.proofs.frame.At.singular.Goals as goal
 
-pub returns-in-Path-clause-nodes : goal.returns-in-Path-clause-nodes
-returns-in-Path-clause-nodes c =
+pub returns-in-Path : goal.returns-in-Path
+returns-in-Path c =
     let table : Table = table_in c.args.self.run.now in
     let t : Tree = tree_in c.args.self.run.now in
     let n : Node = node_of c.args.self.node in
@@ -25,8 +25,8 @@ returns-in-Path-clause-nodes c =
     ∙ (ap (λ (keys : List Key). nodes (steps_query (map key_view keys)) (n ∷ []) t) c.deref.ensures.value
     ∙ sym (ap (λ (p : Path). path_nodes p n t) (ap (nodes_view table) c.in-Path.is ∙ path_is table c.in-Path.keys)))
 
-pub returns-in-Slot-clause-nodes : goal.returns-in-Slot-clause-nodes
-returns-in-Slot-clause-nodes c =
+pub returns-in-Slot : goal.returns-in-Slot
+returns-in-Slot c =
     let table : Table = table_in c.args.self.run.now in
     let t : Tree = tree_in c.args.self.run.now in
     let n : Node = node_of c.args.self.node in
@@ -34,4 +34,4 @@ returns-in-Slot-clause-nodes c =
     let same : nodes (steps_view (table_in inner) c.enter.result.1.now) (node_of c.args.self.run.now.root.now ∷ []) (tree_in inner) ≡ path_nodes (nodes_view table c.args.nodes.now) n t =
     c.enter.ensures.nodes
     ∙ sym (ap (λ (p : Path). path_nodes p n t) (ap (nodes_view table) c.in-Slot.is ∙ slot_is table c.in-Slot.place)) in
-    subst (λ (l : List Node). IfSome c.singular_path.result (λ end. node_list end ≡ l)) same (c.singular_path.ensures.nodes (table_in inner) (tree_in inner))
+    subst (λ (l : List Node). IfSome c.singular_path.result (λ end. node_list end ≡ l)) same (c.singular_path.ensures (table_in inner) (tree_in inner))
