@@ -3,7 +3,7 @@
 //! The nodes are found node by node: for each child that the first step selects, the other steps go on from there. So no
 //! list is made in between, and a search for one node stops at the first.
 
-ghost use Rattle.std.specs.Prelude.{◌≡◌, ◌≤◌, [], ◌∷◌, ◌==◌, not, map, length, filter, flat_map, IfOk, IfSome, IsTrue};
+ghost use Rattle.std.specs.Prelude.{◌≡◌, ◌≤◌, [], ◌∷◌, ◌==◌, not, map, length, filter, flat_map, IfOk};
 ghost use Rattle.jp_model.specs.Meaning.Functions.{single_value as single_value_of, length_of as length_of_value};
 ghost use Rattle.jp_model.specs.Meaning.Compare.{compared};
 ghost use Rattle.jp_model.specs.Meaning.Nodes.{children, children_where, subtree};
@@ -11,13 +11,13 @@ ghost use Rattle.jp_model.specs.Meaning.Selecting.{selected, select, truth as tr
 ghost use Rattle.jp_model.specs.Meaning.Slices.{is_index, sliced};
 ghost use Rattle.jp_query.specs.View.{op_view};
 ghost use Rattle.jp_tape.specs.Cursors.{line_of, node_of};
+ghost use Rattle.jp_eval.specs.Answers.{IsValue};
 ghost use Rattle.jp_eval.specs.Expressions.{all_are};
 ghost use Rattle.jp_eval.specs.Found.{node_list, AreOf};
 ghost use Rattle.jp_eval.specs.Frames.{here, table_at, tree_at, reached, passes_given, AreKept, Stands, Pushes, Lends};
 ghost use Rattle.jp_eval.specs.Questions.{answered};
 ghost use Rattle.jp_eval.specs.Programs.{choices_view, choice_view, conditions_view, condition_view, side_view, nodes_view, invoked_view, given_view};
 ghost use Rattle.jp_eval.specs.Walks.{rises};
-ghost use Rattle.jp_values.specs.Values.{value_view, is_sound_value};
 
 use crate::Result;
 use crate::answers::no_answers;
@@ -355,8 +355,7 @@ impl<'r, 'a> At<'r, 'a> {
     fn side_value(self, side: &'r Side, frame: &mut Frame<'a>) -> Result<Value<'r>>
         requires { AreKept self.run.now frame.old.answers.items }
         ensures lends { Lends self.entry frame.old frame.new result }
-        ensures sound { IfOk result (λ v. IsTrue (is_sound_value v)) }
-        ensures value { IfOk result (λ v. value_view v ≡ compared_value (side_view (table_at self.entry) side.now) (here self.entry) (tree_at self.entry)) }
+        ensures value { IfOk result (λ v. IsValue v (compared_value (side_view (table_at self.entry) side.now) (here self.entry) (tree_at self.entry))) }
     {
         match side {
             Side::Constant(constant) => Ok(constant.value()),
@@ -398,8 +397,7 @@ impl<'r, 'a> At<'r, 'a> {
     fn find_single(self, nodes: &Nodes, frame: &mut Frame<'a>) -> Result<Value<'a>>
         requires { AreKept self.run.now frame.old.answers.items }
         ensures lends { Lends self.entry frame.old frame.new result }
-        ensures sound { IfOk result (λ v. IsTrue (is_sound_value v)) }
-        ensures value { IfOk result (λ v. value_view v ≡ single_value_of (path_nodes (nodes_view (table_at self.entry) nodes.now) (here self.entry) (tree_at self.entry))) }
+        ensures value { IfOk result (λ v. IsValue v (single_value_of (path_nodes (nodes_view (table_at self.entry) nodes.now) (here self.entry) (tree_at self.entry)))) }
     {
         match self.singular(nodes) {
             Some(Some(node)) => return Ok(Value::Node(node)),
@@ -467,8 +465,7 @@ impl<'r, 'a> At<'r, 'a> {
     fn single_value(self, nodes: &Nodes, frame: &mut Frame<'a>) -> Result<Value<'a>>
         requires { AreKept self.run.now frame.old.answers.items }
         ensures lends { Lends self.entry frame.old frame.new result }
-        ensures sound { IfOk result (λ v. IsTrue (is_sound_value v)) }
-        ensures value { IfOk result (λ v. value_view v ≡ single_value_of (path_nodes (nodes_view (table_at self.entry) nodes.now) (here self.entry) (tree_at self.entry))) }
+        ensures value { IfOk result (λ v. IsValue v (single_value_of (path_nodes (nodes_view (table_at self.entry) nodes.now) (here self.entry) (tree_at self.entry)))) }
     {
         if let Some(Answer::Single(value)) = self.run.kept(nodes, frame) {
             return Ok(value);
@@ -483,8 +480,7 @@ impl<'r, 'a> At<'r, 'a> {
     fn single_length(self, nodes: &Nodes, frame: &mut Frame<'a>) -> Result<Value<'a>>
         requires { AreKept self.run.now frame.old.answers.items }
         ensures lends { Lends self.entry frame.old frame.new result }
-        ensures sound { IfOk result (λ v. IsTrue (is_sound_value v)) }
-        ensures value { IfOk result (λ v. value_view v ≡ length_of_value (single_value_of (path_nodes (nodes_view (table_at self.entry) nodes.now) (here self.entry) (tree_at self.entry)))) }
+        ensures value { IfOk result (λ v. IsValue v (length_of_value (single_value_of (path_nodes (nodes_view (table_at self.entry) nodes.now) (here self.entry) (tree_at self.entry))))) }
     {
         if let Some(Answer::Length(value)) = self.run.kept(nodes, frame) {
             return Ok(value);
@@ -501,8 +497,7 @@ impl<'r, 'a> At<'r, 'a> {
     fn given_value(self, given: &'r Given, frame: &mut Frame<'a>) -> Result<Value<'r>>
         requires { AreKept self.run.now frame.old.answers.items }
         ensures lends { Lends self.entry frame.old frame.new result }
-        ensures sound { IfOk result (λ v. IsTrue (is_sound_value v)) }
-        ensures value { IfOk result (λ v. value_view v ≡ (given_by (given_view (table_at self.entry) given.now) (here self.entry) (tree_at self.entry)).value) }
+        ensures value { IfOk result (λ v. IsValue v (given_by (given_view (table_at self.entry) given.now) (here self.entry) (tree_at self.entry)).value) }
     {
         match given {
             Given::Constant(constant) => Ok(constant.value()),
@@ -518,8 +513,7 @@ impl<'r, 'a> At<'r, 'a> {
     fn given_length(self, given: &'r Given, frame: &mut Frame<'a>) -> Result<Value<'r>>
         requires { AreKept self.run.now frame.old.answers.items }
         ensures lends { Lends self.entry frame.old frame.new result }
-        ensures sound { IfOk result (λ v. IsTrue (is_sound_value v)) }
-        ensures value { IfOk result (λ v. value_view v ≡ length_of_value (given_by (given_view (table_at self.entry) given.now) (here self.entry) (tree_at self.entry)).value) }
+        ensures value { IfOk result (λ v. IsValue v (length_of_value (given_by (given_view (table_at self.entry) given.now) (here self.entry) (tree_at self.entry)).value)) }
     {
         if let Given::Nodes(nodes) = given {
             return self.single_length(nodes, frame);
@@ -533,8 +527,7 @@ impl<'r, 'a> At<'r, 'a> {
     fn call_value(self, invoked: &'r Invoked, frame: &mut Frame<'a>) -> Result<Value<'r>>
         requires { AreKept self.run.now frame.old.answers.items }
         ensures lends { Lends self.entry frame.old frame.new result }
-        ensures sound { IfOk result (λ v. IsTrue (is_sound_value v)) }
-        ensures value { IfOk result (λ v. value_view v ≡ call_value_of (invoked_view (table_at self.entry) invoked.now) (here self.entry) (tree_at self.entry)) }
+        ensures value { IfOk result (λ v. IsValue v (call_value_of (invoked_view (table_at self.entry) invoked.now) (here self.entry) (tree_at self.entry))) }
     {
         let [given] = invoked.arguments.as_slice() else {
             return Ok(Value::Nothing);

@@ -13,7 +13,8 @@ use Rattle.jp_model.proofs.Seek.{no_nodes}
 use Rattle.jp_tape.specs.declared.cursor.Cursor.{Cursor}
 use Rattle.jp_tape.specs.Cursors.{line_of, place_of, node_of, nodes_from, nodes_after}
 use Rattle.jp_values.specs.declared.value.Value.{Value as Side}
-use Rattle.jp_values.specs.Values.{value_view}
+use Rattle.jp_values.specs.Values.{value_view, is_sound_value}
+use Rattle.jp_eval.specs.Answers.{IsValue}
 use Rattle.jp_eval.specs.Frames.{table_in, slot_nodes, passes_given, AreKept, Pushes}
 use Rattle.jp_eval.specs.Functions.{passing}
 use Rattle.jp_eval.specs.Questions.{answered}
@@ -295,29 +296,27 @@ find_single-returns-clause-value t c =
     let found : List Node = path_nodes (nodes_view (table_in c.args.self.run.now) c.args.nodes.now) (node_of c.args.self.node) (node_of c.args.self.run.now.root.now).tree in
     let old : length c.args.frame.now.found.items ≡ c.len-before.result = sym (c.len-before.ensures ∙ c.args.frame.now.found.ok.0) in
     let now : c.len.result ≡ length new.items = c.len.ensures ∙ new.ok.0 in
-    elim c.if-len-before.branch [
-      | find_single-then-len-before w ↦
-          (ap value_view w.value-is
-          ∙ single_found _ c.args.frame.now.found.items new.items c.len-before.result found w.index.result.now c.in_ok-push_nodes.ensures.adds old c.in_ok-push_nodes.ensures.nodes (sym now ∙ w.if-len-before.true) (sym w.index.ensures))
-      | find_single-else-len-before w ↦
-          (ap value_view w.value-is ∙ none_single _ c.args.frame.now.found.items new.items c.len-before.result found c.in_ok-push_nodes.ensures.adds old c.in_ok-push_nodes.ensures.nodes (λ e. w.if-len-before.false (now ∙ e)))
-    ]
-
-pub single_value-returns-in-Some-Single-clause-sound : goal.single_value-returns-in-Some-Single-clause-sound
-single_value-returns-in-Some-Single-clause-sound t c =
-    (told_before c.args.self.run.now c.args.nodes.now (node_of c.args.self.node) c.kept.result _ c.kept.ensures (c.in-Some-Single.is ∙ ap (λ (a : Answer). Some a) c.in-Some-Single.field-0-is)).sound
+    record {
+      sound = elim c.if-len-before.branch [
+        | find_single-then-len-before w ↦ ap is_sound_value w.value-is
+        | find_single-else-len-before w ↦ ap is_sound_value w.value-is
+      ];
+      value = elim c.if-len-before.branch [
+        | find_single-then-len-before w ↦
+            (ap value_view w.value-is
+            ∙ single_found _ c.args.frame.now.found.items new.items c.len-before.result found w.index.result.now c.in_ok-push_nodes.ensures.adds old c.in_ok-push_nodes.ensures.nodes (sym now ∙ w.if-len-before.true) (sym w.index.ensures))
+        | find_single-else-len-before w ↦
+            (ap value_view w.value-is ∙ none_single _ c.args.frame.now.found.items new.items c.len-before.result found c.in_ok-push_nodes.ensures.adds old c.in_ok-push_nodes.ensures.nodes (λ e. w.if-len-before.false (now ∙ e)))
+      ];
+    }
 
 pub single_value-returns-in-Some-Single-clause-value : goal.single_value-returns-in-Some-Single-clause-value
 single_value-returns-in-Some-Single-clause-value t c =
-    (told_before c.args.self.run.now c.args.nodes.now (node_of c.args.self.node) c.kept.result _ c.kept.ensures (c.in-Some-Single.is ∙ ap (λ (a : Answer). Some a) c.in-Some-Single.field-0-is)).value
-
-pub single_length-returns-in-Some-Length-clause-sound : goal.single_length-returns-in-Some-Length-clause-sound
-single_length-returns-in-Some-Length-clause-sound t c =
-    (told_before c.args.self.run.now c.args.nodes.now (node_of c.args.self.node) c.kept.result _ c.kept.ensures (c.in-Some-Length.is ∙ ap (λ (a : Answer). Some a) c.in-Some-Length.field-0-is)).sound
+    told_before c.args.self.run.now c.args.nodes.now (node_of c.args.self.node) c.kept.result _ c.kept.ensures (c.in-Some-Single.is ∙ ap (λ (a : Answer). Some a) c.in-Some-Single.field-0-is)
 
 pub single_length-returns-in-Some-Length-clause-value : goal.single_length-returns-in-Some-Length-clause-value
 single_length-returns-in-Some-Length-clause-value t c =
-    (told_before c.args.self.run.now c.args.nodes.now (node_of c.args.self.node) c.kept.result _ c.kept.ensures (c.in-Some-Length.is ∙ ap (λ (a : Answer). Some a) c.in-Some-Length.field-0-is)).value
+    told_before c.args.self.run.now c.args.nodes.now (node_of c.args.self.node) c.kept.result _ c.kept.ensures (c.in-Some-Length.is ∙ ap (λ (a : Answer). Some a) c.in-Some-Length.field-0-is)
 
 -- ---- calls
 
@@ -329,7 +328,7 @@ call_truth-returns-in_default-2-clause-value t c = many_called (table_in c.args.
 
 pub match_given-returns-clause-value : goal.match_given-returns-clause-value
 match_given-returns-clause-value t c =
-    subst (λ (v : Bool). IfOk c.in_pattern.result (λ b. b ≡ v)) (ap₂ (λ (x y : Option Value). in_pattern (passing c.args.whole) x y) c.in_ok-text.ensures.value c.in_ok-pattern.ensures.value) c.in_pattern.ensures
+    subst (λ (v : Bool). IfOk c.in_pattern.result (λ b. b ≡ v)) (ap₂ (λ (x y : Option Value). in_pattern (passing c.args.whole) x y) c.in_ok-text.ensures.value.value c.in_ok-pattern.ensures.value.value) c.in_pattern.ensures
 
 pub match_given-returns-in-Pattern-clause-value : goal.match_given-returns-in-Pattern-clause-value
 match_given-returns-in-Pattern-clause-value t c =
@@ -338,16 +337,19 @@ match_given-returns-in-Pattern-clause-value t c =
     let spelled : Option Value = Some (literal_value (literal_view pattern.constant.literal)) in
     let second : value c.args.pattern.now ≡ spelled = ap value c.in-Pattern.is ∙ ap (λ (a : syntax.Argument). (given_by a (node_of c.args.self.node) (node_of c.args.self.run.now.root.now).tree).value) (pattern_given (table_in c.args.self.run.now) pattern) in
     ∥∥₁_elim pattern.spelled (one_proof c.read_passes.result _)
-    (λ e. subst (λ (v : Bool). IfOk c.read_passes.result (λ b. b ≡ v)) (ap₂ (λ (x y : Option Value). in_pattern (passing c.args.whole) x y) c.in_ok-text.ensures.value (sym second)) (told c.read_passes.result (passing c.args.whole) _ (value_view c.in_ok-text.text) spelled e c.read_passes.ensures))
+    (λ e. subst (λ (v : Bool). IfOk c.read_passes.result (λ b. b ≡ v)) (ap₂ (λ (x y : Option Value). in_pattern (passing c.args.whole) x y) c.in_ok-text.ensures.value.value (sym second)) (told c.read_passes.result (passing c.args.whole) _ (value_view c.in_ok-text.text) spelled e c.read_passes.ensures))
 
 pub call_value-returns-in_default-clause-value : goal.call_value-returns-in_default-clause-value
 call_value-returns-in_default-clause-value t c =
     let n : Node = node_of c.args.self.node in
     let u : Tree = (node_of c.args.self.run.now.root.now).tree in
-    elim c.in_default.branch [
-      | call_value-in_default-via-then-as_slice-lt1 w ↦ none_called (table_in c.args.self.run.now) c.args.invoked.now c.as_slice.result.now n u c.as_slice.ensures.value (ltb-true (length c.as_slice.result.now) 1 w.if-as_slice-lt1-1.true)
-      | call_value-in_default-via-else-as_slice-lt1+else-this-lt2 w ↦ several_called (table_in c.args.self.run.now) c.args.invoked.now c.as_slice.result.now n u c.as_slice.ensures.value (ltb-false (length c.as_slice.result.now) 2 w.if-this-lt2-1.false)
-    ]
+    record {
+      sound = refl;
+      value = elim c.in_default.branch [
+        | call_value-in_default-via-then-as_slice-lt1 w ↦ none_called (table_in c.args.self.run.now) c.args.invoked.now c.as_slice.result.now n u c.as_slice.ensures.value (ltb-true (length c.as_slice.result.now) 1 w.if-as_slice-lt1-1.true)
+        | call_value-in_default-via-else-as_slice-lt1+else-this-lt2 w ↦ several_called (table_in c.args.self.run.now) c.args.invoked.now c.as_slice.result.now n u c.as_slice.ensures.value (ltb-false (length c.as_slice.result.now) 2 w.if-this-lt2-1.false)
+      ];
+    }
 
 pub call_value-returns-in_ok-count_nodes-in-Nodes-clause-value : goal.call_value-returns-in_ok-count_nodes-in-Nodes-clause-value
 call_value-returns-in_ok-count_nodes-in-Nodes-clause-value t c =
@@ -359,7 +361,7 @@ call_value-returns-in_ok-count_nodes-in-Nodes-clause-value t c =
     let is_count : call.named.function ≡ Some functions.Count = sym c.which.ensures ∙ (c.in-Some-Count.is ∙ ap (λ (o : Function). Some o) c.in-Some-Count.field-0-is) in
     let seen = called (table_in c.args.self.run.now) call items functions.Count are is_count in
     let nodes_is = ap (λ (a : syntax.Argument). length (given_by a n u).nodes) (ap (given_view (table_in c.args.self.run.now)) c.in-Nodes.is ∙ nodes_given (table_in c.args.self.run.now) c.in-Nodes.nodes) in
-    ap (λ (k : ℕ). Some (counted k)) (c.in_ok-count_nodes-in-Nodes.ensures.value ∙ sym nodes_is) ∙ sym (ap (λ (v : syntax.Call). call_value v n u) seen)
+    record { sound = refl; value = ap (λ (k : ℕ). Some (counted k)) (c.in_ok-count_nodes-in-Nodes.ensures.value ∙ sym nodes_is) ∙ sym (ap (λ (v : syntax.Call). call_value v n u) seen) }
 
 pub call_value-returns-in-Nodes-given-clause-value : goal.call_value-returns-in-Nodes-given-clause-value
 call_value-returns-in-Nodes-given-clause-value t c =
@@ -371,7 +373,7 @@ call_value-returns-in-Nodes-given-clause-value t c =
     let is_value : call.named.function ≡ Some functions.Value = sym c.which.ensures ∙ (c.in-Some-Value.is ∙ ap (λ (o : Function). Some o) c.in-Some-Value.field-0-is) in
     let seen = called (table_in c.args.self.run.now) call items functions.Value are is_value in
     let nodes_is = ap (λ (a : syntax.Argument). single_value (given_by a n u).nodes) (ap (given_view (table_in c.args.self.run.now)) c.in-Nodes-given.is ∙ nodes_given (table_in c.args.self.run.now) c.in-Nodes-given.nodes) in
-    subst (λ (v : Option Value). IfOk c.single_value.result (λ (r : Side). value_view r ≡ v)) (sym nodes_is ∙ sym (ap (λ (v : syntax.Call). call_value v n u) seen)) c.single_value.ensures.value
+    subst (λ (v : Option Value). IfOk c.single_value.result (λ (r : Side). IsValue r v)) (sym nodes_is ∙ sym (ap (λ (v : syntax.Call). call_value v n u) seen)) c.single_value.ensures.value
 
 -- ---- slices
 
@@ -551,7 +553,7 @@ ask-returns-in_ok-value-in-Passes-clause-value t c =
     let found : List Node = path_nodes (nodes_view (table_in c.args.self.run.now) c.args.nodes.now) (node_of c.args.self.node) (node_of c.args.self.run.now.root.now).tree in
     let test = passing c.in-Passes.whole in
     let is : in_pattern test own spelled ≡ answered c.args.question.now found =
-    ap (λ (v : Option Value). in_pattern test v spelled) c.in_ok-value-in-Passes.ensures.value ∙ sym (ap (λ (q : Question). answered q found) c.in-Passes.is) in
+    ap (λ (v : Option Value). in_pattern test v spelled) c.in_ok-value-in-Passes.ensures.value.value ∙ sym (ap (λ (q : Question). answered q found) c.in-Passes.is) in
     ∥∥₁_elim pattern.spelled (one_proof c.read_passes.result _)
     (λ e. subst (λ (b : Bool). IfOk c.read_passes.result (λ a. a ≡ b)) is (told c.read_passes.result test _ own spelled e c.read_passes.ensures))
 
