@@ -110,17 +110,6 @@ fn node_passes(alloc: Global, pattern: &Pattern, whole: bool, node: Cursor<'_>) 
     }
 }
 
-/// Whether the value is a string that passes a pattern: all of it, or a part of it.
-fn value_passes(alloc: Global, pattern: &Pattern, whole: bool, value: Value<'_>) -> Result<bool>
-    ensures { IfOk result (λ b. b ≡ passes_as_string (passing whole) (pattern_view pattern.now) (value_view value.entry)) }
-{
-    match value {
-        Value::Node(node) => node_passes(alloc, pattern, whole, node),
-        Value::Constant(Literal::Text(text)) => text_passes(alloc, pattern, whole, text.as_str()),
-        _ => Ok(false),
-    }
-}
-
 /// Whether the value is a string that passes the pattern that was read, if there is one.
 pub(crate) fn read_passes(
     alloc: Global,
@@ -130,9 +119,13 @@ pub(crate) fn read_passes(
 ) -> Result<bool>
     ensures { IfOk result (λ b. b ≡ passes_where_read (passing whole) (option_map pattern_view read.now) (value_view value.entry)) }
 {
-    match read {
-        Some(pattern) => value_passes(alloc, pattern, whole, value),
-        None => Ok(false),
+    let Some(pattern) = read else {
+        return Ok(false);
+    };
+    match value {
+        Value::Node(node) => node_passes(alloc, pattern, whole, node),
+        Value::Constant(Literal::Text(text)) => text_passes(alloc, pattern, whole, text.as_str()),
+        _ => Ok(false),
     }
 }
 
