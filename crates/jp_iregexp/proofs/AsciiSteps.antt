@@ -6,8 +6,8 @@ use Rattle.std.proofs.lemmas.Str.{chars-append, chars-IsAscii, IsUtf8-from_ascii
 use Rattle.std.specs.Str.{chars, IsAscii}
 use Rattle.jp_iregexp.specs.declared.automaton.Automaton.{Automaton}
 use Rattle.jp_iregexp.specs.Layouts.{place_of}
-use Rattle.jp_iregexp.specs.Places.{Holds, IsStep, Leads, WaitsBehind}
-use Rattle.jp_iregexp.proofs.Leading.{stepped, leads_nowhere}
+use Rattle.jp_iregexp.specs.Places.{Place, Holds, IsStep, Leads, WaitsBehind}
+use Rattle.jp_iregexp.proofs.Leading.{stepped}
 use Rattle.jp_iregexp.proofs.Masks.{masked_step}
 
 one_ascii : (b : ℕ) → b < 128 → IsAscii (b ∷ [])
@@ -41,8 +41,8 @@ none_waits after q = ((λ h. let z = bit_at-zero q in absurd (omega (arith, z, h
 pub none_behind : (a : Automaton) (waiting byte ready : ℕ) → byte < 128 → ready ≡ bit_and waiting (get_or a.ascii.items byte 0) → ready ≡ 0 → IsStep (map place_of a.places.items) waiting byte 0
 none_behind a waiting byte ready few is none = ready_step a waiting byte 0 0 few (sym none ∙ is) (none_waits a.after.items)
 
--- and the text leads nowhere
-pub none_ready : (a : Automaton) (waiting byte ready : ℕ) (text : List ℕ) → byte < 128 → ready ≡ bit_and waiting (get_or a.ascii.items byte 0) → ready ≡ 0 → Leads (map place_of a.places.items) waiting (byte ∷ text) → ⊥
-none_ready a waiting byte ready text few is none h =
-    let step = none_behind a waiting byte ready few is none in
-    leads_nowhere (map place_of a.places.items) text ((stepped (map place_of a.places.items) waiting 0 byte text step).0 h)
+-- the places that wait lead over the rest of a text exactly where those behind an ASCII byte lead over what follows it
+pub leads_byte : (places : List Place) (waiting next : ℕ) (text bytes : List ℕ) (i : ℕ) → bytes ≡ text → i < length bytes → slice_index bytes i < 128 → IsStep places waiting (slice_index bytes i) next
+    → Leads places waiting (chars (drop i text)) ↔ Leads places next (chars (drop (i + 1) text))
+leads_byte places waiting next text bytes i same inside few step =
+    subst (λ r. Leads places waiting r ↔ Leads places next (chars (drop (i + 1) text))) (sym (ascii_cut text bytes i same inside few)) (stepped places waiting next (slice_index bytes i) (chars (drop (i + 1) text)) step)

@@ -7,6 +7,7 @@ use Rattle.std.specs.Int.Bits.{or_zero_r}
 use lib.Bits.{bit_and}
 use Rattle.std.proofs.lemmas.Nat.Bits.{bit_at_or, bit_at_and, bit_at_not, bit_at-lt, bit_at-zero, bit_at_set_same, bit_at_set_other, bit_at-trailing_zeros, bit_at_ones, bit_at_ones_above, ones_shr}
 use Rattle.std.proofs.Math.ListN.{get_or-eq_default}
+use Rattle.jp_iregexp.specs.declared.window.Window.{Window}
 use Rattle.jp_iregexp.specs.Words.{word_of}
 
 -- two numbers are the same or they are not
@@ -203,6 +204,13 @@ word_bit words n word q kept e h = subst (λ x. bit_at x (q % 64) ≡ 1) kept (s
 
 bit_of_word : (words : ℕ → ℕ) (n word q : ℕ) → words n ≡ word → q / 64 ≡ n → bit_at word (q % 64) ≡ 1 → BitOf words q
 bit_of_word words n word q kept e h = subst (λ v. bit_at (words v) (q % 64) ≡ 1) (sym e) (subst (λ x. bit_at x (q % 64) ≡ 1) (sym kept) h)
+
+-- the words of a window, by their numbers
+abbrev pub words_in : Window → ℕ → ℕ
+words_in window w = word_of window.first window.words.items w
+
+pub kept_in : (window : Window) (items : List ℕ) (i : ℕ) → items ≡ window.words.items → words_in window (window.first + i) ≡ get_or items i 0
+kept_in window items i is = word_kept window.first window.words.items i ∙ ap (λ x. get_or x i 0) (sym is)
 
 -- a word of the other set is put in
 module _ (start other old new : ℕ → ℕ) (n word : ℕ) (kept : other n ≡ word) (at : new n ≡ bit_or (old n) word) (rest : (v : ℕ) → v ≢ n → new v ≡ old v) where

@@ -1,9 +1,11 @@
 -- Where a part of a text leads from the start to the end.
-use Rattle.std.proofs.Common.{◌≡◌, ℕ, ◌⊎◌, inl, inr, List, [], ◌∷◌, ◌++◌, bit_or, refl, sym, ◌∙◌, ap, subst, append_assoc}
+use Rattle.std.proofs.Common.{◌≡◌, ℕ, ◌+◌, ◌<◌, ◌⊎◌, inl, inr, List, [], ◌∷◌, ◌++◌, length, drop, slice_index, bit_or, refl, sym, ◌∙◌, ap, subst, append_assoc}
+use Rattle.std.specs.Str.{chars}
 use Rattle.jp_model.specs.Pattern.Language.{Occurs}
 use Rattle.jp_iregexp.specs.Places.{Place, Holds, Leads, IsStep}
 use Rattle.jp_iregexp.proofs.Sums.{holds_right, leads_left, leads_either}
 use Rattle.jp_iregexp.proofs.Leading.{stepped}
+use Rattle.jp_iregexp.proofs.AsciiSteps.{ascii_cut}
 
 -- some front of the text leads to the end
 pub record FrontLeads (places : List Place) (set : ℕ) (text : List ℕ) : Type 0 where
@@ -76,3 +78,9 @@ not_found places starts waiting text s o = elim (s.complete o) [
   | inl f ↦ at_last places waiting f.front f.rest f.is f.leads
   | inr p ↦ s.begun 63 (at_last places starts p.inside p.after (nothing_before p.before (p.inside ++ p.after) p.is) p.member)
 ]
+
+-- one byte of an ASCII scalar more is asked
+pub find_byte : (places : List Place) (starts waiting next : ℕ) (text bytes : List ℕ) (i : ℕ) → bytes ≡ text → i < length bytes → slice_index bytes i < 128 → IsFinding places starts waiting (chars (drop i text)) (chars text) → (Holds waiting 63 → ⊥)
+    → IsStep places waiting (slice_index bytes i) next → IsFinding places starts (bit_or next starts) (chars (drop (i + 1) text)) (chars text)
+find_byte places starts waiting next text bytes i same inside few s not_yet step =
+    find_on places starts waiting next (slice_index bytes i) (chars (drop (i + 1) text)) (chars text) (subst (λ r. IsFinding places starts waiting r (chars text)) (ascii_cut text bytes i same inside few) s) not_yet step

@@ -7,7 +7,7 @@ use Rattle.jp_model.specs.Pattern.Language.{Language, Splits, Repeats, RepeatsWi
 use Rattle.jp_iregexp.specs.declared.automaton.Place.{Place as ProgramPlace}
 use Rattle.jp_iregexp.specs.declared.node.Node.{Node}
 use Rattle.jp_iregexp.specs.Places.{Place, IsLaidOut, entry, place_at}
-use Rattle.jp_iregexp.specs.Layouts.{place_of, LaidOnto, Turns}
+use Rattle.jp_iregexp.specs.Layouts.{place_of, LaidOnto, Turns, left_of}
 use Rattle.jp_iregexp.specs.Nodes.{class_of}
 use Rattle.jp_iregexp.proofs.Sums.{grown, one, nothing, chained, either, any, same}
 use Rattle.jp_iregexp.proofs.Parts.{drop_item, drop_past}
@@ -153,15 +153,16 @@ from_within Member most zero count x enough few r = record { count = count; enou
 from_within Member most (suc n) zero x enough few r = absurd (omega arith)
 from_within Member most (suc n) (suc count) x enough few r = record { front = r.front; rest = r.rest; is = r.is; first = r.first; second = from_within Member most n count r.rest (omega arith) (few_less n count most few) r.second }
 
-pub laid_none : (old new : List ProgramPlace) (Member : List ℕ → Type 0) (least behind first : ℕ) (e : Bool) → LaidOnto old new (Turns Member (RepeatsWithin Member 0 None) least) behind first e → LaidOnto old new (RepeatsWithin Member least None) behind first e
-laid_none old new Member least behind first e a =
-    laid_same old new (Turns Member (RepeatsWithin Member 0 None) least) (RepeatsWithin Member least None) behind first e (λ x t. to_within Member None least x t) (λ x w. from_within Member None least w.count x w.enough w.few w.repeats) a
-
-pub laid_some : (old new : List ProgramPlace) (Member : List ℕ → Type 0) (least most behind first : ℕ) (e : Bool) → least ≤ most → LaidOnto old new (Turns Member (RepeatsWithin Member 0 (Some (most - least))) least) behind first e → LaidOnto old new (RepeatsWithin Member least (Some most)) behind first e
-laid_some old new Member least most behind first e l a =
-    let whole : least + (most - least) ≡ most = omega arith in
-    subst (λ m. LaidOnto old new (RepeatsWithin Member least (Some m)) behind first e) whole
-    (laid_same old new (Turns Member (RepeatsWithin Member 0 (Some (most - least))) least) (RepeatsWithin Member least (Some (least + (most - least)))) behind first e (λ x t. to_within Member (Some (most - least)) least x t) (λ x w. from_within Member (Some (most - least)) least w.count x w.enough w.few w.repeats) a)
+pub laid_turns : (old new : List ProgramPlace) (Member : List ℕ → Type 0) (least : ℕ) (most : Option ℕ) (behind first : ℕ) (e : Bool) → IfSome most (λ m. least ≤ m) → LaidOnto old new (Turns Member (RepeatsWithin Member 0 (left_of least most)) least) behind first e
+    → LaidOnto old new (RepeatsWithin Member least most) behind first e
+laid_turns old new Member least most behind first e l a =
+    subst (λ m. LaidOnto old new (RepeatsWithin Member least m) behind first e) (whole most l)
+    (laid_same old new (Turns Member (RepeatsWithin Member 0 (left_of least most)) least) (RepeatsWithin Member least (more_by least (left_of least most))) behind first e
+    (λ x t. to_within Member (left_of least most) least x t) (λ x w. from_within Member (left_of least most) least w.count x w.enough w.few w.repeats) a)
+  where
+    whole : (m : Option ℕ) → IfSome m (λ n. least ≤ n) → more_by least (left_of least m) ≡ m
+    whole None l = refl
+    whole (Some n) l = ap Some (omega arith)
 
 -- ---- the loops over parts
 

@@ -1,5 +1,5 @@
 -- The places of a program's parts.
-use Rattle.std.specs.Prelude.{ℕ, zero, suc, ◌≡◌, Bool, List, ◌++◌, map}
+use Rattle.std.specs.Prelude.{ℕ, zero, suc, ◌≡◌, Bool, List, ◌++◌, map, ◌-◌, Option, None, Some}
 use Rattle.jp_model.specs.Pattern.Language.{Splits}
 use Rattle.jp_iregexp.specs.declared.automaton.Place.{Place as ProgramPlace}
 use Rattle.jp_iregexp.specs.Places.{Place, IsLaidOut}
@@ -19,3 +19,8 @@ pub record LaidOnto (old new : List ProgramPlace) (Member : List ℕ → Type 0)
 abbrev pub Turns : (Member Rest : List ℕ → Type 0) → ℕ → List ℕ → Type 0
 Turns Member Rest zero text = Rest text
 Turns Member Rest (suc count) text = Splits Member (Turns Member Rest count) text
+
+-- how many may follow the least ones, where at most so many are allowed
+abbrev pub left_of : ℕ → Option ℕ → Option ℕ
+left_of least None = None
+left_of least (Some most) = Some (most - least)

@@ -1,11 +1,11 @@
 //! The places of a pattern's parts.
 
-ghost use Rattle.std.specs.Prelude.{◌≡◌, ◌&&◌, ◌||◌, IfOk, bit_or, map, true, Some, None};
+ghost use Rattle.std.specs.Prelude.{◌≡◌, ◌≤◌, ◌&&◌, ◌||◌, IfOk, bit_or, map, true, Some, None};
 ghost use Rattle.std.specs.Option.{IfSome};
 ghost use Rattle.jp_model.specs.Pattern.Language.{Language, RepeatsWithin};
 ghost use Rattle.jp_model.specs.Pattern.Tree.{one_of};
 ghost use Rattle.jp_iregexp.specs.Places.{entry, Accepts};
-ghost use Rattle.jp_iregexp.specs.Layouts.{LaidOnto, place_of};
+ghost use Rattle.jp_iregexp.specs.Layouts.{LaidOnto, left_of, place_of};
 ghost use Rattle.jp_iregexp.specs.Nodes.{tree_of, class_of, sequence_list, choice_list};
 
 use crate::automaton::{Automaton, END, MOST_PLACES, Place};
@@ -186,38 +186,41 @@ impl Layout {
     ) -> Result<Option<Entry>, AllocError>
         ensures { IfOk result (λ found. IfSome found (λ e. LaidOnto self.old.places.items self.new.places.items (RepeatsWithin (Language (tree_of body.now)) least most) behind e.first e.has_empty)) }
     {
+        let Some(further) = self.further(alloc, body, least, most, behind)? else {
+            return Ok(None);
+        };
+        let mut entry = further;
+        for turn in 0..least {
+            let waiting = entry.before(behind);
+            let Some(front) = self.part(alloc, body, waiting)? else {
+                return Ok(None);
+            };
+            entry = front.then(entry);
+        }
+        Ok(Some(entry))
+    }
+
+    // The turns that may follow the least ones. It gives up where fewer than those are allowed.
+    #[cycle(layout)]
+    fn further(
+        &mut self,
+        alloc: Global,
+        body: &Node,
+        least: u32,
+        most: Option<u32>,
+        behind: u64,
+    ) -> Result<Option<Entry>, AllocError>
+        ensures enough { IfOk result (λ found. IfSome found (λ _. IfSome most (λ most. least ≤ most))) }
+        ensures laid { IfOk result (λ found. IfSome found (λ e. LaidOnto self.old.places.items self.new.places.items (RepeatsWithin (Language (tree_of body.now)) 0 (left_of least most)) behind e.first e.has_empty)) }
+    {
         match most {
             Some(most) => {
                 if most < least {
                     return Ok(None);
                 }
-                let Some(few) = self.up_to(alloc, body, most - least, behind)? else {
-                    return Ok(None);
-                };
-                let mut entry = few;
-                for turn in 0..least {
-                    let waiting = entry.before(behind);
-                    let Some(front) = self.part(alloc, body, waiting)? else {
-                        return Ok(None);
-                    };
-                    entry = front.then(entry);
-                }
-                Ok(Some(entry))
+                self.up_to(alloc, body, most - least, behind)
             }
-            None => {
-                let Some(many) = self.any(alloc, body, behind)? else {
-                    return Ok(None);
-                };
-                let mut whole = many;
-                for count in 0..least {
-                    let awaited = whole.before(behind);
-                    let Some(head) = self.part(alloc, body, awaited)? else {
-                        return Ok(None);
-                    };
-                    whole = head.then(whole);
-                }
-                Ok(Some(whole))
-            }
+            None => self.any(alloc, body, behind),
         }
     }
 

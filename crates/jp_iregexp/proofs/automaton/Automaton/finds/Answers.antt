@@ -1,12 +1,12 @@
-use Rattle.std.proofs.Common.{ℕ, ◌+◌, ◌≤◌, length, drop, map, slice_index, refl, sym, ◌∙◌, ap, subst, arith}
+use Rattle.std.proofs.Common.{ℕ, ◌+◌, ◌≤◌, length, drop, map, refl, sym, ◌∙◌, ap, subst, arith}
 use Rattle.std.proofs.lemmas.List.{at_drop_all}
 use Rattle.std.proofs.lemmas.Str.{chars-nil}
 use Rattle.std.specs.Int.Bits.{or_zero_l}
 use Rattle.std.specs.Str.{chars}
 use Rattle.jp_iregexp.specs.Layouts.{place_of}
 use Rattle.jp_iregexp.specs.Places.{Holds}
-use Rattle.jp_iregexp.proofs.AsciiSteps.{ascii_cut, ready_step, none_behind}
-use Rattle.jp_iregexp.proofs.Finding.{IsFinding, start_finding, is_found, find_on, not_found}
+use Rattle.jp_iregexp.proofs.AsciiSteps.{ready_step, none_behind}
+use Rattle.jp_iregexp.proofs.Finding.{IsFinding, start_finding, is_found, find_byte, not_found}
 use Rattle.jp_iregexp.proofs.automaton.Automaton.finds.Goals as goal
 use Rattle.jp_iregexp.proofs.automaton.Automaton.finds.Goals.{then-ready-eq0, else-ready-eq0+else-has_end-2}
 
@@ -20,23 +20,16 @@ pub loop-byte-preserved : goal.loop-byte-preserved
 loop-byte-preserved c =
     let l = c.loop-byte in
     let it = c.args.self.now in
-    let places = map place_of it.places.items in
     let text = c.args.text.now in
-    let bytes = c.as_bytes-byte-items.result.now in
-    let byte = slice_index bytes l.byte-index in
-    let rest = chars (drop (l.byte-index + 1) text) in
-    let cut = ascii_cut text bytes l.byte-index c.as_bytes-byte-items.ensures.value c.loop-byte-test.true c.in-Some.ensures.ascii in
-    let here = subst (λ r. IsFinding places it.starts l.waiting r (chars text)) cut l.invariant.0 in
-    let kept = λ (waiting : ℕ). IsFinding places it.starts waiting rest (chars text) × (Holds it.starts 63 → ⊥) × (Holds waiting 63 → ⊥) in
+    let kept = λ (waiting : ℕ). IsFinding (map place_of it.places.items) it.starts waiting (chars (drop (l.byte-index + 1) text)) (chars text) × (Holds it.starts 63 → ⊥) × (Holds waiting 63 → ⊥) in
+    let on = λ (next : ℕ). find_byte (map place_of it.places.items) it.starts l.waiting next text c.as_bytes-byte-items.result.now l.byte-index c.as_bytes-byte-items.ensures.value c.loop-byte-test.true c.in-Some.ensures.ascii l.invariant.0 l.invariant.2 in
     elim c.if-ready-eq0.branch [
       | then-ready-eq0 w ↦
-          let step = none_behind it l.waiting byte c.in-Some.ready c.in-Some.ensures.ascii c.in-Some.ensures.ready w.if-ready-eq0.true in
-          let on = find_on places it.starts l.waiting 0 byte rest (chars text) here l.invariant.2 step in
-          subst kept (sym w.waiting-is) (subst (λ n. IsFinding places it.starts n rest (chars text)) (or_zero_l it.starts) on, l.invariant.1, l.invariant.1)
+          let found = on 0 (none_behind it l.waiting _ c.in-Some.ready c.in-Some.ensures.ascii c.in-Some.ensures.ready w.if-ready-eq0.true) in
+          subst kept (sym w.waiting-is) (subst (λ n. IsFinding (map place_of it.places.items) it.starts n (chars (drop (l.byte-index + 1) text)) (chars text)) (or_zero_l it.starts) found, l.invariant.1, l.invariant.1)
       | else-ready-eq0+else-has_end-2 w ↦
-          let step = ready_step it l.waiting byte c.in-Some.ready w.behind.result c.in-Some.ensures.ascii c.in-Some.ensures.ready w.behind.ensures in
-          let on = find_on places it.starts l.waiting w.behind.result byte rest (chars text) here l.invariant.2 step in
-          subst kept (sym w.waiting-is) (on, l.invariant.1, λ h. absurd (let yes = w.has_end-else-ready-eq0.ensures.1 h in let no = w.if-has_end-2.false in cc))
+          let found = on w.behind.result (ready_step it l.waiting _ c.in-Some.ready w.behind.result c.in-Some.ensures.ascii c.in-Some.ensures.ready w.behind.ensures) in
+          subst kept (sym w.waiting-is) (found, l.invariant.1, λ h. absurd (let yes = w.has_end-else-ready-eq0.ensures.1 h in let no = w.if-has_end-2.false in cc))
     ]
 
 pub returns-then-has_end : goal.returns-then-has_end
@@ -52,16 +45,9 @@ pub returns-then-has_end-2 : goal.returns-then-has_end-2
 returns-then-has_end-2 c =
     let l = c.loop-byte in
     let it = c.args.self.now in
-    let places = map place_of it.places.items in
-    let text = c.args.text.now in
-    let bytes = c.as_bytes-byte-items.result.now in
-    let byte = slice_index bytes l.byte-index in
-    let rest = chars (drop (l.byte-index + 1) text) in
-    let cut = ascii_cut text bytes l.byte-index c.as_bytes-byte-items.ensures.value c.loop-byte-test.true c.in-Some.ensures.ascii in
-    let here = subst (λ r. IsFinding places it.starts l.waiting r (chars text)) cut l.invariant.0 in
-    let step = ready_step it l.waiting byte c.in-Some.ready c.behind.result c.in-Some.ensures.ascii c.in-Some.ensures.ready c.behind.ensures in
-    let on = find_on places it.starts l.waiting c.behind.result byte rest (chars text) here l.invariant.2 step in (
-      (λ h. is_found places it.starts _ rest (chars text) on (c.has_end-else-ready-eq0.ensures.0 c.if-has_end-2.true)),
+    let step = ready_step it l.waiting _ c.in-Some.ready c.behind.result c.in-Some.ensures.ascii c.in-Some.ensures.ready c.behind.ensures in
+    let found = find_byte (map place_of it.places.items) it.starts l.waiting c.behind.result c.args.text.now c.as_bytes-byte-items.result.now l.byte-index c.as_bytes-byte-items.ensures.value c.loop-byte-test.true c.in-Some.ensures.ascii l.invariant.0 l.invariant.2 step in (
+      (λ h. is_found (map place_of it.places.items) it.starts _ _ _ found (c.has_end-else-ready-eq0.ensures.0 c.if-has_end-2.true)),
       (λ o. refl),
     )
 

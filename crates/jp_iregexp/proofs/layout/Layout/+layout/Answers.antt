@@ -1,13 +1,13 @@
-use Rattle.std.proofs.Common.{rules, ◌≡◌, ◌+◌, ◌-◌, [], length, drop, take, Some, None, arith, sym, ap, ◌∙◌, subst, bit_or}
+use Rattle.std.proofs.Common.{rules, ◌≡◌, ◌≤◌, ◌+◌, ◌-◌, [], length, drop, take, Some, arith, sym, ap, ◌∙◌, subst, bit_or}
 use Rattle.std.specs.Option.{IfSome}
 use Rattle.jp_model.specs.Pattern.Language.{Language, RepeatsWithin}
 use Rattle.jp_model.specs.Pattern.Tree.{Pattern}
 use Rattle.jp_iregexp.specs.declared.layout.Entry.{Entry}
 use Rattle.jp_iregexp.specs.declared.node.Node.{Node}
-use Rattle.jp_iregexp.specs.Layouts.{LaidOnto, Turns}
+use Rattle.jp_iregexp.specs.Layouts.{LaidOnto, Turns, left_of}
 use Rattle.jp_iregexp.specs.Nodes.{tree_of, sequence_list, choice_list}
 use Rattle.jp_iregexp.proofs.Parts.{tree_of_Sequence, tree_of_Choice}
-use Rattle.jp_iregexp.proofs.Layouts.{some_of, laid_any, laid_nothing, none_yet, trial_gone, then_by, either_by, up_to_by, turn_by, laid_some, laid_none, last_part, no_part}
+use Rattle.jp_iregexp.proofs.Layouts.{some_of, laid_any, laid_nothing, none_yet, trial_gone, then_by, either_by, up_to_by, turn_by, laid_turns, last_part, no_part}
 use Rattle.jp_iregexp.proofs.layout.Layout.+layout.Goals as goal
 
 pub part-returns-in_ok-found-in-Sequence : goal.part-returns-in_ok-found-in-Sequence
@@ -80,40 +80,21 @@ up_to-loop-turn-preserved t c =
     up_to_by c.args.self.now.places.items c.loop-turn.self.places.items c.part.new.self.places.items member c.loop-turn.turn (c.loop-turn.turn + 1) c.args.behind c.before-waiting.result c.in-Some.front.first c.loop-turn.entry.first c.then-more.result.first c.in-Some.front.has_empty c.loop-turn.entry.has_empty
     (omega arith) c.loop-turn.invariant a c.before-waiting.ensures c.then-more.ensures.first
 
+pub repeated-loop-turn-init : goal.repeated-loop-turn-init
+repeated-loop-turn-init t c =
+    some_of (λ (e : Entry). LaidOnto c.args.self.now.places.items c.further.new.self.places.items (RepeatsWithin (Language (tree_of c.args.body.now)) 0 (left_of c.args.least c.args.most)) c.args.behind e.first e.has_empty) _ c.in-Some.further c.in-Some.is c.in_ok-further.ensures.laid
+
 pub repeated-loop-turn-preserved : goal.repeated-loop-turn-preserved
 repeated-loop-turn-preserved t c =
     let member = Language (tree_of c.args.body.now) in
-    let a = some_of (λ (e : Entry). LaidOnto c.loop-turn.self.places.items c.part.new.self.places.items member c.before-waiting.result e.first e.has_empty) _ c.in-Some-3.front c.in-Some-3.is c.in_ok-front-in-Some.ensures in
-    turn_by c.args.self.now.places.items c.loop-turn.self.places.items c.part.new.self.places.items member (RepeatsWithin member 0 (Some (c.in-Some.most - c.args.least))) c.loop-turn.turn (c.loop-turn.turn + 1) c.args.behind c.before-waiting.result c.in-Some-3.front.first c.loop-turn.entry.first c.then-entry.result.first c.in-Some-3.front.has_empty c.loop-turn.entry.has_empty c.then-entry.result.has_empty
+    let a = some_of (λ (e : Entry). LaidOnto c.loop-turn.self.places.items c.part.new.self.places.items member c.before-waiting.result e.first e.has_empty) _ c.in-Some-2.front c.in-Some-2.is c.in_ok-front.ensures in
+    turn_by c.args.self.now.places.items c.loop-turn.self.places.items c.part.new.self.places.items member (RepeatsWithin member 0 (left_of c.args.least c.args.most)) c.loop-turn.turn (c.loop-turn.turn + 1) c.args.behind c.before-waiting.result c.in-Some-2.front.first c.loop-turn.entry.first c.then-entry.result.first c.in-Some-2.front.has_empty c.loop-turn.entry.has_empty c.then-entry.result.has_empty
     (omega arith) c.loop-turn.invariant a c.before-waiting.ensures c.then-entry.ensures.first c.then-entry.ensures.has_empty
 
-pub repeated-loop-count-preserved : goal.repeated-loop-count-preserved
-repeated-loop-count-preserved t c =
+pub repeated-returns : goal.repeated-returns
+repeated-returns t c =
     let member = Language (tree_of c.args.body.now) in
-    let a = some_of (λ (e : Entry). LaidOnto c.loop-count.self.places.items c.part-in-loop-count.new.self.places.items member c.before-awaited.result e.first e.has_empty) _ c.in-Some-5.head c.in-Some-5.is c.in_ok-head-in-None.ensures in
-    turn_by c.args.self.now.places.items c.loop-count.self.places.items c.part-in-loop-count.new.self.places.items member (RepeatsWithin member 0 None) c.loop-count.count (c.loop-count.count + 1) c.args.behind c.before-awaited.result c.in-Some-5.head.first c.loop-count.whole.first c.then-whole.result.first c.in-Some-5.head.has_empty c.loop-count.whole.has_empty c.then-whole.result.has_empty
-    (omega arith) c.loop-count.invariant a c.before-awaited.ensures c.then-whole.ensures.first c.then-whole.ensures.has_empty
-
-pub repeated-returns-after-loop-turn : goal.repeated-returns-after-loop-turn
-repeated-returns-after-loop-turn t c =
-    let member = Language (tree_of c.args.body.now) in
-    let old = c.args.self.now.places.items in
-    let new = c.loop-turn.self.places.items in
-    let first = c.loop-turn.entry.first in
-    let e = c.loop-turn.entry.has_empty in
     let all : c.loop-turn.turn ≡ c.args.least = omega arith in
-    subst (λ m. LaidOnto old new (RepeatsWithin member c.args.least m) c.args.behind first e) (sym c.in-Some.is)
-    (laid_some old new member c.args.least c.in-Some.most c.args.behind first e (omega arith)
-    (subst (λ n. LaidOnto old new (Turns member (RepeatsWithin member 0 (Some (c.in-Some.most - c.args.least))) n) c.args.behind first e) all c.loop-turn.invariant))
-
-pub repeated-returns-after-loop-count : goal.repeated-returns-after-loop-count
-repeated-returns-after-loop-count t c =
-    let member = Language (tree_of c.args.body.now) in
-    let old = c.args.self.now.places.items in
-    let new = c.loop-count.self.places.items in
-    let first = c.loop-count.whole.first in
-    let e = c.loop-count.whole.has_empty in
-    let all : c.loop-count.count ≡ c.args.least = omega arith in
-    subst (λ m. LaidOnto old new (RepeatsWithin member c.args.least m) c.args.behind first e) (sym c.in-None.is)
-    (laid_none old new member c.args.least c.args.behind first e
-    (subst (λ n. LaidOnto old new (Turns member (RepeatsWithin member 0 None) n) c.args.behind first e) all c.loop-count.invariant))
+    let enough = some_of (λ (e : Entry). IfSome c.args.most (λ m. c.args.least ≤ m)) _ c.in-Some.further c.in-Some.is c.in_ok-further.ensures.enough in
+    laid_turns c.args.self.now.places.items c.loop-turn.self.places.items member c.args.least c.args.most c.args.behind c.loop-turn.entry.first c.loop-turn.entry.has_empty enough
+    (subst (λ n. LaidOnto c.args.self.now.places.items c.loop-turn.self.places.items (Turns member (RepeatsWithin member 0 (left_of c.args.least c.args.most)) n) c.args.behind c.loop-turn.entry.first c.loop-turn.entry.has_empty) all c.loop-turn.invariant)

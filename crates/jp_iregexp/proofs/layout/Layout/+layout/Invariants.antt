@@ -1,6 +1,6 @@
-use Rattle.std.proofs.Common.{◌-◌, length, drop, Some, None}
+use Rattle.std.proofs.Common.{◌-◌, length, drop, Some}
 use Rattle.jp_model.specs.Pattern.Language.{Language, RepeatsWithin}
-use Rattle.jp_iregexp.specs.Layouts.{LaidOnto, Turns}
+use Rattle.jp_iregexp.specs.Layouts.{LaidOnto, Turns, left_of}
 use Rattle.jp_iregexp.specs.Nodes.{tree_of, sequence_list, choice_list}
 use Rattle.jp_iregexp.proofs.layout.Layout.+layout.Given as goal
 
@@ -8,10 +8,7 @@ abbrev pub invariant-choice-loop-k : goal.invariant-choice-loop-k
 invariant-choice-loop-k l = LaidOnto l.fn.self.places.items l.self.places.items (Language (choice_list (drop (length l.parts - l.k) l.parts))) l.behind l.entry.first l.entry.has_empty
 
 abbrev pub invariant-repeated-loop-turn : goal.invariant-repeated-loop-turn
-invariant-repeated-loop-turn l = LaidOnto l.fn.self.places.items l.self.places.items (Turns (Language (tree_of l.body)) (RepeatsWithin (Language (tree_of l.body)) 0 (Some (l.most - l.least))) l.turn) l.behind l.entry.first l.entry.has_empty
-
-abbrev pub invariant-repeated-loop-count : goal.invariant-repeated-loop-count
-invariant-repeated-loop-count l = LaidOnto l.fn.self.places.items l.self.places.items (Turns (Language (tree_of l.body)) (RepeatsWithin (Language (tree_of l.body)) 0 None) l.count) l.behind l.whole.first l.whole.has_empty
+invariant-repeated-loop-turn l = LaidOnto l.fn.self.places.items l.self.places.items (Turns (Language (tree_of l.body)) (RepeatsWithin (Language (tree_of l.body)) 0 (left_of l.least l.fn.most)) l.turn) l.behind l.entry.first l.entry.has_empty
 
 abbrev pub invariant-sequence-loop-k : goal.invariant-sequence-loop-k
 invariant-sequence-loop-k l = LaidOnto l.fn.self.places.items l.self.places.items (Language (sequence_list (drop (length l.parts - l.k) l.parts))) l.behind l.entry.first l.entry.has_empty
