@@ -9,7 +9,7 @@ ghost use Rattle.jp_cli.specs.Listed.{listed};
 
 use jp_model::Watched;
 use jp_query::SingularPath;
-use jp_rows::{WriteFault, write_count, write_steps, write_whole};
+use jp_rows::{QueryPart, WriteFault, write_count, write_whole};
 use jp_store::Store;
 use std::io::Write;
 
@@ -28,7 +28,7 @@ fn write_path_line<W: Write>(path: &SingularPath, out: &mut Watched<W>) -> Resul
     ensures fault { out.new.failed ≡ is_err result }
     ensures after { out.new.after ≡ out.old.after }
 {
-    write_steps(path, out)?;
+    QueryPart::Path(path).write(out)?;
     write_whole(b"\n", out)
 }
 

@@ -16,7 +16,7 @@ use crate::route::{Route, find_route};
 use crate::segments::push_segments;
 use crate::text::{op_text, push_decimal, push_literal};
 use jp_index::laws;
-use jp_rows::push_steps;
+use jp_rows::QueryPart;
 use jp_store::Store;
 use std::alloc::AllocError;
 
@@ -29,7 +29,7 @@ fn push_seek(store: &Store, seek: Option<u32>, out: &mut Vec<u8>) -> Result<(), 
         return Ok(());
     };
     out.extend_from_slice(b"seek ")?;
-    push_steps(path_at(store, place), out)?;
+    QueryPart::Path(path_at(store, place)).push_to(out)?;
     out.extend_from_slice(b"\n")
 }
 
@@ -43,7 +43,7 @@ fn push_guard(store: &Store, guard: Option<Guard<'_>>, out: &mut Vec<u8>) -> Res
         return Ok(());
     };
     out.extend_from_slice(b"guard ")?;
-    push_steps(path_at(store, guard.index), out)?;
+    QueryPart::Path(path_at(store, guard.index)).push_to(out)?;
     out.extend_from_slice(b" ")?;
     out.extend_from_slice(op_text(guard.op))?;
     out.extend_from_slice(b" ")?;

@@ -10,7 +10,7 @@ ghost use Rattle.jp_plan.specs.Walks.{name_alone, option_step_text, part_text};
 
 use crate::text::push_decimal;
 use jp_query::{Segment, Selector, singular_selector};
-use jp_rows::{push_index_step, push_name_step};
+use jp_rows::QueryPart;
 use std::alloc::AllocError;
 
 /// The name that a selector selects, if it selects by name.
@@ -52,7 +52,7 @@ fn push_descendants(selectors: &[Selector], out: &mut Vec<u8>) -> Result<(), All
     match only_name(selectors) {
         Some(name) => {
             out.extend_from_slice(b"descend-name ")?;
-            push_name_step(name, out)?;
+            QueryPart::Name(name).push_to(out)?;
             out.extend_from_slice(b"\n")
         }
         None => {
@@ -78,8 +78,8 @@ fn push_step(selector: &Selector, out: &mut Vec<u8>) -> Result<(), AllocError>
     ensures { OnOk result (out.new.items ≡ out.old.items ++ option_step_text (selector_step (selector_view selector.now))) }
 {
     match selector {
-        Selector::Name(name) => push_name_step(name, out),
-        Selector::Index(index) => push_index_step(*index, out),
+        Selector::Name(name) => QueryPart::Name(name).push_to(out),
+        Selector::Index(index) => QueryPart::Index(*index).push_to(out),
         Selector::Wildcard | Selector::Slice { .. } | Selector::Filter(_) => Ok(()),
     }
 }

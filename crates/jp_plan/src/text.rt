@@ -7,7 +7,7 @@ ghost use Rattle.jp_query.specs.View.{literal_view, op_view};
 
 use itoa::Buffer;
 use jp_query::{CompareOp, Literal};
-use jp_rows::push_quoted;
+use jp_rows::QueryPart;
 use std::alloc::AllocError;
 
 /// Appends a number in decimal to a text.
@@ -42,6 +42,6 @@ pub(crate) fn push_literal(literal: &Literal, out: &mut Vec<u8>) -> Result<(), A
         Literal::False => out.extend_from_slice(b"false"),
         Literal::True => out.extend_from_slice(b"true"),
         Literal::Number(spelling) => out.extend_from_slice(spelling),
-        Literal::Text(text) => push_quoted(text, out),
+        Literal::Text(text) => QueryPart::Quoted(text).push_to(out),
     }
 }

@@ -1,4 +1,4 @@
-//! The paths of indexes: written, and appended to a text.
+//! Parts of a singular query's text: written, and appended to a text.
 
 ghost use Rattle.std.specs.Prelude.{◌≡◌, ◌++◌, chars, false, is_err, encode_utf8_all, take, IsOk, IsErr, OnOk, OnErr};
 ghost use Rattle.jp_model.specs.Devices.{Writes};
@@ -6,6 +6,7 @@ ghost use Rattle.jp_model.specs.Meaning.Paths.{path_text, quoted, step_text};
 ghost use Rattle.jp_model.specs.Steps.{index_step, name_step};
 ghost use Rattle.jp_query.specs.SingularPaths.{path_steps, step_view};
 ghost use Rattle.jp_rows.specs.Names.{name_text};
+ghost use Rattle.jp_rows.specs.Parts.{part_text};
 
 use crate::names::{write_index_step, write_scalar};
 use crate::whole::{WriteFault, write_whole};
@@ -14,6 +15,19 @@ use jp_query::{SingularPath, Step};
 use std::alloc::AllocError;
 use std::io::Write;
 use std::mem;
+
+/// A part of a singular query, spelled as in a normalized path (RFC 9535, section 2.7).
+#[derive(Clone, Copy)]
+pub enum QueryPart<'a> {
+    /// A whole path. Its indexes may be negative.
+    Path(&'a SingularPath),
+    /// The step to the member of a name.
+    Name(&'a str),
+    /// The step to the element of an index. Below 0 it counts from the end.
+    Index(i64),
+    /// A name or a string between single quotes (normal-name-selector).
+    Quoted(&'a str),
+}
 
 /// Writes what is between the quotes of a name or a string.
 fn write_scalars<W: Write>(text: &str, out: &mut Watched<W>) -> Result<(), WriteFault>
@@ -65,10 +79,8 @@ fn write_singular_step<W: Write>(step: &Step, out: &mut Watched<W>) -> Result<()
     }
 }
 
-/// Writes the path of an index as a normalized path is written (RFC 9535, section 2.7); its indexes may be negative.
-///
-/// After an `Err` the writer received a beginning of the path: no write follows one that failed or took no byte.
-pub fn write_steps<W: Write>(path: &SingularPath, out: &mut Watched<W>) -> Result<(), WriteFault>
+/// Writes a path.
+fn write_steps<W: Write>(path: &SingularPath, out: &mut Watched<W>) -> Result<(), WriteFault>
     requires { out.old.failed ≡ false }
     ensures text { Writes W.contents out.old out.new result (path_text (path_steps path.now)) }
     ensures fault { out.new.failed ≡ is_err result }
@@ -93,67 +105,37 @@ fn settle(held: usize, written: Result<(), WriteFault>, out: &mut Vec<u8>) -> Re
     Err(AllocError)
 }
 
-/// Appends to a text what `write_steps` writes.
-///
-/// # Errors
-///
-/// Memory ran out. The text is as before.
-pub fn push_steps(path: &SingularPath, out: &mut Vec<u8>) -> Result<(), AllocError>
-    ensures text { OnOk result (out.new.items ≡ out.old.items ++ path_text (path_steps path.now)) }
-    ensures kept { OnErr result (out.new.items ≡ out.old.items) }
-{
-    let held = out.len();
-    let mut writer = Watched::new(mem::try_take(out)?);
-    let written = write_steps(path, &mut writer);
-    *out = writer.into_inner();
-    settle(held, written, out)
-}
+impl QueryPart<'_> {
+    /// Writes the part.
+    ///
+    /// After an `Err` the writer received a beginning of it: no write follows one that failed or took no byte.
+    pub fn write<W: Write>(self, out: &mut Watched<W>) -> Result<(), WriteFault>
+        requires { out.old.failed ≡ false }
+        ensures text { Writes W.contents out.old out.new result (part_text self.entry) }
+        ensures fault { out.new.failed ≡ is_err result }
+        ensures after { out.new.after ≡ out.old.after }
+    {
+        match self {
+            QueryPart::Path(path) => write_steps(path, out),
+            QueryPart::Name(name) => write_named_step(name, out),
+            QueryPart::Index(index) => write_index_step(index, out),
+            QueryPart::Quoted(text) => write_quoted(text, out),
+        }
+    }
 
-/// Appends a name or a string between single quotes to a text (RFC 9535, section 2.7: normal-name-selector).
-///
-/// # Errors
-///
-/// Memory ran out. The text is as before.
-pub fn push_quoted(text: &str, out: &mut Vec<u8>) -> Result<(), AllocError>
-    ensures text { OnOk result (out.new.items ≡ out.old.items ++ encode_utf8_all (quoted (chars text.now))) }
-    ensures kept { OnErr result (out.new.items ≡ out.old.items) }
-{
-    let held = out.len();
-    let mut writer = Watched::new(mem::try_take(out)?);
-    let written = write_quoted(text, &mut writer);
-    *out = writer.into_inner();
-    settle(held, written, out)
-}
-
-/// Appends the step to the member of a name to a text, as a normalized path has it (RFC 9535, section 2.7).
-///
-/// # Errors
-///
-/// Memory ran out. The text is as before.
-pub fn push_name_step(name: &str, out: &mut Vec<u8>) -> Result<(), AllocError>
-    ensures text { OnOk result (out.new.items ≡ out.old.items ++ encode_utf8_all (step_text (name_step (chars name.now)))) }
-    ensures kept { OnErr result (out.new.items ≡ out.old.items) }
-{
-    let held = out.len();
-    let mut writer = Watched::new(mem::try_take(out)?);
-    let written = write_named_step(name, &mut writer);
-    *out = writer.into_inner();
-    settle(held, written, out)
-}
-
-/// Appends the step to the element of an index to a text, as a normalized path has it (RFC 9535, section 2.7). Below 0 it
-/// counts from the end.
-///
-/// # Errors
-///
-/// Memory ran out. The text is as before.
-pub fn push_index_step(index: i64, out: &mut Vec<u8>) -> Result<(), AllocError>
-    ensures text { OnOk result (out.new.items ≡ out.old.items ++ encode_utf8_all (step_text (index_step index))) }
-    ensures kept { OnErr result (out.new.items ≡ out.old.items) }
-{
-    let held = out.len();
-    let mut writer = Watched::new(mem::try_take(out)?);
-    let written = write_index_step(index, &mut writer);
-    *out = writer.into_inner();
-    settle(held, written, out)
+    /// Appends to a text what `write` writes.
+    ///
+    /// # Errors
+    ///
+    /// Memory ran out. The text is as before.
+    pub fn push_to(self, out: &mut Vec<u8>) -> Result<(), AllocError>
+        ensures text { OnOk result (out.new.items ≡ out.old.items ++ part_text self.entry) }
+        ensures kept { OnErr result (out.new.items ≡ out.old.items) }
+    {
+        let held = out.len();
+        let mut writer = Watched::new(mem::try_take(out)?);
+        let written = self.write(&mut writer);
+        *out = writer.into_inner();
+        settle(held, written, out)
+    }
 }

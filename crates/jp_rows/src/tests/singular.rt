@@ -1,7 +1,7 @@
 //! The paths of indexes, and quoted texts.
 
 use super::with_room;
-use crate::{push_index_step, push_name_step, push_quoted, push_steps, write_steps};
+use crate::QueryPart;
 use jp_model::Watched;
 use jp_query::{SingularPath, parse, singular};
 use std::alloc::Global;
@@ -38,10 +38,10 @@ fn steps_are_written(rt: HostRuntime) -> Result<(), Fail> {
     for (query, want) in paths {
         let path = path_of(rt.alloc(), query).ok_or("not singular")?;
         let mut out = Watched::new(Vec::new(rt.alloc()));
-        assert!(rt; write_steps(&path, &mut out).is_ok());
+        assert!(rt; QueryPart::Path(&path).write(&mut out).is_ok());
         assert_eq!(rt; out.into_inner().as_slice(), want);
         let mut text = Vec::from_slice(rt.alloc(), b"seek ")?;
-        push_steps(&path, &mut text)?;
+        QueryPart::Path(&path).push_to(&mut text)?;
         assert!(rt; text.as_slice().starts_with(b"seek $"));
         assert_eq!(rt; &text[5..], want);
     }
@@ -54,7 +54,7 @@ fn no_write_of_a_path_follows_a_failed_one(rt: HostRuntime) -> Result<(), Fail> 
     let text = b"$['a'][-1]['\\n']";
     for room in 0..=text.len() {
         let mut out = Watched::new(with_room(rt.alloc(), room, true));
-        let result = write_steps(&path, &mut out);
+        let result = QueryPart::Path(&path).write(&mut out);
         assert_eq!(rt; result.is_err(), room < text.len());
         assert_eq!(rt; out.after(), 0);
         let held = out.into_inner().held;
@@ -67,12 +67,12 @@ fn no_write_of_a_path_follows_a_failed_one(rt: HostRuntime) -> Result<(), Fail> 
 #[test]
 fn texts_are_quoted(rt: HostRuntime) -> Result<(), Fail> {
     let mut out = Vec::from_slice(rt.alloc(), b"== ")?;
-    push_quoted("it's \\ \u{8}\u{1f}\u{20ac}\"", &mut out)?;
+    QueryPart::Quoted("it's \\ \u{8}\u{1f}\u{20ac}\"").push_to(&mut out)?;
     assert_eq!(rt;
         out.as_slice(),
         b"== 'it\\'s \\\\ \\b\\u001f\xE2\x82\xAC\"'".as_slice()
     );
-    push_quoted("", &mut out)?;
+    QueryPart::Quoted("").push_to(&mut out)?;
     assert!(rt; out.as_slice().ends_with(b"\"'''"));
     Ok(())
 }
@@ -80,9 +80,9 @@ fn texts_are_quoted(rt: HostRuntime) -> Result<(), Fail> {
 #[test]
 fn steps_are_put_behind_a_text(rt: HostRuntime) -> Result<(), Fail> {
     let mut out = Vec::from_slice(rt.alloc(), b"walk ")?;
-    push_name_step("it's", &mut out)?;
-    push_index_step(-2, &mut out)?;
-    push_index_step(10, &mut out)?;
+    QueryPart::Name("it's").push_to(&mut out)?;
+    QueryPart::Index(-2).push_to(&mut out)?;
+    QueryPart::Index(10).push_to(&mut out)?;
     assert_eq!(rt; out.as_slice(), b"walk ['it\\'s'][-2][10]".as_slice());
     Ok(())
 }

@@ -6,4 +6,4 @@ use Rattle.jp_rows.proofs.Chains.{ends_behind}
 use Rattle.jp_cli.proofs.listing.write_path_line.Goals as goal
 
 pub returns-clause-text : goal.returns-clause-text
-returns-clause-text g c = ends_behind c.write_whole.result _ _ _ (path_text (path_steps c.args.path.now)) line_feed c.in_ok-write_steps.ensures.text c.write_whole.ensures.text
+returns-clause-text g c = ends_behind c.write_whole.result _ _ _ (path_text (path_steps c.args.path.now)) line_feed c.in_ok-write.ensures.text c.write_whole.ensures.text
