@@ -81,6 +81,11 @@ at_end remaining s0 s1 old taken room worked e left none some = record {
   nothing_left = left none some;
 }
 
+-- the same, where there was room for a byte
+pub at_end_with_room : {R : Type 0} (remaining : R → Option (List ℕ)) (s0 s1 : Device R) (old : Bool) (taken : ℕ) (bytes buffer : List ℕ) (room size left : ℕ) → s0.failed ≡ false → s1.ended ≡ (old || (eqb taken 0 && ltb 0 (length bytes)))
+    → (taken ≡ 0 → 0 < length bytes → HasEnded remaining s1) → taken ≡ 0 → length bytes ≡ length (take room buffer) → room ≡ min (size + 1) (left + 1) → length buffer ≡ size + 1 → CameToEnd remaining s0 s1
+at_end_with_room remaining s0 s1 old taken bytes buffer room size left worked e ends none f g h = at_end remaining s0 s1 old taken bytes worked e ends none (some_room bytes buffer room size left f g h)
+
 module _ (query_of : List ℕ → QueryStatus) (asked : List ℕ → Command) (setup : Setup) {R W : Type 0} (remaining : R → Option (List ℕ)) (contents : W → Option (List ℕ)) where
   -- a read that failed
   pub stopped_read : (s0 s1 s2 : Device R) (o0 o1 : Device W) (old new : Progress) (held : List ℕ) (count : ℕ)
@@ -220,6 +225,12 @@ module _ (query_of : List ℕ → QueryStatus) (asked : List ℕ → Command) (s
     ran = so.ran;
     open_is = so.open_is;
   }
+
+  -- the writer was flushed, and no byte more came
+  pub flushed_at_end : (s0 s1 s2 : Device R) (o0 o1 o2 : Device W) (old new : Progress) (held : List ℕ) (count n : ℕ) (piece : List ℕ)
+      → SoFar query_of asked setup remaining contents s0 s1 o0 o1 old new held count → Keeps (contents o1.device) (contents o2.device) → Gave remaining s1 s2 (take n piece) → n ≡ 0 → SoFar query_of asked setup remaining contents s0 s2 o0 o2 old new held count
+  flushed_at_end s0 s1 s2 o0 o1 o2 old new held count n piece so keeps gave none =
+      ended s0 s1 s2 o0 o2 old new held count n piece (flushed s0 s1 o0 o1 o2 old new held count so keeps) gave none
 
   -- the whole script is run
   pub all_run : (s0 s1 : Device R) (o0 o1 : Device W) (old new : Progress) (held : List ℕ) (count : ℕ)

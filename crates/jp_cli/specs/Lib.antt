@@ -1,4 +1,5 @@
 -- What the contracts of the engine speak of.
+pub mod Arguments
 pub mod Commands
 pub mod Ends
 pub mod Found

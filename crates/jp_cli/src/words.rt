@@ -1,10 +1,11 @@
 //! What the program's arguments ask for.
 
-ghost use Rattle.std.specs.Prelude.{◌≡◌, true, false, IfOk, List, Some, codes, map, option_map, ◌∷◌, []};
+ghost use Rattle.std.specs.Prelude.{◌≡◌, true, IfOk, List, Some, codes, map, option_map, ◌∷◌, []};
 ghost use Rattle.std.specs.Option.{is_some, option_map_or};
-ghost use Rattle.clap.specs.Built.{IsParsedFrom, IsPlainArg, TakesValue};
-ghost use Rattle.clap.specs.Words.{FailsBy, app_of, first_of, first_value, found_of, rule_of};
+ghost use Rattle.clap.specs.Built.{IsParsedFrom, TakesValue};
+ghost use Rattle.clap.specs.Words.{FailsBy, app_of, first_of, first_value, found_of};
 ghost use Rattle.clap.specs.declared.parser.matches.ArgMatches.{ArgMatches};
+ghost use Rattle.jp_cli.specs.Arguments.{IsArgument};
 ghost use Rattle.jp_cli.specs.Words.{command_rule, commands_in, faults_in, file_rule, found_in, framing_of, parse_faults, program, script_rule, seq_rule, source_faults};
 
 use clap::error::ErrorKind;
@@ -139,9 +140,7 @@ const NO_SCRIPT: &str =
 
 /// `FILE`, which has to be there.
 fn file_argument<'a>(alloc: Global) -> Arg<'a>
-    ensures rule { rule_of result ≡ file_rule }
-    ensures id { result.id.now ≡ codes "file" }
-    ensures plain { IsPlainArg result × (result.global ≡ false) }
+    ensures argument { IsArgument result file_rule (codes "file") }
     ensures value { TakesValue result }
 {
     Arg::new(alloc, "file")
@@ -153,9 +152,7 @@ fn file_argument<'a>(alloc: Global) -> Arg<'a>
 
 /// `-c COMMAND`, as often as wanted.
 fn command_argument<'a>(alloc: Global) -> Arg<'a>
-    ensures rule { rule_of result ≡ command_rule }
-    ensures id { result.id.now ≡ codes "command" }
-    ensures plain { IsPlainArg result × (result.global ≡ false) }
+    ensures { IsArgument result command_rule (codes "command") }
 {
     Arg::new(alloc, "command")
         .help("Runs this command; may be given several times")
@@ -167,9 +164,7 @@ fn command_argument<'a>(alloc: Global) -> Arg<'a>
 
 /// `--script FILE`.
 fn script_argument<'a>(alloc: Global) -> Arg<'a>
-    ensures rule { rule_of result ≡ script_rule }
-    ensures id { result.id.now ≡ codes "script" }
-    ensures plain { IsPlainArg result × (result.global ≡ false) }
+    ensures { IsArgument result script_rule (codes "script") }
 {
     Arg::new(alloc, "script")
         .help("Reads commands from this file, one per line")
@@ -180,9 +175,7 @@ fn script_argument<'a>(alloc: Global) -> Arg<'a>
 
 /// The flag `--seq`.
 fn seq_argument<'a>(alloc: Global) -> Arg<'a>
-    ensures rule { rule_of result ≡ seq_rule }
-    ensures id { result.id.now ≡ codes "seq" }
-    ensures plain { IsPlainArg result × (result.global ≡ false) }
+    ensures { IsArgument result seq_rule (codes "seq") }
 {
     Arg::new(alloc, "seq")
         .help("FILE is a JSON text sequence (RFC 7464)")

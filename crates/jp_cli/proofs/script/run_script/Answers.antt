@@ -5,7 +5,7 @@ use Rattle.std.proofs.lemmas.List.{length-take}
 use Rattle.jp_model.specs.Lines.{HasNoSeparator, closed_lines, open_line}
 use Rattle.jp_cli.specs.Runs.{Ran, RanFirst, StoppedIn, at}
 use Rattle.jp_model.proofs.Pieces.{pieces_clear}
-use Rattle.jp_cli.proofs.ScriptSoFar.{still_going, no_end, some_room, little_room, at_end, flushed, stopped_flush, stopped_read, taken, too_long, stopped_piece, cut_piece, min_first, one_more_call, not_empty, ended, all_run, last_run, last_stopped}
+use Rattle.jp_cli.proofs.ScriptSoFar.{still_going, no_end, little_room, at_end_with_room, flushed, flushed_at_end, stopped_flush, stopped_read, taken, too_long, stopped_piece, cut_piece, min_first, one_more_call, not_empty, all_run, last_run, last_stopped}
 use Rattle.jp_cli.specs.Commands.{asked_in}
 use Rattle.jp_query.specs.Status.{query_of}
 use Rattle.jp_cli.proofs.script.run_script.Goals as goal
@@ -94,24 +94,20 @@ loop-alloc-preserved g c =
 pub returns-then-is_empty-clause-output : goal.returns-then-is_empty-clause-output
 returns-then-is_empty-clause-output g c =
     let inv = c.loop-alloc.invariant in
-    let so = flushed query_of asked_in c.args.setup g.R.Read.remaining g.W.Write.contents c.args.script.now c.loop-alloc.script c.args.out.now c.loop-alloc.out c.flush_answers.new.out
-    (at c.args.store.now.state c.args.opened.now) (at c.loop-alloc.store.state c.loop-alloc.opened) c.loop-alloc.held.items c.loop-alloc.count inv.so_far c.flush_answers.ensures.bytes in
-    let all = ended query_of asked_in c.args.setup g.R.Read.remaining g.W.Write.contents c.args.script.now c.loop-alloc.script c.read_script.new.script c.args.out.now c.flush_answers.new.out
-    (at c.args.store.now.state c.args.opened.now) (at c.loop-alloc.store.state c.loop-alloc.opened) c.loop-alloc.held.items c.loop-alloc.count c.in-Ok.read c.read_script.new.piece so c.in-Ok.ensures.bytes.0 c.if-read-eq0.true in
-    let room = some_room c.read_script.new.piece c.loop-alloc.buffer c.min-room.result 4095 (c.args.setup.script_most - c.loop-alloc.count) c.read_script.auto.piece c.min-room.ensures c.min-room.array_long in
-    let end = at_end g.R.Read.remaining c.args.script.now c.read_script.new.script c.loop-alloc.script.ended c.in-Ok.read c.read_script.new.piece c.requires.reads c.in-Ok.ensures.ended c.in-Ok.ensures.bytes.1 c.if-read-eq0.true room in
+    let all = flushed_at_end query_of asked_in c.args.setup g.R.Read.remaining g.W.Write.contents c.args.script.now c.loop-alloc.script c.read_script.new.script c.args.out.now c.loop-alloc.out c.flush_answers.new.out
+    (at c.args.store.now.state c.args.opened.now) (at c.loop-alloc.store.state c.loop-alloc.opened) c.loop-alloc.held.items c.loop-alloc.count c.in-Ok.read c.read_script.new.piece inv.so_far c.flush_answers.ensures.bytes c.in-Ok.ensures.bytes.0 c.if-read-eq0.true in
+    let end = at_end_with_room g.R.Read.remaining c.args.script.now c.read_script.new.script c.loop-alloc.script.ended c.in-Ok.read c.read_script.new.piece c.loop-alloc.buffer c.min-room.result 4095 (c.args.setup.script_most - c.loop-alloc.count)
+    c.requires.reads c.in-Ok.ensures.ended c.in-Ok.ensures.bytes.1 c.if-read-eq0.true c.read_script.auto.piece c.min-room.ensures c.min-room.array_long in
     all_run query_of asked_in c.args.setup g.R.Read.remaining g.W.Write.contents c.args.script.now c.read_script.new.script c.args.out.now c.flush_answers.new.out
     (at c.args.store.now.state c.args.opened.now) (at c.loop-alloc.store.state c.loop-alloc.opened) c.loop-alloc.held.items c.loop-alloc.count all inv.within end (let none = eqb-true c.loop-alloc.held.len 0 (sym c.if-is_empty.ensures) in omega arith)
 
 pub returns-in-Ok-answer_line-clause-output : goal.returns-in-Ok-answer_line-clause-output
 returns-in-Ok-answer_line-clause-output g c =
     let inv = c.loop-alloc.invariant in
-    let so = flushed query_of asked_in c.args.setup g.R.Read.remaining g.W.Write.contents c.args.script.now c.loop-alloc.script c.args.out.now c.loop-alloc.out c.flush_answers.new.out
-    (at c.args.store.now.state c.args.opened.now) (at c.loop-alloc.store.state c.loop-alloc.opened) c.loop-alloc.held.items c.loop-alloc.count inv.so_far c.flush_answers.ensures.bytes in
-    let all = ended query_of asked_in c.args.setup g.R.Read.remaining g.W.Write.contents c.args.script.now c.loop-alloc.script c.read_script.new.script c.args.out.now c.flush_answers.new.out
-    (at c.args.store.now.state c.args.opened.now) (at c.loop-alloc.store.state c.loop-alloc.opened) c.loop-alloc.held.items c.loop-alloc.count c.in-Ok.read c.read_script.new.piece so c.in-Ok.ensures.bytes.0 c.if-read-eq0.true in
-    let room = some_room c.read_script.new.piece c.loop-alloc.buffer c.min-room.result 4095 (c.args.setup.script_most - c.loop-alloc.count) c.read_script.auto.piece c.min-room.ensures c.min-room.array_long in
-    let end = at_end g.R.Read.remaining c.args.script.now c.read_script.new.script c.loop-alloc.script.ended c.in-Ok.read c.read_script.new.piece c.requires.reads c.in-Ok.ensures.ended c.in-Ok.ensures.bytes.1 c.if-read-eq0.true room in
+    let all = flushed_at_end query_of asked_in c.args.setup g.R.Read.remaining g.W.Write.contents c.args.script.now c.loop-alloc.script c.read_script.new.script c.args.out.now c.loop-alloc.out c.flush_answers.new.out
+    (at c.args.store.now.state c.args.opened.now) (at c.loop-alloc.store.state c.loop-alloc.opened) c.loop-alloc.held.items c.loop-alloc.count c.in-Ok.read c.read_script.new.piece inv.so_far c.flush_answers.ensures.bytes c.in-Ok.ensures.bytes.0 c.if-read-eq0.true in
+    let end = at_end_with_room g.R.Read.remaining c.args.script.now c.read_script.new.script c.loop-alloc.script.ended c.in-Ok.read c.read_script.new.piece c.loop-alloc.buffer c.min-room.result 4095 (c.args.setup.script_most - c.loop-alloc.count)
+    c.requires.reads c.in-Ok.ensures.ended c.in-Ok.ensures.bytes.1 c.if-read-eq0.true c.read_script.auto.piece c.min-room.ensures c.min-room.array_long in
     let ran = c.in-Ok-answer_line.ensures.ran in
     last_run query_of asked_in c.args.setup g.R.Read.remaining g.W.Write.contents c.args.script.now c.read_script.new.script c.args.out.now c.flush_answers.new.out c.answer_line.new.out
     (at c.args.store.now.state c.args.opened.now) (at c.loop-alloc.store.state c.loop-alloc.opened) (at c.answer_line.new.store.state c.answer_line.new.opened) c.loop-alloc.held.items c.as_slice.result.now ran.0 c.loop-alloc.count all inv.within end
@@ -120,12 +116,10 @@ returns-in-Ok-answer_line-clause-output g c =
 pub returns-clause-output : goal.returns-clause-output
 returns-clause-output g c =
     let inv = c.loop-alloc.invariant in
-    let so = flushed query_of asked_in c.args.setup g.R.Read.remaining g.W.Write.contents c.args.script.now c.loop-alloc.script c.args.out.now c.loop-alloc.out c.flush_answers.new.out
-    (at c.args.store.now.state c.args.opened.now) (at c.loop-alloc.store.state c.loop-alloc.opened) c.loop-alloc.held.items c.loop-alloc.count inv.so_far c.flush_answers.ensures.bytes in
-    let all = ended query_of asked_in c.args.setup g.R.Read.remaining g.W.Write.contents c.args.script.now c.loop-alloc.script c.read_script.new.script c.args.out.now c.flush_answers.new.out
-    (at c.args.store.now.state c.args.opened.now) (at c.loop-alloc.store.state c.loop-alloc.opened) c.loop-alloc.held.items c.loop-alloc.count c.in-Ok.read c.read_script.new.piece so c.in-Ok.ensures.bytes.0 c.if-read-eq0.true in
-    let room = some_room c.read_script.new.piece c.loop-alloc.buffer c.min-room.result 4095 (c.args.setup.script_most - c.loop-alloc.count) c.read_script.auto.piece c.min-room.ensures c.min-room.array_long in
-    let end = at_end g.R.Read.remaining c.args.script.now c.read_script.new.script c.loop-alloc.script.ended c.in-Ok.read c.read_script.new.piece c.requires.reads c.in-Ok.ensures.ended c.in-Ok.ensures.bytes.1 c.if-read-eq0.true room in
+    let all = flushed_at_end query_of asked_in c.args.setup g.R.Read.remaining g.W.Write.contents c.args.script.now c.loop-alloc.script c.read_script.new.script c.args.out.now c.loop-alloc.out c.flush_answers.new.out
+    (at c.args.store.now.state c.args.opened.now) (at c.loop-alloc.store.state c.loop-alloc.opened) c.loop-alloc.held.items c.loop-alloc.count c.in-Ok.read c.read_script.new.piece inv.so_far c.flush_answers.ensures.bytes c.in-Ok.ensures.bytes.0 c.if-read-eq0.true in
+    let end = at_end_with_room g.R.Read.remaining c.args.script.now c.read_script.new.script c.loop-alloc.script.ended c.in-Ok.read c.read_script.new.piece c.loop-alloc.buffer c.min-room.result 4095 (c.args.setup.script_most - c.loop-alloc.count)
+    c.requires.reads c.in-Ok.ensures.ended c.in-Ok.ensures.bytes.1 c.if-read-eq0.true c.read_script.auto.piece c.min-room.ensures c.min-room.array_long in
     let ran = c.in-Err-answer_line.ensures.ran in
     last_stopped query_of asked_in c.args.setup g.R.Read.remaining g.W.Write.contents c.args.script.now c.read_script.new.script c.args.out.now c.flush_answers.new.out c.answer_line.new.out
     (at c.args.store.now.state c.args.opened.now) (at c.loop-alloc.store.state c.loop-alloc.opened) (at c.answer_line.new.store.state c.answer_line.new.opened) c.loop-alloc.held.items c.as_slice.result.now ran.0 ran.2.0 c.loop-alloc.count all inv.within end

@@ -16,8 +16,8 @@ returns-clause-program c =
     (λ made last. is_program c.after_help.result c.in_ok-arg.field-0 c.in_ok-arg-2.field-0 c.in_ok-arg-3.field-0 made _ _ _ _
     (told_app c.new.result c.after_help.result (codes "jpq") dressed c.new.ensures.app)
     c.in_ok-arg.ensures c.in_ok-arg-2.ensures c.in_ok-arg-3.ensures last
-    c.file_argument.ensures.plain.1 c.command_argument.ensures.plain.1 c.script_argument.ensures.plain.1 c.seq_argument.ensures.plain.1
-    c.file_argument.ensures.rule c.command_argument.ensures.rule c.script_argument.ensures.rule c.seq_argument.ensures.rule)
+    c.file_argument.ensures.argument.plain.1 c.command_argument.ensures.plain.1 c.script_argument.ensures.plain.1 c.seq_argument.ensures.plain.1
+    c.file_argument.ensures.argument.rule c.command_argument.ensures.rule c.script_argument.ensures.rule c.seq_argument.ensures.rule)
     c.arg-4.ensures
 
 pub returns-clause-file : goal.returns-clause-file
@@ -26,11 +26,11 @@ returns-clause-file c =
     let command = c.command_argument.result in
     let script = c.script_argument.result in
     let seq = c.seq_argument.result in
-    let file_is : file.id.now ≡ codes "file" = c.file_argument.ensures.id in
+    let file_is : file.id.now ≡ codes "file" = c.file_argument.ensures.argument.id in
     let command_is : command.id.now ≡ codes "command" = c.command_argument.ensures.id in
     let script_is : script.id.now ≡ codes "script" = c.script_argument.ensures.id in
     let seq_is : seq.id.now ≡ codes "seq" = c.seq_argument.ensures.id in
-    let file_fits = fits_chain file (codes "file") c.file_argument.ensures.plain.0 c.file_argument.ensures.plain.1 file_is
+    let file_fits = fits_chain file (codes "file") c.file_argument.ensures.argument.plain.0 c.file_argument.ensures.argument.plain.1 file_is
     (λ e. let bad : 102 ≡ 0 = e in absurd (omega arith)) (λ e. let bad : 102 ≡ 104 = e in absurd (omega arith)) (λ e. let bad : 102 ≡ 118 = e in absurd (omega arith)) in
     let command_fits = fits_chain command (codes "command") c.command_argument.ensures.plain.0 c.command_argument.ensures.plain.1 command_is
     (λ e. let bad : 99 ≡ 0 = e in absurd (omega arith)) (λ e. let bad : 99 ≡ 104 = e in absurd (omega arith)) (λ e. let bad : 99 ≡ 118 = e in absurd (omega arith)) in
