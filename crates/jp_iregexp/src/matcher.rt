@@ -1,7 +1,7 @@
 // Which positions a part of a pattern reaches.
 
 ghost use Rattle.std.specs.Prelude.{◌^◌, ◌<◌, Some, None, IfOk, length};
-ghost use Rattle.jp_iregexp.specs.Positions.{IsSetOver, AreEnds};
+ghost use Rattle.jp_iregexp.specs.Positions.{AreEnds, AreStarts};
 ghost use Rattle.jp_model.specs.Pattern.Language.{Language, Repeats, RepeatsWithin};
 ghost use Rattle.jp_iregexp.specs.Tables.{Kept, KeptList, KeptRows};
 ghost use Rattle.jp_iregexp.specs.Nodes.{tree_of, class_of, sequence_list, choice_list};
@@ -21,8 +21,7 @@ fn class_ends(
     text: &[char],
     starts: &PositionSet,
 ) -> Result<PositionSet, AllocError>
-    requires over { IsSetOver (length text.now) starts.now }
-    requires fits { length text.now < 2 ^ 63 }
+    requires { AreStarts text.now starts.now }
     ensures { IfOk result (λ out. AreEnds (Language (one_of (class_of class.now))) text.now starts.now out) }
 {
     let mut out = PositionSet::empty(alloc);
@@ -44,8 +43,7 @@ pub(crate) fn ends(
     text: &[char],
     starts: &PositionSet,
 ) -> Result<PositionSet, AllocError>
-    requires over { IsSetOver (length text.now) starts.now }
-    requires fits { length text.now < 2 ^ 63 }
+    requires starts { AreStarts text.now starts.now }
     requires kept { Kept text.now node.now }
     ensures { IfOk result (λ out. AreEnds (Language (tree_of node.now)) text.now starts.now out) }
 {
@@ -70,8 +68,7 @@ fn sequence_ends(
     text: &[char],
     starts: &PositionSet,
 ) -> Result<PositionSet, AllocError>
-    requires over { IsSetOver (length text.now) starts.now }
-    requires fits { length text.now < 2 ^ 63 }
+    requires starts { AreStarts text.now starts.now }
     requires kept { KeptList text.now parts.now }
     ensures { IfOk result (λ out. AreEnds (Language (sequence_list parts.now)) text.now starts.now out) }
 {
@@ -90,8 +87,7 @@ fn choice_ends(
     text: &[char],
     starts: &PositionSet,
 ) -> Result<PositionSet, AllocError>
-    requires over { IsSetOver (length text.now) starts.now }
-    requires fits { length text.now < 2 ^ 63 }
+    requires starts { AreStarts text.now starts.now }
     requires kept { KeptList text.now parts.now }
     ensures { IfOk result (λ out. AreEnds (Language (choice_list parts.now)) text.now starts.now out) }
 {
@@ -114,8 +110,7 @@ fn repeated_ends(
     text: &[char],
     starts: &PositionSet,
 ) -> Result<PositionSet, AllocError>
-    requires over { IsSetOver (length text.now) starts.now }
-    requires fits { length text.now < 2 ^ 63 }
+    requires starts { AreStarts text.now starts.now }
     requires kept { Kept text.now body.now }
     requires rows { KeptRows text.now body.now rows.now }
     ensures { IfOk result (λ out. AreEnds (Language (times (tree_of body.now) least most)) text.now starts.now out) }
@@ -145,8 +140,7 @@ fn up_to_turns(
     text: &[char],
     starts: &PositionSet,
 ) -> Result<PositionSet, AllocError>
-    requires over { IsSetOver (length text.now) starts.now }
-    requires fits { length text.now < 2 ^ 63 }
+    requires starts { AreStarts text.now starts.now }
     requires kept { Kept text.now body.now }
     requires rows { KeptRows text.now body.now rows.now }
     ensures { IfOk result (λ out. AreEnds (RepeatsWithin (Language (tree_of body.now)) 0 (Some most)) text.now starts.now out) }
@@ -167,8 +161,7 @@ fn any_turns(
     text: &[char],
     starts: &PositionSet,
 ) -> Result<PositionSet, AllocError>
-    requires over { IsSetOver (length text.now) starts.now }
-    requires fits { length text.now < 2 ^ 63 }
+    requires starts { AreStarts text.now starts.now }
     requires kept { Kept text.now body.now }
     requires rows { KeptRows text.now body.now rows.now }
     ensures { IfOk result (λ out. AreEnds (RepeatsWithin (Language (tree_of body.now)) 0 None) text.now starts.now out) }
@@ -189,8 +182,7 @@ fn exact_turns(
     text: &[char],
     starts: &PositionSet,
 ) -> Result<PositionSet, AllocError>
-    requires over { IsSetOver (length text.now) starts.now }
-    requires fits { length text.now < 2 ^ 63 }
+    requires starts { AreStarts text.now starts.now }
     requires kept { Kept text.now body.now }
     requires rows { KeptRows text.now body.now rows.now }
     ensures { IfOk result (λ out. AreEnds (Repeats (Language (tree_of body.now)) count) text.now starts.now out) }
@@ -211,8 +203,7 @@ fn counted_turns(
     text: &[char],
     starts: &PositionSet,
 ) -> Result<PositionSet, AllocError>
-    requires over { IsSetOver (length text.now) starts.now }
-    requires fits { length text.now < 2 ^ 63 }
+    requires starts { AreStarts text.now starts.now }
     requires kept { Kept text.now body.now }
     requires rows { KeptRows text.now body.now rows.now }
     ensures { IfOk result (λ out. AreEnds (Repeats (Language (tree_of body.now)) count) text.now starts.now out) }
@@ -238,8 +229,7 @@ fn further_turns(
     text: &[char],
     starts: &PositionSet,
 ) -> Result<PositionSet, AllocError>
-    requires over { IsSetOver (length text.now) starts.now }
-    requires fits { length text.now < 2 ^ 63 }
+    requires starts { AreStarts text.now starts.now }
     requires kept { Kept text.now body.now }
     requires rows { KeptRows text.now body.now rows.now }
     ensures { IfOk result (λ out. AreEnds (RepeatsWithin (Language (tree_of body.now)) 0 (Some most)) text.now starts.now out) }
@@ -267,8 +257,7 @@ fn one_turn(
     text: &[char],
     starts: &PositionSet,
 ) -> Result<PositionSet, AllocError>
-    requires over { IsSetOver (length text.now) starts.now }
-    requires fits { length text.now < 2 ^ 63 }
+    requires starts { AreStarts text.now starts.now }
     requires kept { Kept text.now body.now }
     requires rows { KeptRows text.now body.now rows.now }
     ensures { IfOk result (λ out. AreEnds (Language (tree_of body.now)) text.now starts.now out) }

@@ -6,7 +6,7 @@
 ghost use Rattle.std.specs.Prelude.{◌≡◌, ◌^◌, ◌<◌, ℕ, List, false, map, length, IfOk};
 ghost use Rattle.jp_model.specs.Pattern.Language.{Language};
 ghost use Rattle.jp_model.specs.Pattern.Tree.{times};
-ghost use Rattle.jp_iregexp.specs.Positions.{IsSetOver, AreEnds};
+ghost use Rattle.jp_iregexp.specs.Positions.{AreEnds, AreStarts};
 ghost use Rattle.jp_iregexp.specs.Tables.{Kept, KeptList, KeptRows};
 ghost use Rattle.jp_iregexp.specs.Nodes.{tree_of};
 
@@ -23,8 +23,7 @@ pub(crate) fn reach(
     text: &[char],
     starts: &PositionSet,
 ) -> Result<PositionSet, AllocError>
-    requires over { IsSetOver (length text.now) starts.now }
-    requires fits { length text.now < 2 ^ 63 }
+    requires { AreStarts text.now starts.now }
     ensures { IfOk result (λ out. AreEnds (Language (tree_of node.now)) text.now starts.now out) }
 {
     if !needs_tables(node) {

@@ -1,7 +1,7 @@
 // So many scalars of a class, any number of them, or up to a number.
 
 ghost use Rattle.std.specs.Prelude.{◌≡◌, ◌^◌, ◌<◌, ◌+◌, ◌-◌, true, false, Some, None, IfOk, length};
-ghost use Rattle.jp_iregexp.specs.Positions.{Has, IsSetOver, AreEnds};
+ghost use Rattle.jp_iregexp.specs.Positions.{Has, AreEnds, AreStarts};
 ghost use Rattle.jp_iregexp.specs.Nodes.{class_of};
 ghost use Rattle.jp_model.specs.Pattern.Language.{Language, Repeats, RepeatsWithin};
 ghost use Rattle.jp_model.specs.Pattern.Tree.{one_of};
@@ -20,8 +20,7 @@ pub(crate) fn count_ends(
     count: u32,
     starts: &PositionSet,
 ) -> Result<PositionSet, AllocError>
-    requires over { IsSetOver (length text.now) starts.now }
-    requires fits { length text.now < 2 ^ 63 }
+    requires { AreStarts text.now starts.now }
     ensures { IfOk result (λ out. AreEnds (Repeats (Language (one_of (class_of class.now))) count) text.now starts.now out) }
 {
     if count == 0 {
@@ -62,8 +61,7 @@ pub(crate) fn run_ends(
     text: &[char],
     starts: &PositionSet,
 ) -> Result<PositionSet, AllocError>
-    requires over { IsSetOver (length text.now) starts.now }
-    requires fits { length text.now < 2 ^ 63 }
+    requires { AreStarts text.now starts.now }
     ensures { IfOk result (λ out. AreEnds (RepeatsWithin (Language (one_of (class_of class.now))) 0 None) text.now starts.now out) }
 {
     let mut out = starts.copy(alloc)?;
@@ -89,8 +87,7 @@ pub(crate) fn window_ends(
     most: u32,
     starts: &PositionSet,
 ) -> Result<PositionSet, AllocError>
-    requires over { IsSetOver (length text.now) starts.now }
-    requires fits { length text.now < 2 ^ 63 }
+    requires { AreStarts text.now starts.now }
     ensures { IfOk result (λ out. AreEnds (RepeatsWithin (Language (one_of (class_of class.now))) 0 (Some most)) text.now starts.now out) }
 {
     let mut out = starts.copy(alloc)?;

@@ -1,7 +1,7 @@
 // The ends of a part from each position of a text, kept for turns that come again.
 
 ghost use Rattle.std.specs.Prelude.{◌^◌, ◌<◌, IfOk, length};
-ghost use Rattle.jp_iregexp.specs.Positions.{IsSetOver, AreEnds};
+ghost use Rattle.jp_iregexp.specs.Positions.{AreEnds, AreStarts};
 ghost use Rattle.jp_iregexp.specs.Tables.{IsTable, Kept};
 ghost use Rattle.jp_model.specs.Pattern.Language.{Language};
 ghost use Rattle.jp_iregexp.specs.Nodes.{tree_of};
@@ -38,8 +38,7 @@ pub(crate) fn turn_by(
     text: &[char],
     starts: &PositionSet,
 ) -> Result<PositionSet, AllocError>
-    requires over { IsSetOver (length text.now) starts.now }
-    requires fits { length text.now < 2 ^ 63 }
+    requires starts { AreStarts text.now starts.now }
     requires table { IsTable (Language (tree_of _body.now)) text.now rows.now }
     ensures { IfOk result (λ out. AreEnds (Language (tree_of _body.now)) text.now starts.now out) }
 {

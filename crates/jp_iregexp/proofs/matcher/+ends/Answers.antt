@@ -25,7 +25,7 @@ choice_ends-returns t c =
 
 pub sequence_ends-loop-part-init : goal.sequence_ends-loop-part-init
 sequence_ends-loop-part-init t c =
-    continue_start (Language (sequence_list c.args.parts.now)) c.args.text.now c.args.starts.now c.in_ok-reached.reached c.requires.over c.in_ok-reached.ensures
+    continue_start (Language (sequence_list c.args.parts.now)) c.args.text.now c.args.starts.now c.in_ok-reached.reached c.requires.starts.over c.in_ok-reached.ensures
 
 pub sequence_ends-loop-part-preserved : goal.sequence_ends-loop-part-preserved
 sequence_ends-loop-part-preserved t c =
@@ -53,7 +53,7 @@ exact_turns-returns-in-Class t c =
 
 pub counted_turns-loop-turn-init : goal.counted_turns-loop-turn-init
 counted_turns-loop-turn-init t c =
-    exact_start (Language (tree_of c.args.body.now)) c.args.count c.args.text.now c.args.starts.now c.in_ok-reached.reached c.requires.over c.in_ok-reached.ensures
+    exact_start (Language (tree_of c.args.body.now)) c.args.count c.args.text.now c.args.starts.now c.in_ok-reached.reached c.requires.starts.over c.in_ok-reached.ensures
 
 pub counted_turns-loop-turn-preserved : goal.counted_turns-loop-turn-preserved
 counted_turns-loop-turn-preserved t c =
@@ -75,9 +75,9 @@ further_turns-loop-turn-init t c =
     let member = Language (tree_of c.args.body.now) in
     let reached = c.in_ok-reached.reached in
     record {
-      continues = further_start member c.args.most c.args.text.now c.args.starts.now reached c.requires.over c.in_ok-reached.ensures;
+      continues = further_start member c.args.most c.args.text.now c.args.starts.now reached c.requires.starts.over c.in_ok-reached.ensures;
       fronts = front_start member c.args.text.now c.args.starts.now reached c.in_ok-frontier.frontier c.in_ok-reached.ensures c.in_ok-frontier.ensures;
-      inside = same_over (length c.args.text.now) c.args.starts.now c.in_ok-frontier.frontier c.in_ok-frontier.ensures c.requires.over;
+      inside = same_over (length c.args.text.now) c.args.starts.now c.in_ok-frontier.frontier c.in_ok-frontier.ensures c.requires.starts.over;
     }
 
 pub further_turns-loop-turn-preserved : goal.further_turns-loop-turn-preserved
@@ -147,21 +147,21 @@ repeated_ends-returns-in_ok-reached-in-None t c =
 pub choice_ends-ends-requires : goal.choice_ends-ends-requires
 choice_ends-ends-requires t c =
     let kept = kept_at c.args.text.now c.args.parts.now c.loop-part.part-index c.part-item.result (omega arith) c.part-item.is c.requires.kept in
-    (search (rules, the_lemmas), (search rules, (search rules, kept)))
+    (search (rules, the_lemmas), (search rules, kept))
 
 pub sequence_ends-ends-requires : goal.sequence_ends-ends-requires
 sequence_ends-ends-requires t c =
     let kept = kept_at c.args.text.now c.args.parts.now c.loop-part.part-index c.part-item.result (omega arith) c.part-item.is c.requires.kept in
-    (search (rules, the_lemmas), (search rules, (search rules, kept)))
+    (search (rules, the_lemmas), (search rules, kept))
 
 pub ends-sequence_ends-requires : goal.ends-sequence_ends-requires
 ends-sequence_ends-requires t c =
     let text = c.args.text.now in
     let kept = subst (KeptList text) (sym c.as_slice.ensures.value) (from_Sequence text c.in-Sequence.parts (subst (Kept text) c.in-Sequence.is c.requires.kept)) in
-    (search (rules, the_lemmas), (search rules, (search rules, kept)))
+    (search (rules, the_lemmas), (search rules, kept))
 
 pub ends-choice_ends-requires : goal.ends-choice_ends-requires
 ends-choice_ends-requires t c =
     let text = c.args.text.now in
     let kept = subst (KeptList text) (sym c.as_slice-in-Choice.ensures.value) (from_Choice text c.in-Choice.parts (subst (Kept text) c.in-Choice.is c.requires.kept)) in
-    (search (rules, the_lemmas), (search rules, (search rules, kept)))
+    (search (rules, the_lemmas), (search rules, kept))

@@ -31,4 +31,4 @@ returns c =
     let past = c.loop-p-test.false in
     let min = c.min-p-end.ensures in
     let size = c.requires.table.size in
-    row_all (Language (tree_of c.args._body.now)) c.args.text.now c.args.starts.now l.out l.p (λ p h. let high = c.high-high.ensures.above p h in let within = c.requires.over.within p h in omega (arith, past, min, high, size, within)) l.invariant
+    row_all (Language (tree_of c.args._body.now)) c.args.text.now c.args.starts.now l.out l.p (λ p h. let high = c.high-high.ensures.above p h in let within = c.requires.starts.over.within p h in omega (arith, past, min, high, size, within)) l.invariant
