@@ -1,6 +1,6 @@
 //! What `indexes` answers: the paths of the indexes, in the order in which they were made.
 
-ghost use Rattle.std.specs.Prelude.{◌≡◌, ◌<◌, Some, false, is_err, length, slice_get};
+ghost use Rattle.std.specs.Prelude.{◌≡◌, false, is_err};
 ghost use Rattle.jp_model.specs.Devices.{Writes};
 ghost use Rattle.jp_model.specs.Meaning.Paths.{path_text};
 ghost use Rattle.jp_model.specs.Script.Machine.{indexes_answer, said};
@@ -12,14 +12,6 @@ use jp_query::SingularPath;
 use jp_rows::{QueryPart, WriteFault, write_count, write_whole};
 use jp_store::Store;
 use std::io::Write;
-
-/// The path of the index at a place, from 0.
-fn path_at(store: &Store, place: u32) -> &SingularPath
-    requires { place < length store.now.state.paths }
-    ensures { slice_get store.now.state.paths place ≡ Some (path_steps result.now) }
-{
-    store.index(place).path()
-}
 
 /// Writes a path as a line.
 fn write_path_line<W: Write>(path: &SingularPath, out: &mut Watched<W>) -> Result<(), WriteFault>
@@ -39,8 +31,8 @@ fn write_paths<W: Write>(store: &Store, out: &mut Watched<W>) -> Result<(), Writ
     ensures fault { out.new.failed ≡ is_err result }
     ensures after { out.new.after ≡ out.old.after }
 {
-    for place in 0..store.index_count() {
-        if let Err(fault) = write_path_line(path_at(store, place), out) {
+    for number in 0..store.index_count() {
+        if let Err(fault) = write_path_line(store.path_at(number), out) {
             return Err(fault);
         }
     }

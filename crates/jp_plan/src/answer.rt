@@ -72,7 +72,7 @@ impl<'s> Plan<'s> {
         ensures node { node_of result ∷ [] ≡ nodes (steps_query (steps_or_none (path_at (plan_of self.now).over.state.paths seek))) (root_node (tree_of_view view.entry) ∷ []) (tree_of_view view.entry) }
     {
         match seek {
-            Some(place) => match self.store.index(place).node_of(line) {
+            Some(index) => match self.store.index(index).node_of(line) {
                 Some(node) => view.at(node),
                 None => view.root(),
             },

@@ -10,7 +10,6 @@ ghost use Rattle.jp_plan.specs.PlanViews.{plan_of};
 ghost use Rattle.jp_plan.specs.Routes.{IsRouteOf};
 
 use crate::guard::Guard;
-use crate::indexed::path_at;
 use crate::plan::Plan;
 use crate::route::{Route, find_route};
 use crate::segments::push_segments;
@@ -25,11 +24,11 @@ fn push_seek(store: &Store, seek: Option<u32>, out: &mut Vec<u8>) -> Result<(), 
     requires { IfSome seek (λ k. k < length store.now.state.paths) }
     ensures { OnOk result (out.new.items ≡ out.old.items ++ seek_text (steps_at store.now.state.paths seek)) }
 {
-    let Some(place) = seek else {
+    let Some(index) = seek else {
         return Ok(());
     };
     out.extend_from_slice(b"seek ")?;
-    QueryPart::Path(path_at(store, place)).push_to(out)?;
+    QueryPart::Path(store.path_at(index)).push_to(out)?;
     out.extend_from_slice(b"\n")
 }
 
@@ -43,7 +42,7 @@ fn push_guard(store: &Store, guard: Option<Guard<'_>>, out: &mut Vec<u8>) -> Res
         return Ok(());
     };
     out.extend_from_slice(b"guard ")?;
-    QueryPart::Path(path_at(store, guard.index)).push_to(out)?;
+    QueryPart::Path(store.path_at(guard.index)).push_to(out)?;
     out.extend_from_slice(b" ")?;
     out.extend_from_slice(op_text(guard.op))?;
     out.extend_from_slice(b" ")?;
@@ -91,9 +90,9 @@ impl<'s> Plan<'s> {
         match route.guard {
             Some(_) => Ok(self.opened_lines(route)?.len()),
             None => match route.seek {
-                Some(place) => {
+                Some(index) => {
                     laws::a_line_has_one_entry();
-                    Ok(self.store.index(place).count() as usize)
+                    Ok(self.store.index(index).count() as usize)
                 }
                 None => Ok(self.store.tree_count() as usize),
             },

@@ -7,7 +7,6 @@ ghost use Rattle.jp_model.specs.Plans.{mirrored, is_guard_operator, guard_on, on
 ghost use Rattle.jp_query.specs.View.{comparable_view, op_view, literal_view, logical_view, path_view, segments_view, segment_view, selectors_view, selector_view};
 ghost use Rattle.jp_plan.specs.Paths.{alone, guard_at, is_indexed, path_guard};
 
-use crate::indexed::path_at;
 use crate::singular::spells;
 use jp_query::{Comparable, CompareOp, Literal, Logical, Origin, Path, Segment, Selector};
 use jp_store::Store;
@@ -15,7 +14,7 @@ use jp_store::Store;
 /// A comparison of the path of an index with a literal.
 #[derive(Clone, Copy)]
 pub(crate) struct Guard<'q> {
-    /// The place of the index, from 0.
+    /// The number of the index, from 0.
     pub(crate) index: u32,
     pub(crate) op: CompareOp,
     pub(crate) literal: &'q Literal,
@@ -48,15 +47,15 @@ fn is_guard_operator(op: CompareOp) -> bool
     }
 }
 
-/// The place of the index whose path the segments spell.
+/// The number of the index whose path the segments spell.
 fn find_index(store: &Store, segments: &[Segment]) -> Option<u32>
     ensures within { IfSome result (λ k. k < length store.now.state.paths) }
     ensures found { MatchOption result (is_indexed store.now.state.paths (singular_steps (segments_view segments.now)) ≡ false)
         (λ k. slice_get store.now.state.paths k ≡ singular_steps (segments_view segments.now)) }
 {
-    for place in 0..store.index_count() {
-        if spells(path_at(store, place).steps(), segments) {
-            return Some(place);
+    for index in 0..store.index_count() {
+        if spells(store.path_at(index).steps(), segments) {
+            return Some(index);
         }
     }
     None

@@ -11,7 +11,6 @@
 mod answer;
 mod explain;
 mod guard;
-mod indexed;
 pub mod laws;
 mod lines;
 mod plan;

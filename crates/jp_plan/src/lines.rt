@@ -36,22 +36,22 @@ impl<'s> Plan<'s> {
         ensures { IfOk result (λ lines. lines.items ≡ numbers_where is_tree 1 (statuses_in (plan_of self.now).over)) }
     {
         let mut lines = Vec::with_capacity(self.alloc, self.store.tree_count() as usize)?;
-        for place in 0..self.store.line_count() {
-            if is_tree(self.store.line_status(place + 1)) {
-                lines.push(place + 1)?;
+        for before in 0..self.store.line_count() {
+            if is_tree(self.store.line_status(before + 1)) {
+                lines.push(before + 1)?;
             }
         }
         Ok(lines)
     }
 
     /// The lines where the path of an index has a node, ascending.
-    fn sought_lines(&self, place: u32) -> Result<Vec<u32>, AllocError>
-        requires { place < length (plan_of self.now).over.state.paths }
+    fn sought_lines(&self, index: u32) -> Result<Vec<u32>, AllocError>
+        requires { index < length (plan_of self.now).over.state.paths }
         ensures { IfOk result (λ lines. lines.items
-            ≡ numbers_where (seek_status (path_at (plan_of self.now).over.state.paths (Some place))) 1 (statuses_in (plan_of self.now).over)) }
+            ≡ numbers_where (seek_status (path_at (plan_of self.now).over.state.paths (Some index))) 1 (statuses_in (plan_of self.now).over)) }
     {
         laws::a_line_has_one_entry();
-        self.store.index(place).lines(self.alloc)
+        self.store.index(index).lines(self.alloc)
     }
 
     /// The lines where a guard holds, ascending.
@@ -70,24 +70,24 @@ impl<'s> Plan<'s> {
     }
 
     /// Whether the path of an index has a node in a line.
-    fn is_sought(&self, place: u32, line: u32) -> bool
-        requires place { place < length (plan_of self.now).over.state.paths }
+    fn is_sought(&self, index: u32, line: u32) -> bool
+        requires index { index < length (plan_of self.now).over.state.paths }
         requires line { IsLineOf (plan_of self.now).over line }
-        ensures { result ≡ seek_status (path_at (plan_of self.now).over.state.paths (Some place)) (line_status line (plan_of self.now).over) }
+        ensures { result ≡ seek_status (path_at (plan_of self.now).over.state.paths (Some index)) (line_status line (plan_of self.now).over) }
     {
-        self.store.index(place).node_of(line).is_some()
+        self.store.index(index).node_of(line).is_some()
     }
 
     /// Those of some lines in which the path of an index has a node.
-    fn held_to_seek(&self, place: u32, lines: &[u32]) -> Result<Vec<u32>, AllocError>
-        requires place { place < length (plan_of self.now).over.state.paths }
+    fn held_to_seek(&self, index: u32, lines: &[u32]) -> Result<Vec<u32>, AllocError>
+        requires index { index < length (plan_of self.now).over.state.paths }
         requires lines { All (IsLineOf (plan_of self.now).over) lines.now }
         ensures { IfOk result (λ held. held.items
-            ≡ filter (λ line. seek_status (path_at (plan_of self.now).over.state.paths (Some place)) (line_status line (plan_of self.now).over)) lines.now) }
+            ≡ filter (λ line. seek_status (path_at (plan_of self.now).over.state.paths (Some index)) (line_status line (plan_of self.now).over)) lines.now) }
     {
         let mut held = Vec::with_capacity(self.alloc, lines.len())?;
         for line in lines {
-            if self.is_sought(place, *line) {
+            if self.is_sought(index, *line) {
                 held.push(*line)?;
             }
         }
@@ -101,14 +101,14 @@ impl<'s> Plan<'s> {
     {
         match route.guard {
             Some(guard) => match route.seek {
-                Some(place) => {
+                Some(index) => {
                     let guarded = self.guarded_lines(guard)?;
-                    self.held_to_seek(place, &guarded)
+                    self.held_to_seek(index, &guarded)
                 }
                 None => self.guarded_lines(guard),
             },
             None => match route.seek {
-                Some(place) => self.sought_lines(place),
+                Some(index) => self.sought_lines(index),
                 None => self.tree_lines(),
             },
         }

@@ -9,7 +9,6 @@ ghost use Rattle.jp_plan.specs.Paths.{path_at};
 ghost use Rattle.jp_plan.specs.Routes.{IsRouteOf, steps_or_none};
 
 use crate::guard::{Guard, find_guard};
-use crate::indexed::path_at;
 use crate::seek::find_seek;
 use crate::singular::behind;
 use jp_query::Segment;
@@ -31,10 +30,10 @@ fn behind_seek<'s>(store: &Store, seek: Option<u32>, segments: &'s [Segment]) ->
     requires seek { path_at store.now.state.paths seek ≡ seek_of store.now.state.paths (leading_steps (segments_view segments.now)) }
     ensures { segments_behind (steps_or_none (path_at store.now.state.paths seek)) (segments_view segments.now) ≡ Some (segments_view result.now) }
 {
-    let Some(place) = seek else {
+    let Some(index) = seek else {
         return segments;
     };
-    match behind(path_at(store, place).steps(), segments) {
+    match behind(store.path_at(index).steps(), segments) {
         Some(rest) => rest,
         None => segments,
     }

@@ -6,18 +6,17 @@ ghost use Rattle.jp_query.specs.View.{segments_view};
 ghost use Rattle.jp_plan.specs.Paths.{are_as_many, is_better, path_at};
 ghost use Rattle.jp_query.specs.SingularPaths.{step_view};
 
-use crate::indexed::path_at;
 use crate::singular::begins;
 use jp_query::{Segment, Step};
 use jp_store::Store;
 
-/// Whether steps are at least as many as those of the path at a place, if there is one.
+/// Whether steps are at least as many as those of the path of an index, if there is one.
 fn are_as_many(steps: &[Step], store: &Store, best: Option<u32>) -> bool
     requires { IfSome best (λ k. k < length store.now.state.paths) }
     ensures { result ≡ are_as_many (map step_view steps.now) (path_at store.now.state.paths best) }
 {
     match best {
-        Some(place) => path_at(store, place).steps().len() <= steps.len(),
+        Some(index) => store.path_at(index).steps().len() <= steps.len(),
         None => true,
     }
 }
@@ -30,17 +29,17 @@ fn is_better(steps: &[Step], segments: &[Segment], store: &Store, best: Option<u
     begins(steps, segments) && are_as_many(steps, store, best)
 }
 
-/// The place of the longest path whose steps the query begins with; of some that are alike, of the first.
+/// The number of the index of the longest path whose steps the query begins with; of some that are alike, of the first.
 pub(crate) fn find_seek(store: &Store, segments: &[Segment]) -> Option<u32>
     ensures within { IfSome result (λ k. k < length store.now.state.paths) }
     ensures seek { path_at store.now.state.paths result ≡ seek_of store.now.state.paths (leading_steps (segments_view segments.now)) }
 {
     let mut best = None;
-    let mut place = store.index_count();
-    while place > 0 {
-        place -= 1;
-        if is_better(path_at(store, place).steps(), segments, store, best) {
-            best = Some(place);
+    let mut index = store.index_count();
+    while index > 0 {
+        index -= 1;
+        if is_better(store.path_at(index).steps(), segments, store, best) {
+            best = Some(index);
         }
     }
     best

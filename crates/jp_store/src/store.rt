@@ -242,6 +242,14 @@ impl Store {
         &self.indexes[k as usize]
     }
 
+    /// The path of index `k`, counted from 0 in the order in which they were made.
+    pub fn path_at(&self, k: u32) -> &SingularPath
+        requires { k < length self.now.state.paths }
+        ensures { slice_get self.now.state.paths k ≡ Some (path_steps result.now) }
+    {
+        self.index(k).path()
+    }
+
     /// Adds a line after the others, as it is, and answers its number.
     ///
     /// # Errors

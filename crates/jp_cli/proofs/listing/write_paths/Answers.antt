@@ -18,22 +18,22 @@ pub returns-in-Err-clause-text : goal.returns-in-Err-clause-text
 returns-in-Err-clause-text g c =
     let paths = c.args.store.now.state.paths in
     let path = path_steps c.path_at.result.now in
-    let is : path ≡ get_or paths c.loop-place.place path = sym (get_or_from_slice_get paths c.loop-place.place path path c.path_at.ensures) in
-    row_in_part line paths c.loop-place.place path (omega (arith, c.loop-place-test.true, c.index_count-place-end.ensures)) is _ _ _ c.loop-place.invariant.written c.in-Err.ensures.text
+    let is : path ≡ get_or paths c.loop-number.number path = sym (get_or_from_slice_get paths c.loop-number.number path path c.path_at.ensures) in
+    row_in_part line paths c.loop-number.number path (omega (arith, c.loop-number-test.true, c.index_count-number-end.ensures)) is _ _ _ c.loop-number.invariant.written c.in-Err.ensures.text
 
-pub loop-place-preserved : goal.loop-place-preserved
-loop-place-preserved g c =
+pub loop-number-preserved : goal.loop-number-preserved
+loop-number-preserved g c =
     let paths = c.args.store.now.state.paths in
     let path = path_steps c.path_at.result.now in
-    let is : path ≡ get_or paths c.loop-place.place path = sym (get_or_from_slice_get paths c.loop-place.place path path c.path_at.ensures) in
+    let is : path ≡ get_or paths c.loop-number.number path = sym (get_or_from_slice_get paths c.loop-number.number path path c.path_at.ensures) in
     record {
       working = c.in_default.ensures.fault;
-      early = c.in_default.ensures.after ∙ c.loop-place.invariant.early;
-      written = row_written line paths c.loop-place.place path (omega (arith, c.loop-place-test.true, c.index_count-place-end.ensures)) is _ _ _ c.loop-place.invariant.written c.in_default.ensures.text;
+      early = c.in_default.ensures.after ∙ c.loop-number.invariant.early;
+      written = row_written line paths c.loop-number.number path (omega (arith, c.loop-number-test.true, c.index_count-number-end.ensures)) is _ _ _ c.loop-number.invariant.written c.in_default.ensures.text;
     }
 
 pub returns-clause-text : goal.returns-clause-text
 returns-clause-text g c =
     let paths = c.args.store.now.state.paths in
-    subst (λ (ps : List (List Step)). Received g.W.Write.contents c.args.out.now c.loop-place.out (listed ps))
-    (take_all c.loop-place.place paths (omega (arith, c.loop-place-test.false, c.index_count-place-end.ensures))) c.loop-place.invariant.written
+    subst (λ (ps : List (List Step)). Received g.W.Write.contents c.args.out.now c.loop-number.out (listed ps))
+    (take_all c.loop-number.number paths (omega (arith, c.loop-number-test.false, c.index_count-number-end.ensures))) c.loop-number.invariant.written

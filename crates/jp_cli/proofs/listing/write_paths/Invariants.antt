@@ -4,9 +4,9 @@ use Rattle.jp_model.specs.Devices.{Received}
 use Rattle.jp_cli.specs.Listed.{listed}
 use Rattle.jp_cli.proofs.listing.write_paths.Given as goal
 
-abbrev pub invariant-loop-place : goal.invariant-loop-place
-invariant-loop-place g l = record {
+abbrev pub invariant-loop-number : goal.invariant-loop-number
+invariant-loop-number g l = record {
   working : l.out.failed ≡ false;
   early : l.out.after ≡ l.initial.out.after;
-  written : Received g.W.Write.contents l.initial.out l.out (listed (take l.place l.store.state.paths));
+  written : Received g.W.Write.contents l.initial.out l.out (listed (take l.number l.store.state.paths));
 }

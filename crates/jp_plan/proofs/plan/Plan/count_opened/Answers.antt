@@ -17,9 +17,9 @@ pub returns-in-Some-seek : goal.returns-in-Some-seek
 returns-in-Some-seek c =
     let p = plan_of c.args.self.now in
     let paths = p.over.state.paths in
-    let place = c.in-Some-seek.place in
-    let within : place < length paths = subst (λ (o : Option ℕ). IfSome o (λ k. k < length paths)) c.in-Some-seek.is c.requires.seek_within in
-    let at = there_is paths place within in
+    let index = c.in-Some-seek.index in
+    let within : index < length paths = subst (λ (o : Option ℕ). IfSome o (λ k. k < length paths)) c.in-Some-seek.is c.requires.seek_within in
+    let at = there_is paths index within in
     let is = c.index.ensures at.0 at.1 in
     let entries : List Entry = entries_of at.0 (statuses_in p.over) in
     let told : map (λ (e : Entry). e.line) entries ≡ numbers_where (seek_status (Some at.0)) 1 (statuses_in p.over) =

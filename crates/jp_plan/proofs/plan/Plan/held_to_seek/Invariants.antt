@@ -8,4 +8,4 @@ use Rattle.jp_plan.specs.PlanViews.{plan_of}
 use Rattle.jp_plan.proofs.plan.Plan.held_to_seek.Given as goal
 
 abbrev pub invariant-loop-line : goal.invariant-loop-line
-invariant-loop-line l = l.held.items ≡ filter (λ line. seek_status (path_at (plan_of l.self).over.state.paths (Some l.place)) (line_status line (plan_of l.self).over)) (take l.line-index l.lines)
+invariant-loop-line l = l.held.items ≡ filter (λ line. seek_status (path_at (plan_of l.self).over.state.paths (Some l.index)) (line_status line (plan_of l.self).over)) (take l.line-index l.lines)

@@ -12,7 +12,7 @@ use Rattle.jp_plan.proofs.plan.Plan.is_sought.Goals as goal
 pub returns : goal.returns
 returns c =
     let over = c.args.self.now.store.now in
-    let at = there_is over.state.paths c.args.place c.requires.place in
+    let at = there_is over.state.paths c.args.index c.requires.index in
     let told = c.node_of.ensures at.0 (entries_of at.0 (statuses_in over)) (c.index.ensures at.0 at.1) in
     let here = subst (λ (es : List Entry). MatchOption c.node_of.result (es ≡ []) (λ place. (e : Entry) × (es ≡ e ∷ []) × (slice_get (subtree (root_node e.tree)) place ≡ Some e.node))) (collection_entry over at.0 c.args.line c.requires.line) told in
     c.is_some.ensures

@@ -33,7 +33,7 @@ guarded_lines-requires-in-None-seek-clause-sound c = (route_fit (plan_of c.args.
 pub returns-in_ok-guarded-in-Some-seek : goal.returns-in_ok-guarded-in-Some-seek
 returns-in_ok-guarded-in-Some-seek c =
     let p = plan_of c.args.self.now in
-    let seek = path_at p.over.state.paths (Some c.in-Some-seek.place) in
+    let seek = path_at p.over.state.paths (Some c.in-Some-seek.index) in
     let guard = guard_at p.over.state.paths (Some c.in-Some.guard) in
     IfOk-weaker c.held_to_seek.result _ _
     (λ (lines : Vec ℕ Global) e.

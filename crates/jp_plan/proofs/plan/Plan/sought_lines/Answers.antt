@@ -14,9 +14,9 @@ use Rattle.jp_plan.proofs.plan.Plan.sought_lines.Goals as goal
 pub returns : goal.returns
 returns c =
     let over = c.args.self.now.store.now in
-    let at = there_is over.state.paths c.args.place c.requires in
+    let at = there_is over.state.paths c.args.index c.requires in
     let is = c.index.ensures at.0 at.1 in
-    let told : map (λ (e : Entry). e.line) (entries_of at.0 (statuses_in over)) ≡ numbers_where (seek_status (path_at over.state.paths (Some c.args.place))) 1 (statuses_in over) =
+    let told : map (λ (e : Entry). e.line) (entries_of at.0 (statuses_in over)) ≡ numbers_where (seek_status (path_at over.state.paths (Some c.args.index))) 1 (statuses_in over) =
     sought_are at.0 (statuses_in over) (λ line. c.a_line_has_one_entry.ensures c.index.result.now at.0 (entries_of at.0 (statuses_in over)) line is)
     ∙ ap (λ (o : Option (List Step)). numbers_where (seek_status o) 1 (statuses_in over)) (sym at.1) in
     IfOk-weaker c.lines.result _ _ (λ (lines : Vec ℕ Global) e. e ∙ told) (c.lines.ensures at.0 (entries_of at.0 (statuses_in over)) is)

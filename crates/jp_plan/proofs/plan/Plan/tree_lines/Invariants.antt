@@ -6,5 +6,5 @@ use Rattle.jp_store.specs.Collections.{statuses_in}
 use Rattle.jp_plan.specs.PlanViews.{plan_of}
 use Rattle.jp_plan.proofs.plan.Plan.tree_lines.Given as goal
 
-abbrev pub invariant-loop-place : goal.invariant-loop-place
-invariant-loop-place l = l.lines.items ≡ numbers_where is_tree 1 (take l.place (statuses_in (plan_of l.self).over))
+abbrev pub invariant-loop-before : goal.invariant-loop-before
+invariant-loop-before l = l.lines.items ≡ numbers_where is_tree 1 (take l.before (statuses_in (plan_of l.self).over))
