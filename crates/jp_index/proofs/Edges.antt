@@ -18,8 +18,7 @@ use Rattle.jp_index.specs.Edges.{key_in_front, in_front, is_between}
 use Rattle.jp_index.specs.ByKey.{line_order}
 use Rattle.jp_index.specs.declared.edge.Edge.{Edge}
 use Rattle.jp_index.specs.declared.edge.Edge.TheVariants.{BeforeKey, BehindKey, BeforeKind, BehindKind}
-use Rattle.jp_values.specs.KeyLaws.{keys_total}
-use Rattle.jp_index.proofs.ByKind.{by_kind_is}
+use Rattle.jp_values.specs.KeyLaws.{keys_total, parts_are}
 
 -- ---- values of one kind
 
@@ -76,7 +75,7 @@ not_greater Equal p e = refl
 not_greater Greater p e = e
 
 pub ranks_rise : (k l : Key) → is_gt (key_order k l) ≡ false → key_rank k ≤ key_rank l
-ranks_rise k l e = le_from_not_gt (key_rank k) (key_rank l) (not_greater (nat_cmp (key_rank k) (key_rank l)) _ (ap is_gt (by_kind_is k l) ∙ e))
+ranks_rise k l e = le_from_not_gt (key_rank k) (key_rank l) (not_greater (nat_cmp (key_rank k) (key_rank l)) _ (ap is_gt (parts_are k l) ∙ e))
 
 -- keys of other kinds are in the order of the kinds
 abbrev Kinds : ℕ → ℕ → Ordering → Type 0
@@ -90,7 +89,7 @@ by_then a b o p e =
     (λ f h. inr (inr (h, e ∙ ap (λ q. ordering_then q p) f)))
 
 kinds : (k l : Key) → Kinds (key_rank k) (key_rank l) (key_order k l)
-kinds k l = by_then (key_rank k) (key_rank l) (key_order k l) _ (sym (by_kind_is k l))
+kinds k l = by_then (key_rank k) (key_rank l) (key_order k l) _ (sym (parts_are k l))
 
 kept : (b : Bool) → (b ≡ true) ⊎ (b ≡ false)
 kept true = inl refl

@@ -21,21 +21,17 @@ in_front edge (Some k) other = key_in_front edge k other
 
 -- the keys that compare so stand between these; all are of the other key's kind
 abbrev pub start_of : CompareOp → Edge
-start_of equal = BeforeKey
-start_of not_equal = BeforeKey
 start_of less = BeforeKind
 start_of less_equal = BeforeKind
 start_of greater = BehindKey
-start_of greater_equal = BeforeKey
+start_of op = BeforeKey
 
 -- where they end
 abbrev pub end_of : CompareOp → Edge
-end_of equal = BehindKey
-end_of not_equal = BehindKey
 end_of less = BeforeKey
-end_of less_equal = BehindKey
 end_of greater = BehindKind
 end_of greater_equal = BehindKind
+end_of op = BehindKey
 
 -- the key is there, and stands between them
 abbrev pub is_between : CompareOp → Option Key → Key → Bool

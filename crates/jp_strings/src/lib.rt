@@ -4,8 +4,8 @@
 //!
 //! - `test_body`, `test_utf8_body`: whether bytes are the body of a string, or the fault; the second for bytes known to be
 //!   UTF-8
-//! - `Scalars`, `scalar_count`, `equal`, `compare`, `unescape`: the scalars that a body spells; their number, equality, order
-//!   and text
+//! - `Scalars`, `scalar_count`, `equal`, `compare`, `compare_scalars`, `unescape`: the scalars that a body spells; their number,
+//!   equality, order (the second reads no further than the bodies agree) and text
 //! - `plain_text`: that text without a copy, of a body with no escape
 //! - `spells`, `compare_text`: whether a body spells a text; their order
 //! - `is_plain`, `spells_known`: whether each byte of a text stands for itself; `spells` for a text of which that may be
@@ -22,8 +22,8 @@ mod scalars;
 pub use checks::{test_body, test_utf8_body};
 pub use fault::StringFault;
 pub use order::{
-    compare, compare_text, equal, is_plain, plain_text, scalar_count, spells, spells_known,
-    unescape,
+    compare, compare_scalars, compare_text, equal, is_plain, plain_text, scalar_count, spells,
+    spells_known, unescape,
 };
 pub use scalars::Scalars;
 

@@ -39,8 +39,8 @@ fn are_plain(a: &[u8], b: &[u8]) -> bool
     are_alike_long(a, b) && is_plain(a) && is_plain(b)
 }
 
-// The order, scalar by scalar.
-fn compare_scalars(a: &[u8], b: &[u8]) -> Ordering
+/// What `compare` answers, scalar by scalar: of long bodies no more is read than they agree on.
+pub fn compare_scalars(a: &[u8], b: &[u8]) -> Ordering
     requires first { IsText a.now }
     requires second { IsText b.now }
     ensures { result ≡ slice_cmp nat_cmp (points_of a.now) (points_of b.now) }

@@ -1,5 +1,5 @@
 -- Values that are no arrays and no objects.
-use Rattle.std.proofs.Common.{◌≡◌, ℕ, true, false, List, Option, Some, None, length, take, nat_lt, ◌+◌, ◌<◌, ◌^◌, sym, ◌∙◌, ap, refl, arith, Ordering}
+use Rattle.std.proofs.Common.{◌≡◌, ℕ, true, false, List, Option, Some, None, length, take, nat_lt, ◌+◌, ◌<◌, ◌^◌, sym, ◌∙◌, ap, refl, subst, arith, Ordering}
 use Rattle.std.proofs.Math.Seq.{take-length}
 use Rattle.std.proofs.lemmas.Bool.{cond-true, not-true, and_parts, and_from, ltb-true}
 use Rattle.std.proofs.lemmas.Slice.Eq.{bytes_eq-Decides}
@@ -8,7 +8,7 @@ use Rattle.jp_model.specs.Json.Places.{bytes_between, Reads}
 use Rattle.jp_model.specs.Json.Numbers.{numeral_bytes, numeral_of, is_long_exponent, mantissa, scale}
 use Rattle.jp_model.specs.Json.Reader.{is_numeral, spanned}
 use Rattle.jp_model.specs.Json.Tree.{Value, null, boolean, number, string, container}
-use Rattle.jp_model.specs.Query.Syntax.{number_literal}
+use Rattle.jp_model.specs.Query.Syntax.{Literal, number_literal}
 use Rattle.jp_model.proofs.Reader.Lexical.{clash}
 use Rattle.jp_model.proofs.Reader.Numbers.{number_found}
 use Rattle.jp_model.proofs.Reader.Scans.{reads_whole}
@@ -86,3 +86,10 @@ literal_is_read x Exponent h r =
     let parts = and_parts (text_equal (numeral_bytes (numeral_of x)) x) _ sound.0 in
     let more = and_parts (is_numeral (numeral_of x)) _ parts.1 in
     clash _ (ap is_long_exponent r.spells.only ∙ r.long) (not-true _ more.1)
+
+-- the same of a literal whose spelling is read where it lies
+pub spelling_short : (l : Literal) (x bytes : List ℕ) → l ≡ number_literal x → is_sound l ≡ true → bytes ≡ x → length bytes < 4294967296
+spelling_short l x bytes is sound same = subst (λ (b : List ℕ). length b < 4294967296) (sym same) (literal_short x (subst (λ (m : Literal). is_sound m ≡ true) is sound))
+
+pub spelling_is_read : (l : Literal) (x bytes : List ℕ) (fault : NumberFault) → l ≡ number_literal x → is_sound l ≡ true → bytes ≡ x → RefusesNumber bytes fault → ⊥
+spelling_is_read l x bytes fault is sound same refused = literal_is_read x fault (subst (λ (m : Literal). is_sound m ≡ true) is sound) (subst (λ (b : List ℕ). RefusesNumber b fault) same refused)

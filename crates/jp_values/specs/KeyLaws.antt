@@ -15,17 +15,17 @@ use Rattle.jp_values.specs.declared.key.Key.TheVariants as keys
 use Rattle.jp_values.specs.Keys.{key_order, key_rank}
 
 -- the number of a key, zero where it has none
-abbrev number_in : Key → DecimalKey
+abbrev pub number_in : Key → DecimalKey
 number_in (keys.Number k) = k
 number_in k = Zero
 
 -- the bytes of a key's text, none where it has none
-abbrev bytes_in : Key → List ℕ
+abbrev pub bytes_in : Key → List ℕ
 bytes_in (keys.Text s) = string_bytes s
 bytes_in k = []
 
 -- kinds, then numbers, then texts
-abbrev by_parts : Key → Key → Ordering
+abbrev pub by_parts : Key → Key → Ordering
 by_parts = then_cmp (on key_rank nat_cmp) (then_cmp (on number_in decimals.key_order) (on bytes_in (slice_cmp nat_cmp)))
 
 by_parts_total : IsTotalOrder by_parts
@@ -36,7 +36,8 @@ then_equal Less = refl
 then_equal Equal = refl
 then_equal Greater = refl
 
-parts_are : (k l : Key) → by_parts k l ≡ key_order k l
+-- that is the order of keys
+pub parts_are : (k l : Key) → by_parts k l ≡ key_order k l
 parts_are keys.Null keys.Null = refl
 parts_are keys.Null keys.False = refl
 parts_are keys.Null keys.True = refl

@@ -73,8 +73,8 @@ impl Ord for Key {
 }
 
 impl Key {
-    /// The place of the key's kind among the kinds.
-    fn rank(&self) -> u8
+    /// Where the key's kind is among the kinds: null, false, true, numbers, strings.
+    pub fn rank(&self) -> u8
         ensures { result ≡ key_rank self.now }
     {
         match self {

@@ -4,15 +4,8 @@ ghost use Rattle.std.specs.Prelude.{◌≡◌, IsTrue, length};
 ghost use Rattle.jp_strings.specs.Plain.{ArePlain};
 ghost use Rattle.jp_strings.specs.Points.{IsText, is_text_from};
 
-use jp_lanes::first_special;
+use jp_strings::is_plain;
 use jp_tape::Cursor;
-
-// Whether each character of a name stands for itself.
-fn is_plain(name: &[u8]) -> bool
-    ensures { IsTrue result → ArePlain name.now 0 (length name.now) }
-{
-    first_special(name, 0) == name.len()
-}
 
 /// A member of an object, with the body of its name. Whether the name is plain is found once, so that names are compared no
 /// further than they agree.

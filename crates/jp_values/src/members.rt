@@ -1,9 +1,8 @@
 //! The members of an object in the order of their names, and a search among them.
 
 ghost use Rattle.std.specs.Prelude.{◌≡◌, ◌<◌, Some, IfOk, IfSome, refl};
-ghost use Rattle.std.specs.Ordering.{nat_cmp, is_eq};
+ghost use Rattle.std.specs.Ordering.{is_eq};
 ghost use Rattle.std.specs.Cmp.{eq_by_cmp_equiv, partial_equiv_from_equiv, po};
-ghost use Rattle.std.specs.Cmp.Lexicographic.{slice_cmp};
 ghost use Rattle.jp_model.specs.Json.Tree.{Children, value_of};
 ghost use Rattle.jp_strings.specs.Points.{IsText, points_of};
 ghost use Rattle.jp_tape.specs.Cursors.{node_of, children_from, children_after};
@@ -13,22 +12,13 @@ ghost use Rattle.jp_values.specs.ByName.{points, by_name, names_total, AreMember
 
 use crate::equality::{find_member, is_named};
 use crate::member::Member;
-use jp_strings::Scalars;
+use jp_strings::compare_scalars;
 use jp_tape::Cursor;
 use std::alloc::{AllocError, Global};
 use std::cmp::Ordering;
 
 /// Among so many members one is looked for by its name, and more are sorted.
 const MOST_SEARCHED: u32 = 16;
-
-// The order by scalars, one by one, so that no more is read than the names agree on.
-fn compare_scalars(name: &[u8], other: &[u8]) -> Ordering
-    requires first { IsText name.now }
-    requires second { IsText other.now }
-    ensures { result ≡ slice_cmp nat_cmp (points_of name.now) (points_of other.now) }
-{
-    Scalars::new(name).cmp(Scalars::new(other))
-}
 
 impl PartialEq for Member<'_> {
     ghost eq = { λ a b. is_eq (by_name a b) };

@@ -1,18 +1,10 @@
-use Rattle.std.proofs.Common.{◌≡◌, ◌<◌, subst, sym, length, List, ℕ, true}
-use Rattle.jp_decimal.specs.Reading.{RefusesNumber}
-use Rattle.jp_query.specs.declared.tree.Literal.{Literal}
+use Rattle.std.proofs.Common.{ap}
 use Rattle.jp_query.specs.View.{literal_view}
-use Rattle.jp_query.specs.Sound.{is_sound}
-use Rattle.jp_values.proofs.Leaves.{literal_is_read, literal_short}
+use Rattle.jp_values.proofs.Leaves.{spelling_is_read, spelling_short}
 use Rattle.jp_values.proofs.keys.key_of_literal.Goals as goal
 
 pub read-requires : goal.read-requires
-read-requires c =
-    let sound = subst (λ (l : Literal). is_sound (literal_view l) ≡ true) c.in-Number.is c.requires in
-    subst (λ (b : List ℕ). length b < 4294967296) (sym c.deref.ensures.value) (literal_short c.in-Number.spelling.items sound)
+read-requires c = spelling_short _ _ _ (ap literal_view c.in-Number.is) c.requires c.deref.ensures.value
 
 pub returns-in-Err : goal.returns-in-Err
-returns-in-Err c =
-    let items = c.in-Number.spelling.items in
-    let sound = subst (λ (l : Literal). is_sound (literal_view l) ≡ true) c.in-Number.is c.requires in
-    absurd (literal_is_read items c.in-Err.field-0 sound (subst (λ (b : List ℕ). RefusesNumber b c.in-Err.field-0) c.deref.ensures.value c.in-Err.ensures))
+returns-in-Err c = absurd (spelling_is_read _ _ _ c.in-Err.field-0 (ap literal_view c.in-Number.is) c.requires c.deref.ensures.value c.in-Err.ensures)
