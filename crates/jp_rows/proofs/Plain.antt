@@ -14,7 +14,7 @@ use Rattle.jp_model.proofs.Reader.Lexical.{clash, reads_rest, reads_end}
 use Rattle.jp_strings.specs.Points.{IsText, points_of}
 use Rattle.jp_strings.proofs.Halves.{high_is_surrogate, paired_single}
 use Rattle.jp_strings.proofs.Texts.{scalar_is_whole, points_of_spelled}
-use Rattle.jp_rows.specs.Names.{name_text, is_plain_byte}
+use Rattle.jp_rows.specs.Names.{name_text, stands_unescaped}
 
 -- a unit that is a scalar, and is printed as itself
 record IsPlainUnit (u : ℕ) : Type 0 where
@@ -40,17 +40,17 @@ printed_plain [] p = refl
 printed_plain (u ∷ us) p = ap₂ (λ (x y : List ℕ). x ++ y) p.0.is (printed_plain us p.1)
 
 -- a byte that is not plain does not stand in a plain body
-no_mark : (body : List ℕ) (i b : ℕ) → list_all is_plain_byte body ≡ true → i < length body → byte_at body i ≡ b → is_plain_byte b ≡ false → ⊥
-no_mark body i b h l e m = clash _ h (list_all_at is_plain_byte body i 0 l (ap is_plain_byte e ∙ m))
+no_mark : (body : List ℕ) (i b : ℕ) → list_all stands_unescaped body ≡ true → i < length body → byte_at body i ≡ b → stands_unescaped b ≡ false → ⊥
+no_mark body i b h l e m = clash _ h (list_all_at stands_unescaped body i 0 l (ap stands_unescaped e ∙ m))
 
-has_no_mark : (body : List ℕ) (i b : ℕ) → list_all is_plain_byte body ≡ true → Has body i b → is_plain_byte b ≡ false → ⊥
+has_no_mark : (body : List ℕ) (i b : ℕ) → list_all stands_unescaped body ≡ true → Has body i b → stands_unescaped b ≡ false → ⊥
 has_no_mark body i b h m e = no_mark body i b h m.inside m.is e
 
 first_byte : (body : List ℕ) (i b : ℕ) (rest : List ℕ) → drop i body ≡ b ∷ rest → byte_at body i ≡ b
 first_byte body i b rest h =
     ap (λ n. get_or body n 0) (let e : i ≡ i + 0 = omega arith in e) ∙ (sym (get_or-drop i body 0 0) ∙ ap (λ x. get_or x 0 0) h)
 
-no_apostrophe : (body : List ℕ) (i j u : ℕ) → list_all is_plain_byte body ≡ true → Unescaped body i j u → u ≡ 0x27 → ⊥
+no_apostrophe : (body : List ℕ) (i j u : ℕ) → list_all stands_unescaped body ≡ true → Unescaped body i j u → u ≡ 0x27 → ⊥
 unfolding encode
 no_apostrophe body i j u h a e =
     let stands : drop i body ≡ 0x27 ∷ drop j body = reads_rest body i j (encode_utf8 u) a.bytes ∙ ap (λ x. encode_utf8 x ++ drop j body) e in
@@ -59,14 +59,14 @@ no_apostrophe body i j u h a e =
     let within = a.bytes.within in
     no_mark body i 0x27 h (omega (arith, wide, end, within)) (first_byte body i 0x27 (drop j body) stands) refl
 
-unescaped_plain : (body : List ℕ) (i j u : ℕ) → list_all is_plain_byte body ≡ true → Unescaped body i j u → IsPlainUnit u
+unescaped_plain : (body : List ℕ) (i j u : ℕ) → list_all stands_unescaped body ≡ true → Unescaped body i j u → IsPlainUnit u
 unescaped_plain body i j u h a = record {
   whole = scalar_is_whole u a.scalar;
   is = printed_alone u a.no_control (no_apostrophe body i j u h a) a.no_backslash;
 }
 
 -- the characters from a place on are plain, and encode the bytes there
-characters_plain : (body : List ℕ) (i j : ℕ) (us : List ℕ) → list_all is_plain_byte body ≡ true → SpellsCharacters body i j us → AllPlain us × (drop i body ≡ encode_utf8_all us ++ drop j body)
+characters_plain : (body : List ℕ) (i j : ℕ) (us : List ℕ) → list_all stands_unescaped body ≡ true → SpellsCharacters body i j us → AllPlain us × (drop i body ≡ encode_utf8_all us ++ drop j body)
 characters_plain body i j [] h s = (tt, ap (λ n. drop n body) s)
 characters_plain body i j (u ∷ us) h s =
     elim s.1 [
@@ -78,7 +78,7 @@ characters_plain body i j (u ∷ us) h s =
       | inr (inr a) ↦ absurd (has_no_mark body i 0x5C h a.backslash refl)
     ]
 
-pub plain_name : (body : List ℕ) → IsText body → list_all is_plain_byte body ≡ true → name_text (points_of body) ≡ body
+pub plain_name : (body : List ℕ) → IsText body → list_all stands_unescaped body ≡ true → name_text (points_of body) ≡ body
 plain_name body t h =
     let us : List ℕ = t.spelled.units in
     let p = characters_plain body 0 (length body) us h t.spelled.characters in

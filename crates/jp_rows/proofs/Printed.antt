@@ -42,11 +42,6 @@ pub quotes : (x : List ℕ) → encode_utf8_all (quoted x) ≡ codes "'" ++ name
 unfolding encode
 quotes x = ap (λ b. codes "'" ++ b) (encodes-append (flat_map name_scalar x) (codes "'"))
 
--- and that between brackets
-pub brackets : (x : List ℕ) → encode_utf8_all (step_text (name_step x)) ≡ codes "[" ++ encode_utf8_all (quoted x) ++ codes "]"
-unfolding encode
-brackets x = ap (λ b. codes "[" ++ b) (encodes-append (quoted x) (codes "]"))
-
 pub indexed : (i : ℤ) → IsAscii (signed_decimal i) → encode_utf8_all (step_text (index_step i)) ≡ codes "[" ++ signed_decimal i ++ codes "]"
 unfolding encode
 indexed i h =

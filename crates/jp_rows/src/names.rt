@@ -1,6 +1,6 @@
 //! The steps of normalized paths (RFC 9535, section 2.7).
 
-ghost use Rattle.std.specs.Prelude.{◌≡◌, ◌/◌, ◌%◌, ◌<◌, ◌∷◌, ◌++◌, [], false, is_err, codes, encode_utf8_all};
+ghost use Rattle.std.specs.Prelude.{◌≡◌, ◌/◌, ◌%◌, ◌<◌, ◌∷◌, ◌++◌, [], false, is_err, chars, codes, encode_utf8_all};
 ghost use Rattle.std.specs.List.{list_all};
 ghost use Rattle.jp_model.specs.Devices.{Writes};
 ghost use Rattle.jp_model.specs.Steps.{name_step, index_step};
@@ -8,7 +8,7 @@ ghost use Rattle.jp_model.specs.Meaning.Nodes.{step_to};
 ghost use Rattle.jp_model.specs.Meaning.Paths.{hex_digit as hex_digit_of, name_scalar, step_text};
 ghost use Rattle.jp_strings.specs.Points.{IsText, points_of};
 ghost use Rattle.jp_tape.specs.Cursors.{name_of, index_of};
-ghost use Rattle.jp_rows.specs.Names.{name_text, is_plain_byte as is_plain_one};
+ghost use Rattle.jp_rows.specs.Names.{IsOfText, name_text, scalars_of, stands_unescaped as byte_stands_unescaped};
 
 use crate::whole::{WriteFault, write_whole};
 use itoa::Buffer;
@@ -44,8 +44,15 @@ fn control_escape(control: u8) -> [u8; 6]
     ]
 }
 
+/// A name or a string: by its scalars, or by its body in a JSON text.
+#[derive(Clone, Copy)]
+pub(crate) enum Name<'a> {
+    Scalars(&'a str),
+    Body(&'a [u8]),
+}
+
 /// Writes one scalar of a name (RFC 9535, section 2.7: normal-single-quoted).
-pub(crate) fn write_scalar<W: Write>(scalar: char, out: &mut Watched<W>) -> Result<(), WriteFault>
+fn write_scalar<W: Write>(scalar: char, out: &mut Watched<W>) -> Result<(), WriteFault>
     requires { out.old.failed ≡ false }
     ensures text { Writes W.contents out.old out.new result (encode_utf8_all (name_scalar scalar)) }
     ensures fault { out.new.failed ≡ is_err result }
@@ -64,34 +71,79 @@ pub(crate) fn write_scalar<W: Write>(scalar: char, out: &mut Watched<W>) -> Resu
     }
 }
 
-fn is_plain_byte(byte: u8) -> bool
-    ensures { result ≡ is_plain_one byte }
+fn is_unescaped_byte(byte: u8) -> bool
+    ensures { result ≡ byte_stands_unescaped byte }
 {
     byte != b'\\' && byte != b'\''
 }
 
 /// Whether a body is printed as it stands.
-pub(crate) fn is_plain(body: &[u8]) -> bool
-    ensures { result ≡ list_all is_plain_one body.now }
+pub(crate) fn needs_no_escape(body: &[u8]) -> bool
+    ensures { result ≡ list_all byte_stands_unescaped body.now }
 {
-    body.iter().all(|byte| is_plain_byte(*byte))
+    body.iter().all(|byte| is_unescaped_byte(*byte))
+}
+
+/// Writes the scalars of a text as a name has them.
+fn write_scalars<W: Write>(text: &str, out: &mut Watched<W>) -> Result<(), WriteFault>
+    requires { out.old.failed ≡ false }
+    ensures text { Writes W.contents out.old out.new result (name_text (chars text.now)) }
+    ensures fault { out.new.failed ≡ is_err result }
+    ensures after { out.new.after ≡ out.old.after }
+{
+    for scalar in text.chars() {
+        write_scalar(scalar, out)?;
+    }
+    Ok(())
 }
 
 /// Writes a name by its body: in one piece, or scalar by scalar where some scalar is escaped.
-fn write_name<W: Write>(body: &[u8], out: &mut Watched<W>) -> Result<(), WriteFault>
+fn write_body<W: Write>(body: &[u8], out: &mut Watched<W>) -> Result<(), WriteFault>
     requires body { IsText body.now }
     requires working { out.old.failed ≡ false }
     ensures text { Writes W.contents out.old out.new result (name_text (points_of body.now)) }
     ensures fault { out.new.failed ≡ is_err result }
     ensures after { out.new.after ≡ out.old.after }
 {
-    if is_plain(body) {
+    if needs_no_escape(body) {
         return write_whole(body, out);
     }
     for scalar in Scalars::new(body) {
         write_scalar(scalar, out)?;
     }
     Ok(())
+}
+
+/// Writes a name, without what is around it.
+fn write_name<W: Write>(name: Name<'_>, out: &mut Watched<W>) -> Result<(), WriteFault>
+    requires text { IsOfText name }
+    requires working { out.old.failed ≡ false }
+    ensures text { Writes W.contents out.old out.new result (name_text (scalars_of name.entry)) }
+    ensures fault { out.new.failed ≡ is_err result }
+    ensures after { out.new.after ≡ out.old.after }
+{
+    match name {
+        Name::Scalars(text) => write_scalars(text, out),
+        Name::Body(body) => write_body(body, out),
+    }
+}
+
+/// Writes a name between two marks.
+pub(crate) fn write_between<W: Write>(
+    open: &[u8],
+    name: Name<'_>,
+    close: &[u8],
+    out: &mut Watched<W>,
+) -> Result<(), WriteFault>
+    requires text { IsOfText name }
+    requires working { out.old.failed ≡ false }
+    ensures text { Writes W.contents out.old out.new result (open.now ++ name_text (scalars_of name.entry) ++ close.now) }
+    ensures fault { out.new.failed ≡ is_err result }
+    ensures after { out.new.after ≡ out.old.after }
+{
+    write_whole(open, out)?;
+    write_name(name, out)?;
+    write_whole(close, out)
 }
 
 /// Writes the step to the member of a name.
@@ -102,9 +154,7 @@ pub(crate) fn write_name_step<W: Write>(body: &[u8], out: &mut Watched<W>) -> Re
     ensures fault { out.new.failed ≡ is_err result }
     ensures after { out.new.after ≡ out.old.after }
 {
-    write_whole(b"['", out)?;
-    write_name(body, out)?;
-    write_whole(b"']", out)
+    write_between(b"['", Name::Body(body), b"']", out)
 }
 
 /// Writes the step to the element of an index. Below 0 it counts from the end.

@@ -43,6 +43,8 @@ fn write_start<W: Write>(
 }
 
 /// Writes what comes before the bytes of a node in its row.
+// Few rows are so long, so it is not put into the loop over rows.
+#[inline(never)]
 fn write_head<W: Write>(
     line: u32,
     cursor: Cursor<'_>,
@@ -63,24 +65,6 @@ fn write_head<W: Write>(
     write_whole(b"\t", out)
 }
 
-/// Writes the row of a node that is not short.
-#[inline(never)]
-fn write_long_node<W: Write>(
-    line: u32,
-    cursor: Cursor<'_>,
-    framing: Framing,
-    out: &mut Watched<W>,
-) -> Result<(), WriteFault>
-    requires { out.old.failed ≡ false }
-    ensures text { Writes W.contents out.old out.new result (node_text framing line (line_of cursor.entry) (node_of cursor.entry)) }
-    ensures fault { out.new.failed ≡ is_err result }
-    ensures after { out.new.after ≡ out.old.after }
-{
-    write_head(line, cursor, framing, out)?;
-    write_whole(cursor.source(), out)?;
-    write_whole(b"\n", out)
-}
-
 /// Writes the row of a node: the number of its line from 1, its path, and its bytes of the line, unchanged (profile).
 ///
 /// After an `Err` the writer received a beginning of the row: no write follows one that failed or took no byte.
@@ -96,10 +80,12 @@ pub fn write_node<W: Write>(
     ensures after { out.new.after ≡ out.old.after }
 {
     let mut row = RowEnd::new();
-    match row.put_node(line, cursor, framing) {
-        Some(()) => write_whole(row.as_slice(), out),
-        None => write_long_node(line, cursor, framing, out),
+    if let Some(()) = row.put_node(line, cursor, framing) {
+        return write_whole(row.as_slice(), out);
     }
+    write_head(line, cursor, framing, out)?;
+    write_whole(cursor.source(), out)?;
+    write_whole(b"\n", out)
 }
 
 /// Writes the row of a refused line: its number from 1, and the word of its fault (profile).

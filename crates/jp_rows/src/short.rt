@@ -11,7 +11,7 @@ ghost use Rattle.jp_model.specs.Rows.{row_start as row_start_of, tab, node_text}
 ghost use Rattle.jp_strings.specs.Points.{IsText, points_of};
 ghost use Rattle.jp_tape.specs.Cursors.{line_of, name_of, index_of, node_of};
 
-use crate::names::is_plain;
+use crate::names::needs_no_escape;
 use crate::rows::row_start;
 use jp_model::{Framing, Span};
 use jp_tape::Cursor;
@@ -125,7 +125,7 @@ impl RowEnd {
         requires text { IsText (bytes_between line.now name.start name.end) }
         ensures { IfSome result (λ _. self.new ≡ encode_utf8_all (step_text (name_step (points_of (bytes_between line.now name.start name.end)))) ++ self.old) }
     {
-        if !is_plain(&line[name.start as usize..name.end as usize]) {
+        if !needs_no_escape(&line[name.start as usize..name.end as usize]) {
             return None;
         }
         self.put(b"']")?;

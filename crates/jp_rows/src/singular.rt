@@ -5,10 +5,9 @@ ghost use Rattle.jp_model.specs.Devices.{Writes};
 ghost use Rattle.jp_model.specs.Meaning.Paths.{path_text, quoted, step_text};
 ghost use Rattle.jp_model.specs.Steps.{index_step, name_step};
 ghost use Rattle.jp_query.specs.SingularPaths.{path_steps, step_view};
-ghost use Rattle.jp_rows.specs.Names.{name_text};
 ghost use Rattle.jp_rows.specs.Parts.{part_text};
 
-use crate::names::{write_index_step, write_scalar};
+use crate::names::{Name, write_between, write_index_step};
 use crate::whole::{WriteFault, write_whole};
 use jp_model::Watched;
 use jp_query::{SingularPath, Step};
@@ -29,19 +28,6 @@ pub enum QueryPart<'a> {
     Quoted(&'a str),
 }
 
-/// Writes what is between the quotes of a name or a string.
-fn write_scalars<W: Write>(text: &str, out: &mut Watched<W>) -> Result<(), WriteFault>
-    requires { out.old.failed ≡ false }
-    ensures text { Writes W.contents out.old out.new result (name_text (chars text.now)) }
-    ensures fault { out.new.failed ≡ is_err result }
-    ensures after { out.new.after ≡ out.old.after }
-{
-    for scalar in text.chars() {
-        write_scalar(scalar, out)?;
-    }
-    Ok(())
-}
-
 /// Writes a name or a string between single quotes (RFC 9535, section 2.7: normal-name-selector).
 fn write_quoted<W: Write>(text: &str, out: &mut Watched<W>) -> Result<(), WriteFault>
     requires { out.old.failed ≡ false }
@@ -49,9 +35,7 @@ fn write_quoted<W: Write>(text: &str, out: &mut Watched<W>) -> Result<(), WriteF
     ensures fault { out.new.failed ≡ is_err result }
     ensures after { out.new.after ≡ out.old.after }
 {
-    write_whole(b"'", out)?;
-    write_scalars(text, out)?;
-    write_whole(b"'", out)
+    write_between(b"'", Name::Scalars(text), b"'", out)
 }
 
 /// Writes the step to the member of a name.
@@ -61,9 +45,7 @@ fn write_named_step<W: Write>(name: &str, out: &mut Watched<W>) -> Result<(), Wr
     ensures fault { out.new.failed ≡ is_err result }
     ensures after { out.new.after ≡ out.old.after }
 {
-    write_whole(b"[", out)?;
-    write_quoted(name, out)?;
-    write_whole(b"]", out)
+    write_between(b"['", Name::Scalars(name), b"']", out)
 }
 
 /// Writes a step.

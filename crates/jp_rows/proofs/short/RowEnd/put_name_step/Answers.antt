@@ -11,5 +11,5 @@ pub returns : goal.returns
 returns c =
     let name = bytes_between c.args.line.now c.args.name.start c.args.name.end in
     let two = put_two name (codes "']") _ _ _ c.in_ok-put.ensures c.in_ok-put_part.ensures in
-    rw (named (points_of name), plain_name name c.requires.text (sym c.if-not-is_plain.ensures))
+    rw (named (points_of name), plain_name name c.requires.text (sym c.if-not-needs_no_escape.ensures))
     (put_last c.put-2.result (codes "['") (name ++ codes "']") _ _ _ two c.put-2.ensures)

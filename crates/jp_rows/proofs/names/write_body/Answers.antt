@@ -7,11 +7,11 @@ use Rattle.jp_rows.specs.Names.{name_text}
 use Rattle.jp_rows.proofs.Chains.{part_more, part_behind, ends_in_part}
 use Rattle.jp_rows.proofs.Printed.{name-push, name-parts}
 use Rattle.jp_rows.proofs.Plain.{plain_name}
-use Rattle.jp_rows.proofs.names.write_name.Goals as goal
+use Rattle.jp_rows.proofs.names.write_body.Goals as goal
 
-pub returns-then-is_plain-clause-text : goal.returns-then-is_plain-clause-text
-returns-then-is_plain-clause-text g c =
-    let plain = plain_name c.args.body.now c.requires.body (sym c.is_plain.ensures ∙ c.if-is_plain.true) in
+pub returns-then-needs_no_escape-clause-text : goal.returns-then-needs_no_escape-clause-text
+returns-then-needs_no_escape-clause-text g c =
+    let plain = plain_name c.args.body.now c.requires.body (sym c.needs_no_escape.ensures ∙ c.if-needs_no_escape.true) in
     rw plain c.write_whole.ensures.text
 
 pub returns-in_err-write_scalar-clause-text : goal.returns-in_err-write_scalar-clause-text

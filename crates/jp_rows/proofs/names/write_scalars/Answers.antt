@@ -7,7 +7,7 @@ use Rattle.jp_rows.specs.Names.{name_text}
 use Rattle.jp_rows.proofs.Chains.{part_more, part_behind, ends_in_part}
 use Rattle.jp_rows.proofs.Printed.{name-push, name-parts}
 use Rattle.jp_rows.proofs.Turns.{around, all_read}
-use Rattle.jp_rows.proofs.singular.write_scalars.Goals as goal
+use Rattle.jp_rows.proofs.names.write_scalars.Goals as goal
 
 pub returns-in_err-write_scalar-clause-text : goal.returns-in_err-write_scalar-clause-text
 returns-in_err-write_scalar-clause-text g c =

@@ -2,7 +2,7 @@
 use Rattle.std.proofs.Common.{◌≡◌, false}
 use Rattle.jp_model.specs.Devices.{Received}
 use Rattle.jp_rows.specs.Names.{name_text}
-use Rattle.jp_rows.proofs.singular.write_scalars.Given as goal
+use Rattle.jp_rows.proofs.names.write_scalars.Given as goal
 
 abbrev pub invariant-loop-scalar : goal.invariant-loop-scalar
 invariant-loop-scalar g l = record {

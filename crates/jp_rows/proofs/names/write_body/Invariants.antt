@@ -4,7 +4,7 @@ use Rattle.jp_model.specs.Devices.{Received}
 use Rattle.jp_strings.specs.Points.{points_of}
 use Rattle.jp_strings.specs.Scalars.{scalars_left}
 use Rattle.jp_rows.specs.Names.{name_text}
-use Rattle.jp_rows.proofs.names.write_name.Given as goal
+use Rattle.jp_rows.proofs.names.write_body.Given as goal
 
 abbrev pub invariant-loop-scalar : goal.invariant-loop-scalar
 invariant-loop-scalar g l = record {
