@@ -36,8 +36,11 @@ within_limit bytes got most count e l =
     ap (λ m. take m (bytes ++ got)) n ∙ take-append-add bytes got (most - count)
 
 -- the first bytes of a piece are cut to what is left
-pub cut_piece : (read left : ℕ) (piece : List ℕ) → take (min read left) piece ≡ take left (take read piece)
+cut_piece : (read left : ℕ) (piece : List ℕ) → take (min read left) piece ≡ take left (take read piece)
 cut_piece read left piece = grind (arith, common_steps, take-take, take_all, length-take)
+
+pub cut_to : (read left kept : ℕ) (piece : List ℕ) → kept ≡ min read left → take kept piece ≡ take left (take read piece)
+cut_to read left kept piece is = ap (λ n. take n piece) is ∙ cut_piece read left piece
 
 nothing_held : (held : List ℕ) → length held ≡ 0 → line_unless_empty held ≡ []
 nothing_held [] e = refl

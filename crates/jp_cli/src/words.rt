@@ -5,7 +5,7 @@ ghost use Rattle.std.specs.Option.{is_some, option_map_or};
 ghost use Rattle.clap.specs.Built.{IsParsedFrom, TakesValue};
 ghost use Rattle.clap.specs.Words.{FailsBy, app_of, first_of, first_value, found_of};
 ghost use Rattle.clap.specs.declared.parser.matches.ArgMatches.{ArgMatches};
-ghost use Rattle.jp_cli.specs.Arguments.{IsArgument};
+ghost use Rattle.jp_cli.specs.Arguments.{IsArgument, IsAskedBy};
 ghost use Rattle.jp_cli.specs.Words.{command_rule, commands_in, faults_in, file_rule, found_in, framing_of, parse_faults, program, script_rule, seq_rule, source_faults};
 
 use clap::error::ErrorKind;
@@ -90,14 +90,7 @@ fn program_command<'a>(alloc: Global) -> Result<Command<'a>, AllocError>
 
 /// Reads the words one by one, wherever the script is to come from.
 fn parse<'a>(alloc: Global, words: &'a [&'a str]) -> Result<Options<'a>, Error>
-    ensures file { IfOk result (λ o. first_of (codes "file") (found_in (map (λ w. w.now) words.entry.now))
-        ≡ Some o.file.now) }
-    ensures script { IfOk result (λ o. first_of (codes "script") (found_in (map (λ w. w.now) words.entry.now))
-        ≡ option_map (λ s. s.now) o.script) }
-    ensures commands { IfOk result (λ o. map (λ s. s.now) o.commands.items
-        ≡ commands_in (found_in (map (λ w. w.now) words.entry.now))) }
-    ensures framing { IfOk result (λ o. o.framing
-        ≡ framing_of (first_of (codes "seq") (found_in (map (λ w. w.now) words.entry.now)))) }
+    ensures asked { IfOk result (IsAskedBy (found_in (map (λ w. w.now) words.entry.now))) }
     ensures refused { FailsBy (parse_faults (map (λ w. w.now) words.entry.now)) result }
 {
     let command = program_command(alloc)?;

@@ -5,7 +5,7 @@ use Rattle.std.proofs.lemmas.List.{length-take}
 use Rattle.jp_model.specs.Lines.{HasNoSeparator, closed_lines, open_line}
 use Rattle.jp_cli.specs.Runs.{Ran, RanFirst, StoppedIn, at}
 use Rattle.jp_model.proofs.Pieces.{pieces_clear}
-use Rattle.jp_cli.proofs.ScriptSoFar.{still_going, no_end, little_room, at_end_with_room, flushed, flushed_at_end, stopped_flush, stopped_read, taken, too_long, stopped_piece, cut_piece, min_first, one_more_call, not_empty, all_run, last_run, last_stopped}
+use Rattle.jp_cli.proofs.ScriptSoFar.{still_going, no_end, little_room, at_end_with_room, flushed, flushed_at_end, stopped_flush, stopped_read, taken, too_long, stopped_piece, cut_to, min_first, one_more_call, not_empty, all_run, last_run, last_stopped}
 use Rattle.jp_cli.specs.Commands.{asked_in}
 use Rattle.jp_query.specs.Status.{query_of}
 use Rattle.jp_cli.proofs.script.run_script.Goals as goal
@@ -37,14 +37,11 @@ returns-in-Err-clause-output g c =
     let inv = c.loop-alloc.invariant in
     let so = flushed query_of asked_in c.args.setup g.R.Read.remaining g.W.Write.contents c.args.script.now c.loop-alloc.script c.args.out.now c.loop-alloc.out c.flush_answers.new.out
     (at c.args.store.now.state c.args.opened.now) (at c.loop-alloc.store.state c.loop-alloc.opened) c.loop-alloc.held.items c.loop-alloc.count inv.so_far c.flush_answers.ensures.bytes in
-    let got = take c.in-Ok.read c.read_script.new.piece in
-    let left = c.args.setup.script_most - c.loop-alloc.count in
-    let little = little_room c.read_script.new.piece c.loop-alloc.buffer c.min-room.result 4095 left c.read_script.auto.piece c.min-room.ensures in
-    let cut : take c.min.result c.read_script.new.piece ≡ take left got = ap (λ n. take n c.read_script.new.piece) c.min.ensures ∙ cut_piece c.in-Ok.read left c.read_script.new.piece in
+    let cut = cut_to c.in-Ok.read (c.args.setup.script_most - c.loop-alloc.count) c.min.result c.read_script.new.piece c.min.ensures in
     stopped_piece query_of asked_in c.args.setup g.R.Read.remaining g.W.Write.contents c.args.script.now c.loop-alloc.script c.read_script.new.script c.args.out.now c.flush_answers.new.out c.answer_lines.new.out
-    (at c.args.store.now.state c.args.opened.now) (at c.loop-alloc.store.state c.loop-alloc.opened) (at c.answer_lines.new.store.state c.answer_lines.new.opened) c.loop-alloc.held.items c.loop-alloc.count got c.in-Err.fault
+    (at c.args.store.now.state c.args.opened.now) (at c.loop-alloc.store.state c.loop-alloc.opened) (at c.answer_lines.new.store.state c.answer_lines.new.opened) c.loop-alloc.held.items c.loop-alloc.count (take c.in-Ok.read c.read_script.new.piece) c.in-Err.fault
     so inv.within c.in-Ok.ensures.bytes.0 c.requires.reads (still_going _ _ _ _ c.in-Ok.ensures.ended inv.going (no_end c.in-Ok.read _ c.if-read-eq0.false))
-    (let read = c.in-Ok.ensures.bound in omega (arith, read.0, read.1, little))
+    (let read = c.in-Ok.ensures.bound in omega (arith, read.0, read.1, little_room c.read_script.new.piece c.loop-alloc.buffer c.min-room.result 4095 (c.args.setup.script_most - c.loop-alloc.count) c.read_script.auto.piece c.min-room.ensures))
     (subst (λ p. StoppedIn query_of asked_in g.W.Write.contents c.flush_answers.new.out c.answer_lines.new.out c.in-Err.fault c.args.setup c.loop-alloc.store.state (closed_lines (c.loop-alloc.held.items ++ p))) cut
     c.in-Err.ensures.err.0)
     (subst (λ p. RanFirst query_of asked_in c.args.setup (at c.loop-alloc.store.state c.loop-alloc.opened) (closed_lines (c.loop-alloc.held.items ++ p)) (at c.answer_lines.new.store.state c.answer_lines.new.opened)) cut c.in-Err.ensures.err.1)
@@ -54,14 +51,11 @@ returns-then-read-left-clause-output g c =
     let inv = c.loop-alloc.invariant in
     let so = flushed query_of asked_in c.args.setup g.R.Read.remaining g.W.Write.contents c.args.script.now c.loop-alloc.script c.args.out.now c.loop-alloc.out c.flush_answers.new.out
     (at c.args.store.now.state c.args.opened.now) (at c.loop-alloc.store.state c.loop-alloc.opened) c.loop-alloc.held.items c.loop-alloc.count inv.so_far c.flush_answers.ensures.bytes in
-    let got = take c.in-Ok.read c.read_script.new.piece in
-    let left = c.args.setup.script_most - c.loop-alloc.count in
-    let little = little_room c.read_script.new.piece c.loop-alloc.buffer c.min-room.result 4095 left c.read_script.auto.piece c.min-room.ensures in
-    let cut : take c.min.result c.read_script.new.piece ≡ take left got = ap (λ n. take n c.read_script.new.piece) c.min.ensures ∙ cut_piece c.in-Ok.read left c.read_script.new.piece in
+    let cut = cut_to c.in-Ok.read (c.args.setup.script_most - c.loop-alloc.count) c.min.result c.read_script.new.piece c.min.ensures in
     too_long query_of asked_in c.args.setup g.R.Read.remaining g.W.Write.contents c.args.script.now c.loop-alloc.script c.read_script.new.script c.args.out.now c.flush_answers.new.out c.answer_lines.new.out
-    (at c.args.store.now.state c.args.opened.now) (at c.loop-alloc.store.state c.loop-alloc.opened) (at c.answer_lines.new.store.state c.answer_lines.new.opened) c.loop-alloc.held.items c.loop-alloc.count got
+    (at c.args.store.now.state c.args.opened.now) (at c.loop-alloc.store.state c.loop-alloc.opened) (at c.answer_lines.new.store.state c.answer_lines.new.opened) c.loop-alloc.held.items c.loop-alloc.count (take c.in-Ok.read c.read_script.new.piece)
     so inv.within c.in-Ok.ensures.bytes.0 c.requires.reads c.in-Ok.ensures.failed (still_going _ _ _ _ c.in-Ok.ensures.ended inv.going (no_end c.in-Ok.read _ c.if-read-eq0.false))
-    (let read = c.in-Ok.ensures.bound in omega (arith, read.0, read.1, little, c.if-read-left.true))
+    (let read = c.in-Ok.ensures.bound in omega (arith, read.0, read.1, little_room c.read_script.new.piece c.loop-alloc.buffer c.min-room.result 4095 (c.args.setup.script_most - c.loop-alloc.count) c.read_script.auto.piece c.min-room.ensures, c.if-read-left.true))
     (subst (λ p. Ran query_of asked_in g.W.Write.contents c.flush_answers.new.out c.answer_lines.new.out c.args.setup (at c.loop-alloc.store.state c.loop-alloc.opened) (closed_lines (c.loop-alloc.held.items ++ p)) (at c.answer_lines.new.store.state c.answer_lines.new.opened)) cut
     c.in_default-answer_lines.ensures.ok.0)
 

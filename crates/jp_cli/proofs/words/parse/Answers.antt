@@ -15,27 +15,19 @@ pub unwrap-requires : goal.unwrap-requires
 unwrap-requires c =
     some_of_text _ c.get_str.result _ c.get_str.ensures (c.in_ok-command.ensures.file c.in_ok-matches.matches c.in_ok-matches.ensures.parsed)
 
-pub returns-clause-file : goal.returns-clause-file
-returns-clause-file c =
-    first_found (app_of c.in_ok-command.command) _ c.in_ok-matches.matches (codes "file") c.in_ok-command.ensures.program c.in_ok-matches.ensures.matches
-    ∙ sym c.get_str.ensures ∙ ap (option_map (λ s. s.now)) c.unwrap.ensures
-
-pub returns-clause-script : goal.returns-clause-script
-returns-clause-script c =
-    first_found (app_of c.in_ok-command.command) _ c.in_ok-matches.matches (codes "script") c.in_ok-command.ensures.program c.in_ok-matches.ensures.matches
-    ∙ sym c.get_str-2.ensures
-
-pub returns-clause-commands : goal.returns-clause-commands
-returns-clause-commands c =
-    ap (map (λ s. s.now)) (c.in_ok-from_slice.ensures.items ∙ ap (λ s. s.now) c.unwrap_or-commands.ensures)
-    ∙ values_or_none c.get_strs.result _ refl
-    ∙ ap (λ values. unwrap_or values []) (c.get_strs.ensures
-    ∙ sym (all_found (app_of c.in_ok-command.command) _ c.in_ok-matches.matches (codes "command") c.in_ok-command.ensures.program c.in_ok-matches.ensures.matches))
-
-pub returns-clause-framing : goal.returns-clause-framing
-returns-clause-framing c =
-    c.framing_of.ensures ∙ ap framing_of (c.get_str-3.ensures
-    ∙ sym (first_found (app_of c.in_ok-command.command) _ c.in_ok-matches.matches (codes "seq") c.in_ok-command.ensures.program c.in_ok-matches.ensures.matches))
+pub returns-clause-asked : goal.returns-clause-asked
+returns-clause-asked c = record {
+  file = first_found (app_of c.in_ok-command.command) _ c.in_ok-matches.matches (codes "file") c.in_ok-command.ensures.program c.in_ok-matches.ensures.matches
+      ∙ sym c.get_str.ensures ∙ ap (option_map (λ s. s.now)) c.unwrap.ensures;
+  script = first_found (app_of c.in_ok-command.command) _ c.in_ok-matches.matches (codes "script") c.in_ok-command.ensures.program c.in_ok-matches.ensures.matches
+      ∙ sym c.get_str-2.ensures;
+  commands = ap (map (λ s. s.now)) (c.in_ok-from_slice.ensures.items ∙ ap (λ s. s.now) c.unwrap_or-commands.ensures)
+      ∙ values_or_none c.get_strs.result _ refl
+      ∙ ap (λ values. unwrap_or values []) (c.get_strs.ensures
+      ∙ sym (all_found (app_of c.in_ok-command.command) _ c.in_ok-matches.matches (codes "command") c.in_ok-command.ensures.program c.in_ok-matches.ensures.matches));
+  framing = c.framing_of.ensures ∙ ap framing_of (c.get_str-3.ensures
+      ∙ sym (first_found (app_of c.in_ok-command.command) _ c.in_ok-matches.matches (codes "seq") c.in_ok-command.ensures.program c.in_ok-matches.ensures.matches));
+}
 
 pub returns-clause-refused : goal.returns-clause-refused
 returns-clause-refused c =

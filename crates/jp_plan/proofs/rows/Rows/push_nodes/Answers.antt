@@ -25,19 +25,8 @@ loop-node-preserved c =
       within = one_within c.args.view cs i node c.loop-node-test.true c.node-item.is inv.within (place_within c.args.view node c.place.result line c.place.ensures.value c.place.ensures.within);
     }
 
-pub returns-clause-rows : goal.returns-clause-rows
-returns-clause-rows c =
-    let inv = c.loop-node.invariant in
-    let cs : List Cursor = c.args.nodes.now in
-    let old = c.args.self.now in
-    let lines : c.push-2.new.self.items ≡ old.lines.items ++ by_line.Nodes c.args.line c.args.view (length cs) ∷ [] = c.in_ok-push-2.ensures.items ∙ ap (λ (ls : List LineRows). ls ++ by_line.Nodes c.args.line c.args.view (length cs) ∷ []) inv.lines in
-    let whole : take c.loop-node.node-index cs ≡ cs = take_all c.loop-node.node-index cs (omega (arith, c.loop-node-test.false)) in
-    let places = inv.places ∙ ap (λ (ds : List Cursor). old.places.items ++ map place_of ds) whole in
-    ap₂ (λ (ls : List LineRows) (ps : List ℕ). expanded ls ps) lines places
-    ∙ nodes_expanded c.args.line c.args.view (length cs) (map place_of cs) (sym (length-map cs place_of)) old.lines.items old.places.items c.requires.turn
-
-pub returns-clause-turn : goal.returns-clause-turn
-returns-clause-turn c =
+pub returns : goal.returns
+returns c =
     let inv = c.loop-node.invariant in
     let cs : List Cursor = c.args.nodes.now in
     let old = c.args.self.now in
@@ -45,6 +34,10 @@ returns-clause-turn c =
     let whole : take c.loop-node.node-index cs ≡ cs = take_all c.loop-node.node-index cs (omega (arith, c.loop-node-test.false)) in
     let places = inv.places ∙ ap (λ (ds : List Cursor). old.places.items ++ map place_of ds) whole in
     let within : All (IsPlaceIn c.args.view) (map place_of cs) = subst (λ (ds : List Cursor). All (IsPlaceIn c.args.view) (map place_of ds)) whole inv.within in
-    subst (λ (ls : List LineRows). AreInTurn ls c.loop-node.self.places.items) (sym lines)
-    (subst (AreInTurn (old.lines.items ++ by_line.Nodes c.args.line c.args.view (length cs) ∷ [])) (sym places)
-    (nodes_in_turn c.args.line c.args.view (length cs) (map place_of cs) (sym (length-map cs place_of)) old.lines.items old.places.items c.requires.turn within))
+    record {
+      rows = ap₂ (λ (ls : List LineRows) (ps : List ℕ). expanded ls ps) lines places
+          ∙ nodes_expanded c.args.line c.args.view (length cs) (map place_of cs) (sym (length-map cs place_of)) old.lines.items old.places.items c.requires.turn;
+      turn = subst (λ (ls : List LineRows). AreInTurn ls c.loop-node.self.places.items) (sym lines)
+          (subst (AreInTurn (old.lines.items ++ by_line.Nodes c.args.line c.args.view (length cs) ∷ [])) (sym places)
+          (nodes_in_turn c.args.line c.args.view (length cs) (map place_of cs) (sym (length-map cs place_of)) old.lines.items old.places.items c.requires.turn within));
+    }
