@@ -1,5 +1,5 @@
 use Rattle.std.proofs.Common.{rules, ◌≡◌, ◌&&◌, true, false, sym, ◌∙◌, ap, ap₂, subst, arith, Option, Some, None, IfSome}
-use Rattle.jp_model.specs.Json.Tree.{Children, Value, value_of}
+use Rattle.jp_model.specs.Json.Tree.{Children, value_of}
 use Rattle.jp_model.specs.Meaning.Compare.{members_within}
 use Rattle.jp_strings.specs.Points.{points_of}
 use Rattle.jp_tape.specs.declared.cursor.Cursor.{Cursor}
@@ -27,12 +27,10 @@ inside c = children_in (value_of (node_of c).tree)
 
 pub equal_in-returns-in_default : goal.equal_in-returns-in_default
 equal_in-returns-in_default t c =
-    let v : Value = value_of (node_of c.args.left).tree in
-    let w : Value = value_of (node_of c.args.right).tree in
     c.equal.ensures ∙ (ap₂ scalars_equal c.of_node.ensures c.of_node-in_default.ensures ∙ elim c.in_default.branch [
-      | equal_in-in_default-via-in-Array+in_default d ↦ leaves_equal v w (λ a b. d.in_default.not-Array-1 (c.kind-2.ensures ∙ b)) (λ a b. array_or_object (sym d.in_default.is-0 ∙ (c.kind.ensures ∙ a)))
-      | equal_in-in_default-via-in-Object+in_default d ↦ leaves_equal v w (λ a b. array_or_object (sym a ∙ (sym c.kind.ensures ∙ d.in_default.is-0))) (λ a b. d.in_default.not-Object-1 (c.kind-2.ensures ∙ b))
-      | equal_in-in_default-via-in_default d ↦ leaves_equal v w (λ a b. d.in_default.not-Array-0 (c.kind.ensures ∙ a)) (λ a b. d.in_default.not-Object-0 (c.kind.ensures ∙ a))
+      | equal_in-in_default-via-in-Array+in_default d ↦ leaves_equal _ _ (λ a b. d.in_default.not-Array-1 (c.kind-2.ensures ∙ b)) (λ a b. array_or_object (sym d.in_default.is-0 ∙ (c.kind.ensures ∙ a)))
+      | equal_in-in_default-via-in-Object+in_default d ↦ leaves_equal _ _ (λ a b. array_or_object (sym a ∙ (sym c.kind.ensures ∙ d.in_default.is-0))) (λ a b. d.in_default.not-Object-1 (c.kind-2.ensures ∙ b))
+      | equal_in-in_default-via-in_default d ↦ leaves_equal _ _ (λ a b. d.in_default.not-Array-0 (c.kind.ensures ∙ a)) (λ a b. d.in_default.not-Object-0 (c.kind.ensures ∙ a))
     ])
 
 pub has_members_in-loop-next-init : goal.has_members_in-loop-next-init
