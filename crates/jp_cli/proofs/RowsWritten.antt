@@ -1,5 +1,5 @@
 -- The texts of rows, or of other things, that are written one after another.
-use Rattle.std.proofs.Common.{◌≡◌, ◌∙◌, ◌+◌, ◌-◌, ◌<◌, ℕ, zero, List, [], ◌∷◌, ◌++◌, length, flat_map, take, drop, get_or, sym, ap, ap₂, subst, arith, false, append-nil, append_assoc, take-append-drop, map, refl, Option}
+use Rattle.std.proofs.Common.{◌≡◌, ◌∙◌, ◌+◌, ◌<◌, ℕ, List, [], ◌∷◌, ◌++◌, length, flat_map, take, drop, get_or, sym, ap, ap₂, subst, arith, false, append-nil, append_assoc, take-append-drop, map, refl, Option}
 use Rattle.std.specs.Prelude.{suc}
 use Rattle.std.proofs.Math.Seq.{take-suc}
 use Rattle.std.proofs.lemmas.Grind.{flat_map-append}

@@ -1,7 +1,7 @@
 -- Where the keys that compare so with a key begin and end, in the order of keys.
 use Rattle.std.specs.Prelude.{Bool, true, nat_lt, nat_le, not, ◌&&◌, Option, Some, None}
 use Rattle.std.specs.Ordering.{is_lt, is_le}
-use Rattle.jp_model.specs.Query.Syntax.{CompareOp, equal, not_equal, less, less_equal, greater, greater_equal}
+use Rattle.jp_model.specs.Query.Syntax.{CompareOp, less, less_equal, greater, greater_equal}
 use Rattle.jp_values.specs.Keys.{key_order, key_rank}
 use Rattle.jp_values.specs.declared.key.Key.{Key}
 use Rattle.jp_index.specs.declared.edge.Edge.{Edge}

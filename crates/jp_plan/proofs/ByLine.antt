@@ -1,5 +1,5 @@
 -- Rows by line: one line more, and what the rows are of.
-use Rattle.std.proofs.Common.{◌≡◌, ◌∙◌, ℕ, zero, suc, ◌+◌, ◌-◌, ◌≤◌, ◌<◌, List, [], ◌∷◌, ◌++◌, length, map, take, drop, Some, slice_get, get_or, ap, ap₂, sym, subst, refl, arith, append-nil, append_assoc}
+use Rattle.std.proofs.Common.{◌≡◌, ◌∙◌, ℕ, zero, suc, ◌+◌, ◌-◌, ◌<◌, List, [], ◌∷◌, ◌++◌, length, map, take, drop, Some, slice_get, get_or, ap, ap₂, sym, subst, refl, arith, append-nil, append_assoc}
 use Rattle.std.specs.Prelude.{All}
 use Rattle.std.proofs.Math.ListN.{get_or-map}
 use Rattle.std.proofs.Math.Seq.{take-suc, drop-cons, take-append_seam, drop-append_seam}
@@ -25,14 +25,13 @@ use Rattle.jp_tape.specs.Tapes.{spelled}
 use Rattle.jp_tape.specs.declared.cursor.Cursor.{Cursor}
 use Rattle.jp_eval.specs.Found.{AreOf}
 use Rattle.jp_plan.specs.Behind.{segments_behind}
-use Rattle.jp_plan.specs.ByLine.{Found, at_place, of_fault, expanded, found_row, found_in, found_rows, node_at, IsPlaceIn, AreInTurn, IsOfItsLine, AreOfTheirLines}
+use Rattle.jp_plan.specs.ByLine.{Found, at_place, of_fault, expanded, found_row, node_at, IsPlaceIn, AreInTurn, IsOfItsLine}
 use Rattle.jp_plan.specs.Found.{row_view, rows_view, IsOnItsLine, AreOnTheirLines}
 use Rattle.jp_plan.specs.Passing.{IsLineOf}
 use Rattle.jp_plan.specs.declared.answer.Row.{Row}
 use Rattle.jp_plan.specs.declared.answer.Row.TheVariants as found
 use Rattle.jp_plan.specs.declared.rows.LineRows.{LineRows}
 use Rattle.jp_plan.specs.declared.rows.LineRows.TheVariants as by_line
-use Rattle.jp_plan.specs.declared.rows.Rows.{Rows}
 use Rattle.jp_plan.proofs.Entries.{text_at}
 use Rattle.jp_plan.proofs.Evaluated.{behind_nodes}
 

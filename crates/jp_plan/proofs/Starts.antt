@@ -1,31 +1,16 @@
 -- The node of a seek, and the rows of a line.
-use Rattle.std.proofs.Common.{◌≡◌, ℕ, ◌-◌, List, [], ◌∷◌, ◌++◌, length, map, not, ◌==◌, true, Some, slice_get, refl, sym, ap, subst, ◌∙◌}
+use Rattle.std.proofs.Common.{◌≡◌, ℕ, List, [], ◌∷◌, length, not, ◌==◌, true, Some, slice_get, refl, sym, ap, subst, ◌∙◌}
 use Rattle.jp_model.specs.Json.Status.{LineStatus, blank, refused, parsed}
 use Rattle.jp_model.specs.Json.Tree.{Tree}
-use Rattle.jp_model.specs.declared.LineFault.{LineFault}
 use Rattle.jp_model.specs.Meaning.Nodes.{Node, root_node, subtree}
-use Rattle.jp_model.specs.Meaning.Selecting.{nodes}
 use Rattle.jp_model.specs.Plans.{is_tree, steps_nodes}
-use Rattle.jp_model.specs.Query.Singular.{steps_query}
-use Rattle.jp_model.specs.Query.Syntax.{Segments}
-use Rattle.jp_model.specs.Rows as model
-use Rattle.jp_model.specs.Rows.{status_rows}
 use Rattle.jp_model.specs.Steps.{Step}
-use Rattle.jp_tape.specs.Cursors.{line_of, node_of}
-use Rattle.jp_tape.specs.declared.cursor.Cursor.{Cursor}
-use Rattle.std.specs.Prelude.{Result, Ok, Err, OnOk, All}
-use Rattle.std.proofs.lemmas.List.Elements.{All-append, All-map, All-same, All-weaker}
-use Rattle.jp_plan.specs.Behind.{segments_behind}
+use Rattle.std.specs.Prelude.{Result, Ok, Err, OnOk}
 use Rattle.jp_index.specs.Entries.{Entry, entries_at, entries_of, entry_of, status_entry}
-use Rattle.jp_store.specs.Collections.{Collection, statuses_in, line_text, line_status}
+use Rattle.jp_store.specs.Collections.{Collection, statuses_in, line_status}
 use Rattle.jp_store.specs.Views.{status_kind}
-use Rattle.jp_store.specs.declared.Status.TheVariants as told
-use Rattle.jp_plan.specs.Found.{row_view, rows_view, node_row, IsOnItsLine, AreOnTheirLines}
 use Rattle.jp_plan.specs.Passing.{seek_status, is_told_tree, IsLineOf}
-use Rattle.jp_plan.specs.declared.answer.Row.{Row}
-use Rattle.jp_plan.specs.declared.answer.Row.TheVariants as found
-use Rattle.jp_plan.proofs.Entries.{collection_entry, one_entry, no_entry, text_at}
-use Rattle.jp_plan.proofs.Evaluated.{behind_nodes}
+use Rattle.jp_plan.proofs.Entries.{collection_entry, one_entry, no_entry}
 
 -- the entry of a line with a tree is of its tree, and of the one node of the path
 pub record Starts (path : List Step) (t : Tree) (place : ℕ) (node : Node) : Type 0 where

@@ -1,5 +1,5 @@
 -- The rows are those of the definition, or a growth was refused.
-use Rattle.std.proofs.Common.{ℕ, List, ap, subst, sym, refl, true, ◌∙◌}
+use Rattle.std.proofs.Common.{ℕ, subst, sym, refl, true}
 use Rattle.jp_query.specs.Status.{query_of}
 use Rattle.jp_model.specs.Script.Commands.{query_line}
 use Rattle.jp_types.specs.Checks.{checked_view}

@@ -1,5 +1,5 @@
 -- One row more is written, or a beginning of it.
-use Rattle.std.proofs.Common.{◌≡◌, ◌∙◌, ℕ, List, get_or, sym, subst}
+use Rattle.std.proofs.Common.{◌∙◌, ℕ, List, get_or, sym, subst}
 use Rattle.std.proofs.lemmas.Grind.{get_or_default_zero}
 use Rattle.jp_rows.proofs.Chains.{Part}
 use Rattle.jp_model.specs.Devices.{Received}

@@ -1,13 +1,11 @@
 -- The rows of one line more are written, or a beginning of them.
-use Rattle.std.proofs.Common.{◌∙◌, ◌+◌, ◌∷◌, ℕ, List, drop, take, flat_map, ap, sym, subst, Bor}
-use Rattle.std.proofs.lemmas.List.Elements.{All-same}
-use Rattle.jp_model.specs.Devices.{Device}
+use Rattle.std.proofs.Common.{◌∙◌, ◌+◌, ◌∷◌, ℕ, List, drop, flat_map, ap, sym, subst, Bor}
 use Rattle.jp_rows.proofs.Chains.{ends_in_part}
-use Rattle.jp_plan.specs.ByLine.{found_in, IsPlaceIn}
+use Rattle.jp_plan.specs.ByLine.{found_in}
 use Rattle.jp_plan.specs.declared.rows.LineRows.{LineRows}
 use Rattle.jp_plan.proofs.ByLine.{line_next}
 use Rattle.jp_cli.specs.Found.{found_text}
-use Rattle.jp_cli.proofs.RowsWritten.{IsWritten, turned, nodes_written, nodes_in_part, refusal_written, refusal_in_part}
+use Rattle.jp_cli.proofs.RowsWritten.{IsWritten, nodes_written, nodes_in_part, refusal_written, refusal_in_part}
 use Rattle.jp_cli.proofs.rows.write_rows.Goals.{in-Nodes+in_ok-write_nodes-in-Nodes, in-Refused+in_ok-write_refusal-in-Refused}
 use Rattle.jp_cli.proofs.rows.write_rows.Goals as goal
 

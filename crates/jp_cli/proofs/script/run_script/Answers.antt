@@ -1,5 +1,5 @@
 -- What came of the script is run, up to where it stopped.
-use Rattle.std.proofs.Common.{◌≡◌, ◌-◌, ◌++◌, take, ℕ, arith, refl, sym, ap, ◌∙◌, subst}
+use Rattle.std.proofs.Common.{◌≡◌, ◌-◌, ◌++◌, take, ℕ, arith, refl, sym, ◌∙◌, subst}
 use Rattle.std.proofs.lemmas.Bool.{eqb-true}
 use Rattle.std.proofs.lemmas.List.{length-take}
 use Rattle.jp_model.specs.Lines.{HasNoSeparator, closed_lines, open_line}

@@ -1,11 +1,6 @@
 -- Each place leads to the node whose row it is, on the line that was opened.
-use Rattle.std.proofs.Common.{◌≡◌, ◌∙◌, ◌++◌, ◌∷◌, ◌-◌, [], ℕ, List, Some, map, take, slice_get, ap, sym, subst, append_assoc}
-use Rattle.jp_store.specs.Views.{text_of_view}
-use Rattle.jp_tape.specs.Cursors.{line_of, node_of}
-use Rattle.jp_plan.specs.ByLine.{at_place, found_row, node_at}
-use Rattle.jp_plan.specs.Found.{rows_view, AreOnTheirLines}
-use Rattle.jp_plan.specs.declared.answer.Row.{Row}
-use Rattle.jp_plan.specs.declared.answer.Row.TheVariants as found
+use Rattle.std.proofs.Common.{sym, subst}
+use Rattle.jp_plan.specs.Found.{AreOnTheirLines}
 use Rattle.jp_plan.proofs.ByLine.{row_more, on_line_more}
 use Rattle.jp_plan.proofs.rows.push_nodes.Goals as goal
 

@@ -1,6 +1,5 @@
 -- The rows of the nodes that the rest selects from the node of the seek.
 use Rattle.std.proofs.Common.{◌≡◌, ◌∙◌, List, [], ◌∷◌, ◌++◌, map, ap}
-use Rattle.std.proofs.lemmas.List.Elements.{All-nil, All-same, All-weaker}
 use Rattle.jp_query.specs.View.{segments_view}
 use Rattle.jp_store.specs.Collections.{line_status}
 use Rattle.jp_plan.specs.Paths.{path_at}
@@ -9,11 +8,10 @@ use Rattle.jp_plan.specs.PlanViews.{plan_of}
 use Rattle.jp_model.specs.Meaning.Nodes.{Node}
 use Rattle.jp_model.specs.Query.Syntax.{Segments}
 use Rattle.jp_model.specs.Meaning.Selecting.{nodes}
-use Rattle.jp_tape.specs.Cursors.{line_of, node_of}
+use Rattle.jp_tape.specs.Cursors.{node_of}
 use Rattle.jp_tape.specs.declared.cursor.Cursor.{Cursor}
 use Rattle.jp_store.specs.Views.{text_of_view, tree_of_view}
 use Rattle.jp_plan.specs.ByLine.{found_in}
-use Rattle.jp_eval.specs.Found.{AreOf}
 use Rattle.jp_plan.proofs.ByLine.{node_rows, nodes_of_line, of_view, is_there}
 use Rattle.jp_plan.proofs.Starts.{on_ok}
 use Rattle.jp_plan.proofs.plan.Plan.push_nodes.Goals as goal

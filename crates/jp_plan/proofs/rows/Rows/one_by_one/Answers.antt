@@ -1,12 +1,11 @@
 -- The rows of one line more, and at the end of all.
-use Rattle.std.proofs.Common.{◌≡◌, ◌∙◌, ◌+◌, ◌++◌, ◌∷◌, ℕ, List, [], map, drop, take, ap, sym, subst, arith, append-nil, Vec, Global, Bor}
+use Rattle.std.proofs.Common.{◌∙◌, ◌+◌, ◌++◌, ◌∷◌, ℕ, List, map, drop, take, ap, sym, subst, arith, append-nil, Vec, Global, Bor}
 use Rattle.std.proofs.lemmas.List.{drop_all}
 use Rattle.std.proofs.lemmas.List.Elements.{All-same}
-use Rattle.jp_plan.specs.ByLine.{Found, expanded, found_in, found_row, IsPlaceIn}
+use Rattle.jp_plan.specs.ByLine.{expanded, found_in, found_row, IsPlaceIn}
 use Rattle.jp_plan.specs.Found.{rows_view}
 use Rattle.jp_plan.specs.declared.answer.Row.{Row}
 use Rattle.jp_plan.specs.declared.rows.LineRows.{LineRows}
-use Rattle.jp_plan.specs.declared.rows.LineRows.TheVariants as by_line
 use Rattle.jp_plan.proofs.ByLine.{IsGone, line_next, turned, nodes_gone, refusal_gone}
 use Rattle.jp_plan.proofs.rows.Rows.one_by_one.Goals.{in-Nodes+in_ok-push_nodes-in-Nodes, in-Refused+in_ok-push-in-Refused}
 use Rattle.jp_plan.proofs.rows.Rows.one_by_one.Goals as goal
