@@ -4,7 +4,7 @@ use Rattle.std.specs.List.{filter, range_with_len}
 use Rattle.jp_model.specs.declared.Span.{Span}
 use Rattle.jp_model.specs.Characters.{is_white, is_structural, is_quote, is_backslash}
 use Rattle.jp_model.specs.Json.Places.{byte_at}
-use Rattle.jp_model.specs.Json.Marks.{is_mark, is_inside, is_escaped}
+use Rattle.jp_model.specs.Json.Marks.{is_mark, is_inside, is_escaped, may_begin}
 use Rattle.jp_tape.specs.declared.builder.machine.Builder.{Builder}
 use Rattle.jp_tape.specs.declared.builder.machine.Turn.{Turn}
 use Rattle.jp_tape.specs.declared.builder.machine.Turn.TheVariants as turns
@@ -52,8 +52,8 @@ pub record HasRoom (b : Builder) : Type 0 where
   pub words : length b.words.items + 3 * length b.marks.now ≤ vec_capacity b.words
   pub names : length b.names.items + length b.marks.now / 3 ≤ vec_capacity b.names
 
--- the marks ahead of a turn, for which there is room
+-- the marks ahead of a turn, for which there is room; a turn after a value is one after a bracket, where a token may begin
 abbrev pub IsAheadOf : List ℕ → Turn → Builder → Type 0
 IsAheadOf line (turns.Value label at) b = IsNext line at b.marks.now × HasRoom b
-IsAheadOf line (turns.After at) b = IsAhead line at b.marks.now × HasRoom b
+IsAheadOf line (turns.After at) b = IsAhead line at b.marks.now × HasRoom b × (may_begin line at ≡ true)
 IsAheadOf line turns.End b = Unit {0}

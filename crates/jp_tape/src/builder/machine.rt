@@ -56,7 +56,7 @@ const NO_CONTAINER: Open = Open {
 enum Turn {
     /// A value, whose node has this third word.
     Value(u64, usize),
-    /// What follows a value.
+    /// What follows an array or an object.
     After(usize),
     End,
 }
@@ -495,7 +495,7 @@ impl<'a> Builder<'a> {
         }
     }
 
-    /// Reads what follows a value.
+    /// Reads what follows a number or a word.
     #[inline(always)]
     fn go_on(&mut self, line: &'a [u8], is_unescaped: bool, at: usize) -> Result<Turn, BuildFault>
         requires unescaped { is_unescaped ≡ true → IsUnescaped line.now }
@@ -503,7 +503,8 @@ impl<'a> Builder<'a> {
         requires room { length line.now < 2 ^ 32 }
         requires utf8 { IsUtf8 line.now }
         requires few { length self.old.words.items ≤ 3 * at }
-        requires ahead { IsAheadOf line.now (turns.After at) self.old }
+        requires ahead { IsAhead line.now at self.old.marks.now }
+        requires spare { HasRoom self.old }
         requires holds { Holds line.now (turns.After at) self.old }
         ensures goes_on { IfOk result (λ turn. Steps line.now (turns.After at) self.old turn self.new) }
         ensures behind { IfOk result (λ turn. IsBehind line.now at turn self.new) }
@@ -514,7 +515,7 @@ impl<'a> Builder<'a> {
         self.follow(line, is_unescaped, at, next)
     }
 
-    /// Reads what follows values, up to the next value or to the end.
+    /// Reads what follows arrays and objects, up to the next value or to the end.
     #[inline(always)]
     fn settle(&mut self, line: &'a [u8], is_unescaped: bool, from: Turn) -> Result<Turn, BuildFault>
         requires unescaped { is_unescaped ≡ true → IsUnescaped line.now }
@@ -531,7 +532,8 @@ impl<'a> Builder<'a> {
     {
         let mut turn = from;
         while let Turn::After(at) = turn {
-            turn = self.go_on(line, is_unescaped, at)?;
+            let next = next_token(line, self.marks, at);
+            turn = self.follow(line, is_unescaped, at, next)?;
         }
         Ok(turn)
     }

@@ -97,5 +97,6 @@ returns-then-is_at-clause-ahead c =
     let p = passes_structural c.args.line.now c.marks_behind-self.result.now c.next_token-inside.result h.inside (closing_structural (container_if c.args.is_object) (byte_at c.args.line.now c.next_token-inside.result) h.is) c.next_token-inside.ensures.ahead in (
       subst (λ (ms : List ℕ). IsAhead c.args.line.now (c.next_token-inside.result + 1) ms) (sym c.marks_behind-self-then-is_at.ensures) p.ahead,
       room_behind_two c.args.self.now _ c.marks_behind-self.result.now _ _ _ c.requires.ahead.1 c.write_node.ensures.written c.write_node.ensures.capacity refl c.marks_behind-self.ensures c.marks_behind-self-then-is_at.ensures
-          ((passes_structural c.args.line.now c.marks_behind-self.result.now c.next_token-inside.result h.inside (closing_structural (container_if c.args.is_object) (byte_at c.args.line.now c.next_token-inside.result) h.is) c.next_token-inside.ensures.ahead).within),
+          p.within,
+      structural_begins c.args.line.now c.next_token-inside.result (closing_structural (container_if c.args.is_object) (byte_at c.args.line.now c.next_token-inside.result) h.is),
     )

@@ -129,4 +129,4 @@ returns-in-Ok-clause-ahead c =
     let o = c.args.self.now.innermost in
     let h = subst (λ y. Has c.args.line.now c.args.next y) c.closing_of.ensures (c.is_at-2.ensures.yes c.if-not-is_at.false) in
     let p = passes_structural c.args.line.now c.args.self.now.marks.now c.args.next h.inside (closing_structural (container_if o.is_object) (byte_at c.args.line.now c.args.next) h.is) c.requires.ahead in
-    (subst (λ (ms : List ℕ). IsAhead c.args.line.now (c.args.next + 1) ms) (sym (c.in-Ok.ensures.marks ∙ c.marks_behind-self-2.ensures)) p.ahead, c.in-Ok.ensures.spare)
+    (subst (λ (ms : List ℕ). IsAhead c.args.line.now (c.args.next + 1) ms) (sym (c.in-Ok.ensures.marks ∙ c.marks_behind-self-2.ensures)) p.ahead, c.in-Ok.ensures.spare, structural_begins c.args.line.now c.args.next (closing_structural (container_if o.is_object) (byte_at c.args.line.now c.args.next) h.is))
