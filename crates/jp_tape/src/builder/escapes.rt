@@ -12,6 +12,9 @@ const BLOCK: usize = 64;
 /// The bytes that are looked at together in a shorter line.
 const QUARTER: usize = 16;
 
+/// And in one that is shorter still.
+const SIXTEENTH: usize = 4;
+
 fn is_escape_byte(byte: u8) -> bool
     ensures { result ≡ is_escape byte }
 {
@@ -87,6 +90,9 @@ fn has_escape_among(line: &[u8]) -> bool
     }
     if line.len() >= QUARTER {
         return has_escape_by::<QUARTER>(line);
+    }
+    if line.len() >= SIXTEENTH {
+        return has_escape_by::<SIXTEENTH>(line);
     }
     has_escape_plainly(line)
 }
