@@ -71,21 +71,14 @@ impl<'r, 'a> At<'r, 'a> {
                 None => Ok(()),
             },
             Some((Step::Child(choices), rest)) => self.push_choices(choices, rest, frame),
-            Some((Step::Descendant(choices), rest)) => {
-                self.push_descendants(choices, rest, frame)
-            }
+            Some((Step::Descendant(choices), rest)) => { self.push_subtree(choices, rest, frame) }
         }
     }
 
     /// Adds what the choices select from the node and from each below it, and the steps from there.
     #[cycle(eval)]
     #[inline(never)]
-    fn push_descendants(
-        self,
-        choices: &[Choice],
-        rest: &[Step],
-        frame: &mut Frame<'a>,
-    ) -> Result<()>
+    fn push_subtree(self, choices: &[Choice], rest: &[Step], frame: &mut Frame<'a>) -> Result<()>
         requires { Stands self frame.old }
         ensures { Pushes self.entry frame.old frame.new result (reached self.entry.run.now rest.now (flat_map (λ d. selected (choices_view (table_at self.entry) choices.now) d (tree_at self.entry)) (subtree (here self.entry)))) }
     {
@@ -139,7 +132,7 @@ impl<'r, 'a> At<'r, 'a> {
                 };
                 self.push_slice(parts, rest, frame)
             }
-            Choice::Filter(condition) => self.push_filtered(condition, rest, frame),
+            Choice::Filter(condition) => self.push_where(condition, rest, frame),
         }
     }
 
@@ -172,7 +165,7 @@ impl<'r, 'a> At<'r, 'a> {
             return self.push_rising(Rising::of(self.node, slice), rest, frame);
         }
         let found = find_falling(self.run.alloc, self.node, slice)?;
-        self.push_from_each(rest, &found, frame)
+        self.push_each(rest, &found, frame)
     }
 
     /// Adds what the steps select from each element of a slice with a step above 0. It goes no further than the last.
@@ -199,12 +192,7 @@ impl<'r, 'a> At<'r, 'a> {
 
     /// Adds what the steps select from each of some nodes.
     #[cycle(eval)]
-    fn push_from_each(
-        self,
-        rest: &[Step],
-        starts: &[Cursor<'a>],
-        frame: &mut Frame<'a>,
-    ) -> Result<()>
+    fn push_each(self, rest: &[Step], starts: &[Cursor<'a>], frame: &mut Frame<'a>) -> Result<()>
         requires lines { AreOf (line_of self.run.now.root.now) starts.now }
         requires stands { Stands self frame.old }
         ensures { Pushes self.entry frame.old frame.new result (reached self.entry.run.now rest.now (map node_of starts.now)) }
@@ -220,12 +208,7 @@ impl<'r, 'a> At<'r, 'a> {
     /// Adds what the steps select from each child of which the condition holds. One that asks the root alone is asked once.
     #[cycle(eval)]
     #[inline(never)]
-    fn push_filtered(
-        self,
-        condition: &Condition,
-        rest: &[Step],
-        frame: &mut Frame<'a>,
-    ) -> Result<()>
+    fn push_where(self, condition: &Condition, rest: &[Step], frame: &mut Frame<'a>) -> Result<()>
         requires { Stands self frame.old }
         ensures { Pushes self.entry frame.old frame.new result (reached self.entry.run.now rest.now (filter (λ c. truth_of (condition_view (table_at self.entry) condition.now) c (tree_at self.entry)) (children (here self.entry)))) }
     {

@@ -57,7 +57,7 @@ use Rattle.std.proofs.lemmas.Bool.{ltb-true, ltb-false}
 use Rattle.std.proofs.lemmas.List.{drop_all}
 use mir.Val.{to_z, of_z}
 use Rattle.jp_eval.proofs.frame.At.+eval.Goals as goal
-use Rattle.jp_eval.proofs.frame.At.+eval.Goals.{call_truth-in-Some-Match, call_truth-in-Some-Search, push_filtered-then-branch, push_filtered-else-branch, push_filtered-then-branch-2+in_ok-push_steps, push_filtered-else-branch-2, call_value-in_default-via-then-as_slice-lt1, call_value-in_default-via-else-as_slice-lt1+else-this-lt2, push_rising-then-has+in_ok-push_steps, push_rising-else-has, push_rising-then-len-most-via-then-len-most, push_rising-then-len-most-via-else-len-most+then-ends_before, find_single-then-len-before, find_single-else-len-before}
+use Rattle.jp_eval.proofs.frame.At.+eval.Goals.{call_truth-in-Some-Match, call_truth-in-Some-Search, push_where-then-branch, push_where-else-branch, push_where-then-branch-2+in_ok-push_steps, push_where-else-branch-2, call_value-in_default-via-then-as_slice-lt1, call_value-in_default-via-else-as_slice-lt1+else-this-lt2, push_rising-then-has+in_ok-push_steps, push_rising-else-has, push_rising-then-len-most-via-then-len-most, push_rising-then-len-most-via-else-len-most+then-ends_before, find_single-then-len-before, find_single-else-len-before}
 
 -- ---- children
 
@@ -87,11 +87,11 @@ push_children-returns t c =
 
 -- ---- descendants
 
-pub push_descendants-returns-in_err-push_choices : goal.push_descendants-returns-in_err-push_choices
-push_descendants-returns-in_err-push_choices t c = record { adds = adds_more c.loop-place.invariant.goes.kept c.in_err-push_choices.ensures.adds; kept = c.in_err-push_choices.ensures.kept; nodes = search rules }
+pub push_subtree-returns-in_err-push_choices : goal.push_subtree-returns-in_err-push_choices
+push_subtree-returns-in_err-push_choices t c = record { adds = adds_more c.loop-place.invariant.goes.kept c.in_err-push_choices.ensures.adds; kept = c.in_err-push_choices.ensures.kept; nodes = search rules }
 
-pub push_descendants-loop-place-preserved : goal.push_descendants-loop-place-preserved
-push_descendants-loop-place-preserved t c =
+pub push_subtree-loop-place-preserved : goal.push_subtree-loop-place-preserved
+push_subtree-loop-place-preserved t c =
     let u : Tree = (node_of c.args.self.run.now.root.now).tree in
     let ss : Segments = steps_view (table_in c.args.self.run.now) c.args.rest.now in
     let f = λ (d : Node). selected (choices_view (table_in c.args.self.run.now) c.args.choices.now) d u in
@@ -111,8 +111,8 @@ push_descendants-loop-place-preserved t c =
       kept = c.in_ok-push_choices.ensures.kept;
     }
 
-pub push_descendants-returns : goal.push_descendants-returns
-push_descendants-returns t c =
+pub push_subtree-returns : goal.push_subtree-returns
+push_subtree-returns t c =
     let u : Tree = (node_of c.args.self.run.now.root.now).tree in
     let ss : Segments = steps_view (table_in c.args.self.run.now) c.args.rest.now in
     let f = λ (d : Node). selected (choices_view (table_in c.args.self.run.now) c.args.choices.now) d u in
@@ -124,14 +124,14 @@ push_descendants-returns t c =
 
 -- ---- filters
 
-pub push_filtered-returns-in_err-holds : goal.push_filtered-returns-in_err-holds
-push_filtered-returns-in_err-holds t c = record { adds = adds_more c.loop-next.invariant.goes.kept c.in_err-holds.ensures.lends.adds; kept = c.in_err-holds.ensures.lends.kept; nodes = search rules }
+pub push_where-returns-in_err-holds : goal.push_where-returns-in_err-holds
+push_where-returns-in_err-holds t c = record { adds = adds_more c.loop-next.invariant.goes.kept c.in_err-holds.ensures.lends.adds; kept = c.in_err-holds.ensures.lends.kept; nodes = search rules }
 
-pub push_filtered-returns-in_err-push_steps : goal.push_filtered-returns-in_err-push_steps
-push_filtered-returns-in_err-push_steps t c = record { adds = adds_more c.loop-next.invariant.goes.kept (adds_more c.in_ok-holds.ensures.lends.adds c.in_err-push_steps.ensures.adds); kept = c.in_err-push_steps.ensures.kept; nodes = search rules }
+pub push_where-returns-in_err-push_steps : goal.push_where-returns-in_err-push_steps
+push_where-returns-in_err-push_steps t c = record { adds = adds_more c.loop-next.invariant.goes.kept (adds_more c.in_ok-holds.ensures.lends.adds c.in_err-push_steps.ensures.adds); kept = c.in_err-push_steps.ensures.kept; nodes = search rules }
 
-pub push_filtered-loop-next-preserved : goal.push_filtered-loop-next-preserved
-push_filtered-loop-next-preserved t c =
+pub push_where-loop-next-preserved : goal.push_where-loop-next-preserved
+push_where-loop-next-preserved t c =
     let u : Tree = (node_of c.args.self.run.now.root.now).tree in
     let ss : Segments = steps_view (table_in c.args.self.run.now) c.args.rest.now in
     let p = λ (n : Node). truth (condition_view (table_in c.args.self.run.now) c.args.condition.now) n u in
@@ -142,13 +142,13 @@ push_filtered-loop-next-preserved t c =
     now_is c.holds.new.frame.found.items c.in_ok-holds.ensures.lends.same (others_are (nodes ss (filter p (nodes_from (Some child))) u) (ap (λ (o : Option Cursor). nodes ss (filter p (nodes_from o)) u) c.in-Some.is) kept.goes) in
     let goes : Goes (line_of c.args.self.run.now.root.now) c.args.self.most c.args.frame.now.found.items c.if-branch-2.frame.found.items (nodes ss (filter p (nodes_after child)) u) (nodes ss (filter p (children (node_of c.args.self.node))) u) =
     elim c.if-branch-2.branch [
-      | push_filtered-then-branch-2+in_ok-push_steps w ↦
+      | push_where-then-branch-2+in_ok-push_steps w ↦
           (let taken : p (node_of child) ≡ true = sym c.in_ok-holds.ensures.value ∙ w.if-branch-2.true in
           now_is c.if-branch-2.frame.found.items (ap (λ (v : Frame). v.found.items) w.frame-is)
           (goes_from w.push_steps.new.frame.found.items ss u (node_of child ∷ []) (filter p (nodes_after child))
           (others_are (nodes ss (node_of child ∷ filter p (nodes_after child)) u) (ap (λ (l : List Node). nodes ss l u) (filter_taken p (node_of child) (nodes_after child) taken)) here)
           w.in_ok-push_steps.ensures.adds w.in_ok-push_steps.ensures.nodes))
-      | push_filtered-else-branch-2 w ↦
+      | push_where-else-branch-2 w ↦
           (let passed : p (node_of child) ≡ false = sym c.in_ok-holds.ensures.value ∙ w.if-branch-2.false in
           now_is c.if-branch-2.frame.found.items (ap (λ (v : Frame). v.found.items) w.frame-is)
           (others_are (nodes ss (filter p (nodes_after child)) u) (ap (λ (l : List Node). nodes ss l u) (filter_passed p (node_of child) (nodes_after child) passed)) here))
@@ -156,14 +156,14 @@ push_filtered-loop-next-preserved t c =
     record {
       goes = others_are (nodes ss (filter p (nodes_from next)) u) (ap (λ (l : List Node). nodes ss (filter p l) u) (sym c.next_sibling-next.ensures.nodes)) goes;
       kept = elim c.if-branch-2.branch [
-        | push_filtered-then-branch-2+in_ok-push_steps w ↦ subst (λ (f : Frame). AreKept c.args.self.run.now f.answers.items) (sym w.frame-is) w.in_ok-push_steps.ensures.kept
-        | push_filtered-else-branch-2 w ↦ subst (λ (f : Frame). AreKept c.args.self.run.now f.answers.items) (sym w.frame-is) c.in_ok-holds.ensures.lends.kept
+        | push_where-then-branch-2+in_ok-push_steps w ↦ subst (λ (f : Frame). AreKept c.args.self.run.now f.answers.items) (sym w.frame-is) w.in_ok-push_steps.ensures.kept
+        | push_where-else-branch-2 w ↦ subst (λ (f : Frame). AreKept c.args.self.run.now f.answers.items) (sym w.frame-is) c.in_ok-holds.ensures.lends.kept
       ];
       line = line_on next _ _ c.next_sibling-next.ensures.line (line_of_some _ child _ c.in-Some.is kept.line);
     }
 
-pub push_filtered-returns-2 : goal.push_filtered-returns-2
-push_filtered-returns-2 t c =
+pub push_where-returns-2 : goal.push_where-returns-2
+push_where-returns-2 t c =
     let u : Tree = (node_of c.args.self.run.now.root.now).tree in
     let ss : Segments = steps_view (table_in c.args.self.run.now) c.args.rest.now in
     let p = λ (n : Node). truth (condition_view (table_in c.args.self.run.now) c.args.condition.now) n u in
@@ -171,11 +171,11 @@ push_filtered-returns-2 t c =
 
 -- ---- from each of some nodes
 
-pub push_from_each-returns-in_err-push_steps : goal.push_from_each-returns-in_err-push_steps
-push_from_each-returns-in_err-push_steps t c = record { adds = adds_more c.loop-start.invariant.goes.kept c.in_err-push_steps.ensures.adds; kept = c.in_err-push_steps.ensures.kept; nodes = search rules }
+pub push_each-returns-in_err-push_steps : goal.push_each-returns-in_err-push_steps
+push_each-returns-in_err-push_steps t c = record { adds = adds_more c.loop-start.invariant.goes.kept c.in_err-push_steps.ensures.adds; kept = c.in_err-push_steps.ensures.kept; nodes = search rules }
 
-pub push_from_each-loop-start-preserved : goal.push_from_each-loop-start-preserved
-push_from_each-loop-start-preserved t c =
+pub push_each-loop-start-preserved : goal.push_each-loop-start-preserved
+push_each-loop-start-preserved t c =
     let u : Tree = (node_of c.args.self.run.now.root.now).tree in
     let ss : Segments = steps_view (table_in c.args.self.run.now) c.args.rest.now in
     let i : ℕ = c.loop-start.start-index in
@@ -189,8 +189,8 @@ push_from_each-loop-start-preserved t c =
       kept = c.in_ok-push_steps.ensures.kept;
     }
 
-pub push_from_each-returns : goal.push_from_each-returns
-push_from_each-returns t c =
+pub push_each-returns : goal.push_each-returns
+push_each-returns t c =
     let u : Tree = (node_of c.args.self.run.now.root.now).tree in
     let ss : Segments = steps_view (table_in c.args.self.run.now) c.args.rest.now in
     let starts : List Cursor = c.args.starts.now in
@@ -397,7 +397,7 @@ push_slice-returns t c =
     let n : Node = node_of c.args.self.node in
     let u : Tree = (node_of c.args.self.run.now.root.now).tree in
     let same = ap (map node_of) c.deref.ensures.value ∙ c.in_ok-found.ensures.nodes in
-    record { adds = c.push_from_each.ensures.adds; kept = c.push_from_each.ensures.kept; nodes = subst (λ (l : List Node). OnOk c.push_from_each.result (map node_of c.push_from_each.new.frame.found.items ≡ take c.args.self.most (map node_of c.args.frame.now.found.items ++ nodes (steps_view (table_in c.args.self.run.now) c.args.rest.now) l u))) same c.push_from_each.ensures.nodes }
+    record { adds = c.push_each.ensures.adds; kept = c.push_each.ensures.kept; nodes = subst (λ (l : List Node). OnOk c.push_each.result (map node_of c.push_each.new.frame.found.items ≡ take c.args.self.most (map node_of c.args.frame.now.found.items ++ nodes (steps_view (table_in c.args.self.run.now) c.args.rest.now) l u))) same c.push_each.ensures.nodes }
 
 pub push_rising-returns-in_err-push_steps : goal.push_rising-returns-in_err-push_steps
 push_rising-returns-in_err-push_steps t c = record { adds = adds_more c.loop-next.invariant.goes.kept c.in_err-push_steps.ensures.adds; kept = c.in_err-push_steps.ensures.kept; nodes = search rules }
@@ -473,8 +473,8 @@ push_rising-returns-then-len-most t c =
 
 -- ---- a filter that asks the root
 
-pub push_filtered-returns : goal.push_filtered-returns
-push_filtered-returns t c =
+pub push_where-returns : goal.push_where-returns
+push_where-returns t c =
     let table : Table = table_in c.args.self.run.now in
     let u : Tree = (node_of c.args.self.run.now.root.now).tree in
     let ss : Segments = steps_view table c.args.rest.now in
@@ -492,7 +492,7 @@ push_filtered-returns t c =
     ∙ (ap (λ (x : syntax.Path). answered q (path_nodes x n u)) path
     ∙ (sym (ap (λ (x : syntax.Path). answered q (path_nodes x (node_of c.args.self.node) u)) path) ∙ sym c.in_ok-ask.ensures.value)))) in
     elim c.if-branch.branch [
-      | push_filtered-then-branch w ↦
+      | push_where-then-branch w ↦
           (let new : List Cursor = w.push_children.new.frame.found.items in
           let all : filter p below ≡ below = filter_all p below (λ n. same n ∙ w.if-branch.true) in
           subst (λ (f : Frame). Pushes c.args.self c.args.frame.now f c.if-branch.result (nodes ss (filter p below) u)) (sym w.frame-is)
@@ -503,7 +503,7 @@ push_filtered-returns t c =
             nodes = subst (λ (l : List Node). OnOk w.push_children.result (map node_of new ≡ take most (map node_of old ++ nodes ss l u))) (sym all)
                 (subst (λ (l : List Cursor). OnOk w.push_children.result (map node_of new ≡ take most (map node_of l ++ nodes ss below u))) c.in_ok-ask.ensures.lends.same w.push_children.ensures.nodes);
           })))
-      | push_filtered-else-branch w ↦
+      | push_where-else-branch w ↦
           (let none : filter p below ≡ [] = filter_none p below (λ n. same n ∙ w.if-branch.false) in
           subst (λ (f : Frame). Pushes c.args.self c.args.frame.now f c.if-branch.result (nodes ss (filter p below) u)) (sym w.frame-is)
           (subst (λ r. Pushes c.args.self c.args.frame.now c.ask.new.frame r (nodes ss (filter p below) u)) (sym w.result-is)

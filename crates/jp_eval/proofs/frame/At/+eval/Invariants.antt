@@ -20,8 +20,8 @@ decreases-push_steps l = size_of_segments (steps_view (table_in l.self.run.now) 
 abbrev pub decreases-push_next : goal.decreases-push_next
 decreases-push_next l = size_of_segments (steps_view (table_in l.self.run.now) l.steps.now)
 
-abbrev pub decreases-push_descendants : goal.decreases-push_descendants
-decreases-push_descendants l = size_of_selectors (choices_view (table_in l.self.run.now) l.choices.now) + size_of_segments (steps_view (table_in l.self.run.now) l.rest.now) + 6
+abbrev pub decreases-push_subtree : goal.decreases-push_subtree
+decreases-push_subtree l = size_of_selectors (choices_view (table_in l.self.run.now) l.choices.now) + size_of_segments (steps_view (table_in l.self.run.now) l.rest.now) + 6
 
 abbrev pub decreases-push_choices : goal.decreases-push_choices
 decreases-push_choices l = size_of_selectors (choices_view (table_in l.self.run.now) l.choices.now) + size_of_segments (steps_view (table_in l.self.run.now) l.rest.now) + 5
@@ -38,11 +38,11 @@ decreases-push_slice l = size_of_segments (steps_view (table_in l.self.run.now) 
 abbrev pub decreases-push_rising : goal.decreases-push_rising
 decreases-push_rising l = size_of_segments (steps_view (table_in l.self.run.now) l.rest.now) + 2
 
-abbrev pub decreases-push_from_each : goal.decreases-push_from_each
-decreases-push_from_each l = size_of_segments (steps_view (table_in l.self.run.now) l.rest.now) + 2
+abbrev pub decreases-push_each : goal.decreases-push_each
+decreases-push_each l = size_of_segments (steps_view (table_in l.self.run.now) l.rest.now) + 2
 
-abbrev pub decreases-push_filtered : goal.decreases-push_filtered
-decreases-push_filtered l = size_of_logical (condition_view (table_in l.self.run.now) l.condition.now) + size_of_segments (steps_view (table_in l.self.run.now) l.rest.now) + 4
+abbrev pub decreases-push_where : goal.decreases-push_where
+decreases-push_where l = size_of_logical (condition_view (table_in l.self.run.now) l.condition.now) + size_of_segments (steps_view (table_in l.self.run.now) l.rest.now) + 4
 
 abbrev pub decreases-holds : goal.decreases-holds
 decreases-holds l = size_of_logical (condition_view (table_in l.self.run.now) l.condition.now) + 1
@@ -118,8 +118,8 @@ invariant-push_children-loop-next l =
 abbrev pub decreases-push_children-loop-next : goal.decreases-push_children-loop-next
 decreases-push_children-loop-next l = length (nodes_from l.next)
 
-abbrev pub invariant-push_descendants-loop-place : goal.invariant-push_descendants-loop-place
-invariant-push_descendants-loop-place l =
+abbrev pub invariant-push_subtree-loop-place : goal.invariant-push_subtree-loop-place
+invariant-push_subtree-loop-place l =
     let t = tree_in l.self.run.now in
     let f = λ (d : Node). selected (choices_view (table_in l.self.run.now) l.choices) d t in
     record {
@@ -127,8 +127,8 @@ invariant-push_descendants-loop-place l =
       kept : AreKept l.self.run.now l.frame.answers.items;
     }
 
-abbrev pub invariant-push_filtered-loop-next : goal.invariant-push_filtered-loop-next
-invariant-push_filtered-loop-next l =
+abbrev pub invariant-push_where-loop-next : goal.invariant-push_where-loop-next
+invariant-push_where-loop-next l =
     let t = tree_in l.self.run.now in
     let p = λ (c : Node). truth (condition_view (table_in l.self.run.now) l.condition) c t in
     record {
@@ -137,11 +137,11 @@ invariant-push_filtered-loop-next l =
       line : IfSome l.next (λ c. line_of c ≡ line_of l.self.run.now.root.now);
     }
 
-abbrev pub decreases-push_filtered-loop-next : goal.decreases-push_filtered-loop-next
-decreases-push_filtered-loop-next l = length (nodes_from l.next)
+abbrev pub decreases-push_where-loop-next : goal.decreases-push_where-loop-next
+decreases-push_where-loop-next l = length (nodes_from l.next)
 
-abbrev pub invariant-push_from_each-loop-start : goal.invariant-push_from_each-loop-start
-invariant-push_from_each-loop-start l =
+abbrev pub invariant-push_each-loop-start : goal.invariant-push_each-loop-start
+invariant-push_each-loop-start l =
     let t = tree_in l.self.run.now in
     record {
       goes : Goes (line_of l.self.run.now.root.now) l.self.most l.fn.frame.found.items l.frame.found.items (nodes (steps_view (table_in l.self.run.now) l.rest) (map node_of (drop l.start-index l.starts)) t) (nodes (steps_view (table_in l.self.run.now) l.rest) (map node_of l.starts) t);
