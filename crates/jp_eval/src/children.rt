@@ -1,6 +1,6 @@
 //! Children that are selected by name or by place (RFC 9535, sections 2.3.1, 2.3.3 and 2.3.4).
 
-ghost use Rattle.std.specs.Prelude.{◌≡◌, ℕ, false, pos, neg_ℤ, ◌-ℤ◌, ◌<ℤ◌, ◌≤ℤ◌, ◌≢◌, ◌^◌, true, length, int_le, int_lt, unwrap_or, map, IfOk, IfSome};
+ghost use Rattle.std.specs.Prelude.{◌≡◌, ℕ, false, pos, neg_ℤ, ◌-ℤ◌, ◌<ℤ◌, ◌≤ℤ◌, ◌≢◌, ◌^◌, true, length, int_le, unwrap_or, map, IfOk, IfSome};
 ghost use Rattle.std.specs.Str.{chars};
 ghost use Rattle.jp_model.specs.Meaning.Nodes.{step_to, children_where, child_count as count_of};
 ghost use Rattle.jp_model.specs.Json.Tree.{value_of};

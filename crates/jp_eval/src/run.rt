@@ -3,7 +3,7 @@
 //! The nodes are found node by node: for each child that the first step selects, the other steps go on from there. So no
 //! list is made in between, and a search for one node stops at the first.
 
-ghost use Rattle.std.specs.Prelude.{◌≡◌, ◌≤◌, [], ◌∷◌, ◌==◌, not, map, length, filter, flat_map, IfOk};
+ghost use Rattle.std.specs.Prelude.{◌≡◌, [], ◌∷◌, ◌==◌, not, map, length, filter, flat_map, IfOk};
 ghost use Rattle.jp_model.specs.Meaning.Functions.{single_value as single_value_of, length_of as length_of_value};
 ghost use Rattle.jp_model.specs.Meaning.Compare.{compared};
 ghost use Rattle.jp_model.specs.Meaning.Nodes.{children, children_where, subtree};
@@ -13,7 +13,7 @@ ghost use Rattle.jp_query.specs.View.{op_view};
 ghost use Rattle.jp_tape.specs.Cursors.{line_of, node_of};
 ghost use Rattle.jp_eval.specs.Answers.{IsValue};
 ghost use Rattle.jp_eval.specs.Expressions.{all_are};
-ghost use Rattle.jp_eval.specs.Found.{node_list, AreOf};
+ghost use Rattle.jp_eval.specs.Found.{AreOf};
 ghost use Rattle.jp_eval.specs.Frames.{here, table_at, tree_at, reached, passes_given, AreKept, Stands, Pushes, Lends};
 ghost use Rattle.jp_eval.specs.Questions.{answered};
 ghost use Rattle.jp_eval.specs.Programs.{choices_view, choice_view, conditions_view, condition_view, side_view, nodes_view, invoked_view, given_view};
@@ -294,7 +294,7 @@ impl<'r, 'a> At<'r, 'a> {
         ensures lends { Lends self.entry frame.old frame.new result }
         ensures value { IfOk result (λ b. b ≡ answered question.now (path_nodes (nodes_view (table_at self.entry) nodes.now) (here self.entry) (tree_at self.entry))) }
     {
-        // What is kept is found once in a line, and asked here each time.
+        // A query whose answer is kept is followed once in a line, further below.
         if !self.run.keeps(nodes, frame)
             && let Some(end) = self.singular(nodes)
         {

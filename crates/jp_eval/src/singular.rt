@@ -1,21 +1,18 @@
 //! Queries within a filter that go by names and indexes alone: they lead to one node or to none (RFC 9535, section 2.3.5.1), and
 //! that is found without a list.
 
-ghost use Rattle.std.specs.Prelude.{◌≡◌, ◌∷◌, [], IfSome, IsTrue};
+ghost use Rattle.std.specs.Prelude.{◌≡◌, ◌∷◌, [], IfSome};
 ghost use Rattle.jp_model.specs.Json.Tree.{Tree};
-ghost use Rattle.jp_model.specs.Meaning.Functions.{single_value};
-ghost use Rattle.jp_model.specs.Meaning.Selecting.{nodes as nodes_of, segment_nodes, path_nodes};
-ghost use Rattle.jp_tape.specs.Cursors.{line_of, node_of};
+ghost use Rattle.jp_model.specs.Meaning.Selecting.{nodes as nodes_of, path_nodes};
+ghost use Rattle.jp_tape.specs.Cursors.{node_of};
 ghost use Rattle.jp_eval.specs.Found.{node_list};
 ghost use Rattle.jp_eval.specs.Frames.{here, table_at, tree_at};
-ghost use Rattle.jp_eval.specs.Programs.{Table, nodes_view, step_view, steps_view};
-ghost use Rattle.jp_values.specs.Values.{value_view, is_sound_value};
+ghost use Rattle.jp_eval.specs.Programs.{Table, nodes_view, steps_view};
 
-use crate::frame::{At, Frame};
+use crate::frame::At;
 use crate::program::{Nodes, Step};
 use crate::question::find_at;
 use jp_tape::Cursor;
-use jp_values::Value;
 
 /// The node that any number of steps by names and indexes lead to, if there is one. None where another step is met.
 #[inline(never)]
