@@ -4,7 +4,8 @@
 //!
 //! - `Span`, `Framing`, `LineFault`, `QueryFault`, `Setup`, `RunFault`: types that crates share; `word` of a fault is the
 //!   word in its row or error line
-//! - `Lines`, `is_blank`: the lines of a collection; whether a line is white space alone
+//! - `Lines`, `without_byte_order_mark`, `is_blank`: the lines of a collection; its bytes after a mark at the front; whether a
+//!   line is white space alone
 //! - `Watched`: a device, one call of it for each `read`, `write` and `flush`. `failed`, `ended` and `unflushed` say whether
 //!   a call failed, a read came to the end, bytes are unflushed; `calls` counts all calls, and `after` those after a failure,
 //!   reads after the end, and reads into no room
@@ -23,7 +24,7 @@ ghost use Rattle.jp_model.specs.Lines.{is_blank as is_blank_line};
 ghost use Rattle.jp_model.specs.Rows.{line_fault_word};
 ghost use Rattle.jp_model.specs.Script.Machine.{query_fault_word};
 
-pub use lines::Lines;
+pub use lines::{Lines, without_byte_order_mark};
 pub use watched::Watched;
 
 /// Where a value, or the body of a name, is in its line.

@@ -11,7 +11,7 @@ use std::marker::Model;
 const BYTE_ORDER_MARK: &[u8] = b"\xEF\xBB\xBF";
 
 /// The bytes after a byte order mark at the front, or all (RFC 8259, section 8.1).
-fn without_byte_order_mark(bytes: &[u8]) -> &[u8]
+pub fn without_byte_order_mark(bytes: &[u8]) -> &[u8]
     ensures { result.now ≡ without_mark bytes.now }
 {
     if bytes.starts_with(BYTE_ORDER_MARK) {

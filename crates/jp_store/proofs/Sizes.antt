@@ -1,5 +1,5 @@
 -- The lines of a collection are no more than its bytes, and hold no more than these and one.
-use Rattle.std.proofs.Common.{◌≡◌, ◌∙◌, ◌+◌, ◌≤◌, ℕ, List, [], ◌∷◌, ◌++◌, length, take, drop, sym, ap, subst, refl, arith, true, false, Bool, length-drop, if◌then◌else◌}
+use Rattle.std.proofs.Common.{◌≡◌, ◌∙◌, ◌+◌, ◌-◌, ◌≤◌, ℕ, List, [], ◌∷◌, ◌++◌, length, take, drop, sym, ap, subst, refl, arith, true, false, Bool, length-drop, if◌then◌else◌}
 use Rattle.std.specs.List.{onto_first}
 use Rattle.std.proofs.lemmas.List.Sums.{sum_by-cons}
 use Rattle.std.proofs.lemmas.List.Splits.{slice_split-cons_yes, slice_split-cons_no}
@@ -61,12 +61,26 @@ sequence_few_of first rest =
     let later = texts_few rest in
     let one = held-cons first rest in (omega (arith, later.0, one), omega (arith, later.1, one))
 
-mark_shorter : (bytes : List ℕ) → length (without_byte_order_mark bytes) ≤ length bytes
+pub mark_shorter : (bytes : List ℕ) → length (without_byte_order_mark bytes) ≤ length bytes
 mark_shorter bytes = by_test (text_equal (take 3 bytes) (0xEF ∷ 0xBB ∷ 0xBF ∷ []))
   where
     by_test : (b : Bool) → length (if b then drop 3 bytes else bytes) ≤ length bytes
     by_test true = omega (arith, length-drop 3 bytes)
     by_test false = omega arith
+
+-- where what follows a mark begins
+pub behind_mark : (bytes : List ℕ) → drop (length bytes - length (without_byte_order_mark bytes)) bytes ≡ without_byte_order_mark bytes
+behind_mark bytes = by_test (text_equal (take 3 bytes) (0xEF ∷ 0xBB ∷ 0xBF ∷ []))
+  where
+    dropped : (bs : List ℕ) → drop (length bs - (length bs - 3)) bs ≡ drop 3 bs
+    dropped [] = refl
+    dropped (a ∷ []) = refl
+    dropped (a ∷ b ∷ []) = refl
+    dropped (a ∷ b ∷ c ∷ bs) = let three : length (a ∷ b ∷ c ∷ bs) - (length (a ∷ b ∷ c ∷ bs) - 3) ≡ 3 = omega arith in ap (λ n. drop n (a ∷ b ∷ c ∷ bs)) three
+
+    by_test : (b : Bool) → drop (length bytes - length (if b then drop 3 bytes else bytes)) bytes ≡ (if b then drop 3 bytes else bytes)
+    by_test true = ap (λ n. drop (length bytes - n) bytes) (length-drop 3 bytes) ∙ dropped bytes
+    by_test false = let none : length bytes - length bytes ≡ 0 = omega arith in ap (λ n. drop n bytes) none
 
 few_pieces : (framing : Framing) (bytes : List ℕ) (separator : ℕ) → IsFewOf (lines framing bytes) (pieces separator (without_byte_order_mark bytes))
     → (length (lines framing bytes) ≤ length bytes) × (bytes_held (lines framing bytes) ≤ length bytes + 1)

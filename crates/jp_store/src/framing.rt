@@ -3,8 +3,7 @@
 ghost use Rattle.std.specs.Prelude.{◌≡◌};
 ghost use Rattle.jp_model.specs.Lines.{is_framed, separator_of};
 
-use crate::loading::lines_start;
-use jp_model::{Framing, is_blank};
+use jp_model::{Framing, is_blank, without_byte_order_mark};
 use memchr::memchr;
 
 /// The byte that separates lines: the line feed, or RS in a sequence (RFC 7464, section 2.2).
@@ -24,7 +23,7 @@ pub(crate) fn is_framed_text(framing: Framing, bytes: &[u8]) -> bool
     match framing {
         Framing::Lines => true,
         Framing::Sequence => {
-            let text = &bytes[lines_start(bytes)..];
+            let text = without_byte_order_mark(bytes);
             match memchr(separator(framing), text) {
                 Some(place) => is_blank(&text[..place]),
                 None => is_blank(text),

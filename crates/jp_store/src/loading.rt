@@ -11,7 +11,7 @@ use crate::framing::separator;
 use crate::line::{Line, LineText};
 use crate::reading::judge;
 use jp_masks::{Marks, Scanner, laws};
-use jp_model::{Framing, Span};
+use jp_model::{Framing, Span, without_byte_order_mark};
 use jp_tape::Builder;
 use memchr::memchr;
 use std::alloc::{AllocError, Global};
@@ -19,18 +19,12 @@ use std::alloc::{AllocError, Global};
 /// How many bytes of a collection are scanned at once, where no line goes on after them.
 const PIECE: usize = 1 << 16;
 
-const BYTE_ORDER_MARK: &[u8] = b"\xEF\xBB\xBF";
-
 /// Where the lines begin: after a byte order mark at the front, or at the first byte (RFC 8259, section 8.1).
 pub(crate) fn lines_start(bytes: &[u8]) -> usize
     ensures within { result ≤ length bytes.now }
     ensures rest { drop result bytes.now ≡ without_mark bytes.now }
 {
-    if bytes.starts_with(BYTE_ORDER_MARK) {
-        3
-    } else {
-        0
-    }
+    bytes.len() - without_byte_order_mark(bytes).len()
 }
 
 /// How many bytes at the front are scanned at once: a piece, and what is left of its last line. A cut follows a line
