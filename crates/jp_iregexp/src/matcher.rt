@@ -1,6 +1,6 @@
 // Which positions a part of a pattern reaches.
 
-ghost use Rattle.std.specs.Prelude.{◌^◌, ◌<◌, Some, None, IfOk, length};
+ghost use Rattle.std.specs.Prelude.{Some, None, IfOk};
 ghost use Rattle.jp_iregexp.specs.Positions.{AreEnds, AreStarts};
 ghost use Rattle.jp_model.specs.Pattern.Language.{Language, Repeats, RepeatsWithin};
 ghost use Rattle.jp_iregexp.specs.Tables.{Kept, KeptList, KeptRows};

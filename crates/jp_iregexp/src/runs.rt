@@ -1,6 +1,6 @@
 // So many scalars of a class, any number of them, or up to a number.
 
-ghost use Rattle.std.specs.Prelude.{◌≡◌, ◌^◌, ◌<◌, ◌+◌, ◌-◌, true, false, Some, None, IfOk, length};
+ghost use Rattle.std.specs.Prelude.{◌≡◌, ◌^◌, ◌<◌, ◌+◌, ◌-◌, true, false, Some, None, IfOk};
 ghost use Rattle.jp_iregexp.specs.Positions.{Has, AreEnds, AreStarts};
 ghost use Rattle.jp_iregexp.specs.Nodes.{class_of};
 ghost use Rattle.jp_model.specs.Pattern.Language.{Language, Repeats, RepeatsWithin};
