@@ -130,20 +130,20 @@ fn write_name<W: Write>(name: Name<'_>, out: &mut Watched<W>) -> Result<(), Writ
 
 /// Writes a name between two marks.
 pub(crate) fn write_between<W: Write>(
-    open: &[u8],
+    front: &[u8],
     name: Name<'_>,
-    close: &[u8],
+    back: &[u8],
     out: &mut Watched<W>,
 ) -> Result<(), WriteFault>
     requires text { IsOfText name }
     requires working { out.old.failed ≡ false }
-    ensures text { Writes W.contents out.old out.new result (open.now ++ name_text (scalars_of name.entry) ++ close.now) }
+    ensures text { Writes W.contents out.old out.new result (front.now ++ name_text (scalars_of name.entry) ++ back.now) }
     ensures fault { out.new.failed ≡ is_err result }
     ensures after { out.new.after ≡ out.old.after }
 {
-    write_whole(open, out)?;
+    write_whole(front, out)?;
     write_name(name, out)?;
-    write_whole(close, out)
+    write_whole(back, out)
 }
 
 /// Writes the step to the member of a name.

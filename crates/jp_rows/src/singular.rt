@@ -61,8 +61,10 @@ fn write_singular_step<W: Write>(step: &Step, out: &mut Watched<W>) -> Result<()
     }
 }
 
-/// Writes a path.
-fn write_steps<W: Write>(path: &SingularPath, out: &mut Watched<W>) -> Result<(), WriteFault>
+/// Writes the path of an index as a normalized path is written (RFC 9535, section 2.7); its indexes may be negative.
+///
+/// After an `Err` the writer received a beginning of the path: no write follows one that failed or took no byte.
+pub fn write_steps<W: Write>(path: &SingularPath, out: &mut Watched<W>) -> Result<(), WriteFault>
     requires { out.old.failed ≡ false }
     ensures text { Writes W.contents out.old out.new result (path_text (path_steps path.now)) }
     ensures fault { out.new.failed ≡ is_err result }
@@ -85,6 +87,18 @@ fn settle(held: usize, written: Result<(), WriteFault>, out: &mut Vec<u8>) -> Re
     }
     out.truncate(held);
     Err(AllocError)
+}
+
+/// Appends to a text what `write_steps` writes.
+///
+/// # Errors
+///
+/// Memory ran out. The text is as before.
+pub fn push_steps(path: &SingularPath, out: &mut Vec<u8>) -> Result<(), AllocError>
+    ensures text { OnOk result (out.new.items ≡ out.old.items ++ path_text (path_steps path.now)) }
+    ensures kept { OnErr result (out.new.items ≡ out.old.items) }
+{
+    QueryPart::Path(path).push_to(out)
 }
 
 impl QueryPart<'_> {

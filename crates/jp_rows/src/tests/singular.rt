@@ -1,7 +1,7 @@
 //! The paths of indexes, and quoted texts.
 
 use super::with_room;
-use crate::QueryPart;
+use crate::{QueryPart, push_steps, write_steps};
 use jp_model::Watched;
 use jp_query::{SingularPath, parse, singular};
 use std::alloc::Global;
@@ -38,10 +38,10 @@ fn steps_are_written(rt: HostRuntime) -> Result<(), Fail> {
     for (query, want) in paths {
         let path = path_of(rt.alloc(), query).ok_or("not singular")?;
         let mut out = Watched::new(Vec::new(rt.alloc()));
-        assert!(rt; QueryPart::Path(&path).write(&mut out).is_ok());
+        assert!(rt; write_steps(&path, &mut out).is_ok());
         assert_eq!(rt; out.into_inner().as_slice(), want);
         let mut text = Vec::from_slice(rt.alloc(), b"seek ")?;
-        QueryPart::Path(&path).push_to(&mut text)?;
+        push_steps(&path, &mut text)?;
         assert!(rt; text.as_slice().starts_with(b"seek $"));
         assert_eq!(rt; &text[5..], want);
     }
@@ -54,7 +54,7 @@ fn no_write_of_a_path_follows_a_failed_one(rt: HostRuntime) -> Result<(), Fail> 
     let text = b"$['a'][-1]['\\n']";
     for room in 0..=text.len() {
         let mut out = Watched::new(with_room(rt.alloc(), room, true));
-        let result = QueryPart::Path(&path).write(&mut out);
+        let result = write_steps(&path, &mut out);
         assert_eq!(rt; result.is_err(), room < text.len());
         assert_eq!(rt; out.after(), 0);
         let held = out.into_inner().held;
