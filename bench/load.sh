@@ -11,17 +11,16 @@ lines=$folder/lines.jsonl
 echo 'check' > "$folder/check"
 has_dom=
 if has g++ && g++ -O2 -o "$folder/dom" bench/load/dom.cpp -lsimdjson 2> /dev/null; then has_dom=1; fi
-# Seconds by the clock and the memory at the peak in KB, of the shortest of three runs.
-measured() {
-    for _ in 1 2 3; do /usr/bin/time -f '%e %M' "$@" 2>&1 > /dev/null | tail -1; done | sort -n | head -1
-}
-times_own() { awk -v own="$1" -v other="$2" 'BEGIN { printf "%.2f (%.1f)", other, own / other }'; }
+# The memory at the peak in KB.
+peak_of() { /usr/bin/time -f '%M' "$@" 2>&1 > /dev/null | tail -1; }
+times_own() { awk -v own="$1" -v other="$2" 'BEGIN { printf "%.3f (%.1f)", other, own / other }'; }
 row() {
-    local kind=$1 bytes own peak dom=- sqlite=- jq=- seconds
+    local kind=$1 bytes own peak dom=- sqlite=- jq=-
     bench/load/lines.sh "$kind" $((megabytes * 1000000)) > "$lines" || return 0
     bytes=$(stat -c %s "$lines")
-    read -r own peak <<< "$(measured "$program" "$lines" --script "$folder/check")"
-    if [ "$has_dom" ]; then read -r seconds _ <<< "$(measured "$folder/dom" "$lines")"; dom=$(times_own "$own" "$seconds"); fi
+    peak=$(peak_of "$program" "$lines" --script "$folder/check")
+    own=$(least "$program" "$lines" --script "$folder/check")
+    if [ "$has_dom" ]; then dom=$(times_own "$own" "$(least "$folder/dom" "$lines")"); fi
     if has sqlite3; then
         # No line holds the bytes that separate columns here.
         printf '.mode ascii\n.separator "\\037" "\\n"\nCREATE TABLE lines (line TEXT);\n.import %s lines\nSELECT sum(json_valid(line)) FROM lines;\n' "$lines" > "$folder/sql"
@@ -29,7 +28,7 @@ row() {
     fi
     if has jq; then jq=$(times_own "$own" "$(RUNS=1 least jq empty "$lines")"); fi
     awk -v kind="$kind" -v what="$(tell_collection "$lines")" -v seconds="$own" -v bytes="$bytes" -v peak="$peak" -v others="$dom | $sqlite | $jq" 'BEGIN {
-        printf "| %s: %s | %.2f | %.0f | %.1f | %s |\n", kind, what, seconds, bytes / 1e6 / seconds, peak * 1024 / bytes, others }'
+        printf "| %s: %s | %.3f | %.0f | %.1f | %s |\n", kind, what, seconds, bytes / 1e6 / seconds, peak * 1024 / bytes, others }'
 }
 tell_machine
 echo '| lines | jpq, seconds | MB/s | memory at the peak, times the file | simdjson | sqlite3 | jq |'
