@@ -23,7 +23,7 @@ use super::escapes::has_escape;
 use super::keys::Keys;
 use super::names::has_equal;
 use super::scan::{is_at, marks_behind, next_token, skip_white};
-use super::tokens::{Label, Scalar, name_at, no_name, plain_name_at, scalar_at, text_at};
+use super::tokens::{Label, Scalar, name_at, name_by_marks, no_name, scalar_at, text_at};
 use crate::Kind;
 use jp_model::{LineFault, Span};
 use std::alloc::{AllocError, Global};
@@ -330,9 +330,11 @@ impl<'a> Builder<'a> {
             return Ok(self.keep_label(line, no_name(from)));
         }
         if is_unescaped {
-            if let Some(label) = plain_name_at(line, self.marks, from) {
+            if let Some(label) = name_by_marks(line, true, self.marks, from) {
                 return Ok(self.keep_label(line, label));
             }
+        } else if let Some(label) = name_by_marks(line, false, self.marks, from) {
+            return Ok(self.keep_label(line, label));
         }
         self.next_member(line, is_unescaped, from)
     }

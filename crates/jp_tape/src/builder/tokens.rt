@@ -289,11 +289,16 @@ pub(super) fn name_at(line: &[u8], is_unescaped: bool, marks: &[u32], from: usiz
 /// So many marks have a name, its colon and what follows them at least.
 const NAME_AND_MORE: usize = 4;
 
-/// The name at `from` and its colon, in a line with no escape, where a token follows them: its quotes, the colon and the token
-/// are the next marks. Where there is none it is not said why.
+/// The name at `from` and its colon, where a token follows them: its quotes, the colon and the token are the next marks. Where
+/// there is none it is not said why.
 #[inline(always)]
-pub(super) fn plain_name_at(line: &[u8], marks: &[u32], from: usize) -> Option<Label>
-    requires unescaped { IsUnescaped line.now }
+pub(super) fn name_by_marks(
+    line: &[u8],
+    is_unescaped: bool,
+    marks: &[u32],
+    from: usize,
+) -> Option<Label>
+    requires unescaped { is_unescaped ≡ true → IsUnescaped line.now }
     requires within { from ≤ length line.now }
     requires room { length line.now < 2 ^ 32 }
     requires utf8 { IsUtf8 line.now }
@@ -308,7 +313,7 @@ pub(super) fn plain_name_at(line: &[u8], marks: &[u32], from: usize) -> Option<L
     if marks.len() < NAME_AND_MORE || !is_at(line, from, b'"') {
         return None;
     }
-    let Some(name) = string_end(line, true, marks, from) else {
+    let Some(name) = string_end(line, is_unescaped, marks, from) else {
         return None;
     };
     let colon = next_token(line, marks_behind(marks, 2), name.end);

@@ -5,7 +5,7 @@ use Rattle.jp_model.specs.Json.Places.{byte_at, Has}
 use Rattle.jp_tape.specs.Ahead.{IsAhead, first_or}
 use Rattle.jp_tape.proofs.Ahead.{passes_colon, structural_begins}
 use Rattle.jp_tape.proofs.Labels.{found_name}
-use Rattle.jp_tape.proofs.builder.tokens.plain_name_at.Goals as goal
+use Rattle.jp_tape.proofs.builder.tokens.name_by_marks.Goals as goal
 
 -- a token is there, and it is a colon
 colon_at : (line ms rest : List ℕ) (colon : ℕ) → rest ≡ drop 2 ms → 4 ≤ length ms → (0 < length rest → colon < length line) → byte_at line colon ≡ 0x3A → Has line colon 0x3A
