@@ -13,7 +13,7 @@ use Rattle.jp_decimal.specs.Values.{Number, order}
 use Rattle.jp_model.specs.Json.Numbers.{number_order, smaller}
 use Rattle.jp_decimal.specs.Keys.{IsSignedSizeOf, IsKeyOf, key_order, size_key_order}
 use Rattle.jp_model.proofs.Reader.Numbers.{digits_found}
-use Rattle.jp_decimal.proofs.Law.{lower_place}
+use Rattle.jp_decimal.proofs.Law.{lower_position}
 use Rattle.jp_decimal.proofs.Sizes.{balance, leads, nat_less, nat_greater, nat_same}
 use Rattle.jp_decimal.proofs.Signs.{signed_times, order_plus, order_minus, order_apart, order_apart_turned, zero_from_times}
 use Rattle.jp_decimal.proofs.KeyOrder.{in_order, some_digit, no_zeros}
@@ -47,11 +47,11 @@ sizes_brought : (k l : KeySize) (e f : ℤ) (t s a b : ℕ) → pos a +ℤ f ≡
     → size_key_order k l ≡ nat_cmp (digits_value k.digits.items * 10 ^ (t + a)) (digits_value l.digits.items * 10 ^ (s + b))
 sizes_brought k l e f t s a b g h i =
     elim (int_cases k.power l.power) [
-      | inl w ↦ rw w.0 (sym (nat_less _ _ (lower_place k.digits.items l.digits.items (t + a) (s + b) 0 0 (key_digits k) (key_digits l) (no_zeros _) (no_zeros _) (key_leads l)
+      | inl w ↦ rw w.0 (sym (nat_less _ _ (lower_position k.digits.items l.digits.items (t + a) (s + b) 0 0 (key_digits k) (key_digits l) (no_zeros _) (no_zeros _) (key_leads l)
           (below e f k.power l.power _ _ t s a b g h i w.1))))
       | inr (inl w) ↦ rw w.0 (in_order k.digits.items l.digits.items (t + a) (s + b) (key_digits k) (key_digits l) (λ _. k.last) (λ _. l.last)
           (level e f k.power l.power _ _ t s a b g h i w.1))
-      | inr (inr w) ↦ rw w.0 (sym (nat_greater _ _ (lower_place l.digits.items k.digits.items (s + b) (t + a) 0 0 (key_digits l) (key_digits k) (no_zeros _) (no_zeros _) (key_leads k)
+      | inr (inr w) ↦ rw w.0 (sym (nat_greater _ _ (lower_position l.digits.items k.digits.items (s + b) (t + a) 0 0 (key_digits l) (key_digits k) (no_zeros _) (no_zeros _) (key_leads k)
           (below f e l.power k.power _ _ s t b a (sym g) i h w.1))))
     ]
 

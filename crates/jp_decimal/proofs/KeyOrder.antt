@@ -8,7 +8,7 @@ use Rattle.std.proofs.Math.Nat.{one-le-pow, mul-pos}
 use Rattle.jp_model.specs.Characters.{is_digit, digits_value}
 use Rattle.jp_model.specs.Json.Numbers.{AreDigits}
 use Rattle.jp_decimal.specs.Magnitudes.{BeginsWithZeros}
-use Rattle.jp_decimal.proofs.Law.{first_digit, same_place_less}
+use Rattle.jp_decimal.proofs.Law.{first_digit, same_position_less}
 use Rattle.jp_decimal.proofs.Sizes.{nat_less, nat_greater, nat_same}
 
 abbrev pub LastIsNoZero : List ℕ → Type 0
@@ -57,8 +57,8 @@ in_order (c ∷ xs) (d ∷ ys) x y a b p q e =
           (in_order xs ys x y a.1 b.1 (last_of_tail c xs p) (last_of_tail d ys q) (omega arith) ∙ sym (nat_cmp_plus ((d - 0x30) * 10 ^ (length ys + y)) (digits_value xs * 10 ^ x) (digits_value ys * 10 ^ y)))
       | inr (inl less) ↦
           rw (nat_less c d less)
-          (sym (nat_less _ _ (same_place_less (c ∷ xs) (d ∷ ys) x y 0 0 0 a b (no_zeros (c ∷ xs)) (no_zeros (d ∷ ys)) (omega arith) (λ i l. absurd (omega arith)) less)))
+          (sym (nat_less _ _ (same_position_less (c ∷ xs) (d ∷ ys) x y 0 0 0 a b (no_zeros (c ∷ xs)) (no_zeros (d ∷ ys)) (omega arith) (λ i l. absurd (omega arith)) less)))
       | inr (inr more) ↦
           rw (nat_greater c d more)
-          (sym (nat_greater _ _ (same_place_less (d ∷ ys) (c ∷ xs) y x 0 0 0 b a (no_zeros (d ∷ ys)) (no_zeros (c ∷ xs)) (omega arith) (λ i l. absurd (omega arith)) more)))
+          (sym (nat_greater _ _ (same_position_less (d ∷ ys) (c ∷ xs) y x 0 0 0 b a (no_zeros (d ∷ ys)) (no_zeros (c ∷ xs)) (omega arith) (λ i l. absurd (omega arith)) more)))
     ]

@@ -1,4 +1,4 @@
--- The order of two digit lists of one length is decided at the first place where they differ.
+-- The order of two digit lists of one length is decided at the first position where they differ.
 use Rattle.std.proofs.Common.{◌≡◌, ℕ, zero, suc, ◌+◌, ◌-◌, ◌*◌, ◌^◌, ◌<◌, ◌≤◌, true, List, [], ◌∷◌, ◌++◌, length, get_or, sym, inl, inr, ◌∙◌, ap, refl, arith}
 use Rattle.std.proofs.lemmas.Bool.{cases_lt}
 use Rattle.std.proofs.lemmas.Bool.Decides.{nat_tests}
@@ -50,7 +50,7 @@ value_below (d ∷ ds) a = rw (first_digit d ds) (below_step (d - 0x30) (10 ^ le
 less_step : (x y p v w : ℕ) → x < y → v < p → x * p + v < y * p + w
 less_step x y p v w h b = let k = mul-le-mul_right {m = suc x} {n = y} p (omega arith) in omega (arith, k)
 
--- the first place where they differ decides
+-- the first position where they differ decides
 pub first_less : (xs ys : List ℕ) (k : ℕ) → length xs ≡ length ys → AreDigits xs → AreDigits ys
     → ((j : ℕ) → j < k → get_or xs j 0x30 ≡ get_or ys j 0x30) → get_or xs k 0x30 < get_or ys k 0x30 → digits_value xs < digits_value ys
 first_less [] [] k e a b same less = absurd (omega arith)
@@ -113,10 +113,10 @@ behind_front zero ds x i j e = more_zeros ds x j ∙ ap (λ n. get_or ds n 0x30)
 behind_front (suc a) ds x i zero e = absurd (omega arith)
 behind_front (suc a) ds x i (suc j) e = behind_front a ds x i j (omega arith)
 
--- one number's leading digit stands at a higher place
-pub lower_place : (ds es : List ℕ) (x y k l : ℕ) → AreDigits ds → AreDigits es → BeginsWithZeros ds k → BeginsWithZeros es l
+-- one number's leading digit stands at a higher position
+pub lower_position : (ds es : List ℕ) (x y k l : ℕ) → AreDigits ds → AreDigits es → BeginsWithZeros ds k → BeginsWithZeros es l
     → 0x30 < get_or es l 0x30 → length ds + x + l < length es + y + k → digits_value ds * 10 ^ x < digits_value es * 10 ^ y
-lower_place ds es x y k l p q h g lead less =
+lower_position ds es x y k l p q h g lead less =
     let a = length es + y in
     let b = length ds + x in
     let top : get_or (between_zeros a ds x) (b + l) 0x30 < get_or (between_zeros b es y) (b + l) 0x30 =
@@ -130,7 +130,7 @@ lower_place ds es x y k l p q h g lead less =
 agree : (ds es : List ℕ) (x y k l n : ℕ) → BeginsWithZeros ds k → BeginsWithZeros es l → length ds + x + l ≡ length es + y + k
     → ((i : ℕ) → i < n → get_or ds (k + i) 0x30 ≡ get_or es (l + i) 0x30)
     → (j : ℕ) → j < length ds + x + l + n → get_or (between_zeros (length es + y) ds x) j 0x30 ≡ get_or (between_zeros (length ds + x) es y) j 0x30
-agree ds es x y k l n h g place same j m =
+agree ds es x y k l n h g position same j m =
     elim (cases_lt j (length ds + x + l)) [
       | inl early ↦ front_zero (length es + y) ds x k j h (omega arith) ∙ sym (front_zero (length ds + x) es y l j g early)
       | inr late ↦
@@ -138,25 +138,25 @@ agree ds es x y k l n h g place same j m =
           behind_front (length es + y) ds x (k + i) j (omega arith) ∙ (same i (omega arith) ∙ sym (behind_front (length ds + x) es y (l + i) j (omega arith)))
     ]
 
-pub same_place_less : (ds es : List ℕ) (x y k l n : ℕ) → AreDigits ds → AreDigits es → BeginsWithZeros ds k → BeginsWithZeros es l → length ds + x + l ≡ length es + y + k
+pub same_position_less : (ds es : List ℕ) (x y k l n : ℕ) → AreDigits ds → AreDigits es → BeginsWithZeros ds k → BeginsWithZeros es l → length ds + x + l ≡ length es + y + k
     → ((i : ℕ) → i < n → get_or ds (k + i) 0x30 ≡ get_or es (l + i) 0x30) → get_or ds (k + n) 0x30 < get_or es (l + n) 0x30
     → digits_value ds * 10 ^ x < digits_value es * 10 ^ y
-same_place_less ds es x y k l n p q h g place same less =
+same_position_less ds es x y k l n p q h g position same less =
     let a = length es + y in
     let b = length ds + x in
     let top : get_or (between_zeros a ds x) (b + l + n) 0x30 < get_or (between_zeros b es y) (b + l + n) 0x30 =
     rw (behind_front a ds x (k + n) (b + l + n) (omega arith), behind_front b es y (l + n) (b + l + n) (omega arith)) less in
     rw (← value_between a ds x, ← value_between b es y)
     (first_less (between_zeros a ds x) (between_zeros b es y) (b + l + n) (length_between a ds x ∙ (omega (arith, length_between b es y)))
-    (between_are_digits a ds x p) (between_are_digits b es y q) (agree ds es x y k l n h g place same) top)
+    (between_are_digits a ds x p) (between_are_digits b es y q) (agree ds es x y k l n h g position same) top)
 
-pub same_place_equal : (ds es : List ℕ) (x y k l : ℕ) → BeginsWithZeros ds k → BeginsWithZeros es l → length ds + x + l ≡ length es + y + k
+pub same_position_equal : (ds es : List ℕ) (x y k l : ℕ) → BeginsWithZeros ds k → BeginsWithZeros es l → length ds + x + l ≡ length es + y + k
     → ((i : ℕ) → get_or ds (k + i) 0x30 ≡ get_or es (l + i) 0x30)
     → digits_value ds * 10 ^ x ≡ digits_value es * 10 ^ y
-same_place_equal ds es x y k l h g place same =
+same_position_equal ds es x y k l h g position same =
     let a = length es + y in
     let b = length ds + x in
     let one : between_zeros a ds x ≡ between_zeros b es y =
     ext_get_or 0x30 (between_zeros a ds x) (between_zeros b es y) (length_between a ds x ∙ (omega (arith, length_between b es y)))
-    (λ j m. agree ds es x y k l (suc j) h g place (λ i _. same i) j (omega arith)) in
+    (λ j m. agree ds es x y k l (suc j) h g position (λ i _. same i) j (omega arith)) in
     sym (value_between a ds x) ∙ (ap digits_value one ∙ value_between b es y)

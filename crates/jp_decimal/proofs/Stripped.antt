@@ -14,7 +14,7 @@ use Rattle.jp_decimal.specs.Values.{Number}
 use Rattle.jp_model.proofs.Reader.Numbers.{digits_whole}
 use Rattle.jp_decimal.proofs.Signs.{number_of}
 use Rattle.jp_decimal.specs.Magnitudes.{BeginsWithZeros, EndsWithZeros, digits, exponent_behind, power_above, unsigned_mantissa}
-use Rattle.jp_decimal.proofs.Law.{same_place_equal}
+use Rattle.jp_decimal.proofs.Law.{same_position_equal}
 use Rattle.jp_decimal.proofs.Sizes.{digit_at}
 
 pub ends_behind : (ds : List ℕ) (k end : ℕ) → EndsWithZeros ds end → 0x30 < get_or ds k 0x30 → k < end
@@ -32,7 +32,7 @@ pub value_between : (ds : List ℕ) (k end : ℕ) → k < end → end ≤ length
 value_between ds k end l w h z =
     let n = length-between ds k end w in
     let once : digits_value ds * 10 ^ 0 ≡ digits_value ds = omega arith in
-    sym once ∙ same_place_equal ds (slice_range ds k end) 0 (length ds - end) k 0 h (λ j m. absurd (omega arith)) (omega (arith, n)) (λ i. digit_between ds k end i w z ∙ ap (λ m. get_or (slice_range ds k end) m 0x30) (omega arith))
+    sym once ∙ same_position_equal ds (slice_range ds k end) 0 (length ds - end) k 0 h (λ j m. absurd (omega arith)) (omega (arith, n)) (λ i. digit_between ds k end i w z ∙ ap (λ m. get_or (slice_range ds k end) m 0x30) (omega arith))
 
 digits_by_index : (ds : List ℕ) → ((i : ℕ) → is_digit (get_or ds i 0x30) ≡ true) → AreDigits ds
 digits_by_index [] h = tt

@@ -15,14 +15,14 @@ unsigned_mantissa m = digits_value (digits m)
 abbrev pub exponent_behind : Magnitude → ℤ
 exponent_behind m = m.exponent -ℤ pos (length m.fraction.now)
 
--- the power of ten above the digit at a place
+-- the power of ten above the digit at a position
 abbrev pub power_above : Magnitude → ℕ → ℤ
 power_above m k = m.exponent +ℤ pos (length m.int.now) -ℤ pos k
 
--- the digits at the first places are zeros; past the end stand zeros too
+-- the digits at the first positions are zeros; past the end stand zeros too
 abbrev pub BeginsWithZeros : List ℕ → ℕ → Type 0
 BeginsWithZeros ds k = (j : ℕ) → j < k → slice_index_or ds j 0x30 ≡ 0x30
 
--- the digits from a place on are zeros
+-- the digits from a position on are zeros
 abbrev pub EndsWithZeros : List ℕ → ℕ → Type 0
 EndsWithZeros ds end = (j : ℕ) → end ≤ j → slice_index_or ds j 0x30 ≡ 0x30

@@ -12,15 +12,15 @@ use std::alloc::{AllocError, Global};
 use std::cmp::Reverse;
 
 impl Magnitude<'_> {
-    /// The digits from a place up to another.
+    /// The digits from a position up to another.
     fn digits_between(&self, alloc: Global, from: usize, to: usize) -> Result<Digits, AllocError>
         requires order { from ≤ to }
         requires within { to ≤ length (digits self.now) }
         ensures { IfOk result (λ found. found.items ≡ slice_range (digits self.now) from to) }
     {
         let mut found = SmallVec::new(alloc);
-        for place in from..to {
-            found.push(self.digit(place))?;
+        for position in from..to {
+            found.push(self.digit(position))?;
         }
         Ok(found)
     }

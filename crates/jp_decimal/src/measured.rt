@@ -8,9 +8,9 @@ use crate::parts::Magnitude;
 #[derive(Clone, Copy, Debug)]
 pub struct Measured<'a> {
     pub magnitude: Magnitude<'a>,
-    /// The place of the first digit that is not zero, and after the last digit if there is none.
+    /// The position of the first digit that is not zero, and after the last digit if there is none.
     pub first: usize,
-    /// The place after the last digit that is not zero, and `first` if there is none.
+    /// The position after the last digit that is not zero, and `first` if there is none.
     pub end: usize,
     ghost in_order: { first ≤ end },
     ghost within: { end ≤ length (digits magnitude) },

@@ -14,14 +14,14 @@ impl Magnitude<'_> {
         self.int.len() + self.fraction.len()
     }
 
-    /// The digit at a place from the left, and zero past the end.
-    pub fn digit(&self, place: usize) -> u8
-        ensures { result ≡ slice_index_or (digits self.now) place 0x30 }
+    /// The digit at a position from the left, and zero past the end.
+    pub fn digit(&self, position: usize) -> u8
+        ensures { result ≡ slice_index_or (digits self.now) position 0x30 }
     {
-        if place < self.int.len() {
-            self.int[place]
-        } else if place - self.int.len() < self.fraction.len() {
-            self.fraction[place - self.int.len()]
+        if position < self.int.len() {
+            self.int[position]
+        } else if position - self.int.len() < self.fraction.len() {
+            self.fraction[position - self.int.len()]
         } else {
             b'0'
         }
@@ -34,15 +34,15 @@ impl Magnitude<'_> {
         ensures lead { result < length (digits self.now) → 0x30 < slice_index_or (digits self.now) result 0x30 }
     {
         let count = self.count();
-        for place in 0..count {
-            if self.digit(place) != b'0' {
-                return place;
+        for position in 0..count {
+            if self.digit(position) != b'0' {
+                return position;
             }
         }
         count
     }
 
-    /// The place after the last digit that is not zero, and no place before the first.
+    /// The position after the last digit that is not zero, and no position before the first.
     pub fn end_of_digits(&self, first: usize) -> usize
         requires { first ≤ length (digits self.now) }
         ensures order { first ≤ result }
@@ -107,9 +107,9 @@ impl Measured<'_> {
     {
         let length = self.end - self.first;
         let other_length = other.end - other.first;
-        for place in 0..length.min(other_length) {
-            let digit = self.magnitude.digit(self.first + place);
-            let other_digit = other.magnitude.digit(other.first + place);
+        for position in 0..length.min(other_length) {
+            let digit = self.magnitude.digit(self.first + position);
+            let other_digit = other.magnitude.digit(other.first + position);
             if digit != other_digit {
                 return digit.cmp(&other_digit);
             }

@@ -33,9 +33,9 @@ fn count_digits(text: &[u8]) -> usize
     ensures digits { (j : ℕ) → j < result → is_digit (slice_index_or text.now j 0x30) ≡ true }
     ensures end { is_digit (slice_index_or text.now result 0) ≡ false }
 {
-    for (place, byte) in text.iter().enumerate() {
+    for (position, byte) in text.iter().enumerate() {
         if *byte < b'0' || b'9' < *byte {
-            return place;
+            return position;
         }
     }
     text.len()
@@ -68,14 +68,14 @@ fn value_of_digits(digits: &[u8]) -> u64
 fn behind_zeros(digits: &[u8]) -> &[u8]
     ensures { result.now ≡ without_leading_zeros digits.now }
 {
-    let mut place = 0;
-    while place < digits.len() {
-        if digits[place] != b'0' {
+    let mut position = 0;
+    while position < digits.len() {
+        if digits[position] != b'0' {
             break;
         }
-        place += 1;
+        position += 1;
     }
-    &digits[place..]
+    &digits[position..]
 }
 
 /// What follows the letter of an exponent part.

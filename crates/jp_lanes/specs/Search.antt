@@ -7,6 +7,6 @@ is_special byte = (byte == 0x22) || (byte == 0x5C) || nat_lt byte 0x20
 
 -- one of them stands among the bytes
 pub record HasSpecial (bytes : List ℕ) : Type 0 where
-  pub place : ℕ
-  pub within : place < length bytes
-  pub special : IsTrue (is_special (slice_index bytes place))
+  pub position : ℕ
+  pub within : position < length bytes
+  pub special : IsTrue (is_special (slice_index bytes position))

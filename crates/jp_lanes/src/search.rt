@@ -31,7 +31,7 @@ fn special_lanes<const N: usize>(lanes: Simd<u8, N>) -> u64
     (quotes | backslashes | controls).to_bitmask()
 }
 
-// How many of the N bytes at a place come before the first special one.
+// How many of the N bytes at a position come before the first special one.
 #[inline(always)]
 fn plain_run<const N: usize>(bytes: &[u8], at: usize) -> usize
     requires few { N ≤ 64 }
@@ -48,7 +48,7 @@ fn plain_run<const N: usize>(bytes: &[u8], at: usize) -> usize
     special.trailing_zeros() as usize
 }
 
-/// The first place at or after `from` where a quotation mark, a reverse solidus or a control
+/// The first position at or after `from` where a quotation mark, a reverse solidus or a control
 /// character is (RFC 8259, section 7), or the length if there is none.
 pub fn first_special(bytes: &[u8], from: usize) -> usize
     requires { from ≤ length bytes.now }
@@ -161,7 +161,7 @@ pub fn has_special(bytes: &[u8]) -> bool
     first_special_plainly(bytes, 0) < bytes.len()
 }
 
-// Whether the N bytes at a place are the same.
+// Whether the N bytes at a position are the same.
 #[inline(always)]
 fn equal_blocks<const N: usize>(a: &[u8], b: &[u8], at: usize) -> bool
     requires few { N ≤ 64 }

@@ -1,4 +1,4 @@
-//! Each lane and each place.
+//! Each lane and each position.
 
 mod classes;
 mod search;

@@ -31,7 +31,7 @@ within_found : (n : ℕ) (body : List ℕ) (at : ℕ) (us : List ℕ) → units_
 within_found zero body at us h = none_found body at (at == length body) us refl h
 within_found (suc n) body at us h = units_step body at (units_within n body) (within_found n body) (at == length body) us refl h
 
--- what the reader does at a place, where the test for the end is known
+-- what the reader does at a position, where the test for the end is known
 abbrev units_by : Bool → ℕ → List ℕ → ℕ → Option (List ℕ)
 units_by b n body at = elim b as (λ x. Option (List ℕ)) [ true ↦ Some [] | false ↦ and_then (character_at body at) (λ c. and_then (units_within n body c.1) (λ units. Some (c.0 ∷ units))) ]
 

@@ -9,7 +9,7 @@ use Rattle.jp_strings.proofs.Reading.{character_longer, characters_longer}
 use Rattle.jp_strings.proofs.Texts.{points_of_spelled}
 use Rattle.jp_strings.proofs.Utf8.{character_within}
 
--- what stands in a line from a place on
+-- what stands in a line from a position on
 record Part (line part : List ℕ) (from : ℕ) : Type 0 where
   inside : from + length part ≤ length line
   is : part ≡ take (length part) (drop from line)

@@ -1,4 +1,4 @@
--- What a body spells from a place on, one code point at a time.
+-- What a body spells from a position on, one code point at a time.
 use Rattle.std.proofs.Common.{◌≡◌, ℕ, ◌+◌, ◌*◌, ◌&&◌, ◌<◌, ◌≤◌, inl, inr, true, false, List, [], ◌∷◌, ◌++◌, length, drop, sym, ◌∙◌, ap, subst, refl, arith, Option, Some, None, encode_utf8}
 use Rattle.std.specs.Char as char
 use Rattle.std.specs.Option.{SomeIff}

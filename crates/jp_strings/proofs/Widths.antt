@@ -18,7 +18,7 @@ use Rattle.jp_strings.proofs.Texts.{points_of_spelled, text_of_body, plain_goes_
 use Rattle.jp_strings.proofs.Utf8.{text_utf8}
 use Rattle.jp_strings.proofs.Runs.{unpaired}
 
--- the bytes from a place up to another are these scalars
+-- the bytes from a position up to another are these scalars
 record AreBytes (body : List ℕ) (i j : ℕ) (units : List ℕ) : Type 0 where
   scalars : scalars units ≡ true
   bytes : drop i body ≡ encodes units ++ drop j body

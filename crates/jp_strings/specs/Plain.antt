@@ -3,7 +3,7 @@ use Rattle.std.specs.Prelude.{◌≡◌, ℕ, ◌<◌, ◌≤◌, Bool, false, �
 use Rattle.jp_lanes.specs.Search.{is_special}
 use Rattle.jp_model.specs.Json.Places.{byte_at}
 
--- no special byte stands from a place up to another, so that each character there stands for itself
+-- no special byte stands from a position up to another, so that each character there stands for itself
 abbrev pub ArePlain : List ℕ → ℕ → ℕ → Type 0
 ArePlain body i j = (k : ℕ) → i ≤ k → k < j → is_special (byte_at body k) ≡ false
 

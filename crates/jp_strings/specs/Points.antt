@@ -9,7 +9,7 @@ pub record IsText (body : List ℕ) : Type 0 where
   pub spelled : SpellsBody body 0 (length body) points
   pub is_whole : has_lone_surrogate points ≡ false
 
--- what the characters from a place up to the end stand for, if the bytes there are characters and no more than n
+-- what the characters from a position up to the end stand for, if the bytes there are characters and no more than n
 abbrev pub units_within : ℕ → List ℕ → ℕ → Option (List ℕ)
 units_within zero body at = cond (at == length body) (Some []) None
 units_within (suc n) body at =
@@ -27,7 +27,7 @@ abbrev pub points_in : Option (List ℕ) → List ℕ
 points_in None = []
 points_in (Some units) = paired units
 
--- the code points that a body spells from a place up to its end, and none where the bytes there spell none
+-- the code points that a body spells from a position up to its end, and none where the bytes there spell none
 unfoldable pub points_from : List ℕ → ℕ → List ℕ
 points_from body at = points_in (units_from body at)
 
@@ -40,11 +40,11 @@ abbrev pub are_whole : Option (List ℕ) → Bool
 are_whole None = false
 are_whole (Some units) = not (has_lone_surrogate (paired units))
 
--- from a place up to the end the body spells code points of which none is half of a pair
+-- from a position up to the end the body spells code points of which none is half of a pair
 unfoldable pub is_text_from : List ℕ → ℕ → Bool
 is_text_from body at = are_whole (units_from body at)
 
--- A code point is spelled at a place, and the text goes on behind it.
+-- A code point is spelled at a position, and the text goes on behind it.
 pub record GoesOn (body : List ℕ) (at point behind : ℕ) : Type 0 where
   pub points : points_from body at ≡ point ∷ points_from body behind
   pub text : is_text_from body behind ≡ true

@@ -60,7 +60,7 @@ impl Halves {
     }
 }
 
-// One escape, or all characters up to the next one: the place after them, and what was seen then.
+// One escape, or all characters up to the next one: the position after them, and what was seen then.
 #[inline(always)]
 fn advance(body: &[u8], at: usize, seen: Halves) -> Option<(usize, Halves)>
     requires inside { at < length body.now }

@@ -23,7 +23,7 @@ fn digit_at(body: &[u8], at: usize) -> Option<u32>
     char::from(byte).to_digit(16)
 }
 
-// What the four hexadecimal digits of the escape at a place stand for.
+// What the four hexadecimal digits of the escape at a position stand for.
 #[inline(always)]
 fn four_digits(body: &[u8], at: usize) -> Option<u32>
     requires { at ≤ length body.now }
@@ -53,7 +53,7 @@ fn short_escape(letter: u8) -> Option<u32>
     }
 }
 
-// The unit that an escape stands for, and the place after it.
+// The unit that an escape stands for, and the position after it.
 #[inline(always)]
 pub(crate) fn read_escape(body: &[u8], at: usize) -> Option<(u32, usize)>
     requires { byte_at body.now at ≡ 0x5C }

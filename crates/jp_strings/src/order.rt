@@ -16,7 +16,7 @@ use std::cmp::Ordering;
 use std::str;
 
 /// Whether each byte stands for itself: none is a quote, a backslash, or below 0x20 (RFC 8259, section 7).
-// The search has no place in each loop over names that asks.
+// The search does not belong into each loop over names that asks.
 #[inline(never)]
 pub fn is_plain(body: &[u8]) -> bool
     ensures plain { IsTrue result → ArePlain body.now 0 (length body.now) }
@@ -179,7 +179,7 @@ fn char_count(text: &[u8]) -> usize
         .count()
 }
 
-// All scalars up to the next escape, or the one that it stands for: how many, and the place after it.
+// All scalars up to the next escape, or the one that it stands for: how many, and the position after it.
 fn count_some(body: &[u8], at: usize) -> (usize, usize)
     requires inside { at < length body.now }
     requires text { IsTrue (is_text_from body.now at) }

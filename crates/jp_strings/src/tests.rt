@@ -3,21 +3,21 @@ use std::alloc::{AllocError, Global};
 use std::cmp::Ordering;
 use std::test::Fail;
 
-// A body of `size` letters with an escape after the first `place`.
+// A body of `size` letters with an escape after the first `position`.
 fn body_with(
     alloc: Global,
     size: usize,
-    place: usize,
+    position: usize,
     escape: &[u8],
 ) -> Result<Vec<u8>, AllocError> {
     let mut body = Vec::new(alloc);
     for i in 0..size {
-        if i == place {
+        if i == position {
             body.extend_from_slice(escape)?;
         }
         body.push(b'x')?;
     }
-    if place >= size {
+    if position >= size {
         body.extend_from_slice(escape)?;
     }
     Ok(body)
@@ -69,10 +69,10 @@ fn plain_bodies_are_texts(rt: HostRuntime) -> Result<(), Fail> {
 #[test]
 fn escapes_stand_anywhere(rt: HostRuntime) -> Result<(), Fail> {
     for size in [0usize, 63, 64, 65] {
-        for place in 0..=size {
-            let short = body_with(rt.alloc(), size, place, b"\\n")?;
-            let long = body_with(rt.alloc(), size, place, b"\\u000a")?;
-            let spelled = body_with(rt.alloc(), size, place, b"\n")?;
+        for position in 0..=size {
+            let short = body_with(rt.alloc(), size, position, b"\\n")?;
+            let long = body_with(rt.alloc(), size, position, b"\\u000a")?;
+            let spelled = body_with(rt.alloc(), size, position, b"\n")?;
             let (short, long) = (short.as_slice(), long.as_slice());
             test_body(short)?;
             test_body(long)?;

@@ -1,4 +1,4 @@
-//! The searches, at each place.
+//! The searches, at each position.
 
 use crate::{equal_bytes, first_special, has_special};
 use std::alloc::{AllocError, Global};
@@ -26,19 +26,20 @@ fn the_first_special_byte_is_found(rt: HostRuntime) -> Result<(), Fail> {
     Ok(())
 }
 
-// Whether the special byte at each place of a text of that length is found, and none if there is none.
-fn each_place_is_found(alloc: Global, size: usize) -> Result<bool, AllocError> {
+// Whether the special byte at each position of a text of that length is found, and none if there is none.
+fn each_position_is_found(alloc: Global, size: usize) -> Result<bool, AllocError> {
     let mut bytes = Vec::new(alloc);
     for _ in 0..size {
         bytes.push(b'x')?;
     }
     let specials = [b'"', b'\\', 0x1f];
-    for place in 0..bytes.len() {
-        bytes[place] = specials[place % 3];
-        let found = first_special(&bytes, 0) == place && first_special(&bytes, place) == place;
+    for position in 0..bytes.len() {
+        bytes[position] = specials[position % 3];
+        let found = first_special(&bytes, 0) == position
+            && first_special(&bytes, position) == position;
         let has = has_special(&bytes);
-        bytes[place] = b' ';
-        if !found || !has || has_special(&bytes) || first_special(&bytes, place) != bytes.len() {
+        bytes[position] = b' ';
+        if !found || !has || has_special(&bytes) || first_special(&bytes, position) != bytes.len() {
             return Ok(false);
         }
     }
@@ -48,7 +49,7 @@ fn each_place_is_found(alloc: Global, size: usize) -> Result<bool, AllocError> {
 #[test]
 fn a_special_byte_is_found_in_short_texts(rt: HostRuntime) -> Result<(), Fail> {
     for size in 0..131usize {
-        assert!(rt; each_place_is_found(rt.alloc(), size)?);
+        assert!(rt; each_position_is_found(rt.alloc(), size)?);
     }
     Ok(())
 }

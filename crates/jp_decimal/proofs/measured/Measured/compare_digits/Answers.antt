@@ -8,11 +8,11 @@ returns-then-digit-other_digit c =
     let x = c.args.self.now in
     let y = c.args.other.now in
     c.cmp.ensures ∙ (ap₂ nat_cmp c.digit-digit.ensures c.digit-other_digit.ensures
-    ∙ order_by_digits x.magnitude y.magnitude x.first y.first c.loop-place.place x.zeros y.zeros c.requires.same c.loop-place.invariant
+    ∙ order_by_digits x.magnitude y.magnitude x.first y.first c.loop-position.position x.zeros y.zeros c.requires.same c.loop-position.invariant
     (λ e. c.if-digit-other_digit.true (c.digit-digit.ensures ∙ (e ∙ sym c.digit-other_digit.ensures))))
 
 pub returns : goal.returns
 returns c =
     let x = c.args.self.now in
     let y = c.args.other.now in
-    c.cmp-2.ensures ∙ order_by_length x y c.loop-place.place (x.end - x.first) (y.end - y.first) refl refl c.requires.same c.loop-place.invariant (λ l. omega arith) (λ l. omega arith)
+    c.cmp-2.ensures ∙ order_by_length x y c.loop-position.position (x.end - x.first) (y.end - y.first) refl refl c.requires.same c.loop-position.invariant (λ l. omega arith) (λ l. omega arith)
