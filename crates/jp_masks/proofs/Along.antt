@@ -7,11 +7,11 @@ use Rattle.std.proofs.Math.Seq.{take-suc}
 use Rattle.jp_model.specs.declared.Framing.{Framing}
 use Rattle.jp_model.specs.Json.Marks.{marks}
 use Rattle.jp_lanes.specs.Word.{bit}
-use Rattle.jp_masks.specs.Places.{set_bits}
+use Rattle.jp_masks.specs.Positions.{set_bits}
 use Rattle.jp_masks.specs.Machine.{start, is_marked, before}
 use Rattle.jp_masks.proofs.LineMore.{known_after, before-part, before-append, marks-push, range-push}
 
--- past a place none passes
+-- past a position none passes
 pub filter_upto : (p : ℕ → Bool) (n k : ℕ) → ((i : ℕ) → n ≤ i → i < n + k → p i ≡ false) → filter p (range_with_len 0 (n + k)) ≡ filter p (range_with_len 0 n)
 filter_upto p n zero none = ap (λ m. filter p (range_with_len 0 m)) (omega arith)
 filter_upto p n (suc k) none =
@@ -20,7 +20,7 @@ filter_upto p n (suc k) none =
     ap (λ m. filter p (range_with_len 0 m)) next ∙ ap (filter p) (range-push 0 (n + k)) ∙ filter-append p (range_with_len 0 (n + k)) ((0 + (n + k)) ∷ [])
     ∙ ap₂ (λ x y. x ++ y) (filter_upto p n k (λ i low high. none i low (omega arith))) (ap (λ b. cond b ((0 + (n + k)) ∷ []) []) here) ∙ append-nil (filter p (range_with_len 0 n))
 
--- a word that has no bit from a place on
+-- a word that has no bit from a position on
 pub set_bits_upto : (word n : ℕ) → n ≤ 64 → ((i : ℕ) → n ≤ i → i < 64 → bit word i ≡ false) → set_bits word ≡ filter (bit word) (range_with_len 0 n)
 unfolding set_bits
 set_bits_upto word n within none =
@@ -48,27 +48,27 @@ module _ (framing : Option Framing) (text block : List ℕ) (long : length block
 
 module _ (text block : List ℕ) (word n : ℕ) (long : length block ≡ 64) (within : n ≤ 64)
     (says : (i : ℕ) → i < n → bit word i ≡ is_marked (before None (known_after None text) block i) (get_or block i 0)) where
-  abbrev placed : ℕ → ℕ
-  placed i = length text + i
+  abbrev marked : ℕ → ℕ
+  marked i = length text + i
 
-  along : (i : ℕ) → i ≤ n → marks (text ++ take i block) ≡ marks text ++ map placed (filter (bit word) (range_with_len 0 i))
+  along : (i : ℕ) → i ≤ n → marks (text ++ take i block) ≡ marks text ++ map marked (filter (bit word) (range_with_len 0 i))
   along zero short = ap marks (append-nil text) ∙ sym (append-nil (marks text))
   along (suc i) short =
       ap marks (done-next None text block long i (omega arith)) ∙ marks-push None (text ++ take i block) (get_or block i 0) (λ j below. refl)
       ∙ ap₂ (λ x y. x ++ y) (along i (omega arith)) (one (bit word i) refl)
-      ∙ append_assoc (marks text) (map placed (filter (bit word) (range_with_len 0 i))) (map placed (cond (bit word i) (i ∷ []) []))
-      ∙ ap (λ l. marks text ++ l) (sym (map-append placed (filter (bit word) (range_with_len 0 i)) (cond (bit word i) (i ∷ []) [])))
-      ∙ ap (λ l. marks text ++ map placed l) (sym (ap (filter (bit word)) (range-push 0 i ∙ ap (λ j. range_with_len 0 i ++ j ∷ []) (zero-add i)) ∙ filter-append (bit word) (range_with_len 0 i) (i ∷ [])))
+      ∙ append_assoc (marks text) (map marked (filter (bit word) (range_with_len 0 i))) (map marked (cond (bit word i) (i ∷ []) []))
+      ∙ ap (λ l. marks text ++ l) (sym (map-append marked (filter (bit word) (range_with_len 0 i)) (cond (bit word i) (i ∷ []) [])))
+      ∙ ap (λ l. marks text ++ map marked l) (sym (ap (filter (bit word)) (range-push 0 i ∙ ap (λ j. range_with_len 0 i ++ j ∷ []) (zero-add i)) ∙ filter-append (bit word) (range_with_len 0 i) (i ∷ [])))
     where
-      one : (b : Bool) → bit word i ≡ b → cond (is_marked (known_after None (text ++ take i block)) (get_or block i 0)) (length (text ++ take i block) ∷ []) [] ≡ map placed (cond (bit word i) (i ∷ []) [])
+      one : (b : Bool) → bit word i ≡ b → cond (is_marked (known_after None (text ++ take i block)) (get_or block i 0)) (length (text ++ take i block) ∷ []) [] ≡ map marked (cond (bit word i) (i ∷ []) [])
       one b e =
           ap (λ v. cond v (length (text ++ take i block) ∷ []) []) (ap (λ k. is_marked k (get_or block i 0)) (known_done None text block long i (omega arith)) ∙ sym (says i (omega arith)))
           ∙ ap (λ m. cond (bit word i) (m ∷ []) []) (length-done None text block long i (omega arith))
           ∙ shown (bit word i)
         where
-          shown : (v : Bool) → cond v (placed i ∷ []) [] ≡ map placed (cond v (i ∷ []) [])
+          shown : (v : Bool) → cond v (marked i ∷ []) [] ≡ map marked (cond v (i ∷ []) [])
           shown true = refl
           shown false = refl
 
   pub marks_grow : ((i : ℕ) → n ≤ i → i < 64 → bit word i ≡ false) → marks (text ++ take n block) ≡ marks text ++ map (λ i. length text + i) (set_bits word)
-  marks_grow none = along n (omega arith) ∙ ap (λ l. marks text ++ map placed l) (sym (set_bits_upto word n within none))
+  marks_grow none = along n (omega arith) ∙ ap (λ l. marks text ++ map marked l) (sym (set_bits_upto word n within none))

@@ -1,4 +1,4 @@
--- A table of the set bits of each byte, and the places that are written by it.
+-- A table of the set bits of each byte, and the positions that are written by it.
 use Rattle.std.proofs.Common.{◌≡◌, ℕ, zero, suc, ◌+◌, ◌<◌, ◌≤◌, ◌%◌, ◌^◌, ◌==◌, ◌&&◌, Bool, true, false, List, [], ◌∷◌, ◌++◌, length, take, drop, get_or, map, replicate, refl, sym, ap, ap₂, subst, ◌∙◌, arith}
 use Rattle.std.proofs.lemmas.Bool.{and_parts, eqb-true, false≢true}
 use Rattle.std.proofs.lemmas.List.{take-append-le, length-take, length-take-le}
@@ -7,7 +7,7 @@ use Rattle.std.proofs.Math.Seq.{take-append-add}
 use lib.Count.{ones, ones_in}
 use lib.Lanes.{put_chunk, zip2}
 use Rattle.jp_lanes.specs.Word.{bit}
-use Rattle.jp_masks.specs.Places.{byte_bits, HasByteBits}
+use Rattle.jp_masks.specs.Positions.{byte_bits, HasByteBits}
 
 -- ---- the rows of a table
 
@@ -82,12 +82,12 @@ zip_long g h base zero (x ∷ xs) e = absurd (omega (arith, e))
 zip_long g h base (suc m) [] e = absurd (omega (arith, e))
 zip_long g h base (suc m) (x ∷ xs) e = ap suc (zip_long g h base m xs (omega (arith, e)))
 
-pub row_written : (g : ℕ → ℕ → ℕ) (h : ℕ → ℕ) (at base byte : ℕ) (places row : List ℕ) → byte < 256 → length row ≡ 8 → take (length (byte_bits byte)) row ≡ byte_bits byte → at + 8 ≤ length places → ((i : ℕ) → g (h i) base ≡ (base + i) % 2 ^ 32)
-    → take (at + ones byte) (put_chunk at places (zip2 g (map h row) (replicate 8 base))) ≡ take at places ++ map (λ i. (base + i) % 2 ^ 32) (byte_bits byte)
-row_written g h at base byte places row b wide bits room same_lane =
+pub row_written : (g : ℕ → ℕ → ℕ) (h : ℕ → ℕ) (at base byte : ℕ) (positions row : List ℕ) → byte < 256 → length row ≡ 8 → take (length (byte_bits byte)) row ≡ byte_bits byte → at + 8 ≤ length positions → ((i : ℕ) → g (h i) base ≡ (base + i) % 2 ^ 32)
+    → take (at + ones byte) (put_chunk at positions (zip2 g (map h row) (replicate 8 base))) ≡ take at positions ++ map (λ i. (base + i) % 2 ^ 32) (byte_bits byte)
+row_written g h at base byte positions row b wide bits room same_lane =
     let ys = zip2 g (map h row) (replicate 8 base) in
-    let front = take at places in
-    let rest = drop (length ys) (drop at places) in
+    let front = take at positions in
+    let rest = drop (length ys) (drop at positions) in
     let n = ones byte in
     let long : length ys ≡ 8 = zip_long g h base 8 row wide in
     let count = count_of byte b in
@@ -95,8 +95,8 @@ row_written g h at base byte places row b wide bits room same_lane =
     let taken = ap length bits in
     let cut = length-take (length (byte_bits byte)) row in
     let few : ones byte ≤ 8 = omega (arith, taken, cut, count, wide) in
-    let size : length front ≡ at = length-take-le at places (omega (arith, room)) in
-    ap (take (at + n)) (put_chunk_is at places ys (omega (arith, long, room)))
+    let size : length front ≡ at = length-take-le at positions (omega (arith, room)) in
+    ap (take (at + n)) (put_chunk_is at positions ys (omega (arith, long, room)))
     ∙ ap (λ k. take (k + n) (front ++ (ys ++ rest))) (sym size)
     ∙ take-append-add front (ys ++ rest) n
     ∙ ap (λ x. front ++ x) (take-append-le n ys rest (omega (arith, long, few)) ∙ zip_front g h base n 8 row wide ∙ ap (map (λ i. g (h i) base)) numbers ∙ (λ t. map (λ i. same_lane i t) (byte_bits byte)))

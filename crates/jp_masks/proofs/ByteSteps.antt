@@ -11,8 +11,8 @@ use Rattle.std.proofs.lemmas.Nat.{div-add-mod', pow_pos}
 use Rattle.std.proofs.lemmas.Nat.Bits.{bit_at_cat_low, bit_at_cat_high, bit_at_above}
 use lib.Pow.{shr_lt}
 use Rattle.jp_lanes.specs.Word.{bit}
-use Rattle.jp_masks.specs.Places.{set_bits, byte_bits}
-use Rattle.jp_masks.proofs.Places.{filter_same, filter_none, length-filter_range}
+use Rattle.jp_masks.specs.Positions.{set_bits, byte_bits}
+use Rattle.jp_masks.proofs.Positions.{filter_same, filter_none, length-filter_range}
 
 low : (n i : ℕ) → i < 8 → bit (n % 256) i ≡ bit n i
 unfolding bit
@@ -106,7 +106,7 @@ skipped k word few l clear =
     let all = filter_parted q 0 m k 64 m (omega (arith, few)) (omega arith) ∙ ap (λ xs. filter q (range_with_len 0 m) ++ xs) last ∙ append-nil (filter q (range_with_len 0 m)) in
     filter_parted p 0 k m 64 k (omega (arith, few)) (omega arith) ∙ ap₂ (λ xs ys. xs ++ ys) first (moved ∙ ap (map (λ i. k + i)) (sym all))
 
--- the places of a word's bits, each counted from a place that none is before
+-- the positions of a word's bits, each counted from a position that none is before
 pub counted : (base start from k word : ℕ) → base < 2 ^ 32 → start < 2 ^ 32 → k < 64 → word < 2 ^ 64 → from ≡ ((base + (2 ^ 32 - start)) % 2 ^ 32 + k) % 2 ^ 32 → ((i : ℕ) → i < k → bit word i ≡ false)
     → ((i : ℕ) → i < 64 → bit word i ≡ true → base + i < 2 ^ 32) → ((i : ℕ) → i < 64 → bit word i ≡ true → start ≤ base + i)
     → map (λ i. (from + i) % 2 ^ 32) (set_bits (word / 2 ^ k)) ≡ map (λ i. base + i - start) (set_bits word)

@@ -6,25 +6,25 @@ use Rattle.jp_masks.specs.declared.lines.Marks.{Marks}
 use Rattle.jp_masks.specs.Scanned.{Grows}
 
 pub grows_not : (m : Marks) → Grows m m
-grows_not m = record { more_rows = []; more_places = []; rows = sym (append-nil m.rows.items); places = sym (append-nil (written m.places)); is_utf8 = refl }
+grows_not m = record { more_rows = []; more_positions = []; rows = sym (append-nil m.rows.items); positions = sym (append-nil (written m.positions)); is_utf8 = refl }
 
-pub grows_by : (a b c : Marks) (rows : List Row) (places : List ℕ) → Grows a b → c.rows.items ≡ b.rows.items ++ rows → (written c.places) ≡ (written b.places) ++ places → c.is_utf8 ≡ b.is_utf8 → Grows a c
-grows_by a b c rows places g e f u = record {
+pub grows_by : (a b c : Marks) (rows : List Row) (positions : List ℕ) → Grows a b → c.rows.items ≡ b.rows.items ++ rows → (written c.positions) ≡ (written b.positions) ++ positions → c.is_utf8 ≡ b.is_utf8 → Grows a c
+grows_by a b c rows positions g e f u = record {
   more_rows = g.more_rows ++ rows;
-  more_places = g.more_places ++ places;
+  more_positions = g.more_positions ++ positions;
   rows = e ∙ ap (λ r. r ++ rows) g.rows ∙ append_assoc a.rows.items g.more_rows rows;
-  places = f ∙ ap (λ p. p ++ places) g.places ∙ append_assoc (written a.places) g.more_places places;
+  positions = f ∙ ap (λ p. p ++ positions) g.positions ∙ append_assoc (written a.positions) g.more_positions positions;
   is_utf8 = u ∙ g.is_utf8;
 }
 
-pub grows_same : (a b c : Marks) → Grows a b → c.rows.items ≡ b.rows.items → (written c.places) ≡ (written b.places) → c.is_utf8 ≡ b.is_utf8 → Grows a c
+pub grows_same : (a b c : Marks) → Grows a b → c.rows.items ≡ b.rows.items → (written c.positions) ≡ (written b.positions) → c.is_utf8 ≡ b.is_utf8 → Grows a c
 grows_same a b c g e f u = record {
   more_rows = g.more_rows;
-  more_places = g.more_places;
+  more_positions = g.more_positions;
   rows = e ∙ g.rows;
-  places = f ∙ g.places;
+  positions = f ∙ g.positions;
   is_utf8 = u ∙ g.is_utf8;
 }
 
 pub grows_then : (a b c : Marks) → Grows a b → Grows b c → Grows a c
-grows_then a b c g h = grows_by a b c h.more_rows h.more_places g h.rows h.places h.is_utf8
+grows_then a b c g h = grows_by a b c h.more_rows h.more_positions g h.rows h.positions h.is_utf8

@@ -9,10 +9,10 @@ use lib.Bits.{bit_and, bit_or}
 use Rattle.jp_model.specs.declared.Framing.{Framing}
 use Rattle.jp_lanes.specs.Word.{bit, Says}
 use Rattle.jp_lanes.proofs.Words.{bit-or}
-use Rattle.jp_masks.specs.Places.{set_bits}
+use Rattle.jp_masks.specs.Positions.{set_bits}
 use Rattle.jp_masks.specs.Ends.{is_end}
 use Rattle.jp_masks.specs.Machine.{is_marked, before}
-use Rattle.jp_masks.specs.Sinks.{add_places, sink_of}
+use Rattle.jp_masks.specs.Sinks.{add_positions, sink_of}
 use Rattle.jp_masks.proofs.Bits.{bit-and}
 use Rattle.jp_masks.proofs.LineMore.{known_after}
 use Rattle.jp_masks.proofs.LineBlocks.{and-true, and-false}
@@ -45,7 +45,7 @@ module _ (ones n : ℕ) (at_ones : Says ones (λ i. nat_lt i n)) where
     front : take n block ≡ held
     front = ap₂ (λ k (b : List ℕ). take k b) n_is block_is ∙ take-append_seam held (replicate (64 - length held) 0)
 
-    pub last_law : add_places framing (bit_and e ones) base (sink_of framing whole) (set_bits (bit_or (bit_and m ones) (bit_and e ones))) ≡ sink_of framing text
+    pub last_law : add_positions framing (bit_and e ones) base (sink_of framing whole) (set_bits (bit_or (bit_and m ones) (bit_and e ones))) ≡ sink_of framing text
     last_law =
         block_law framing whole block (bit_and m ones) (bit_and e ones) base n long (omega arith) (sym base_is)
         (λ i low. below m i low (omega arith) ∙ at_marks i (omega arith)) (λ i low. below e i low (omega arith) ∙ at_ends i (omega arith)) (none_above m e)

@@ -5,7 +5,7 @@ mod Restart
 mod Escapes
 mod BlockWords
 mod LineLaw
-mod Places
+mod Positions
 mod Pieces
 mod LineMore
 mod Along
@@ -16,7 +16,7 @@ mod ByteSteps
 mod LineBlocks
 mod RowsLaw
 mod SinkLaw
-mod SinkPlaces
+mod SinkPositions
 mod Growth
 mod Joined
 mod FoundLaw

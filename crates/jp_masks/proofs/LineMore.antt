@@ -12,7 +12,7 @@ use Rattle.jp_model.proofs.Pieces.{pieces_clear}
 use Rattle.jp_masks.specs.Ends.{is_end}
 use Rattle.jp_masks.specs.Machine.{start, after, is_marked, before}
 use Rattle.jp_masks.specs.declared.block.Carry.{Carry}
-use Rattle.jp_masks.proofs.Places.{filter_same}
+use Rattle.jp_masks.proofs.Positions.{filter_same}
 use Rattle.jp_masks.proofs.LineLaw.{NoEnd, mark_law}
 use Rattle.jp_masks.proofs.Pieces.{open-push}
 

@@ -1,4 +1,4 @@
--- The places of rows are there, also when more come.
+-- The positions of rows are there, also when more come.
 use Rattle.std.proofs.Common.{◌≡◌, ℕ, zero, suc, ◌<◌, ◌≤◌, nat_le, Bool, true, false, ◌&&◌, List, [], ◌∷◌, ◌++◌, length, get_or, cond, refl, sym, ap, ap₂, ◌∙◌, arith, subst, Result, Ok, Err}
 use Rattle.std.proofs.lemmas.Bool.Decides.{nat_tests}
 use Rattle.std.proofs.lemmas.List.Folds.{list_all-append}
@@ -21,46 +21,46 @@ true_le : (a b : ℕ) → nat_le a b ≡ true → a ≤ b
 true_le a b h = grind (arith, nat_tests, h)
 
 -- one row among them
-pub row_at : (rows : List Row) (n k : ℕ) (d : Row) → rows_within rows n ≡ true → k < length rows → ((get_or rows k d).places_start ≤ (get_or rows k d).places_end) × ((get_or rows k d).places_end ≤ n)
+pub row_at : (rows : List Row) (n k : ℕ) (d : Row) → rows_within rows n ≡ true → k < length rows → ((get_or rows k d).positions_start ≤ (get_or rows k d).positions_end) × ((get_or rows k d).positions_end ≤ n)
 unfolding rows_within
 row_at [] n k d h l = absurd (omega arith)
 row_at (row ∷ rows) n zero d h l =
-    let here = both (nat_le row.places_start row.places_end && nat_le row.places_end n) (rows_within rows n) h in
-    let parts = both (nat_le row.places_start row.places_end) (nat_le row.places_end n) here.0 in
-    (true_le row.places_start row.places_end parts.0, true_le row.places_end n parts.1)
-row_at (row ∷ rows) n (suc k) d h l = row_at rows n k d (both (nat_le row.places_start row.places_end && nat_le row.places_end n) (rows_within rows n) h).1 (omega arith)
+    let here = both (nat_le row.positions_start row.positions_end && nat_le row.positions_end n) (rows_within rows n) h in
+    let parts = both (nat_le row.positions_start row.positions_end) (nat_le row.positions_end n) here.0 in
+    (true_le row.positions_start row.positions_end parts.0, true_le row.positions_end n parts.1)
+row_at (row ∷ rows) n (suc k) d h l = row_at rows n k d (both (nat_le row.positions_start row.positions_end && nat_le row.positions_end n) (rows_within rows n) h).1 (omega arith)
 
-pub row_there : (rows : List Row) (n k : ℕ) (row : Row) → rows_within rows n ≡ true → k < length rows → row ≡ get_or rows k row → (row.places_start ≤ row.places_end) × (row.places_end ≤ n)
-row_there rows n k row h l e = subst (λ (r : Row). (r.places_start ≤ r.places_end) × (r.places_end ≤ n)) (sym e) (row_at rows n k row h l)
+pub row_there : (rows : List Row) (n k : ℕ) (row : Row) → rows_within rows n ≡ true → k < length rows → row ≡ get_or rows k row → (row.positions_start ≤ row.positions_end) × (row.positions_end ≤ n)
+row_there rows n k row h l e = subst (λ (r : Row). (r.positions_start ≤ r.positions_end) × (r.positions_end ≤ n)) (sym e) (row_at rows n k row h l)
 
--- more places
-pub more_places : (rows : List Row) (n m : ℕ) → n ≤ m → rows_within rows n ≡ true → rows_within rows m ≡ true
+-- more positions
+pub more_positions : (rows : List Row) (n m : ℕ) → n ≤ m → rows_within rows n ≡ true → rows_within rows m ≡ true
 unfolding rows_within
-more_places [] n m l h = refl
-more_places (row ∷ rows) n m l h =
-    let here = both (nat_le row.places_start row.places_end && nat_le row.places_end n) (rows_within rows n) h in
-    let parts = both (nat_le row.places_start row.places_end) (nat_le row.places_end n) here.0 in
-    let low = true_le row.places_end n parts.1 in
-    both_true (nat_le row.places_start row.places_end && nat_le row.places_end m) (rows_within rows m)
-    (both_true (nat_le row.places_start row.places_end) (nat_le row.places_end m) parts.0 (le_true row.places_end m (omega arith))) (more_places rows n m l here.1)
+more_positions [] n m l h = refl
+more_positions (row ∷ rows) n m l h =
+    let here = both (nat_le row.positions_start row.positions_end && nat_le row.positions_end n) (rows_within rows n) h in
+    let parts = both (nat_le row.positions_start row.positions_end) (nat_le row.positions_end n) here.0 in
+    let low = true_le row.positions_end n parts.1 in
+    both_true (nat_le row.positions_start row.positions_end && nat_le row.positions_end m) (rows_within rows m)
+    (both_true (nat_le row.positions_start row.positions_end) (nat_le row.positions_end m) parts.0 (le_true row.positions_end m (omega arith))) (more_positions rows n m l here.1)
 
 -- one more row
 pub more_row : (rows : List Row) (n start end from to : ℕ) → from ≤ to → to ≤ n → rows_within rows n ≡ true
-    → rows_within (rows ++ (let row : Row = record { start = start; end = end; places_start = from; places_end = to } in row) ∷ []) n ≡ true
+    → rows_within (rows ++ (let row : Row = record { start = start; end = end; positions_start = from; positions_end = to } in row) ∷ []) n ≡ true
 unfolding rows_within
 more_row rows n start end from to l w h =
-    let row : Row = record { start = start; end = end; places_start = from; places_end = to } in
-    list_all-append (λ (r : Row). nat_le r.places_start r.places_end && nat_le r.places_end n) rows (row ∷ [])
+    let row : Row = record { start = start; end = end; positions_start = from; positions_end = to } in
+    list_all-append (λ (r : Row). nat_le r.positions_start r.positions_end && nat_le r.positions_end n) rows (row ∷ [])
     ∙ both_true (rows_within rows n) (rows_within (row ∷ []) n) h
     (both_true (nat_le from to && nat_le to n) true (both_true (nat_le from to) (nat_le to n) (le_true from to l) (le_true to n w)) refl)
 
 -- a row that comes, or does not
-pub rows_pushed : (b : Bool) (rows after : List Row) (n start end from to : ℕ) → after ≡ cond b (rows ++ (let row : Row = record { start = start; end = end; places_start = from; places_end = to } in row) ∷ []) rows
+pub rows_pushed : (b : Bool) (rows after : List Row) (n start end from to : ℕ) → after ≡ cond b (rows ++ (let row : Row = record { start = start; end = end; positions_start = from; positions_end = to } in row) ∷ []) rows
     → from ≤ to → to ≤ n → rows_within rows n ≡ true → rows_within after n ≡ true
 rows_pushed true rows after n start end from to e l w h = ap (λ r. rows_within r n) e ∙ more_row rows n start end from to l w h
 rows_pushed false rows after n start end from to e l w h = ap (λ r. rows_within r n) e ∙ h
 
--- places that come, or do not
-pub places_came : {T E : Type 0} (r : Result T E) (places more after : List ℕ) → OnOk r (after ≡ places ++ more) → OnErr r (after ≡ places) → length places ≤ length after
-places_came (Ok x) places more after ok err = omega (arith, ap length ok, length-append places more)
-places_came (Err e) places more after ok err = omega (arith, ap length err)
+-- positions that come, or do not
+pub positions_came : {T E : Type 0} (r : Result T E) (positions more after : List ℕ) → OnOk r (after ≡ positions ++ more) → OnErr r (after ≡ positions) → length positions ≤ length after
+positions_came (Ok x) positions more after ok err = omega (arith, ap length ok, length-append positions more)
+positions_came (Err e) positions more after ok err = omega (arith, ap length err)

@@ -8,7 +8,7 @@ use Rattle.jp_model.specs.Json.Places.{White}
 use Rattle.jp_masks.specs.Machine.{xor, start, after, is_marked, before}
 use Rattle.jp_masks.specs.declared.block.Carry.{Carry}
 use Rattle.jp_masks.proofs.LineLaw.{mark_law}
-use Rattle.jp_masks.proofs.Places.{filter_same}
+use Rattle.jp_masks.proofs.Positions.{filter_same}
 
 -- a byte of a number or a word
 pub record Plain (b : ℕ) : Type 0 where
@@ -32,7 +32,7 @@ module _ (line : List ℕ) where
   abbrev pub marked : ℕ → Bool
   marked i = is_marked (known i) (byte i)
 
-  -- the marks among n bytes from a place
+  -- the marks among n bytes from a position
   abbrev pub part : ℕ → ℕ → List ℕ
   part from n = filter marked (range_with_len from n)
 
@@ -40,27 +40,27 @@ module _ (line : List ℕ) where
   part-add from zero m = ap₂ part (omega arith) (omega arith)
   part-add from (suc n) m =
       let count : suc n + m ≡ suc (n + m) = omega arith in
-      let place : from + 1 + n ≡ from + suc n = omega arith in
-      ap (part from) count ∙ go (marked from) (part-add (from + 1) n m ∙ ap (λ p. part (from + 1) n ++ part p m) place)
+      let position : from + 1 + n ≡ from + suc n = omega arith in
+      ap (part from) count ∙ go (marked from) (part-add (from + 1) n m ∙ ap (λ p. part (from + 1) n ++ part p m) position)
     where
       go : (b : Bool) → part (from + 1) (n + m) ≡ part (from + 1) n ++ part (from + suc n) m → cond b (from ∷ part (from + 1) (n + m)) (part (from + 1) (n + m)) ≡ cond b (from ∷ part (from + 1) n) (part (from + 1) n) ++ part (from + suc n) m
       go true e = ap (λ l. from ∷ l) e
       go false e = e
 
-  -- the marks from a place up to another
-  pub record Scans (from to : ℕ) (places : List ℕ) : Type 0 where
+  -- the marks from a position up to another
+  pub record Scans (from to : ℕ) (positions : List ℕ) : Type 0 where
     pub order : from ≤ to
-    pub are : part from (to - from) ≡ places
+    pub are : part from (to - from) ≡ positions
 
   pub join : (a b c : ℕ) (xs ys : List ℕ) → Scans a b xs → Scans b c ys → Scans a c (xs ++ ys)
   join a b c xs ys p q =
       let low = p.order in
       let high = q.order in
       let count : c - a ≡ (b - a) + (c - b) = omega arith in
-      let place : a + (b - a) ≡ b = omega arith in
+      let position : a + (b - a) ≡ b = omega arith in
       record {
         order = omega arith;
-        are = ap (part a) count ∙ part-add a (b - a) (c - b) ∙ ap₂ (λ (x y : List ℕ). x ++ y) p.are (ap (λ n. part n (c - b)) place ∙ q.are);
+        are = ap (part a) count ∙ part-add a (b - a) (c - b) ∙ ap₂ (λ (x y : List ℕ). x ++ y) p.are (ap (λ n. part n (c - b)) position ∙ q.are);
       }
 
   pub nothing : (i : ℕ) → Scans i i []
@@ -100,9 +100,9 @@ module _ (line : List ℕ) where
   begins_is : (i : ℕ) (e s w st q b : Bool) → Knows i e s → Class i w st q b → Begins (i + 1) (w || st || (q && not e) || false)
   begins_is i e s w st q b k c = ap (λ (x : Carry). x.may_begin) (known-next i) ∙ (λ t. c.white t || c.structural t || (c.quote t && not (k.escape t)) || false)
 
-  -- what holds from a place up to another: these marks, and what is known behind them
-  pub record Goes (from to : ℕ) (places : List ℕ) (escaped inside : Bool) : Type 0 where
-    pub scans : Scans from to places
+  -- what holds from a position up to another: these marks, and what is known behind them
+  pub record Goes (from to : ℕ) (positions : List ℕ) (escaped inside : Bool) : Type 0 where
+    pub scans : Scans from to positions
     pub knows : Knows to escaped inside
 
   pub then : (a b c : ℕ) (xs ys : List ℕ) (e s f t : Bool) → Goes a b xs e s → Goes b c ys f t → Goes a c (xs ++ ys) f t
@@ -206,7 +206,7 @@ module _ (line : List ℕ) where
 
   -- ---- runs of bytes
 
-  -- each byte from a place up to another
+  -- each byte from a position up to another
   abbrev pub From : ℕ → ℕ → (ℕ → Type 0) → Type 0
   From i j P = (k : ℕ) → i ≤ k → k < j → P (byte k)
 
@@ -246,6 +246,6 @@ module _ (line : List ℕ) where
   unfolding before
   at_start = (record { escape = refl; string = refl }, refl)
 
-  pub marks_are : (places : List ℕ) → Scans 0 (length line) places → marks line ≡ places
+  pub marks_are : (positions : List ℕ) → Scans 0 (length line) positions → marks line ≡ positions
   unfolding marks
-  marks_are places s = filter_same (is_mark line) marked 0 (length line) (λ i low high. sym (mark_law None line i (λ j below. refl))) ∙ (let whole : length line ≡ length line - 0 = omega arith in ap (part 0) whole) ∙ s.are
+  marks_are positions s = filter_same (is_mark line) marked 0 (length line) (λ i low high. sym (mark_law None line i (λ j below. refl))) ∙ (let whole : length line ≡ length line - 0 = omega arith in ap (part 0) whole) ∙ s.are

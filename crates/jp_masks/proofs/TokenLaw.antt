@@ -122,9 +122,9 @@ module _ (line : List ℕ) where
   reads_each P i j bytes r all k low high =
       let w = r.within in
       let count : length bytes ≡ j - i = sym (ap length r.are) ∙ length-between line i j w in
-      let place : i + (k - i) ≡ k = omega arith in
+      let position : i + (k - i) ≡ k = omega arith in
       let inside : i + (k - i) < j = omega arith in
-      subst P (sym (ap (λ (xs : List ℕ). get_or xs (k - i) 0) r.are) ∙ get_or-between line i j (k - i) 0 inside ∙ ap (λ n. get_or line n 0) place) (all (k - i) 0 (omega arith))
+      subst P (sym (ap (λ (xs : List ℕ). get_or xs (k - i) 0) r.are) ∙ get_or-between line i j (k - i) 0 inside ∙ ap (λ n. get_or line n 0) position) (all (k - i) 0 (omega arith))
 
   -- a number or a word
   run : (i j : ℕ) (bytes : List ℕ) → Reads line i j bytes → All Plain bytes → 0 < length bytes → Knows line i false false → Begins line i true → Goes line i j (i ∷ []) false false
@@ -264,6 +264,6 @@ marks_are_its_tokens line t text =
     let white = white_space line 0 (span t).start text.before (at_start line).0 in
     let this = tree line t text.value white.0.knows (white.1 (at_start line).1) in
     let behind = white_space line (span t).end (length line) text.after this.knows in
-    subst (λ (places : List ℕ). Goes line 0 (length line) places false false) (append-nil (tokens line t text.value))
+    subst (λ (positions : List ℕ). Goes line 0 (length line) positions false false) (append-nil (tokens line t text.value))
     (then line 0 (span t).start (length line) [] (tokens line t text.value ++ []) false false false false white.0
     (then line (span t).start (span t).end (length line) (tokens line t text.value) [] false false false false this behind.0))

@@ -9,7 +9,7 @@ use Rattle.jp_masks.specs.Scanned.{stored, IsUnchanged, Grows, IsAsBefore}
 
 found_same : (old new : Marks) → IsUnchanged old new → found new ≡ found old
 unfolding found
-found_same old new same = λ t. map (line_of (same.places t)) (same.rows t)
+found_same old new same = λ t. map (line_of (same.positions t)) (same.rows t)
 
 pub as_before : (old new : Marks) → IsUnchanged old new → IsAsBefore old new
 as_before old new same = record {
@@ -21,7 +21,7 @@ as_before old new same = record {
       framed = was.in_blocks.framed;
       scanned = was.in_blocks.scanned;
       in_blocks = was.in_blocks.in_blocks;
-      stored = (λ t. stored (same.rows t) (same.places t) (same.places_before t) scanner.progress.start) ∙ was.in_blocks.stored;
+      stored = (λ t. stored (same.rows t) (same.positions t) (same.positions_before t) scanner.progress.start) ∙ was.in_blocks.stored;
       known = was.in_blocks.known;
       tested = was.in_blocks.tested;
     };
@@ -32,19 +32,19 @@ as_before old new same = record {
   };
   empty = λ e. record {
     rows = same.rows ∙ e.rows;
-    places = same.places ∙ e.places;
-    places_before = same.places_before ∙ e.places_before;
+    positions = same.positions ∙ e.positions;
+    positions_before = same.positions_before ∙ e.positions_before;
   };
 }
 
 -- what was added and is cut off again
-pub cut_unchanged : (old more new : Marks) (rows places : ℕ) → Grows old more → rows ≡ length old.rows.items → places ≡ length (written old.places)
-    → new.rows.items ≡ take rows more.rows.items → (written new.places) ≡ take places (written more.places) → new.places_before ≡ old.places_before → new.is_utf8 ≡ more.is_utf8
+pub cut_unchanged : (old more new : Marks) (rows positions : ℕ) → Grows old more → rows ≡ length old.rows.items → positions ≡ length (written old.positions)
+    → new.rows.items ≡ take rows more.rows.items → (written new.positions) ≡ take positions (written more.positions) → new.positions_before ≡ old.positions_before → new.is_utf8 ≡ more.is_utf8
     → IsUnchanged old new
-cut_unchanged old more new rows places grown rows_is places_is rows_are places_are before utf8 = record {
+cut_unchanged old more new rows positions grown rows_is positions_is rows_are positions_are before utf8 = record {
   rows = rows_are ∙ (λ t. take (rows_is t) (grown.rows t)) ∙ take-append_seam old.rows.items grown.more_rows;
-  places = places_are ∙ (λ t. take (places_is t) (grown.places t)) ∙ take-append_seam (written old.places) grown.more_places;
-  places_before = before;
+  positions = positions_are ∙ (λ t. take (positions_is t) (grown.positions t)) ∙ take-append_seam (written old.positions) grown.more_positions;
+  positions_before = before;
   is_utf8 = utf8 ∙ grown.is_utf8;
 }
 

@@ -8,7 +8,7 @@ use Rattle.jp_masks.specs.Written.{written}
 use Rattle.jp_masks.specs.declared.row.Row.{Row}
 use Rattle.jp_masks.specs.declared.lines.Marks.{Marks}
 
--- one line: its bytes of the collection, `end` excluded, and its marks by their places in the line
+-- one line: its bytes of the collection, `end` excluded, and its marks by their positions in the line
 pub record LineAt : Type 0 where
   pub start : ℕ
   pub end : ℕ
@@ -61,8 +61,8 @@ lines_in Sequence text = sequence_texts text
 
 -- a row as a line
 abbrev pub line_of : List ℕ → Row → LineAt
-line_of places row = record { start = row.start; end = row.end; positions = slice_range places row.places_start row.places_end }
+line_of positions row = record { start = row.start; end = row.end; positions = slice_range positions row.positions_start row.positions_end }
 
 -- the lines that were found
 unfoldable pub found : Marks → List LineAt
-found sink = map (line_of (written sink.places)) sink.rows.items
+found sink = map (line_of (written sink.positions)) sink.rows.items

@@ -1,7 +1,7 @@
 -- What the contracts of masks speak of.
 pub mod Ends
 pub mod Machine
-pub mod Places
+pub mod Positions
 pub mod Runs
 pub mod OneLine
 pub mod Rows

@@ -4,8 +4,8 @@ use Rattle.jp_model.specs.Json.Marks.{marks}
 use Rattle.jp_masks.specs.Machine.{start, before}
 use Rattle.jp_masks.specs.declared.block.Carry.{Carry}
 
--- the bytes up to a place were read, and these are their marks and what is known behind them
-pub record HasMarked (read places : List ℕ) (known : Carry) (place : ℕ) : Type 0 where
-  pub placed : places ≡ marks read
+-- the bytes up to a position were read, and these are their marks and what is known behind them
+pub record HasMarked (read positions : List ℕ) (known : Carry) (position : ℕ) : Type 0 where
+  pub marked : positions ≡ marks read
   pub knows : known ≡ before None start read (length read)
-  pub long : place ≡ length read
+  pub long : position ≡ length read

@@ -1,8 +1,8 @@
--- The rows of lines, and that their places are there.
+-- The rows of lines, and that their positions are there.
 use Rattle.std.specs.Prelude.{ℕ, Bool, ◌&&◌, nat_le, List}
 use Rattle.std.specs.List.{list_all}
 use Rattle.jp_masks.specs.declared.row.Row.{Row}
 
--- the places of each row are among the first n
+-- the positions of each row are among the first n
 unfoldable pub rows_within : List Row → ℕ → Bool
-rows_within rows n = list_all (λ (row : Row). nat_le row.places_start row.places_end && nat_le row.places_end n) rows
+rows_within rows n = list_all (λ (row : Row). nat_le row.positions_start row.positions_end && nat_le row.positions_end n) rows

@@ -13,16 +13,16 @@ use Rattle.jp_masks.specs.declared.lines.Marks.{Marks}
 use Rattle.jp_masks.specs.declared.progress.Progress.{Progress}
 use Rattle.jp_masks.specs.declared.scanner.Scanner.{Scanner}
 
--- the sink of these rows and places
+-- the sink of these rows and positions
 abbrev pub stored : List Row → List ℕ → ℕ → ℕ → Sink
-stored rows places places_before line_start = record { rows = rows; places = places; before = places_before; start = line_start }
+stored rows positions positions_before line_start = record { rows = rows; positions = positions; before = positions_before; start = line_start }
 
 -- these bytes, which are whole blocks, were scanned, and the marks are theirs
 pub record InBlocks (framing : Framing) (whole : List ℕ) (progress : Progress) (sink : Marks) : Type 0 where
   pub framed : progress.framing ≡ framing
   pub scanned : progress.scanned ≡ length whole
   pub in_blocks : length whole % 64 ≡ 0
-  pub stored : stored sink.rows.items (written sink.places) sink.places_before progress.start ≡ sink_of framing whole
+  pub stored : stored sink.rows.items (written sink.positions) sink.positions_before progress.start ≡ sink_of framing whole
   pub known : progress.carry ≡ before (Some framing) start whole (length whole)
   pub tested : HasTested progress.validity whole
 
@@ -39,27 +39,27 @@ bytes_fed scanner = scanner.progress.scanned + scanner.held_len
 -- nothing was found
 pub record IsEmpty (sink : Marks) : Type 0 where
   pub rows : sink.rows.items ≡ []
-  pub places : written sink.places ≡ []
-  pub places_before : sink.places_before ≡ 0
+  pub positions : written sink.positions ≡ []
+  pub positions_before : sink.positions_before ≡ 0
 
 -- the memory stayed
 pub record HasRoomOf (old new : Marks) : Type 0 where
   pub rows : vec_capacity new.rows ≡ vec_capacity old.rows
-  pub places : vec_capacity new.places.room ≡ vec_capacity old.places.room
+  pub positions : vec_capacity new.positions.room ≡ vec_capacity old.positions.room
 
 -- both hold the same
 pub record IsUnchanged (old new : Marks) : Type 0 where
   pub rows : new.rows.items ≡ old.rows.items
-  pub places : written new.places ≡ written old.places
-  pub places_before : new.places_before ≡ old.places_before
+  pub positions : written new.positions ≡ written old.positions
+  pub positions_before : new.positions_before ≡ old.positions_before
   pub is_utf8 : new.is_utf8 ≡ old.is_utf8
 
 -- what was there is still there, in front
 pub record Grows (old new : Marks) : Type 0 where
   pub more_rows : List Row
-  pub more_places : List ℕ
+  pub more_positions : List ℕ
   pub rows : new.rows.items ≡ old.rows.items ++ more_rows
-  pub places : written new.places ≡ written old.places ++ more_places
+  pub positions : written new.positions ≡ written old.positions ++ more_positions
   pub is_utf8 : new.is_utf8 ≡ old.is_utf8
 
 -- the blocks of 64 bytes at the front

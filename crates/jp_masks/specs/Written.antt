@@ -1,7 +1,7 @@
--- The places of marks that were written.
+-- The positions of marks that were written.
 use Rattle.std.specs.Prelude.{ℕ, List, take}
-use Rattle.jp_masks.specs.declared.room.Places.{Places}
+use Rattle.jp_masks.specs.declared.room.Positions.{Positions}
 
 -- behind them is room for others
-abbrev pub written : Places → List ℕ
-written places = take places.filled places.room.items
+abbrev pub written : Positions → List ℕ
+written positions = take positions.filled positions.room.items

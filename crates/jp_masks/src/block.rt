@@ -3,7 +3,7 @@
 ghost use Rattle.std.specs.Prelude.{◌≡◌, ◌==◌, ℕ, ◌+◌, ◌-◌, ◌%◌, ◌^◌, ◌<◌, ◌≤◌, ◌++◌, true, map, take, length, slice_index};
 ghost use Rattle.jp_lanes.specs.Word.{bit, Says};
 ghost use Rattle.jp_masks.specs.Ends.{is_end};
-ghost use Rattle.jp_masks.specs.Places.{set_bits, byte_bits, HasByteBits};
+ghost use Rattle.jp_masks.specs.Positions.{set_bits, byte_bits, HasByteBits};
 ghost use Rattle.jp_masks.specs.Runs.{odd_run, parity, restarted, carried, escaped_at};
 ghost use Rattle.jp_masks.specs.Machine.{before, is_marked};
 
@@ -12,7 +12,7 @@ use jp_lanes::{classify, separators};
 use jp_model::Framing;
 use std::simd::prelude::*;
 
-/// How many bytes a block has, and so how many places at most.
+/// How many bytes a block has, and so how many positions at most.
 pub const BLOCK: usize = 64;
 
 /// What is known before a byte: whether a backslash escapes it, whether it is inside a string, and whether a token may
@@ -155,12 +155,12 @@ pub fn scan_block(bytes: &[u8; 64], framing: Option<Framing>, first: Carry) -> F
     Found { marks, ends, next }
 }
 
-/// How many places are written at once: one for each bit of a byte.
+/// How many positions are written at once: one for each bit of a byte.
 const LANES: usize = 8;
 
 /// The numbers of the set bits of a byte, lowest first, and others after them, as a table has them.
 #[inline(always)]
-#[tactic(auto, unfolding(crate::specs::Places::HasByteBits))]
+#[tactic(auto, unfolding(crate::specs::Positions::HasByteBits))]
 fn bit_numbers(table: &[[u8; LANES]; 256], byte: u8) -> [u8; LANES]
     requires { HasByteBits table.now }
     ensures { take (length (byte_bits byte)) result ≡ byte_bits byte }
@@ -168,29 +168,29 @@ fn bit_numbers(table: &[[u8; LANES]; 256], byte: u8) -> [u8; LANES]
     table[byte as usize]
 }
 
-/// Writes the places of the set bits of a byte, whose lowest bit is at `base`, lowest first from an index on, and returns how
-/// many they are. What stood after them up to the eighth place is lost.
+/// Writes the positions of the set bits of a byte, whose lowest bit is at `base`, lowest first from an index on, and returns how
+/// many they are. What stood after them up to the eighth position is lost.
 #[inline(always)]
-fn write_byte(places: &mut [u32], at: usize, base: u32, byte: u8) -> usize
-    requires { at + LANES ≤ length places.old }
-    ensures written { take (at + result) places.new ≡ take at places.old ++ map (λ i. (base + i) % 2 ^ 32) (byte_bits byte) }
+fn write_byte(positions: &mut [u32], at: usize, base: u32, byte: u8) -> usize
+    requires { at + LANES ≤ length positions.old }
+    ensures written { take (at + result) positions.new ≡ take at positions.old ++ map (λ i. (base + i) % 2 ^ 32) (byte_bits byte) }
     ensures count { result ≡ length (byte_bits byte) }
-    ensures long { length places.new ≡ length places.old }
+    ensures long { length positions.new ≡ length positions.old }
 {
     let numbers: Simd<u8, LANES> = Simd::from_array(bit_numbers(&SET_BITS, byte));
     let found = numbers.cast::<u32>() + Simd::splat(base);
-    found.copy_to_slice(&mut places[at..]);
+    found.copy_to_slice(&mut positions[at..]);
     byte.count_ones() as usize
 }
 
-/// Writes the places of the set bits of a block that begins at `base`, lowest first and each modulo 2^32, and returns how many
-/// they are. A byte writes eight places, so the last one ends within those of the block.
+/// Writes the positions of the set bits of a block that begins at `base`, lowest first and each modulo 2^32, and returns how many
+/// they are. A byte writes eight positions, so the last one ends within those of the block.
 #[inline(always)]
-fn write_places(places: &mut [u32], base: u32, word: u64) -> usize
-    requires room { BLOCK ≤ length places.old }
-    ensures written { take result places.new ≡ map (λ i. (base + i) % 2 ^ 32) (set_bits word) }
+fn write_positions(positions: &mut [u32], base: u32, word: u64) -> usize
+    requires room { BLOCK ≤ length positions.old }
+    ensures written { take result positions.new ≡ map (λ i. (base + i) % 2 ^ 32) (set_bits word) }
     ensures within { result ≤ BLOCK }
-    ensures long { length places.new ≡ length places.old }
+    ensures long { length positions.new ≡ length positions.old }
 {
     let mut count = 0;
     let mut rest = word;
@@ -200,27 +200,27 @@ fn write_places(places: &mut [u32], base: u32, word: u64) -> usize
         }
         let from = base.wrapping_add((byte * LANES) as u32);
         let bits = (rest % (1 << LANES)) as u8;
-        count += write_byte(places, count, from, bits);
+        count += write_byte(positions, count, from, bits);
         rest >>= LANES;
     }
     count
 }
 
-/// Writes the same places from the first set bit on, each counted from `start`, which none is before. The block may begin
+/// Writes the same positions from the first set bit on, each counted from `start`, which none is before. The block may begin
 /// before `start`: the sums are modulo 2^32.
 #[inline(always)]
-pub fn write_block(places: &mut [u32], base: u32, start: u32, word: u64) -> usize
-    requires room { BLOCK ≤ length places.old }
+pub fn write_block(positions: &mut [u32], base: u32, start: u32, word: u64) -> usize
+    requires room { BLOCK ≤ length positions.old }
     requires fits { (i : ℕ) → i < 64 → bit word i ≡ true → base + i < 2 ^ 32 }
     requires order { (i : ℕ) → i < 64 → bit word i ≡ true → start ≤ base + i }
-    ensures written { take result places.new ≡ map (λ i. base + i - start) (set_bits word) }
+    ensures written { take result positions.new ≡ map (λ i. base + i - start) (set_bits word) }
     ensures within { result ≤ BLOCK }
-    ensures long { length places.new ≡ length places.old }
+    ensures long { length positions.new ≡ length positions.old }
 {
     if word == 0 {
         return 0;
     }
     let skipped = word.trailing_zeros();
     let from = base.wrapping_sub(start).wrapping_add(skipped);
-    write_places(places, from, word >> skipped)
+    write_positions(positions, from, word >> skipped)
 }

@@ -8,7 +8,7 @@ ghost use Rattle.jp_masks.specs.Written.{written};
 
 use crate::framed::is_line;
 use crate::one_line::first_bits;
-use crate::room::Places;
+use crate::room::Positions;
 use crate::row::Row;
 use jp_model::{Framing, Span};
 use std::alloc::{AllocError, Global};
@@ -25,12 +25,12 @@ pub struct LineMarks<'a> {
 #[derive(Drop)]
 pub struct Marks {
     rows: Vec<Row>,
-    places: Places,
-    /// How many places come before the line that is not yet ended.
-    places_before: usize,
+    positions: Positions,
+    /// How many positions come before the line that is not yet ended.
+    positions_before: usize,
     is_utf8: bool,
-    ghost in_places: { rows_within rows.items (length (written places)) ≡ true },
-    ghost in_order: { places_before ≤ length (written places) },
+    ghost in_positions: { rows_within rows.items (length (written positions)) ≡ true },
+    ghost in_order: { positions_before ≤ length (written positions) },
 }
 
 /// Whether the bytes of a span are UTF-8.
@@ -42,7 +42,7 @@ fn is_utf8_at(source: &[u8], span: Span) -> bool
     simdutf8::basic::from_utf8(&source[span.start as usize..span.end as usize]).is_ok()
 }
 
-/// The items from a place up to another.
+/// The items from a position up to another.
 fn part(items: &[u32], from: usize, to: usize) -> &[u32]
     requires order { from ≤ to }
     requires within { to ≤ length items.now }
@@ -53,9 +53,9 @@ fn part(items: &[u32], from: usize, to: usize) -> &[u32]
 
 impl Marks {
     ghost use Rattle.jp_lanes.specs.Word.{bit};
-    ghost use Rattle.jp_masks.specs.Places.{set_bits};
+    ghost use Rattle.jp_masks.specs.Positions.{set_bits};
     ghost use Rattle.jp_masks.specs.Found.{LineAt, found};
-    ghost use Rattle.jp_masks.specs.Sinks.{row_if, add_places};
+    ghost use Rattle.jp_masks.specs.Sinks.{row_if, add_positions};
     ghost use Rattle.jp_masks.specs.Scanned.{stored, IsEmpty, IsUnchanged, HasRoomOf, Grows, HasAllOf};
 
     /// No line. It allocates nothing yet.
@@ -65,8 +65,8 @@ impl Marks {
     {
         Marks {
             rows: Vec::new(alloc),
-            places: Places::new(alloc),
-            places_before: 0,
+            positions: Positions::new(alloc),
+            positions_before: 0,
             is_utf8: false,
         }
     }
@@ -78,8 +78,8 @@ impl Marks {
         ensures room { HasRoomOf self.old self.new }
     {
         self.rows.clear();
-        self.places.clear();
-        self.places_before = 0;
+        self.positions.clear();
+        self.positions_before = 0;
         self.is_utf8 = false;
     }
 
@@ -101,7 +101,11 @@ impl Marks {
                 start: row.start,
                 end: row.end,
             },
-            positions: part(self.places.as_slice(), row.places_start, row.places_end),
+            positions: part(
+                self.positions.as_slice(),
+                row.positions_start,
+                row.positions_end,
+            ),
         }
     }
 
@@ -119,35 +123,35 @@ impl Marks {
         is_utf8_at(source, span)
     }
 
-    /// How many rows and places there are, and how many places come before the open line.
+    /// How many rows and positions there are, and how many positions come before the open line.
     pub(crate) fn sizes(&self) -> (usize, usize, usize)
         ensures rows { result.0 ≡ length self.now.rows.items }
-        ensures places { result.1 ≡ length (written self.now.places) }
-        ensures before { result.2 ≡ self.now.places_before }
+        ensures positions { result.1 ≡ length (written self.now.positions) }
+        ensures before { result.2 ≡ self.now.positions_before }
     {
-        (self.rows.len(), self.places.len(), self.places_before)
+        (self.rows.len(), self.positions.len(), self.positions_before)
     }
 
-    /// Leaves the first rows and places, as they were.
-    pub(crate) fn cut_back(&mut self, rows: usize, places: usize, places_before: usize)
-        requires within { rows_within (take rows self.old.rows.items) places ≡ true }
-        requires there { places ≤ length (written self.old.places) }
-        requires order { places_before ≤ places }
+    /// Leaves the first rows and positions, as they were.
+    pub(crate) fn cut_back(&mut self, rows: usize, positions: usize, positions_before: usize)
+        requires within { rows_within (take rows self.old.rows.items) positions ≡ true }
+        requires there { positions ≤ length (written self.old.positions) }
+        requires order { positions_before ≤ positions }
         ensures rows { self.new.rows.items ≡ take rows self.old.rows.items }
-        ensures places { written self.new.places ≡ take places (written self.old.places) }
-        ensures before { self.new.places_before ≡ places_before }
+        ensures positions { written self.new.positions ≡ take positions (written self.old.positions) }
+        ensures before { self.new.positions_before ≡ positions_before }
         ensures utf8 { self.new.is_utf8 ≡ self.old.is_utf8 }
     {
         self.rows.truncate(rows);
-        self.places.truncate(places);
-        self.places_before = places_before;
+        self.positions.truncate(positions);
+        self.positions_before = positions_before;
     }
 
     /// Reports whether all that was scanned is UTF-8.
     pub(crate) fn tell_utf8(&mut self, is_utf8: bool)
         ensures rows { self.new.rows ≡ self.old.rows }
-        ensures places { self.new.places ≡ self.old.places }
-        ensures before { self.new.places_before ≡ self.old.places_before }
+        ensures positions { self.new.positions ≡ self.old.positions }
+        ensures before { self.new.positions_before ≡ self.old.positions_before }
         ensures utf8 { self.new.is_utf8 ≡ is_utf8 }
     {
         self.is_utf8 = is_utf8;
@@ -157,29 +161,29 @@ impl Marks {
     fn add_marks(&mut self, base: u32, start: u32, marks: u64) -> Result<(), AllocError>
         requires fits { (i : ℕ) → i < 64 → bit marks i ≡ true → base + i < 2 ^ 32 }
         requires order { (i : ℕ) → i < 64 → bit marks i ≡ true → start ≤ base + i }
-        ensures places { OnOk result (written self.new.places ≡ written self.old.places ++ map (λ i. base + i - start) (set_bits marks)) }
+        ensures positions { OnOk result (written self.new.positions ≡ written self.old.positions ++ map (λ i. base + i - start) (set_bits marks)) }
         ensures rows { self.new.rows ≡ self.old.rows }
-        ensures before { self.new.places_before ≡ self.old.places_before }
+        ensures before { self.new.positions_before ≡ self.old.positions_before }
         ensures utf8 { self.new.is_utf8 ≡ self.old.is_utf8 }
         ensures err { OnErr result (IsUnchanged self.old self.new) }
     {
-        self.places.push_block(base, start, marks)
+        self.positions.push_block(base, start, marks)
     }
 
     /// Keeps the open line, which ends at `end`.
     fn add_row(&mut self, start: u32, end: u32) -> Result<(), AllocError>
         ensures rows { OnOk result (self.new.rows.items ≡ self.old.rows.items
-            ++ row_if true start end self.old.places_before (length (written self.old.places))) }
+            ++ row_if true start end self.old.positions_before (length (written self.old.positions))) }
         ensures err { OnErr result (self.new.rows.items ≡ self.old.rows.items) }
-        ensures places { self.new.places ≡ self.old.places }
-        ensures before { self.new.places_before ≡ self.old.places_before }
+        ensures positions { self.new.positions ≡ self.old.positions }
+        ensures before { self.new.positions_before ≡ self.old.positions_before }
         ensures utf8 { self.new.is_utf8 ≡ self.old.is_utf8 }
     {
         let row = Row {
             start,
             end,
-            places_start: self.places_before,
-            places_end: self.places.len(),
+            positions_start: self.positions_before,
+            positions_end: self.positions.len(),
         };
         self.rows.push(row)?;
         Ok(())
@@ -188,16 +192,16 @@ impl Marks {
     /// Ends the open line at `end`, and keeps it if it counts.
     pub(crate) fn close(&mut self, is_line: bool, start: u32, end: u32) -> Result<(), AllocError>
         ensures rows { OnOk result (self.new.rows.items ≡ self.old.rows.items
-            ++ row_if is_line start end self.old.places_before (length (written self.old.places))) }
-        ensures before { OnOk result (self.new.places_before ≡ length (written self.old.places)) }
-        ensures places { self.new.places ≡ self.old.places }
+            ++ row_if is_line start end self.old.positions_before (length (written self.old.positions))) }
+        ensures before { OnOk result (self.new.positions_before ≡ length (written self.old.positions)) }
+        ensures positions { self.new.positions ≡ self.old.positions }
         ensures utf8 { self.new.is_utf8 ≡ self.old.is_utf8 }
         ensures err { OnErr result (IsUnchanged self.old self.new) }
     {
         if is_line {
             self.add_row(start, end)?;
         }
-        self.places_before = self.places.len();
+        self.positions_before = self.positions.len();
         Ok(())
     }
 
@@ -213,8 +217,8 @@ impl Marks {
     ) -> Result<u32, AllocError>
         requires fits { (i : ℕ) → i < 64 → bit (bit_or marks ends) i ≡ true → base + i + 1 < 2 ^ 32 }
         requires order { from ≤ base }
-        ensures added { IfOk result (λ next. stored self.new.rows.items (written self.new.places) self.new.places_before next
-            ≡ add_places framing ends base (stored self.old.rows.items (written self.old.places) self.old.places_before from)
+        ensures added { IfOk result (λ next. stored self.new.rows.items (written self.new.positions) self.new.positions_before next
+            ≡ add_positions framing ends base (stored self.old.rows.items (written self.old.positions) self.old.positions_before from)
             (set_bits (bit_or marks ends))) }
         ensures order { IfOk result (λ next. next ≤ base + 64) }
         ensures grown { Grows self.old self.new }
@@ -223,9 +227,9 @@ impl Marks {
         let mut later_marks = marks & !ends;
         let mut later_ends = ends;
         while later_ends != 0 {
-            let place = later_ends.trailing_zeros();
-            let below = first_bits(place as usize);
-            let at = base + place;
+            let position = later_ends.trailing_zeros();
+            let below = first_bits(position as usize);
+            let at = base + position;
             self.add_marks(base, start, later_marks & below)?;
             self.close(is_line(framing, start, at), start, at)?;
             start = at + 1;

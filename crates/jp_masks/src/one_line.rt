@@ -10,7 +10,7 @@ ghost use Rattle.jp_masks.specs.OneLine.{HasMarked};
 ghost use Rattle.jp_masks.specs.Written.{written};
 
 use crate::block::{Carry, scan_block};
-use crate::room::Places;
+use crate::room::Positions;
 use jp_lanes::pad;
 use std::alloc::{AllocError, Global};
 
@@ -33,21 +33,21 @@ pub fn first_bits(count: usize) -> u64
 
 /// Adds the marks of a whole block that begins at `base`, and returns what is known after it.
 fn mark_block(
-    places: &mut Places,
+    positions: &mut Positions,
     base: u32,
     known: Carry,
     block: &[u8; 64],
 ) -> Result<Carry, AllocError>
     requires { base + 64 ≤ 2 ^ 32 }
-    ensures { (read : List ℕ) → HasMarked read (written places.old) known base
-        → IfOk result (λ next. HasMarked (read ++ block.now) (written places.new) next (base + 64)) }
+    ensures { (read : List ℕ) → HasMarked read (written positions.old) known base
+        → IfOk result (λ next. HasMarked (read ++ block.now) (written positions.new) next (base + 64)) }
 {
     let found = scan_block(block, None, known);
-    places.push_block(base, 0, found.marks)?;
+    positions.push_block(base, 0, found.marks)?;
     Ok(found.next)
 }
 
-/// The places of the marks of one line, ascending: its unescaped quotes, and outside of strings each structural byte
+/// The positions of the marks of one line, ascending: its unescaped quotes, and outside of strings each structural byte
 /// and each byte that begins another token. They are defined for every list of bytes, a JSON text or not; of a JSON text
 /// they are the first bytes of its tokens and the closing quotes of its strings and names (RFC 8259, section 2). A line
 /// feed counts as white space.
@@ -57,14 +57,14 @@ pub fn line_marks(alloc: Global, line: &[u8]) -> Result<Vec<u32>, AllocError>
     ensures tokens { (t : Tree) (text : Text line.now t) → IfOk result (λ found. found.items ≡ tokens line.now t text.value) }
 {
     let (blocks, rest) = split_blocks(line);
-    let mut places = Places::new(alloc);
+    let mut positions = Positions::new(alloc);
     let mut known = Carry::START;
     let mut base = 0;
     for block in blocks {
-        known = mark_block(&mut places, base, known, block)?;
+        known = mark_block(&mut positions, base, known, block)?;
         base += 64;
     }
     let found = scan_block(&pad(rest), None, known);
-    places.push_block(base, 0, found.marks & first_bits(rest.len()))?;
-    Ok(places.into_vec())
+    positions.push_block(base, 0, found.marks & first_bits(rest.len()))?;
+    Ok(positions.into_vec())
 }

@@ -1,4 +1,4 @@
-//! The places of marks, in a list whose room is used again.
+//! The positions of marks, in a list whose room is used again.
 
 ghost use Rattle.std.specs.Prelude.{◌≡◌, ℕ, ◌+◌, ◌-◌, ◌^◌, ◌<◌, ◌≤◌, ◌++◌, [], true, map, take, length, OnOk, OnErr};
 
@@ -8,30 +8,30 @@ use std::alloc::{AllocError, Global};
 /// So much room is made at once, that of eight blocks. What is not used of it is small.
 const ROOM: usize = 8 * BLOCK;
 
-/// The places that were written, and room behind them for others. The room is cleared when it is made, and never again.
+/// The positions that were written, and room behind them for others. The room is cleared when it is made, and never again.
 #[derive(Drop)]
-pub struct Places {
+pub struct Positions {
     room: Vec<u32>,
     filled: usize,
     ghost in_room: { filled ≤ length room.items },
 }
 
-impl Places {
+impl Positions {
     ghost use Rattle.jp_lanes.specs.Word.{bit};
-    ghost use Rattle.jp_masks.specs.Places.{set_bits};
+    ghost use Rattle.jp_masks.specs.Positions.{set_bits};
     ghost use Rattle.jp_masks.specs.Written.{written};
 
-    /// No place, and no room yet.
-    pub fn new(alloc: Global) -> Places
+    /// No position, and no room yet.
+    pub fn new(alloc: Global) -> Positions
         ensures { written result ≡ [] }
     {
-        Places {
+        Positions {
             room: Vec::new(alloc),
             filled: 0,
         }
     }
 
-    /// Forgets all places and keeps the room.
+    /// Forgets all positions and keeps the room.
     pub fn clear(&mut self)
         ensures none { written self.new ≡ [] }
         ensures room { self.new.room ≡ self.old.room }
@@ -39,14 +39,14 @@ impl Places {
         self.filled = 0;
     }
 
-    /// How many places there are.
+    /// How many positions there are.
     pub fn len(&self) -> usize
         ensures { result ≡ length (written self.now) }
     {
         self.filled
     }
 
-    /// Leaves the first places.
+    /// Leaves the first positions.
     pub fn truncate(&mut self, count: usize)
         requires { count ≤ length (written self.old) }
         ensures { written self.new ≡ take count (written self.old) }
@@ -54,14 +54,14 @@ impl Places {
         self.filled = count;
     }
 
-    /// All places.
+    /// All positions.
     pub fn as_slice(&self) -> &[u32]
         ensures { result.now ≡ written self.now }
     {
         &self.room[..self.filled]
     }
 
-    /// All places, in a list of their own.
+    /// All positions, in a list of their own.
     pub fn into_vec(self) -> Vec<u32>
         ensures { result.items ≡ written self }
     {
@@ -70,7 +70,7 @@ impl Places {
         room
     }
 
-    /// Makes room for the places of some blocks.
+    /// Makes room for the positions of some blocks.
     #[inline(never)]
     fn grow(&mut self) -> Result<(), AllocError>
         ensures ok { OnOk result (length self.old.room.items + BLOCK ≤ length self.new.room.items) }
@@ -81,7 +81,7 @@ impl Places {
         Ok(())
     }
 
-    /// Makes room for the places of a block.
+    /// Makes room for the positions of a block.
     #[inline(always)]
     fn make_room(&mut self) -> Result<(), AllocError>
         ensures ok { OnOk result (self.new.filled + BLOCK ≤ length self.new.room.items) }
@@ -94,8 +94,8 @@ impl Places {
         Ok(())
     }
 
-    /// Adds the places of the set bits of a block that begins at `base`, lowest first, each counted from `start`. After an
-    /// `Err` the places are as before.
+    /// Adds the positions of the set bits of a block that begins at `base`, lowest first, each counted from `start`. After an
+    /// `Err` the positions are as before.
     #[inline(always)]
     pub fn push_block(&mut self, base: u32, start: u32, word: u64) -> Result<(), AllocError>
         requires fits { (i : ℕ) → i < 64 → bit word i ≡ true → base + i < 2 ^ 32 }

@@ -101,11 +101,11 @@ impl Scanner {
         ensures err_told { OnErr result (IsAsBefore sink.old sink.new) }
     {
         let before = *self;
-        let (rows, places, places_before) = sink.sizes();
+        let (rows, positions, positions_before) = sink.sizes();
         let taken = self.take_in(piece, sink);
         if taken.is_err() {
             *self = before;
-            sink.cut_back(rows, places, places_before);
+            sink.cut_back(rows, positions, positions_before);
         }
         taken
     }
@@ -150,10 +150,10 @@ impl Scanner {
         ensures err_sink { OnErr result (IsUnchanged sink.old sink.new) }
         ensures err_told { OnErr result (IsAsBefore sink.old sink.new) }
     {
-        let (rows, places, places_before) = sink.sizes();
+        let (rows, positions, positions_before) = sink.sizes();
         let done = self.last_block(sink);
         if done.is_err() {
-            sink.cut_back(rows, places, places_before);
+            sink.cut_back(rows, positions, positions_before);
         } else {
             *self = Scanner::new(self.progress.framing);
         }

@@ -32,11 +32,11 @@ fn has_marks(
     rt: &impl Abort,
     alloc: Global,
     line: &[u8],
-    places: &[u32],
+    positions: &[u32],
 ) -> Result<(), AllocError> {
     assert!(rt; line.len() < 1000);
     let marks = line_marks(alloc, line)?;
-    assert_eq!(rt; marks.as_slice(), places);
+    assert_eq!(rt; marks.as_slice(), positions);
     Ok(())
 }
 
@@ -130,7 +130,7 @@ fn are_found(
     }
 }
 
-/// The text in two pieces, with each place as the cut.
+/// The text in two pieces, with each position as the cut.
 fn each_cut(
     rt: &impl Abort,
     alloc: Global,

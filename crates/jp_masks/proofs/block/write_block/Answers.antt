@@ -1,7 +1,7 @@
 use Rattle.std.proofs.Common.{ℕ, ◌+◌, ◌-◌, ◌<◌, map, sym, ap, ◌∙◌, refl, arith, w64}
 use Rattle.std.specs.Int.{trailing_zeros}
-use Rattle.jp_masks.specs.Places.{set_bits}
-use Rattle.jp_masks.proofs.Places.{lowest_within, none_below, set_bits_none}
+use Rattle.jp_masks.specs.Positions.{set_bits}
+use Rattle.jp_masks.proofs.Positions.{lowest_within, none_below, set_bits_none}
 use Rattle.jp_masks.proofs.ByteSteps.{counted}
 use Rattle.jp_masks.proofs.block.write_block.Goals as goal
 
@@ -15,5 +15,5 @@ returns-clause-written c =
     let word = c.args.word in
     let some : 0 < word = omega (arith, c.if-word-eq0.false) in
     let small = c.ranges.word.fits in
-    c.write_places.ensures.written
+    c.write_positions.ensures.written
     ∙ counted c.args.base c.args.start _ (trailing_zeros w64 word) word c.ranges.base.fits c.ranges.start.fits (lowest_within word some small) small refl (none_below word some small) c.requires.fits c.requires.order

@@ -7,6 +7,6 @@ pub invariant_of-self : goal.invariant_of-self
 invariant_of-self c =
     let m = c.args.self.now in
     record {
-      in_places = rows_pushed (is_ok c.push.result) m.rows.items c.push.new.self.items (length (written m.places)) c.args.start c.args.end m.places_before c.len.result c.push.ensures.items (omega (arith, m.in_order, c.len.ensures)) (omega (arith, c.len.ensures)) m.in_places;
+      in_positions = rows_pushed (is_ok c.push.result) m.rows.items c.push.new.self.items (length (written m.positions)) c.args.start c.args.end m.positions_before c.len.result c.push.ensures.items (omega (arith, m.in_order, c.len.ensures)) (omega (arith, c.len.ensures)) m.in_positions;
       in_order = m.in_order;
     }

@@ -6,4 +6,4 @@ use Rattle.jp_masks.proofs.lines.Marks.line_count.Goals as goal
 
 pub returns : goal.returns
 unfolding found
-returns c = omega (arith, length-map c.args.self.now.rows.items (line_of (written c.args.self.now.places)))
+returns c = omega (arith, length-map c.args.self.now.rows.items (line_of (written c.args.self.now.positions)))

@@ -6,7 +6,7 @@ use Rattle.jp_masks.proofs.lines.Marks.new.Goals as goal
 
 pub invariant_of-result : goal.invariant_of-result
 unfolding rows_within
-invariant_of-result c = record { in_places = ap (λ rows. rows_within rows (length (written c.new-2.result))) c.new.ensures.items; in_order = omega arith }
+invariant_of-result c = record { in_positions = ap (λ rows. rows_within rows (length (written c.new-2.result))) c.new.ensures.items; in_order = omega arith }
 
 pub returns-clause-none : goal.returns-clause-none
 unfolding found

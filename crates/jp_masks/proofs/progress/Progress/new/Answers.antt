@@ -10,7 +10,7 @@ returns-clause-start c sink empty = record {
   framed = refl;
   scanned = refl;
   in_blocks = refl;
-  stored = λ t. record { rows = empty.rows t; places = empty.places t; before = empty.places_before t; start = 0 };
+  stored = λ t. record { rows = empty.rows t; positions = empty.positions t; before = empty.positions_before t; start = 0 };
   known = refl;
   tested = c.new.ensures;
 }

@@ -3,12 +3,12 @@ use Rattle.std.proofs.lemmas.List.{length-append}
 use lib.Bits.{bit_or}
 use Rattle.jp_model.specs.declared.Framing.{Framing}
 use Rattle.jp_lanes.specs.Word.{bit, Says}
-use Rattle.jp_masks.specs.Places.{set_bits}
+use Rattle.jp_masks.specs.Positions.{set_bits}
 use Rattle.jp_masks.specs.Ends.{is_end}
 use Rattle.jp_masks.specs.Machine.{start, is_marked, before}
 use Rattle.jp_masks.specs.declared.block.Carry.{Carry}
 use Rattle.jp_masks.proofs.LineMore.{known_after, before-part}
-use Rattle.jp_masks.specs.Sinks.{add_places, sink_of}
+use Rattle.jp_masks.specs.Sinks.{add_positions, sink_of}
 use Rattle.jp_masks.proofs.SinkLaw.{block_law}
 use Rattle.jp_masks.proofs.progress.Progress.step.Goals as goal
 
@@ -31,7 +31,7 @@ returns-clause-scanned c framing whole was =
       scanned = omega (arith, was.scanned, long, longer);
       in_blocks = omega (arith, was.in_blocks, long, longer);
       stored = c.in_ok-self.ensures.added
-          ∙ (λ t. add_places (was.framed t) made.ends base (was.stored t) (set_bits (bit_or made.marks made.ends)))
+          ∙ (λ t. add_positions (was.framed t) made.ends base (was.stored t) (set_bits (bit_or made.marks made.ends)))
           ∙ law ∙ ap (λ l. sink_of framing (whole ++ l)) (take_all 64 block (omega arith));
       known = c.scan_block-block_found.ensures.carry ∙ (λ t. before (Some (was.framed t)) (was.known t) block 64) ∙ sym (before-part (Some framing) start whole block 64)
           ∙ ap (λ n. before (Some framing) start (whole ++ block) n) (let total : length whole + 64 ≡ length (whole ++ block) = omega (arith, long, longer) in total);

@@ -16,7 +16,7 @@ pub returns-then-is_err-clause-err_sink : goal.returns-then-is_err-clause-err_si
 returns-then-is_err-clause-err_sink c =
     let kept = c.cut_back.ensures in
     let size = c.sizes-rows.ensures in
-    also_err c.take_in-taken.result _ (cut_unchanged c.args.sink.now c.take_in-taken.new.sink c.cut_back.new.self _ _ c.take_in-taken.ensures.grown size.rows size.places kept.rows kept.places (kept.before ∙ size.before) kept.utf8)
+    also_err c.take_in-taken.result _ (cut_unchanged c.args.sink.now c.take_in-taken.new.sink c.cut_back.new.self _ _ c.take_in-taken.ensures.grown size.rows size.positions kept.rows kept.positions (kept.before ∙ size.before) kept.utf8)
 
 pub returns-then-is_err-clause-err_told : goal.returns-then-is_err-clause-err_told
 returns-then-is_err-clause-err_told c =

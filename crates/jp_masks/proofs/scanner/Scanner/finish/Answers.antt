@@ -6,7 +6,7 @@ pub returns-then-is_err-clause-err_sink : goal.returns-then-is_err-clause-err_si
 returns-then-is_err-clause-err_sink c =
     let kept = c.cut_back.ensures in
     let size = c.sizes-rows.ensures in
-    after_err c.last_block-done.result _ _ (λ grown. cut_unchanged c.args.sink.now c.last_block-done.new.sink c.cut_back.new.self _ _ grown size.rows size.places kept.rows kept.places (kept.before ∙ size.before) kept.utf8) c.last_block-done.ensures.grown
+    after_err c.last_block-done.result _ _ (λ grown. cut_unchanged c.args.sink.now c.last_block-done.new.sink c.cut_back.new.self _ _ grown size.rows size.positions kept.rows kept.positions (kept.before ∙ size.before) kept.utf8) c.last_block-done.ensures.grown
 
 pub returns-then-is_err-clause-err_told : goal.returns-then-is_err-clause-err_told
 returns-then-is_err-clause-err_told c =

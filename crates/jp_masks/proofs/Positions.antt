@@ -1,4 +1,4 @@
--- The places of the set bits of a word, lowest first.
+-- The positions of the set bits of a word, lowest first.
 use Rattle.std.proofs.Common.{◌≡◌, ℕ, zero, suc, ◌+◌, ◌-◌, ◌/◌, ◌%◌, ◌^◌, ◌<◌, ◌≤◌, ◌==◌, Bool, true, false, cond, List, [], ◌∷◌, ◌++◌, length, map, refl, sym, ap, ap₂, ◌∙◌, arith, w64, ◌⊎◌, inl, inr}
 use Rattle.std.specs.List.{filter, range_with_len}
 use Rattle.std.specs.Int.{bit_at, trailing_zeros}
@@ -7,7 +7,7 @@ use Rattle.std.proofs.lemmas.Bool.{cases_lt}
 use Rattle.std.proofs.lemmas.Bool.Decides.{eqb_tells}
 use Rattle.std.proofs.lemmas.Nat.Bits.{bit_at-trailing_zeros, bit_at_and, bit_at_lowest, bit_at-suc}
 use Rattle.jp_lanes.specs.Word.{bit}
-use Rattle.jp_masks.specs.Places.{set_bits}
+use Rattle.jp_masks.specs.Positions.{set_bits}
 use Rattle.jp_masks.proofs.Bits.{bit_zero}
 
 pub filter_same : (p q : ℕ → Bool) (a n : ℕ) → ((i : ℕ) → a ≤ i → i < a + n → p i ≡ q i) → filter p (range_with_len a n) ≡ filter q (range_with_len a n)
@@ -48,32 +48,32 @@ filter_first p q first a (suc n) low high there gone none same =
         ap (λ x. cond x (a ∷ rest p) (rest p)) p_set ∙ ap₂ (λ x y. x ∷ y) here agree ∙ sym (ap (λ x. first ∷ cond x (a ∷ rest q) (rest q)) q_clear)
 
 -- one that passes parts those that pass
-pub filter_split : (p below above : ℕ → Bool) (place a n : ℕ) → a ≤ place → place < a + n → p place ≡ true
-    → ((i : ℕ) → i < place → below i ≡ p i) → ((i : ℕ) → place ≤ i → i < a + n → below i ≡ false)
-    → ((i : ℕ) → i ≤ place → above i ≡ false) → ((i : ℕ) → place < i → i < a + n → above i ≡ p i)
-    → filter p (range_with_len a n) ≡ filter below (range_with_len a n) ++ place ∷ filter above (range_with_len a n)
-filter_split p below above place a zero low high there b0 b1 a0 a1 = let no : ⊥ = omega arith in absurd no
-filter_split p below above place a (suc n) low high there b0 b1 a0 a1 =
-    go (cases_lt a place) (λ later. filter_split p below above place (a + 1) n (omega arith) (omega arith) there b0 (λ i l h. b1 i l (omega arith)) a0 (λ i l h. a1 i l (omega arith)))
+pub filter_split : (p below above : ℕ → Bool) (position a n : ℕ) → a ≤ position → position < a + n → p position ≡ true
+    → ((i : ℕ) → i < position → below i ≡ p i) → ((i : ℕ) → position ≤ i → i < a + n → below i ≡ false)
+    → ((i : ℕ) → i ≤ position → above i ≡ false) → ((i : ℕ) → position < i → i < a + n → above i ≡ p i)
+    → filter p (range_with_len a n) ≡ filter below (range_with_len a n) ++ position ∷ filter above (range_with_len a n)
+filter_split p below above position a zero low high there b0 b1 a0 a1 = let no : ⊥ = omega arith in absurd no
+filter_split p below above position a (suc n) low high there b0 b1 a0 a1 =
+    go (cases_lt a position) (λ later. filter_split p below above position (a + 1) n (omega arith) (omega arith) there b0 (λ i l h. b1 i l (omega arith)) a0 (λ i l h. a1 i l (omega arith)))
   where
     rest : (ℕ → Bool) → List ℕ
     rest r = filter r (range_with_len (a + 1) n)
 
-    taken : (b : Bool) (w x y : List ℕ) → w ≡ x ++ place ∷ y → cond b (a ∷ w) w ≡ cond b (a ∷ x) x ++ place ∷ y
+    taken : (b : Bool) (w x y : List ℕ) → w ≡ x ++ position ∷ y → cond b (a ∷ w) w ≡ cond b (a ∷ x) x ++ position ∷ y
     taken true w x y e = ap (λ l. a ∷ l) e
     taken false w x y e = e
 
-    go : (a < place) ⊎ (place ≤ a) → (a < place → rest p ≡ rest below ++ place ∷ rest above) → filter p (range_with_len a (suc n)) ≡ filter below (range_with_len a (suc n)) ++ place ∷ filter above (range_with_len a (suc n))
+    go : (a < position) ⊎ (position ≤ a) → (a < position → rest p ≡ rest below ++ position ∷ rest above) → filter p (range_with_len a (suc n)) ≡ filter below (range_with_len a (suc n)) ++ position ∷ filter above (range_with_len a (suc n))
     go (inl before) later =
         taken (p a) (rest p) (rest below) (rest above) (later before)
-        ∙ sym (λ t. cond (b0 a before t) (a ∷ rest below) (rest below) ++ place ∷ cond (a0 a (omega arith) t) (a ∷ rest above) (rest above))
+        ∙ sym (λ t. cond (b0 a before t) (a ∷ rest below) (rest below) ++ position ∷ cond (a0 a (omega arith) t) (a ∷ rest above) (rest above))
     go (inr behind) later =
-        let here : a ≡ place = omega arith in
+        let here : a ≡ position = omega arith in
         let set : p a ≡ true = ap p here ∙ there in
         let agree : rest p ≡ rest above = filter_same p above (a + 1) n (λ i l h. sym (a1 i (omega arith) (omega arith))) in
         let nothing : rest below ≡ [] = filter_none below (a + 1) n (λ i l h. b1 i (omega arith) (omega arith)) in
         ap (λ x. cond x (a ∷ rest p) (rest p)) set ∙ ap₂ (λ x y. x ∷ y) here agree
-        ∙ sym (λ t. cond (b1 a (omega arith) (omega arith) t) (a ∷ nothing t) (nothing t) ++ place ∷ cond (a0 a (omega arith) t) (a ∷ rest above) (rest above))
+        ∙ sym (λ t. cond (b1 a (omega arith) (omega arith) t) (a ∷ nothing t) (nothing t) ++ position ∷ cond (a0 a (omega arith) t) (a ∷ rest above) (rest above))
 
 -- one less has the bits of n above its lowest one, at k, and not that one
 abbrev LessHas : ℕ → ℕ → Type 0
@@ -175,9 +175,9 @@ pub length-set_bits : (word : ℕ) → length (set_bits word) ≤ 64
 unfolding set_bits
 length-set_bits word = length-filter_range (bit word) 0 64
 
--- places that are counted from 0
-pub from_first : (before places : List ℕ) (base : ℕ) → before ++ map (λ i. base + i - 0) places ≡ before ++ map (λ i. base + i) places
-from_first before places base = λ t. before ++ map (λ i. whole (base + i) t) places
+-- positions that are counted from 0
+pub from_first : (before positions : List ℕ) (base : ℕ) → before ++ map (λ i. base + i - 0) positions ≡ before ++ map (λ i. base + i) positions
+from_first before positions base = λ t. before ++ map (λ i. whole (base + i) t) positions
   where
     whole : (n : ℕ) → n - 0 ≡ n
     whole n = omega arith

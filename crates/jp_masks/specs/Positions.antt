@@ -1,4 +1,4 @@
--- The places of the set bits of a word.
+-- The positions of the set bits of a word.
 use Rattle.std.specs.Prelude.{◌≡◌, ◌<◌, ℕ, List, [], length, take, get_or}
 use Rattle.std.specs.List.{filter, range_with_len}
 use Rattle.jp_lanes.specs.Word.{bit}

@@ -1,9 +1,9 @@
 use Rattle.std.proofs.Common.{◌≡◌, ℕ, ◌+◌, ◌*◌, ◌/◌, ◌%◌, ◌^◌, ◌++◌, List, map, take, sym, ap, subst, ◌∙◌, arith}
 use Rattle.std.proofs.lemmas.List.{append-nil}
-use Rattle.jp_masks.specs.Places.{set_bits}
-use Rattle.jp_masks.proofs.Places.{set_bits_none}
+use Rattle.jp_masks.specs.Positions.{set_bits}
+use Rattle.jp_masks.proofs.Positions.{set_bits_none}
 use Rattle.jp_masks.proofs.ByteSteps.{written_more, smaller, none_left, length-byte_bits}
-use Rattle.jp_masks.proofs.block.write_places.Goals as goal
+use Rattle.jp_masks.proofs.block.write_positions.Goals as goal
 
 pub loop-byte-preserved : goal.loop-byte-preserved
 loop-byte-preserved c =
@@ -13,8 +13,8 @@ loop-byte-preserved c =
     let next : from + 8 ≡ c.args.base + (l.byte + 1) * 8 = omega arith in
     let most = length-byte_bits (l.rest % 256) in
     record {
-      written = subst (λ n. take (l.count + c.write_byte-count.result) c.write_byte-count.new.places ++ map (λ i. (n + i) % 2 ^ 32) (set_bits (l.rest / 256)) ≡ map (λ i. (c.args.base + i) % 2 ^ 32) (set_bits c.args.word)) next
-          (written_more (take l.count l.places) _ _ from l.rest l.auto.rest-fits.fits e.written l.invariant.written);
+      written = subst (λ n. take (l.count + c.write_byte-count.result) c.write_byte-count.new.positions ++ map (λ i. (n + i) % 2 ^ 32) (set_bits (l.rest / 256)) ≡ map (λ i. (c.args.base + i) % 2 ^ 32) (set_bits c.args.word)) next
+          (written_more (take l.count l.positions) _ _ from l.rest l.auto.rest-fits.fits e.written l.invariant.written);
       few = omega (arith, e.count, most, l.invariant.few);
       small = smaller l.byte l.rest (omega (arith, c.loop-byte-test.true)) l.invariant.small;
       long = omega (arith, e.long, l.invariant.long);
