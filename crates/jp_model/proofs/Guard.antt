@@ -158,39 +158,49 @@ guard_on_is paths (Some steps) op c g h = test (list_any (λ p. steps_equal p st
     test true k = (steps, refl, sym (some_same _ g k))
     test false k = absurd (cc)
 
-module _ (paths : List (List Step)) (t : Tree) (g : Guard) (fails : guard_passes (Some g) t ≡ false) where
-  -- a conjunct that gives the guard is false everywhere
-  conjunct_false : (l : Logical) → conjunct_guard paths l ≡ Some g → (n : Node) → truth l n t ≡ false
-  conjunct_false (or_all ls) h n = absurd (cc)
-  conjunct_false (and_all ls) h n = absurd (cc)
-  conjunct_false (negated l) h n = absurd (cc)
-  conjunct_false (exists p) h n = absurd (cc)
-  conjunct_false (test c) h n = absurd (cc)
-  conjunct_false (compare (constant c) op (constant d)) h n = absurd (cc)
-  conjunct_false (compare (constant c) op (single (path root ss))) h n =
-      let f = guard_on_is paths (singular_steps ss) (mirrored op) c g h in
-      guard_on_left ss op c f.0 n t f.1 ∙ subst (λ k. guard_passes (Some k) t ≡ false) f.2 fails
-  conjunct_false (compare (constant c) op (single (path current ss))) h n = absurd (cc)
-  conjunct_false (compare (constant c) op (result d)) h n = absurd (cc)
-  conjunct_false (compare (single (path root ss)) op (constant c)) h n =
-      let f = guard_on_is paths (singular_steps ss) op c g h in
-      guard_on_right ss op c f.0 n t f.1 ∙ subst (λ k. guard_passes (Some k) t ≡ false) f.2 fails
-  conjunct_false (compare (single (path root ss)) op (single p)) h n = absurd (cc)
-  conjunct_false (compare (single (path root ss)) op (result d)) h n = absurd (cc)
-  conjunct_false (compare (single (path current ss)) op (constant c)) h n = absurd (cc)
-  conjunct_false (compare (single (path current ss)) op (single p)) h n = absurd (cc)
-  conjunct_false (compare (single (path current ss)) op (result d)) h n = absurd (cc)
-  conjunct_false (compare (result c) op (constant d)) h n = absurd (cc)
-  conjunct_false (compare (result c) op (single p)) h n = absurd (cc)
-  conjunct_false (compare (result c) op (result d)) h n = absurd (cc)
+module _ (paths : List (List Step)) (g : Guard) where
+  -- a conjunct that gives the guard compares the node at a path from the root with a literal
+  pub by_comparison : (P : Logical → Type 0)
+      → ((ss : Segments) (op : CompareOp) (c : Literal) → guard_on paths (singular_steps ss) (mirrored op) c ≡ Some g → P (compare (constant c) op (single (path root ss))))
+      → ((ss : Segments) (op : CompareOp) (c : Literal) → guard_on paths (singular_steps ss) op c ≡ Some g → P (compare (single (path root ss)) op (constant c)))
+      → (l : Logical) → conjunct_guard paths l ≡ Some g → P l
+  by_comparison P left right (or_all ls) h = absurd (cc)
+  by_comparison P left right (and_all ls) h = absurd (cc)
+  by_comparison P left right (negated l) h = absurd (cc)
+  by_comparison P left right (exists p) h = absurd (cc)
+  by_comparison P left right (test c) h = absurd (cc)
+  by_comparison P left right (compare (constant c) op (constant d)) h = absurd (cc)
+  by_comparison P left right (compare (constant c) op (single (path root ss))) h = left ss op c h
+  by_comparison P left right (compare (constant c) op (single (path current ss))) h = absurd (cc)
+  by_comparison P left right (compare (constant c) op (result d)) h = absurd (cc)
+  by_comparison P left right (compare (single (path root ss)) op (constant c)) h = right ss op c h
+  by_comparison P left right (compare (single (path root ss)) op (single p)) h = absurd (cc)
+  by_comparison P left right (compare (single (path root ss)) op (result d)) h = absurd (cc)
+  by_comparison P left right (compare (single (path current ss)) op (constant c)) h = absurd (cc)
+  by_comparison P left right (compare (single (path current ss)) op (single p)) h = absurd (cc)
+  by_comparison P left right (compare (single (path current ss)) op (result d)) h = absurd (cc)
+  by_comparison P left right (compare (result c) op (constant d)) h = absurd (cc)
+  by_comparison P left right (compare (result c) op (single p)) h = absurd (cc)
+  by_comparison P left right (compare (result c) op (result d)) h = absurd (cc)
 
   -- the guard comes from the first list or from what is behind it
-  from_first : (a b : Option Guard) → guard_or a b ≡ Some g → (a ≡ Some g) ⊎ ((a ≡ None) × (b ≡ Some g))
+  pub from_first : (a b : Option Guard) → guard_or a b ≡ Some g → (a ≡ Some g) ⊎ ((a ≡ None) × (b ≡ Some g))
   from_first None b h = inr (refl, h)
   from_first (Some k) b h = inl h
 
-  alone : (l : Logical) → first_guard paths (l ∷ []) ≡ Some g → conjunct_guard paths l ≡ Some g
+  pub alone : (l : Logical) → first_guard paths (l ∷ []) ≡ Some g → conjunct_guard paths l ≡ Some g
   alone l h = ⊎_elim (λ e. e) (λ e. absurd (cc)) (from_first (conjunct_guard paths l) None h)
+
+module _ (paths : List (List Step)) (t : Tree) (g : Guard) (fails : guard_passes (Some g) t ≡ false) where
+  -- a conjunct that gives the guard is false everywhere
+  conjunct_false : (l : Logical) → conjunct_guard paths l ≡ Some g → (n : Node) → truth l n t ≡ false
+  conjunct_false l h = by_comparison paths g (λ l. (n : Node) → truth l n t ≡ false)
+      (λ ss op c h n.
+      let f = guard_on_is paths (singular_steps ss) (mirrored op) c g h in
+      guard_on_left ss op c f.0 n t f.1 ∙ subst (λ k. guard_passes (Some k) t ≡ false) f.2 fails)
+      (λ ss op c h n.
+      let f = guard_on_is paths (singular_steps ss) op c g h in
+      guard_on_right ss op c f.0 n t f.1 ∙ subst (λ k. guard_passes (Some k) t ≡ false) f.2 fails) l h
 
   joined : (xs ys : List Logical) → first_guard paths (xs ++ ys) ≡ guard_or (first_guard paths xs) (first_guard paths ys)
   joined [] ys = refl
@@ -202,16 +212,16 @@ module _ (paths : List (List Step)) (t : Tree) (g : Guard) (fails : guard_passes
 
   -- the guard comes from the front of a list or from what is behind it
   from_front : (xs ys : List Logical) → first_guard paths (xs ++ ys) ≡ Some g → (first_guard paths xs ≡ Some g) ⊎ ((first_guard paths xs ≡ None) × (first_guard paths ys ≡ Some g))
-  from_front xs ys h = from_first (first_guard paths xs) (first_guard paths ys) (sym (joined xs ys) ∙ h)
+  from_front xs ys h = from_first paths g (first_guard paths xs) (first_guard paths ys) (sym (joined xs ys) ∙ h)
 
   mutual
     filter_false : (l : Logical) → first_guard paths (conjuncts l) ≡ Some g → (n : Node) → truth l n t ≡ false
-    filter_false (or_all ls) h n = conjunct_false (or_all ls) (alone (or_all ls) h) n
+    filter_false (or_all ls) h n = conjunct_false (or_all ls) (alone paths g (or_all ls) h) n
     filter_false (and_all ls) h n = some_part_false ls h n
-    filter_false (negated l) h n = conjunct_false (negated l) (alone (negated l) h) n
-    filter_false (compare a op b) h n = conjunct_false (compare a op b) (alone (compare a op b) h) n
-    filter_false (exists p) h n = conjunct_false (exists p) (alone (exists p) h) n
-    filter_false (test c) h n = conjunct_false (test c) (alone (test c) h) n
+    filter_false (negated l) h n = conjunct_false (negated l) (alone paths g (negated l) h) n
+    filter_false (compare a op b) h n = conjunct_false (compare a op b) (alone paths g (compare a op b) h) n
+    filter_false (exists p) h n = conjunct_false (exists p) (alone paths g (exists p) h) n
+    filter_false (test c) h n = conjunct_false (test c) (alone paths g (test c) h) n
 
     some_part_false : (ls : Logicals) → first_guard paths (conjuncts_of ls) ≡ Some g → (n : Node) → each_true ls n t ≡ false
     some_part_false no_logicals h n = absurd (cc)
@@ -243,4 +253,4 @@ module _ (paths : List (List Step)) (t : Tree) (g : Guard) (fails : guard_passes
   guard_misses (segment s ss) list h = ⊎_elim
       (λ e. guarded_query s ss list t (segment_false s e))
       (λ e. guard_misses ss (flat_map (λ n. segment_nodes s n t) list) e.1)
-      (from_first (first_guard paths (segment_conjuncts s)) (guard_of paths ss) (sym (joined (segment_conjuncts s) (flat_map segment_conjuncts (segment_list ss))) ∙ h))
+      (from_first paths g (first_guard paths (segment_conjuncts s)) (guard_of paths ss) (sym (joined (segment_conjuncts s) (flat_map segment_conjuncts (segment_list ss))) ∙ h))

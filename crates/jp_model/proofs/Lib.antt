@@ -10,3 +10,5 @@ pub mod Rows
 pub mod Reader
 pub mod LineSteps
 pub mod Devices
+pub mod LowestBit
+pub mod Digits
