@@ -1,12 +1,12 @@
 -- The positions of the set bits of a word, lowest first.
-use Rattle.std.proofs.Common.{◌≡◌, ℕ, zero, suc, ◌+◌, ◌-◌, ◌/◌, ◌%◌, ◌^◌, ◌<◌, ◌≤◌, ◌==◌, Bool, true, false, cond, List, [], ◌∷◌, ◌++◌, length, map, refl, sym, ap, ap₂, ◌∙◌, arith, w64, ◌⊎◌, inl, inr}
+use Rattle.std.proofs.Common.{◌≡◌, ℕ, zero, suc, ◌+◌, ◌-◌, ◌^◌, ◌<◌, ◌≤◌, ◌==◌, Bool, true, false, cond, List, [], ◌∷◌, ◌++◌, length, map, refl, sym, ap, ap₂, ◌∙◌, arith, w64, ◌⊎◌, inl, inr}
 use Rattle.std.specs.List.{filter, range_with_len}
-use Rattle.std.specs.Int.{bit_at, trailing_zeros}
+use Rattle.std.specs.Int.{trailing_zeros}
 use lib.Bits.{bit_and, and_le_r}
 use Rattle.std.proofs.lemmas.Bool.{cases_lt}
 use Rattle.std.proofs.lemmas.Bool.Decides.{eqb_tells}
-use Rattle.std.proofs.lemmas.Nat.Bits.{bit_at-trailing_zeros, bit_at_and, bit_at_lowest, bit_at-suc}
 use Rattle.jp_lanes.specs.Word.{bit}
+use Rattle.jp_model.proofs.LowestBit.{lowest, is_cleared, is_kept}
 use Rattle.jp_masks.specs.Positions.{set_bits}
 use Rattle.jp_masks.proofs.Bits.{bit_zero}
 
@@ -75,71 +75,29 @@ filter_split p below above position a (suc n) low high there b0 b1 a0 a1 =
         ap (λ x. cond x (a ∷ rest p) (rest p)) set ∙ ap₂ (λ x y. x ∷ y) here agree
         ∙ sym (λ t. cond (b1 a (omega arith) (omega arith) t) (a ∷ nothing t) (nothing t) ++ position ∷ cond (a0 a (omega arith) t) (a ∷ rest above) (rest above))
 
--- one less has the bits of n above its lowest one, at k, and not that one
-abbrev LessHas : ℕ → ℕ → Type 0
-LessHas k n = ((i : ℕ) → k < i → bit_at (n - 1) i ≡ bit_at n i) × (bit_at (n - 1) k ≡ 0)
-
-at_first : (n : ℕ) → n % 2 ≡ 1 → (i : ℕ) → 0 < i → bit_at (n - 1) i ≡ bit_at n i
-at_first n odd zero high = absurd (omega arith)
-at_first n odd (suc i) high =
-    let halves : (n - 1) / 2 ≡ n / 2 = omega (arith, odd) in
-    bit_at-suc (n - 1) i ∙ ap (λ m. bit_at m i) halves ∙ sym (bit_at-suc n i)
-
-at_later : (k n : ℕ) → (n - 1) / 2 ≡ n / 2 - 1 → LessHas k (n / 2) → (i : ℕ) → suc k < i → bit_at (n - 1) i ≡ bit_at n i
-at_later k n halves half zero high = absurd (omega arith)
-at_later k n halves half (suc i) high = bit_at-suc (n - 1) i ∙ ap (λ m. bit_at m i) halves ∙ half.0 i (omega arith) ∙ sym (bit_at-suc n i)
-
-one_less : (k n : ℕ) → bit_at n k ≡ 1 → ((i : ℕ) → i < k → bit_at n i ≡ 0) → LessHas k n
-one_less zero n set clear =
-    let odd : n % 2 ≡ 1 = sym (bit_at_lowest n) ∙ set in
-    (at_first n odd, bit_at_lowest (n - 1) ∙ omega (arith, odd))
-one_less (suc k) n set clear =
-    let half = one_less k (n / 2) (sym (bit_at-suc n k) ∙ set) (λ i low. sym (bit_at-suc n i) ∙ clear (suc i) (omega arith)) in
-    let even : n % 2 ≡ 0 = sym (bit_at_lowest n) ∙ clear 0 (omega arith) in
-    let halves : (n - 1) / 2 ≡ n / 2 - 1 = omega (arith, even) in
-    (at_later k n halves half, bit_at-suc (n - 1) k ∙ ap (λ m. bit_at m k) halves ∙ half.1)
-
 -- `word & (word - 1)`
 abbrev pub without_lowest : ℕ → ℕ
 without_lowest word = bit_and word (word - 1)
 
 module _ (word : ℕ) (some : 0 < word) (small : word < 2 ^ 64) where
-  lowest : (trailing_zeros w64 word < 64) × (bit_at word (trailing_zeros w64 word) ≡ 1) × ((i : ℕ) → i < trailing_zeros w64 word → bit_at word i ≡ 0)
-  lowest = bit_at-trailing_zeros w64 word some small
-
   pub lowest_within : trailing_zeros w64 word < 64
-  lowest_within = lowest.0
+  lowest_within = (lowest word some small).0
 
   pub lowest_set : bit word (trailing_zeros w64 word) ≡ true
   unfolding bit
-  lowest_set = ap (λ n. n == 1) lowest.1
+  lowest_set = ap (λ n. n == 1) (lowest word some small).1
 
   pub none_below : (i : ℕ) → i < trailing_zeros w64 word → bit word i ≡ false
   unfolding bit
-  none_below i low = ap (λ n. n == 1) (lowest.2 i low)
+  none_below i low = ap (λ n. n == 1) ((lowest word some small).2 i low)
 
   pub lowest_gone : bit (without_lowest word) (trailing_zeros w64 word) ≡ false
   unfolding bit
-  lowest_gone =
-      let less_has = one_less (trailing_zeros w64 word) word lowest.1 lowest.2 in
-      let gone : bit_at (bit_and word (word - 1)) (trailing_zeros w64 word) ≡ 0 = omega (arith, bit_at_and word (word - 1) (trailing_zeros w64 word), less_has.1) in
-      ap (λ n. n == 1) gone
-
-  stays : (i : ℕ) → (i < trailing_zeros w64 word) ⊎ (trailing_zeros w64 word < i) → bit_at (bit_and word (word - 1)) i ≡ bit_at word i
-  stays i (inl low) = omega (arith, bit_at_and word (word - 1) i, lowest.2 i low)
-  stays i (inr high) = omega (arith, bit_at_and word (word - 1) i, (one_less (trailing_zeros w64 word) word lowest.1 lowest.2).0 i high)
-
-  apart : (i k : ℕ) → (i ≡ k → ⊥) → (i < k) ⊎ (k < i)
-  apart i k other = go (cases_lt i k) (cases_lt k i)
-    where
-      go : (i < k) ⊎ (k ≤ i) → (k < i) ⊎ (i ≤ k) → (i < k) ⊎ (k < i)
-      go (inl low) c = inl low
-      go (inr high) (inl above) = inr above
-      go (inr high) (inr low) = absurd (other (omega arith))
+  lowest_gone = ap (λ n. n == 1) (is_cleared word some small)
 
   pub others_stay : (i : ℕ) → (i ≡ trailing_zeros w64 word → ⊥) → bit (without_lowest word) i ≡ bit word i
   unfolding bit
-  others_stay i other = ap (λ n. n == 1) (stays i (apart i (trailing_zeros w64 word) other))
+  others_stay i other = ap (λ n. n == 1) (is_kept word some small i other)
 
   -- a bit that is left was there
   pub was_there : (i : ℕ) → bit (without_lowest word) i ≡ true → bit word i ≡ true
