@@ -7,7 +7,7 @@ use Rattle.std.proofs.lemmas.Bool.{le-leb, leb-true, and_parts, and_from, eqb-tr
 use Rattle.std.specs.List.{list_any}
 use Rattle.jp_model.specs.Pattern.Tree.{Item, CharClass, dot, members}
 use Rattle.jp_model.specs.Pattern.Classes.{in_item, in_class}
-use Rattle.jp_iregexp.specs.Places.{Holds, AreCodes}
+use Rattle.jp_iregexp.specs.States.{Holds, AreCodes}
 use Rattle.jp_iregexp.proofs.Sums.{holds_either, holds_left, holds_right}
 use Rattle.jp_iregexp.proofs.Masks.{IsMaskBelow, below_or_past, both, both_left, both_right}
 

@@ -5,8 +5,8 @@ use Rattle.std.proofs.lemmas.Nat.Bits.{bit_at-zero}
 use Rattle.std.proofs.lemmas.Str.{chars-append, chars-IsAscii, IsUtf8-from_ascii}
 use Rattle.std.specs.Str.{chars, IsAscii}
 use Rattle.jp_iregexp.specs.declared.automaton.Automaton.{Automaton}
-use Rattle.jp_iregexp.specs.Layouts.{place_of}
-use Rattle.jp_iregexp.specs.Places.{Place, Holds, IsStep, Leads, WaitsBehind}
+use Rattle.jp_iregexp.specs.Layouts.{state_of}
+use Rattle.jp_iregexp.specs.States.{State, Holds, IsStep, Leads, WaitsBehind}
 use Rattle.jp_iregexp.proofs.Leading.{stepped}
 use Rattle.jp_iregexp.proofs.Masks.{masked_step}
 
@@ -23,26 +23,26 @@ ascii_first b bs few =
     let one = one_ascii b few in
     chars-append (b ∷ []) bs (IsUtf8-from_ascii (b ∷ []) one) ∙ ap (λ l. l ++ chars bs) (chars-IsAscii (b ∷ []) one)
 
--- the scalars from a place on, where an ASCII byte stands
+-- the scalars from a position on, where an ASCII byte stands
 pub ascii_cut : (text bytes : List ℕ) (i : ℕ) → bytes ≡ text → i < length bytes → slice_index bytes i < 128 → chars (drop i text) ≡ slice_index bytes i ∷ chars (drop (i + 1) text)
 ascii_cut text bytes i same inside few = subst (λ (l : List ℕ). chars (drop i l) ≡ slice_index bytes i ∷ chars (drop (i + 1) l)) same (ap chars (drop_more bytes i 0 inside) ∙ ascii_first (slice_index bytes i) (drop (i + 1) bytes) few)
 
--- the places that wait behind those that are ready
+-- the states that wait behind those that are ready
 pub ready_step : (a : Automaton) (waiting byte ready next : ℕ) → byte < 128 → ready ≡ bit_and waiting (get_or a.ascii.items byte 0)
-    → ((q : ℕ) → Holds next q ↔ WaitsBehind a.after.items ready q) → IsStep (map place_of a.places.items) waiting byte next
+    → ((q : ℕ) → Holds next q ↔ WaitsBehind a.after.items ready q) → IsStep (map state_of a.states.items) waiting byte next
 ready_step a waiting byte ready next few is behind =
-    masked_step a.places.items a.after.items a.ascii.items waiting byte next a.behind a.masks (omega (arith, few, a.all))
+    masked_step a.states.items a.after.items a.ascii.items waiting byte next a.behind a.masks (omega (arith, few, a.all))
     (subst (λ n. (q : ℕ) → Holds next q ↔ WaitsBehind a.after.items n q) is behind)
 
 none_waits : (after : List ℕ) (q : ℕ) → Holds 0 q ↔ WaitsBehind after 0 q
 none_waits after q = ((λ h. let z = bit_at-zero q in absurd (omega (arith, z, h))), (λ w. let z = bit_at-zero w.number in let h = w.is_ready in absurd (omega (arith, z, h))))
 
--- where no place is ready nothing waits behind the scalar
-pub none_behind : (a : Automaton) (waiting byte ready : ℕ) → byte < 128 → ready ≡ bit_and waiting (get_or a.ascii.items byte 0) → ready ≡ 0 → IsStep (map place_of a.places.items) waiting byte 0
+-- where no state is ready nothing waits behind the scalar
+pub none_behind : (a : Automaton) (waiting byte ready : ℕ) → byte < 128 → ready ≡ bit_and waiting (get_or a.ascii.items byte 0) → ready ≡ 0 → IsStep (map state_of a.states.items) waiting byte 0
 none_behind a waiting byte ready few is none = ready_step a waiting byte 0 0 few (sym none ∙ is) (none_waits a.after.items)
 
--- the places that wait lead over the rest of a text exactly where those behind an ASCII byte lead over what follows it
-pub leads_byte : (places : List Place) (waiting next : ℕ) (text bytes : List ℕ) (i : ℕ) → bytes ≡ text → i < length bytes → slice_index bytes i < 128 → IsStep places waiting (slice_index bytes i) next
-    → Leads places waiting (chars (drop i text)) ↔ Leads places next (chars (drop (i + 1) text))
-leads_byte places waiting next text bytes i same inside few step =
-    subst (λ r. Leads places waiting r ↔ Leads places next (chars (drop (i + 1) text))) (sym (ascii_cut text bytes i same inside few)) (stepped places waiting next (slice_index bytes i) (chars (drop (i + 1) text)) step)
+-- the states that wait lead over the rest of a text exactly where those behind an ASCII byte lead over what follows it
+pub leads_byte : (states : List State) (waiting next : ℕ) (text bytes : List ℕ) (i : ℕ) → bytes ≡ text → i < length bytes → slice_index bytes i < 128 → IsStep states waiting (slice_index bytes i) next
+    → Leads states waiting (chars (drop i text)) ↔ Leads states next (chars (drop (i + 1) text))
+leads_byte states waiting next text bytes i same inside few step =
+    subst (λ r. Leads states waiting r ↔ Leads states next (chars (drop (i + 1) text))) (sym (ascii_cut text bytes i same inside few)) (stepped states waiting next (slice_index bytes i) (chars (drop (i + 1) text)) step)

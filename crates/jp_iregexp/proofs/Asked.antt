@@ -34,11 +34,11 @@ some_sound Member text starts ends q a h =
     let r = s.reach in
     record { before = take s.start text; inside = r.inside; after = drop q text; is = take_drop s.start text ∙ ap (λ x. take s.start text ++ x) r.is; member = r.member }
 
--- the place where the part ends
+-- the position where the part ends
 pub record EndsAt (text : List ℕ) (ends : PositionSet) : Type 0 where
-  pub place : ℕ
-  pub within : place ≤ length text
-  pub has : Has ends place
+  pub position : ℕ
+  pub within : position ≤ length text
+  pub has : Has ends position
 
 pub some_complete : (Member : List ℕ → Type 0) (text : List ℕ) (starts ends : PositionSet) → ((q : ℕ) → q ≤ length text → Has starts q) → AreEnds Member text starts ends → Occurs Member text → EndsAt text ends
 some_complete Member text starts ends all a o =
@@ -49,7 +49,7 @@ some_complete Member text starts ends all a o =
     let fronts : q ≡ length o.before + length o.inside = length-append o.before o.inside in
     let lengths : length text ≡ q + length o.after = ap length twice ∙ length-append (o.before ++ o.inside) o.after in
     record {
-      place = q;
+      position = q;
       within = omega arith;
       has = a.complete (length o.before) q (all (length o.before) (omega arith)) (record { inside = o.inside; ordered = omega arith; within = omega arith; is = from_p ∙ ap (λ x. o.inside ++ x) (sym from_q); member = o.member });
     }

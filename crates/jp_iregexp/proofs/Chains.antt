@@ -1,15 +1,15 @@
--- Places behind which only the one before waits: those that are ready move on at once.
+-- States behind which only the one before waits: those that are ready move on at once.
 use Rattle.std.proofs.Common.{◌≡◌, ℕ, zero, suc, ◌/◌, ◌^◌, ◌<◌, ◌≤◌, ◌↔◌, inl, inr, IsTrue, List, length, get_or, bit_or, bit_and, w64, arith, sym, ◌∙◌, subst}
 use Rattle.std.proofs.lemmas.Bool.{eqb-true}
 use Rattle.std.proofs.lemmas.Nat.Bits.{bit_at_above, bit_at-suc, bit_at-zero, bit_at-pow_same, bit_at-pow_other}
 use Rattle.std.proofs.Math.ListN.{get_or-eq_default}
 use Rattle.std.specs.Int.{bit_not}
-use Rattle.jp_iregexp.specs.Places.{Holds, WaitsBehind, is_chained}
+use Rattle.jp_iregexp.specs.States.{Holds, WaitsBehind, is_chained}
 use Rattle.jp_iregexp.proofs.Bits.{same_or_not, left_or}
 use Rattle.jp_iregexp.proofs.Masks.{both, both_left, both_right, below_or_past}
 use Rattle.jp_iregexp.proofs.Sums.{holds_either, holds_left, holds_right}
 
--- behind the last place there is none
+-- behind the last state there is none
 pub past_chained : (after : List ℕ) (p : ℕ) → length after ≤ p → IsTrue (is_chained after p) → ⊥
 past_chained after zero l h = cc
 past_chained after (suc p) l h = (let some = bit_at-pow_same p in let none = bit_at-zero p in absurd (omega (arith, none, subst (λ n. Holds n p) (sym (eqb-true _ _ h) ∙ get_or-eq_default after 0 l) some)))
@@ -34,7 +34,7 @@ module _ (after : List ℕ) (ready chained : ℕ) (links : (p : ℕ) → Holds c
     | inr d ↦ absurd (let none = bit_at-pow_other p q d in let some = subst (λ n. Holds n q) (one_before p chain) waits in omega (arith, none, some))
   ]
 
-  -- what the chained places and the others lead to
+  -- what the chained states and the others lead to
   pub moved_on : (next : ℕ) → ready < 2 ^ 64 → chained < 2 ^ 64 → ((q : ℕ) → Holds next q ↔ WaitsBehind after (bit_and ready (bit_not w64 chained)) q)
       → (q : ℕ) → Holds (bit_or (bit_and ready chained / 2) next) q ↔ WaitsBehind after ready q
   moved_on next fits few others q = (

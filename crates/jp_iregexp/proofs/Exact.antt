@@ -98,8 +98,8 @@ count_skip P text starts ends count low n run next not i w = record {
     | inr e ↦
         (let here : Reach (Repeats (IsOne P) count) text p (n + 1) = subst (Reach (Repeats (IsOne P) count) text p) e r in
         let far = ones_length P text count p (n + 1) here in
-        let place : p ≡ n + 1 - count = omega (arith, far) in
-        absurd (not (i.most count p (w.lowest p h) here) (subst (Has starts) place h)))
+        let position : p ≡ n + 1 - count = omega (arith, far) in
+        absurd (not (i.most count p (w.lowest p h) here) (subst (Has starts) position h)))
   ];
 }
 

@@ -4,10 +4,10 @@ use Rattle.std.proofs.lemmas.Nat.{one_shl}
 use Rattle.std.specs.Option.{IfSome}
 use Rattle.jp_model.specs.Pattern.Tree.{CharClass, one_of}
 use Rattle.jp_model.specs.Pattern.Language.{Language, Splits, Repeats, RepeatsWithin, AtMost}
-use Rattle.jp_iregexp.specs.declared.automaton.Place.{Place as ProgramPlace}
+use Rattle.jp_iregexp.specs.declared.automaton.State.{State as ProgramState}
 use Rattle.jp_iregexp.specs.declared.node.Node.{Node}
-use Rattle.jp_iregexp.specs.Places.{Place, IsLaidOut, entry, place_at}
-use Rattle.jp_iregexp.specs.Layouts.{place_of, LaidOnto, Turns, left_of}
+use Rattle.jp_iregexp.specs.States.{State, IsLaidOut, entry, state_at}
+use Rattle.jp_iregexp.specs.Layouts.{state_of, LaidOnto, Turns, left_of}
 use Rattle.jp_iregexp.specs.Nodes.{class_of}
 use Rattle.jp_iregexp.proofs.Sums.{grown, one, nothing, chained, either, any, same}
 use Rattle.jp_iregexp.proofs.Parts.{drop_item, drop_past}
@@ -21,33 +21,33 @@ length_mapped f [] = refl
 length_mapped f (x ∷ xs) = ap suc (length_mapped f xs)
 
 -- what is laid out stays so
-later : (mid new extra : List ProgramPlace) (Member : List ℕ → Type 0) (behind first : ℕ) (e : Bool) → new ≡ mid ++ extra → IsLaidOut (map place_of mid) Member behind first e → IsLaidOut (map place_of new) Member behind first e
+later : (mid new extra : List ProgramState) (Member : List ℕ → Type 0) (behind first : ℕ) (e : Bool) → new ≡ mid ++ extra → IsLaidOut (map state_of mid) Member behind first e → IsLaidOut (map state_of new) Member behind first e
 later mid new extra Member behind first e is a =
-    subst (λ ps. IsLaidOut ps Member behind first e) (sym (ap (map place_of) is ∙ map_append place_of mid extra)) (grown (map place_of mid) (map place_of extra) Member behind first e a)
+    subst (λ ps. IsLaidOut ps Member behind first e) (sym (ap (map state_of) is ∙ map_append state_of mid extra)) (grown (map state_of mid) (map state_of extra) Member behind first e a)
 
-pub laid_then : (old mid new : List ProgramPlace) (First Second : List ℕ → Type 0) (behind f g : ℕ) (d e : Bool) → LaidOnto old mid Second behind g e → LaidOnto mid new First (entry e g behind) f d → LaidOnto old new (Splits First Second) behind (entry d f g) (d && e)
+pub laid_then : (old mid new : List ProgramState) (First Second : List ℕ → Type 0) (behind f g : ℕ) (d e : Bool) → LaidOnto old mid Second behind g e → LaidOnto mid new First (entry e g behind) f d → LaidOnto old new (Splits First Second) behind (entry d f g) (d && e)
 laid_then old mid new First Second behind f g d e b a = record {
   extra = b.extra ++ a.extra;
   grown = a.grown ∙ ap (λ ps. ps ++ a.extra) b.grown ∙ append_assoc old b.extra a.extra;
-  laid = chained (map place_of new) First Second behind f g d e a.laid (later mid new a.extra Second behind g e a.grown b.laid);
+  laid = chained (map state_of new) First Second behind f g d e a.laid (later mid new a.extra Second behind g e a.grown b.laid);
 }
 
-pub laid_either : (old mid new : List ProgramPlace) (First Second : List ℕ → Type 0) (behind f g : ℕ) (d e : Bool) → LaidOnto old mid Second behind g e → LaidOnto mid new First behind f d → LaidOnto old new (λ x. First x ⊎ Second x) behind (bit_or f g) (d || e)
+pub laid_either : (old mid new : List ProgramState) (First Second : List ℕ → Type 0) (behind f g : ℕ) (d e : Bool) → LaidOnto old mid Second behind g e → LaidOnto mid new First behind f d → LaidOnto old new (λ x. First x ⊎ Second x) behind (bit_or f g) (d || e)
 laid_either old mid new First Second behind f g d e b a = record {
   extra = b.extra ++ a.extra;
   grown = a.grown ∙ ap (λ ps. ps ++ a.extra) b.grown ∙ append_assoc old b.extra a.extra;
-  laid = either (map place_of new) First Second behind f g d e a.laid (later mid new a.extra Second behind g e a.grown b.laid);
+  laid = either (map state_of new) First Second behind f g d e a.laid (later mid new a.extra Second behind g e a.grown b.laid);
 }
 
-pub laid_nothing : (places : List ProgramPlace) (behind : ℕ) → LaidOnto places places (λ x. x ≡ []) behind 0 true
-laid_nothing places behind = record { extra = []; grown = sym (append-nil places); laid = nothing (map place_of places) behind }
+pub laid_nothing : (states : List ProgramState) (behind : ℕ) → LaidOnto states states (λ x. x ≡ []) behind 0 true
+laid_nothing states behind = record { extra = []; grown = sym (append-nil states); laid = nothing (map state_of states) behind }
 
-pub laid_never : (places : List ProgramPlace) (behind : ℕ) → LaidOnto places places (λ x. ⊥) behind 0 false
-laid_never places behind =
-    let n = nothing (map place_of places) behind in
+pub laid_never : (states : List ProgramState) (behind : ℕ) → LaidOnto states states (λ x. ⊥) behind 0 false
+laid_never states behind =
+    let n = nothing (map state_of states) behind in
     record {
       extra = [];
-      grown = sym (append-nil places);
+      grown = sym (append-nil states);
       laid = record {
         sound = λ more c text h. absurd (let s = n.sound more c text h in let e = s.first in cc);
         complete = λ more c text s. absurd s.first;
@@ -57,25 +57,25 @@ laid_never places behind =
       };
     }
 
-pub laid_same : (old new : List ProgramPlace) (Member Other : List ℕ → Type 0) (behind first : ℕ) (e : Bool) → ((text : List ℕ) → Member text → Other text) → ((text : List ℕ) → Other text → Member text) → LaidOnto old new Member behind first e → LaidOnto old new Other behind first e
-laid_same old new Member Other behind first e to from a = record { extra = a.extra; grown = a.grown; laid = same (map place_of new) Member Other behind first e to from a.laid }
+pub laid_same : (old new : List ProgramState) (Member Other : List ℕ → Type 0) (behind first : ℕ) (e : Bool) → ((text : List ℕ) → Member text → Other text) → ((text : List ℕ) → Other text → Member text) → LaidOnto old new Member behind first e → LaidOnto old new Other behind first e
+laid_same old new Member Other behind first e to from a = record { extra = a.extra; grown = a.grown; laid = same (map state_of new) Member Other behind first e to from a.laid }
 
-pub laid_any : (old new : List ProgramPlace) (Member : List ℕ → Type 0) (behind first : ℕ) (e : Bool) → LaidOnto old new Member (bit_or behind first) first e → LaidOnto old new (RepeatsWithin Member 0 None) behind first true
-laid_any old new Member behind first e a = record { extra = a.extra; grown = a.grown; laid = any (map place_of new) Member behind first e a.laid }
+pub laid_any : (old new : List ProgramState) (Member : List ℕ → Type 0) (behind first : ℕ) (e : Bool) → LaidOnto old new Member (bit_or behind first) first e → LaidOnto old new (RepeatsWithin Member 0 None) behind first true
+laid_any old new Member behind first e a = record { extra = a.extra; grown = a.grown; laid = any (map state_of new) Member behind first e a.laid }
 
-pub laid_one : (old new : List ProgramPlace) (p : ProgramPlace) (class : CharClass) (behind k : ℕ) → new ≡ old ++ p ∷ [] → class_of p.class ≡ class → p.after ≡ behind → k ≡ length old → k < 63 → LaidOnto old new (Language (one_of class)) behind (1 * 2 ^ k % 18446744073709551616) false
+pub laid_one : (old new : List ProgramState) (p : ProgramState) (class : CharClass) (behind k : ℕ) → new ≡ old ++ p ∷ [] → class_of p.class ≡ class → p.after ≡ behind → k ≡ length old → k < 63 → LaidOnto old new (Language (one_of class)) behind (1 * 2 ^ k % 18446744073709551616) false
 laid_one old new p class behind k is c a len few =
-    let place : place_of p ≡ record { class = class; behind = behind } = λ i. record { class = c i; behind = a i } in
-    let places : map place_of new ≡ map place_of old ++ record { class = class; behind = behind } ∷ [] = ap (map place_of) is ∙ map_append place_of old (p ∷ []) ∙ ap (λ q. map place_of old ++ q ∷ []) place in
-    let size : k ≡ length (map place_of old) = len ∙ sym (length_mapped place_of old) in
-    let bit : 1 * 2 ^ k % 18446744073709551616 ≡ 2 ^ length (map place_of old) = one_shl k 64 (omega arith) ∙ ap (λ n. 2 ^ n) size in
-    let few' : length (map place_of old) < 63 = omega (arith, size) in
-    let whole = one (map place_of old) class behind few' in
+    let state : state_of p ≡ record { class = class; behind = behind } = λ i. record { class = c i; behind = a i } in
+    let states : map state_of new ≡ map state_of old ++ record { class = class; behind = behind } ∷ [] = ap (map state_of) is ∙ map_append state_of old (p ∷ []) ∙ ap (λ q. map state_of old ++ q ∷ []) state in
+    let size : k ≡ length (map state_of old) = len ∙ sym (length_mapped state_of old) in
+    let bit : 1 * 2 ^ k % 18446744073709551616 ≡ 2 ^ length (map state_of old) = one_shl k 64 (omega arith) ∙ ap (λ n. 2 ^ n) size in
+    let few' : length (map state_of old) < 63 = omega (arith, size) in
+    let whole = one (map state_of old) class behind few' in
     record {
       extra = p ∷ [];
       grown = is;
-      laid = subst (λ ps. IsLaidOut ps (Language (one_of class)) behind (1 * 2 ^ k % 18446744073709551616) false) (sym places)
-          (subst (λ n. IsLaidOut (map place_of old ++ record { class = class; behind = behind } ∷ []) (Language (one_of class)) behind n false) (sym bit) whole);
+      laid = subst (λ ps. IsLaidOut ps (Language (one_of class)) behind (1 * 2 ^ k % 18446744073709551616) false) (sym states)
+          (subst (λ n. IsLaidOut (map state_of old ++ record { class = class; behind = behind } ∷ []) (Language (one_of class)) behind n false) (sym bit) whole);
     }
 
 -- ---- counts
@@ -92,7 +92,7 @@ one_turn Member most text s =
     ]
 
 -- with the empty text too
-with_empty : (old new : List ProgramPlace) (Member : List ℕ → Type 0) (behind first : ℕ) (e : Bool) → LaidOnto old new Member behind first e → LaidOnto old new (λ x. Member x ⊎ (x ≡ [])) behind first true
+with_empty : (old new : List ProgramState) (Member : List ℕ → Type 0) (behind first : ℕ) (e : Bool) → LaidOnto old new Member behind first e → LaidOnto old new (λ x. Member x ⊎ (x ≡ [])) behind first true
 with_empty old new Member behind first e a = record {
   extra = a.extra;
   grown = a.grown;
@@ -105,17 +105,17 @@ with_empty old new Member behind first e a = record {
   };
 }
 
-pub laid_up_to : (old mid new : List ProgramPlace) (Member : List ℕ → Type 0) (most behind f g : ℕ) (d e : Bool) → LaidOnto old mid (RepeatsWithin Member 0 (Some most)) behind g e → LaidOnto mid new Member (entry e g behind) f d
+pub laid_up_to : (old mid new : List ProgramState) (Member : List ℕ → Type 0) (most behind f g : ℕ) (d e : Bool) → LaidOnto old mid (RepeatsWithin Member 0 (Some most)) behind g e → LaidOnto mid new Member (entry e g behind) f d
     → LaidOnto old new (RepeatsWithin Member 0 (Some (suc most))) behind (entry d f g) true
 laid_up_to old mid new Member most behind f g d e b a =
     laid_same old new (λ x. Splits Member (RepeatsWithin Member 0 (Some most)) x ⊎ (x ≡ [])) (RepeatsWithin Member 0 (Some (suc most))) behind (entry d f g) true
     (λ x s. one_turn Member most x s) (λ x w. no_more Member most w.count x w.few w.repeats)
     (with_empty old new (Splits Member (RepeatsWithin Member 0 (Some most))) behind (entry d f g) (d && e) (laid_then old mid new Member (RepeatsWithin Member 0 (Some most)) behind f g d e b a))
 
-pub none_yet : (places : List ProgramPlace) (Member : List ℕ → Type 0) (behind : ℕ) → LaidOnto places places (RepeatsWithin Member 0 (Some 0)) behind 0 true
-none_yet places Member behind =
-    laid_same places places (λ x. x ≡ []) (RepeatsWithin Member 0 (Some 0)) behind 0 true
-    (λ x n. record { count = 0; enough = omega arith; few = omega arith; repeats = n }) (λ x w. none w.count x w.few w.repeats) (laid_nothing places behind)
+pub none_yet : (states : List ProgramState) (Member : List ℕ → Type 0) (behind : ℕ) → LaidOnto states states (RepeatsWithin Member 0 (Some 0)) behind 0 true
+none_yet states Member behind =
+    laid_same states states (λ x. x ≡ []) (RepeatsWithin Member 0 (Some 0)) behind 0 true
+    (λ x n. record { count = 0; enough = omega arith; few = omega arith; repeats = n }) (λ x w. none w.count x w.few w.repeats) (laid_nothing states behind)
   where
     none : (count : ℕ) (x : List ℕ) → count ≤ 0 → Repeats Member count x → x ≡ []
     none zero x k r = r
@@ -153,7 +153,7 @@ from_within Member most zero count x enough few r = record { count = count; enou
 from_within Member most (suc n) zero x enough few r = absurd (omega arith)
 from_within Member most (suc n) (suc count) x enough few r = record { front = r.front; rest = r.rest; is = r.is; first = r.first; second = from_within Member most n count r.rest (omega arith) (few_less n count most few) r.second }
 
-pub laid_turns : (old new : List ProgramPlace) (Member : List ℕ → Type 0) (least : ℕ) (most : Option ℕ) (behind first : ℕ) (e : Bool) → IfSome most (λ m. least ≤ m) → LaidOnto old new (Turns Member (RepeatsWithin Member 0 (left_of least most)) least) behind first e
+pub laid_turns : (old new : List ProgramState) (Member : List ℕ → Type 0) (least : ℕ) (most : Option ℕ) (behind first : ℕ) (e : Bool) → IfSome most (λ m. least ≤ m) → LaidOnto old new (Turns Member (RepeatsWithin Member 0 (left_of least most)) least) behind first e
     → LaidOnto old new (RepeatsWithin Member least most) behind first e
 laid_turns old new Member least most behind first e l a =
     subst (λ m. LaidOnto old new (RepeatsWithin Member least m) behind first e) (whole most l)
@@ -188,48 +188,48 @@ if_some_map P Q None f h = tt
 if_some_map P Q (Some x) f h = f x h
 
 -- the same, where the values have names of their own
-pub then_by : (old mid new : List ProgramPlace) (First Second : List ℕ → Type 0) (behind between f g first : ℕ) (d e empty : Bool) → LaidOnto old mid Second behind g e → LaidOnto mid new First between f d → between ≡ entry e g behind → first ≡ entry d f g → empty ≡ (d && e) → LaidOnto old new (Splits First Second) behind first empty
+pub then_by : (old mid new : List ProgramState) (First Second : List ℕ → Type 0) (behind between f g first : ℕ) (d e empty : Bool) → LaidOnto old mid Second behind g e → LaidOnto mid new First between f d → between ≡ entry e g behind → first ≡ entry d f g → empty ≡ (d && e) → LaidOnto old new (Splits First Second) behind first empty
 then_by old mid new First Second behind between f g first d e empty b a is i j =
     subst (λ n. LaidOnto old new (Splits First Second) behind n empty) (sym i)
     (subst (λ k. LaidOnto old new (Splits First Second) behind (entry d f g) k) (sym j)
     (laid_then old mid new First Second behind f g d e b (subst (λ n. LaidOnto mid new First n f d) is a)))
 
-pub either_by : (old mid new : List ProgramPlace) (First Second : List ℕ → Type 0) (behind f g first : ℕ) (d e empty : Bool) → LaidOnto old mid Second behind g e → LaidOnto mid new First behind f d → first ≡ bit_or f g → empty ≡ (d || e) → LaidOnto old new (λ x. First x ⊎ Second x) behind first empty
+pub either_by : (old mid new : List ProgramState) (First Second : List ℕ → Type 0) (behind f g first : ℕ) (d e empty : Bool) → LaidOnto old mid Second behind g e → LaidOnto mid new First behind f d → first ≡ bit_or f g → empty ≡ (d || e) → LaidOnto old new (λ x. First x ⊎ Second x) behind first empty
 either_by old mid new First Second behind f g first d e empty b a i j =
     subst (λ n. LaidOnto old new (λ x. First x ⊎ Second x) behind n empty) (sym i)
     (subst (λ k. LaidOnto old new (λ x. First x ⊎ Second x) behind (bit_or f g) k) (sym j)
     (laid_either old mid new First Second behind f g d e b a))
 
-pub up_to_by : (old mid new : List ProgramPlace) (Member : List ℕ → Type 0) (most next behind between f g first : ℕ) (d e : Bool) → next ≡ suc most → LaidOnto old mid (RepeatsWithin Member 0 (Some most)) behind g e → LaidOnto mid new Member between f d → between ≡ entry e g behind → first ≡ entry d f g
+pub up_to_by : (old mid new : List ProgramState) (Member : List ℕ → Type 0) (most next behind between f g first : ℕ) (d e : Bool) → next ≡ suc most → LaidOnto old mid (RepeatsWithin Member 0 (Some most)) behind g e → LaidOnto mid new Member between f d → between ≡ entry e g behind → first ≡ entry d f g
     → LaidOnto old new (RepeatsWithin Member 0 (Some next)) behind first true
 up_to_by old mid new Member most next behind between f g first d e count b a is i =
     subst (λ n. LaidOnto old new (RepeatsWithin Member 0 (Some n)) behind first true) (sym count)
     (subst (λ n. LaidOnto old new (RepeatsWithin Member 0 (Some (suc most))) behind n true) (sym i)
     (laid_up_to old mid new Member most behind f g d e b (subst (λ n. LaidOnto mid new Member n f d) is a)))
 
-pub turn_by : (old mid new : List ProgramPlace) (Member Rest : List ℕ → Type 0) (turn next behind between f g first : ℕ) (d e empty : Bool) → next ≡ suc turn → LaidOnto old mid (Turns Member Rest turn) behind g e → LaidOnto mid new Member between f d → between ≡ entry e g behind → first ≡ entry d f g → empty ≡ (d && e)
+pub turn_by : (old mid new : List ProgramState) (Member Rest : List ℕ → Type 0) (turn next behind between f g first : ℕ) (d e empty : Bool) → next ≡ suc turn → LaidOnto old mid (Turns Member Rest turn) behind g e → LaidOnto mid new Member between f d → between ≡ entry e g behind → first ≡ entry d f g → empty ≡ (d && e)
     → LaidOnto old new (Turns Member Rest next) behind first empty
 turn_by old mid new Member Rest turn next behind between f g first d e empty count b a is i j =
     subst (λ n. LaidOnto old new (Turns Member Rest n) behind first empty) (sym count)
     (then_by old mid new Member (Turns Member Rest turn) behind between f g first d e empty b a is i j)
 
--- the places of a trial go again
-pub trial_gone : (old trial again new extra : List ProgramPlace) (Member : List ℕ → Type 0) (behind first : ℕ) (e : Bool) → trial ≡ old ++ extra → again ≡ take (length old) trial → LaidOnto again new Member behind first e → LaidOnto old new Member behind first e
+-- the states of a trial go again
+pub trial_gone : (old trial again new extra : List ProgramState) (Member : List ℕ → Type 0) (behind first : ℕ) (e : Bool) → trial ≡ old ++ extra → again ≡ take (length old) trial → LaidOnto again new Member behind first e → LaidOnto old new Member behind first e
 trial_gone old trial again new extra Member behind first e is cut a =
     subst (λ ps. LaidOnto ps new Member behind first e) (cut ∙ ap (take (length old)) is ∙ take-append old extra) a
   where
-    take-append : (xs ys : List ProgramPlace) → take (length xs) (xs ++ ys) ≡ xs
+    take-append : (xs ys : List ProgramState) → take (length xs) (xs ++ ys) ≡ xs
     take-append [] ys = refl
     take-append (x ∷ xs) ys = ap (λ zs. x ∷ zs) (take-append xs ys)
 
--- ---- a place by its number
+-- ---- a state by its number
 
-pub place_here : (ps : List ProgramPlace) (k : ℕ) (p : ProgramPlace) → k < length ps → p ≡ get_or ps k p → place_at (map place_of ps) k ≡ Some (place_of p)
-place_here [] k p l is = absurd (omega arith)
-place_here (x ∷ ps) zero p l is = ap (λ y. Some (place_of y)) (sym is)
-place_here (x ∷ ps) (suc k) p l is = place_here ps k p (omega arith) is
+pub state_here : (ps : List ProgramState) (k : ℕ) (p : ProgramState) → k < length ps → p ≡ get_or ps k p → state_at (map state_of ps) k ≡ Some (state_of p)
+state_here [] k p l is = absurd (omega arith)
+state_here (x ∷ ps) zero p l is = ap (λ y. Some (state_of y)) (sym is)
+state_here (x ∷ ps) (suc k) p l is = state_here ps k p (omega arith) is
 
-pub no_place : (ps : List ProgramPlace) (k : ℕ) (w : Place) → length ps ≤ k → place_at (map place_of ps) k ≡ Some w → ⊥
-no_place [] k w l is = cc
-no_place (x ∷ ps) zero w l is = absurd (omega arith)
-no_place (x ∷ ps) (suc k) w l is = no_place ps k w (omega arith) is
+pub no_state : (ps : List ProgramState) (k : ℕ) (w : State) → length ps ≤ k → state_at (map state_of ps) k ≡ Some w → ⊥
+no_state [] k w l is = cc
+no_state (x ∷ ps) zero w l is = absurd (omega arith)
+no_state (x ∷ ps) (suc k) w l is = no_state ps k w (omega arith) is

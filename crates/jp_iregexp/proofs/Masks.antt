@@ -3,14 +3,15 @@ use Rattle.std.proofs.Common.{◌≡◌, ◌≢◌, ℕ, zero, suc, ◌+◌, ◌
 use Rattle.std.specs.Int.{trailing_zeros, Width}
 use mir.Val.{bits}
 use Rattle.std.proofs.lemmas.Nat.Bits.{bit_at_and, bit_at-lt, bit_at-zero, bit_at_set_same, bit_at_set_other}
+use Rattle.jp_model.proofs.LowestBit.{is_kept}
 use Rattle.jp_model.specs.Pattern.Classes.{in_class}
-use Rattle.jp_iregexp.specs.declared.automaton.Place.{Place as ProgramPlace}
-use Rattle.jp_iregexp.specs.Places.{Place, Holds, place_at, IsStep, waits_for, AreMasks, AreCodes, WaitsBehind}
-use Rattle.jp_iregexp.specs.Layouts.{place_of}
+use Rattle.jp_iregexp.specs.declared.automaton.State.{State as ProgramState}
+use Rattle.jp_iregexp.specs.States.{State, Holds, state_at, IsStep, waits_for, AreMasks, AreCodes, WaitsBehind}
+use Rattle.jp_iregexp.specs.Layouts.{state_of}
 use Rattle.jp_iregexp.proofs.Sums.{same_or_not, holds_either, holds_left, holds_right}
-use Rattle.jp_iregexp.proofs.Lowest.{lowest_in, others_stay, was_there}
+use Rattle.jp_iregexp.proofs.Lowest.{lowest_in, was_there}
 
--- ---- what waits behind the places that are ready
+-- ---- what waits behind the states that are ready
 
 -- what was found so far, and what is left
 pub record IsPartBehind (after : List ℕ) (ready rest next : ℕ) : Type 0 where
@@ -38,33 +39,33 @@ take_behind after ready rest next word some small s is = record {
     | inl i ↦ inl (holds_left next word q i)
     | inr r ↦ elim (same_or_not r.number (trailing_zeros w64 rest)) [
       | inl e ↦ inl (holds_right next word q (subst (λ n. Holds n q) (ap (λ p. get_or after p 0) e ∙ sym is) r.waits))
-      | inr d ↦ inr (record { number = r.number; is_ready = others_stay rest some small r.number d ∙ r.is_ready; waits = r.waits })
+      | inr d ↦ inr (record { number = r.number; is_ready = is_kept rest some small r.number d ∙ r.is_ready; waits = r.waits })
     ]
   ];
 }
 
--- ---- a place by its number
+-- ---- a state by its number
 
-after_at : (ps : List ProgramPlace) (n : ℕ) (w : Place) → place_at (map place_of ps) n ≡ Some w → get_or (map (λ (p : ProgramPlace). p.after) ps) n 0 ≡ w.behind
+after_at : (ps : List ProgramState) (n : ℕ) (w : State) → state_at (map state_of ps) n ≡ Some w → get_or (map (λ (p : ProgramState). p.after) ps) n 0 ≡ w.behind
 after_at [] n w is = absurd (cc)
-after_at (p ∷ ps) zero w is = (let e : place_of p ≡ w = cc in ap (λ (v : Place). v.behind) e)
+after_at (p ∷ ps) zero w is = (let e : state_of p ≡ w = cc in ap (λ (v : State). v.behind) e)
 after_at (p ∷ ps) (suc n) w is = after_at ps n w is
 
--- a place that waits for the scalar
-record IsWaiting (places : List Place) (number scalar : ℕ) : Type 0 where
-  pub place : Place
-  pub is : place_at places number ≡ Some place
-  pub has : IsTrue (in_class place.class scalar)
+-- a state that waits for the scalar
+record IsWaiting (states : List State) (number scalar : ℕ) : Type 0 where
+  pub state : State
+  pub is : state_at states number ≡ Some state
+  pub has : IsTrue (in_class state.class scalar)
 
-waiting_here : (places : List Place) (number scalar : ℕ) → IsTrue (waits_for places number scalar) → IsWaiting places number scalar
+waiting_here : (states : List State) (number scalar : ℕ) → IsTrue (waits_for states number scalar) → IsWaiting states number scalar
 waiting_here [] number scalar h = absurd (cc)
-waiting_here (w ∷ places) zero scalar h = record { place = w; is = refl; has = h }
-waiting_here (w ∷ places) (suc number) scalar h = (let r = waiting_here places number scalar h in record { place = r.place; is = r.is; has = r.has })
+waiting_here (w ∷ states) zero scalar h = record { state = w; is = refl; has = h }
+waiting_here (w ∷ states) (suc number) scalar h = (let r = waiting_here states number scalar h in record { state = r.state; is = r.is; has = r.has })
 
-here_waiting : (places : List Place) (number scalar : ℕ) (w : Place) → place_at places number ≡ Some w → IsTrue (in_class w.class scalar) → IsTrue (waits_for places number scalar)
+here_waiting : (states : List State) (number scalar : ℕ) (w : State) → state_at states number ≡ Some w → IsTrue (in_class w.class scalar) → IsTrue (waits_for states number scalar)
 here_waiting [] number scalar w is h = absurd (cc)
-here_waiting (x ∷ places) zero scalar w is h = (let e : x ≡ w = cc in subst (λ (v : Place). IsTrue (in_class v.class scalar)) (sym e) h)
-here_waiting (x ∷ places) (suc number) scalar w is h = here_waiting places number scalar w is h
+here_waiting (x ∷ states) zero scalar w is h = (let e : x ≡ w = cc in subst (λ (v : State). IsTrue (in_class v.class scalar)) (sym e) h)
+here_waiting (x ∷ states) (suc number) scalar w is h = here_waiting states number scalar w is h
 
 pub both_left : (a b p : ℕ) → Holds (bit_and a b) p → Holds a p
 both_left a b p h = omega (arith, h, bit_at_and a b p, bit_at-lt a p, bit_at-lt b p)
@@ -75,24 +76,24 @@ both_right a b p h = omega (arith, h, bit_at_and a b p, bit_at-lt a p, bit_at-lt
 pub both : (a b p : ℕ) → Holds a p → Holds b p → Holds (bit_and a b) p
 both a b p h i = omega (arith, h, i, bit_at_and a b p)
 
--- behind the places that wait, and whose class has the scalar
-pub masked_step : (ps : List ProgramPlace) (after masks : List ℕ) (set scalar next : ℕ) → after ≡ map (λ (p : ProgramPlace). p.after) ps → AreMasks (map place_of ps) masks → scalar < length masks
-    → ((q : ℕ) → Holds next q ↔ WaitsBehind after (bit_and set (get_or masks scalar 0)) q) → IsStep (map place_of ps) set scalar next
+-- behind the states that wait, and whose class has the scalar
+pub masked_step : (ps : List ProgramState) (after masks : List ℕ) (set scalar next : ℕ) → after ≡ map (λ (p : ProgramState). p.after) ps → AreMasks (map state_of ps) masks → scalar < length masks
+    → ((q : ℕ) → Holds next q ↔ WaitsBehind after (bit_and set (get_or masks scalar 0)) q) → IsStep (map state_of ps) set scalar next
 masked_step ps after masks set scalar next is masked inside step = λ q. (
   (λ h. let b = (step q).0 h in
-      let r = waiting_here (map place_of ps) b.number scalar ((masked scalar b.number inside).0 (both_right set (get_or masks scalar 0) b.number b.is_ready)) in
+      let r = waiting_here (map state_of ps) b.number scalar ((masked scalar b.number inside).0 (both_right set (get_or masks scalar 0) b.number b.is_ready)) in
       record {
         number = b.number;
-        place = r.place;
+        state = r.state;
         is = r.is;
         waits = both_left set (get_or masks scalar 0) b.number b.is_ready;
         has = r.has;
-        rest = subst (λ n. Holds n q) (ap (λ (l : List ℕ). get_or l b.number 0) is ∙ after_at ps b.number r.place r.is) b.waits;
+        rest = subst (λ n. Holds n q) (ap (λ (l : List ℕ). get_or l b.number 0) is ∙ after_at ps b.number r.state r.is) b.waits;
       }),
   (λ h. (step q).1 (record {
     number = h.number;
-    is_ready = both set (get_or masks scalar 0) h.number h.waits ((masked scalar h.number inside).1 (here_waiting (map place_of ps) h.number scalar h.place h.is h.has));
-    waits = subst (λ n. Holds n q) (sym (ap (λ (l : List ℕ). get_or l h.number 0) is ∙ after_at ps h.number h.place h.is)) h.rest;
+    is_ready = both set (get_or masks scalar 0) h.number h.waits ((masked scalar h.number inside).1 (here_waiting (map state_of ps) h.number scalar h.state h.is h.has));
+    waits = subst (λ n. Holds n q) (sym (ap (λ (l : List ℕ). get_or l h.number 0) is ∙ after_at ps h.number h.state h.is)) h.rest;
   })),
 )
 
@@ -127,22 +128,22 @@ skip_mask test n mask m passed = record {
   complete = λ p l h. elim (below_or_same p n l) [ inl i ↦ m.complete p i h | inr e ↦ absurd (passed (subst (λ k. IsTrue (test k)) e h)) ];
 }
 
-past_all : (places : List Place) (p scalar : ℕ) → length places ≤ p → IsTrue (waits_for places p scalar) → ⊥
+past_all : (states : List State) (p scalar : ℕ) → length states ≤ p → IsTrue (waits_for states p scalar) → ⊥
 past_all [] p scalar l h = cc
-past_all (w ∷ places) zero scalar l h = omega arith
-past_all (w ∷ places) (suc p) scalar l h = past_all places p scalar (omega arith) h
+past_all (w ∷ states) zero scalar l h = omega arith
+past_all (w ∷ states) (suc p) scalar l h = past_all states p scalar (omega arith) h
 
 pub below_or_past : (p n : ℕ) → (p < n) ⊎ (n ≤ p)
 below_or_past p zero = inr (omega arith)
 below_or_past zero (suc n) = inl (omega arith)
 below_or_past (suc p) (suc n) = elim (below_or_past p n) [ inl i ↦ inl (omega arith) | inr i ↦ inr (omega arith) ]
 
-pub whole_mask : (places : List Place) (scalar n mask : ℕ) → length places ≤ n → IsMaskBelow (λ p. waits_for places p scalar) n mask → (p : ℕ) → Holds mask p ↔ IsTrue (waits_for places p scalar)
-whole_mask places scalar n mask l m p = (m.sound p, λ h. elim (below_or_past p n) [ inl i ↦ m.complete p i h | inr i ↦ absurd (past_all places p scalar (omega arith) h) ])
+pub whole_mask : (states : List State) (scalar n mask : ℕ) → length states ≤ n → IsMaskBelow (λ p. waits_for states p scalar) n mask → (p : ℕ) → Holds mask p ↔ IsTrue (waits_for states p scalar)
+whole_mask states scalar n mask l m p = (m.sound p, λ h. elim (below_or_past p n) [ inl i ↦ m.complete p i h | inr i ↦ absurd (past_all states p scalar (omega arith) h) ])
 
-pub waits_at : (ps : List ProgramPlace) (k scalar : ℕ) (p : ProgramPlace) → k < length ps → p ≡ get_or ps k p → waits_for (map place_of ps) k scalar ≡ in_class (place_of p).class scalar
+pub waits_at : (ps : List ProgramState) (k scalar : ℕ) (p : ProgramState) → k < length ps → p ≡ get_or ps k p → waits_for (map state_of ps) k scalar ≡ in_class (state_of p).class scalar
 waits_at [] k scalar p l is = absurd (omega arith)
-waits_at (x ∷ ps) zero scalar p l is = ap (λ (y : ProgramPlace). in_class (place_of y).class scalar) (sym is)
+waits_at (x ∷ ps) zero scalar p l is = ap (λ (y : ProgramState). in_class (state_of y).class scalar) (sym is)
 waits_at (x ∷ ps) (suc k) scalar p l is = waits_at ps k scalar p (omega arith) is
 
 size : (ms : List ℕ) (x : ℕ) → length (ms ++ x ∷ []) ≡ suc (length ms)
@@ -161,16 +162,16 @@ earlier_mask (m ∷ ms) x zero l = refl
 earlier_mask (m ∷ ms) x (suc k) l = earlier_mask ms x k (omega arith)
 
 -- one set more
-pub set_more : (places : List Place) (sets more : List ℕ) (set n : ℕ) → more ≡ sets ++ set ∷ [] → n ≡ length sets → AreCodes (waits_for places n) set
-    → ((k : ℕ) → k < length sets → AreCodes (waits_for places k) (get_or sets k 0)) → (k : ℕ) → k < length more → AreCodes (waits_for places k) (get_or more k 0)
-set_more places sets more set n is at s all = subst (λ ws. (k : ℕ) → k < length ws → AreCodes (waits_for places k) (get_or ws k 0)) (sym is) (λ k l. elim (same_or_not k n) [
-  | inl e ↦ subst (AreCodes (waits_for places k)) (sym (last_mask sets set k (e ∙ at))) (subst (λ j. AreCodes (waits_for places j) set) (sym e) s)
-  | inr d ↦ (let f : k ≢ n = d in let less : k < length sets = (let z = size sets set in omega (arith, z, f)) in subst (AreCodes (waits_for places k)) (sym (earlier_mask sets set k less)) (all k less))
+pub set_more : (states : List State) (sets more : List ℕ) (set n : ℕ) → more ≡ sets ++ set ∷ [] → n ≡ length sets → AreCodes (waits_for states n) set
+    → ((k : ℕ) → k < length sets → AreCodes (waits_for states k) (get_or sets k 0)) → (k : ℕ) → k < length more → AreCodes (waits_for states k) (get_or more k 0)
+set_more states sets more set n is at s all = subst (λ ws. (k : ℕ) → k < length ws → AreCodes (waits_for states k) (get_or ws k 0)) (sym is) (λ k l. elim (same_or_not k n) [
+  | inl e ↦ subst (AreCodes (waits_for states k)) (sym (last_mask sets set k (e ∙ at))) (subst (λ j. AreCodes (waits_for states j) set) (sym e) s)
+  | inr d ↦ (let f : k ≢ n = d in let less : k < length sets = (let z = size sets set in omega (arith, z, f)) in subst (AreCodes (waits_for states k)) (sym (earlier_mask sets set k less)) (all k less))
 ])
 
 -- one mask more
-pub mask_more : (places : List Place) (masks more : List ℕ) (mask scalar : ℕ) → more ≡ masks ++ mask ∷ [] → scalar ≡ length masks → ((p : ℕ) → Holds mask p ↔ IsTrue (waits_for places p scalar)) → AreMasks places masks → AreMasks places more
-mask_more places masks more mask scalar is at m all = subst (AreMasks places) (sym is) (λ c p l. elim (same_or_not c scalar) [
-  | inl e ↦ subst (λ w. Holds w p ↔ IsTrue (waits_for places p c)) (sym (last_mask masks mask c (e ∙ at))) (subst (λ k. Holds mask p ↔ IsTrue (waits_for places p k)) (sym e) (m p))
-  | inr d ↦ (let f : c ≢ scalar = d in let less : c < length masks = (let s = size masks mask in omega (arith, s, f)) in subst (λ w. Holds w p ↔ IsTrue (waits_for places p c)) (sym (earlier_mask masks mask c less)) (all c p less))
+pub mask_more : (states : List State) (masks more : List ℕ) (mask scalar : ℕ) → more ≡ masks ++ mask ∷ [] → scalar ≡ length masks → ((p : ℕ) → Holds mask p ↔ IsTrue (waits_for states p scalar)) → AreMasks states masks → AreMasks states more
+mask_more states masks more mask scalar is at m all = subst (AreMasks states) (sym is) (λ c p l. elim (same_or_not c scalar) [
+  | inl e ↦ subst (λ w. Holds w p ↔ IsTrue (waits_for states p c)) (sym (last_mask masks mask c (e ∙ at))) (subst (λ k. Holds mask p ↔ IsTrue (waits_for states p k)) (sym e) (m p))
+  | inr d ↦ (let f : c ≢ scalar = d in let less : c < length masks = (let s = size masks mask in omega (arith, s, f)) in subst (λ w. Holds w p ↔ IsTrue (waits_for states p c)) (sym (earlier_mask masks mask c less)) (all c p less))
 ])

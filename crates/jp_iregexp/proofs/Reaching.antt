@@ -66,7 +66,7 @@ joined text p m q a b = record {
   member = record { front = a.inside; rest = b.inside; is = refl; first = a.member; second = b.member };
 }
 
--- a place between the two
+-- a position between the two
 pub record Between (First Second : List ℕ → Type 0) (text : List ℕ) (p q : ℕ) : Type 0 where
   pub middle : ℕ
   pub first : Reach First text p middle

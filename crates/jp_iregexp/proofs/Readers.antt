@@ -9,13 +9,13 @@ use Rattle.jp_model.specs.Pattern.Tree.{Item, range, members}
 use Rattle.jp_iregexp.specs.declared.brackets.Next.{Next}
 use Rattle.jp_iregexp.specs.Tokens.{first_of, after_next, bound_behind}
 
--- the first scalar that is `stop` stands at a place
-pub up_to_place : (stop : ℕ) (text : List ℕ) (at : ℕ) → at < length text → (get_or text at 0 == stop) ≡ true → ((k : ℕ) → k < at → (get_or text k 0 == stop) ≡ false) → up_to stop text ≡ Some (take at text, drop (at + 1) text)
-up_to_place stop [] at l is before = absurd (omega (arith, l))
-up_to_place stop (c ∷ text) zero l is before = rw is refl
-up_to_place stop (c ∷ text) (suc at) l is before =
+-- the first scalar that is `stop` stands at a position
+pub up_to_position : (stop : ℕ) (text : List ℕ) (at : ℕ) → at < length text → (get_or text at 0 == stop) ≡ true → ((k : ℕ) → k < at → (get_or text k 0 == stop) ≡ false) → up_to stop text ≡ Some (take at text, drop (at + 1) text)
+up_to_position stop [] at l is before = absurd (omega (arith, l))
+up_to_position stop (c ∷ text) zero l is before = rw is refl
+up_to_position stop (c ∷ text) (suc at) l is before =
     let here : (c == stop) ≡ false = before 0 (omega arith) in
-    let later : up_to stop text ≡ Some (take at text, drop (at + 1) text) = up_to_place stop text at (omega arith) is (λ k b. before (suc k) (omega (arith, b))) in
+    let later : up_to stop text ≡ Some (take at text, drop (at + 1) text) = up_to_position stop text at (omega arith) is (λ k b. before (suc k) (omega (arith, b))) in
     rw (here, later, add-one, add-one) refl
 
 pub up_to_missing : (stop : ℕ) (text : List ℕ) → ((k : ℕ) → k < length text → (get_or text k 0 == stop) ≡ false) → up_to stop text ≡ None

@@ -65,7 +65,7 @@ rows_push Member text n rows more row b e a =
             | inl k ↦ b.each p r k (is ∙ ap (λ x. get_or x p r) e ∙ get_or_append_left rows (row ∷ []) r p k)
             | inr k ↦ (let at : length rows ≡ p = omega arith in
                 let same : row ≡ r = sym (last_item rows row r) ∙ ap (λ i. get_or (rows ++ row ∷ []) i r) at ∙ ap (λ x. get_or x p r) (sym e) ∙ sym is in
-                let place : n ≡ p = omega arith in
-                subst (λ i. AreEndsFrom Member text i r) place (subst (λ (x : PositionSet). AreEndsFrom Member text n x) same a))
+                let position : n ≡ p = omega arith in
+                subst (λ i. AreEndsFrom Member text i r) position (subst (λ (x : PositionSet). AreEndsFrom Member text n x) same a))
           ];
     }

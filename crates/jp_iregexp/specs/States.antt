@@ -1,4 +1,4 @@
--- A pattern as places, each of which waits for one scalar of its class, and what a text leads to.
+-- A pattern as states, each of which waits for one scalar of its class, and what a text leads to.
 use Rattle.std.specs.Prelude.{ℕ, zero, suc, ◌≡◌, ◌<◌, ◌^◌, ◌==◌, ◌↔◌, get_or, Bool, true, false, if◌then◌else◌, IsTrue, List, [], ◌∷◌, ◌++◌, length, Option, Some, None}
 use Rattle.std.specs.Int.{bit_at}
 use Rattle.std.specs.Int.RustNames.{bit_or}
@@ -6,35 +6,35 @@ use Rattle.jp_model.specs.Pattern.Tree.{CharClass, Pattern}
 use Rattle.jp_model.specs.Pattern.Classes.{in_class}
 use Rattle.jp_model.specs.Pattern.Language.{Language}
 
--- A place: the scalars that it waits for, and the set that waits behind it. A set of places is a number: place p is bit p, and
+-- A state: the scalars that it waits for, and the set that waits behind it. A set of states is a number: state p is bit p, and
 -- bit 63 is the end of the text.
-pub record Place : Type 0 where
+pub record State : Type 0 where
   pub class : CharClass
   pub behind : ℕ
 
--- the place is in the set
+-- the state is in the set
 abbrev pub Holds : ℕ → ℕ → Type 0
 Holds set p = bit_at set p ≡ 1
 
--- the place of that number
-abbrev pub place_at : List Place → ℕ → Option Place
-place_at [] p = None
-place_at (w ∷ ws) zero = Some w
-place_at (w ∷ ws) (suc p) = place_at ws p
+-- the state of that number
+abbrev pub state_at : List State → ℕ → Option State
+state_at [] p = None
+state_at (w ∷ ws) zero = Some w
+state_at (w ∷ ws) (suc p) = state_at ws p
 
--- a place of the set waits for the scalar, and what is behind it does the rest
-pub record Passes (places : List Place) (set scalar : ℕ) (Rest : ℕ → Type 0) : Type 0 where
+-- a state of the set waits for the scalar, and what is behind it does the rest
+pub record Passes (states : List State) (set scalar : ℕ) (Rest : ℕ → Type 0) : Type 0 where
   pub number : ℕ
-  pub place : Place
-  pub is : place_at places number ≡ Some place
+  pub state : State
+  pub is : state_at states number ≡ Some state
   pub waits : Holds set number
-  pub has : IsTrue (in_class place.class scalar)
-  pub rest : Rest place.behind
+  pub has : IsTrue (in_class state.class scalar)
+  pub rest : Rest state.behind
 
 -- a run over a text: from the set the text leads to its end
-abbrev pub Leads : List Place → ℕ → List ℕ → Type 0
-Leads places set [] = Holds set 63
-Leads places set (c ∷ text) = Passes places set c (λ behind. Leads places behind text)
+abbrev pub Leads : List State → ℕ → List ℕ → Type 0
+Leads states set [] = Holds set 63
+Leads states set (c ∷ text) = Passes states set c (λ behind. Leads states behind text)
 
 -- the text, which begins with this scalar, is a member that is not empty, followed by one of the second set
 pub record SplitsBehind (First Second : List ℕ → Type 0) (c : ℕ) (text : List ℕ) : Type 0 where
@@ -48,60 +48,60 @@ pub record SplitsBehind (First Second : List ℕ → Type 0) (c : ℕ) (text : L
 abbrev pub entry : Bool → ℕ → ℕ → ℕ
 entry has_empty first behind = if has_empty then bit_or first behind else first
 
--- The part is laid out in front of what waits behind it, whatever places come later: its first places lead where a member that
+-- The part is laid out in front of what waits behind it, whatever states come later: its first states lead where a member that
 -- is not empty leads to what waits behind.
-pub record IsLaidOut (places : List Place) (Member : List ℕ → Type 0) (behind first : ℕ) (has_empty : Bool) : Type 0 where
-  pub sound : (more : List Place) (c : ℕ) (text : List ℕ) → Leads (places ++ more) first (c ∷ text) → SplitsBehind Member (Leads (places ++ more) behind) c text
-  pub complete : (more : List Place) (c : ℕ) (text : List ℕ) → SplitsBehind Member (Leads (places ++ more) behind) c text → Leads (places ++ more) first (c ∷ text)
+pub record IsLaidOut (states : List State) (Member : List ℕ → Type 0) (behind first : ℕ) (has_empty : Bool) : Type 0 where
+  pub sound : (more : List State) (c : ℕ) (text : List ℕ) → Leads (states ++ more) first (c ∷ text) → SplitsBehind Member (Leads (states ++ more) behind) c text
+  pub complete : (more : List State) (c : ℕ) (text : List ℕ) → SplitsBehind Member (Leads (states ++ more) behind) c text → Leads (states ++ more) first (c ∷ text)
   pub no_end : Holds first 63 → ⊥
   pub empty : has_empty ≡ true → Member []
   pub nonempty : Member [] → has_empty ≡ true
 
 -- what waits behind the scalar, of what waits before it
-abbrev pub IsStep : List Place → ℕ → ℕ → ℕ → Type 0
-IsStep places set scalar next = (q : ℕ) → Holds next q ↔ Passes places set scalar (λ behind. Holds behind q)
+abbrev pub IsStep : List State → ℕ → ℕ → ℕ → Type 0
+IsStep states set scalar next = (q : ℕ) → Holds next q ↔ Passes states set scalar (λ behind. Holds behind q)
 
--- the place with this number waits for the scalar, and has this behind it
-pub record IsPassed (places : List Place) (number scalar behind : ℕ) : Type 0 where
-  pub place : Place
-  pub is : place_at places number ≡ Some place
-  pub has : IsTrue (in_class place.class scalar)
-  pub gives : place.behind ≡ behind
+-- the state with this number waits for the scalar, and has this behind it
+pub record IsPassed (states : List State) (number scalar behind : ℕ) : Type 0 where
+  pub state : State
+  pub is : state_at states number ≡ Some state
+  pub has : IsTrue (in_class state.class scalar)
+  pub gives : state.behind ≡ behind
 
--- the place with this number waits for the scalar, as a test
-abbrev pub waits_for : List Place → (number scalar : ℕ) → Bool
+-- the state with this number waits for the scalar, as a test
+abbrev pub waits_for : List State → (number scalar : ℕ) → Bool
 waits_for [] number scalar = false
-waits_for (w ∷ places) zero scalar = in_class w.class scalar
-waits_for (w ∷ places) (suc number) scalar = waits_for places number scalar
+waits_for (w ∷ states) zero scalar = in_class w.class scalar
+waits_for (w ∷ states) (suc number) scalar = waits_for states number scalar
 
--- word c of the masks has the places that wait for the scalar c
-abbrev pub AreMasks : List Place → List ℕ → Type 0
-AreMasks places masks = (scalar number : ℕ) → scalar < length masks → Holds (get_or masks scalar 0) number ↔ IsTrue (waits_for places number scalar)
+-- word c of the masks has the states that wait for the scalar c
+abbrev pub AreMasks : List State → List ℕ → Type 0
+AreMasks states masks = (scalar number : ℕ) → scalar < length masks → Holds (get_or masks scalar 0) number ↔ IsTrue (waits_for states number scalar)
 
--- place q waits behind one of the places that are ready
+-- state q waits behind one of the states that are ready
 pub record WaitsBehind (after : List ℕ) (ready q : ℕ) : Type 0 where
   pub number : ℕ
   pub is_ready : Holds ready number
   pub waits : Holds (get_or after number 0) q
 
--- the set has the place before this one, and nothing else
+-- the set has the state before this one, and nothing else
 abbrev pub is_link : (set number : ℕ) → Bool
 is_link set zero = false
 is_link set (suc p) = set == 2 ^ p
 
--- only the place with the number before waits behind the place
+-- only the state with the number before waits behind the state
 abbrev pub is_chained : List ℕ → ℕ → Bool
 is_chained after p = is_link (get_or after p 0) p
 
--- from the start the places lead over the texts of the pattern's set, and no others
-abbrev pub Accepts : List Place → ℕ → Pattern → Type 0
-Accepts places starts pattern = (text : List ℕ) → Leads places starts text ↔ Language pattern text
+-- from the start the states lead over the texts of the pattern's set, and no others
+abbrev pub Accepts : List State → ℕ → Pattern → Type 0
+Accepts states starts pattern = (text : List ℕ) → Leads states starts text ↔ Language pattern text
 
 -- the bits of a word are the ASCII scalars that pass the test
 abbrev pub AreCodes : (ℕ → Bool) → ℕ → Type 0
 AreCodes test codes = (scalar : ℕ) → scalar < 128 → Holds codes scalar ↔ IsTrue (test scalar)
 
--- by place the ASCII scalars that it waits for
-pub record AreSets (places : List Place) (sets : List ℕ) : Type 0 where
-  pub size : length sets ≡ length places
-  pub each : (number : ℕ) → number < length sets → AreCodes (waits_for places number) (get_or sets number 0)
+-- by state the ASCII scalars that it waits for
+pub record AreSets (states : List State) (sets : List ℕ) : Type 0 where
+  pub size : length sets ≡ length states
+  pub each : (number : ℕ) → number < length sets → AreCodes (waits_for states number) (get_or sets number 0)

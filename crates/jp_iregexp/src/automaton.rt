@@ -1,12 +1,12 @@
-//! A pattern as places: each place waits for one scalar of its class, and says which places wait after it. A text runs through
-//! one word, which holds the places that wait.
+//! A pattern as states: each state waits for one scalar of its class, and says which states wait after it. A text runs through
+//! one word, which holds the states that wait.
 
 ghost use Rattle.std.specs.Prelude.{◌≡◌, ◌↔◌, ◌<◌, ◌≤◌, ℕ, IsTrue, IfOk, Some, None, bit_and, length, get_or, map};
 ghost use Rattle.std.specs.Option.{IfSome};
 ghost use Rattle.std.specs.Str.{chars};
 ghost use Rattle.jp_model.specs.Pattern.Language.{Occurs};
-ghost use Rattle.jp_iregexp.specs.Places.{AreMasks, AreSets, Holds, IsPassed, IsStep, Leads, WaitsBehind, is_chained, is_link, waits_for};
-ghost use Rattle.jp_iregexp.specs.Layouts.{place_of};
+ghost use Rattle.jp_iregexp.specs.States.{AreMasks, AreSets, Holds, IsPassed, IsStep, Leads, WaitsBehind, is_chained, is_link, waits_for};
+ghost use Rattle.jp_iregexp.specs.Layouts.{state_of};
 
 use crate::class::Class;
 use crate::codes::codes_of;
@@ -15,30 +15,30 @@ use std::alloc::{AllocError, Global};
 /// The bit of the end of the text.
 pub(crate) const END: u64 = 1 << 63;
 
-/// As many places as there may be.
-pub(crate) const MOST_PLACES: usize = 63;
+/// As many states as there may be.
+pub(crate) const MOST_STATES: usize = 63;
 
-/// One place.
+/// One state.
 #[derive(Drop)]
-pub(crate) struct Place {
+pub(crate) struct State {
     pub(crate) class: Class,
     pub(crate) after: u64,
 }
 
-/// The places of a pattern, and those that wait at the start of a text.
+/// The states of a pattern, and those that wait at the start of a text.
 #[derive(Drop)]
 pub(crate) struct Automaton {
-    pub(crate) places: Vec<Place>,
+    pub(crate) states: Vec<State>,
     pub(crate) starts: u64,
-    /// By place what waits after it.
+    /// By state what waits after it.
     after: Vec<u64>,
-    /// The places after which only the one with the number before waits.
+    /// The states after which only the one with the number before waits.
     chained: u64,
-    /// By ASCII scalar the places whose class has it.
+    /// By ASCII scalar the states whose class has it.
     ascii: Vec<u64>,
-    ghost behind: { after.items ≡ map (λ p. p.after) places.items },
+    ghost behind: { after.items ≡ map (λ p. p.after) states.items },
     ghost links: { (p : ℕ) → Holds chained p ↔ IsTrue (is_chained after.items p) },
-    ghost masks: { AreMasks (map place_of places.items) ascii.items },
+    ghost masks: { AreMasks (map state_of states.items) ascii.items },
     ghost all: { length ascii.items ≡ 128 },
 }
 
@@ -46,18 +46,18 @@ impl Automaton {
     /// If memory is refused, the answer is an error.
     pub(crate) fn new(
         alloc: Global,
-        places: Vec<Place>,
+        states: Vec<State>,
         starts: u64,
     ) -> Result<Automaton, AllocError>
-        requires { length places.items ≤ 63 }
-        ensures places { IfOk result (λ automaton. automaton.places.items ≡ places.items) }
+        requires { length states.items ≤ 63 }
+        ensures states { IfOk result (λ automaton. automaton.states.items ≡ states.items) }
         ensures starts { IfOk result (λ automaton. automaton.starts ≡ starts) }
     {
-        let after = words_after(alloc, places.as_slice())?;
-        let ascii = ascii_masks(alloc, places.as_slice())?;
+        let after = words_after(alloc, states.as_slice())?;
+        let ascii = ascii_masks(alloc, states.as_slice())?;
         let chained = chained(after.as_slice());
         Ok(Automaton {
-            places,
+            states,
             starts,
             after,
             chained,
@@ -67,25 +67,25 @@ impl Automaton {
 
     /// What waits after the scalar.
     fn step(&self, waiting: u64, scalar: char) -> u64
-        ensures { IsStep (map place_of self.now.places.items) waiting scalar result }
+        ensures { IsStep (map state_of self.now.states.items) waiting scalar result }
     {
         if scalar.is_ascii() {
             self.ascii_step(waiting, scalar as u8)
         } else {
-            asked_step(self.places.as_slice(), waiting, scalar)
+            asked_step(self.states.as_slice(), waiting, scalar)
         }
     }
 
-    /// The places that wait after an ASCII scalar.
+    /// The states that wait after an ASCII scalar.
     #[inline(always)]
     fn ascii_step(&self, waiting: u64, scalar: u8) -> u64
         requires { scalar < 128 }
-        ensures { IsStep (map place_of self.now.places.items) waiting scalar result }
+        ensures { IsStep (map state_of self.now.states.items) waiting scalar result }
     {
         self.behind(waiting & self.ascii[scalar as usize])
     }
 
-    /// What waits after any of the places that are ready. Those that are chained move on at once.
+    /// What waits after any of the states that are ready. Those that are chained move on at once.
     #[inline(always)]
     fn behind(&self, ready: u64) -> u64
         ensures { (q : ℕ) → Holds result q ↔ WaitsBehind self.now.after.items ready q }
@@ -94,7 +94,7 @@ impl Automaton {
         moved | behind_each(self.after.as_slice(), ready & !self.chained)
     }
 
-    /// Of the places that wait those that take an ASCII scalar. None where the byte is none.
+    /// Of the states that wait those that take an ASCII scalar. None where the byte is none.
     #[inline(always)]
     fn ready(&self, waiting: u64, byte: u8) -> Option<u64>
         ensures ascii { IfSome result (λ ready. byte < 128) }
@@ -109,7 +109,7 @@ impl Automaton {
     /// Whether the text leads from the start to the end. No scalar is decoded, up to the first that is not ASCII.
     #[inline(never)]
     pub(crate) fn accepts(&self, text: &str) -> bool
-        ensures { IsTrue result ↔ Leads (map place_of self.now.places.items) self.now.starts (chars text.now) }
+        ensures { IsTrue result ↔ Leads (map state_of self.now.states.items) self.now.starts (chars text.now) }
     {
         let mut waiting = self.starts;
         for byte in text.as_bytes() {
@@ -124,10 +124,10 @@ impl Automaton {
         has_end(waiting)
     }
 
-    /// Whether the places lead over a text that need not be ASCII.
+    /// Whether the states lead over a text that need not be ASCII.
     #[inline(never)]
     fn accepts_any(&self, text: &str) -> bool
-        ensures { IsTrue result ↔ Leads (map place_of self.now.places.items) self.now.starts (chars text.now) }
+        ensures { IsTrue result ↔ Leads (map state_of self.now.states.items) self.now.starts (chars text.now) }
     {
         let mut waiting = self.starts;
         for scalar in text.chars() {
@@ -142,7 +142,7 @@ impl Automaton {
     /// Whether a part of the text leads from the start to the end. No scalar is decoded, up to the first that is not ASCII.
     #[inline(never)]
     pub(crate) fn finds(&self, text: &str) -> bool
-        ensures { IsTrue result ↔ Occurs (Leads (map place_of self.now.places.items) self.now.starts) (chars text.now) }
+        ensures { IsTrue result ↔ Occurs (Leads (map state_of self.now.states.items) self.now.starts) (chars text.now) }
     {
         let mut waiting = self.starts;
         if has_end(waiting) {
@@ -164,10 +164,10 @@ impl Automaton {
         false
     }
 
-    /// Whether a part of a text that need not be ASCII is one to which the places lead.
+    /// Whether a part of a text that need not be ASCII is one to which the states lead.
     #[inline(never)]
     fn finds_any(&self, text: &str) -> bool
-        ensures { IsTrue result ↔ Occurs (Leads (map place_of self.now.places.items) self.now.starts) (chars text.now) }
+        ensures { IsTrue result ↔ Occurs (Leads (map state_of self.now.states.items) self.now.starts) (chars text.now) }
     {
         let mut waiting = self.starts;
         for scalar in text.chars() {
@@ -188,18 +188,18 @@ fn has_end(set: u64) -> bool
     (set >> 63) & 1 == 1
 }
 
-fn words_after(alloc: Global, places: &[Place]) -> Result<Vec<u64>, AllocError>
-    ensures { IfOk result (λ words. words.items ≡ map (λ p. p.after) places.now) }
+fn words_after(alloc: Global, states: &[State]) -> Result<Vec<u64>, AllocError>
+    ensures { IfOk result (λ words. words.items ≡ map (λ p. p.after) states.now) }
 {
     let mut words = Vec::new(alloc);
-    words.reserve(places.len())?;
-    for place in places {
-        words.push(place.after)?;
+    words.reserve(states.len())?;
+    for state in states {
+        words.push(state.after)?;
     }
     Ok(words)
 }
 
-// The places after which only the one with the number before waits. A part is laid out in front of what waits after it, so
+// The states after which only the one with the number before waits. A part is laid out in front of what waits after it, so
 // most are.
 fn chained(after: &[u64]) -> u64
     requires { length after.now ≤ 63 }
@@ -222,38 +222,38 @@ fn is_link(word: u64, number: usize) -> bool
     number > 0 && word == 1 << (number - 1)
 }
 
-// By ASCII scalar the places that wait for it.
-fn ascii_masks(alloc: Global, places: &[Place]) -> Result<Vec<u64>, AllocError>
-    requires { length places.now ≤ 63 }
-    ensures masks { IfOk result (λ masks. AreMasks (map place_of places.now) masks.items) }
+// By ASCII scalar the states that wait for it.
+fn ascii_masks(alloc: Global, states: &[State]) -> Result<Vec<u64>, AllocError>
+    requires { length states.now ≤ 63 }
+    ensures masks { IfOk result (λ masks. AreMasks (map state_of states.now) masks.items) }
     ensures all { IfOk result (λ masks. length masks.items ≡ 128) }
 {
-    let sets = ascii_sets(alloc, places)?;
+    let sets = ascii_sets(alloc, states)?;
     let mut masks = Vec::new(alloc);
     masks.reserve(128)?;
     for code in 0u8..128 {
-        masks.push(having(places, sets.as_slice(), code))?;
+        masks.push(having(states, sets.as_slice(), code))?;
     }
     Ok(masks)
 }
 
-fn ascii_sets(alloc: Global, places: &[Place]) -> Result<Vec<u128>, AllocError>
-    ensures { IfOk result (λ sets. AreSets (map place_of places.now) sets.items) }
+fn ascii_sets(alloc: Global, states: &[State]) -> Result<Vec<u128>, AllocError>
+    ensures { IfOk result (λ sets. AreSets (map state_of states.now) sets.items) }
 {
     let mut sets = Vec::new(alloc);
-    sets.reserve(places.len())?;
-    for place in places {
-        sets.push(codes_of(&place.class))?;
+    sets.reserve(states.len())?;
+    for state in states {
+        sets.push(codes_of(&state.class))?;
     }
     Ok(sets)
 }
 
-// The places that wait for a scalar.
-fn having(_places: &[Place], sets: &[u128], code: u8) -> u64
+// The states that wait for a scalar.
+fn having(_states: &[State], sets: &[u128], code: u8) -> u64
     requires few { length sets.now ≤ 63 }
-    requires sets { AreSets (map place_of _places.now) sets.now }
+    requires sets { AreSets (map state_of _states.now) sets.now }
     requires ascii { code < 128 }
-    ensures { (number : ℕ) → Holds result number ↔ IsTrue (waits_for (map place_of _places.now) number code) }
+    ensures { (number : ℕ) → Holds result number ↔ IsTrue (waits_for (map state_of _states.now) number code) }
 {
     let mut all = 0;
     for (number, codes) in sets.iter().enumerate() {
@@ -264,7 +264,7 @@ fn having(_places: &[Place], sets: &[u128], code: u8) -> u64
     all
 }
 
-// What waits after any of the places that are ready: each of them is asked.
+// What waits after any of the states that are ready: each of them is asked.
 #[inline(always)]
 fn behind_each(after: &[u64], ready: u64) -> u64
     ensures { (q : ℕ) → Holds result q ↔ WaitsBehind after.now ready q }
@@ -288,14 +288,14 @@ fn word_after(after: &[u64], number: usize) -> u64
     }
 }
 
-// What waits after the scalar: each place that waits is asked.
-fn asked_step(places: &[Place], waiting: u64, scalar: char) -> u64
-    ensures { IsStep (map place_of places.now) waiting scalar result }
+// What waits after the scalar: each state that waits is asked.
+fn asked_step(states: &[State], waiting: u64, scalar: char) -> u64
+    ensures { IsStep (map state_of states.now) waiting scalar result }
 {
     let mut next = 0;
     let mut rest = waiting;
     while rest != 0 {
-        if let Some(behind) = asked(places, rest.trailing_zeros() as usize, scalar) {
+        if let Some(behind) = asked(states, rest.trailing_zeros() as usize, scalar) {
             next |= behind;
         }
         rest &= rest - 1;
@@ -303,16 +303,16 @@ fn asked_step(places: &[Place], waiting: u64, scalar: char) -> u64
     next
 }
 
-// What waits after a place, where it passes.
-fn asked(places: &[Place], number: usize, scalar: char) -> Option<u64>
-    ensures some { IfSome result (λ behind. IsPassed (map place_of places.now) number scalar behind) }
-    ensures none { result ≡ None → (behind : ℕ) → IsPassed (map place_of places.now) number scalar behind → ⊥ }
+// What waits after a state, where it passes.
+fn asked(states: &[State], number: usize, scalar: char) -> Option<u64>
+    ensures some { IfSome result (λ behind. IsPassed (map state_of states.now) number scalar behind) }
+    ensures none { result ≡ None → (behind : ℕ) → IsPassed (map state_of states.now) number scalar behind → ⊥ }
 {
-    let Some(place) = places.get(number) else {
+    let Some(state) = states.get(number) else {
         return None;
     };
-    let after = place.after;
-    if place.class.contains(scalar) {
+    let after = state.after;
+    if state.class.contains(scalar) {
         Some(after)
     } else {
         None

@@ -4,7 +4,7 @@ ghost use Rattle.std.specs.Prelude.{◌<◌, ◌==◌, ◌&&◌, nat_le, map};
 ghost use Rattle.std.specs.List.{list_any};
 ghost use Rattle.jp_model.specs.Pattern.Classes.{in_class, in_item, in_property};
 ghost use Rattle.jp_iregexp.specs.Nodes.{class_of, item_of, property_of};
-ghost use Rattle.jp_iregexp.specs.Places.{AreCodes};
+ghost use Rattle.jp_iregexp.specs.States.{AreCodes};
 
 use crate::class::{Class, Item, Property, has_property};
 

@@ -2,8 +2,8 @@
 
 ghost use Rattle.std.specs.Prelude.{◌≡◌, IfOk, map};
 ghost use Rattle.std.specs.Option.{IfSome};
-ghost use Rattle.jp_iregexp.specs.Places.{Accepts};
-ghost use Rattle.jp_iregexp.specs.Layouts.{place_of};
+ghost use Rattle.jp_iregexp.specs.States.{Accepts};
+ghost use Rattle.jp_iregexp.specs.Layouts.{state_of};
 ghost use Rattle.jp_iregexp.specs.Nodes.{tree_of};
 
 use crate::automaton::Automaton;
@@ -16,7 +16,7 @@ use std::alloc::{AllocError, Global};
 pub(crate) struct Compiled {
     pub(crate) root: Node,
     pub(crate) automaton: Option<Automaton>,
-    ghost same: { ∥ IfSome automaton (λ a. Accepts (map place_of a.places.items) a.starts (tree_of root)) ∥₁ },
+    ghost same: { ∥ IfSome automaton (λ a. Accepts (map state_of a.states.items) a.starts (tree_of root)) ∥₁ },
 }
 
 impl Compiled {

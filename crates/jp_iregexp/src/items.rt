@@ -8,8 +8,8 @@ use crate::class::Item;
 use crate::escapes::{escaped, is_plain_in_class};
 use crate::names::find_property;
 
-// The place of the first scalar that is `stop`.
-fn place_of(stop: char, text: &[char]) -> Option<usize>
+// The position of the first scalar that is `stop`.
+fn position_of(stop: char, text: &[char]) -> Option<usize>
     ensures found { (at : ℕ) → result ≡ Some at → up_to stop text.now ≡ Some (take at text.now, drop (at + 1) text.now) }
     ensures within { (at : ℕ) → result ≡ Some at → at < length text.now }
     ensures missing { result ≡ None → up_to stop text.now ≡ None }
@@ -26,7 +26,7 @@ fn place_of(stop: char, text: &[char]) -> Option<usize>
 pub(crate) fn cut(stop: char, text: &[char]) -> Option<(&[char], &[char])>
     ensures { option_map (λ p. (p.0.now, p.1.now)) result ≡ up_to stop text.now }
 {
-    match place_of(stop, text) {
+    match position_of(stop, text) {
         None => None,
         Some(at) => Some((&text[..at], &text[at + 1..])),
     }

@@ -1,19 +1,19 @@
-//! The places of a pattern's parts.
+//! The states of a pattern's parts.
 
 ghost use Rattle.std.specs.Prelude.{◌≡◌, ◌≤◌, ◌&&◌, ◌||◌, IfOk, bit_or, map, true, Some, None};
 ghost use Rattle.std.specs.Option.{IfSome};
 ghost use Rattle.jp_model.specs.Pattern.Language.{Language, RepeatsWithin};
 ghost use Rattle.jp_model.specs.Pattern.Tree.{one_of};
-ghost use Rattle.jp_iregexp.specs.Places.{entry, Accepts};
-ghost use Rattle.jp_iregexp.specs.Layouts.{LaidOnto, left_of, place_of};
+ghost use Rattle.jp_iregexp.specs.States.{entry, Accepts};
+ghost use Rattle.jp_iregexp.specs.Layouts.{LaidOnto, left_of, state_of};
 ghost use Rattle.jp_iregexp.specs.Nodes.{tree_of, class_of, sequence_list, choice_list};
 
-use crate::automaton::{Automaton, END, MOST_PLACES, Place};
+use crate::automaton::{Automaton, END, MOST_STATES, State};
 use crate::class::Class;
 use crate::node::Node;
 use std::alloc::{AllocError, Global};
 
-/// How a part begins: the places that wait for its first scalar, and whether the empty text is in its set.
+/// How a part begins: the states that wait for its first scalar, and whether the empty text is in its set.
 #[derive(Clone, Copy)]
 pub(crate) struct Entry {
     pub(crate) first: u64,
@@ -66,10 +66,10 @@ impl Entry {
     }
 }
 
-/// The places so far, and how many more parts may be laid out.
+/// The states so far, and how many more parts may be laid out.
 #[derive(Drop)]
 pub(crate) struct Layout {
-    places: Vec<Place>,
+    states: Vec<State>,
     fuel: u32,
 }
 
@@ -77,7 +77,7 @@ impl Layout {
     /// Lays a part out, in front of what waits after it, or gives up.
     #[cycle(layout)]
     fn part(&mut self, alloc: Global, node: &Node, behind: u64) -> Result<Option<Entry>, AllocError>
-        ensures { IfOk result (λ found. IfSome found (λ e. LaidOnto self.old.places.items self.new.places.items (Language (tree_of node.now)) behind e.first e.has_empty)) }
+        ensures { IfOk result (λ found. IfSome found (λ e. LaidOnto self.old.states.items self.new.states.items (Language (tree_of node.now)) behind e.first e.has_empty)) }
     {
         if self.fuel == 0 {
             return Ok(None);
@@ -114,14 +114,14 @@ impl Layout {
         class: &Class,
         behind: u64,
     ) -> Result<Option<Entry>, AllocError>
-        ensures { IfOk result (λ found. IfSome found (λ e. LaidOnto self.old.places.items self.new.places.items (Language (one_of (class_of class.now))) behind e.first e.has_empty)) }
+        ensures { IfOk result (λ found. IfSome found (λ e. LaidOnto self.old.states.items self.new.states.items (Language (one_of (class_of class.now))) behind e.first e.has_empty)) }
     {
-        let p = self.places.len();
-        if p >= MOST_PLACES {
+        let p = self.states.len();
+        if p >= MOST_STATES {
             return Ok(None);
         }
         let class = class.copy(alloc)?;
-        self.places.push(Place {
+        self.states.push(State {
             class,
             after: behind,
         })?;
@@ -138,7 +138,7 @@ impl Layout {
         parts: &[Node],
         behind: u64,
     ) -> Result<Option<Entry>, AllocError>
-        ensures { IfOk result (λ found. IfSome found (λ e. LaidOnto self.old.places.items self.new.places.items (Language (sequence_list parts.now)) behind e.first e.has_empty)) }
+        ensures { IfOk result (λ found. IfSome found (λ e. LaidOnto self.old.states.items self.new.states.items (Language (sequence_list parts.now)) behind e.first e.has_empty)) }
     {
         let mut entry = Entry::nothing();
         for k in 0..parts.len() {
@@ -159,7 +159,7 @@ impl Layout {
         parts: &[Node],
         behind: u64,
     ) -> Result<Option<Entry>, AllocError>
-        ensures { IfOk result (λ found. IfSome found (λ e. LaidOnto self.old.places.items self.new.places.items (Language (choice_list parts.now)) behind e.first e.has_empty)) }
+        ensures { IfOk result (λ found. IfSome found (λ e. LaidOnto self.old.states.items self.new.states.items (Language (choice_list parts.now)) behind e.first e.has_empty)) }
     {
         let mut entry = Entry {
             first: 0,
@@ -184,7 +184,7 @@ impl Layout {
         most: Option<u32>,
         behind: u64,
     ) -> Result<Option<Entry>, AllocError>
-        ensures { IfOk result (λ found. IfSome found (λ e. LaidOnto self.old.places.items self.new.places.items (RepeatsWithin (Language (tree_of body.now)) least most) behind e.first e.has_empty)) }
+        ensures { IfOk result (λ found. IfSome found (λ e. LaidOnto self.old.states.items self.new.states.items (RepeatsWithin (Language (tree_of body.now)) least most) behind e.first e.has_empty)) }
     {
         let Some(further) = self.further(alloc, body, least, most, behind)? else {
             return Ok(None);
@@ -211,7 +211,7 @@ impl Layout {
         behind: u64,
     ) -> Result<Option<Entry>, AllocError>
         ensures enough { IfOk result (λ found. IfSome found (λ _. IfSome most (λ most. least ≤ most))) }
-        ensures laid { IfOk result (λ found. IfSome found (λ e. LaidOnto self.old.places.items self.new.places.items (RepeatsWithin (Language (tree_of body.now)) 0 (left_of least most)) behind e.first e.has_empty)) }
+        ensures laid { IfOk result (λ found. IfSome found (λ e. LaidOnto self.old.states.items self.new.states.items (RepeatsWithin (Language (tree_of body.now)) 0 (left_of least most)) behind e.first e.has_empty)) }
     {
         match most {
             Some(most) => {
@@ -232,7 +232,7 @@ impl Layout {
         most: u32,
         behind: u64,
     ) -> Result<Option<Entry>, AllocError>
-        ensures { IfOk result (λ found. IfSome found (λ e. LaidOnto self.old.places.items self.new.places.items (RepeatsWithin (Language (tree_of body.now)) 0 (Some most)) behind e.first e.has_empty)) }
+        ensures { IfOk result (λ found. IfSome found (λ e. LaidOnto self.old.states.items self.new.states.items (RepeatsWithin (Language (tree_of body.now)) 0 (Some most)) behind e.first e.has_empty)) }
     {
         let mut entry = Entry::nothing();
         for turn in 0..most {
@@ -249,16 +249,16 @@ impl Layout {
         Ok(Some(entry))
     }
 
-    // Any number of times. The first places are those of a trial; the second time they wait after the part too.
+    // Any number of times. The first states are those of a trial; the second time they wait after the part too.
     #[cycle(layout)]
     fn any(&mut self, alloc: Global, body: &Node, behind: u64) -> Result<Option<Entry>, AllocError>
-        ensures { IfOk result (λ found. IfSome found (λ e. LaidOnto self.old.places.items self.new.places.items (RepeatsWithin (Language (tree_of body.now)) 0 None) behind e.first e.has_empty)) }
+        ensures { IfOk result (λ found. IfSome found (λ e. LaidOnto self.old.states.items self.new.states.items (RepeatsWithin (Language (tree_of body.now)) 0 None) behind e.first e.has_empty)) }
     {
-        let count = self.places.len();
+        let count = self.states.len();
         let Some(trial) = self.part(alloc, body, behind)? else {
             return Ok(None);
         };
-        self.places.truncate(count);
+        self.states.truncate(count);
         let Some(again) = self.part(alloc, body, behind | trial.first)? else {
             return Ok(None);
         };
@@ -274,19 +274,19 @@ impl Layout {
 
 /// The automaton of a pattern, or none where it is too large.
 pub(crate) fn automaton_of(alloc: Global, root: &Node) -> Result<Option<Automaton>, AllocError>
-    ensures { IfOk result (λ found. IfSome found (λ a. Accepts (map place_of a.places.items) a.starts (tree_of root.now))) }
+    ensures { IfOk result (λ found. IfSome found (λ a. Accepts (map state_of a.states.items) a.starts (tree_of root.now))) }
 {
     let mut layout = Layout {
-        places: Vec::new(alloc),
+        states: Vec::new(alloc),
         fuel: 1000,
     };
     let Some(entry) = layout.part(alloc, root, END)? else {
         return Ok(None);
     };
-    if layout.places.len() > MOST_PLACES {
+    if layout.states.len() > MOST_STATES {
         return Ok(None);
     }
     let starts = entry.before(END);
-    let automaton = Automaton::new(alloc, layout.places, starts)?;
+    let automaton = Automaton::new(alloc, layout.states, starts)?;
     Ok(Some(automaton))
 }

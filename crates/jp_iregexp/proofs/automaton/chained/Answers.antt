@@ -1,5 +1,5 @@
 use Rattle.std.proofs.Common.{◌<◌, ◌≤◌, ◌+◌, inl, inr, length, rules, arith, sym, ◌∙◌, subst, w64}
-use Rattle.jp_iregexp.specs.Places.{is_chained}
+use Rattle.jp_iregexp.specs.States.{is_chained}
 use Rattle.jp_iregexp.proofs.Chains.{past_chained}
 use Rattle.jp_iregexp.proofs.Masks.{IsMaskBelow, no_mask, take_mask, skip_mask, below_or_past}
 use Rattle.jp_iregexp.proofs.automaton.chained.Goals as goal

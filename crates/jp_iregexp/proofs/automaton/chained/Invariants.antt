@@ -1,4 +1,4 @@
-use Rattle.jp_iregexp.specs.Places.{is_chained}
+use Rattle.jp_iregexp.specs.States.{is_chained}
 use Rattle.jp_iregexp.proofs.Masks.{IsMaskBelow}
 use Rattle.jp_iregexp.proofs.automaton.chained.Given as goal
 

@@ -4,7 +4,7 @@ use Rattle.std.specs.List.{list_any}
 use Rattle.jp_model.specs.Pattern.Classes.{in_class, in_item}
 use Rattle.jp_iregexp.specs.declared.class.Item.{Item}
 use Rattle.jp_iregexp.specs.Nodes.{class_of, item_of}
-use Rattle.jp_iregexp.specs.Places.{AreCodes}
+use Rattle.jp_iregexp.specs.States.{AreCodes}
 use Rattle.jp_iregexp.proofs.AsciiSets.{dot_codes, negated_codes, plain_codes}
 use Rattle.jp_iregexp.proofs.codes.codes_of.Goals as goal
 

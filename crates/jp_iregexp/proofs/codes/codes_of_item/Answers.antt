@@ -2,7 +2,7 @@ use Rattle.std.proofs.Common.{sym, subst}
 use Rattle.jp_model.specs.Pattern.Classes.{in_item, in_property}
 use Rattle.std.specs.Int.{bit_not, w128}
 use Rattle.jp_iregexp.specs.Nodes.{item_of, property_of}
-use Rattle.jp_iregexp.specs.Places.{AreCodes}
+use Rattle.jp_iregexp.specs.States.{AreCodes}
 use Rattle.jp_iregexp.proofs.AsciiSets.{other_codes}
 use Rattle.jp_iregexp.proofs.codes.codes_of_item.Goals as goal
 

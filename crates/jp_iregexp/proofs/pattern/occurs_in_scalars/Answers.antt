@@ -15,6 +15,6 @@ returns c =
     let ends = c.in_ok-reached.reached in
     let found : (c.has_any.result ≡ true) ↔ Occurs member text = (
       λ h. (let s = c.has_any.ensures.some h in some_sound member text starts ends s.0 c.in_ok-reached.ensures s.1),
-      λ o. (let e = some_complete member text starts ends c.in_ok-starts.ensures.each c.in_ok-reached.ensures o in c.has_any.ensures.none e.place e.has),
+      λ o. (let e = some_complete member text starts ends c.in_ok-starts.ensures.each c.in_ok-reached.ensures o in c.has_any.ensures.none e.position e.has),
     ) in
     same_test c.has_any.result (occurs_in pattern text) (Occurs member text) found (occurrence_decided pattern text)

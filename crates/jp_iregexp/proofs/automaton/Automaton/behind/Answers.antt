@@ -1,6 +1,6 @@
 use Rattle.std.proofs.Common.{rules, ◌↔◌, ℕ, List, subst, bit_and, w64}
 use Rattle.std.specs.Int.{bit_not}
-use Rattle.jp_iregexp.specs.Places.{Holds, WaitsBehind}
+use Rattle.jp_iregexp.specs.States.{Holds, WaitsBehind}
 use Rattle.jp_iregexp.proofs.Chains.{moved_on}
 use Rattle.jp_iregexp.proofs.automaton.Automaton.behind.Goals as goal
 

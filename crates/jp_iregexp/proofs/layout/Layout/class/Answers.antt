@@ -5,5 +5,5 @@ use Rattle.jp_iregexp.proofs.layout.Layout.class.Goals as goal
 
 pub returns : goal.returns
 returns c =
-    laid_one c.args.self.now.places.items c.push.new.self.items (record { class = c.in_ok-class.class; after = c.args.behind }) (class_of c.args.class.now) c.args.behind c.len-p.result
+    laid_one c.args.self.now.states.items c.push.new.self.items (record { class = c.in_ok-class.class; after = c.args.behind }) (class_of c.args.class.now) c.args.behind c.len-p.result
     c.in_ok-push.ensures.items c.in_ok-class.ensures refl (search rules) (omega arith)
