@@ -11,7 +11,7 @@ use Rattle.jp_query.specs.Reading.Scalars.{Reader, choose, after, after_blanks, 
 use Rattle.jp_query.specs.Reading.Numbers.{int_at, is_int_first}
 use Rattle.jp_query.specs.Reading.Strings.{string_at}
 use Rattle.jp_query.specs.Reading.Literals.{literal_at, operator_at, origin_at, begins_without_literal}
-use Rattle.jp_query.specs.Reading.Queries.{bound_at, step_at, slice_behind, index_or_slice, child_of_one, singular_behind, singular_segment, next_singular, singular_at, dotted, Expression, argument_of, selector_at, next_selector, brackets_at, descendant_at, next_segment, segments_at, closed_at, condition_at, argument_at, next_argument, arguments_at, call_behind, comparable_at, comparison_behind, query_behind, call_or_comparison, literal_comparison, test_at, negated_at, plain_at, basic_at, next_basic, and_at, next_and, or_at, logical_at, whole, query_at}
+use Rattle.jp_query.specs.Reading.Queries.{bound_at, step_at, slice_behind, index_or_slice, child_of_one, singular_behind, singular_segment, next_singular, singular_at, dotted, Expression, argument_of, selector_at, next_selector, brackets_at, descendant_at, next_segment, segments_at, closed_at, condition_at, argument_at, next_argument, arguments_at, call_behind, comparable_at, comparison_behind, query_behind, call_or_comparison, literal_comparison, test_at, negated_at, plain_at, behind_marks, joined_at, basic_at, next_basic, and_at, next_and, or_at, logical_at, whole, query_at}
 use Rattle.jp_query.proofs.LawTools.{bind_some, chosen, decided, some_same, as_read, after_is, skipped, blank_then, no_blanks, many_sound, is_item_some}
 use Rattle.jp_query.proofs.SoundLeaves.{shorthand_sound, start_sound, int_sound, string_sound, origin_sound, operator_sound}
 use Rattle.jp_query.proofs.SoundLiterals.{literal_sound}
@@ -229,6 +229,38 @@ argument_from of_int x y true m r = ⊎_elim
 -- a segment of some selectors
 found_as : (of_int : ℤ → ℤ) (x y z : List ℕ) (a a' : Segment) → ◌≡◌ {A = Option (Option (Segment × List ℕ))} (Some (Some (a', z))) (Some (Some (a, y))) → Spelt (IsSegment x z) (segment_ints of_int) a' → Spelt (IsSegment x y) (segment_ints of_int) a
 found_as of_int x y z a a' e h = as_read {A = Segment} (λ w b. Spelt (IsSegment x w) (segment_ints of_int) b) (a', z) (a, y) (some_same _ _ e) h
+
+-- ---- expressions behind a mark that is written twice, and all of them joined
+
+module _ (of_int : ℤ → ℤ) (mark : ℕ) (one_at : Reader Expression) (IsOne : List ℕ → List ℕ → Bool → Logical → Type 0) (IsMore : List ℕ → List ℕ → Logicals → Type 0)
+    (one_sound : (x : List ℕ) (r : Expression × List ℕ) → one_at x ≡ Some r → Spelt (IsOne x r.1 r.0.0) (logical_ints of_int) r.0.1)
+    (join : Logical → Logicals → Logical) (IsJoined : List ℕ → List ℕ → Bool → Logical → Type 0) (ends : (x : List ℕ) → IsMore x x syntax.no_logicals)
+    (goes_on : (x y z w v : List ℕ) (bare : Bool) (l : Logical) (ls : Logicals) → Blanks x (mark ∷ mark ∷ y) → Blanks y z → IsOne z w bare l → IsMore w v ls → IsMore x v (syntax.logical l ls))
+    (joined : (x y z : List ℕ) (bare : Bool) (l : Logical) (ls : Logicals) → IsOne x y bare l → IsMore y z ls → IsJoined x z (bare && is_alone ls) (join l ls))
+    (join_ints : (l : Logical) (ls : Logicals) → logical_ints of_int (join l ls) ≡ join (logical_ints of_int l) (logicals_ints of_int ls)) where
+  abbrev MoreRead : List ℕ → List ℕ → List Logical → Type 0
+  MoreRead x y q = Spelt (IsMore x y) (logicals_ints of_int) (logicals_of q)
+
+  next_sound : (x y z : List ℕ) (a : Logical) (others : List Logical) → behind_marks mark one_at x ≡ Some (Some (a, y)) → MoreRead y z others → MoreRead x z (a ∷ others)
+  next_sound x y z a others h more = ⊎_elim
+      (λ b.
+      let c = bind_some (after mark b.0) _ (Some (a, y)) b.2 in
+      let d = bind_some (one_at (skip_blanks c.0)) _ (Some (a, y)) c.2 in
+      let one = one_sound (skip_blanks c.0) d.0 d.1 in
+      as_read {A = Logical} (λ w m. MoreRead w z others → MoreRead x z (m ∷ others)) _ (a, y) (some_same _ _ d.2)
+      (λ more. (syntax.logical one.0 more.0, goes_on x c.0 (skip_blanks c.0) d.0.1 z d.0.0.0 one.0 more.0 (subst (λ w. Blanks x (mark ∷ w)) (after_is mark b.0 c.0 c.1) (blank_then mark x b.0 b.1)) (skipped c.0) one.1 more.1, ap₂ syntax.logical one.2 more.2)) more)
+      (λ b. absurd (cc))
+      (chosen (after_blanks mark x) _ _ (Some (Some (a, y))) h)
+
+  joined_sound : (x : List ℕ) (r : Expression × List ℕ) → joined_at join one_at (behind_marks mark one_at) x ≡ Some r → Spelt (IsJoined x r.1 r.0.0) (logical_ints of_int) r.0.1
+  joined_sound x r h =
+      let a = bind_some (one_at x) _ r h in
+      let b = bind_some (many (behind_marks mark one_at) (length a.0.1) a.0.1) _ r a.2 in
+      let one = one_sound x a.0 a.1 in
+      let more = many_sound (behind_marks mark one_at) MoreRead (λ y. (syntax.no_logicals, ends y, refl)) next_sound (length a.0.1) a.0.1 b.0 b.1 in
+      let flag : is_alone more.0 ≡ is_alone (logicals_of b.0.0) = sym (alone_ints of_int more.0) ∙ ap is_alone more.2 in
+      as_read (λ y (e : Expression). Spelt (IsJoined x y e.0) (logical_ints of_int) e.1) _ r b.2
+      (join one.0 more.0, subst (λ t. IsJoined x b.0.1 (a.0.0.0 && t) (join one.0 more.0)) flag (joined x a.0.1 b.0.1 a.0.0.0 one.0 more.0 one.1 more.1), join_ints one.0 more.0 ∙ ap₂ join one.2 more.2)
 
 module _ (of_int : ℤ → ℤ) (nested : Reader Expression) (sound : (x : List ℕ) (r : Expression × List ℕ) → nested x ≡ Some r → LogicalRead of_int x r.1 r.0) where
   selector_sound : (x : List ℕ) (r : Selector × List ℕ) → selector_at of_int nested x ≡ Some r → SelectorRead of_int x r.1 r.0
@@ -492,57 +524,15 @@ module _ (of_int : ℤ → ℤ) (nested : Reader Expression) (sound : (x : List 
       (λ a. plain_sound x r a.1)
       (chosen (after 33 x) _ _ (Some r) h)
 
-  abbrev MoreAndRead : List ℕ → List ℕ → List Logical → Type 0
-  MoreAndRead x y q = Spelt (IsMoreAnd x y) (logicals_ints of_int) (logicals_of q)
-
-  next_basic_sound : (x y z : List ℕ) (a : Logical) (others : List Logical) → next_basic of_int nested x ≡ Some (Some (a, y)) → MoreAndRead y z others → MoreAndRead x z (a ∷ others)
-  unfolding next_basic
-  next_basic_sound x y z a others h more = ⊎_elim
-      (λ b.
-      let c = bind_some (after 38 b.0) _ (Some (a, y)) b.2 in
-      let d = bind_some (basic_at of_int nested (skip_blanks c.0)) _ (Some (a, y)) c.2 in
-      let one = basic_sound (skip_blanks c.0) d.0 d.1 in
-      as_read {A = Logical} (λ w m. MoreAndRead w z others → MoreAndRead x z (m ∷ others)) _ (a, y) (some_same _ _ d.2)
-      (λ more. (syntax.logical one.0 more.0, s.and_goes_on (subst (λ w. Blanks x (38 ∷ w)) (after_is 38 b.0 c.0 c.1) (blank_then 38 x b.0 b.1)) (skipped c.0) one.1 more.1, ap₂ syntax.logical one.2 more.2)) more)
-      (λ b. absurd (cc))
-      (chosen (after_blanks 38 x) _ _ (Some (Some (a, y))) h)
-
   and_sound : (x : List ℕ) (r : Expression × List ℕ) → and_at of_int nested x ≡ Some r → AndRead of_int x r.1 r.0
-  unfolding and_at
-  and_sound x r h =
-      let a = bind_some (basic_at of_int nested x) _ r h in
-      let b = bind_some (many (next_basic of_int nested) (length a.0.1) a.0.1) _ r a.2 in
-      let one = basic_sound x a.0 a.1 in
-      let more = many_sound (next_basic of_int nested) MoreAndRead (λ y. (syntax.no_logicals, s.and_ends, refl)) next_basic_sound (length a.0.1) a.0.1 b.0 b.1 in
-      let flag : is_alone more.0 ≡ is_alone (logicals_of b.0.0) = sym (alone_ints of_int more.0) ∙ ap is_alone more.2 in
-      as_read (AndRead of_int x) _ r b.2
-      (and_of one.0 more.0, subst (λ t. IsAnd x b.0.1 (a.0.0.0 && t) (and_of one.0 more.0)) flag (s.some_basic one.1 more.1), and_of_ints of_int one.0 more.0 ∙ ap₂ and_of one.2 more.2)
-
-  abbrev MoreOrRead : List ℕ → List ℕ → List Logical → Type 0
-  MoreOrRead x y q = Spelt (IsMoreOr x y) (logicals_ints of_int) (logicals_of q)
-
-  next_and_sound : (x y z : List ℕ) (a : Logical) (others : List Logical) → next_and of_int nested x ≡ Some (Some (a, y)) → MoreOrRead y z others → MoreOrRead x z (a ∷ others)
-  unfolding next_and
-  next_and_sound x y z a others h more = ⊎_elim
-      (λ b.
-      let c = bind_some (after 124 b.0) _ (Some (a, y)) b.2 in
-      let d = bind_some (and_at of_int nested (skip_blanks c.0)) _ (Some (a, y)) c.2 in
-      let one = and_sound (skip_blanks c.0) d.0 d.1 in
-      as_read {A = Logical} (λ w m. MoreOrRead w z others → MoreOrRead x z (m ∷ others)) _ (a, y) (some_same _ _ d.2)
-      (λ more. (syntax.logical one.0 more.0, s.or_goes_on (subst (λ w. Blanks x (124 ∷ w)) (after_is 124 b.0 c.0 c.1) (blank_then 124 x b.0 b.1)) (skipped c.0) one.1 more.1, ap₂ syntax.logical one.2 more.2)) more)
-      (λ b. absurd (cc))
-      (chosen (after_blanks 124 x) _ _ (Some (Some (a, y))) h)
+  unfolding and_at next_basic
+  and_sound = joined_sound of_int 38 (basic_at of_int nested) IsBasic IsMoreAnd basic_sound and_of IsAnd
+      (λ x. and_ends) (λ x y z w v bare l ls b c one more. and_goes_on b c one more) (λ x y z bare l ls one more. some_basic one more) (and_of_ints of_int)
 
   or_sound : (x : List ℕ) (r : Expression × List ℕ) → or_at of_int nested x ≡ Some r → LogicalRead of_int x r.1 r.0
-  unfolding or_at
-  or_sound x r h =
-      let a = bind_some (and_at of_int nested x) _ r h in
-      let b = bind_some (many (next_and of_int nested) (length a.0.1) a.0.1) _ r a.2 in
-      let one = and_sound x a.0 a.1 in
-      let more = many_sound (next_and of_int nested) MoreOrRead (λ y. (syntax.no_logicals, s.or_ends, refl)) next_and_sound (length a.0.1) a.0.1 b.0 b.1 in
-      let flag : is_alone more.0 ≡ is_alone (logicals_of b.0.0) = sym (alone_ints of_int more.0) ∙ ap is_alone more.2 in
-      as_read (LogicalRead of_int x) _ r b.2
-      (or_of one.0 more.0, subst (λ t. IsLogical x b.0.1 (a.0.0.0 && t) (or_of one.0 more.0)) flag (s.some_and one.1 more.1), or_of_ints of_int one.0 more.0 ∙ ap₂ or_of one.2 more.2)
+  unfolding or_at next_and
+  or_sound = joined_sound of_int 124 (and_at of_int nested) IsAnd IsMoreOr and_sound or_of IsLogical
+      (λ x. or_ends) (λ x y z w v bare l ls b c one more. or_goes_on b c one more) (λ x y z bare l ls one more. some_and one more) (or_of_ints of_int)
 
 pub logical_sound : (of_int : ℤ → ℤ) (depth : ℕ) (x : List ℕ) (r : Expression × List ℕ) → logical_at of_int depth x ≡ Some r → LogicalRead of_int x r.1 r.0
 unfolding logical_at

@@ -2,7 +2,7 @@
 -- of a selector is put into the tree as `of_int` has it.
 use Rattle.std.specs.Prelude.{ℕ, zero, suc, ℤ, List, [], ◌∷◌, Bool, true, false, ◌&&◌, Option, Some, None, cond}
 use Rattle.jp_model.specs.Query.Spelling.{or_of, and_of, is_alone}
-use Rattle.jp_model.specs.Query.Syntax.{CompareOp, Origin, Segment, child_segment, descendant_segment, Segments, Selector, name_selector, wildcard_selector, index_selector, slice_selector, filter_selector, no_selectors, selector, Logical, negated, compare, exists, test, Comparable, constant, single, result, Argument, constant_argument, nodes_argument, condition, result_argument, no_arguments, path, Call, call}
+use Rattle.jp_model.specs.Query.Syntax.{CompareOp, Origin, Segment, child_segment, descendant_segment, Segments, Selector, name_selector, wildcard_selector, index_selector, slice_selector, filter_selector, no_selectors, selector, Logical, negated, compare, exists, test, Logicals, Comparable, constant, single, result, Argument, constant_argument, nodes_argument, condition, result_argument, no_arguments, path, Call, call}
 use Rattle.jp_query.specs.View.{segments_of, selectors_of, logicals_of, arguments_of}
 use Rattle.jp_query.specs.Reading.Scalars.{Reader, Item, is_item, ◌>>=◌, choose, after, after_blanks, skip_blanks, begins, all_of, shorthand, call_start}
 use Rattle.jp_query.specs.Reading.Numbers.{is_int_first, int_at}
@@ -85,6 +85,22 @@ abbrev pub argument_of : Expression → Argument
 argument_of (true, exists p) = nodes_argument p
 argument_of (true, test c) = result_argument c
 argument_of (bare, l) = condition l
+
+-- S, a mark twice, S and an expression, if the mark stands there
+abbrev pub behind_marks : ℕ → Reader Expression → Item Logical
+behind_marks mark one x = choose (after_blanks mark x)
+    (λ y. do
+      z ← after mark y
+      r ← one (skip_blanks z)
+      Some (Some (r.0.1, r.1)))
+    (Some None)
+
+-- an expression and those behind it, joined
+abbrev pub joined_at : (Logical → Logicals → Logical) → Reader Expression → Item Logical → Reader Expression
+joined_at join one next x = do
+  l ← one x
+  ls ← all_of next l.1
+  Some ((l.0.0 && is_alone (logicals_of ls.0), join l.0.1 (logicals_of ls.0)), ls.1)
 
 -- Below, nested reads a logical-expr behind one more bracket or parenthesis.
 module _ (of_int : ℤ → ℤ) (nested : Reader Expression) where
@@ -266,35 +282,19 @@ module _ (of_int : ℤ → ℤ) (nested : Reader Expression) where
 
   -- S "&&" S basic-expr, if a `&` stands there
   unfoldable pub next_basic : Item Logical
-  next_basic x = choose (after_blanks 38 x)
-      (λ y. do
-        z ← after 38 y
-        r ← basic_at (skip_blanks z)
-        Some (Some (r.0.1, r.1)))
-      (Some None)
+  next_basic x = behind_marks 38 basic_at x
 
   -- logical-and-expr
   unfoldable pub and_at : Reader Expression
-  and_at x = do
-    l ← basic_at x
-    ls ← all_of next_basic l.1
-    Some ((l.0.0 && is_alone (logicals_of ls.0), and_of l.0.1 (logicals_of ls.0)), ls.1)
+  and_at x = joined_at and_of basic_at next_basic x
 
   -- S "||" S logical-and-expr, if a `|` stands there
   unfoldable pub next_and : Item Logical
-  next_and x = choose (after_blanks 124 x)
-      (λ y. do
-        z ← after 124 y
-        r ← and_at (skip_blanks z)
-        Some (Some (r.0.1, r.1)))
-      (Some None)
+  next_and x = behind_marks 124 and_at x
 
   -- logical-expr
   unfoldable pub or_at : Reader Expression
-  or_at x = do
-    l ← and_at x
-    ls ← all_of next_and l.1
-    Some ((l.0.0 && is_alone (logicals_of ls.0), or_of l.0.1 (logicals_of ls.0)), ls.1)
+  or_at x = joined_at or_of and_at next_and x
 
 -- a logical-expr in which brackets and parentheses nest at most so deep
 unfoldable pub logical_at : (ℤ → ℤ) → ℕ → Reader Expression
