@@ -166,7 +166,7 @@ skip_shorter x = blanks_shrink length longer (skipped x)
 abbrev AreRead : {A B : Type 0} → Option (List A × List ℕ) → List ℕ → (List A → B) → B → Type 0
 AreRead {A} read y of b = (rs : List A) × (read ≡ Some (rs, y)) × (of rs ≡ b)
 
--- the same up to a place, or up to blanks in front of it
+-- the same up to a position, or up to blanks in front of it
 abbrev AreReadTo : {A B : Type 0} → Option (List A × List ℕ) → List ℕ → (List A → B) → B → Type 0
 AreReadTo {A} read y of b = (rs : List A) × (z : List ℕ) × (read ≡ Some (rs, z)) × (of rs ≡ b) × (skip_blanks z ≡ skip_blanks y)
 

@@ -4,7 +4,7 @@ use Rattle.std.proofs.lemmas.List.{drop_more}
 use Rattle.std.proofs.Math.Seq.{take-suc, take-append_seam, drop-append_seam}
 use Rattle.jp_query.specs.Reading.Scalars.{run, begins, first_and_run}
 
--- the run from a place on, behind what stands in front of it
+-- the run from a position on, behind what stands in front of it
 abbrev pub run_from : (ℕ → Bool) → List ℕ → ℕ → List ℕ × List ℕ
 run_from m x i = (take i x ++ (run m (drop i x)).0, (run m (drop i x)).1)
 

@@ -15,7 +15,7 @@ use Rattle.jp_query.proofs.Shrinks.{blanks_shrink, string_shrinks, shorthand_shr
 use Rattle.jp_query.proofs.Follows.{head, next, closes, ends_logical, ends_path, ends_segment, logical_class, white_class, not_white, in_front, blanks_skip, skip_stays, next_is, after_none, not_there, stops, stops_at, begins_with}
 use Rattle.jp_query.proofs.LeafReads.{longer, many_stops, many_goes_on, name_stops, shorthand_reads, shorthand_first, int_reads, int_first, string_reads, string_first}
 
--- read up to a place, or up to blanks in front of it
+-- read up to a position, or up to blanks in front of it
 abbrev pub Ends : {A : Type 0} → Read A → A → List ℕ → Type 0
 Ends {A} read a y = (z : List ℕ) × (read ≡ Some (a, z)) × (skip_blanks z ≡ skip_blanks y)
 

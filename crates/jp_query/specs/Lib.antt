@@ -3,6 +3,7 @@ pub mod Answers
 pub mod Integers
 pub mod Limits
 pub mod Outcome
+pub mod Connectives
 pub mod Parsing
 pub mod Queries
 pub mod Reading

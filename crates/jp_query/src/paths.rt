@@ -19,7 +19,7 @@ use std::alloc::{AllocError, Global};
 pub enum Step {
     /// To the member of this name.
     Name(String),
-    /// To the element at this place, from 0, or, below 0, counted from the end.
+    /// To the element at this index, from 0, or, below 0, counted from the end.
     Index(i64),
 }
 
@@ -38,7 +38,7 @@ impl PartialEq for Step {
     }
 }
 
-// A step that fills a place of a path where none has been put.
+// What stands in a path where no step has been put.
 impl Default for Step {
     ghost use Rattle.jp_query.specs.declared.paths.Step.TheVariants.{Index};
 

@@ -18,9 +18,9 @@ pub enum Selector {
     Name(String),
     /// Every child.
     Wildcard,
-    /// The element at this place, from 0, or, below 0, counted from the end.
+    /// The element at this index, from 0, or, below 0, counted from the end.
     Index(i64),
-    /// The elements from a place on, up to another, at a stride.
+    /// The elements from an index on, up to another, at a stride.
     Slice {
         first: Option<i64>,
         last: Option<i64>,

@@ -67,7 +67,7 @@ many_after (Some (Some r)) others x = do
   rs ← others r.1
   Some (r.0 ∷ rs.0, rs.1)
 
--- at most n items, up to the place where none stands
+-- at most n items, up to the position where none stands
 unfoldable pub many : {A : Type 0} → Item A → ℕ → Reader (List A)
 many item zero x = Some ([], x)
 many item (suc n) x = many_after (item x) (many item n) x

@@ -1,8 +1,9 @@
 //! Expressions, and what they are put together from.
 
 ghost use Rattle.std.specs.Prelude.{◌≡◌, ◌&&◌, IfOk, chars, string_bytes};
-ghost use Rattle.jp_model.specs.Query.Spelling.{or_of, and_of, is_alone};
+ghost use Rattle.jp_model.specs.Query.Spelling.{is_alone};
 ghost use Rattle.jp_model.specs.Query.Syntax.{exists, path, single, test, result as result_side, call, negated};
+ghost use Rattle.jp_query.specs.Connectives.{joined_by};
 ghost use Rattle.jp_query.specs.Parsing.{parsed_view};
 ghost use Rattle.jp_query.specs.Reading.Queries.{argument_of};
 ghost use Rattle.jp_query.specs.View.{origin_view, segments_view, logicals_view, arguments_view, logical_view, comparable_view, argument_view, call_view};
@@ -67,32 +68,32 @@ pub(crate) fn argument_of(expression: Parsed) -> Argument
     }
 }
 
-/// One part stands for itself, and all of several are to be true.
-pub(crate) fn all_true(first: Parsed, others: Vec<Logical>) -> Result<Parsed, AllocError>
-    ensures { IfOk result (λ e. parsed_view e ≡ (first.is_bare && is_alone (logicals_view others.items), and_of (logical_view first.logical) (logicals_view others.items))) }
-{
-    if others.is_empty() {
-        return Ok(first);
-    }
-    let mut parts = others;
-    parts.insert(0, first.logical)?;
-    Ok(Parsed {
-        is_bare: false,
-        logical: Logical::And(parts),
-    })
+/// What stands between the parts of an expression.
+#[derive(Clone, Copy)]
+pub(crate) enum Connective {
+    And,
+    Or,
 }
 
-/// One part stands for itself, and one of several is to be true.
-pub(crate) fn one_true(first: Parsed, others: Vec<Logical>) -> Result<Parsed, AllocError>
-    ensures { IfOk result (λ e. parsed_view e ≡ (first.is_bare && is_alone (logicals_view others.items), or_of (logical_view first.logical) (logicals_view others.items))) }
+/// One part stands for itself, and several are put together.
+pub(crate) fn joined(
+    connective: Connective,
+    first: Parsed,
+    others: Vec<Logical>,
+) -> Result<Parsed, AllocError>
+    ensures { IfOk result (λ e. parsed_view e ≡ (first.is_bare && is_alone (logicals_view others.items), joined_by connective (logical_view first.logical) (logicals_view others.items))) }
 {
     if others.is_empty() {
         return Ok(first);
     }
     let mut parts = others;
     parts.insert(0, first.logical)?;
+    let logical = match connective {
+        Connective::And => Logical::And(parts),
+        Connective::Or => Logical::Or(parts),
+    };
     Ok(Parsed {
         is_bare: false,
-        logical: Logical::Or(parts),
+        logical,
     })
 }

@@ -11,7 +11,7 @@ ghost use Rattle.jp_query.specs.Reading.Scalars.{all_of, with_front};
 ghost use Rattle.jp_query.specs.View.{selector_view, segment_view, logical_view, comparable_view, argument_view, call_view, op_view, origin_view, segments_view};
 
 use super::expression::{
-    all_true, argument_of, call_of, exists_of, not_of, one_true, side_of, single_of, test_of,
+    Connective, argument_of, call_of, exists_of, joined, not_of, side_of, single_of, test_of,
 };
 use super::failure::Failure;
 use super::literals::{begins_without_literal, literal, operator, origin};
@@ -493,7 +493,7 @@ fn conjunction(alloc: Global, text: &[char], depth: u32) -> Result<(Parsed, &[ch
 {
     let (first, rest) = basic(alloc, text, depth)?;
     let (others, rest) = more_basics(alloc, rest, depth)?;
-    Ok((all_true(first, others)?, rest))
+    Ok((joined(Connective::And, first, others)?, rest))
 }
 
 /// Blanks, `||`, blanks and parts between `&&`, if there is a `|`.
@@ -548,5 +548,5 @@ fn logical(alloc: Global, text: &[char], depth: u32) -> Result<(Parsed, &[char])
     }
     let (first, rest) = conjunction(alloc, text, depth - 1)?;
     let (others, rest) = more_conjunctions(alloc, rest, depth - 1)?;
-    Ok((one_true(first, others)?, rest))
+    Ok((joined(Connective::Or, first, others)?, rest))
 }

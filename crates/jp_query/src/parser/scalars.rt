@@ -43,9 +43,9 @@ pub(crate) fn begins_with(text: &[char], class: Class) -> bool
 pub(crate) fn run(text: &[char], class: Class) -> (&[char], &[char])
     ensures { (result.0.now, result.1.now) ≡ run (is_member class) text.now }
 {
-    for (place, c) in text.iter().enumerate() {
+    for (position, c) in text.iter().enumerate() {
         if !class.has(*c) {
-            return text.split_at(place);
+            return text.split_at(position);
         }
     }
     text.split_at(text.len())

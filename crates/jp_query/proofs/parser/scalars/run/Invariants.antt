@@ -4,5 +4,5 @@ use Rattle.jp_query.specs.Parsing.{is_member}
 use Rattle.jp_query.proofs.Runs.{run_from}
 use Rattle.jp_query.proofs.parser.scalars.run.Given as goal
 
-abbrev pub invariant-loop-place : goal.invariant-loop-place
-invariant-loop-place l = run_from (is_member l.class) l.text l.place ≡ run (is_member l.class) l.text
+abbrev pub invariant-loop-position : goal.invariant-loop-position
+invariant-loop-position l = run_from (is_member l.class) l.text l.position ≡ run (is_member l.class) l.text
