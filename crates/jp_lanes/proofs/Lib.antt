@@ -1,4 +1,5 @@
 -- Lemmas on lanes and on the bits of words.
+pub mod Cases
 pub mod LaneClasses
 pub mod SearchLanes
 pub mod Words

@@ -6,20 +6,14 @@ use Rattle.std.proofs.lemmas.Bool.{eqb-true, eq-eqb}
 use Rattle.std.proofs.lemmas.Simd.{zip2_splat, zip2_of_maps, map-map, mask_l-mod, length-zip2, tops_compared}
 use Rattle.std.proofs.lemmas.List.{length-map, take-append-drop, take-take, drop-take, take_all}
 use Rattle.jp_lanes.specs.Search.{is_special}
+use Rattle.jp_lanes.proofs.Cases.{of_three}
 
 -- a lane of ones or of zeros
 abbrev pub lane : Bool → ℕ
 lane b = cond b 255 0
 
 either_lane : (a b c : Bool) → top 7 (bit_or (bit_or (lane a) (lane b)) (lane c)) ≡ (a || b || c)
-either_lane true true true = refl
-either_lane true true false = refl
-either_lane true false true = refl
-either_lane true false false = refl
-either_lane false true true = refl
-either_lane false true false = refl
-either_lane false false true = refl
-either_lane false false false = refl
+either_lane = of_three (λ a b c. top 7 (bit_or (bit_or (lane a) (lane b)) (lane c)) ≡ (a || b || c)) refl refl refl refl refl refl refl refl
 
 same_map : {A B : Type 0} (f g : A → B) (xs : List A) → ((x : A) → f x ≡ g x) → map f xs ≡ map g xs
 same_map f g [] e = refl

@@ -82,35 +82,22 @@ fn first_special_of_few(bytes: &[u8], from: usize) -> usize
     ensures stops { result < length bytes.now
         → IsTrue (is_special_byte (slice_index bytes.now result)) }
 {
-    if bytes.len() - from < EIGHTH {
-        return first_special_of_fewest(bytes, from);
+    let mut at = from;
+    if bytes.len() - at >= EIGHTH {
+        let run = plain_run::<EIGHTH>(bytes, at);
+        if run < EIGHTH {
+            return at + run;
+        }
+        at += EIGHTH;
     }
-    let run = plain_run::<EIGHTH>(bytes, from);
-    if run < EIGHTH {
-        return from + run;
+    if bytes.len() - at >= SIXTEENTH {
+        let run = plain_run::<SIXTEENTH>(bytes, at);
+        if run < SIXTEENTH {
+            return at + run;
+        }
+        at += SIXTEENTH;
     }
-    first_special_of_fewest(bytes, from + EIGHTH)
-}
-
-// The first special byte where fewer than eight are left: four at once, and then byte by byte.
-#[inline(always)]
-fn first_special_of_fewest(bytes: &[u8], from: usize) -> usize
-    requires { from ≤ length bytes.now }
-    ensures order { from ≤ result }
-    ensures within { result ≤ length bytes.now }
-    ensures plain { (k : ℕ) → from ≤ k → k < result
-        → is_special_byte (slice_index bytes.now k) ≡ false }
-    ensures stops { result < length bytes.now
-        → IsTrue (is_special_byte (slice_index bytes.now result)) }
-{
-    if bytes.len() - from < SIXTEENTH {
-        return first_special_plainly(bytes, from);
-    }
-    let run = plain_run::<SIXTEENTH>(bytes, from);
-    if run < SIXTEENTH {
-        return from + run;
-    }
-    first_special_plainly(bytes, from + SIXTEENTH)
+    first_special_plainly(bytes, at)
 }
 
 // The first special byte, byte by byte.
