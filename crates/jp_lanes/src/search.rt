@@ -1,7 +1,7 @@
 //! The first special byte of a string, and equality of bytes.
 ghost use Rattle.std.specs.Prelude.{◌≡◌, ◌↔◌, ℕ, ◌+◌, ◌<◌, ◌≤◌, IsTrue, false, map, length, slice_index};
 ghost use Rattle.std.specs.Simd.Lanes.{mask_l, chunk};
-ghost use Rattle.jp_lanes.specs.Search.{HasSpecial, is_special as is_special_byte};
+ghost use Rattle.jp_lanes.specs.Search.{HasSpecial, IsFirstSpecial, is_special as is_special_byte};
 
 use std::simd::prelude::*;
 
@@ -75,12 +75,7 @@ pub fn first_special(bytes: &[u8], from: usize) -> usize
 #[inline(never)]
 fn first_special_of_few(bytes: &[u8], from: usize) -> usize
     requires { from ≤ length bytes.now }
-    ensures order { from ≤ result }
-    ensures within { result ≤ length bytes.now }
-    ensures plain { (k : ℕ) → from ≤ k → k < result
-        → is_special_byte (slice_index bytes.now k) ≡ false }
-    ensures stops { result < length bytes.now
-        → IsTrue (is_special_byte (slice_index bytes.now result)) }
+    ensures { IsFirstSpecial bytes.now from result }
 {
     let mut at = from;
     if bytes.len() - at >= EIGHTH {
@@ -103,12 +98,7 @@ fn first_special_of_few(bytes: &[u8], from: usize) -> usize
 // The first special byte, byte by byte.
 fn first_special_plainly(bytes: &[u8], from: usize) -> usize
     requires { from ≤ length bytes.now }
-    ensures order { from ≤ result }
-    ensures within { result ≤ length bytes.now }
-    ensures plain { (k : ℕ) → from ≤ k → k < result
-        → is_special_byte (slice_index bytes.now k) ≡ false }
-    ensures stops { result < length bytes.now
-        → IsTrue (is_special_byte (slice_index bytes.now result)) }
+    ensures { IsFirstSpecial bytes.now from result }
 {
     let mut at = from;
     while at < bytes.len() && !is_special(bytes[at]) {
