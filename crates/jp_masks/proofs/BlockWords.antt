@@ -7,6 +7,7 @@ use Rattle.jp_masks.specs.Machine.{xor, opens, is_marked, before}
 use Rattle.jp_masks.specs.Runs.{parity, restarted, carried, escaped_at}
 use Rattle.jp_masks.specs.declared.block.Carry.{Carry}
 use Rattle.jp_masks.proofs.Bits.{flipped, says_and, says_not}
+use Rattle.jp_lanes.proofs.Cases.{of_three}
 use Rattle.jp_lanes.proofs.Words.{says_or}
 use Rattle.jp_model.specs.declared.Framing.{Framing}
 use Rattle.jp_masks.specs.Ends.{is_end}
@@ -19,14 +20,7 @@ xor-comm false false = refl
 
 -- the change from one sum to the next, where both have `first` added
 xor_step : (sum next first : Bool) → xor (xor sum first) (xor (xor sum next) first) ≡ next
-xor_step true true true = refl
-xor_step true true false = refl
-xor_step true false true = refl
-xor_step true false false = refl
-xor_step false true true = refl
-xor_step false true false = refl
-xor_step false false true = refl
-xor_step false false false = refl
+xor_step = of_three (λ sum next first. xor (xor sum first) (xor (xor sum next) first) ≡ next) refl refl refl refl refl refl refl refl
 
 module _ (framing : Option Framing) (bytes : List ℕ) (first : Carry) where
   abbrev byte : ℕ → ℕ

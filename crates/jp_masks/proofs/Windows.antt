@@ -3,6 +3,7 @@ use Rattle.std.proofs.Common.{◌≡◌, ℕ, zero, suc, ◌+◌, ◌-◌, ◌<�
 use Rattle.std.proofs.lemmas.Bool.{cases_lt, false≢true}
 use lib.Bits.{bit_and, bit_or, bit_xor}
 use Rattle.jp_lanes.specs.Word.{bit, Says}
+use Rattle.jp_lanes.proofs.Cases.{of_three}
 use Rattle.jp_masks.specs.Machine.{xor}
 use Rattle.jp_masks.specs.Runs.{odd_run, parity}
 use Rattle.jp_lanes.proofs.Words.{bit-or}
@@ -51,14 +52,7 @@ xor-false true = refl
 xor-false false = refl
 
 xor_shuffle : (a b c : Bool) → xor (xor a b) c ≡ xor (xor a c) b
-xor_shuffle true true true = refl
-xor_shuffle true true false = refl
-xor_shuffle true false true = refl
-xor_shuffle true false false = refl
-xor_shuffle false true true = refl
-xor_shuffle false true false = refl
-xor_shuffle false false true = refl
-xor_shuffle false false false = refl
+xor_shuffle = of_three (λ a b c. xor (xor a b) c ≡ xor (xor a c) b) refl refl refl refl refl refl refl refl
 
 -- ---- two windows, one below the other
 

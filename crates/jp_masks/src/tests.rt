@@ -6,6 +6,7 @@ ghost use Rattle.jp_masks.specs.Scanned.{AreAllOf};
 use crate::{Marks, Scanner, laws, line_marks};
 use jp_model::{Framing, Span};
 use std::alloc::{AllocError, Global};
+use std::process::Abort;
 use std::test::Fail;
 
 mod cuts;
@@ -27,37 +28,40 @@ fn scan(alloc: Global, framing: Framing, front: &[u8], back: &[u8]) -> Result<Ma
     Ok(marks)
 }
 
+/// The lines are these, each from where to where and with its marks.
+fn has_lines(rt: &impl Abort, marks: &Marks, lines: &[(u32, u32, &[u32])]) {
+    assert_eq!(rt; marks.line_count(), lines.len());
+    for (k, (start, end, positions)) in lines.iter().enumerate() {
+        let line = marks.line(k);
+        let span = Span {
+            start: *start,
+            end: *end,
+        };
+        assert_eq!(rt; line.span, span);
+        assert_eq!(rt; line.positions, *positions);
+    }
+}
+
 #[test]
 fn lines_end_at_line_feeds(rt: HostRuntime) -> Result<(), Fail> {
-    let marks = scan(
-        rt.alloc(),
-        Framing::Lines,
-        b"\"x\\\n{\"a\":",
-        b" 12}\n\n\"y",
-    )?;
-    assert_eq!(&rt; marks.line_count(), 4);
-    let line = marks.line(1);
-    assert_eq!(&rt; line.span, Span { start: 4, end: 13 });
-    assert_eq!(&rt; line.positions, [0, 1, 3, 4, 6, 8].as_slice());
-    assert_eq!(&rt; marks.line(3).span, Span { start: 15, end: 17 });
-    assert_eq!(&rt; marks.line(3).positions, [0].as_slice());
+    let front = b"\"x\\\n{\"a\":";
+    let marks = scan(rt.alloc(), Framing::Lines, front, b" 12}\n\n\"y")?;
+    let lines: [(u32, u32, &[u32]); 4] = [
+        (0, 3, &[0]),
+        (4, 13, &[0, 1, 3, 4, 6, 8]),
+        (14, 14, &[]),
+        (15, 17, &[0]),
+    ];
+    has_lines(&rt, &marks, &lines);
     laws::lines_are_those_of_the_text();
     Ok(())
 }
 
 #[test]
 fn texts_begin_at_separators(rt: HostRuntime) -> Result<(), Fail> {
-    let marks = scan(
-        rt.alloc(),
-        Framing::Sequence,
-        b"\n\x1E\"ab",
-        b"c\x1E\x1E[\n1]",
-    )?;
-    assert_eq!(&rt; marks.line_count(), 2);
-    assert_eq!(&rt; marks.line(0).span, Span { start: 2, end: 6 });
-    let line = marks.line(1);
-    assert_eq!(&rt; line.span, Span { start: 8, end: 12 });
-    assert_eq!(&rt; line.positions, [0, 2, 3].as_slice());
+    let front = b"\n\x1E\"ab";
+    let marks = scan(rt.alloc(), Framing::Sequence, front, b"c\x1E\x1E[\n1]")?;
+    has_lines(&rt, &marks, &[(2, 6, &[0]), (8, 12, &[0, 2, 3])]);
     Ok(())
 }
 
@@ -90,11 +94,7 @@ fn cleared_marks_are_used_again(rt: HostRuntime) -> Result<(), Fail> {
     let mut scanner = Scanner::new(Framing::Lines);
     scanner.feed(b"{}\n\"y\"", &mut marks)?;
     scanner.finish(&mut marks)?;
-    assert_eq!(&rt; marks.line_count(), 2);
-    assert_eq!(&rt; marks.line(0).span, Span { start: 0, end: 2 });
-    assert_eq!(&rt; marks.line(0).positions, [0, 1].as_slice());
-    assert_eq!(&rt; marks.line(1).span, Span { start: 3, end: 6 });
-    assert_eq!(&rt; marks.line(1).positions, [0, 2].as_slice());
+    has_lines(&rt, &marks, &[(0, 2, &[0, 1]), (3, 6, &[0, 2])]);
     Ok(())
 }
 

@@ -1,9 +1,9 @@
 //! Pieces that are cut anywhere give the lines and marks of each line alone.
 
-ghost use Rattle.std.specs.Prelude.{◌<◌, length};
+ghost use Rattle.std.specs.Prelude.{◌<◌, ◌^◌, length};
 
 use super::scan;
-use crate::{Marks, Scanner, line_marks};
+use crate::{LineMarks, Marks, Scanner, line_marks};
 use jp_model::{Framing, Lines, Span};
 use std::alloc::{AllocError, Global};
 use std::process::Abort;
@@ -63,6 +63,22 @@ fn backslashes_reach_over_blocks(rt: HostRuntime) -> Result<(), Fail> {
     Ok(())
 }
 
+/// A line that was found is where it should be, and has the marks that it has alone.
+fn is_as_alone(
+    rt: &impl Abort,
+    alloc: Global,
+    found: LineMarks<'_>,
+    span: Span,
+    line: &[u8],
+) -> Result<(), AllocError>
+    requires { length line.now < 2 ^ 32 }
+{
+    assert_eq!(rt; found.span, span);
+    let alone = line_marks(alloc, line)?;
+    assert_eq!(rt; found.positions, alone.as_slice());
+    Ok(())
+}
+
 /// The lines are where those of the text are, and each has the marks that it has alone.
 fn are_of_each_line(
     rt: &impl Abort,
@@ -74,13 +90,9 @@ fn are_of_each_line(
     let mut start = 0u32;
     for line in Lines::new(text) {
         assert!(rt; count < marks.line_count());
-        assert!(rt; line.len() < 1000);
-        assert!(rt; start < 1000);
+        assert!(rt; line.len() < 1000 && start < 1000);
         let end = start + line.len() as u32;
-        let found = marks.line(count);
-        assert_eq!(rt; found.span, Span { start, end });
-        let alone = line_marks(alloc, line)?;
-        assert_eq!(rt; found.positions, alone.as_slice());
+        is_as_alone(rt, alloc, marks.line(count), Span { start, end }, line)?;
         count += 1;
         start = end + 1;
     }
@@ -99,15 +111,11 @@ fn are_of_each_text(
     let mut count = 0;
     let mut start = 0u32;
     for text in sequence.split(|byte| *byte == 0x1E) {
-        assert!(rt; text.len() < 1000);
-        assert!(rt; start < 1000);
+        assert!(rt; text.len() < 1000 && start < 1000);
         let end = start + text.len() as u32;
         if start > 0 && !text.is_empty() {
             assert!(rt; count < marks.line_count());
-            let found = marks.line(count);
-            assert_eq!(rt; found.span, Span { start, end });
-            let alone = line_marks(alloc, text)?;
-            assert_eq!(rt; found.positions, alone.as_slice());
+            is_as_alone(rt, alloc, marks.line(count), Span { start, end }, text)?;
             count += 1;
         }
         start = end + 1;

@@ -26,13 +26,17 @@ loop-later_ends-init c =
       grown = grows_not m;
     }
 
+-- the next end is in the block, and leaves room for the byte behind it
+end_fits : (marks ends base later : ℕ) → 0 < later → later < 2 ^ 64 → ((i : ℕ) → i < 64 → bit (bit_or marks ends) i ≡ true → base + i + 1 < 2 ^ 32) → ((i : ℕ) → i < 64 → bit later i ≡ true → bit ends i ≡ true)
+    → base + trailing_zeros w64 later + 1 < 2 ^ 32
+end_fits marks ends base later some small fits left =
+    let within = lowest_within later some small in
+    fits (trailing_zeros w64 later) within (set_right marks ends (trailing_zeros w64 later) (left (trailing_zeros w64 later) within (lowest_set later some small)))
+
 pub overflow_add-at : goal.overflow_add-at
 overflow_add-at c =
     let l = c.loop-later_ends in
-    let some : 0 < l.later_ends = omega arith in
-    let within = lowest_within l.later_ends some l.auto.later_ends-fits.fits in
-    let end = l.invariant.ends_left (trailing_zeros w64 l.later_ends) within (lowest_set l.later_ends some l.auto.later_ends-fits.fits) in
-    let room = c.requires.fits (trailing_zeros w64 l.later_ends) within (set_right c.args.marks c.args.ends (trailing_zeros w64 l.later_ends) end) in
+    let room = end_fits c.args.marks c.args.ends c.args.base l.later_ends (omega arith) l.auto.later_ends-fits.fits c.requires.fits l.invariant.ends_left in
     record { fits = omega (arith, room) }
 
 pub add_marks-requires : goal.add_marks-requires
@@ -71,10 +75,7 @@ behind_end later below ends position i small says within set other end =
 pub overflow_add-start : goal.overflow_add-start
 overflow_add-start c =
     let l = c.loop-later_ends in
-    let some : 0 < l.later_ends = omega arith in
-    let within = lowest_within l.later_ends some l.auto.later_ends-fits.fits in
-    let end = l.invariant.ends_left (trailing_zeros w64 l.later_ends) within (lowest_set l.later_ends some l.auto.later_ends-fits.fits) in
-    let room = c.requires.fits (trailing_zeros w64 l.later_ends) within (set_right c.args.marks c.args.ends (trailing_zeros w64 l.later_ends) end) in
+    let room = end_fits c.args.marks c.args.ends c.args.base l.later_ends (omega arith) l.auto.later_ends-fits.fits c.requires.fits l.invariant.ends_left in
     record { fits = omega (arith, room) }
 
 pub loop-later_ends-preserved : goal.loop-later_ends-preserved
