@@ -3,11 +3,11 @@ use Rattle.std.proofs.Common.{◌≡◌, ◌∙◌, ℕ, ℤ, zero, suc, ◌+◌
 use Rattle.std.proofs.lemmas.Bool.{or_left, or_right, eqb-true}
 use Rattle.jp_model.specs.Characters.{is_lower}
 use Rattle.jp_model.specs.Query.Limits.{is_opener}
-use Rattle.jp_model.specs.Query.Spelling.{no_bound, bound, double_quoted, single_quoted, IsOrigin, at_mark, dollar_mark, Negation, no_negation, negation, FunctionName, IsSegments, segments_end, segments_go_on, IsSegment, child_brackets, child_wildcard, child_name, descendant_brackets, descendant_wildcard, descendant_name, IsBrackets, brackets, IsMoreSelectors, selectors_end, selectors_go_on, IsSelector, quoted_name, wildcard_mark, index_int, slice_parts, filter_mark, IsLogical, some_and, IsMoreOr, or_ends, or_goes_on, IsAnd, some_basic, IsMoreAnd, and_ends, and_goes_on, IsBasic, parens, comparison, query_test, call_test, IsQuery, filter_query, IsComparable, literal_side, singular_side, call_side, IsCall, call_without, call_with, IsMoreArguments, arguments_end, arguments_go_on, IsArgument, literal_argument, query_argument, call_argument, logical_argument, SpellsQuery, query, or_of, and_of, is_alone}
+use Rattle.jp_model.specs.Query.Spelling.{Blanks, no_bound, bound, double_quoted, single_quoted, IsOrigin, at_mark, dollar_mark, Negation, no_negation, negation, FunctionName, IsSegments, segments_end, segments_go_on, IsSegment, child_brackets, child_wildcard, child_name, descendant_brackets, descendant_wildcard, descendant_name, IsBrackets, brackets, IsMoreSelectors, selectors_end, selectors_go_on, IsSelector, quoted_name, wildcard_mark, index_int, slice_parts, filter_mark, IsLogical, some_and, IsMoreOr, or_ends, or_goes_on, IsAnd, some_basic, IsMoreAnd, and_ends, and_goes_on, IsBasic, parens, comparison, query_test, call_test, IsQuery, filter_query, IsComparable, literal_side, singular_side, call_side, IsCall, call_without, call_with, IsMoreArguments, arguments_end, arguments_go_on, IsArgument, literal_argument, query_argument, call_argument, logical_argument, SpellsQuery, query, or_of, and_of, is_alone}
 use Rattle.jp_model.specs.Query.Syntax.{CompareOp, Origin, Segment, child_segment, descendant_segment, Segments, segment, Selector, Selectors, selector, Logical, negated, exists, test, Logicals, no_logicals, logical, Comparable, Argument, Arguments, argument, Path, path, Call, call}
 use Rattle.jp_query.specs.View.{segments_of, selectors_of, logicals_of, arguments_of}
 use Rattle.jp_query.specs.Integers.{map_ints, segment_ints, selectors_ints, selector_ints, logical_ints, logicals_ints, comparable_ints, path_ints, call_ints, arguments_ints, argument_ints}
-use Rattle.jp_query.specs.Reading.Scalars.{many, skip_blanks, call_start, after}
+use Rattle.jp_query.specs.Reading.Scalars.{Item, many, skip_blanks, call_start, after}
 use Rattle.jp_query.specs.Reading.Literals.{operator_at, origin_at, begins_without_literal}
 use Rattle.jp_query.specs.Reading.Queries.{Expression, selector_at, next_selector, brackets_at, next_segment, segments_at, argument_at, next_argument, call_behind, comparable_at, comparison_behind, basic_at, next_basic, and_at, next_and, or_at, logical_at, query_at}
 use Rattle.jp_query.proofs.LawTools.{skipped}
@@ -195,6 +195,18 @@ module _ (of_int : ℤ → ℤ) where
   abbrev CallRead : ℕ → List ℕ → List ℕ → Call → Type 0
   CallRead d x y c = (f z : List ℕ) × (call_start x ≡ Some (f, z)) × (call_behind of_int (logical_at of_int d) f z ≡ Some (call_ints of_int c, y))
 
+  -- one more part behind a mark that is written twice, by what is known of it and of those behind it
+  part_found : {x y z : List ℕ} (w v : List ℕ) (a : Logical) (ls : Logicals) (mark d n : ℕ) (item : Item Logical) → opens y ≤ opens (mark ∷ mark ∷ y) → Blanks x (mark ∷ mark ∷ y) → Blanks y z
+      → opens w ≤ opens z → length w ≤ length z → opens v ≤ opens w → (opens z ≤ d + opens w → item x ≡ Some (Some (logical_ints of_int a, w)))
+      → (opens w ≤ d + opens v → length w ≤ n → AreRead (many item n w) v logicals_of (logicals_ints of_int ls))
+      → opens x ≤ d + opens v → length x ≤ suc n → AreRead (many item (suc n) x) v logicals_of (logicals_ints of_int (logical a ls))
+  part_found {x} {y} {z} w v a ls mark d n item closed b c here shorter behind read rest o l =
+      let marks : opens (mark ∷ mark ∷ y) ≤ opens x = blanks_shrink opens more_opens b in
+      let before : opens z ≤ opens y = blanks_shrink opens more_opens c in
+      let one = read (omega arith) in
+      let others = rest (omega arith) (omega (arith, blanks_shrink length longer b, blanks_shrink length longer c)) in
+      (logical_ints of_int a ∷ others.0, many_goes_on item n x w v (logical_ints of_int a) others.0 one others.1, ap (logical (logical_ints of_int a)) others.2)
+
   mutual
     segments_found : {x y : List ℕ} {ss : Segments} → IsSegments x y ss → (d n : ℕ) → opens x ≤ d + opens y → length x ≤ n → ends_path (next y) ≡ true → AreRead (many (next_segment of_int (logical_at of_int d)) n x) y segments_of (map_ints of_int ss)
     segments_found (segments_end {x}) d n o l e = ([], many_stops (next_segment of_int (logical_at of_int d)) n x (no_segment of_int (logical_at of_int d) x e), refl)
@@ -274,14 +286,9 @@ module _ (of_int : ℤ → ℤ) where
     more_or_found : {x y : List ℕ} {ls : Logicals} → IsMoreOr x y ls → (d n : ℕ) → opens x ≤ d + opens y → length x ≤ n → ends_logical (next y) ≡ true → AreRead (many (next_and of_int (logical_at of_int d)) n x) y logicals_of (logicals_ints of_int ls)
     more_or_found (or_ends {x}) d n o l e = ([], many_stops (next_and of_int (logical_at of_int d)) n x (no_and of_int (logical_at of_int d) x e), refl)
     more_or_found (or_goes_on b c s more) d zero o l e = absurd (omega (arith, blanks_shrink length longer b))
-    more_or_found (or_goes_on {x} {y} {z} {w} {v} {l = a} {ls} b c s more) d (suc n) o l e =
-        let bars : opens (124 ∷ 124 ∷ y) ≤ opens x = blanks_shrink opens more_opens b in
-        let before : opens z ≤ opens y = blanks_shrink opens more_opens c in
-        let here : opens w ≤ opens z = and_shrinks opens more_opens s in
-        let behind : opens v ≤ opens w = more_or_shrinks opens more_opens more in
-        let one = next_and_reads of_int (logical_at of_int d) b c (basic_stays z (and_first s)) (and_found s d (omega arith) (more_or_next more e)) in
-        let others = more_or_found more d n (omega arith) (omega (arith, blanks_shrink length longer b, blanks_shrink length longer c, and_shrinks length longer s)) e in
-        (logical_ints of_int a ∷ others.0, many_goes_on (next_and of_int (logical_at of_int d)) n x w v (logical_ints of_int a) others.0 one others.1, ap (logical (logical_ints of_int a)) others.2)
+    more_or_found (or_goes_on {y = y} {z = z} {w = w} {v = v} {l = a} {ls} b c s more) d (suc n) o l e =
+        part_found {y = y} w v a ls 124 d n (next_and of_int (logical_at of_int d)) (omega arith) b c (and_shrinks opens more_opens s) (and_shrinks length longer s) (more_or_shrinks opens more_opens more)
+        (λ h. next_and_reads of_int (logical_at of_int d) b c (basic_stays z (and_first s)) (and_found s d h (more_or_next more e))) (λ h k. more_or_found more d n h k e) o l
 
     and_found : {x y : List ℕ} {b : Bool} {l : Logical} → IsAnd x y b l → (d : ℕ) → opens x ≤ d + opens y → ends_and (next y) ≡ true → and_at of_int (logical_at of_int d) x ≡ Some ((b, logical_ints of_int l), y)
     and_found (some_basic {x} {y} {z} {bare} {l} {ls} a more) d o e =
@@ -295,14 +302,9 @@ module _ (of_int : ℤ → ℤ) where
     more_and_found : {x y : List ℕ} {ls : Logicals} → IsMoreAnd x y ls → (d n : ℕ) → opens x ≤ d + opens y → length x ≤ n → ends_and (next y) ≡ true → AreRead (many (next_basic of_int (logical_at of_int d)) n x) y logicals_of (logicals_ints of_int ls)
     more_and_found (and_ends {x}) d n o l e = ([], many_stops (next_basic of_int (logical_at of_int d)) n x (no_basic of_int (logical_at of_int d) x e), refl)
     more_and_found (and_goes_on b c s more) d zero o l e = absurd (omega (arith, blanks_shrink length longer b))
-    more_and_found (and_goes_on {x} {y} {z} {w} {v} {l = a} {ls} b c s more) d (suc n) o l e =
-        let marks : opens (38 ∷ 38 ∷ y) ≤ opens x = blanks_shrink opens more_opens b in
-        let before : opens z ≤ opens y = blanks_shrink opens more_opens c in
-        let here : opens w ≤ opens z = basic_shrinks opens more_opens s in
-        let behind : opens v ≤ opens w = more_and_shrinks opens more_opens more in
-        let one = next_basic_reads of_int (logical_at of_int d) b c (basic_stays z (basic_first s)) (basic_found s d (omega arith) (more_and_next more e)) in
-        let others = more_and_found more d n (omega arith) (omega (arith, blanks_shrink length longer b, blanks_shrink length longer c, basic_shrinks length longer s)) e in
-        (logical_ints of_int a ∷ others.0, many_goes_on (next_basic of_int (logical_at of_int d)) n x w v (logical_ints of_int a) others.0 one others.1, ap (logical (logical_ints of_int a)) others.2)
+    more_and_found (and_goes_on {y = y} {z = z} {w = w} {v = v} {l = a} {ls} b c s more) d (suc n) o l e =
+        part_found {y = y} w v a ls 38 d n (next_basic of_int (logical_at of_int d)) (omega arith) b c (basic_shrinks opens more_opens s) (basic_shrinks length longer s) (more_and_shrinks opens more_opens more)
+        (λ h. next_basic_reads of_int (logical_at of_int d) b c (basic_stays z (basic_first s)) (basic_found s d h (more_and_next more e))) (λ h k. more_and_found more d n h k e) o l
 
     basic_found : {x y : List ℕ} {b : Bool} {l : Logical} → IsBasic x y b l → (d : ℕ) → opens x ≤ d + opens y → ends_basic (next y) ≡ true → basic_at of_int (logical_at of_int d) x ≡ Some ((b, logical_ints of_int l), y)
     basic_found (parens {x} {y} {z} {w} {v} {b} {bare} {l} n p m e) d o h =

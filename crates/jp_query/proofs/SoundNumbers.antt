@@ -90,6 +90,23 @@ negated_pass : (b : Bool) (l : Logical) (t : Tests) → logical_passes (negated_
 negated_pass true l t = refl
 negated_pass false l t = refl
 
+-- an expression, and those behind it, each by what is known of it
+joined_good : (x y : List ℕ) (join : Logical → Logicals → Logical) (l : Logical) (ls : Logicals) → ((t : Tests) → logical_passes (join l ls) t ≡ (logical_passes l t && logicals_pass ls t))
+    → length y ≤ length x → (length x ≤ 65535 → logical_passes l small ≡ true → logical_passes l sound ≡ true) → (length y ≤ 65535 → logicals_pass ls small ≡ true → logicals_pass ls sound ≡ true)
+    → length x ≤ 65535 → logical_passes (join l ls) small ≡ true → logical_passes (join l ls) sound ≡ true
+joined_good x y join l ls pass shorter one more short h =
+    let p = and_parts _ _ (sym (pass small) ∙ h) in
+    pass sound ∙ and_from _ _ (one short p.0) (more (le_trans shorter short) p.1)
+
+-- the same behind a mark that is written twice
+behind_good : {x y z : List ℕ} (w : List ℕ) (mark : ℕ) (l : Logical) (ls : Logicals) → Blanks x (mark ∷ mark ∷ y) → Blanks y z
+    → length w ≤ length z → (length z ≤ 65535 → logical_passes l small ≡ true → logical_passes l sound ≡ true) → (length w ≤ 65535 → logicals_pass ls small ≡ true → logicals_pass ls sound ≡ true)
+    → length x ≤ 65535 → logicals_pass (logical l ls) small ≡ true → logicals_pass (logical l ls) sound ≡ true
+behind_good {y = y} w mark l ls b c shorter one more short h =
+    let p = and_parts _ _ h in
+    let k = behind_blanks c (le_trans (grows mark y) (le_trans (grows mark (mark ∷ y)) (behind_blanks b short))) in
+    and_from _ _ (one k p.0) (more (le_trans shorter k) p.1)
+
 mutual
   segments_good : {x y : List ℕ} {ss : Segments} → IsSegments x y ss → length x ≤ 65535 → segments_pass ss small ≡ true → segments_pass ss sound ≡ true
   segments_good segments_end l h = refl
@@ -127,28 +144,18 @@ mutual
   selector_good (filter_mark {x} b m) l h = logical_good m (behind_blanks b (le_trans (grows 63 x) l)) h
 
   logical_good : {x y : List ℕ} {b : Bool} {l : Logical} → IsLogical x y b l → length x ≤ 65535 → logical_passes l small ≡ true → logical_passes l sound ≡ true
-  logical_good (some_and {l = first} {ls} a more) l h =
-      let p = and_parts _ _ (sym (or_pass first ls small) ∙ h) in
-      or_pass first ls sound ∙ and_from _ _ (and_good a l p.0) (more_or_good more (le_trans (and_shrinks length grows a) l) p.1)
+  logical_good (some_and {x} {y} {l = first} {ls} a more) l h = joined_good x y or_of first ls (or_pass first ls) (and_shrinks length grows a) (and_good a) (more_or_good more) l h
 
   more_or_good : {x y : List ℕ} {ls : Logicals} → IsMoreOr x y ls → length x ≤ 65535 → logicals_pass ls small ≡ true → logicals_pass ls sound ≡ true
   more_or_good or_ends l h = refl
-  more_or_good (or_goes_on {y} b c a more) l h =
-      let p = and_parts _ _ h in
-      let k = behind_blanks c (le_trans (grows 124 y) (le_trans (grows 124 (124 ∷ y)) (behind_blanks b l))) in
-      and_from _ _ (and_good a k p.0) (more_or_good more (le_trans (and_shrinks length grows a) k) p.1)
+  more_or_good (or_goes_on {w = w} {l = first} {ls} b c a more) l h = behind_good w 124 first ls b c (and_shrinks length grows a) (and_good a) (more_or_good more) l h
 
   and_good : {x y : List ℕ} {b : Bool} {l : Logical} → IsAnd x y b l → length x ≤ 65535 → logical_passes l small ≡ true → logical_passes l sound ≡ true
-  and_good (some_basic {l = first} {ls} a more) l h =
-      let p = and_parts _ _ (sym (and_pass first ls small) ∙ h) in
-      and_pass first ls sound ∙ and_from _ _ (basic_good a l p.0) (more_and_good more (le_trans (basic_shrinks length grows a) l) p.1)
+  and_good (some_basic {x} {y} {l = first} {ls} a more) l h = joined_good x y and_of first ls (and_pass first ls) (basic_shrinks length grows a) (basic_good a) (more_and_good more) l h
 
   more_and_good : {x y : List ℕ} {ls : Logicals} → IsMoreAnd x y ls → length x ≤ 65535 → logicals_pass ls small ≡ true → logicals_pass ls sound ≡ true
   more_and_good and_ends l h = refl
-  more_and_good (and_goes_on {y} b c a more) l h =
-      let p = and_parts _ _ h in
-      let k = behind_blanks c (le_trans (grows 38 y) (le_trans (grows 38 (38 ∷ y)) (behind_blanks b l))) in
-      and_from _ _ (basic_good a k p.0) (more_and_good more (le_trans (basic_shrinks length grows a) k) p.1)
+  more_and_good (and_goes_on {w = w} {l = first} {ls} b c a more) l h = behind_good w 38 first ls b c (basic_shrinks length grows a) (basic_good a) (more_and_good more) l h
 
   basic_good : {x y : List ℕ} {b : Bool} {l : Logical} → IsBasic x y b l → length x ≤ 65535 → logical_passes l small ≡ true → logical_passes l sound ≡ true
   basic_good (parens {y} {b} {l = inner} n p m e) l h =
