@@ -191,6 +191,21 @@ module _ (paths : List (List Step)) (g : Guard) where
   pub alone : (l : Logical) → first_guard paths (l ∷ []) ≡ Some g → conjunct_guard paths l ≡ Some g
   alone l h = ⊎_elim (λ e. e) (λ e. absurd (cc)) (from_first (conjunct_guard paths l) None h)
 
+  -- so do selectors only where a filter stands alone among them
+  pub by_filter : (P : Selectors → Type 0) → ((l : Logical) → first_guard paths (conjuncts l) ≡ Some g → P (selector (filter_selector l) no_selectors))
+      → (ss : Selectors) → first_guard paths (only_filter ss) ≡ Some g → P ss
+  by_filter P alone no_selectors h = absurd (cc)
+  by_filter P alone (selector (name_selector x) no_selectors) h = absurd (cc)
+  by_filter P alone (selector (name_selector x) (selector r rs)) h = absurd (cc)
+  by_filter P alone (selector wildcard_selector no_selectors) h = absurd (cc)
+  by_filter P alone (selector wildcard_selector (selector r rs)) h = absurd (cc)
+  by_filter P alone (selector (index_selector i) no_selectors) h = absurd (cc)
+  by_filter P alone (selector (index_selector i) (selector r rs)) h = absurd (cc)
+  by_filter P alone (selector (slice_selector a b c) no_selectors) h = absurd (cc)
+  by_filter P alone (selector (slice_selector a b c) (selector r rs)) h = absurd (cc)
+  by_filter P alone (selector (filter_selector l) no_selectors) h = alone l h
+  by_filter P alone (selector (filter_selector l) (selector r rs)) h = absurd (cc)
+
 module _ (paths : List (List Step)) (t : Tree) (g : Guard) (fails : guard_passes (Some g) t ≡ false) where
   -- a conjunct that gives the guard is false everywhere
   conjunct_false : (l : Logical) → conjunct_guard paths l ≡ Some g → (n : Node) → truth l n t ≡ false
@@ -231,17 +246,7 @@ module _ (paths : List (List Step)) (t : Tree) (g : Guard) (fails : guard_passes
         (from_front (conjuncts l) (conjuncts_of ls) h)
 
   only_false : (ss : Selectors) → first_guard paths (only_filter ss) ≡ Some g → (n : Node) → selected ss n t ≡ []
-  only_false no_selectors h n = refl
-  only_false (selector (name_selector x) no_selectors) h n = absurd (cc)
-  only_false (selector (name_selector x) (selector r rs)) h n = absurd (cc)
-  only_false (selector wildcard_selector no_selectors) h n = absurd (cc)
-  only_false (selector wildcard_selector (selector r rs)) h n = absurd (cc)
-  only_false (selector (index_selector i) no_selectors) h n = absurd (cc)
-  only_false (selector (index_selector i) (selector r rs)) h n = absurd (cc)
-  only_false (selector (slice_selector a b c) no_selectors) h n = absurd (cc)
-  only_false (selector (slice_selector a b c) (selector r rs)) h n = absurd (cc)
-  only_false (selector (filter_selector l) no_selectors) h n = selects_none l t (filter_false l h) n
-  only_false (selector (filter_selector l) (selector r rs)) h n = absurd (cc)
+  only_false ss h = by_filter paths g (λ ss. (n : Node) → selected ss n t ≡ []) (λ l h n. selects_none l t (filter_false l h) n) ss h
 
   segment_false : (s : Segment) → first_guard paths (segment_conjuncts s) ≡ Some g → (n : Node) → segment_nodes s n t ≡ []
   segment_false (child_segment ss) h n = only_false ss h n

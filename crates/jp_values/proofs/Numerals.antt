@@ -5,7 +5,7 @@ use Rattle.std.proofs.lemmas.Bool.{ne_eqb}
 use Rattle.std.proofs.lemmas.Bool.Decides.{nat_tests}
 use Rattle.std.proofs.lemmas.Cmp.{int_cmp_total}
 use Rattle.std.proofs.lemmas.Fmt.{digits_decimal, digits_value-decimal, decimal_nonempty, first_decimal, decimal_digit}
-use Rattle.std.proofs.lemmas.Str.Parse.{IsNumeralModel, IsDigitsTest, numerals_by_fold, FoldsDigits}
+use Rattle.jp_model.proofs.Digits.{digits_model}
 use Rattle.jp_model.specs.Characters.{is_digit, digits_value, value_behind}
 use Rattle.jp_model.specs.Json.Numbers.{Numeral, IsNumeral, IsInt, AreDigits, numeral_bytes, numeral_of, is_long_exponent, mantissa, scale, smaller, brought_to}
 use Rattle.jp_model.proofs.Reader.Numbers.{parts_read}
@@ -18,21 +18,6 @@ use Rattle.jp_values.specs.Scalars.{count_number}
 
 -- ---- digits
 
-digit_range : (c : ℕ) → is_digit c ≡ true → (48 ≤ c) × (c ≤ 57)
-digit_range c h = grind (arith, nat_tests, h)
-
-digit_in_range : (c : ℕ) → 48 ≤ c → c ≤ 57 → is_digit c ≡ true
-digit_in_range c l h = grind (arith, nat_tests, l, h)
-
-digits_test : IsDigitsTest AreDigits
-digits_test = record { empty = tt; parts = λ c cs h. (digit_range c h.0, h.1); more = λ c cs r h. (digit_in_range c r.0 r.1, h) }
-
-folds : FoldsDigits value_behind
-folds = record { empty = λ n. refl; more = λ n c cs r. refl }
-
-own : IsNumeralModel AreDigits digits_value
-own = numerals_by_fold AreDigits digits_test value_behind folds
-
 int_of : (ds : List ℕ) → AreDigits ds → 0 < length ds → (get_or ds 0 0 ≡ 0x30 → length ds ≡ 1) → IsInt ds
 int_of [] a l z = absurd (omega (arith, l))
 int_of (d ∷ []) a l z = a.0
@@ -43,7 +28,7 @@ one_zero zero h z = ap length (decimal_digit 0 (omega arith))
 one_zero (suc n) h z = let f = first_decimal (suc n) (omega arith) h in absurd (omega (arith, f, z))
 
 decimal_int : (n : ℕ) → n < 2 ^ 64 → IsInt (decimal n)
-decimal_int n h = int_of (decimal n) (digits_decimal own n h) (decimal_nonempty n h) (one_zero n h)
+decimal_int n h = int_of (decimal n) (digits_decimal digits_model n h) (decimal_nonempty n h) (one_zero n h)
 
 count_numeral : ℕ → Numeral
 count_numeral n = record { negative = false; int = decimal n; fraction = []; exponent = None }
@@ -69,7 +54,7 @@ count_is n h = record { value = value; read = read }
     value : (y : Number) → ReadsAs (decimal n) y → y ≡ count_number n
     value y r =
         let same : r.numeral ≡ count_numeral n = sym r.spells.only ∙ parts in
-        let m : mantissa (count_numeral n) ≡ pos n = ap pos (ap digits_value (append-nil (decimal n)) ∙ digits_value-decimal own n h) in
+        let m : mantissa (count_numeral n) ≡ pos n = ap pos (ap digits_value (append-nil (decimal n)) ∙ digits_value-decimal digits_model n h) in
         ap₂ (λ (a b : ℤ). record { mantissa = a; scale = b }) (sym r.is_mantissa ∙ (ap mantissa same ∙ m)) (sym r.is_scale ∙ ap scale same)
 
     read : (fault : NumberFault) → RefusesNumber (decimal n) fault → ⊥

@@ -100,7 +100,7 @@ fn find_sorted<'a>(members: &[Member<'a>], wanted: &Member<'a>) -> Option<Cursor
     ensures behind { (children : Children) → AreByName children members.now → IfSome result (λ c. EndsWith children (children_after c)) }
 {
     match members.binary_search(wanted) {
-        Ok(place) => Some(members[place].node),
+        Ok(index) => Some(members[index].node),
         Err(_) => None,
     }
 }
@@ -130,7 +130,7 @@ impl<'a> Searched<'a> {
         }
     }
 
-    /// The member of this name, which is the name of another object's member. Where it is not at the likely place and there
+    /// The member of this name, which is the name of another object's member. Where it is not the likely one and there
     /// are many, the members are sorted once.
     pub fn find(
         &mut self,

@@ -1,4 +1,4 @@
--- The member at the likely place is the one of its name.
+-- The likely member is the one of its name.
 use Rattle.std.proofs.Common.{◌∙◌, sym, subst, Some, Option}
 use Rattle.jp_model.specs.Json.Tree.{value_of}
 use Rattle.jp_strings.specs.Points.{points_of}
