@@ -83,7 +83,7 @@ module _ (keys : ℕ → Option Key) where
     abbrev Other : ℕ → Type 0
     Other a = a ≢ line
 
-    -- the line at its place left out
+    -- the line at its position left out
     pub left_out : (lines : List ℕ) (i : ℕ) → AreByKey keys lines → i < length lines → line ≡ get_or lines i line → AreByKey (but line keys) (remove lines i)
     left_out lines i h l is =
         let others : All Other (remove lines i) = removed_differs (λ a b. line_order keys a b ≡ Less) never lines i line h.ascend l is in
@@ -116,7 +116,7 @@ module _ (keys : ℕ → Option Key) where
     pub ascend_in : (lines : List ℕ) → AreByKey (but line keys) lines → Ascend keys lines
     ascend_in lines h = pairs_other (λ a b. line_order (but line keys) a b ≡ Less) (λ a b. line_order keys a b ≡ Less) Other (λ a b n m e. sym (order_but a b n m) ∙ e) lines (others_in lines h) h.ascend
 
-    -- the line put in at its place
+    -- the line put in at its position
     pub put_in : (lines : List ℕ) (i : ℕ) → AreByKey (but line keys) lines → is_some (keys line) ≡ true → i ≤ length lines
         → IsPartitionPoint (λ a. is_lt (line_order keys a line) ≡ true) (λ a. is_lt (line_order keys a line) ≡ false) lines i → AreByKey keys (insert lines i line)
     put_in lines i h some l at =

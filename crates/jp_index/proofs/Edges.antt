@@ -1,4 +1,4 @@
--- The keys that compare so with a key are those between two places in the order of keys.
+-- The keys that compare so with a key are those between two positions in the order of keys.
 use Rattle.std.proofs.Common.{◌≡◌, ◌∙◌, ℕ, ◌<◌, ◌≤◌, ◌==◌, Bool, true, false, not, ◌&&◌, ◌||◌, nat_lt, nat_le, Option, Some, None, refl, sym, ap, ap₂, arith, ◌⊎◌, inl, inr, Ordering, Less, Equal, Greater}
 use Rattle.std.specs.Cmp.Lexicographic.{slice_cmp}
 use Rattle.std.specs.Option.{option_cmp}

@@ -15,7 +15,7 @@ use Rattle.std.proofs.lemmas.List.Elements.{All-nil, All-append, All-tail, All-h
 use Rattle.std.proofs.lemmas.List.Kept.{AllPairs-cons}
 use Rattle.std.proofs.lemmas.Grind.{get_or-set_at}
 use Rattle.jp_values.specs.declared.key.Key.{Key}
-use Rattle.jp_index.specs.ByKey.{line_order, Ascend, AreByKey, IsPlaceOf, but}
+use Rattle.jp_index.specs.ByKey.{line_order, Ascend, AreByKey, IsPositionOf, but}
 use Rattle.jp_index.specs.Chunks.{IsChunk, begins_by, chunk_at, lines_before, lines_behind, lines_in, with_chunk}
 use Rattle.jp_index.proofs.Ascending.{behind_all, cross, pairs_left, pairs_right, partitioned}
 use Rattle.jp_index.proofs.ByKey.{lines_total, never, apart, same_or_not, left_out, none_left_out, put_in, ascend_in}
@@ -249,7 +249,7 @@ module _ (keys : ℕ → Option Key) (line : ℕ) (A B C : List ℕ) (before : A
       remove-append_right A (B ++ C) (length A) (length A + i) refl (omega arith) ∙ ap (λ j. A ++ remove (B ++ C) j) k ∙ ap (λ t. A ++ t) (remove-append_left B C i l) in
       subst (AreByKey (but line keys)) moved (left_out keys line (A ++ (B ++ C)) (length A + i) h (omega arith) at)
 
-  one_put : (i : ℕ) → AreByKey (but line keys) (A ++ (B ++ C)) → is_some (keys line) ≡ true → i ≤ length B → IsPlaceOf keys line B i → AreByKey keys (A ++ (insert B i line ++ C))
+  one_put : (i : ℕ) → AreByKey (but line keys) (A ++ (B ++ C)) → is_some (keys line) ≡ true → i ≤ length B → IsPositionOf keys line B i → AreByKey keys (A ++ (insert B i line ++ C))
   one_put i h some l at =
       let n = length-append A (B ++ C) in
       let m = length-append B C in
@@ -282,15 +282,15 @@ module _ (keys : ℕ → Option Key) (line : ℕ) (chunks : List Chunk) (i : ℕ
       subst (AreByKey (but line keys)) (sym (cut chunks i within))
       (none_taken keys line (lines_before chunks i) (chunk_at chunks i) (lines_behind chunks i) (before h.ascend) (behind h.ascend) (subst (AreByKey keys) (cut chunks i within) h) n)
 
-  pub take_one : (place : ℕ) → AreByKey keys (lines_in chunks) → place < length (chunk_at chunks i) → line ≡ get_or (chunk_at chunks i) place line → AreByKey (but line keys) (with_chunk chunks i (remove (chunk_at chunks i) place))
-  take_one place h l e =
-      one_taken keys line (lines_before chunks i) (chunk_at chunks i) (lines_behind chunks i) (before h.ascend) (behind h.ascend) place (subst (AreByKey keys) (cut chunks i within) h) l e
+  pub take_one : (position : ℕ) → AreByKey keys (lines_in chunks) → position < length (chunk_at chunks i) → line ≡ get_or (chunk_at chunks i) position line → AreByKey (but line keys) (with_chunk chunks i (remove (chunk_at chunks i) position))
+  take_one position h l e =
+      one_taken keys line (lines_before chunks i) (chunk_at chunks i) (lines_behind chunks i) (before h.ascend) (behind h.ascend) position (subst (AreByKey keys) (cut chunks i within) h) l e
 
-  pub put_one : (place : ℕ) → AreByKey (but line keys) (lines_in chunks) → is_some (keys line) ≡ true → place ≤ length (chunk_at chunks i) → (Ascend keys (chunk_at chunks i) → IsPlaceOf keys line (chunk_at chunks i) place)
-      → AreByKey keys (with_chunk chunks i (insert (chunk_at chunks i) place line))
-  put_one place h some l at =
+  pub put_one : (position : ℕ) → AreByKey (but line keys) (lines_in chunks) → is_some (keys line) ≡ true → position ≤ length (chunk_at chunks i) → (Ascend keys (chunk_at chunks i) → IsPositionOf keys line (chunk_at chunks i) position)
+      → AreByKey keys (with_chunk chunks i (insert (chunk_at chunks i) position line))
+  put_one position h some l at =
       let up : Ascend keys (lines_in chunks) = ascend_in keys line (lines_in chunks) h in
-      one_put keys line (lines_before chunks i) (chunk_at chunks i) (lines_behind chunks i) (before up) (behind up) place (subst (AreByKey (but line keys)) (cut chunks i within) h) some l (at (chunk_ascends keys chunks i within up))
+      one_put keys line (lines_before chunks i) (chunk_at chunks i) (lines_behind chunks i) (before up) (behind up) position (subst (AreByKey (but line keys)) (cut chunks i within) h) some l (at (chunk_ascends keys chunks i within up))
 
 -- ---- the lines of several chunks
 

@@ -28,5 +28,5 @@ abbrev pub but : ℕ → (ℕ → Option Key) → ℕ → Option Key
 but line keys a = if a == line then None else keys a
 
 -- so many of the lines stand in front of a line, and the others do not
-abbrev pub IsPlaceOf : (ℕ → Option Key) → ℕ → List ℕ → ℕ → Type 0
-IsPlaceOf keys line lines i = IsPartitionPoint (λ a. is_lt (line_order keys a line) ≡ true) (λ a. is_lt (line_order keys a line) ≡ false) lines i
+abbrev pub IsPositionOf : (ℕ → Option Key) → ℕ → List ℕ → ℕ → Type 0
+IsPositionOf keys line lines i = IsPartitionPoint (λ a. is_lt (line_order keys a line) ≡ true) (λ a. is_lt (line_order keys a line) ≡ false) lines i

@@ -23,7 +23,7 @@ abbrev pub begins_by : (ℕ → Bool) → List ℕ → Bool
 begins_by test [] = false
 begins_by test (line ∷ lines) = test line
 
--- the lines of the chunk at a place
+-- the lines of the chunk at a position
 abbrev pub chunk_at : List (Vec ℕ Global) → ℕ → List ℕ
 chunk_at [] i = []
 chunk_at (chunk ∷ chunks) zero = chunk.items

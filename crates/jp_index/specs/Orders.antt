@@ -12,10 +12,10 @@ lines_of order = lines_in order.chunks.items
 -- it takes one line more without allocating
 pub record HasSpare (order : Order) : Type 0 where
   pub chunk : is_some order.spare ≡ true
-  pub place : vec_len order.chunks < vec_capacity order.chunks
+  pub room : vec_len order.chunks < vec_capacity order.chunks
 
--- it took room for one chunk more at most, and for its place in the list
+-- it took room for one chunk more at most, and for it in the list
 pub record HasGrownByOne (old new : Order) : Type 0 where
   pub chunks : new.chunks.items ≡ old.chunks.items
-  pub places : vec_capacity new.chunks ≤ max (vec_capacity old.chunks) (vec_len old.chunks + 1)
+  pub list : vec_capacity new.chunks ≤ max (vec_capacity old.chunks) (vec_len old.chunks + 1)
   pub chunk : (chunk : Vec ℕ Global) → new.spare ≡ Some chunk → (old.spare ≡ Some chunk) ⊎ (vec_capacity chunk ≡ 512)

@@ -13,7 +13,7 @@ ghost use Rattle.jp_index.specs.Edges.{in_front, is_between};
 
 use crate::comparing::{compare_lines, is_in_front, key_of_line};
 use crate::edge::Edge;
-use crate::order::{find_line, place_of, run_of};
+use crate::order::{find_line, position_of, run_of};
 use crate::slot::Slot;
 use jp_query::CompareOp;
 use jp_values::Key;
@@ -76,16 +76,16 @@ fn chunks_in_front(cells: &[Option<Slot>], chunks: &[Vec<u32>], edge: Edge, key:
     chunks.partition_point(|chunk| begins_in_front(cells, chunk, edge, key))
 }
 
-/// Takes out a line by its place in a chunk, and the chunk where it was the only one.
-fn remove_at(chunks: &mut Vec<Vec<u32>>, at: usize, place: usize)
+/// Takes out a line by its position in a chunk, and the chunk where it was the only one.
+fn remove_at(chunks: &mut Vec<Vec<u32>>, at: usize, position: usize)
     requires each { All IsChunk chunks.old.items }
     requires at { at < length chunks.old.items }
-    requires place { place < length (chunk_at chunks.old.items at) }
-    ensures lines { lines_in chunks.new.items ≡ with_chunk chunks.old.items at (remove (chunk_at chunks.old.items at) place) }
+    requires position { position < length (chunk_at chunks.old.items at) }
+    ensures lines { lines_in chunks.new.items ≡ with_chunk chunks.old.items at (remove (chunk_at chunks.old.items at) position) }
     ensures each { All IsChunk chunks.new.items }
     ensures room { vec_len chunks.old < vec_capacity chunks.old → vec_len chunks.new < vec_capacity chunks.new }
 {
-    chunks[at].remove(place);
+    chunks[at].remove(position);
     if chunks[at].is_empty() {
         chunks.remove(at);
     }
@@ -108,20 +108,20 @@ fn split(chunk: &mut Vec<u32>, upper: &mut Vec<u32>)
 fn insert_at(
     chunk: &mut Vec<u32>,
     spare: &mut Option<Vec<u32>>,
-    place: usize,
+    position: usize,
     line: u32,
 ) -> Option<Vec<u32>>
     requires chunk { IsChunk chunk.old }
-    requires place { place ≤ length chunk.old.items }
+    requires position { position ≤ length chunk.old.items }
     requires is_spare { ForSome spare.old IsSpare }
     requires has_spare { is_some spare.old ≡ true }
     ensures lines { MatchOption result
-        (chunk.new.items ≡ insert chunk.old.items place line)
-        (λ upper. (chunk.new.items ++ upper.items ≡ insert chunk.old.items place line) × IsChunk upper) }
+        (chunk.new.items ≡ insert chunk.old.items position line)
+        (λ upper. (chunk.new.items ++ upper.items ≡ insert chunk.old.items position line) × IsChunk upper) }
     ensures chunk { IsChunk chunk.new }
     ensures is_spare { ForSome spare.new IsSpare }
 {
-    let _ = chunk.insert(place, line);
+    let _ = chunk.insert(position, line);
     if chunk.len() < CHUNK {
         return None;
     }
@@ -190,7 +190,7 @@ impl Order {
         })
     }
 
-    /// Makes room for one line more: a spare chunk, and a place for it. The lines stay, also after an `Err`.
+    /// Makes room for one line more: a spare chunk, and room for it in the list. The lines stay, also after an `Err`.
     pub(crate) fn reserve(&mut self) -> Result<(), AllocError>
         ensures lines { lines_of self.new ≡ lines_of self.old }
         ensures room { OnOk result (HasSpare self.new) }
@@ -211,13 +211,13 @@ impl Order {
     {
         let at = chunk_of(cells, &self.chunks, line);
         if at < self.chunks.len() {
-            if let Some(place) = find_line(cells, &self.chunks[at], line) {
-                remove_at(&mut self.chunks, at, place);
+            if let Some(position) = find_line(cells, &self.chunks[at], line) {
+                remove_at(&mut self.chunks, at, position);
             }
         }
     }
 
-    /// Puts a line in its place, where it has a key. It allocates nothing.
+    /// Puts a line where it belongs, if it has a key. It allocates nothing.
     pub(crate) fn put(&mut self, cells: &[Option<Slot>], line: u32)
         requires { HasSpare self.old }
         ensures { AreByKey (but line (key_at cells.now)) (lines_of self.old) → AreByKey (key_at cells.now) (lines_of self.new) }
@@ -229,18 +229,18 @@ impl Order {
             return self.open(line);
         }
         let at = chunk_of(cells, &self.chunks, line);
-        let place = place_of(cells, &self.chunks[at], line);
-        self.insert(at, place, line);
+        let position = position_of(cells, &self.chunks[at], line);
+        self.insert(at, position, line);
     }
 
-    /// Puts a line at a place of a chunk.
-    fn insert(&mut self, at: usize, place: usize, line: u32)
+    /// Puts a line at a position of a chunk.
+    fn insert(&mut self, at: usize, position: usize, line: u32)
         requires spare { HasSpare self.old }
         requires at { at < length self.old.chunks.items }
-        requires place { place ≤ length (chunk_at self.old.chunks.items at) }
-        ensures { lines_of self.new ≡ with_chunk self.old.chunks.items at (insert (chunk_at self.old.chunks.items at) place line) }
+        requires position { position ≤ length (chunk_at self.old.chunks.items at) }
+        ensures { lines_of self.new ≡ with_chunk self.old.chunks.items at (insert (chunk_at self.old.chunks.items at) position line) }
     {
-        if let Some(upper) = insert_at(&mut self.chunks[at], &mut self.spare, place, line) {
+        if let Some(upper) = insert_at(&mut self.chunks[at], &mut self.spare, position, line) {
             let _ = self.chunks.insert(at + 1, upper);
         }
     }

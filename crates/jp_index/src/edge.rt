@@ -5,7 +5,7 @@ ghost use Rattle.jp_query.specs.View.{op_view};
 
 use jp_query::CompareOp;
 
-/// A place in the order of keys, told by one of them: in front of the keys that equal it, after them, in front of all keys
+/// A position in the order of keys, told by one of them: in front of the keys that equal it, after them, in front of all keys
 /// of its kind, after all of these.
 #[derive(Clone, Copy)]
 pub(crate) enum Edge {

@@ -4,7 +4,7 @@ ghost use Rattle.std.specs.Prelude.{◌≡◌, ℕ, ◌<◌, ◌≤◌, true, fa
 ghost use Rattle.std.specs.List.Sorted.{IsPartitionPoint, IsSortedBy};
 ghost use Rattle.std.specs.Ordering.{is_lt};
 ghost use Rattle.jp_query.specs.View.{op_view};
-ghost use Rattle.jp_index.specs.ByKey.{line_order, Ascend, IsPlaceOf};
+ghost use Rattle.jp_index.specs.ByKey.{line_order, Ascend, IsPositionOf};
 ghost use Rattle.jp_index.specs.Cells.{key_at};
 ghost use Rattle.jp_index.specs.Edges.{in_front, is_between};
 
@@ -16,9 +16,9 @@ use jp_values::Key;
 use std::alloc::AllocError;
 
 /// How many of the lines, which are in order, come before a line.
-pub(crate) fn place_of(cells: &[Option<Slot>], lines: &[u32], line: u32) -> usize
+pub(crate) fn position_of(cells: &[Option<Slot>], lines: &[u32], line: u32) -> usize
     ensures within { result ≤ length lines.now }
-    ensures place { Ascend (key_at cells.now) lines.now → IsPlaceOf (key_at cells.now) line lines.now result }
+    ensures position { Ascend (key_at cells.now) lines.now → IsPositionOf (key_at cells.now) line lines.now result }
 {
     lines.partition_point(|other| compare_lines(cells, *other, line).is_lt())
 }
@@ -26,7 +26,7 @@ pub(crate) fn place_of(cells: &[Option<Slot>], lines: &[u32], line: u32) -> usiz
 /// How many of the lines, which are in order, come before an edge of a key.
 fn edge_of(cells: &[Option<Slot>], lines: &[u32], edge: Edge, key: &Key) -> usize
     ensures within { result ≤ length lines.now }
-    ensures place { Ascend (key_at cells.now) lines.now
+    ensures position { Ascend (key_at cells.now) lines.now
         → IsPartitionPoint (λ a. in_front edge (key_at cells.now a) key.now ≡ true) (λ a. in_front edge (key_at cells.now a) key.now ≡ false) lines.now result }
 {
     lines.partition_point(|line| is_in_front(cells, *line, edge, key))
@@ -47,12 +47,12 @@ pub(crate) fn run_of<'a>(
 
 /// Where a line is, if it is there.
 pub(crate) fn find_line(cells: &[Option<Slot>], lines: &[u32], line: u32) -> Option<usize>
-    ensures found { IfSome result (λ place. (place < length lines.now) × (line ≡ slice_index_or lines.now place line)) }
+    ensures found { IfSome result (λ position. (position < length lines.now) × (line ≡ slice_index_or lines.now position line)) }
     ensures missing { Ascend (key_at cells.now) lines.now → result ≡ None → Contains lines.now line → ⊥ }
 {
-    let place = place_of(cells, lines, line);
-    if place < lines.len() && lines[place] == line {
-        Some(place)
+    let position = position_of(cells, lines, line);
+    if position < lines.len() && lines[position] == line {
+        Some(position)
     } else {
         None
     }

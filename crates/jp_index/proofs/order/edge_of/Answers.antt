@@ -9,8 +9,8 @@ use Rattle.jp_index.proofs.Ascending.{partitioned}
 use Rattle.jp_index.proofs.Edges.{front_falls}
 use Rattle.jp_index.proofs.order.edge_of.Goals as goal
 
-pub returns-clause-place : goal.returns-clause-place
-returns-clause-place c = λ h.
+pub returns-clause-position : goal.returns-clause-position
+returns-clause-position c = λ h.
     let keys = key_at c.args.cells.now in
     IsPartitionPoint-from_clause (λ a. in_front c.args.edge (keys a) c.args.key.now) c.args.lines.now c.partition_point.result c.partition_point.ensures.partitioned
     (partitioned (λ a b. line_order keys a b ≡ Less) (λ a. in_front c.args.edge (keys a) c.args.key.now) (front_falls keys c.args.edge c.args.key.now) c.args.lines.now h) (λ a r q k. search rules)

@@ -7,10 +7,10 @@ use Rattle.jp_index.specs.ByKey.{line_order}
 use Rattle.jp_index.specs.Cells.{key_at}
 use Rattle.jp_index.proofs.Ascending.{partitioned}
 use Rattle.jp_index.proofs.ByKey.{before_falls}
-use Rattle.jp_index.proofs.order.place_of.Goals as goal
+use Rattle.jp_index.proofs.order.position_of.Goals as goal
 
-pub returns-clause-place : goal.returns-clause-place
-returns-clause-place c = λ h.
+pub returns-clause-position : goal.returns-clause-position
+returns-clause-position c = λ h.
     let keys = key_at c.args.cells.now in
     IsPartitionPoint-from_clause (λ a. is_lt (line_order keys a c.args.line)) c.args.lines.now c.partition_point.result c.partition_point.ensures.partitioned
     (partitioned (λ a b. line_order keys a b ≡ Less) (λ a. is_lt (line_order keys a c.args.line)) (before_falls keys c.args.line) c.args.lines.now h) (λ a r q k. search rules)

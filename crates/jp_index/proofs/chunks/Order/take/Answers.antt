@@ -8,14 +8,14 @@ use Rattle.jp_index.specs.Chunks.{chunk_at, lines_before, lines_behind, lines_in
 use Rattle.jp_index.proofs.Flat.{chunk_ascends, chunk_is, long_list, take_none, take_one}
 use Rattle.jp_index.proofs.chunks.Order.take.Goals as goal
 
-pub remove_at-requires-clause-place : goal.remove_at-requires-clause-place
-remove_at-requires-clause-place c =
+pub remove_at-requires-clause-position : goal.remove_at-requires-clause-position
+remove_at-requires-clause-position c =
     let chunks = c.args.self.now.chunks.items in
     let at = c.chunk_of-at.result in
     let n = long_list c.args.self.now.chunks in
     let l : at < length chunks = omega (arith, c.len.ensures, c.if-at-len.true) in
     let here : c.deref-then-at-len.result.now ≡ chunk_at chunks at = c.deref-then-at-len.ensures.value ∙ chunk_is chunks at c.index.result.now l c.index.ensures in
-    subst (λ ls. c.in-Some.place < length ls) here c.in-Some.ensures.found.0
+    subst (λ ls. c.in-Some.position < length ls) here c.in-Some.ensures.found.0
 
 pub returns-in-Some-clause-lines : goal.returns-in-Some-clause-lines
 returns-in-Some-clause-lines c = λ h.
@@ -26,12 +26,12 @@ returns-in-Some-clause-lines c = λ h.
     let n = long_list c.args.self.now.chunks in
     let l : at < length chunks = omega (arith, c.len.ensures, c.if-at-len.true) in
     let here : c.deref-then-at-len.result.now ≡ chunk_at chunks at = c.deref-then-at-len.ensures.value ∙ chunk_is chunks at c.index.result.now l c.index.ensures in
-    let found = subst (λ ls. (c.in-Some.place < length ls) × (line ≡ get_or ls c.in-Some.place line)) here c.in-Some.ensures.found in
+    let found = subst (λ ls. (c.in-Some.position < length ls) × (line ≡ get_or ls c.in-Some.position line)) here c.in-Some.ensures.found in
     subst (AreByKey (but line keys)) (sym c.remove_at.ensures.lines)
     (take_one keys line chunks at l
     (subst (λ cs. Ascend keys (lines_in cs) → All (λ a. line_order keys a line ≡ Less) (lines_before cs at)) c.deref.ensures.value c.chunk_of-at.ensures.before)
     (subst (λ cs. Ascend keys (lines_in cs) → All (λ a. line_order keys line a ≡ Less) (lines_behind cs at)) c.deref.ensures.value c.chunk_of-at.ensures.behind)
-    c.in-Some.place h found.0 found.1)
+    c.in-Some.position h found.0 found.1)
 
 pub returns-in_default-clause-lines : goal.returns-in_default-clause-lines
 returns-in_default-clause-lines c = λ h.
