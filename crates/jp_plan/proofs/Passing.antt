@@ -140,8 +140,8 @@ held_are c p t =
   where
     same : (k m : ℕ) (s : LineStatus) → m ≡ 1 + k → slice_get (statuses_in c) k ≡ Some s → t (line_status m c) ≡ t s
     same k m s e h =
-        let place : m - 1 ≡ k = omega (arith, e) in
-        let there : slice_get (statuses_in c) (m - 1) ≡ Some s = ap (slice_get (statuses_in c)) place ∙ h in
+        let index : m - 1 ≡ k = omega (arith, e) in
+        let there : slice_get (statuses_in c) (m - 1) ≡ Some s = ap (slice_get (statuses_in c)) index ∙ h in
         ap t (same_Some (line_status m c) s (sym (status_at c m (line_there c m s (omega (arith, e)) there)) ∙ there))
 
 -- ---- lines that are opened
@@ -166,8 +166,8 @@ pub trees_more : (c : Collection) (k : ℕ) (b : Bool) → k < length c.state.li
     → numbers_where is_tree 1 (take (k + 1) (statuses_in c)) ≡ numbers_where is_tree 1 (take k (statuses_in c)) ++ (if b then (k + 1) ∷ [] else [])
 trees_more c k b l e =
     let s = line_status (k + 1) c in
-    let place : (k + 1) - 1 ≡ k = omega arith in
-    let there : slice_get (statuses_in c) k ≡ Some s = ap (slice_get (statuses_in c)) (sym place) ∙ status_at c (k + 1) (record { first = omega arith; last = omega arith }) in
+    let index : (k + 1) - 1 ≡ k = omega arith in
+    let there : slice_get (statuses_in c) k ≡ Some s = ap (slice_get (statuses_in c)) (sym index) ∙ status_at c (k + 1) (record { first = omega arith; last = omega arith }) in
     let within : k < length (statuses_in c) = slice_get_within (statuses_in c) k s there in
     ap (numbers_where is_tree 1) (take_more (statuses_in c) k s within ∙ ap (λ x. take k (statuses_in c) ++ x ∷ []) (get_or_from_slice_get (statuses_in c) k s s there))
     ∙ (numbers_where-append is_tree 1 (k + 1) (take k (statuses_in c)) s (omega (arith, length-take-le k (statuses_in c) (omega arith)))

@@ -2,6 +2,7 @@
 use Rattle.std.proofs.Common.{◌≡◌, ◌<◌, List, [], ◌∷◌, length, IfSome, flat_map, Bool, true, false, ◌&&◌, Option, Some, None, if◌then◌else◌, refl, sym, ap, subst, ◌∙◌, ◌⊎◌, inl, inr, ⊎_elim}
 use Rattle.std.specs.List.{list_any}
 use Rattle.std.proofs.lemmas.Bool.{and_parts}
+use Rattle.jp_model.proofs.Guard.{by_comparison, by_filter, from_first, alone}
 use Rattle.jp_model.specs.Plans.{Guard, guard_on, conjunct_guard, first_guard, guard_or, conjuncts, conjuncts_of, only_filter, segment_conjuncts, guard_of, is_guard_operator, mirrored}
 use Rattle.jp_model.specs.Query.Singular.{singular_steps}
 use Rattle.jp_model.specs.Query.Syntax.{CompareOp, Literal, root, current, Segment, child_segment, descendant_segment, Segments, no_segments, segment, name_selector, wildcard_selector, index_selector, slice_selector, filter_selector, Selectors, no_selectors, selector, Logical, or_all, and_all, negated, compare, exists, test, Logicals, no_logicals, logical, segment_list, constant, single, result, path}
@@ -33,60 +34,28 @@ fit_on paths (Some steps) op l g h s = pick (list_any (λ p. steps_equal p steps
 
 module _ (paths : List (List Step)) (g : Guard) where
   fit_conjunct : (l : Logical) → conjunct_guard paths l ≡ Some g → logical_has_sound_literals l ≡ true → IsFit g
-  fit_conjunct (or_all ls) h s = absurd (cc)
-  fit_conjunct (and_all ls) h s = absurd (cc)
-  fit_conjunct (negated l) h s = absurd (cc)
-  fit_conjunct (exists p) h s = absurd (cc)
-  fit_conjunct (test c) h s = absurd (cc)
-  fit_conjunct (compare (constant c) op (constant d)) h s = absurd (cc)
-  fit_conjunct (compare (constant c) op (single (path root ss))) h s = fit_on paths (singular_steps ss) (mirrored op) c g h (and_parts _ _ s).0
-  fit_conjunct (compare (constant c) op (single (path current ss))) h s = absurd (cc)
-  fit_conjunct (compare (constant c) op (result d)) h s = absurd (cc)
-  fit_conjunct (compare (single (path root ss)) op (constant c)) h s = fit_on paths (singular_steps ss) op c g h (and_parts _ _ s).1
-  fit_conjunct (compare (single (path root ss)) op (single p)) h s = absurd (cc)
-  fit_conjunct (compare (single (path root ss)) op (result d)) h s = absurd (cc)
-  fit_conjunct (compare (single (path current ss)) op (constant c)) h s = absurd (cc)
-  fit_conjunct (compare (single (path current ss)) op (single p)) h s = absurd (cc)
-  fit_conjunct (compare (single (path current ss)) op (result d)) h s = absurd (cc)
-  fit_conjunct (compare (result c) op (constant d)) h s = absurd (cc)
-  fit_conjunct (compare (result c) op (single p)) h s = absurd (cc)
-  fit_conjunct (compare (result c) op (result d)) h s = absurd (cc)
-
-  from_first : (a b : Option Guard) → guard_or a b ≡ Some g → (a ≡ Some g) ⊎ (b ≡ Some g)
-  from_first None b h = inr h
-  from_first (Some k) b h = inl h
-
-  alone : (l : Logical) → first_guard paths (l ∷ []) ≡ Some g → conjunct_guard paths l ≡ Some g
-  alone l h = ⊎_elim (λ e. e) (λ e. absurd (cc)) (from_first (conjunct_guard paths l) None h)
+  fit_conjunct l h s = by_comparison paths g (λ l. logical_has_sound_literals l ≡ true → IsFit g)
+      (λ ss op c h s. fit_on paths (singular_steps ss) (mirrored op) c g h (and_parts _ _ s).0)
+      (λ ss op c h s. fit_on paths (singular_steps ss) op c g h (and_parts _ _ s).1) l h s
 
   mutual
     fit_logical : (l : Logical) → first_guard paths (conjuncts l) ≡ Some g → logical_has_sound_literals l ≡ true → IsFit g
-    fit_logical (or_all ls) h s = fit_conjunct (or_all ls) (alone (or_all ls) h) s
+    fit_logical (or_all ls) h s = fit_conjunct (or_all ls) (alone paths g (or_all ls) h) s
     fit_logical (and_all ls) h s = fit_logicals ls h s
-    fit_logical (negated l) h s = fit_conjunct (negated l) (alone (negated l) h) s
-    fit_logical (compare a op b) h s = fit_conjunct (compare a op b) (alone (compare a op b) h) s
-    fit_logical (exists p) h s = fit_conjunct (exists p) (alone (exists p) h) s
-    fit_logical (test c) h s = fit_conjunct (test c) (alone (test c) h) s
+    fit_logical (negated l) h s = fit_conjunct (negated l) (alone paths g (negated l) h) s
+    fit_logical (compare a op b) h s = fit_conjunct (compare a op b) (alone paths g (compare a op b) h) s
+    fit_logical (exists p) h s = fit_conjunct (exists p) (alone paths g (exists p) h) s
+    fit_logical (test c) h s = fit_conjunct (test c) (alone paths g (test c) h) s
 
     fit_logicals : (ls : Logicals) → first_guard paths (conjuncts_of ls) ≡ Some g → logical_has_sound_literals (and_all ls) ≡ true → IsFit g
     fit_logicals no_logicals h s = absurd (cc)
     fit_logicals (logical l ls) h s = ⊎_elim
         (λ e. fit_logical l e (and_parts _ _ s).0)
-        (λ e. fit_logicals ls e (and_parts _ _ s).1)
-        (from_first (first_guard paths (conjuncts l)) (first_guard paths (conjuncts_of ls)) (sym (first_joined paths (conjuncts l) (conjuncts_of ls)) ∙ h))
+        (λ e. fit_logicals ls e.1 (and_parts _ _ s).1)
+        (from_first paths g (first_guard paths (conjuncts l)) (first_guard paths (conjuncts_of ls)) (sym (first_joined paths (conjuncts l) (conjuncts_of ls)) ∙ h))
 
   fit_only : (ss : Selectors) → first_guard paths (only_filter ss) ≡ Some g → has_sound_literals (segment (child_segment ss) no_segments) ≡ true → IsFit g
-  fit_only no_selectors h s = absurd (cc)
-  fit_only (selector (name_selector x) no_selectors) h s = absurd (cc)
-  fit_only (selector (name_selector x) (selector r rs)) h s = absurd (cc)
-  fit_only (selector wildcard_selector no_selectors) h s = absurd (cc)
-  fit_only (selector wildcard_selector (selector r rs)) h s = absurd (cc)
-  fit_only (selector (index_selector i) no_selectors) h s = absurd (cc)
-  fit_only (selector (index_selector i) (selector r rs)) h s = absurd (cc)
-  fit_only (selector (slice_selector a b c) no_selectors) h s = absurd (cc)
-  fit_only (selector (slice_selector a b c) (selector r rs)) h s = absurd (cc)
-  fit_only (selector (filter_selector l) no_selectors) h s = fit_logical l h (and_parts _ _ (and_parts _ _ s).0).0
-  fit_only (selector (filter_selector l) (selector r rs)) h s = absurd (cc)
+  fit_only ss h s = by_filter paths g (λ ss. has_sound_literals (segment (child_segment ss) no_segments) ≡ true → IsFit g) (λ l h s. fit_logical l h (and_parts _ _ (and_parts _ _ s).0).0) ss h s
 
   fit_segment : (s : Segment) → first_guard paths (segment_conjuncts s) ≡ Some g → has_sound_literals (segment s no_segments) ≡ true → IsFit g
   fit_segment (child_segment ss) h s = fit_only ss h s
@@ -101,8 +70,8 @@ module _ (paths : List (List Step)) (g : Guard) where
   guard_fit no_segments h s = absurd (cc)
   guard_fit (segment k ks) h s = ⊎_elim
       (λ e. fit_segment k e (and_true _ (and_parts _ _ s).0))
-      (λ e. guard_fit ks e (and_parts _ _ s).1)
-      (from_first (first_guard paths (segment_conjuncts k)) (guard_of paths ks) (sym (first_joined paths (segment_conjuncts k) (flat_map segment_conjuncts (segment_list ks))) ∙ h))
+      (λ e. guard_fit ks e.1 (and_parts _ _ s).1)
+      (from_first paths g (first_guard paths (segment_conjuncts k)) (guard_of paths ks) (sym (first_joined paths (segment_conjuncts k) (flat_map segment_conjuncts (segment_list ks))) ∙ h))
 
 -- so is that of a route
 pub route_fit : (q : Segments) (c : Collection) (route : Route) (g : Guarding) → IsRouteOf route q c → route.guard ≡ Some g → (is_guard_operator (op_view g.op) ≡ true) × (is_sound (literal_view g.literal.now) ≡ true)

@@ -99,12 +99,12 @@ apart q paths blank h k = cc
 apart q paths (refused fault) h k = cc
 apart q paths (parsed t) h k = cc
 
--- a place among those that are left
-behind_place : {A : Type 0} (xs : List A) (m k j : ℕ) → j ≡ m + k → slice_get (drop m xs) k ≡ slice_get xs j
-behind_place xs zero k j e = let same : k ≡ j = omega arith in ap (slice_get xs) same
-behind_place [] (suc m) k j e = refl
-behind_place (x ∷ xs) (suc m) k zero e = absurd (omega arith)
-behind_place (x ∷ xs) (suc m) k (suc j) e = behind_place xs m k j (omega arith)
+-- one among those that are left
+behind_first : {A : Type 0} (xs : List A) (m k j : ℕ) → j ≡ m + k → slice_get (drop m xs) k ≡ slice_get xs j
+behind_first xs zero k j e = let same : k ≡ j = omega arith in ap (slice_get xs) same
+behind_first [] (suc m) k j e = refl
+behind_first (x ∷ xs) (suc m) k zero e = absurd (omega arith)
+behind_first (x ∷ xs) (suc m) k (suc j) e = behind_first xs m k j (omega arith)
 
 nothing : {A : Type 0} (k : ℕ) → drop {A = A} k [] ≡ []
 nothing zero = refl
@@ -142,7 +142,7 @@ module _ (q : Segments) (ss : List LineStatus) (o : ℕ) (os rs : List ℕ) (don
       record {
         s = t.s;
         first = omega arith;
-        is = sym (behind_place ss m t.k (o - 1) (omega arith)) ∙ t.here;
+        is = sym (behind_first ss m t.k (o - 1) (omega arith)) ∙ t.here;
         passes = t.passes;
         mine = ap (numbers_where p (o + 1)) (sym rest) ∙ t.mine;
         others = ap (numbers_where r (o + 1)) (sym rest) ∙ t.others;

@@ -65,7 +65,7 @@ unescaped_plain body i j u h a = record {
   is = printed_alone u a.no_control (no_apostrophe body i j u h a) a.no_backslash;
 }
 
--- the characters from a place on are plain, and encode the bytes there
+-- the characters from a position on are plain, and encode the bytes there
 characters_plain : (body : List ℕ) (i j : ℕ) (us : List ℕ) → list_all stands_unescaped body ≡ true → SpellsCharacters body i j us → AllPlain us × (drop i body ≡ encode_utf8_all us ++ drop j body)
 characters_plain body i j [] h s = (tt, ap (λ n. drop n body) s)
 characters_plain body i j (u ∷ us) h s =
