@@ -39,10 +39,10 @@ module _ (f : Framing) (c : Collection) (i : ℕ) (within : i < length c.state.l
 
   one_more : refusals_from f 1 (take (i + 1) ss) ≡ refusals_from f 1 (take i ss) ++ refusals_from f (i + 1) (line_status (i + 1) c ∷ [])
   one_more =
-      let place : 1 + length (take i ss) ≡ i + 1 = omega (arith, length-take-le i ss (omega (arith, size, within))) in
+      let number : 1 + length (take i ss) ≡ i + 1 = omega (arith, length-take-le i ss (omega (arith, size, within))) in
       ap (refusals_from f 1) (take_more ss i blank (omega (arith, size, within)) ∙ ap (λ s. take i ss ++ s ∷ []) (status_at c i blank within))
       ∙ refusals_append f 1 (take i ss) (line_status (i + 1) c ∷ [])
-      ∙ ap (λ n. refusals_from f 1 (take i ss) ++ refusals_from f n (line_status (i + 1) c ∷ [])) place
+      ∙ ap (λ n. refusals_from f 1 (take i ss) ++ refusals_from f n (line_status (i + 1) c ∷ [])) number
 
   whole_is : refusals_from f 1 ss ≡ (refusals_from f 1 (take i ss) ++ refusals_from f (i + 1) (line_status (i + 1) c ∷ [])) ++ refusals_from f (1 + length (take (i + 1) ss)) (drop (i + 1) ss)
   whole_is =

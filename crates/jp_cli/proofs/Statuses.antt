@@ -1,4 +1,4 @@
--- The status of a line, at its place and as it is told.
+-- The status of a line, at its index and as it is told.
 use Rattle.std.proofs.Common.{◌≡◌, ◌∙◌, ◌+◌, ◌-◌, ◌<◌, ℕ, [], length, sym, ap, arith, get_or}
 use Rattle.std.specs.Prelude.{Some, slice_get}
 use Rattle.std.specs.Option.{option_map}
@@ -11,14 +11,14 @@ use Rattle.jp_store.specs.Collections.{Collection, line_status, statuses_in}
 use Rattle.jp_store.specs.Views.{status_kind}
 use Rattle.jp_store.specs.declared.Status.TheVariants as told
 
--- the status of a line stands at its place
+-- the status of a line stands at its index
 pub status_at : (c : Collection) (i : ℕ) (d : LineStatus) → i < length c.state.lines → get_or (statuses_in c) i d ≡ line_status (i + 1) c
 status_at c i d l =
-    let place : (i + 1) - 1 ≡ i = omega arith in
+    let index : (i + 1) - 1 ≡ i = omega arith in
     let told : slice_get (statuses_in c) i ≡ Some (status_of c.framing (get_or c.state.lines i [])) =
     slice_get-map (status_of c.framing) c.state.lines i ∙ ap (option_map (status_of c.framing)) (slice_get-get_or c.state.lines i [] l) in
     get_or_from_slice_get (statuses_in c) i (status_of c.framing (get_or c.state.lines i [])) d told
-    ∙ ap (λ o. status_of c.framing (text_or_nothing o)) (sym (slice_get-get_or c.state.lines i [] l) ∙ ap (slice_get c.state.lines) (sym place))
+    ∙ ap (λ o. status_of c.framing (text_or_nothing o)) (sym (slice_get-get_or c.state.lines i [] l) ∙ ap (slice_get c.state.lines) (sym index))
 
 -- what is told of a refused line
 pub told_refused : (s : LineStatus) (fault : LineFault) → told.Refused fault ≡ status_kind s → s ≡ refused fault
