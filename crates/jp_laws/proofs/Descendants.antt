@@ -15,7 +15,7 @@ use Rattle.jp_laws.proofs.Defaults.{flat_map_same}
 use Rattle.jp_laws.proofs.Distinct.{IsDistinct, subtree_distinct}
 use Rattle.jp_laws.proofs.Reached.{Each, each_append, each_weaker, nodes_reached}
 
--- ---- places that are apart
+-- ---- locations that are apart
 
 elsewhere_by : (P : Node → Type 0) (l : List Step) → ((n : Node) → P n → l ≢ n.location) → (ns : List Node) → Each P ns → IsElsewhere l ns
 elsewhere_by P l h [] a = tt
@@ -101,10 +101,10 @@ others_not_by l s p (child name t more) h =
 index_number : (a b : ℕ) → index_step (pos a) ≡ index_step (pos b) → a ≡ b
 index_number a b e = cc
 
-later_places : (k p : ℕ) (cs : Children) → k < p → IsOther (index_step (pos k)) p cs
-later_places k p no_child h = tt
-later_places k p (child None t more) h = ((λ e. let f = index_number k p e in absurd (omega arith)), later_places k (p + 1) more (omega arith))
-later_places k p (child (Some name) t more) h = ((λ e. absurd (cc)), later_places k (p + 1) more (omega arith))
+later_indexes : (k p : ℕ) (cs : Children) → k < p → IsOther (index_step (pos k)) p cs
+later_indexes k p no_child h = tt
+later_indexes k p (child None t more) h = ((λ e. let f = index_number k p e in absurd (omega arith)), later_indexes k (p + 1) more (omega arith))
+later_indexes k p (child (Some name) t more) h = ((λ e. absurd (cc)), later_indexes k (p + 1) more (omega arith))
 
 name_scalars : (x y : List ℕ) → name_step x ≡ name_step y → x ≡ y
 name_scalars x y e = cc
@@ -117,7 +117,7 @@ other_names x p (child (Some name) t more) h =
     ((λ e. both_ways _ q.0 ((bytes_eq-Decides x name.points).1 (name_scalars x name.points e))), other_names x (p + 1) more q.1)
 
 first_is_other : (p : ℕ) (name : Option Name) (t : Tree) (more : Children) → has_repeated (names (child name t more)) ≡ false → IsOther (step_to p name) (p + 1) more × (has_repeated (names more) ≡ false)
-first_is_other p None t more h = (later_places p (p + 1) more (omega arith), h)
+first_is_other p None t more h = (later_indexes p (p + 1) more (omega arith), h)
 first_is_other p (Some name) t more h = let q = or_parts (list_any (bytes_eq name.points) (names more)) (has_repeated (names more)) h in (other_names name.points (p + 1) more q.0, q.1)
 
 crossed : (l : List Step) (s : Step) (x y : Node) → From (l ++ s ∷ []) x → NotBy l s y → x.location ≢ y.location

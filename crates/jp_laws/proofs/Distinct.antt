@@ -15,9 +15,9 @@ IsDistinct n = has_duplicate n.tree ≡ false
 abbrev HasDistinct : Step × Tree → Type 0
 HasDistinct p = has_duplicate p.1 ≡ false
 
-steps_distinct : (place : ℕ) (cs : Children) → children_have_duplicate cs ≡ false → Each HasDistinct (steps_from place cs)
-steps_distinct place no_child h = tt
-steps_distinct place (child name t more) h = let p = or_parts (has_duplicate t) (children_have_duplicate more) h in (p.0, steps_distinct (place + 1) more p.1)
+steps_distinct : (index : ℕ) (cs : Children) → children_have_duplicate cs ≡ false → Each HasDistinct (steps_from index cs)
+steps_distinct index no_child h = tt
+steps_distinct index (child name t more) h = let p = or_parts (has_duplicate t) (children_have_duplicate more) h in (p.0, steps_distinct (index + 1) more p.1)
 
 in_distinct : (v : Value) → value_has_duplicate v ≡ false → Each HasDistinct (steps_in v)
 in_distinct null h = tt

@@ -7,7 +7,7 @@ pub mod Distinct
 pub mod Moved
 pub mod NumberOrder
 pub mod PathTexts
-pub mod IndexPlaces
+pub mod EndIndexes
 pub mod Locations
 pub mod PlainSides
 pub mod Reached

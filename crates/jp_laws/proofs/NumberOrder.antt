@@ -8,7 +8,7 @@ use Rattle.jp_decimal.specs.Values.{Number, order}
 use Rattle.jp_laws.proofs.Shifted.{ten, lower, shifted}
 use Rattle.jp_model.specs.Json.Numbers.{number_order, number_less, number_equal}
 use Rattle.jp_model.specs.Json.Tree.{Value, null, boolean, number, string, container, array, object}
-use Rattle.jp_model.specs.Meaning.Compare.{compared, text_less, value_less, values_equal}
+use Rattle.jp_model.specs.Meaning.Compare.{compared, both_equal, is_less, text_less, value_less, values_equal}
 use Rattle.jp_model.specs.Query.Syntax.{CompareOp, equal, not_equal, less, less_equal, greater, greater_equal}
 use Rattle.jp_laws.specs.Values.{exactly_one}
 
@@ -102,6 +102,15 @@ module _ (order_total : IsTotalOrder order) where
   less_chain (Some x) (Some y) None p q = absurd (cc)
   less_chain x y z p q = absurd (cc)
 
+-- a comparison tells only which of two is less and whether they are equal
+compared_alike : (op : CompareOp) (x y v w : Option Value) → both_equal x y ≡ both_equal v w → is_less x y ≡ is_less v w → is_less y x ≡ is_less w v → compared op x y ≡ compared op v w
+compared_alike equal x y v w same below above = same
+compared_alike not_equal x y v w same below above = ap not same
+compared_alike less x y v w same below above = below
+compared_alike less_equal x y v w same below above = ap₂ (λ a b. a || b) below same
+compared_alike greater x y v w same below above = above
+compared_alike greater_equal x y v w same below above = ap₂ (λ a b. a || b) above same
+
 -- ---- a number by its value
 
 pub same_value : (m e : ℤ) → compared equal (Some (number m e)) (Some (number (ten m) (lower e))) ≡ true
@@ -134,30 +143,22 @@ module _ (order_total : IsTotalOrder order) where
   less_right m e (number n f) = ap is_lt (order_right m e n f)
   less_right m e y = refl
 
+  equal_alike : (m e : ℤ) (y : Option Value)
+      → (both_equal (Some (number (ten m) (lower e))) y ≡ both_equal (Some (number m e)) y) × (both_equal y (Some (number (ten m) (lower e))) ≡ both_equal y (Some (number m e)))
+  equal_alike m e None = (refl, refl)
+  equal_alike m e (Some y) = (equal_left m e y, equal_right m e y)
+
+  less_alike : (m e : ℤ) (y : Option Value)
+      → (is_less (Some (number (ten m) (lower e))) y ≡ is_less (Some (number m e)) y) × (is_less y (Some (number (ten m) (lower e))) ≡ is_less y (Some (number m e)))
+  less_alike m e None = (refl, refl)
+  less_alike m e (Some y) = (less_left m e y, less_right m e y)
+
   pub value_left : (op : CompareOp) (m e : ℤ) (y : Option Value) → compared op (Some (number (ten m) (lower e))) y ≡ compared op (Some (number m e)) y
-  value_left equal m e None = refl
-  value_left not_equal m e None = refl
-  value_left less m e None = refl
-  value_left less_equal m e None = refl
-  value_left greater m e None = refl
-  value_left greater_equal m e None = refl
-  value_left equal m e (Some y) = equal_left m e y
-  value_left not_equal m e (Some y) = ap not (equal_left m e y)
-  value_left less m e (Some y) = less_left m e y
-  value_left less_equal m e (Some y) = ap₂ (λ a b. a || b) (less_left m e y) (equal_left m e y)
-  value_left greater m e (Some y) = less_right m e y
-  value_left greater_equal m e (Some y) = ap₂ (λ a b. a || b) (less_right m e y) (equal_left m e y)
+  value_left op m e y =
+      let less = less_alike m e y in
+      compared_alike op (Some (number (ten m) (lower e))) y (Some (number m e)) y (equal_alike m e y).0 less.0 less.1
 
   pub value_right : (op : CompareOp) (m e : ℤ) (y : Option Value) → compared op y (Some (number (ten m) (lower e))) ≡ compared op y (Some (number m e))
-  value_right equal m e None = refl
-  value_right not_equal m e None = refl
-  value_right less m e None = refl
-  value_right less_equal m e None = refl
-  value_right greater m e None = refl
-  value_right greater_equal m e None = refl
-  value_right equal m e (Some y) = equal_right m e y
-  value_right not_equal m e (Some y) = ap not (equal_right m e y)
-  value_right less m e (Some y) = less_right m e y
-  value_right less_equal m e (Some y) = ap₂ (λ a b. a || b) (less_right m e y) (equal_right m e y)
-  value_right greater m e (Some y) = less_left m e y
-  value_right greater_equal m e (Some y) = ap₂ (λ a b. a || b) (less_left m e y) (equal_right m e y)
+  value_right op m e y =
+      let less = less_alike m e y in
+      compared_alike op y (Some (number (ten m) (lower e))) y (Some (number m e)) (equal_alike m e y).1 less.1 less.0

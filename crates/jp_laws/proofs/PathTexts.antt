@@ -6,8 +6,8 @@ use Rattle.std.proofs.lemmas.Bool.{cond_both, agree_below_at, eqb-true, eqb-fals
 use Rattle.std.proofs.lemmas.Bool.Decides.{nat_tests}
 use Rattle.std.proofs.lemmas.Fmt.{digits_decimal, digits_value-decimal, first_decimal, decimal_digit}
 use Rattle.std.proofs.lemmas.Str.{chars-encodes}
-use Rattle.std.proofs.lemmas.Str.Parse.{IsNumeralModel, IsDigitsTest, numerals_by_fold, FoldsDigits}
-use Rattle.jp_model.specs.Characters.{is_digit, digits_value, value_behind, four_digits, is_surrogate}
+use Rattle.jp_model.proofs.Digits.{digits_model}
+use Rattle.jp_model.specs.Characters.{is_digit, four_digits, is_surrogate}
 use Rattle.jp_model.specs.Json.Numbers.{AreDigits}
 use Rattle.jp_model.specs.Meaning.Paths.{hex_digit, name_scalar, step_text, steps_text, path_text}
 use Rattle.jp_model.specs.Query.Limits.{Tests, segments_pass, selector_passes, is_exact, literal_small, has_exact_integers, has_small_exponents, knows_functions}
@@ -61,21 +61,6 @@ digit_scalars (d ∷ ds) a = and_from _ _ (digit_scalar d a.0) (digit_scalars ds
 
 -- ---- decimal digits
 
-digit_range : (c : ℕ) → is_digit c ≡ true → (48 ≤ c) × (c ≤ 57)
-digit_range c h = grind (arith, nat_tests, h)
-
-digit_in_range : (c : ℕ) → 48 ≤ c → c ≤ 57 → is_digit c ≡ true
-digit_in_range c l h = grind (arith, nat_tests, l, h)
-
-digits_test : IsDigitsTest AreDigits
-digits_test = record { empty = tt; parts = λ c cs h. (digit_range c h.0, h.1); more = λ c cs r h. (digit_in_range c r.0 r.1, h) }
-
-folds : FoldsDigits value_behind
-folds = record { empty = λ n. refl; more = λ n c cs r. refl }
-
-own : IsNumeralModel AreDigits digits_value
-own = numerals_by_fold AreDigits digits_test value_behind folds
-
 digits_run : (ds y : List ℕ) → AreDigits ds → Run is_digit (ds ++ y) y ds
 digits_run [] y a = run_ends
 digits_run (d ∷ ds) y a = run_goes_on a.0 (digits_run ds y a.1)
@@ -87,8 +72,8 @@ positive_digits (d ∷ ds) y a h = positive a.0 (λ (e : d ≡ 48). omega (arith
 index_spelled : (k : ℕ) (y : List ℕ) → k ≤ 9007199254740991 → Int (decimal k ++ y) y (pos k)
 index_spelled zero y h = subst (λ ds. Int (ds ++ y) y (pos 0)) (sym (decimal_digit 0 (omega arith))) zero_int
 index_spelled (suc k) y h =
-    subst (λ n. Int (decimal (suc k) ++ y) y (pos n)) (digits_value-decimal own (suc k) (omega arith))
-    (positive_int (positive_digits (decimal (suc k)) y (digits_decimal own (suc k) (omega arith)) (first_decimal (suc k) (omega arith) (omega arith))))
+    subst (λ n. Int (decimal (suc k) ++ y) y (pos n)) (digits_value-decimal digits_model (suc k) (omega arith))
+    (positive_int (positive_digits (decimal (suc k)) y (digits_decimal digits_model (suc k) (omega arith)) (first_decimal (suc k) (omega arith) (omega arith))))
 
 -- ---- names
 
@@ -161,7 +146,7 @@ steps_spelled (s ∷ ss) a = step_spelled s ss (steps_text ss) a.0 (steps_spelle
 
 step_scalars : (s : Step) → IsShown s → scalars (step_text s) ≡ true
 step_scalars (name_step x) h = scalars_append (91 ∷ (39 ∷ flat_map name_scalar x ++ 39 ∷ [])) (93 ∷ []) (scalars_append (flat_map name_scalar x) (39 ∷ []) (name_scalars x h) refl) refl
-step_scalars (index_step (pos k)) h = scalars_append (91 ∷ decimal k) (93 ∷ []) (digit_scalars (decimal k) (digits_decimal own k (omega arith))) refl
+step_scalars (index_step (pos k)) h = scalars_append (91 ∷ decimal k) (93 ∷ []) (digit_scalars (decimal k) (digits_decimal digits_model k (omega arith))) refl
 step_scalars (index_step (negsuc k)) h = absurd h
 
 steps_scalars : (steps : List Step) → Each IsShown steps → scalars (steps_text steps) ≡ true

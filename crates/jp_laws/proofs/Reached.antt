@@ -66,10 +66,10 @@ module _ (P : Node → Type 0) (goes : (n : Node) → P n → Each P (children n
     below_reached n (string x) a = tt
     below_reached n (container kind cs) a = from_reached n 0 cs a
 
-    from_reached : (n : Node) (place : ℕ) (cs : Children) → Each P (map (child_of n) (steps_from place cs)) → Each P (below_from n.location place cs)
-    from_reached n place no_child a = tt
-    from_reached n place (child name t more) a =
-        each_append P (subtree_at (n.location ++ step_to place name ∷ []) t) (below_from n.location (place + 1) more) (at_reached (n.location ++ step_to place name ∷ []) t a.0) (from_reached n (place + 1) more a.1)
+    from_reached : (n : Node) (index : ℕ) (cs : Children) → Each P (map (child_of n) (steps_from index cs)) → Each P (below_from n.location index cs)
+    from_reached n index no_child a = tt
+    from_reached n index (child name t more) a =
+        each_append P (subtree_at (n.location ++ step_to index name ∷ []) t) (below_from n.location (index + 1) more) (at_reached (n.location ++ step_to index name ∷ []) t a.0) (from_reached n (index + 1) more a.1)
 
   pub subtree_reached : (n : Node) → P n → Each P (subtree n)
   subtree_reached n h = at_reached n.location n.tree h
@@ -107,7 +107,7 @@ module _ (P : Node → Type 0) (goes : (n : Node) → P n → Each P (children n
   nodes_reached no_segments list t h = h
   nodes_reached (segment s ss) list t h = nodes_reached ss (flat_map (λ n. segment_nodes s n t) list) t (each_flat P P (λ n. segment_nodes s n t) (λ n k. segment_reached s n t k) list h)
 
--- ---- each element, by recursion and by its place
+-- ---- each element, by recursion and by its index
 
 pub all_each : {X : Type 0} (P : X → Type 0) (xs : List X) → All P xs → Each P xs
 all_each P [] h = tt

@@ -361,8 +361,8 @@ here n = omega (arith, ints)
 one_down : (n s : ℕ) → pos n -ℤ pos (suc s) ≡ before (suc n) +ℤ negsuc s
 one_down n s = omega (arith, ints)
 
-same_place : (n r : ℕ) → pos n -ℤ pos (suc r) ≡ pos (suc n) -ℤ pos (suc (suc r))
-same_place n r = omega (arith, ints)
+same_index : (n r : ℕ) → pos n -ℤ pos (suc r) ≡ pos (suc n) -ℤ pos (suc (suc r))
+same_index n r = omega (arith, ints)
 
 from_top : (l h s n r d m : ℕ) → h ≡ n + d → d + r ≡ m * suc s → r ≤ s → SelectsDown (negsuc s) (before l) (pos n -ℤ pos (suc r)) (select_down (down_test l h s) n)
 from_top l h s zero r d m a e k = past_end l r
@@ -375,7 +375,7 @@ from_top l h s (suc n) zero d m a e k =
     ]
 from_top l h s (suc n) (suc r) d m a e k =
     rw (third_false (int_lt (before l) (pos n)) (int_le (pos n) (before h)) _ (off_down h s n d r m (omega arith) e k))
-    (subst (λ i. SelectsDown (negsuc s) (before l) i (select_down (down_test l h s) n)) (same_place n r) (from_top l h s n r (suc d) m (omega arith) (omega arith) (omega arith)))
+    (subst (λ i. SelectsDown (negsuc s) (before l) i (select_down (down_test l h s) n)) (same_index n r) (from_top l h s n r (suc d) m (omega arith) (omega arith) (omega arith)))
 
 to_top : (l h s n : ℕ) → h ≤ n → SelectsDown (negsuc s) (before l) (before h) (select_down (down_test l h s) n)
 to_top l h s zero a = subst (λ k. SelectsDown (negsuc s) (before l) (before k) (select_down (down_test l h s) 0)) (let e : 0 ≡ h = omega arith in e) (past_end l 0)

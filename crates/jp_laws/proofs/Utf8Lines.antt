@@ -16,7 +16,7 @@ use Rattle.jp_model.specs.Json.Spelling.{Spells, SpellsValue, SpellsFirst, Spell
 use Rattle.jp_model.specs.Json.Strings.{ShortEscape, UnicodeEscape, SpellsCharacter, SpellsCharacters, SpellsBody, short_escape}
 use Rattle.jp_model.specs.Json.Tree.{Tree, node, Value, null, boolean, number, string, container, Container, array, object, Children, no_child, child, Name, span}
 
--- where the rest of a line is UTF-8 from a place on, it is so from an earlier one on
+-- where the rest of a line is UTF-8 from a position on, it is so from an earlier one on
 abbrev Back : List ℕ → ℕ → ℕ → Type 0
 Back line i j = IsUtf8 (drop j line) → IsUtf8 (drop i line)
 

@@ -1,4 +1,4 @@
-use Rattle.jp_laws.proofs.IndexPlaces.{from_the_end, before_the_front, past_the_end}
+use Rattle.jp_laws.proofs.EndIndexes.{from_the_end, before_the_front, past_the_end}
 use Rattle.jp_laws.proofs.slices.negative_indexes_count_from_the_end.Goals as goal
 
 pub returns-clause-negative : goal.returns-clause-negative
