@@ -1,29 +1,12 @@
 use jp_decimal::{Decimal, NumberFault, laws};
 use std::alloc::{AllocError, Global};
 use std::cmp::Ordering;
-
-#[derive(Debug, Drop)]
-enum Fail {
-    Number,
-    Memory,
-}
-
-impl From<NumberFault> for Fail {
-    fn from(_fault: NumberFault) -> Fail {
-        Fail::Number
-    }
-}
-
-impl From<AllocError> for Fail {
-    fn from(_error: AllocError) -> Fail {
-        Fail::Memory
-    }
-}
+use std::test::Fail;
 
 /// The number of a text that is not too long to be read.
 fn number(text: &[u8]) -> Result<Decimal<'_>, Fail> {
     if text.len() >= 1 << 32 {
-        return Err(Fail::Number);
+        return Err("too long".into());
     }
     Ok(Decimal::read(text)?)
 }

@@ -1,37 +1,17 @@
 //! What queries select in small lines.
 
-use super::tapes::{NoTape, tape_of};
+use super::tapes::tape_of;
 use jp_eval::{eval_from, truth};
 use jp_query::{Logical, parse};
 use jp_tape::Cursor;
-use std::alloc::AllocError;
-
-#[derive(Debug, Drop)]
-enum Fail {
-    Line,
-    Query,
-    Memory,
-}
-
-impl From<NoTape> for Fail {
-    fn from(_fault: NoTape) -> Fail {
-        Fail::Line
-    }
-}
-
-impl From<AllocError> for Fail {
-    fn from(_error: AllocError) -> Fail {
-        Fail::Memory
-    }
-}
+use std::test::Fail;
 
 #[test]
 fn segments_select_their_nodes(rt: HostRuntime) -> Result<(), Fail> {
     let tape = tape_of(rt.alloc(), b"[\"a\",\"b\"]")?;
     let root = Cursor::root(&tape, b"[\"a\",\"b\"]");
-    let query = match parse(rt.alloc(), b"$[?match(@,'a')]") {
-        Ok(query) => query,
-        Err(_) => return Err(Fail::Query),
+    let Ok(query) = parse(rt.alloc(), b"$[?match(@,'a')]") else {
+        return Err("no query".into());
     };
     let mut found = Vec::new(rt.alloc());
     eval_from(rt.alloc(), query.segments(), root, root, &mut found)?;

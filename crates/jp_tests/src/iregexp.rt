@@ -238,7 +238,7 @@ fn runs_of_a_class_take_one_pass(rt: HostRuntime) -> Result<(), Fail> {
 }
 
 // Whether the pattern answers for the text as a pattern that has one choice more. The text does not hold that choice, and its
-// 64 places are more than one word takes, so it is matched position by position.
+// 64 states are more than one word takes, so it is matched position by position.
 fn answers_as_by_positions(alloc: Global, pattern: &str, text: &str) -> Result<bool, AllocError> {
     let mut longer = String::from_str(alloc, pattern)?;
     longer.push_str("|\u{10FFFF}{64}")?;
@@ -249,7 +249,7 @@ fn answers_as_by_positions(alloc: Global, pattern: &str, text: &str) -> Result<b
 }
 
 #[test]
-fn places_answer_as_positions_do(rt: HostRuntime) -> Result<(), Fail> {
+fn states_answer_as_positions_do(rt: HostRuntime) -> Result<(), Fail> {
     for (size, end) in [
         (0usize, ""),
         (0, "b"),
@@ -322,7 +322,7 @@ fn exact_counts_of_a_class_take_one_pass(rt: HostRuntime) -> Result<(), Fail> {
     Ok(())
 }
 
-// A pattern of few places answers as one that is matched position by position.
+// A pattern of few states answers as one that is matched position by position.
 #[test]
 fn counts_under_stars_answer_as_small_patterns_do(rt: HostRuntime) -> Result<(), Fail> {
     for size in [0usize, 1, 64, 130] {

@@ -1,29 +1,12 @@
 //! Keys of values, and counts that no query can have.
 
-use super::tapes::{NoTape, tape_of};
+use super::tapes::tape_of;
 use jp_query::{CompareOp, Literal};
 use jp_tape::Cursor;
 use jp_values::{Key, Value, compare, key_of, key_of_literal, laws};
-use std::alloc::{AllocError, Global};
+use std::alloc::Global;
 use std::cmp::Ordering;
-
-#[derive(Debug, Drop)]
-enum Fail {
-    Line,
-    Memory,
-}
-
-impl From<NoTape> for Fail {
-    fn from(_fault: NoTape) -> Fail {
-        Fail::Line
-    }
-}
-
-impl From<AllocError> for Fail {
-    fn from(_error: AllocError) -> Fail {
-        Fail::Memory
-    }
-}
+use std::test::Fail;
 
 /// The key of a text's value.
 fn key(alloc: Global, line: &[u8]) -> Result<Option<Key>, Fail> {
@@ -45,7 +28,7 @@ fn counts_are_compared_as_numbers(rt: HostRuntime) -> Result<(), Fail> {
     let tape = tape_of(rt.alloc(), line)?;
     let root = Cursor::root(&tape, line);
     if root.after() < 3 {
-        return Err(Fail::Memory);
+        return Err("too few nodes".into());
     }
     let most = Value::Node(root.go_to(1));
     let two = Value::Node(root.go_to(2));
@@ -95,7 +78,7 @@ fn scalars_alone_have_keys_and_copies_are_equal(rt: HostRuntime) -> Result<(), F
     assert!(rt; key(alloc, b"null")? == Some(Key::Null));
     for line in [b"1.0".as_slice(), b"\"a\"", b"true"] {
         let Some(found) = key(alloc, line)? else {
-            return Err(Fail::Memory);
+            return Err("no key".into());
         };
         let copy = found.copy(alloc)?;
         assert!(rt; copy == found && copy.is_same(&found));
