@@ -1,5 +1,5 @@
 -- The marks that are to come while a line is read.
-use Rattle.std.specs.Prelude.{◌≡◌, ℕ, ◌+◌, ◌-◌, ◌*◌, ◌/◌, ◌<◌, ◌≤◌, Bool, true, false, not, ◌||◌, List, [], ◌∷◌, length, drop, Option, Some, None, vec_capacity}
+use Rattle.std.specs.Prelude.{◌≡◌, ℕ, suc, ◌+◌, ◌-◌, ◌*◌, ◌<◌, ◌≤◌, Bool, true, false, not, ◌||◌, List, [], ◌∷◌, length, drop, Option, Some, None, vec_capacity}
 use Rattle.std.specs.List.{filter, range_with_len}
 use Rattle.jp_model.specs.declared.Span.{Span}
 use Rattle.jp_model.specs.Characters.{is_white, is_structural, is_quote, is_backslash}
@@ -47,13 +47,14 @@ abbrev pub name_marks : Option Span → ℕ
 name_marks None = 0
 name_marks (Some body) = 3
 
--- the lists have room for a node at each mark that is to come, and for a name at each third of them
-pub record HasRoom (b : Builder) : Type 0 where
-  pub words : length b.words.items + 3 * length b.marks.now ≤ vec_capacity b.words
-  pub names : length b.names.items + length b.marks.now / 3 ≤ vec_capacity b.names
+-- the lists have room for so many more nodes and names
+pub record HasRoom (b : Builder) (node_count name_count : ℕ) : Type 0 where
+  pub words : length b.words.items + 3 * node_count ≤ vec_capacity b.words
+  pub names : length b.names.items + name_count ≤ vec_capacity b.names
 
--- the marks ahead of a turn, for which there is room; a turn after a value is one after a bracket, where a token may begin
-abbrev pub IsAheadOf : List ℕ → Turn → Builder → Type 0
-IsAheadOf line (turns.Value label at) b = IsNext line at b.marks.now × HasRoom b
-IsAheadOf line (turns.After at) b = IsAhead line at b.marks.now × HasRoom b × (may_begin line at ≡ true)
-IsAheadOf line turns.End b = Unit {0}
+-- the marks ahead of a turn, and room for so many values that are to come, each with a name. A turn after a value is one after a
+-- bracket, where a token may begin, and a name may be kept before the first of those values is read.
+abbrev pub IsAheadOf : List ℕ → ℕ → Turn → Builder → Type 0
+IsAheadOf line n (turns.Value label at) b = IsNext line at b.marks.now × HasRoom b n n
+IsAheadOf line n (turns.After at) b = IsAhead line at b.marks.now × HasRoom b n (suc n) × (may_begin line at ≡ true)
+IsAheadOf line n turns.End b = Unit {0}

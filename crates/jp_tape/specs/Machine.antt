@@ -224,6 +224,12 @@ pub record IsCounted (old new : Builder) : Type 0 where
   pub names : new.names.items ≡ old.names.items
   pub duplicate : new.has_duplicate ≡ old.has_duplicate
 
+-- the lists of words and names may have more room, and all else is the same
+pub record IsRoomier (old new : Builder) : Type 0 where
+  pub words : new.words.items ≡ old.words.items
+  pub names : new.names.items ≡ old.names.items
+  pub rest : new ≡ record old { words = new.words; names = new.names }
+
 -- some state is held
 abbrev pub Holds : List ℕ → Turn → Builder → Type 0
 Holds line turn b = (x : State) × Stands line turn b x

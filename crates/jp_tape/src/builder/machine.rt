@@ -1,6 +1,6 @@
 //! The walk over a line: a machine with a stack of open containers, which writes the words of the nodes.
 
-ghost use Rattle.std.specs.Prelude.{◌≡◌, ◌+◌, ◌*◌, ◌^◌, ◌<◌, ◌≤◌, ◌||◌, ◌++◌, ◌∷◌, [], ℕ, max, length, drop, List, true, false, IfOk, IfErr, IsTrue, IsUtf8, vec_capacity};
+ghost use Rattle.std.specs.Prelude.{◌≡◌, ◌+◌, ◌*◌, ◌^◌, ◌<◌, ◌≤◌, ◌||◌, ◌++◌, ◌∷◌, [], ℕ, suc, max, length, drop, List, true, false, IfOk, IfErr, IsTrue, IsUtf8, vec_capacity};
 ghost use Rattle.jp_model.specs.Json.Places.{Has, White, byte_at, bytes_between};
 ghost use Rattle.jp_tape.specs.Names.{points};
 ghost use Rattle.jp_strings.specs.Plain.{ArePlain};
@@ -13,7 +13,7 @@ ghost use Rattle.jp_tape.specs.Words.{head_word, span_word, container_code};
 ghost use Rattle.jp_tape.specs.Places.{Stops, IsUnescaped};
 ghost use Rattle.jp_tape.specs.Ahead.{HasRoom, IsAhead, IsAheadOf, IsNext, IsPassed, first_or, name_marks};
 ghost use Rattle.jp_tape.specs.Reading.{body_word, code_of, container_if, FoundScalar, FoundLabel, IsPlainLabel, NoLabel, OnFault};
-ghost use Rattle.jp_tape.specs.Machine.{Steps, NoStep, Reached, IsWithin, IsBehind, IsSettled, Labelled, IsFinished, IsCounted, IsClosed, Holds, held, no_container};
+ghost use Rattle.jp_tape.specs.Machine.{Steps, NoStep, Reached, IsWithin, IsBehind, IsSettled, Labelled, IsFinished, IsCounted, IsClosed, IsRoomier, Holds, held, no_container};
 ghost use Rattle.jp_tape.specs.declared.builder.machine.Open.{Open};
 ghost use Rattle.jp_tape.specs.declared.builder.machine.Turn.TheVariants as turns;
 
@@ -26,7 +26,7 @@ use super::scan::{is_at, marks_behind, next_token, skip_white};
 use super::tokens::{Label, Scalar, name_at, name_by_marks, no_name, scalar_at, text_at};
 use crate::Kind;
 use jp_model::{LineFault, Span};
-use std::alloc::{AllocError, Global};
+use std::alloc::Global;
 
 /// A container that is open.
 #[derive(Clone, Copy)]
@@ -83,6 +83,10 @@ pub struct Builder<'a> {
 }
 
 const GRAMMAR: BuildFault = BuildFault::Line(LineFault::Grammar);
+
+/// Room is made for so many turns of the walk at once, or for fewer where fewer marks are to come. Room for a whole line at once
+/// would ask for several times the memory that a long one needs, and at each node it would cost time.
+const STRETCH: usize = 1 << 16;
 
 fn larger(a: usize, b: usize) -> usize
     ensures { result ≡ max a b }
@@ -234,8 +238,8 @@ impl<'a> Builder<'a> {
         }
     }
 
-    /// Forgets the line before, and gets room for the words and names of this one: a node has a mark at least, and a name three.
-    fn start(&mut self, marks: &'a [u32]) -> Result<(), AllocError>
+    /// Forgets the line before.
+    fn start(&mut self, marks: &'a [u32])
         ensures words { self.new.words.items ≡ [] }
         ensures opened { held self.new ≡ no_container ∷ [] }
         ensures names { self.new.names.items ≡ [] }
@@ -244,7 +248,6 @@ impl<'a> Builder<'a> {
         ensures surrogate { self.new.has_surrogate ≡ false }
         ensures long { self.new.has_long_exponent ≡ false }
         ensures duplicate { self.new.has_duplicate ≡ false }
-        ensures room { IfOk result (λ _. HasRoom self.new) }
     {
         self.words.clear();
         self.opened.clear();
@@ -255,8 +258,32 @@ impl<'a> Builder<'a> {
         self.has_surrogate = false;
         self.has_long_exponent = false;
         self.has_duplicate = false;
-        self.words.reserve(3 * marks.len())?;
-        self.names.reserve(marks.len() / 3)
+    }
+
+    /// For how many turns of the walk the lists have room: a turn writes one node, and keeps one name at most.
+    #[inline(always)]
+    fn room(&self) -> usize
+        ensures enough { HasRoom self.now result result }
+        ensures most { (n : ℕ) → HasRoom self.now n n → n ≤ result }
+    {
+        let nodes = (self.words.capacity() - self.words.len()) / 3;
+        let names = self.names.capacity() - self.names.len();
+        nodes.min(names)
+    }
+
+    /// Makes room for the next turns, and tells for how many there is room then. Each passes a mark, except one that finds none.
+    #[inline(never)]
+    fn make_room(&mut self) -> Result<usize, BuildFault>
+        ensures some { IfOk result (λ turns. 0 < turns) }
+        ensures room { IfOk result (λ turns. HasRoom self.new turns turns) }
+        ensures same { IsRoomier self.old self.new }
+        ensures memory { IfErr result (λ fault. OnFault fault ⊥) }
+    {
+        let turns = self.marks.len().clamp(1, STRETCH);
+        if self.words.reserve(3 * turns).is_err() || self.names.reserve(turns).is_err() {
+            return Err(BuildFault::Memory);
+        }
+        Ok(self.room())
     }
 
     /// Keeps the name that comes before a child's value.
@@ -268,9 +295,9 @@ impl<'a> Builder<'a> {
         requires plain { IsPlainLabel line.now label }
         requires ahead { IsPassed line.now self.old.marks.now (name_marks label.name) label.value }
         requires first { label.value ≡ first_or (drop (name_marks label.name) self.old.marks.now) (length line.now) }
-        requires spare { HasRoom self.old }
+        requires spare { HasRoom self.old 0 1 }
         ensures found { (kind : Container) (from : ℕ) → FoundLabel line.now kind from label → from ≤ label.value → Labelled line.now kind from result self.old self.new }
-        ensures ahead { IsAheadOf line.now result self.new }
+        ensures ahead { (n : ℕ) → HasRoom self.old n (suc n) → IsAheadOf line.now n result self.new }
     {
         let word = label_to_word(label.name, self.innermost.children);
         raise(&mut self.has_surrogate, label.is_lone);
@@ -295,9 +322,9 @@ impl<'a> Builder<'a> {
         requires room { length line.now < 2 ^ 32 }
         requires utf8 { IsUtf8 line.now }
         requires ahead { IsAhead line.now from self.old.marks.now }
-        requires spare { HasRoom self.old }
+        requires spare { HasRoom self.old 0 1 }
         ensures found { IfOk result (λ turn. Labelled line.now object from turn self.old self.new) }
-        ensures ahead { IfOk result (λ turn. IsAheadOf line.now turn self.new) }
+        ensures ahead { (n : ℕ) → HasRoom self.old n (suc n) → IfOk result (λ turn. IsAheadOf line.now n turn self.new) }
         ensures stuck { IfErr result (λ fault. OnFault fault (NoLabel line.now object from)) }
     {
         let Some(label) = name_at(line, is_unescaped, self.marks, from) else {
@@ -321,9 +348,9 @@ impl<'a> Builder<'a> {
         requires utf8 { IsUtf8 line.now }
         requires stops { Stops line.now from }
         requires ahead { IsNext line.now from self.old.marks.now }
-        requires spare { HasRoom self.old }
+        requires spare { HasRoom self.old 0 1 }
         ensures found { IfOk result (λ turn. Labelled line.now (container_if is_object) from turn self.old self.new) }
-        ensures ahead { IfOk result (λ turn. IsAheadOf line.now turn self.new) }
+        ensures ahead { (n : ℕ) → HasRoom self.old n (suc n) → IfOk result (λ turn. IsAheadOf line.now n turn self.new) }
         ensures stuck { IfErr result (λ fault. OnFault fault (NoLabel line.now (container_if is_object) from)) }
     {
         if !is_object {
@@ -354,10 +381,10 @@ impl<'a> Builder<'a> {
         requires room { length line.now < 2 ^ 32 }
         requires utf8 { IsUtf8 line.now }
         requires few { length self.old.words.items ≤ 3 * at }
-        requires ahead { IsAheadOf line.now (turns.Value label at) self.old }
+        requires ahead { IsAheadOf line.now 1 (turns.Value label at) self.old }
         ensures goes_on { IfOk result (λ turn. Steps line.now (turns.Value label at) self.old turn self.new) }
         ensures behind { IfOk result (λ turn. IsBehind line.now at turn self.new) }
-        ensures ahead { IfOk result (λ turn. IsAheadOf line.now turn self.new) }
+        ensures ahead { (n : ℕ) → HasRoom self.old (suc n) (suc n) → IfOk result (λ turn. IsAheadOf line.now n turn self.new) }
         ensures stuck { IfErr result (λ fault. OnFault fault (NoStep line.now (turns.Value label at) self.old)) }
     {
         self.marks = marks_behind(self.marks, 1);
@@ -392,13 +419,12 @@ impl<'a> Builder<'a> {
     fn keep_scalar(&mut self, at: usize, label: u64, scalar: Scalar)
         requires order { at < scalar.end }
         requires room { scalar.end < 2 ^ 32 }
-        requires some { 0 < scalar.marks }
         requires marks { scalar.marks ≤ length self.old.marks.now }
-        requires spare { HasRoom self.old }
+        requires spare { HasRoom self.old 1 0 }
         ensures goes_on { (line : List ℕ) → FoundScalar line at scalar → Steps line (turns.Value label at) self.old (turns.After scalar.end) self.new }
         ensures marks { self.new.marks.now ≡ drop scalar.marks self.old.marks.now }
         ensures few { length self.new.words.items ≡ length self.old.words.items + 3 }
-        ensures spare { HasRoom self.new }
+        ensures spare { (node_count name_count : ℕ) → HasRoom self.old (suc node_count) name_count → HasRoom self.new node_count name_count }
     {
         self.marks = marks_behind(self.marks, scalar.marks);
         let head = head(scalar.kind, 0, self.innermost.place);
@@ -416,10 +442,9 @@ impl<'a> Builder<'a> {
         requires names { self.old.innermost.names ≤ length self.old.names.items }
         requires few { length self.old.words.items < 3 * end }
         requires room { end < 2 ^ 32 }
-        requires spare { HasRoom self.old }
         ensures closed { IfOk result (λ _. IsClosed self.old.innermost end self.old self.new) }
         ensures marks { IfOk result (λ _. self.new.marks.now ≡ self.old.marks.now) }
-        ensures spare { IfOk result (λ _. HasRoom self.new) }
+        ensures spare { IfOk result (λ _. (node_count name_count : ℕ) → HasRoom self.old node_count name_count → HasRoom self.new node_count name_count) }
         ensures memory { IfErr result (λ fault. OnFault fault ⊥) }
     {
         let container = self.innermost;
@@ -444,7 +469,7 @@ impl<'a> Builder<'a> {
     fn count_child(&mut self)
         requires room { self.old.innermost.children + 1 < 2 ^ 32 }
         ensures counted { IsCounted self.old self.new }
-        ensures spare { HasRoom self.old → HasRoom self.new }
+        ensures spare { (node_count name_count : ℕ) → HasRoom self.old node_count name_count → HasRoom self.new node_count name_count }
         ensures marks { self.new.marks.now ≡ self.old.marks.now }
     {
         self.innermost.children += 1;
@@ -466,11 +491,11 @@ impl<'a> Builder<'a> {
         requires utf8 { IsUtf8 line.now }
         requires few { length self.old.words.items ≤ 3 * at }
         requires ahead { IsAhead line.now next self.old.marks.now }
-        requires spare { HasRoom self.old }
+        requires spare { HasRoom self.old 0 1 }
         requires holds { Holds line.now (turns.After at) self.old }
         ensures goes_on { IfOk result (λ turn. Steps line.now (turns.After at) self.old turn self.new) }
         ensures behind { IfOk result (λ turn. IsBehind line.now at turn self.new) }
-        ensures ahead { IfOk result (λ turn. IsAheadOf line.now turn self.new) }
+        ensures ahead { (n : ℕ) → HasRoom self.old n (suc n) → IfOk result (λ turn. IsAheadOf line.now n turn self.new) }
         ensures stuck { IfErr result (λ fault. OnFault fault (NoStep line.now (turns.After at) self.old)) }
     {
         if self.opened.is_empty() {
@@ -506,11 +531,11 @@ impl<'a> Builder<'a> {
         requires utf8 { IsUtf8 line.now }
         requires few { length self.old.words.items ≤ 3 * at }
         requires ahead { IsAhead line.now at self.old.marks.now }
-        requires spare { HasRoom self.old }
+        requires spare { HasRoom self.old 0 1 }
         requires holds { Holds line.now (turns.After at) self.old }
         ensures goes_on { IfOk result (λ turn. Steps line.now (turns.After at) self.old turn self.new) }
         ensures behind { IfOk result (λ turn. IsBehind line.now at turn self.new) }
-        ensures ahead { IfOk result (λ turn. IsAheadOf line.now turn self.new) }
+        ensures ahead { (n : ℕ) → HasRoom self.old n (suc n) → IfOk result (λ turn. IsAheadOf line.now n turn self.new) }
         ensures stuck { IfErr result (λ fault. OnFault fault (NoStep line.now (turns.After at) self.old)) }
     {
         let next = skip_white(line, self.marks, at);
@@ -525,10 +550,10 @@ impl<'a> Builder<'a> {
         requires utf8 { IsUtf8 line.now }
         requires reached { Reached line.now from self.old }
         requires within { IsWithin line.now from self.old }
-        requires ahead { IsAheadOf line.now from self.old }
+        requires ahead { IsAheadOf line.now 0 from self.old }
         ensures reached { IfOk result (λ turn. Reached line.now turn self.new) }
         ensures behind { IfOk result (λ turn. (k : ℕ) → IsBehind line.now k from self.old → IsBehind line.now k turn self.new) }
-        ensures ahead { IfOk result (λ turn. IsAheadOf line.now turn self.new) }
+        ensures ahead { (n : ℕ) → IsAheadOf line.now n from self.old → IfOk result (λ turn. IsAheadOf line.now n turn self.new) }
         ensures settled { IfOk result IsSettled }
         ensures refused { IfErr result (λ fault. OnFault fault (IsNoText line.now)) }
     {
@@ -554,11 +579,11 @@ impl<'a> Builder<'a> {
         requires room { length line.now < 2 ^ 32 }
         requires utf8 { IsUtf8 line.now }
         requires few { length self.old.words.items ≤ 3 * at }
-        requires ahead { IsAheadOf line.now (turns.Value label at) self.old }
+        requires ahead { IsAheadOf line.now 1 (turns.Value label at) self.old }
         requires holds { Holds line.now (turns.Value label at) self.old }
         ensures goes_on { IfOk result (λ turn. Steps line.now (turns.Value label at) self.old turn self.new) }
         ensures behind { IfOk result (λ turn. IsBehind line.now at turn self.new) }
-        ensures ahead { IfOk result (λ turn. IsAheadOf line.now turn self.new) }
+        ensures ahead { (n : ℕ) → HasRoom self.old (suc n) (suc n) → IfOk result (λ turn. IsAheadOf line.now n turn self.new) }
         ensures stuck { IfErr result (λ fault. OnFault fault (NoStep line.now (turns.Value label at) self.old)) }
     {
         let Some(text) = text_at(line, is_unescaped, self.marks, at) else {
@@ -586,11 +611,11 @@ impl<'a> Builder<'a> {
         requires room { length line.now < 2 ^ 32 }
         requires utf8 { IsUtf8 line.now }
         requires few { length self.old.words.items ≤ 3 * at }
-        requires ahead { IsAheadOf line.now (turns.Value label at) self.old }
+        requires ahead { IsAheadOf line.now 1 (turns.Value label at) self.old }
         requires holds { Holds line.now (turns.Value label at) self.old }
         ensures goes_on { IfOk result (λ turn. Steps line.now (turns.Value label at) self.old turn self.new) }
         ensures behind { IfOk result (λ turn. IsBehind line.now at turn self.new) }
-        ensures ahead { IfOk result (λ turn. IsAheadOf line.now turn self.new) }
+        ensures ahead { (n : ℕ) → HasRoom self.old (suc n) (suc n) → IfOk result (λ turn. IsAheadOf line.now n turn self.new) }
         ensures stuck { IfErr result (λ fault. OnFault fault (NoStep line.now (turns.Value label at) self.old)) }
     {
         let Some(scalar) = scalar_at(line, self.marks, at) else {
@@ -614,11 +639,11 @@ impl<'a> Builder<'a> {
         requires room { length line.now < 2 ^ 32 }
         requires utf8 { IsUtf8 line.now }
         requires few { length self.old.words.items ≤ 3 * at }
-        requires ahead { IsAheadOf line.now (turns.Value label at) self.old }
+        requires ahead { IsAheadOf line.now 1 (turns.Value label at) self.old }
         requires holds { Holds line.now (turns.Value label at) self.old }
         ensures goes_on { IfOk result (λ turn. Steps line.now (turns.Value label at) self.old turn self.new) }
         ensures behind { IfOk result (λ turn. IsBehind line.now at turn self.new) }
-        ensures ahead { IfOk result (λ turn. IsAheadOf line.now turn self.new) }
+        ensures ahead { (n : ℕ) → HasRoom self.old (suc n) (suc n) → IfOk result (λ turn. IsAheadOf line.now n turn self.new) }
         ensures stuck { IfErr result (λ fault. OnFault fault (NoStep line.now (turns.Value label at) self.old)) }
     {
         if at >= line.len() {
@@ -650,12 +675,15 @@ pub(super) fn walk<'a>(
     ensures found { IfOk result (λ _. (t : Tree) × Text line.now t × IsFinished line.now builder.new t) }
     ensures refused { IfErr result (λ fault. OnFault fault (IsNoText line.now)) }
 {
-    let Ok(()) = builder.start(marks) else {
-        return Err(BuildFault::Memory);
-    };
+    builder.start(marks);
     let is_unescaped = !has_escape(line);
     let mut turn = Turn::Value(0, next_token(line, marks, 0));
+    let mut turns = builder.room();
     while let Turn::Value(label, at) = turn {
+        if turns == 0 {
+            turns = builder.make_room()?;
+        }
+        turns -= 1;
         let read = builder.read_on(line, is_unescaped, at, label)?;
         turn = builder.settle(line, is_unescaped, read)?;
     }

@@ -1,16 +1,21 @@
 use Rattle.std.proofs.Common.{List, ℕ, sym, subst, length, [], refl, None, ap, arith}
-use Rattle.jp_tape.specs.Machine.{Value_at}
+use Rattle.jp_tape.specs.declared.builder.machine.Builder.{Builder}
+use Rattle.jp_tape.specs.declared.builder.machine.Turn.{Turn}
+use Rattle.jp_tape.specs.declared.builder.machine.Turn.TheVariants as turns
+use Rattle.jp_tape.specs.Machine.{Value_at, Reached}
 use Rattle.jp_tape.specs.Ahead.{IsNext}
 use Rattle.jp_tape.proofs.Ahead.{all_ahead, begins_first}
 use Rattle.jp_tape.specs.Names.{all_points}
+use Rattle.jp_tape.proofs.Room.{reached_roomier, reached_then}
 use Rattle.jp_tape.proofs.Steps.{start_forth, start_back}
 use Rattle.jp_tape.proofs.builder.machine.walk.Goals as goal
+use Rattle.jp_tape.proofs.builder.machine.walk.Goals.{then-turns-eq0+in_ok-turns, else-turns-eq0}
 
 pub loop-turn-init : goal.loop-turn-init
 loop-turn-init c =
     let line = c.args.line.now in
     let w = c.next_token.ensures in
-    let e = c.in-Ok.ensures in
+    let e = c.start.ensures in
     let n = ap length e.words in
     record {
       reached = record {
@@ -25,7 +30,7 @@ loop-turn-init c =
         back = start_back line c.next_token.result w.white;
       };
       within = (w.white.within, omega (arith, n));
-      ahead = (subst (λ (ms : List ℕ). IsNext line c.next_token.result ms) (sym e.marks) w.next, e.room);
+      ahead = (subst (λ (ms : List ℕ). IsNext line c.next_token.result ms) (sym e.marks) w.next, c.room-turns.ensures.enough);
       settled = tt;
     }
 
@@ -34,3 +39,15 @@ next_token-requires-clause-ahead c = all_ahead c.args.line.now c.args.marks.now 
 
 pub next_token-requires-clause-begins : goal.next_token-requires-clause-begins
 next_token-requires-clause-begins c = begins_first c.args.line.now
+
+pub settle-requires-clause-reached : goal.settle-requires-clause-reached
+settle-requires-clause-reached c =
+    let line = c.args.line.now in
+    let value : Turn = turns.Value c.in-Value.label c.in-Value.at in
+    let before = subst (λ (t : Turn). Reached line t c.loop-turn.builder) c.in-Value.is c.loop-turn.invariant.reached in
+    let here : Reached line value c.if-turns-eq0.builder =
+    elim c.if-turns-eq0.branch [
+      | then-turns-eq0+in_ok-turns w ↦ subst (λ (b : Builder). Reached line value b) (sym w.builder-is) (reached_roomier line value c.loop-turn.builder w.make_room.new.self w.make_room.ensures.same before)
+      | else-turns-eq0 w ↦ subst (λ (b : Builder). Reached line value b) (sym w.builder-is) before
+    ] in
+    reached_then line value c.in_ok-read.read c.if-turns-eq0.builder c.read_on.new.self here c.in_ok-read.ensures.goes_on

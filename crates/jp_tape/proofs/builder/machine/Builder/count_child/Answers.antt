@@ -4,6 +4,6 @@ use Rattle.jp_tape.proofs.builder.machine.Builder.count_child.Goals as goal
 pub returns : goal.returns
 returns c = record {
   counted = record { opened = refl; innermost = refl; words = refl; deepest = refl; surrogate = refl; long = refl; names = refl; duplicate = refl };
-  spare = λ h. record { words = h.words; names = h.names };
+  spare = λ nodes names h. record { words = h.words; names = h.names };
   marks = refl;
 }

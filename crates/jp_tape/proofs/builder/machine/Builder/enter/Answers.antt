@@ -1,32 +1,16 @@
-use Rattle.std.proofs.Common.{◌≡◌, List, ℕ, ◌+◌, ◌≤◌, ◌++◌, ◌∷◌, [], max, length, drop, vec_capacity, sym, ◌∙◌, ap, ap₂, subst, refl, arith, length-append}
-use Rattle.std.proofs.lemmas.List.{length-drop}
+use Rattle.std.proofs.Common.{List, ℕ, suc, ◌+◌, ◌++◌, ◌∷◌, [], max, sym, ◌∙◌, ap, ap₂, subst, refl}
 use Rattle.std.proofs.lemmas.Result.{IfOk-weaker, IfErr-weaker}
 use Rattle.jp_model.specs.Json.Places.{Has, byte_at}
-use Rattle.jp_tape.specs.Ahead.{IsAhead, HasRoom}
+use Rattle.jp_tape.specs.Ahead.{IsAhead}
 use Rattle.jp_tape.specs.declared.builder.machine.Builder.{Builder}
 use Rattle.jp_tape.specs.declared.builder.machine.Open.{Open}
-use Rattle.jp_tape.specs.declared.builder.body.Body.{Body}
-use Rattle.std.specs.Prelude.{Vec}
-use Rattle.std.specs.Global.{Global}
 use Rattle.jp_tape.specs.Words.{head_word}
 use Rattle.jp_tape.specs.Reading.{container_if}
 use Rattle.jp_tape.proofs.Held.{or_false}
 use Rattle.jp_tape.proofs.Ahead.{passes_structural, structural_begins, bracket_structural, closing_structural}
+use Rattle.jp_tape.proofs.Room.{room_behind_node}
 use Rattle.jp_tape.proofs.Walk.{node_is, opened_is, empty_goes_on, enter_goes_on, no_enter, on_fault}
 use Rattle.jp_tape.proofs.builder.machine.Builder.enter.Goals as goal
-
--- behind two marks a node is written
-room_behind_two : (b new : Builder) (mid : List ℕ) (h s l : ℕ) → HasRoom b → new.words.items ≡ b.words.items ++ h ∷ s ∷ l ∷ [] → vec_capacity new.words ≡ vec_capacity b.words → new.names ≡ b.names →
-    mid ≡ drop 1 b.marks.now → new.marks.now ≡ drop 1 mid → 1 ≤ length mid → HasRoom new
-room_behind_two b new mid h s l r w c n f g some =
-    let written = ap length w ∙ length-append b.words.items (h ∷ s ∷ l ∷ []) in
-    let first = ap length f ∙ length-drop 1 b.marks.now in
-    let second = ap length g ∙ length-drop 1 mid in
-    let words = r.words in
-    let names = r.names in
-    let items = ap (λ (v : Vec Body Global). length v.items) n in
-    let capacity = ap (λ (v : Vec Body Global). vec_capacity v) n in
-    record { words = omega (arith, words, written, c, first, second, some); names = omega (arith, names, items, capacity, first, second, some) }
 
 pub returns-then-is_at-clause-goes_on : goal.returns-then-is_at-clause-goes_on
 returns-then-is_at-clause-goes_on c =
@@ -92,11 +76,13 @@ marks_behind-self-requires-then-is_at c =
     (passes_structural c.args.line.now c.marks_behind-self.result.now c.next_token-inside.result h.inside (closing_structural (container_if c.args.is_object) (byte_at c.args.line.now c.next_token-inside.result) h.is) c.next_token-inside.ensures.ahead).within
 
 pub returns-then-is_at-clause-ahead : goal.returns-then-is_at-clause-ahead
-returns-then-is_at-clause-ahead c =
+returns-then-is_at-clause-ahead c n r =
     let h = subst (λ x. Has c.args.line.now c.next_token-inside.result x) c.closing_of.ensures (c.is_at.ensures.yes c.if-is_at.true) in
     let p = passes_structural c.args.line.now c.marks_behind-self.result.now c.next_token-inside.result h.inside (closing_structural (container_if c.args.is_object) (byte_at c.args.line.now c.next_token-inside.result) h.is) c.next_token-inside.ensures.ahead in (
       subst (λ (ms : List ℕ). IsAhead c.args.line.now (c.next_token-inside.result + 1) ms) (sym c.marks_behind-self-then-is_at.ensures) p.ahead,
-      room_behind_two c.args.self.now _ c.marks_behind-self.result.now _ _ _ c.requires.ahead.1 c.write_node.ensures.written c.write_node.ensures.capacity refl c.marks_behind-self.ensures c.marks_behind-self-then-is_at.ensures
-          p.within,
+      room_behind_node c.args.self.now _ n (suc n) _ _ _ r c.write_node.ensures.written c.write_node.ensures.capacity refl,
       structural_begins c.args.line.now c.next_token-inside.result (closing_structural (container_if c.args.is_object) (byte_at c.args.line.now c.next_token-inside.result) h.is),
     )
+
+pub returns-clause-ahead : goal.returns-clause-ahead
+returns-clause-ahead c n r = c.next_child.ensures.ahead n (room_behind_node c.args.self.now _ n (suc n) _ _ _ r c.write_node-2.ensures.written c.write_node-2.ensures.capacity refl)

@@ -1,4 +1,4 @@
-use Rattle.std.proofs.Common.{ℕ, List, ◌==◌, ◌<◌, ◌≡◌, false, subst, sym, ap, ◌∙◌, ◌+◌, arith}
+use Rattle.std.proofs.Common.{ℕ, suc, List, ◌==◌, ◌<◌, ◌≡◌, false, subst, sym, ap, ◌∙◌, ◌+◌, arith}
 use Rattle.std.proofs.lemmas.Bool.{eqb-true, eqb-false}
 use Rattle.std.proofs.lemmas.Result.{IfOk-weaker, IfErr-weaker}
 use Rattle.jp_model.specs.Characters.{is_structural}
@@ -125,8 +125,17 @@ marks_behind-self-requires-2 c =
     (passes_structural c.args.line.now c.args.self.now.marks.now c.args.next h.inside (closing_structural (container_if o.is_object) (byte_at c.args.line.now c.args.next) h.is) c.requires.ahead).within
 
 pub returns-in-Ok-clause-ahead : goal.returns-in-Ok-clause-ahead
-returns-in-Ok-clause-ahead c =
+returns-in-Ok-clause-ahead c n r =
     let o = c.args.self.now.innermost in
     let h = subst (λ y. Has c.args.line.now c.args.next y) c.closing_of.ensures (c.is_at-2.ensures.yes c.if-not-is_at.false) in
-    let p = passes_structural c.args.line.now c.args.self.now.marks.now c.args.next h.inside (closing_structural (container_if o.is_object) (byte_at c.args.line.now c.args.next) h.is) c.requires.ahead in
-    (subst (λ (ms : List ℕ). IsAhead c.args.line.now (c.args.next + 1) ms) (sym (c.in-Ok.ensures.marks ∙ c.marks_behind-self-2.ensures)) p.ahead, c.in-Ok.ensures.spare, structural_begins c.args.line.now c.args.next (closing_structural (container_if o.is_object) (byte_at c.args.line.now c.args.next) h.is))
+    let p = passes_structural c.args.line.now c.args.self.now.marks.now c.args.next h.inside (closing_structural (container_if o.is_object) (byte_at c.args.line.now c.args.next) h.is) c.requires.ahead in (
+      subst (λ (ms : List ℕ). IsAhead c.args.line.now (c.args.next + 1) ms) (sym (c.in-Ok.ensures.marks ∙ c.marks_behind-self-2.ensures)) p.ahead,
+      c.in-Ok.ensures.spare n (suc n) (record { words = r.words; names = r.names }),
+      structural_begins c.args.line.now c.args.next (closing_structural (container_if o.is_object) (byte_at c.args.line.now c.args.next) h.is),
+    )
+
+pub returns-then-is_at-clause-ahead : goal.returns-then-is_at-clause-ahead
+returns-then-is_at-clause-ahead c n r = c.next_child.ensures.ahead n (c.count_child.ensures.spare n (suc n) (record { words = r.words; names = r.names }))
+
+pub next_child-requires-clause-spare : goal.next_child-requires-clause-spare
+next_child-requires-clause-spare c = let r = c.requires.spare in c.count_child.ensures.spare 0 1 (record { words = r.words; names = r.names })

@@ -1,4 +1,5 @@
 use Rattle.std.proofs.Common.{refl}
+use Rattle.jp_tape.proofs.Room.{room_behind_node}
 use Rattle.jp_tape.proofs.Walk.{node_is, scalar_goes_on}
 use Rattle.jp_tape.proofs.builder.machine.Builder.keep_scalar.Goals as goal
 
@@ -17,3 +18,6 @@ returns-clause-goes_on c line found =
       exponent = c.raise-2.ensures;
       duplicate = refl;
     })
+
+pub returns-clause-spare : goal.returns-clause-spare
+returns-clause-spare c nodes names r = room_behind_node c.args.self.now _ nodes names _ _ _ r c.write_node.ensures.written c.write_node.ensures.capacity refl

@@ -1,3 +1,4 @@
+use Rattle.std.proofs.Common.{suc}
 use Rattle.std.proofs.lemmas.Result.{IfOk-weaker}
 use Rattle.jp_tape.specs.declared.builder.machine.Turn.TheVariants as turns
 use Rattle.jp_tape.proofs.Walk.{no_value, steps_then}
@@ -11,3 +12,9 @@ returns-clause-goes_on c =
     IfOk-weaker c.go_on.result _ _
     (λ turn l. steps_then c.args.line.now (turns.Value c.args.label c.args.at) (turns.After c.in-Some.scalar.end) turn c.args.self.now _ _ (c.keep_scalar.ensures.goes_on c.args.line.now c.in-Some.ensures.found) l)
     c.go_on.ensures.goes_on
+
+pub go_on-requires-clause-spare : goal.go_on-requires-clause-spare
+go_on-requires-clause-spare c = c.keep_scalar.ensures.spare 0 1 c.requires.ahead.1
+
+pub returns-clause-ahead : goal.returns-clause-ahead
+returns-clause-ahead c n r = c.go_on.ensures.ahead n (c.keep_scalar.ensures.spare n (suc n) r)
