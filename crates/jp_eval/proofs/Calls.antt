@@ -8,20 +8,20 @@ use Rattle.std.proofs.lemmas.Bool.{and_parts, ltb-true}
 use Rattle.std.specs.List.{list_all}
 use Rattle.std.specs.Prelude.{nat_lt, encode_utf8_all}
 use Rattle.jp_model.specs.Characters.{text_equal}
-use Rattle.jp_model.specs.Json.Tree.{Tree}
+use Rattle.jp_model.specs.Json.Tree.{Tree, Value}
 use Rattle.jp_model.specs.Meaning.Nodes.{Node}
-use Rattle.jp_model.specs.Meaning.Functions.{value_function, logical_function}
-use Rattle.jp_model.specs.Meaning.Selecting.{given, call_value, call_truth}
+use Rattle.jp_model.specs.Meaning.Functions.{in_pattern, value_function, logical_function}
+use Rattle.jp_model.specs.Meaning.Selecting.{given, given_by, call_value, call_truth}
 use Rattle.jp_model.specs.Query.Syntax as syntax
 use Rattle.jp_model.proofs.Seek.{text_same}
-use Rattle.jp_eval.specs.Programs.{Table, invoked_view, givens_view}
+use Rattle.jp_eval.specs.Programs.{Table, invoked_view, givens_view, given_view}
 use Rattle.jp_eval.specs.declared.program.Invoked.{Invoked}
 use Rattle.jp_eval.specs.declared.program.Given.{Given}
 use Rattle.jp_eval.specs.declared.frame.At.{At}
 use Rattle.jp_eval.specs.declared.functions.Function.{Function}
 use Rattle.jp_eval.specs.declared.functions.Function.TheVariants as functions
-use Rattle.jp_eval.specs.Frames.{here, table_at, tree_at, passes_given}
-use Rattle.jp_eval.specs.Functions.{function_named}
+use Rattle.jp_eval.specs.Frames.{here, table_at, tree_at}
+use Rattle.jp_eval.specs.Functions.{function_named, passing}
 use Rattle.jp_eval.proofs.Compiled.{invoked_is}
 
 -- the name of a function
@@ -61,13 +61,19 @@ called table c items o f h =
     ∙ ap₂ (λ (x : List ℕ) (y : List Given). syntax.call x (givens_view table y)) (named_so (chars (string_bytes c.named.name)) o (sym c.named.known ∙ h)) (sym f)
 
 -- the two that are asked of a text and a pattern
-pub match_called : (at : At) (c : Invoked) (text pattern : Given) → text ∷ pattern ∷ [] ≡ c.arguments.items → c.named.function ≡ Some functions.Match
-    → passes_given at true text pattern ≡ call_truth (invoked_view (table_at at) c) (here at) (tree_at at)
-match_called at c text pattern are so = sym (ap (λ (v : syntax.Call). call_truth v (here at) (tree_at at)) (called (table_at at) c (text ∷ pattern ∷ []) functions.Match are so))
+-- the function that takes all of a text, or a part of it
+abbrev pub function_passing : Bool → Function
+function_passing true = functions.Match
+function_passing false = functions.Search
 
-pub search_called : (at : At) (c : Invoked) (text pattern : Given) → text ∷ pattern ∷ [] ≡ c.arguments.items → c.named.function ≡ Some functions.Search
-    → passes_given at false text pattern ≡ call_truth (invoked_view (table_at at) c) (here at) (tree_at at)
-search_called at c text pattern are so = sym (ap (λ (v : syntax.Call). call_truth v (here at) (tree_at at)) (called (table_at at) c (text ∷ pattern ∷ []) functions.Search are so))
+-- a call of it, with what its arguments give
+pub passing_called : (at : At) (c : Invoked) (whole : Bool) (text pattern : Given) (v w : Option Value) → text ∷ pattern ∷ [] ≡ c.arguments.items → c.named.function ≡ Some (function_passing whole)
+    → v ≡ (given_by (given_view (table_at at) text) (here at) (tree_at at)).value → w ≡ (given_by (given_view (table_at at) pattern) (here at) (tree_at at)).value
+    → in_pattern (passing whole) v w ≡ call_truth (invoked_view (table_at at) c) (here at) (tree_at at)
+passing_called at c true text pattern v w are so e f =
+    ap₂ (λ (x y : Option Value). in_pattern (passing true) x y) e f ∙ sym (ap (λ (u : syntax.Call). call_truth u (here at) (tree_at at)) (called (table_at at) c (text ∷ pattern ∷ []) functions.Match are so))
+passing_called at c false text pattern v w are so e f =
+    ap₂ (λ (x y : Option Value). in_pattern (passing false) x y) e f ∙ sym (ap (λ (u : syntax.Call). call_truth u (here at) (tree_at at)) (called (table_at at) c (text ∷ pattern ∷ []) functions.Search are so))
 
 -- with no function of one argument, or of two
 few : (table : Table) (items : List Given) (n : Node) (t : Tree) → length items < 2 → (f : List ℕ) → false ≡ logical_function f (given (givens_view table items) n t)

@@ -133,6 +133,3 @@ chosen_is table x = ap (choice_view table) (sym (choices.rolls-One x)) ∙ fold-
 
 pub one_is : (table : Table) (x : Key) → step_view table (steps.One x) ≡ syntax.child_segment (syntax.selector (step_selector (key_view x)) syntax.no_selectors)
 one_is table x = ap (step_view table) (sym (steps.rolls-One x)) ∙ fold-roll-Step syntax.Selector syntax.Logical syntax.Argument syntax.Path syntax.Comparable syntax.Segment syntax.Call choice_step condition_step given_step (nodes_step table) side_step step_step invoked_step (Step-F.Step::One x)
-
-pub path_is : (table : Table) (x : Vec Key Global) → nodes_view table (paths.Path x) ≡ syntax.path syntax.current (steps_query (map key_view x.items))
-path_is table x = ap (nodes_view table) (sym (paths.rolls-Path x)) ∙ fold-roll-Nodes syntax.Selector syntax.Logical syntax.Argument syntax.Path syntax.Comparable syntax.Segment syntax.Call choice_step condition_step given_step (nodes_step table) side_step step_step invoked_step (Nodes-F.Path x)

@@ -12,6 +12,7 @@ use Rattle.jp_tape.specs.declared.cursor.Cursor.{Cursor}
 use Rattle.jp_tape.specs.Cursors.{node_of, name_of, children_from, children_after}
 use Rattle.jp_tape.proofs.Cursors.{children_few}
 use Rattle.jp_tape.proofs.Places.{length-children}
+use Rattle.jp_eval.specs.Found.{node_list}
 use Rattle.jp_eval.specs.Walks.{IsAt}
 use Rattle.jp_eval.proofs.Walks.{steps_of_children, child_here}
 
@@ -93,15 +94,13 @@ element_here parent place c at h =
     nameless None h = refl
     nameless (Some n) h = absurd (cc)
 
-pub member_here : (parent : Node) (place : ℕ) (c : Cursor) (x : List ℕ) → IsAt parent place (Some c) → Some x ≡ option_map (λ (n : Name). n.points) (name_of c) → [] ≡ children_where (is_index (same_int (pos place))) parent
-member_here parent place c x at h = sym (picked_child parent place (Some c) at ∙ named (name_of c) h)
-  where
-    named : (o : Option Name) → Some x ≡ option_map (λ (n : Name). n.points) o → map (child_of parent) (picked ((step_to place o, (node_of c).tree) ∷ steps_from (place + 1) (children_after c))) ≡ []
-    named None h = absurd (cc)
-    named (Some n) h = refl
-
 pub none_here : (parent : Node) (place : ℕ) → IsAt parent place None → [] ≡ children_where (is_index (same_int (pos place))) parent
 none_here parent place at = sym (picked_child parent place None at)
+
+-- the child at an index, if there is one
+pub nth_is : (parent : Node) (place : ℕ) (r : Option Cursor) → IsAt parent place r → ((c : Cursor) → r ≡ Some c → name_of c ≡ None) → node_list r ≡ children_where (is_index (same_int (pos place))) parent
+nth_is parent place None at h = none_here parent place at
+nth_is parent place (Some c) at h = element_here parent place c at (ap (option_map (λ (n : Name). n.points)) (sym (h c refl)))
 
 -- no child has an index below 0 or past 4,294,967,295
 pub none_outside : (c : Cursor) (z : ℤ) → (z <ℤ pos 0) ⊎ (pos 4294967295 <ℤ z) → [] ≡ children_where (is_index (same_int z)) (node_of c)

@@ -20,7 +20,6 @@ pub mod Answered
 pub mod Entered
 pub mod SingularSteps
 pub mod Following
-pub mod KeyQueries
 pub mod Asked
 pub mod Childless
 mod Literals

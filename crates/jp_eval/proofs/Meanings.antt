@@ -39,15 +39,6 @@ map_last : {A B : Type 0} (f : A → B) (done : List A) (c : A) → map f (done 
 map_last f [] c = refl
 map_last f (d ∷ done) c = ap (λ l. f d ∷ l) (map_last f done c)
 
--- one item more is what stands ahead
-pub item_more : {A B : Type 0} {ahead all : List B} (f : A → B) (done : List A) (c : A) (x : B) (rest : List B) (now : List A) → ahead ≡ x ∷ rest → now ≡ done ++ c ∷ [] → x ≡ f c → map f done ++ ahead ≡ all → map f now ++ rest ≡ all
-item_more f done c x rest now e d h told =
-    ap (λ l. map f l ++ rest) d
-    ∙ (ap (λ l. l ++ rest) (map_last f done c)
-    ∙ (append_assoc (map f done) (f c ∷ []) rest
-    ∙ (ap (λ y. map f done ++ y ∷ rest) (sym h)
-    ∙ (ap (λ l. map f done ++ l) (sym e) ∙ told))))
-
 -- one part more
 pub one_more : {A B : Type 0} {old mid new : List Slot} {ahead : List A} {all : List A} (f : Table → B → A) (done : List B) (c : B) (x : A) (rest : List A) (now : List B)
     → ahead ≡ x ∷ rest → now ≡ done ++ c ∷ [] → Means old mid (λ t. map (f t) done ++ ahead) all → Means mid new (λ t. f t c) x → Means old new (λ t. map (f t) now ++ rest) all

@@ -1,13 +1,16 @@
--- What is no object has no members, and what is no array has no elements.
-use Rattle.std.proofs.Common.{◌≡◌, ℕ, ◌+◌, ℤ, List, [], map, filter, Bool, Some, None, ap, refl}
+-- What is no object has no members, what is no array has no elements, and no child of an array has a name.
+use Rattle.std.proofs.Common.{◌≡◌, ℕ, zero, suc, ◌+◌, ℤ, List, [], ◌∷◌, map, filter, drop, Bool, true, false, pos, Option, Some, None, ap, refl}
 use Rattle.jp_model.specs.declared.Span.{Span}
-use Rattle.jp_model.specs.Steps.{Step}
+use Rattle.jp_model.specs.Steps.{Step, index_step}
 use Rattle.jp_model.specs.Json.Spelling.{Spells, SpellsValue, SpellsFirst, SpellsMore}
-use Rattle.jp_model.specs.Json.Tree.{Tree, node, Value, null, boolean, number, string, container, array, object, Children, no_child, child, span, value_of}
-use Rattle.jp_model.specs.Meaning.Nodes.{Node, child_of, steps_from, steps_in, children_where}
+use Rattle.jp_model.specs.Json.Tree.{Name, Tree, node, Value, null, boolean, number, string, container, array, object, Children, no_child, child, span, value_of}
+use Rattle.jp_model.specs.Meaning.Nodes.{Node, child_of, steps_from, steps_in, step_to, children_where}
 use Rattle.jp_model.specs.Meaning.Slices.{is_name, is_index, named}
+use Rattle.jp_tape.specs.declared.cursor.Cursor.{Cursor}
+use Rattle.jp_tape.specs.Cursors.{node_of, name_of, children_from, children_after}
 use Rattle.jp_tape.specs.Kinds.{kind_of}
 use Rattle.jp_tape.specs.declared.Kind.TheVariants as kinds
+use Rattle.jp_eval.specs.Walks.{IsAt}
 
 unnamed_more : (line x : List ℕ) (index from to : ℕ) (kids : Children) → SpellsMore line array from to kids → filter (λ (p : Step × Tree). is_name x p.0) (steps_from index kids) ≡ []
 unnamed_more line x index from to no_child h = refl
@@ -56,3 +59,45 @@ pub no_elements : (line : List ℕ) (passes : ℤ → Bool) (n : Node) → Spell
 no_elements line passes n h other = ap (map (child_of n)) (unplaced_tree n.tree h other) where
   unplaced_tree : (t : Tree) → Spells line t → (kind_of (value_of t) ≡ kinds.Array → ⊥) → filter (λ (p : Step × Tree). is_index passes p.0) (steps_in (value_of t)) ≡ []
   unplaced_tree (node s v) k o = unplaced_in line passes s v k o
+
+-- a step by an index leads to a child without a name
+by_index : (place : ℕ) (o : Option Name) (z : ℤ) → step_to place o ≡ index_step z → o ≡ None
+by_index place None z e = refl
+by_index place (Some name) z e = absurd (cc)
+
+first_step : (a b : Step) (t u : Tree) (xs ys : List (Step × Tree)) → (a, t) ∷ xs ≡ (b, u) ∷ ys → a ≡ b
+first_step a b t u xs ys e =
+    let p : Step × Tree = (a, t) in
+    let q : Step × Tree = (b, u) in
+    let same : p ≡ q = cc in
+    ap (λ (r : Step × Tree). r.0) same
+
+nameless_more : (line : List ℕ) (index from to : ℕ) (kids : Children) → SpellsMore line array from to kids → (k place : ℕ) (o : Option Name) (t : Tree) (rest : List (Step × Tree)) → (step_to place o, t) ∷ rest ≡ drop k (steps_from index kids) → o ≡ None
+nameless_more line index from to no_child h zero place o t rest e = absurd (cc)
+nameless_more line index from to no_child h (suc k) place o t rest e = absurd (cc)
+nameless_more line index from to (child (Some name) u more) h k place o t rest e = absurd h.2
+nameless_more line index from to (child None u more) h zero place o t rest e = by_index place o (pos index) (first_step (step_to place o) (index_step (pos index)) t u rest (steps_from (index + 1) more) e)
+nameless_more line index from to (child None u more) h (suc k) place o t rest e = nameless_more line (index + 1) (span u).end to more h.4 k place o t rest e
+
+nameless_first : (line : List ℕ) (from to : ℕ) (kids : Children) → SpellsFirst line array from to kids → (k place : ℕ) (o : Option Name) (t : Tree) (rest : List (Step × Tree)) → (step_to place o, t) ∷ rest ≡ drop k (steps_from 0 kids) → o ≡ None
+nameless_first line from to no_child h zero place o t rest e = absurd (cc)
+nameless_first line from to no_child h (suc k) place o t rest e = absurd (cc)
+nameless_first line from to (child (Some name) u more) h k place o t rest e = absurd h.2
+nameless_first line from to (child None u more) h zero place o t rest e = by_index place o (pos 0) (first_step (step_to place o) (index_step (pos 0)) t u rest (steps_from 1 more) e)
+nameless_first line from to (child None u more) h (suc k) place o t rest e = nameless_more line 1 (span u).end to more h.4 k place o t rest e
+
+nameless_in : (line : List ℕ) (s : Span) (v : Value) → SpellsValue line s v → kind_of v ≡ kinds.Array → (k place : ℕ) (o : Option Name) (t : Tree) (rest : List (Step × Tree)) → (step_to place o, t) ∷ rest ≡ drop k (steps_in v) → o ≡ None
+nameless_in line s null h is k place o t rest e = absurd (cc)
+nameless_in line s (boolean true) h is k place o t rest e = absurd (cc)
+nameless_in line s (boolean false) h is k place o t rest e = absurd (cc)
+nameless_in line s (number m f) h is k place o t rest e = absurd (cc)
+nameless_in line s (string points) h is k place o t rest e = absurd (cc)
+nameless_in line s (container object kids) h is k place o t rest e = absurd (cc)
+nameless_in line s (container array kids) h is k place o t rest e = nameless_first line (s.start + 1) s.end kids h.1 k place o t rest e
+
+-- no child of an array has a name
+pub nameless : (line : List ℕ) (parent : Node) (place : ℕ) (c : Cursor) → Spells line parent.tree → kind_of (value_of parent.tree) ≡ kinds.Array → IsAt parent place (Some c) → name_of c ≡ None
+nameless line parent place c h is at = go parent.tree h is at.steps
+  where
+    go : (t : Tree) → Spells line t → kind_of (value_of t) ≡ kinds.Array → steps_from place (children_from (Some c)) ≡ drop place (steps_in (value_of t)) → name_of c ≡ None
+    go (node s v) k o e = nameless_in line s v k o place place (name_of c) (node_of c).tree (steps_from (place + 1) (children_after c)) e

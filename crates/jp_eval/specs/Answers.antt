@@ -1,8 +1,9 @@
 -- Answers to what is asked of the nodes that a query selects.
 use Rattle.std.specs.Prelude.{◌≡◌, List, length, ◌==◌, not, Option, true}
 use Rattle.jp_model.specs.Json.Tree as tree
-use Rattle.jp_model.specs.Meaning.Functions.{single_value, length_of}
+use Rattle.jp_model.specs.Meaning.Functions.{single_value}
 use Rattle.jp_model.specs.Meaning.Nodes.{Node}
+use Rattle.jp_eval.specs.Functions.{measured}
 use Rattle.jp_eval.specs.declared.frame.Answer.{Answer}
 use Rattle.jp_eval.specs.declared.frame.Answer.TheVariants as answers
 use Rattle.jp_values.specs.declared.value.Value.{Value}
@@ -17,5 +18,4 @@ pub record IsValue (side : Value) (wanted : Option tree.Value) : Type 0 where
 abbrev pub IsAnswer : List Node → Answer → Type 0
 IsAnswer found (answers.Exists some) = some ≡ not (length found == 0)
 IsAnswer found (answers.Count count) = count ≡ length found
-IsAnswer found (answers.Single side) = IsValue side (single_value found)
-IsAnswer found (answers.Length side) = IsValue side (length_of (single_value found))
+IsAnswer found (answers.Single is_length side) = IsValue side (measured is_length (single_value found))

@@ -1,18 +1,15 @@
 -- What a call promises of the frame that it is lent.
-use Rattle.std.specs.Prelude.{◌≡◌, ◌≤◌, ℕ, Bool, List, ◌++◌, length, map, take, Option, Some, Result, OnOk, slice_get}
+use Rattle.std.specs.Prelude.{◌≡◌, ◌≤◌, ℕ, List, ◌++◌, length, map, take, Option, Some, Result, OnOk, slice_get}
 use Rattle.jp_model.specs.Json.Tree.{Tree}
 use Rattle.jp_model.specs.Meaning.Nodes.{Node}
-use Rattle.jp_model.specs.Meaning.Functions.{in_pattern}
-use Rattle.jp_model.specs.Meaning.Selecting.{nodes, path_nodes, given_by}
+use Rattle.jp_model.specs.Meaning.Selecting.{nodes, path_nodes}
 use Rattle.jp_eval.specs.Answers.{IsAnswer}
 use Rattle.jp_eval.specs.Found.{Adds}
-use Rattle.jp_eval.specs.Functions.{passing}
-use Rattle.jp_eval.specs.Programs.{Table, table_of, slot_in, steps_view, given_view}
+use Rattle.jp_eval.specs.Programs.{Table, table_of, slot_in, steps_view}
 use Rattle.jp_eval.specs.declared.frame.At.{At}
 use Rattle.jp_eval.specs.declared.frame.Run.{Run}
 use Rattle.jp_eval.specs.declared.frame.Answer.{Answer}
 use Rattle.jp_eval.specs.declared.frame.Frame.{Frame}
-use Rattle.jp_eval.specs.declared.program.Given.{Given}
 use Rattle.jp_eval.specs.declared.program.Step.{Step}
 use Rattle.jp_tape.specs.Cursors.{line_of, node_of}
 
@@ -62,8 +59,3 @@ pub record Lends {E : Type 0} {A : Type 0} (at : At) (old new : Frame) (result :
   pub adds : Adds (line_of at.run.now.root.now) old.found.items new.found.items
   pub kept : AreKept at.run.now new.answers.items
   pub same : OnOk result (new.found.items ≡ old.found.items)
-
--- the value of the first argument is a string that passes the pattern of the second: all of it, or a part of it
-abbrev pub passes_given : At → Bool → Given → Given → Bool
-passes_given at whole text pattern =
-    in_pattern (passing whole) (given_by (given_view (table_at at) text) (here at) (tree_at at)).value (given_by (given_view (table_at at) pattern) (here at) (tree_at at)).value

@@ -2,7 +2,7 @@
 use Rattle.std.specs.Prelude.{◌≡◌, ℕ, List, ◌++◌, map, chars, string_bytes, Option, Some, None, slice_get}
 use Rattle.jp_model.specs.Query.Syntax as syntax
 use Rattle.jp_query.specs.View.{segments_of, selectors_of, logicals_of, arguments_of, literal_view, op_view}
-use Rattle.jp_model.specs.Query.Singular.{step_selector, steps_query}
+use Rattle.jp_model.specs.Query.Singular.{step_selector}
 use Rattle.jp_eval.specs.Keys.{key_view}
 use Rattle.jp_eval.specs.Questions.{question_view}
 use Rattle.jp_eval.specs.declared.program.Step.{Step, fold-Step}
@@ -58,7 +58,6 @@ given_step (Given-F.Given::Result c) = syntax.result_argument c
 -- a query within a filter
 abbrev pub nodes_step : Table → Nodes-F syntax.Selector syntax.Logical syntax.Argument syntax.Path syntax.Comparable syntax.Segment syntax.Call → syntax.Path
 nodes_step table (Nodes-F.Slot place) = slot_in table place
-nodes_step table (Nodes-F.Path keys) = syntax.path syntax.current (steps_query (map key_view keys.items))
 nodes_step table (Nodes-F.Current ss) = syntax.path syntax.current (segments_of ss.items)
 
 -- a side of a comparison

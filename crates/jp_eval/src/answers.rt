@@ -48,7 +48,7 @@ impl<'a> Answer<'a> {
         ensures { (found : List Node) → IsAnswer found self.entry → IsAnswer found result }
     {
         match self {
-            Answer::Single(value) => Answer::Single(value.read()),
+            Answer::Single(is_length, value) => Answer::Single(is_length, value.read()),
             _ => self,
         }
     }
@@ -104,7 +104,7 @@ impl<'p, 'a> Run<'p, 'a> {
     {
         match nodes {
             Nodes::Slot(place) => self.kept_at(*place, frame),
-            Nodes::Path(_) | Nodes::Current(_) => None,
+            Nodes::Current(_) => None,
         }
     }
 
@@ -113,7 +113,7 @@ impl<'p, 'a> Run<'p, 'a> {
     pub(crate) fn keeps(self, nodes: &Nodes, frame: &Frame<'a>) -> bool {
         match nodes {
             Nodes::Slot(place) => *place < frame.answers.len(),
-            Nodes::Path(_) | Nodes::Current(_) => false,
+            Nodes::Current(_) => false,
         }
     }
 

@@ -1,10 +1,9 @@
 //! Children that are selected by name or by place (RFC 9535, sections 2.3.1, 2.3.3 and 2.3.4).
 
-ghost use Rattle.std.specs.Prelude.{◌≡◌, ℕ, false, pos, neg_ℤ, ◌-ℤ◌, ◌<ℤ◌, ◌≤ℤ◌, ◌≢◌, ◌^◌, true, length, int_le, unwrap_or, map, IfOk, IfSome};
+ghost use Rattle.std.specs.Prelude.{◌≡◌, ℕ, false, pos, neg_ℤ, ◌-ℤ◌, ◌<ℤ◌, ◌≤ℤ◌, ◌≢◌, ◌^◌, true, length, int_le, unwrap_or, map, IfOk, IfSome, IsTrue, ◌↔◌};
 ghost use Rattle.std.specs.Str.{chars};
 ghost use Rattle.jp_model.specs.Meaning.Nodes.{step_to, children_where, child_count as count_of};
 ghost use Rattle.jp_model.specs.Json.Tree.{value_of};
-ghost use Rattle.jp_model.specs.Steps.{same_int};
 ghost use Rattle.jp_model.specs.Meaning.Slices.{named, indexed, sliced, is_name, is_index, normal as normal_of, on_stride, downward};
 ghost use Rattle.jp_strings.specs.Plain.{ArePlain};
 ghost use Rattle.jp_tape.specs.Cursors.{line_of, node_of, name_of};
@@ -82,22 +81,8 @@ fn nth_child(node: Cursor<'_>, place: u32) -> Option<Cursor<'_>>
     next
 }
 
-/// The element that so many elements come before, of an array alone.
-fn nth_element(node: Cursor<'_>, place: u32) -> Option<Cursor<'_>>
-    ensures nodes { node_list result ≡ children_where (is_index (same_int (pos place))) (node_of node.entry) }
-    ensures line { IfSome result (λ c. line_of c ≡ line_of node.entry) }
-{
-    match nth_child(node, place) {
-        Some(child) => match child.name() {
-            None => Some(child),
-            Some(_) => None,
-        },
-        None => None,
-    }
-}
-
 fn is_array(node: Cursor<'_>) -> bool
-    ensures { result ≡ false → kind_of (value_of (node_of node.entry).tree) ≡ kinds.Array → ⊥ }
+    ensures { IsTrue result ↔ (kind_of (value_of (node_of node.entry).tree) ≡ kinds.Array) }
 {
     matches!(node.kind(), Kind::Array)
 }
@@ -125,7 +110,7 @@ pub(crate) fn find_element(node: Cursor<'_>, index: i64) -> Option<Cursor<'_>>
     if place < 0 || place > 0xFFFF_FFFF {
         return None;
     }
-    nth_element(node, place as u32)
+    nth_child(node, place as u32)
 }
 
 /// Whether an index is a whole number of steps from the start (RFC 9535, section 2.3.4.2.2).
@@ -158,18 +143,6 @@ pub(crate) struct Slice {
     pub(crate) step: i64,
 }
 
-/// How many children a node has, where one of two bounds is below 0 and so counts from their end. Otherwise 0.
-fn count_for(node: Cursor<'_>, first: i64, last: i64) -> u32
-    ensures first { normal_of result first ≡ normal_of (count_of (node_of node.entry)) first }
-    ensures last { normal_of result last ≡ normal_of (count_of (node_of node.entry)) last }
-{
-    if first < 0 || last < 0 {
-        node.child_count()
-    } else {
-        0
-    }
-}
-
 /// The elements from one index on that come before another, each a whole number of steps from the first.
 #[derive(Clone, Copy)]
 pub(crate) struct Rising {
@@ -187,12 +160,9 @@ impl Rising {
         requires { pos 0 <ℤ slice.step }
         ensures { children_where (is_index (rises result.low result.high result.step)) (node_of node.entry) ≡ sliced slice.first slice.last slice.step (node_of node.entry) }
     {
-        let first = slice.first.unwrap_or(0);
-        let last = slice.last.unwrap_or(i64::MAX);
-        let count = count_for(node, first, last);
         Rising {
-            low: normal(count, first).max(0),
-            high: normal(count, last),
+            low: place_from_start(node, slice.first.unwrap_or(0)).max(0),
+            high: place_from_start(node, slice.last.unwrap_or(i64::MAX)),
             step: slice.step,
         }
     }

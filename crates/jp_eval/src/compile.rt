@@ -8,7 +8,7 @@ ghost use Rattle.jp_eval.specs.Questions.{passing_name};
 ghost use Rattle.jp_eval.specs.Programs.{Table, Means, steps_view, step_view, choices_view, choice_view, conditions_view, condition_view, side_view, nodes_view, invoked_view, givens_view, given_view};
 ghost use Rattle.jp_model.specs.Query.Limits.{segments_pass, segment_passes, selectors_pass, selector_passes, logical_passes, logicals_pass, comparable_passes, path_passes, call_passes, arguments_pass, argument_passes};
 ghost use Rattle.jp_eval.specs.Keys.{key_view};
-ghost use Rattle.jp_model.specs.Query.Singular.{step_selector, steps_query};
+ghost use Rattle.jp_model.specs.Query.Singular.{step_selector};
 ghost use Rattle.jp_model.specs.Query.Syntax.{argument, call as syntax_call, child_segment, compare, constant_argument, no_arguments, no_selectors, nodes_argument, selector, string_literal, test};
 ghost use Rattle.jp_query.specs.Sound.{is_sound};
 ghost use Rattle.jp_query.specs.View.{op_view, literal_view, segments_view, segment_view, selectors_view, selector_view, logicals_view, logical_view, comparable_view, path_view, call_view, arguments_view, argument_view};
@@ -112,20 +112,6 @@ fn compile_key(alloc: Global, segment: &Segment) -> Result<Option<Key>>
         [Selector::Index(index)] => Ok(Some(Key::Index(*index))),
         _ => Ok(None),
     }
-}
-
-/// The keys of segments that are singular, and None of any other (RFC 9535, section 2.3.5.1).
-fn compile_keys(alloc: Global, segments: &[Segment]) -> Result<Option<Vec<Key>>>
-    ensures { IfOk result (λ found. IfSome found (λ keys. segments_view segments.now ≡ steps_query (map key_view keys.items))) }
-{
-    let mut keys = Vec::new(alloc);
-    for segment in segments {
-        let Some(key) = compile_key(alloc, segment)? else {
-            return Ok(None);
-        };
-        keys.push(key)?;
-    }
-    Ok(Some(keys))
 }
 
 /// The condition of a comparison.
@@ -336,12 +322,7 @@ impl Compiler {
                 self.slots.push(Slot { slots, steps })?;
                 Ok(Nodes::Slot(place))
             }
-            Origin::Current => {
-                if let Some(keys) = compile_keys(self.alloc, &path.segments)? {
-                    return Ok(Nodes::Path(keys));
-                }
-                Ok(Nodes::Current(self.compile_segments(&path.segments)?))
-            }
+            Origin::Current => Ok(Nodes::Current(self.compile_segments(&path.segments)?)),
         }
     }
 

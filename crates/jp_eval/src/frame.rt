@@ -35,10 +35,8 @@ pub(crate) enum Answer<'a> {
     Exists(bool),
     /// How many there are.
     Count(u64),
-    /// The value of the single node.
-    Single(Value<'a>),
-    /// How long the value of the single node is.
-    Length(Value<'a>),
+    /// The value of the single node, or how long it is.
+    Single(bool, Value<'a>),
 }
 
 /// What changes: the nodes that were found, and what was answered of the queries from the root, by their places.

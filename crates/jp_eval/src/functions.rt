@@ -1,12 +1,12 @@
 //! The functions of filters (RFC 9535, section 2.4).
 
-ghost use Rattle.std.specs.Prelude.{◌≡◌, length, Some, IfOk, IsTrue, option_map};
+ghost use Rattle.std.specs.Prelude.{◌≡◌, length, Some, IfOk, IsTrue, option_map, true};
 ghost use Rattle.std.specs.Str.{chars};
 ghost use Rattle.jp_model.specs.Json.Tree.{value_of};
-ghost use Rattle.jp_model.specs.Meaning.Functions.{length_of as length_of_value, in_pattern as in_pattern_of, single_value};
+ghost use Rattle.jp_model.specs.Meaning.Functions.{length_of as length_of_value};
 ghost use Rattle.jp_tape.specs.Cursors.{node_of};
-ghost use Rattle.jp_eval.specs.Found.{node_list};
-ghost use Rattle.jp_eval.specs.Functions.{function_named, passing, pattern_in, passes_as_string, passes_where_read};
+ghost use Rattle.jp_eval.specs.Answers.{IsValue};
+ghost use Rattle.jp_eval.specs.Functions.{function_named, measured, passing, pattern_in, passes_as_string, passes_where_read};
 ghost use Rattle.jp_iregexp.specs.Trees.{pattern_view};
 ghost use Rattle.jp_strings.specs.Points.{IsText, points_of};
 ghost use Rattle.jp_values.specs.Values.{value_view, is_sound_value};
@@ -52,6 +52,15 @@ pub(crate) fn length_of<'a>(value: Value<'a>) -> Value<'a>
     }
 }
 
+/// The value, or how long it is.
+#[inline(always)]
+pub(crate) fn measure<'a>(value: Value<'a>, is_length: bool) -> Value<'a>
+    requires { is_sound_value value ≡ true }
+    ensures { IsValue result (measured is_length (value_view value.entry)) }
+{
+    if is_length { length_of(value) } else { value }
+}
+
 /// Whether a text passes a pattern: all of it, or a part of it.
 #[inline(always)]
 fn text_passes(alloc: Global, pattern: &Pattern, whole: bool, text: &str) -> Result<bool>
@@ -73,20 +82,8 @@ fn escaped_passes(alloc: Global, pattern: &Pattern, whole: bool, body: &[u8]) ->
     text_passes(alloc, pattern, whole, unescape(alloc, body)?.as_str())
 }
 
-/// Whether the text that a body spells passes a pattern. It is copied only where it has an escape.
-#[inline(always)]
-fn body_passes(alloc: Global, pattern: &Pattern, whole: bool, body: &[u8]) -> Result<bool>
-    requires { IsText body.now }
-    ensures { IfOk result (λ b. b ≡ passing whole (pattern_view pattern.now) (points_of body.now)) }
-{
-    match plain_text(body) {
-        Some(text) => text_passes(alloc, pattern, whole, text),
-        None => escaped_passes(alloc, pattern, whole, body),
-    }
-}
-
 /// The pattern that a string spells.
-fn read_pattern(alloc: Global, value: Value<'_>) -> Result<Option<Pattern>>
+pub(crate) fn read_pattern(alloc: Global, value: Value<'_>) -> Result<Option<Pattern>>
     ensures { IfOk result (λ found. option_map pattern_view found ≡ pattern_in (value_view value.entry)) }
 {
     match value {
@@ -99,18 +96,23 @@ fn read_pattern(alloc: Global, value: Value<'_>) -> Result<Option<Pattern>>
     }
 }
 
-/// Whether the value of a node is a string that passes a pattern: all of it, or a part of it.
+/// Whether the value of a node is a string that passes a pattern: all of it, or a part of it. It is copied only where it has an
+/// escape.
 #[inline(always)]
 fn node_passes(alloc: Global, pattern: &Pattern, whole: bool, node: Cursor<'_>) -> Result<bool>
     ensures { IfOk result (λ b. b ≡ passes_as_string (passing whole) (pattern_view pattern.now) (Some (value_of (node_of node.entry).tree))) }
 {
-    match node.text() {
-        Some(body) => body_passes(alloc, pattern, whole, body),
-        None => Ok(false),
+    let Some(body) = node.text() else {
+        return Ok(false);
+    };
+    match plain_text(body) {
+        Some(text) => text_passes(alloc, pattern, whole, text),
+        None => escaped_passes(alloc, pattern, whole, body),
     }
 }
 
 /// Whether the value is a string that passes the pattern that was read, if there is one.
+#[inline(always)]
 pub(crate) fn read_passes(
     alloc: Global,
     read: &Option<Pattern>,
@@ -127,39 +129,6 @@ pub(crate) fn read_passes(
         Value::Constant(Literal::Text(text)) => text_passes(alloc, pattern, whole, text.as_str()),
         _ => Ok(false),
     }
-}
-
-/// Whether there is a node, and its value is a string that passes the pattern that was read, if there is one.
-#[inline(always)]
-pub(crate) fn end_passes(
-    alloc: Global,
-    read: &Option<Pattern>,
-    whole: bool,
-    end: Option<Cursor<'_>>,
-) -> Result<bool>
-    ensures { IfOk result (λ b. b ≡ passes_where_read (passing whole) (option_map pattern_view read.now) (single_value (node_list end.entry))) }
-{
-    let Some(pattern) = read else {
-        return Ok(false);
-    };
-    match end {
-        Some(node) => node_passes(alloc, pattern, whole, node),
-        None => Ok(false),
-    }
-}
-
-/// Whether both are strings, the second spells a pattern, and all or a part of the first passes it (RFC 9535,
-/// sections 2.4.6 and 2.4.7).
-pub(crate) fn in_pattern(
-    alloc: Global,
-    whole: bool,
-    value: Value<'_>,
-    pattern: Value<'_>,
-) -> Result<bool>
-    ensures { IfOk result (λ b. b ≡ in_pattern_of (passing whole) (value_view value.entry) (value_view pattern.entry)) }
-{
-    let read = read_pattern(alloc, pattern)?;
-    read_passes(alloc, &read, whole, value)
 }
 
 /// The five functions.

@@ -7,7 +7,7 @@
 //! | `Segment` | `Step` | whether it leads to one child, by a `Key` |
 //! | `Selector` | `Choice` | of a name, whether each of its bytes stands for itself |
 //! | `Logical` | `Condition` | whether it asks one query one `Question` |
-//! | `Path` | `Nodes` | the slot of a query from the root; the keys of a singular one from the node |
+//! | `Path` | `Nodes` | the slot of a query from the root |
 //! | `Comparable` | `Side` | the value of a number |
 //! | `Argument` | `Given` | the same, and the pattern that a text spells |
 //! | `Call` | `Invoked` | which of the five functions it is of |
@@ -86,8 +86,6 @@ pub(crate) enum Given {
 pub(crate) enum Nodes {
     /// The query from the root that has this place among the slots around it.
     Slot(usize),
-    /// From the node that is filtered, by names and indexes alone: to one node, or to none.
-    Path(Vec<Key>),
     /// From the node that is filtered.
     Current(Vec<Step>),
 }

@@ -1,21 +1,19 @@
-//! What a filter asks, and the names and indexes that lead to what it asks it of.
+//! What a filter asks, and the names and indexes that lead to a child.
 
-ghost use Rattle.std.specs.Prelude.{◌≡◌, ◌∷◌, [], map, IfOk, IfSome};
+ghost use Rattle.std.specs.Prelude.{◌≡◌, IfOk, IfSome};
 ghost use Rattle.jp_eval.specs.Found.{node_list};
 ghost use Rattle.jp_eval.specs.Keys.{key_view};
 ghost use Rattle.jp_eval.specs.Questions.{answered};
 ghost use Rattle.jp_eval.specs.Steps.{step_nodes};
-ghost use Rattle.jp_model.specs.Json.Tree.{Tree};
-ghost use Rattle.jp_model.specs.Meaning.Selecting.{nodes};
-ghost use Rattle.jp_model.specs.Query.Singular.{steps_query};
 ghost use Rattle.jp_tape.specs.Cursors.{line_of, node_of};
 
 use crate::Result;
 use crate::children::{find_element, find_member};
-use crate::functions::end_passes;
+use crate::functions::read_passes;
 use crate::leaves::{Constant, LiteralPattern, MemberName};
 use jp_query::CompareOp;
 use jp_tape::Cursor;
+use jp_values::Value;
 use std::alloc::Global;
 
 /// What one child is selected by (RFC 9535, sections 2.3.1 and 2.3.3).
@@ -36,34 +34,6 @@ impl Key {
             Key::Name(name) => find_member(node, name.text.as_str(), name.plain),
             Key::Index(index) => find_element(node, *index),
         }
-    }
-}
-
-/// The node that several keys lead to, if there is one.
-#[inline(never)]
-fn find_below<'a>(keys: &[Key], start: Cursor<'a>) -> Option<Cursor<'a>>
-    ensures nodes { (t : Tree) → node_list result ≡ nodes (steps_query (map key_view keys.now)) (node_of start.entry ∷ []) t }
-    ensures line { IfSome result (λ c. line_of c ≡ line_of start.entry) }
-{
-    let mut node = start;
-    for key in keys {
-        match key.find(node) {
-            Some(child) => node = child,
-            None => return None,
-        }
-    }
-    Some(node)
-}
-
-/// The node that keys lead to, if there is one. Most paths have one key, and no loop.
-#[inline(always)]
-pub(crate) fn find_at<'a>(keys: &[Key], start: Cursor<'a>) -> Option<Cursor<'a>>
-    ensures nodes { (t : Tree) → node_list result ≡ nodes (steps_query (map key_view keys.now)) (node_of start.entry ∷ []) t }
-    ensures line { IfSome result (λ c. line_of c ≡ line_of start.entry) }
-{
-    match keys {
-        [only] => only.find(start),
-        _ => find_below(keys, start),
     }
 }
 
@@ -88,7 +58,10 @@ impl Question {
         match self {
             Question::Exists => Ok(end.is_some()),
             Question::Compares(op, constant) => Ok(constant.is_compared(*op, end)),
-            Question::Passes(whole, pattern) => end_passes(alloc, &pattern.read, *whole, end),
+            Question::Passes(whole, pattern) => match end {
+                Some(node) => read_passes(alloc, &pattern.read, *whole, Value::Node(node)),
+                None => Ok(false),
+            },
         }
     }
 }

@@ -7,42 +7,32 @@ ghost use Rattle.std.specs.Prelude.{◌≡◌, [], ◌∷◌, ◌==◌, not, map
 ghost use Rattle.jp_model.specs.Meaning.Functions.{single_value as single_value_of, length_of as length_of_value};
 ghost use Rattle.jp_model.specs.Meaning.Compare.{compared};
 ghost use Rattle.jp_model.specs.Meaning.Nodes.{children, children_where, subtree};
-ghost use Rattle.jp_model.specs.Meaning.Selecting.{selected, select, truth as truth_of, compared_value, path_nodes, given_by, call_value as call_value_of, call_truth as call_truth_of};
+ghost use Rattle.jp_model.specs.Meaning.Selecting.{segment_nodes, selected, select, truth as truth_of, compared_value, path_nodes, given_by, call_value as call_value_of, call_truth as call_truth_of};
 ghost use Rattle.jp_model.specs.Meaning.Slices.{is_index, sliced};
 ghost use Rattle.jp_query.specs.View.{op_view};
 ghost use Rattle.jp_tape.specs.Cursors.{line_of, node_of};
 ghost use Rattle.jp_eval.specs.Answers.{IsValue};
 ghost use Rattle.jp_eval.specs.Expressions.{all_are};
 ghost use Rattle.jp_eval.specs.Found.{AreOf};
-ghost use Rattle.jp_eval.specs.Frames.{here, table_at, tree_at, reached, passes_given, AreKept, Stands, Pushes, Lends};
+ghost use Rattle.jp_eval.specs.Functions.{measured};
+ghost use Rattle.jp_eval.specs.Frames.{here, table_at, tree_at, reached, AreKept, Stands, Pushes, Lends};
 ghost use Rattle.jp_eval.specs.Questions.{answered};
-ghost use Rattle.jp_eval.specs.Programs.{choices_view, choice_view, conditions_view, condition_view, side_view, nodes_view, invoked_view, given_view};
+ghost use Rattle.jp_eval.specs.Programs.{step_view, choices_view, choice_view, conditions_view, condition_view, side_view, nodes_view, invoked_view, given_view};
 ghost use Rattle.jp_eval.specs.Walks.{rises};
 
 use crate::Result;
 use crate::answers::no_answers;
 use crate::children::{Rising, Slice, find_falling};
 use crate::frame::{Answer, At, Frame};
-use crate::functions::{Function, in_pattern, length_of, read_passes};
+use crate::functions::{Function, length_of, measure, read_passes, read_pattern};
 use crate::program::{Choice, Condition, Given, Invoked, Nodes, Side, Step};
-use crate::question::{Question, find_at};
+use crate::question::Question;
+use crate::singular::singular_path;
 use jp_query::CompareOp;
 use jp_tape::Cursor;
 use jp_values::{Value, compare_in};
 
 impl<'r, 'a> At<'r, 'a> {
-    /// Adds the node, as long as fewer nodes than `most` were found.
-    #[inline(always)]
-    fn push_found(self, frame: &mut Frame<'a>) -> Result<()>
-        requires { Stands self frame.old }
-        ensures { Pushes self.entry frame.old frame.new result (here self.entry ∷ []) }
-    {
-        if frame.found.len() < self.most {
-            frame.found.push(self.node)?;
-        }
-        Ok(())
-    }
-
     /// Adds what the steps select from a node, as long as fewer nodes than `most` were found. Where none is left, that is the node.
     #[cycle(eval)]
     #[inline(always)]
@@ -50,28 +40,30 @@ impl<'r, 'a> At<'r, 'a> {
         requires { Stands self frame.old }
         ensures { Pushes self.entry frame.old frame.new result (reached self.entry.run.now steps.now (here self.entry ∷ [])) }
     {
-        if steps.is_empty() {
-            return self.push_found(frame);
+        if let Some((step, rest)) = steps.split_first() {
+            return self.push_step(step, rest, frame);
         }
-        self.push_next(steps, frame)
+        if frame.found.len() < self.most {
+            frame.found.push(self.node)?;
+        }
+        Ok(())
     }
 
-    /// Adds what the steps select where one is left. Most queries end with a name or an index.
+    /// Adds what the step selects from a node, and the steps from there. Most queries end with a name or an index.
     #[cycle(eval)]
     #[inline(never)]
-    fn push_next(self, steps: &[Step], frame: &mut Frame<'a>) -> Result<()>
+    fn push_step(self, step: &Step, rest: &[Step], frame: &mut Frame<'a>) -> Result<()>
         requires { Stands self frame.old }
-        ensures { Pushes self.entry frame.old frame.new result (reached self.entry.run.now steps.now (here self.entry ∷ [])) }
+        ensures { Pushes self.entry frame.old frame.new result (reached self.entry.run.now rest.now (segment_nodes (step_view (table_at self.entry) step.now) (here self.entry) (tree_at self.entry))) }
     {
         let At { run, most, .. } = self;
-        match steps.split_first() {
-            None => self.push_found(frame),
-            Some((Step::One(key), rest)) => match key.find(self.node) {
+        match step {
+            Step::One(key) => match key.find(self.node) {
                 Some(node) => At { run, node, most }.push_steps(rest, frame),
                 None => Ok(()),
             },
-            Some((Step::Child(choices), rest)) => self.push_choices(choices, rest, frame),
-            Some((Step::Descendant(choices), rest)) => { self.push_subtree(choices, rest, frame) }
+            Step::Child(choices) => self.push_choices(choices, rest, frame),
+            Step::Descendant(choices) => self.push_subtree(choices, rest, frame),
         }
     }
 
@@ -245,8 +237,11 @@ impl<'r, 'a> At<'r, 'a> {
         ensures lends { Lends self.entry frame.old frame.new result }
         ensures value { IfOk result (λ b. b ≡ truth_of (condition_view (table_at self.entry) condition.now) (here self.entry) (tree_at self.entry)) }
     {
-        if let Condition::Asks(Nodes::Path(keys), question) = condition {
-            return question.answer(self.run.alloc, find_at(keys, self.node));
+        if let Condition::Asks(nodes, question) = condition
+            && let Nodes::Current(steps) = nodes
+            && let Some(end) = singular_path(steps, self.node)
+        {
+            return question.answer(self.run.alloc, end);
         }
         self.holds_by_parts(condition, frame)
     }
@@ -303,11 +298,11 @@ impl<'r, 'a> At<'r, 'a> {
         match question {
             Question::Exists => self.has_node(nodes, frame),
             Question::Compares(op, constant) => {
-                let value = self.single_value(nodes, frame)?;
+                let value = self.single_value(nodes, false, frame)?;
                 compare_in(self.run.alloc, *op, value, constant.value())
             }
             Question::Passes(whole, pattern) => {
-                let value = self.single_value(nodes, frame)?;
+                let value = self.single_value(nodes, false, frame)?;
                 read_passes(self.run.alloc, &pattern.read, *whole, value)
             }
         }
@@ -342,7 +337,7 @@ impl<'r, 'a> At<'r, 'a> {
     {
         match side {
             Side::Constant(constant) => Ok(constant.value()),
-            Side::Single(nodes) => self.single_value(nodes, frame),
+            Side::Single(nodes) => self.single_value(nodes, false, frame),
             Side::Result(invoked) => self.call_value(invoked, frame),
         }
     }
@@ -357,12 +352,6 @@ impl<'r, 'a> At<'r, 'a> {
         let At { run, most, .. } = self;
         let place = match nodes {
             Nodes::Slot(place) => *place,
-            Nodes::Path(keys) => {
-                return match find_at(keys, self.node) {
-                    Some(node) => At { run, node, most }.push_found(frame),
-                    None => Ok(()),
-                };
-            }
             Nodes::Current(steps) => return self.push_steps(steps, frame),
         };
         let (inner, steps) = run.enter(place);
@@ -441,36 +430,28 @@ impl<'r, 'a> At<'r, 'a> {
         Ok(count)
     }
 
-    /// The value of the single node that a query within a filter selects, where it selects one. What is found of one from the root
-    /// is kept.
+    /// The value of the single node that a query within a filter selects, where it selects one, or how long it is. What is found of
+    /// one from the root is kept.
     #[cycle(eval)]
     #[inline(always)]
-    fn single_value(self, nodes: &Nodes, frame: &mut Frame<'a>) -> Result<Value<'a>>
+    fn single_value(
+        self,
+        nodes: &Nodes,
+        is_length: bool,
+        frame: &mut Frame<'a>,
+    ) -> Result<Value<'a>>
         requires { AreKept self.run.now frame.old.answers.items }
         ensures lends { Lends self.entry frame.old frame.new result }
-        ensures value { IfOk result (λ v. IsValue v (single_value_of (path_nodes (nodes_view (table_at self.entry) nodes.now) (here self.entry) (tree_at self.entry)))) }
+        ensures value { IfOk result (λ v. IsValue v (measured is_length (single_value_of (path_nodes (nodes_view (table_at self.entry) nodes.now) (here self.entry) (tree_at self.entry))))) }
     {
-        if let Some(Answer::Single(value)) = self.run.kept(nodes, frame) {
+        if let Some(Answer::Single(kept, value)) = self.run.kept(nodes, frame)
+            && kept == is_length
+        {
             return Ok(value);
         }
-        let value = self.find_single(nodes, frame)?;
-        self.run.keep(nodes, Answer::Single(value), frame);
-        Ok(value)
-    }
-
-    /// How long the value of the single node is that a query within a filter selects (RFC 9535, section 2.4.4).
-    #[cycle(eval)]
-    fn single_length(self, nodes: &Nodes, frame: &mut Frame<'a>) -> Result<Value<'a>>
-        requires { AreKept self.run.now frame.old.answers.items }
-        ensures lends { Lends self.entry frame.old frame.new result }
-        ensures value { IfOk result (λ v. IsValue v (length_of_value (single_value_of (path_nodes (nodes_view (table_at self.entry) nodes.now) (here self.entry) (tree_at self.entry))))) }
-    {
-        if let Some(Answer::Length(value)) = self.run.kept(nodes, frame) {
-            return Ok(value);
-        }
-        let value = self.find_single(nodes, frame)?;
-        let value = length_of(value);
-        self.run.keep(nodes, Answer::Length(value), frame);
+        let value = measure(self.find_single(nodes, frame)?, is_length);
+        self.run
+            .keep(nodes, Answer::Single(is_length, value), frame);
         Ok(value)
     }
 
@@ -485,7 +466,7 @@ impl<'r, 'a> At<'r, 'a> {
         match given {
             Given::Constant(constant) => Ok(constant.value()),
             Given::Pattern(pattern) => Ok(Value::Constant(&pattern.constant.literal)),
-            Given::Nodes(nodes) => self.single_value(nodes, frame),
+            Given::Nodes(nodes) => self.single_value(nodes, false, frame),
             Given::Condition(_) => Ok(Value::Nothing),
             Given::Result(invoked) => self.call_value(invoked, frame),
         }
@@ -499,7 +480,7 @@ impl<'r, 'a> At<'r, 'a> {
         ensures value { IfOk result (λ v. IsValue v (length_of_value (given_by (given_view (table_at self.entry) given.now) (here self.entry) (tree_at self.entry)).value)) }
     {
         if let Given::Nodes(nodes) = given {
-            return self.single_length(nodes, frame);
+            return self.single_value(nodes, true, frame);
         }
         let value = self.given_value(given, frame)?;
         Ok(length_of(value))
@@ -522,33 +503,11 @@ impl<'r, 'a> At<'r, 'a> {
                 _ => Ok(Value::Count(0)),
             },
             Some(Function::Value) => match given {
-                Given::Nodes(nodes) => self.single_value(nodes, frame),
+                Given::Nodes(nodes) => self.single_value(nodes, false, frame),
                 _ => Ok(Value::Nothing),
             },
             _ => Ok(Value::Nothing),
         }
-    }
-
-    /// Whether the value of an argument is a string that passes the pattern of another: all of it, or a part of it.
-    #[cycle(eval)]
-    #[inline(never)]
-    fn match_given(
-        self,
-        whole: bool,
-        text: &Given,
-        pattern: &Given,
-        frame: &mut Frame<'a>,
-    ) -> Result<bool>
-        requires { AreKept self.run.now frame.old.answers.items }
-        ensures lends { Lends self.entry frame.old frame.new result }
-        ensures value { IfOk result (λ b. b ≡ passes_given self.entry whole text.now pattern.now) }
-    {
-        let text = self.given_value(text, frame)?;
-        if let Given::Pattern(pattern) = pattern {
-            return read_passes(self.run.alloc, &pattern.read, whole, text);
-        }
-        let pattern = self.given_value(pattern, frame)?;
-        in_pattern(self.run.alloc, whole, text, pattern)
     }
 
     /// What a call answers as a truth (RFC 9535, section 2.4).
@@ -567,6 +526,12 @@ impl<'r, 'a> At<'r, 'a> {
             Some(Function::Search) => false,
             _ => return Ok(false),
         };
-        self.match_given(whole, text, pattern, frame)
+        let text = self.given_value(text, frame)?;
+        if let Given::Pattern(pattern) = pattern {
+            return read_passes(self.run.alloc, &pattern.read, whole, text);
+        }
+        let pattern = self.given_value(pattern, frame)?;
+        let read = read_pattern(self.run.alloc, pattern)?;
+        read_passes(self.run.alloc, &read, whole, text)
     }
 }

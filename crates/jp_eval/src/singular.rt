@@ -11,12 +11,11 @@ ghost use Rattle.jp_eval.specs.Programs.{Table, nodes_view, steps_view};
 
 use crate::frame::At;
 use crate::program::{Nodes, Step};
-use crate::question::find_at;
 use jp_tape::Cursor;
 
-/// The node that any number of steps by names and indexes lead to, if there is one. None where another step is met.
+/// The node that several steps by names and indexes lead to, if there is one. None where another step is met.
 #[inline(never)]
-fn singular_path<'a>(steps: &[Step], start: Cursor<'a>) -> Option<Option<Cursor<'a>>>
+fn several_steps<'a>(steps: &[Step], start: Cursor<'a>) -> Option<Option<Cursor<'a>>>
     ensures { (table : Table) (t : Tree) → IfSome result (λ end. node_list end ≡ nodes_of (steps_view table steps.now) (node_of start.entry ∷ []) t) }
 {
     let mut node = start;
@@ -32,6 +31,20 @@ fn singular_path<'a>(steps: &[Step], start: Cursor<'a>) -> Option<Option<Cursor<
     Some(Some(node))
 }
 
+/// The node that steps by names and indexes lead to, if there is one. None where there is another step. Most queries have one step,
+/// and no loop.
+#[inline(always)]
+pub(crate) fn singular_path<'a>(steps: &[Step], start: Cursor<'a>) -> Option<Option<Cursor<'a>>>
+    ensures { (table : Table) (t : Tree) → IfSome result (λ end. node_list end ≡ nodes_of (steps_view table steps.now) (node_of start.entry ∷ []) t) }
+{
+    match steps {
+        [] => Some(Some(start)),
+        [Step::One(key)] => Some(key.find(start)),
+        [.., Step::One(_)] => several_steps(steps, start),
+        _ => None,
+    }
+}
+
 impl<'r, 'a> At<'r, 'a> {
     /// The node that a query by names and indexes leads to, if there is one. None where another step is met.
     #[inline(always)]
@@ -40,8 +53,7 @@ impl<'r, 'a> At<'r, 'a> {
     {
         match nodes {
             Nodes::Slot(place) => singular_path(self.run.enter(*place).1, *self.run.root),
-            Nodes::Path(keys) => Some(find_at(keys, self.node)),
-            Nodes::Current(_) => None,
+            Nodes::Current(steps) => singular_path(steps, self.node),
         }
     }
 }

@@ -1,21 +1,25 @@
 -- No child has an index below 0 or so large.
-use Rattle.std.proofs.Common.{rules, sym, ◌≡◌, ◌∙◌, ◌<ℤ◌, ◌⊎◌, inl, inr, ℤ, pos, ap, arith, w64}
+use Rattle.std.proofs.Common.{rules, refl, sym, subst, Option, ℕ, false, negsuc, nat_abs, ◌≡◌, ◌∙◌, ◌<ℤ◌, ◌⊎◌, inl, inr, ℤ, pos, ap, arith, w64}
+use Rattle.std.specs.Prelude.{int_lt}
+use Rattle.std.proofs.lemmas.Bool.{true≢false}
 use Rattle.std.proofs.lemmas.Int.{ints}
 use mir.Val.{to_z, of_z}
 use Rattle.jp_model.specs.Steps.{same_int}
 use Rattle.jp_model.specs.Meaning.Nodes.{children_where, child_count}
 use Rattle.jp_model.specs.Meaning.Slices.{is_index, indexed, normal}
 use Rattle.jp_tape.specs.Cursors.{line_of, node_of}
+use Rattle.jp_tape.specs.declared.cursor.Cursor.{Cursor}
 use Rattle.jp_tape.proofs.Cursors.{standing}
-use Rattle.jp_eval.proofs.Elements.{none_outside}
-use Rattle.jp_eval.proofs.NoMembers.{no_elements}
+use Rattle.jp_eval.specs.Walks.{IsAt}
+use Rattle.jp_eval.proofs.Elements.{none_outside, nth_is}
+use Rattle.jp_eval.proofs.NoMembers.{no_elements, nameless}
 use Rattle.jp_eval.proofs.children.find_element.Goals as goal
 use Rattle.jp_eval.proofs.children.find_element.Goals.{then-place-lt0-via-then-place-lt0, then-place-lt0-via-else-place-lt0+then-place-gt4294967295}
 
 pub returns-then-not-is_array-clause-nodes : goal.returns-then-not-is_array-clause-nodes
 returns-then-not-is_array-clause-nodes c =
     let n = node_of c.args.node in
-    sym (no_elements (line_of c.args.node) (same_int (normal (child_count n) c.args.index)) n (standing c.args.node).spells (c.is_array.ensures c.if-not-is_array.true))
+    sym (no_elements (line_of c.args.node) (same_int (normal (child_count n) c.args.index)) n (standing c.args.node).spells (λ is. true≢false (sym (c.is_array.ensures.1 is) ∙ c.if-not-is_array.true)))
 
 pub returns-then-place-lt0-clause-nodes : goal.returns-then-place-lt0-clause-nodes
 returns-then-place-lt0-clause-nodes c =
@@ -28,3 +32,18 @@ returns-then-place-lt0-clause-nodes c =
     ] in
     none_outside c.args.node place outside ∙ ap (λ (z : ℤ). children_where (is_index (same_int z)) (node_of c.args.node)) c.place_from_start-place.ensures
     ∙ ap (λ (z : ℤ). indexed z (node_of c.args.node)) fits
+
+whole_again : (z : ℤ) → int_lt z (pos 0) ≡ false → pos (nat_abs z) ≡ z
+whole_again (pos n) h = refl
+whole_again (negsuc n) h = absurd (cc)
+
+pub returns-clause-nodes : goal.returns-clause-nodes
+returns-clause-nodes c =
+    let n = node_of c.args.node in
+    let raw : ℤ = to_z w64 (of_z w64 c.place_from_start-place.result) in
+    let place : ℕ = nat_abs raw in
+    let at : IsAt n place c.nth_child.result = c.nth_child.ensures.at in
+    let kept : raw ≡ c.place_from_start-place.result = search rules in
+    let fits : to_z w64 (of_z w64 c.args.index) ≡ c.args.index = search rules in
+    nth_is n place c.nth_child.result at (λ d e. nameless (line_of c.args.node) n place d (standing c.args.node).spells (c.is_array.ensures.0 c.if-not-is_array.false) (subst (λ (r : Option Cursor). IsAt n place r) e at))
+    ∙ (ap (λ (z : ℤ). children_where (is_index (same_int z)) n) (whole_again raw c.if-place-lt0.false ∙ (kept ∙ c.place_from_start-place.ensures)) ∙ ap (λ (z : ℤ). indexed z n) fits)

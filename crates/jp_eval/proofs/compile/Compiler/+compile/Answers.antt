@@ -90,7 +90,7 @@ pub compile_path-returns-in_ok-compile_segments-in-Current : goal.compile_path-r
 compile_path-returns-in_ok-compile_segments-in-Current t c =
     means_by (syntax.path syntax.current) (λ (table : Table). nodes_view table (paths.Current c.in_ok-compile_segments-in-Current.field-0)) (path_view c.args.path.now)
     (λ table. current_is table c.in_ok-compile_segments-in-Current.field-0)
-    (path_viewed c.args.path.now ∙ (ap (λ (o : Origin). syntax.path (origin_view o) (segments_view c.args.path.now.segments.items)) c.in-Current.is ∙ ap (λ (l : List Segment). syntax.path syntax.current (segments_view l)) (sym c.deref-in-Current-2.ensures.value)))
+    (path_viewed c.args.path.now ∙ (ap (λ (o : Origin). syntax.path (origin_view o) (segments_view c.args.path.now.segments.items)) c.in-Current.is ∙ ap (λ (l : List Segment). syntax.path syntax.current (segments_view l)) (sym c.deref-in-Current.ensures.value)))
     c.in_ok-compile_segments-in-Current.ensures
 
 pub compile_logical-compile_side-requires-in-Compare : goal.compile_logical-compile_side-requires-in-Compare

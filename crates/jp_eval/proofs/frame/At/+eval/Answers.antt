@@ -15,8 +15,9 @@ use Rattle.jp_tape.specs.Cursors.{line_of, place_of, node_of, nodes_from, nodes_
 use Rattle.jp_values.specs.declared.value.Value.{Value as Side}
 use Rattle.jp_values.specs.Values.{value_view, is_sound_value}
 use Rattle.jp_eval.specs.Answers.{IsValue}
-use Rattle.jp_eval.specs.Frames.{table_in, slot_nodes, passes_given, AreKept, Pushes}
-use Rattle.jp_eval.specs.Functions.{passing}
+use Rattle.jp_eval.specs.Frames.{table_in, slot_nodes, AreKept, Pushes}
+use Rattle.jp_eval.specs.Found.{node_list}
+use Rattle.jp_eval.specs.Functions.{passing, measured}
 use Rattle.jp_eval.specs.Questions.{answered}
 use Rattle.jp_eval.specs.Keys.{key_view}
 use Rattle.jp_eval.specs.Steps.{step_nodes}
@@ -28,6 +29,7 @@ use Rattle.jp_eval.specs.declared.frame.Run.{Run}
 use Rattle.jp_eval.specs.declared.functions.Function.{Function}
 use Rattle.jp_eval.specs.declared.functions.Function.TheVariants as functions
 use Rattle.jp_query.specs.View.{literal_view}
+use mathlib.Core.Bool.{beq}
 use Rattle.std.proofs.Math.Logic.{∥∥₁_elim}
 use Rattle.jp_eval.specs.declared.leaves.LiteralPattern.{LiteralPattern}
 use Rattle.jp_eval.specs.declared.program.Choice.{Choice}
@@ -39,8 +41,8 @@ use Rattle.jp_eval.specs.declared.program.Given.{Given as Held}
 use Rattle.jp_eval.specs.declared.program.Invoked.{Invoked}
 use Rattle.jp_eval.proofs.Answered.{told_before}
 use Rattle.jp_eval.proofs.Childless.{none_first, none_selected}
-use Rattle.jp_eval.proofs.Calls.{called, match_called, search_called, few_called, many_called, none_called, several_called}
-use Rattle.jp_eval.proofs.Compiled.{chosen_is, asks_is, slot_is, slice_is, nodes_given, pattern_given}
+use Rattle.jp_eval.proofs.Calls.{called, passing_called, function_passing, few_called, many_called, none_called, several_called}
+use Rattle.jp_eval.proofs.Compiled.{chosen_is, asks_is, current_is, slot_is, slice_is, nodes_given, pattern_given}
 use Rattle.jp_eval.proofs.Counts.{counted_so, single_found, none_single}
 use Rattle.jp_eval.proofs.Descendants.{below_at}
 use Rattle.jp_eval.proofs.Goes.{Goes, others_are, goes_from, is_done, is_full, now_is, filter_taken, filter_passed, filter_all, filter_none, nothing_added}
@@ -310,13 +312,19 @@ find_single-returns-clause-value t c =
       ];
     }
 
-pub single_value-returns-in-Some-Single-clause-value : goal.single_value-returns-in-Some-Single-clause-value
-single_value-returns-in-Some-Single-clause-value t c =
-    told_before c.args.self.run.now c.args.nodes.now (node_of c.args.self.node) c.kept.result _ c.kept.ensures (c.in-Some-Single.is ∙ ap (λ (a : Answer). Some a) c.in-Some-Single.field-0-is)
+same_flag : (a b : Bool) → beq a b ≡ true → a ≡ b
+same_flag true true h = refl
+same_flag false false h = refl
+same_flag true false h = absurd (cc)
+same_flag false true h = absurd (cc)
 
-pub single_length-returns-in-Some-Length-clause-value : goal.single_length-returns-in-Some-Length-clause-value
-single_length-returns-in-Some-Length-clause-value t c =
-    told_before c.args.self.run.now c.args.nodes.now (node_of c.args.self.node) c.kept.result _ c.kept.ensures (c.in-Some-Length.is ∙ ap (λ (a : Answer). Some a) c.in-Some-Length.field-0-is)
+pub single_value-returns-clause-value : goal.single_value-returns-clause-value
+single_value-returns-clause-value t c =
+    let run : Run = c.args.self.run.now in
+    let n : Node = node_of c.args.self.node in
+    let found : List Node = path_nodes (nodes_view (table_in run) c.args.nodes.now) n (node_of run.root.now).tree in
+    subst (λ (b : Bool). IsValue c.in-Some-Single.value (measured b (single_value found))) (same_flag c.in-Some-Single.kept c.args.is_length c.if-kept-is_length.true)
+    (told_before run c.args.nodes.now n c.kept.result _ c.kept.ensures (c.in-Some-Single.is ∙ ap (λ (a : Answer). Some a) c.in-Some-Single.field-0-is))
 
 -- ---- calls
 
@@ -325,19 +333,6 @@ call_truth-returns-in_default-clause-value t c = few_called (table_in c.args.sel
 
 pub call_truth-returns-in_default-2-clause-value : goal.call_truth-returns-in_default-2-clause-value
 call_truth-returns-in_default-2-clause-value t c = many_called (table_in c.args.self.run.now) c.args.invoked.now c.as_slice.result.now (node_of c.args.self.node) (node_of c.args.self.run.now.root.now).tree c.as_slice.ensures.value c.in_default.len_at_least
-
-pub match_given-returns-clause-value : goal.match_given-returns-clause-value
-match_given-returns-clause-value t c =
-    subst (λ (v : Bool). IfOk c.in_pattern.result (λ b. b ≡ v)) (ap₂ (λ (x y : Option Value). in_pattern (passing c.args.whole) x y) c.in_ok-text.ensures.value.value c.in_ok-pattern.ensures.value.value) c.in_pattern.ensures
-
-pub match_given-returns-in-Pattern-clause-value : goal.match_given-returns-in-Pattern-clause-value
-match_given-returns-in-Pattern-clause-value t c =
-    let value = λ (x : Held). (given_by (given_view (table_in c.args.self.run.now) x) (node_of c.args.self.node) (node_of c.args.self.run.now.root.now).tree).value in
-    let pattern : LiteralPattern = c.in-Pattern.pattern in
-    let spelled : Option Value = Some (literal_value (literal_view pattern.constant.literal)) in
-    let second : value c.args.pattern.now ≡ spelled = ap value c.in-Pattern.is ∙ ap (λ (a : syntax.Argument). (given_by a (node_of c.args.self.node) (node_of c.args.self.run.now.root.now).tree).value) (pattern_given (table_in c.args.self.run.now) pattern) in
-    ∥∥₁_elim pattern.spelled (one_proof c.read_passes.result _)
-    (λ e. subst (λ (v : Bool). IfOk c.read_passes.result (λ b. b ≡ v)) (ap₂ (λ (x y : Option Value). in_pattern (passing c.args.whole) x y) c.in_ok-text.ensures.value.value (sym second)) (told c.read_passes.result (passing c.args.whole) _ (value_view c.in_ok-text.text) spelled e c.read_passes.ensures))
 
 pub call_value-returns-in_default-clause-value : goal.call_value-returns-in_default-clause-value
 call_value-returns-in_default-clause-value t c =
@@ -525,22 +520,18 @@ push_choice-returns-in-None t c =
     ap (λ (x : Choice). select (choice_view (table_in c.args.self.run.now) x) n u) c.in-One.is ∙ (ap (λ (x : syntax.Selector). select x n u) (chosen_is (table_in c.args.self.run.now) c.in-One.key) ∙ (select_is (key_view c.in-One.key) n u ∙ sym c.in-None.ensures.nodes)) in
     record { adds = adds_none (line_of c.args.self.run.now.root.now) c.args.frame.now.found.items c.args.frame.now.found.items refl; kept = c.requires.kept; nodes = nothing_added c.args.self.most c.args.frame.now.found.items ss u (select (choice_view (table_in c.args.self.run.now) c.args.choice.now) n u) c.requires.room none }
 
-pub push_next-returns-in-None-find : goal.push_next-returns-in-None-find
-push_next-returns-in-None-find t c =
+pub push_step-returns-in-None : goal.push_step-returns-in-None
+push_step-returns-in-None t c =
     let table : Table = table_in c.args.self.run.now in
     let u : Tree = (node_of c.args.self.run.now.root.now).tree in
     let n : Node = node_of c.args.self.node in
     let old : List Cursor = c.args.frame.now.found.items in
-    let step : ProgramStep = c.in-Some-One-default.field-0-0.now in
-    let rest : List ProgramStep = c.in-Some-One-default.rest.now in
-    let there : step_nodes (key_view c.in-Some-One-default.key) n ≡ [] = search (rules, c.in-None-find.ensures.nodes) in
-    let none : segment_nodes (step_view table step) n u ≡ [] = one_selects table step c.in-Some-One-default.key n u c.in-Some-One-default.field-0-0-is ∙ there in
-    let all : nodes (steps_view table c.args.steps.now) (n ∷ []) u ≡ nodes (steps_view table rest) (segment_nodes (step_view table step) n u) u =
-    ap (λ (l : List ProgramStep). nodes (steps_view table l) (n ∷ []) u) c.in-Some-One-default.ensures.cases.0 ∙ ap (λ (l : List Node). nodes (steps_view table rest) l u) (append-nil (segment_nodes (step_view table step) n u)) in
+    let there : step_nodes (key_view c.in-One.key) n ≡ [] = search (rules, c.in-None.ensures.nodes) in
+    let none : segment_nodes (step_view table c.args.step.now) n u ≡ [] = one_selects table c.args.step.now c.in-One.key n u c.in-One.is ∙ there in
     record {
       adds = adds_none (line_of c.args.self.run.now.root.now) old old refl;
       kept = c.requires.kept;
-      nodes = subst (λ (l : List Node). map node_of old ≡ take c.args.self.most (map node_of old ++ l)) (sym all) (nothing_added c.args.self.most old (steps_view table rest) u (segment_nodes (step_view table step) n u) c.requires.room none);
+      nodes = nothing_added c.args.self.most old (steps_view table c.args.rest.now) u (segment_nodes (step_view table c.args.step.now) n u) c.requires.room none;
     }
 
 -- ---- patterns that the query spells
@@ -557,17 +548,61 @@ ask-returns-in_ok-value-in-Passes-clause-value t c =
     ∥∥₁_elim pattern.spelled (one_proof c.read_passes.result _)
     (λ e. subst (λ (b : Bool). IfOk c.read_passes.result (λ a. a ≡ b)) is (told c.read_passes.result test _ own spelled e c.read_passes.ensures))
 
-pub call_truth-returns-clause-value : goal.call_truth-returns-clause-value
-call_truth-returns-clause-value t c =
+-- ---- what names and indexes lead to
+
+pub holds-returns-clause-value : goal.holds-returns-clause-value
+holds-returns-clause-value t c =
+    let table : Table = table_in c.args.self.run.now in
+    let u : Tree = (node_of c.args.self.run.now.root.now).tree in
+    let n : Node = node_of c.args.self.node in
+    let q : Question = c.in-Asks.question in
+    let asked : Nodes = c.in-Asks.nodes in
+    let found : List Node = node_list c.in-Some.end in
+    let steps : nodes_view table asked ≡ syntax.path syntax.current (steps_view table c.deref.result.now) =
+    ap (nodes_view table) c.in-Current.is ∙ (current_is table c.in-Current.steps ∙ ap (λ (l : List ProgramStep). syntax.path syntax.current (steps_view table l)) (sym c.deref.ensures.value)) in
+    let same : answered q found ≡ truth (condition_view table c.args.condition.now) n u =
+    ap (answered q) (c.in-Some.ensures table u)
+    ∙ (sym (ap (λ (p : syntax.Path). answered q (path_nodes p n u)) steps)
+    ∙ (sym (asks_so q (nodes_view table asked) n u)
+    ∙ (sym (ap (λ (l : syntax.Logical). truth l n u) (asks_is table asked q)) ∙ sym (ap (λ (x : Condition). truth (condition_view table x) n u) c.in-Asks.is)))) in
+    subst (λ (v : Bool). IfOk c.answer.result (λ b. b ≡ v)) same c.answer.ensures
+
+-- ---- calls of `match` and `search`, with what their arguments give
+
+pub call_truth-returns-in-Pattern-clause-value : goal.call_truth-returns-in-Pattern-clause-value
+call_truth-returns-in-Pattern-clause-value t c =
     let call : Invoked = c.args.invoked.now in
     let n : Node = node_of c.args.self.node in
     let run : Run = c.args.self.run.now in
     let text : Held = c.text-item.result in
     let pattern : Held = c.pattern-item.result in
+    let read : LiteralPattern = c.in-Pattern.pattern in
+    let spelled : Option Value = Some (literal_value (literal_view read.constant.literal)) in
+    let own : Option Value = value_view c.in_ok-text.text in
+    let whole : Bool = c.match-which-2.whole in
+    let given = λ (x : Held). (given_by (given_view (table_in run) x) n (node_of run.root.now).tree).value in
     let are : text ∷ pattern ∷ [] ≡ call.arguments.items = sym (sym c.as_slice.ensures.value ∙ two_items c.as_slice.result.now text pattern c.text-item.is c.pattern-item.is c.in-len2.len_at_least c.in-len2.len_below) in
-    let answer : passes_given c.args.self c.match-which-2.whole text pattern ≡ call_truth (invoked_view (table_in run) call) n (node_of run.root.now).tree =
+    let so : call.named.function ≡ Some (function_passing whole) =
     elim c.match-which-2.branch [
-      | call_truth-in-Some-Match w ↦ (let so : call.named.function ≡ Some functions.Match = cc in ap (λ (b : Bool). passes_given c.args.self b text pattern) w.whole-is ∙ match_called c.args.self call text pattern are so)
-      | call_truth-in-Some-Search w ↦ (let so : call.named.function ≡ Some functions.Search = cc in ap (λ (b : Bool). passes_given c.args.self b text pattern) w.whole-is ∙ search_called c.args.self call text pattern are so)
+      | call_truth-in-Some-Match w ↦ (let f : call.named.function ≡ Some functions.Match = cc in f ∙ ap (λ (b : Bool). Some (function_passing b)) (sym w.whole-is))
+      | call_truth-in-Some-Search w ↦ (let f : call.named.function ≡ Some functions.Search = cc in f ∙ ap (λ (b : Bool). Some (function_passing b)) (sym w.whole-is))
     ] in
-    subst (λ (v : Bool). IfOk c.match_given.result (λ b. b ≡ v)) answer c.match_given.ensures.value
+    let second : spelled ≡ given pattern = sym (ap given c.in-Pattern.is ∙ ap (λ (a : syntax.Argument). (given_by a n (node_of run.root.now).tree).value) (pattern_given (table_in run) read)) in
+    let answer = passing_called c.args.self call whole text pattern own spelled are so c.in_ok-text.ensures.value.value second in
+    ∥∥₁_elim read.spelled (one_proof c.read_passes.result _)
+    (λ e. subst (λ (v : Bool). IfOk c.read_passes.result (λ b. b ≡ v)) answer (told c.read_passes.result (passing whole) _ own spelled e c.read_passes.ensures))
+
+pub call_truth-returns-clause-value : goal.call_truth-returns-clause-value
+call_truth-returns-clause-value t c =
+    let call : Invoked = c.args.invoked.now in
+    let text : Held = c.text-item.result in
+    let pattern : Held = c.pattern-item.result in
+    let whole : Bool = c.match-which-2.whole in
+    let are : text ∷ pattern ∷ [] ≡ call.arguments.items = sym (sym c.as_slice.ensures.value ∙ two_items c.as_slice.result.now text pattern c.text-item.is c.pattern-item.is c.in-len2.len_at_least c.in-len2.len_below) in
+    let so : call.named.function ≡ Some (function_passing whole) =
+    elim c.match-which-2.branch [
+      | call_truth-in-Some-Match w ↦ (let f : call.named.function ≡ Some functions.Match = cc in f ∙ ap (λ (b : Bool). Some (function_passing b)) (sym w.whole-is))
+      | call_truth-in-Some-Search w ↦ (let f : call.named.function ≡ Some functions.Search = cc in f ∙ ap (λ (b : Bool). Some (function_passing b)) (sym w.whole-is))
+    ] in
+    let answer = passing_called c.args.self call whole text pattern (value_view c.in_ok-text.text) (value_view c.in_ok-pattern.pattern) are so c.in_ok-text.ensures.value.value c.in_ok-pattern.ensures.value.value in
+    subst (λ (v : Bool). IfOk c.read_passes-2.result (λ b. b ≡ v)) answer (told c.read_passes-2.result (passing whole) _ (value_view c.in_ok-text.text) (value_view c.in_ok-pattern.pattern) c.in_ok-read.ensures c.read_passes-2.ensures)

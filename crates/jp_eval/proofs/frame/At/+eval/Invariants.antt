@@ -7,18 +7,18 @@ use Rattle.jp_model.specs.Meaning.Slices.{is_index}
 use Rattle.jp_tape.specs.Cursors.{line_of, place_of, node_of, nodes_from}
 use Rattle.jp_eval.specs.Expressions.{all_are}
 use Rattle.jp_eval.specs.Frames.{table_in, tree_in, AreKept}
-use Rattle.jp_eval.specs.Programs.{steps_view, choices_view, choice_view, conditions_view, condition_view, side_view, nodes_view, invoked_view, given_view}
+use Rattle.jp_eval.specs.Programs.{step_view, steps_view, choices_view, choice_view, conditions_view, condition_view, side_view, nodes_view, invoked_view, given_view}
 use Rattle.jp_eval.specs.Walks.{IsAt, rises}
 use Rattle.jp_eval.proofs.Goes.{Goes}
 use Rattle.jp_eval.proofs.Walks.{chosen_from}
-use Rattle.jp_eval.proofs.Sizes.{size_of_segments, size_of_selectors, size_of_selector, size_of_logical, size_of_logicals, size_of_comparable, size_of_path, size_of_call, size_of_argument}
+use Rattle.jp_eval.proofs.Sizes.{size_of_segments, size_of_segment, size_of_selectors, size_of_selector, size_of_logical, size_of_logicals, size_of_comparable, size_of_path, size_of_call, size_of_argument}
 use Rattle.jp_eval.proofs.frame.At.+eval.Given as goal
 
 abbrev pub decreases-push_steps : goal.decreases-push_steps
 decreases-push_steps l = size_of_segments (steps_view (table_in l.self.run.now) l.steps.now) + 1
 
-abbrev pub decreases-push_next : goal.decreases-push_next
-decreases-push_next l = size_of_segments (steps_view (table_in l.self.run.now) l.steps.now)
+abbrev pub decreases-push_step : goal.decreases-push_step
+decreases-push_step l = size_of_segment (step_view (table_in l.self.run.now) l.step.now) + size_of_segments (steps_view (table_in l.self.run.now) l.rest.now)
 
 abbrev pub decreases-push_subtree : goal.decreases-push_subtree
 decreases-push_subtree l = size_of_selectors (choices_view (table_in l.self.run.now) l.choices.now) + size_of_segments (steps_view (table_in l.self.run.now) l.rest.now) + 6
@@ -77,9 +77,6 @@ decreases-count_nodes l = size_of_path (nodes_view (table_in l.self.run.now) l.n
 abbrev pub decreases-single_value : goal.decreases-single_value
 decreases-single_value l = size_of_path (nodes_view (table_in l.self.run.now) l.nodes.now) + 2
 
-abbrev pub decreases-single_length : goal.decreases-single_length
-decreases-single_length l = size_of_path (nodes_view (table_in l.self.run.now) l.nodes.now) + 2
-
 abbrev pub decreases-given_value : goal.decreases-given_value
 decreases-given_value l = size_of_argument (given_view (table_in l.self.run.now) l.given.now)
 
@@ -88,9 +85,6 @@ decreases-given_length l = size_of_argument (given_view (table_in l.self.run.now
 
 abbrev pub decreases-call_value : goal.decreases-call_value
 decreases-call_value l = size_of_call (invoked_view (table_in l.self.run.now) l.invoked.now)
-
-abbrev pub decreases-match_given : goal.decreases-match_given
-decreases-match_given l = size_of_argument (given_view (table_in l.self.run.now) l.text.now) + size_of_argument (given_view (table_in l.self.run.now) l.pattern.now) + 1
 
 abbrev pub decreases-call_truth : goal.decreases-call_truth
 decreases-call_truth l = size_of_call (invoked_view (table_in l.self.run.now) l.invoked.now)

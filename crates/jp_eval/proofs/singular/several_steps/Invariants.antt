@@ -4,7 +4,7 @@ use Rattle.jp_model.specs.Json.Tree.{Tree}
 use Rattle.jp_model.specs.Meaning.Selecting.{nodes}
 use Rattle.jp_tape.specs.Cursors.{node_of}
 use Rattle.jp_eval.specs.Programs.{Table, steps_view}
-use Rattle.jp_eval.proofs.singular.singular_path.Given as goal
+use Rattle.jp_eval.proofs.singular.several_steps.Given as goal
 
 abbrev pub invariant-loop-step : goal.invariant-loop-step
 invariant-loop-step l = record {

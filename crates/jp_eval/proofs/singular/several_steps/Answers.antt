@@ -9,7 +9,7 @@ use Rattle.jp_eval.specs.Found.{node_list}
 use Rattle.jp_eval.specs.Programs.{steps_view}
 use Rattle.jp_eval.specs.declared.program.Step.{Step}
 use Rattle.jp_eval.proofs.SingularSteps.{goes_on, one_selects}
-use Rattle.jp_eval.proofs.singular.singular_path.Goals as goal
+use Rattle.jp_eval.proofs.singular.several_steps.Goals as goal
 
 pub returns-in_default-find : goal.returns-in_default-find
 returns-in_default-find c = λ table t.
