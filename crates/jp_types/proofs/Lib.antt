@@ -2,3 +2,4 @@
 pub mod KnownWords
 pub mod Arity
 pub mod Faults
+pub mod Known

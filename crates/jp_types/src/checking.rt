@@ -21,11 +21,12 @@ pub fn check(query: Query) -> Result<Checked, (QueryFault, Query)>
     ensures same { MatchResult result (λ c. checked_view c ≡ query_view query) (λ e. e.1 ≡ query) }
     ensures fault { MatchResult result (λ c. fault_of_query (query_view query) ≡ None) (λ e. fault_of_query (query_view query) ≡ Some e.0) }
 {
-    if !segments_known(query.segments()) {
-        return Err((QueryFault::Function, query));
+    // A well-typed query names no other function.
+    if segments_typed(query.segments()) {
+        return Ok(Checked::new(query));
     }
-    if !segments_typed(query.segments()) {
+    if segments_known(query.segments()) {
         return Err((QueryFault::Types, query));
     }
-    Ok(Checked::new(query))
+    Err((QueryFault::Function, query))
 }
