@@ -298,11 +298,11 @@ impl<'r, 'a> At<'r, 'a> {
         match question {
             Question::Exists => self.has_node(nodes, frame),
             Question::Compares(op, constant) => {
-                let value = self.single_value(nodes, false, frame)?;
+                let value = self.value_of(nodes, false, frame)?;
                 compare_in(self.run.alloc, *op, value, constant.value())
             }
             Question::Passes(whole, pattern) => {
-                let value = self.single_value(nodes, false, frame)?;
+                let value = self.value_of(nodes, false, frame)?;
                 read_passes(self.run.alloc, &pattern.read, *whole, value)
             }
         }
@@ -337,7 +337,7 @@ impl<'r, 'a> At<'r, 'a> {
     {
         match side {
             Side::Constant(constant) => Ok(constant.value()),
-            Side::Single(nodes) => self.single_value(nodes, false, frame),
+            Side::Single(nodes) => self.value_of(nodes, false, frame),
             Side::Result(invoked) => self.call_value(invoked, frame),
         }
     }
@@ -434,12 +434,7 @@ impl<'r, 'a> At<'r, 'a> {
     /// one from the root is kept.
     #[cycle(eval)]
     #[inline(always)]
-    fn single_value(
-        self,
-        nodes: &Nodes,
-        is_length: bool,
-        frame: &mut Frame<'a>,
-    ) -> Result<Value<'a>>
+    fn value_of(self, nodes: &Nodes, is_length: bool, frame: &mut Frame<'a>) -> Result<Value<'a>>
         requires { AreKept self.run.now frame.old.answers.items }
         ensures lends { Lends self.entry frame.old frame.new result }
         ensures value { IfOk result (λ v. IsValue v (measured is_length (single_value_of (path_nodes (nodes_view (table_at self.entry) nodes.now) (here self.entry) (tree_at self.entry))))) }
@@ -466,7 +461,7 @@ impl<'r, 'a> At<'r, 'a> {
         match given {
             Given::Constant(constant) => Ok(constant.value()),
             Given::Pattern(pattern) => Ok(Value::Constant(&pattern.constant.literal)),
-            Given::Nodes(nodes) => self.single_value(nodes, false, frame),
+            Given::Nodes(nodes) => self.value_of(nodes, false, frame),
             Given::Condition(_) => Ok(Value::Nothing),
             Given::Result(invoked) => self.call_value(invoked, frame),
         }
@@ -480,7 +475,7 @@ impl<'r, 'a> At<'r, 'a> {
         ensures value { IfOk result (λ v. IsValue v (length_of_value (given_by (given_view (table_at self.entry) given.now) (here self.entry) (tree_at self.entry)).value)) }
     {
         if let Given::Nodes(nodes) = given {
-            return self.single_value(nodes, true, frame);
+            return self.value_of(nodes, true, frame);
         }
         let value = self.given_value(given, frame)?;
         Ok(length_of(value))
@@ -503,7 +498,7 @@ impl<'r, 'a> At<'r, 'a> {
                 _ => Ok(Value::Count(0)),
             },
             Some(Function::Value) => match given {
-                Given::Nodes(nodes) => self.single_value(nodes, false, frame),
+                Given::Nodes(nodes) => self.value_of(nodes, false, frame),
                 _ => Ok(Value::Nothing),
             },
             _ => Ok(Value::Nothing),

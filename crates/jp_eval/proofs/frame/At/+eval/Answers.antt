@@ -318,8 +318,8 @@ same_flag false false h = refl
 same_flag true false h = absurd (cc)
 same_flag false true h = absurd (cc)
 
-pub single_value-returns-clause-value : goal.single_value-returns-clause-value
-single_value-returns-clause-value t c =
+pub value_of-returns-clause-value : goal.value_of-returns-clause-value
+value_of-returns-clause-value t c =
     let run : Run = c.args.self.run.now in
     let n : Node = node_of c.args.self.node in
     let found : List Node = path_nodes (nodes_view (table_in run) c.args.nodes.now) n (node_of run.root.now).tree in
@@ -368,7 +368,7 @@ call_value-returns-in-Nodes-given-clause-value t c =
     let is_value : call.named.function ≡ Some functions.Value = sym c.which.ensures ∙ (c.in-Some-Value.is ∙ ap (λ (o : Function). Some o) c.in-Some-Value.field-0-is) in
     let seen = called (table_in c.args.self.run.now) call items functions.Value are is_value in
     let nodes_is = ap (λ (a : syntax.Argument). single_value (given_by a n u).nodes) (ap (given_view (table_in c.args.self.run.now)) c.in-Nodes-given.is ∙ nodes_given (table_in c.args.self.run.now) c.in-Nodes-given.nodes) in
-    subst (λ (v : Option Value). IfOk c.single_value.result (λ (r : Side). IsValue r v)) (sym nodes_is ∙ sym (ap (λ (v : syntax.Call). call_value v n u) seen)) c.single_value.ensures.value
+    subst (λ (v : Option Value). IfOk c.value_of.result (λ (r : Side). IsValue r v)) (sym nodes_is ∙ sym (ap (λ (v : syntax.Call). call_value v n u) seen)) c.value_of.ensures.value
 
 -- ---- slices
 

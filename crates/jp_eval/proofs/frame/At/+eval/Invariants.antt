@@ -74,8 +74,8 @@ decreases-has_node l = size_of_path (nodes_view (table_in l.self.run.now) l.node
 abbrev pub decreases-count_nodes : goal.decreases-count_nodes
 decreases-count_nodes l = size_of_path (nodes_view (table_in l.self.run.now) l.nodes.now) + 2
 
-abbrev pub decreases-single_value : goal.decreases-single_value
-decreases-single_value l = size_of_path (nodes_view (table_in l.self.run.now) l.nodes.now) + 2
+abbrev pub decreases-value_of : goal.decreases-value_of
+decreases-value_of l = size_of_path (nodes_view (table_in l.self.run.now) l.nodes.now) + 2
 
 abbrev pub decreases-given_value : goal.decreases-given_value
 decreases-given_value l = size_of_argument (given_view (table_in l.self.run.now) l.given.now)
