@@ -15,11 +15,11 @@ use Rattle.jp_store.specs.Edits.{AreEdited, AreSame}
 use Rattle.jp_model.specs.Numbered.{numbers_where}
 use Rattle.jp_store.specs.Numbered.{with_number}
 use Rattle.jp_store.specs.LineSetViews.{numbers_of}
-use Rattle.jp_store.specs.Stored.{AreCounted, IsKept, IsOver, IsRead, is_refused_kind, is_tree_kind, kind_tree, path_of, stored_text}
+use Rattle.jp_store.specs.Stored.{told_of, AreCounted, IsKept, IsOver, IsRead, is_fault_status, is_tree_status, told_tree, path_of, stored_text}
 use Rattle.jp_store.specs.declared.counts.Counts.{Counts}
 use Rattle.jp_store.specs.declared.line.Line.{Line}
 use Rattle.jp_store.proofs.Edited.{edited_over, edited_paths, held_more, same_over, same_paths}
-use Rattle.jp_store.proofs.Kept.{entry_is, kind_is_refused, kind_is_tree}
+use Rattle.jp_store.proofs.Kept.{entry_is, told_is_fault, told_is_tree}
 use Rattle.jp_store.proofs.Numbered.{lines_more, lines_set}
 use Rattle.jp_store.proofs.Renewed.{entries_more, entries_set}
 
@@ -45,14 +45,14 @@ pub few_trees : (f : Framing) (texts : List (List ℕ)) → count_by is_tree (st
 few_trees f texts = omega (arith, count_by-le-length is_tree (statuses f texts), length-map texts (status_of f))
 
 -- as many indexes as before
-same_many : (n : ℕ) (line : Line) (bytes : List ℕ) (xs ys : List ValueIndex) → AreEdited n (kind_tree line.kind (stored_text bytes line)) xs ys → length ys ≡ length xs
+same_many : (n : ℕ) (line : Line) (bytes : List ℕ) (xs ys : List ValueIndex) → AreEdited n (told_tree (told_of line) (stored_text bytes line)) xs ys → length ys ≡ length xs
 same_many n line bytes xs ys h =
-    sym (length-map ys path_of) ∙ ap length (edited_paths n (kind_tree line.kind (stored_text bytes line)) xs ys h) ∙ length-map xs path_of
+    sym (length-map ys path_of) ∙ ap length (edited_paths n (told_tree (told_of line) (stored_text bytes line)) xs ys h) ∙ length-map xs path_of
 
 -- the same lines, counts of the same, and the same entries
-pub kept_same : (f : Framing) (bytes : List ℕ) (lines : List Line) (old new : Counts) (xs ys : List ValueIndex) → IsKept f bytes lines old xs → new.held ≡ old.held → new.trees ≡ old.trees → numbers_of new.refused ≡ numbers_of old.refused
-    → AreSame xs ys → IsKept f bytes lines new ys
-kept_same f bytes lines old new xs ys kept held trees gone same = record {
+pub kept_same : (f : Framing) (bytes tapes : List ℕ) (lines : List Line) (old new : Counts) (xs ys : List ValueIndex) → IsKept f bytes tapes lines old xs → new.held ≡ old.held → new.trees ≡ old.trees → numbers_of new.refused ≡ numbers_of old.refused
+    → AreSame xs ys → IsKept f bytes tapes lines new ys
+kept_same f bytes tapes lines old new xs ys kept held trees gone same = record {
   each = kept.each;
   few = kept.few;
   counted = record { held_is = held ∙ kept.counted.held_is; trees_is = trees ∙ kept.counted.trees_is; refused_is = gone ∙ kept.counted.refused_is };
@@ -61,7 +61,7 @@ kept_same f bytes lines old new xs ys kept held trees gone same = record {
 }
 
 -- what is counted of one of the lines
-module _ (f : Framing) (bytes : List ℕ) (lines : List Line) (i : ℕ) (before : Line) (within : i < length lines) (counts : Counts) (each : All (IsRead f bytes) lines) (c : AreCounted f (map (stored_text bytes) lines) counts) where
+module _ (f : Framing) (bytes tapes : List ℕ) (lines : List Line) (i : ℕ) (before : Line) (within : i < length lines) (counts : Counts) (each : All (IsRead f bytes tapes) lines) (c : AreCounted f (map (stored_text bytes) lines) counts) where
   abbrev the_texts : List (List ℕ)
   the_texts = map (stored_text bytes) lines
 
@@ -77,9 +77,9 @@ module _ (f : Framing) (bytes : List ℕ) (lines : List Line) (i : ℕ) (before 
   text_was : get_or the_texts i (stored_text bytes before) ≡ stored_text bytes was
   text_was = get_or-map (stored_text bytes) lines i before (stored_text bytes before) within
 
-  was_tree : is_tree_kind was.kind ≡ is_tree (get_or the_statuses i (status_of f (stored_text bytes before)))
+  was_tree : is_tree_status (told_of was) ≡ is_tree (get_or the_statuses i (status_of f (stored_text bytes before)))
   was_tree =
-      kind_is_tree f was.kind (stored_text bytes was) (each i before within).kind
+      told_is_tree f (told_of was) (stored_text bytes was) (each i before within).told
       ∙ ap (λ t. is_tree (status_of f t)) (sym text_was)
       ∙ ap is_tree (sym (get_or-map (status_of f) the_texts i (stored_text bytes before) (status_of f (stored_text bytes before)) (omega (arith, within, length-map lines (stored_text bytes)))))
 
@@ -89,18 +89,18 @@ module _ (f : Framing) (bytes : List ℕ) (lines : List Line) (i : ℕ) (before 
       let least = get_or-le-sum_by (λ (l : List ℕ). length l + 1) the_texts i (stored_text bytes before) (omega (arith, within, length-map lines (stored_text bytes))) in
       omega (arith, least, ap length text_was, c.held_is)
 
-  pub trees_least : cond (is_tree_kind was.kind) 1 0 ≤ counts.trees
+  pub trees_least : cond (is_tree_status (told_of was)) 1 0 ≤ counts.trees
   trees_least =
       let least = get_or-le-sum_by (λ r. bit (is_tree r)) the_statuses i (status_of f (stored_text bytes before)) (omega (arith, within, as_many)) in
       omega (arith, least, ap bit was_tree, c.trees_is)
 
   -- a line without a tree leaves room for one more
-  pub trees_most : counts.trees + 1 ≤ length lines + cond (is_tree_kind was.kind) 1 0
+  pub trees_most : counts.trees + 1 ≤ length lines + cond (is_tree_status (told_of was)) 1 0
   trees_most =
       let most = room_for_one the_statuses i (status_of f (stored_text bytes before)) (omega (arith, within, as_many)) in
       omega (arith, most, ap bit was_tree, c.trees_is, as_many)
 
-module _ (f : Framing) (bytes : List ℕ) (lines : List Line) (line : Line) (read : IsRead f bytes line) (n : ℕ) where
+module _ (f : Framing) (bytes tapes : List ℕ) (lines : List Line) (line : Line) (read : IsRead f bytes tapes line) (n : ℕ) where
   abbrev pub texts : List (List ℕ)
   texts = map (stored_text bytes) lines
 
@@ -116,11 +116,11 @@ module _ (f : Framing) (bytes : List ℕ) (lines : List Line) (line : Line) (rea
   many : length ss ≡ length lines
   many = length-map texts (status_of f) ∙ length-map lines (stored_text bytes)
 
-  trees : is_tree_kind line.kind ≡ is_tree s
-  trees = kind_is_tree f line.kind text read.kind
+  trees : is_tree_status (told_of line) ≡ is_tree s
+  trees = told_is_tree f (told_of line) text read.told
 
-  refusals : is_refused_kind line.kind ≡ is_refused_status s
-  refusals = kind_is_refused f line.kind text read.kind
+  refusals : is_fault_status (told_of line) ≡ is_refused_status s
+  refusals = told_is_fault f (told_of line) text read.told
 
   -- at the end
   module _ (next : n ≡ length lines + 1) where
@@ -130,18 +130,18 @@ module _ (f : Framing) (bytes : List ℕ) (lines : List Line) (line : Line) (rea
     statuses_more : statuses f (map (stored_text bytes) (lines ++ line ∷ [])) ≡ ss ++ s ∷ []
     statuses_more = ap (statuses f) texts_more ∙ map-append (status_of f) texts (text ∷ [])
 
-    over_more : (xs ys : List ValueIndex) → AreEdited n (kind_tree line.kind text) xs ys → All (IsOver ss) xs → All (IsOver (statuses f (map (stored_text bytes) (lines ++ line ∷ [])))) ys
+    over_more : (xs ys : List ValueIndex) → AreEdited n (told_tree (told_of line) text) xs ys → All (IsOver ss) xs → All (IsOver (statuses f (map (stored_text bytes) (lines ++ line ∷ [])))) ys
     over_more xs ys h all =
-        edited_over n (kind_tree line.kind text) ss (statuses f (map (stored_text bytes) (lines ++ line ∷ [])))
-        (λ p. ap (λ here. with_line n here (entries_of p ss)) (entry_is p n f line.kind text read.kind) ∙ entries_more p 1 ss n s (omega (arith, next, many)) ∙ ap (entries_of p) (sym statuses_more))
+        edited_over n (told_tree (told_of line) text) ss (statuses f (map (stored_text bytes) (lines ++ line ∷ [])))
+        (λ p. ap (λ here. with_line n here (entries_of p ss)) (entry_is p n f (told_of line) text read.told) ∙ entries_more p 1 ss n s (omega (arith, next, many)) ∙ ap (entries_of p) (sym statuses_more))
         xs ys h all
 
-    module _ (old new : Counts) (held : new.held ≡ old.held + (length text + 1)) (tree : new.trees + cond false 1 0 ≡ old.trees + cond (is_tree_kind line.kind) 1 0)
-        (gone : numbers_of new.refused ≡ with_number n (is_refused_kind line.kind) (numbers_of old.refused)) (c : AreCounted f texts old) where
+    module _ (old new : Counts) (held : new.held ≡ old.held + (length text + 1)) (tree : new.trees + cond false 1 0 ≡ old.trees + cond (is_tree_status (told_of line)) 1 0)
+        (gone : numbers_of new.refused ≡ with_number n (is_fault_status (told_of line)) (numbers_of old.refused)) (c : AreCounted f texts old) where
       counted_more : AreCounted f (map (stored_text bytes) (lines ++ line ∷ [])) new
       counted_more =
           let size : new.held ≡ bytes_held (texts ++ text ∷ []) = omega (arith, held, c.held_is, held_more texts text) in
-          let one : bit (is_tree_kind line.kind) ≡ bit (is_tree s) = ap bit trees in
+          let one : bit (is_tree_status (told_of line)) ≡ bit (is_tree s) = ap bit trees in
           let sum : count_by is_tree (ss ++ s ∷ []) ≡ count_by is_tree ss + bit (is_tree s) = sum_by-append (λ r. bit (is_tree r)) ss (s ∷ []) ∙ ap (λ k. count_by is_tree ss + k) (zero-add (bit (is_tree s))) in
           let count : new.trees ≡ count_by is_tree (ss ++ s ∷ []) = omega (arith, tree, c.trees_is, one, sum) in
           record {
@@ -153,18 +153,18 @@ module _ (f : Framing) (bytes : List ℕ) (lines : List Line) (line : Line) (rea
           }
 
     -- with one line more
-    pub kept_more : (old new : Counts) (xs ys : List ValueIndex) → IsKept f bytes lines old xs → n < 2 ^ 32 → new.held ≡ old.held + (length text + 1) → new.trees + cond false 1 0 ≡ old.trees + cond (is_tree_kind line.kind) 1 0
-        → numbers_of new.refused ≡ with_number n (is_refused_kind line.kind) (numbers_of old.refused) → AreEdited n (kind_tree line.kind text) xs ys → IsKept f bytes (lines ++ line ∷ []) new ys
+    pub kept_more : (old new : Counts) (xs ys : List ValueIndex) → IsKept f bytes tapes lines old xs → n < 2 ^ 32 → new.held ≡ old.held + (length text + 1) → new.trees + cond false 1 0 ≡ old.trees + cond (is_tree_status (told_of line)) 1 0
+        → numbers_of new.refused ≡ with_number n (is_fault_status (told_of line)) (numbers_of old.refused) → AreEdited n (told_tree (told_of line) text) xs ys → IsKept f bytes tapes (lines ++ line ∷ []) new ys
     kept_more old new xs ys kept fits held tree gone edited = record {
-      each = All-append (IsRead f bytes) lines (line ∷ []) kept.each one_read;
+      each = All-append (IsRead f bytes tapes) lines (line ∷ []) kept.each one_read;
       few = omega (arith, fits, next, length-append lines (line ∷ []));
       counted = counted_more old new held tree gone kept.counted;
       indexed = over_more xs ys edited kept.indexed;
       few_indexes = omega (arith, kept.few_indexes, same_many n line bytes xs ys edited);
     }
       where
-        one_read : All (IsRead f bytes) (line ∷ [])
-        one_read = All-cons (IsRead f bytes) line [] read (λ k d l. absurd (omega (arith, l)))
+        one_read : All (IsRead f bytes tapes) (line ∷ [])
+        one_read = All-cons (IsRead f bytes tapes) line [] read (λ k d l. absurd (omega (arith, l)))
 
   -- in the place of another
   module _ (i : ℕ) (before : Line) (within : i < length lines) (is : n ≡ i + 1) where
@@ -177,20 +177,20 @@ module _ (f : Framing) (bytes : List ℕ) (lines : List Line) (line : Line) (rea
     statuses_set : statuses f (map (stored_text bytes) (set lines i line)) ≡ set ss i s
     statuses_set = ap (statuses f) texts_set ∙ map-set (status_of f) texts i text
 
-    over_set : (xs ys : List ValueIndex) → AreEdited n (kind_tree line.kind text) xs ys → All (IsOver ss) xs → All (IsOver (statuses f (map (stored_text bytes) (set lines i line)))) ys
+    over_set : (xs ys : List ValueIndex) → AreEdited n (told_tree (told_of line) text) xs ys → All (IsOver ss) xs → All (IsOver (statuses f (map (stored_text bytes) (set lines i line)))) ys
     over_set xs ys h all =
-        edited_over n (kind_tree line.kind text) ss (statuses f (map (stored_text bytes) (set lines i line)))
-        (λ p. ap (λ here. with_line n here (entries_of p ss)) (entry_is p n f line.kind text read.kind) ∙ entries_set p 1 ss i n s (omega (arith, within, many)) (omega (arith, is)) ∙ ap (entries_of p) (sym statuses_set))
+        edited_over n (told_tree (told_of line) text) ss (statuses f (map (stored_text bytes) (set lines i line)))
+        (λ p. ap (λ here. with_line n here (entries_of p ss)) (entry_is p n f (told_of line) text read.told) ∙ entries_set p 1 ss i n s (omega (arith, within, many)) (omega (arith, is)) ∙ ap (entries_of p) (sym statuses_set))
         xs ys h all
 
-    module _ (old new : Counts) (each : All (IsRead f bytes) lines) (c : AreCounted f texts old) where
-      counted_set : new.held + (length (stored_text bytes was_line) + 1) ≡ old.held + (length text + 1) → new.trees + cond (is_tree_kind was_line.kind) 1 0 ≡ old.trees + cond (is_tree_kind line.kind) 1 0
-          → numbers_of new.refused ≡ with_number n (is_refused_kind line.kind) (numbers_of old.refused) → AreCounted f (map (stored_text bytes) (set lines i line)) new
+    module _ (old new : Counts) (each : All (IsRead f bytes tapes) lines) (c : AreCounted f texts old) where
+      counted_set : new.held + (length (stored_text bytes was_line) + 1) ≡ old.held + (length text + 1) → new.trees + cond (is_tree_status (told_of was_line)) 1 0 ≡ old.trees + cond (is_tree_status (told_of line)) 1 0
+          → numbers_of new.refused ≡ with_number n (is_fault_status (told_of line)) (numbers_of old.refused) → AreCounted f (map (stored_text bytes) (set lines i line)) new
       counted_set held tree gone =
           let sizes = sum_by-set (λ (l : List ℕ). length l + 1) texts i text (stored_text bytes before) (omega (arith, within, length-map lines (stored_text bytes))) in
-          let size : new.held ≡ bytes_held (set texts i text) = omega (arith, held, c.held_is, sizes, ap length (text_was f bytes lines i before within old each c)) in
-          let one : bit (is_tree_kind line.kind) ≡ bit (is_tree s) = ap bit trees in
-          let other = ap bit (was_tree f bytes lines i before within old each c) in
+          let size : new.held ≡ bytes_held (set texts i text) = omega (arith, held, c.held_is, sizes, ap length (text_was f bytes tapes lines i before within old each c)) in
+          let one : bit (is_tree_status (told_of line)) ≡ bit (is_tree s) = ap bit trees in
+          let other = ap bit (was_tree f bytes tapes lines i before within old each c) in
           let sum = sum_by-set (λ r. bit (is_tree r)) ss i s (status_of f (stored_text bytes before)) (omega (arith, within, many)) in
           let count : new.trees ≡ count_by is_tree (set ss i s) = omega (arith, tree, c.trees_is, one, other, sum) in
           record {
@@ -202,11 +202,11 @@ module _ (f : Framing) (bytes : List ℕ) (lines : List Line) (line : Line) (rea
           }
 
     -- with another line in the place of one
-    pub kept_set : (old new : Counts) (xs ys : List ValueIndex) → IsKept f bytes lines old xs → new.held + (length (stored_text bytes was_line) + 1) ≡ old.held + (length text + 1)
-        → new.trees + cond (is_tree_kind was_line.kind) 1 0 ≡ old.trees + cond (is_tree_kind line.kind) 1 0 → numbers_of new.refused ≡ with_number n (is_refused_kind line.kind) (numbers_of old.refused)
-        → AreEdited n (kind_tree line.kind text) xs ys → IsKept f bytes (set lines i line) new ys
+    pub kept_set : (old new : Counts) (xs ys : List ValueIndex) → IsKept f bytes tapes lines old xs → new.held + (length (stored_text bytes was_line) + 1) ≡ old.held + (length text + 1)
+        → new.trees + cond (is_tree_status (told_of was_line)) 1 0 ≡ old.trees + cond (is_tree_status (told_of line)) 1 0 → numbers_of new.refused ≡ with_number n (is_fault_status (told_of line)) (numbers_of old.refused)
+        → AreEdited n (told_tree (told_of line) text) xs ys → IsKept f bytes tapes (set lines i line) new ys
     kept_set old new xs ys kept held tree gone edited = record {
-      each = All-set (IsRead f bytes) lines i line read kept.each;
+      each = All-set (IsRead f bytes tapes) lines i line read kept.each;
       few = omega (arith, kept.few, length-set lines i line);
       counted = counted_set old new kept.each kept.counted held tree gone;
       indexed = over_set xs ys edited kept.indexed;

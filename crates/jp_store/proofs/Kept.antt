@@ -1,64 +1,67 @@
 -- A line that is stored is read.
-use Rattle.std.proofs.Common.{◌≡◌, ◌∙◌, ◌<◌, ℕ, List, length, map, get_or, refl, sym, ap, false}
+use Rattle.std.proofs.Common.{◌≡◌, ◌∙◌, ◌<◌, ℕ, List, length, map, get_or, sym, ap, true, false}
 use Rattle.std.specs.Prelude.{slice_get, All}
 use Rattle.std.specs.Option.{option_map}
 use Rattle.std.proofs.lemmas.Option.{slice_get-map, slice_get-get_or}
 use Rattle.jp_model.specs.declared.Framing.{Framing}
+use Rattle.jp_model.specs.Json.Status.{parsed}
 use Rattle.jp_model.specs.Json.Reader.{status_of}
 use Rattle.jp_model.specs.Plans.{is_tree}
 use Rattle.jp_model.specs.Steps.{Step}
 use Rattle.jp_index.specs.Entries.{entry_in, status_entry}
 use Rattle.jp_model.specs.Script.Machine.{text_or_nothing, is_refused_status}
-use Rattle.jp_store.specs.Stored.{IsRead, IsOfKind, stored_text, is_tree_kind, is_refused_kind, kind_tree}
+use Rattle.jp_tape.specs.Tapes.{spelled}
+use Rattle.jp_store.specs.Stored.{IsRead, IsTold, stored_text, told_of, is_tree_status, is_fault_status, told_tree}
 use Rattle.jp_store.specs.Views.{status_kind}
 use Rattle.jp_store.specs.declared.Status.{Status}
 use Rattle.jp_store.specs.declared.Status.TheVariants as told
 use Rattle.jp_store.specs.declared.line.Line.{Line}
-use Rattle.jp_store.specs.declared.line.LineKind.{LineKind}
-use Rattle.jp_store.specs.declared.line.LineKind.TheVariants as kinds
 
--- a status as it is told of a kind
-abbrev pub told_of : LineKind → Status
-told_of kinds.Blank = told.Blank
-told_of (kinds.Refused fault) = told.Refused fault
-told_of (kinds.Tree tape) = told.Tree
+-- what is told of a line is its status
+pub is_told : (f : Framing) (status : Status) (text : List ℕ) → IsTold f status text → status ≡ status_kind (status_of f text)
+is_told f told.Blank text h = sym (ap status_kind h)
+is_told f (told.Refused fault) text h = sym (ap status_kind h)
+is_told f told.Tree text h = sym (ap status_kind h)
 
-pub kind_told : (f : Framing) (kind : LineKind) (text : List ℕ) → IsOfKind f kind text → told_of kind ≡ status_kind (status_of f text)
-kind_told f kinds.Blank text h = sym (ap status_kind h)
-kind_told f (kinds.Refused fault) text h = sym (ap status_kind h)
-kind_told f (kinds.Tree tape) text h = sym (ap status_kind h.0)
+pub told_is_tree : (f : Framing) (status : Status) (text : List ℕ) → IsTold f status text → is_tree_status status ≡ is_tree (status_of f text)
+told_is_tree f told.Blank text h = sym (ap is_tree h)
+told_is_tree f (told.Refused fault) text h = sym (ap is_tree h)
+told_is_tree f told.Tree text h = sym (ap is_tree h)
 
-pub kind_is_tree : (f : Framing) (kind : LineKind) (text : List ℕ) → IsOfKind f kind text → is_tree_kind kind ≡ is_tree (status_of f text)
-kind_is_tree f kinds.Blank text h = sym (ap is_tree h)
-kind_is_tree f (kinds.Refused fault) text h = sym (ap is_tree h)
-kind_is_tree f (kinds.Tree tape) text h = sym (ap is_tree h.0)
-
-pub kind_is_refused : (f : Framing) (kind : LineKind) (text : List ℕ) → IsOfKind f kind text → is_refused_kind kind ≡ is_refused_status (status_of f text)
-kind_is_refused f kinds.Blank text h = sym (ap is_refused_status h)
-kind_is_refused f (kinds.Refused fault) text h = sym (ap is_refused_status h)
-kind_is_refused f (kinds.Tree tape) text h = sym (ap is_refused_status h.0)
+pub told_is_fault : (f : Framing) (status : Status) (text : List ℕ) → IsTold f status text → is_fault_status status ≡ is_refused_status (status_of f text)
+told_is_fault f told.Blank text h = sym (ap is_refused_status h)
+told_is_fault f (told.Refused fault) text h = sym (ap is_refused_status h)
+told_is_fault f told.Tree text h = sym (ap is_refused_status h)
 
 -- the entry of a line by its tree is that by its status
-pub entry_is : (p : List Step) (n : ℕ) (f : Framing) (kind : LineKind) (text : List ℕ) → IsOfKind f kind text → entry_in p n (kind_tree kind text) ≡ status_entry p n (status_of f text)
-entry_is p n f kinds.Blank text h = sym (ap (status_entry p n) h)
-entry_is p n f (kinds.Refused fault) text h = sym (ap (status_entry p n) h)
-entry_is p n f (kinds.Tree tape) text h = sym (ap (status_entry p n) h.0)
+pub entry_is : (p : List Step) (n : ℕ) (f : Framing) (status : Status) (text : List ℕ) → IsTold f status text → entry_in p n (told_tree status text) ≡ status_entry p n (status_of f text)
+entry_is p n f told.Blank text h = sym (ap (status_entry p n) h)
+entry_is p n f (told.Refused fault) text h = sym (ap (status_entry p n) h)
+entry_is p n f told.Tree text h = sym (ap (status_entry p n) h)
 
-pub no_tree : (f : Framing) (kind : LineKind) (text : List ℕ) → IsOfKind f kind text → ((tape : List ℕ) → kind ≡ kinds.Tree tape → ⊥) → is_tree (status_of f text) ≡ false
-no_tree f kinds.Blank text h none = ap is_tree h
-no_tree f (kinds.Refused fault) text h none = ap is_tree h
-no_tree f (kinds.Tree tape) text h none = absurd (none tape refl)
+-- a line of which a tree is told has the tree that it spells
+pub tree_is : (f : Framing) (status : Status) (text : List ℕ) → IsTold f status text → is_tree_status status ≡ true → status_of f text ≡ parsed (spelled text)
+tree_is f told.Blank text h t = absurd (cc)
+tree_is f (told.Refused fault) text h t = absurd (cc)
+tree_is f told.Tree text h t = h
 
-module _ (f : Framing) (bytes : List ℕ) (lines : List Line) (i : ℕ) (d : Line) (within : i < length lines) where
-  pub text_at : text_or_nothing (slice_get (map (stored_text bytes) lines) i) ≡ stored_text bytes (get_or lines i d)
+module _ (f : Framing) (bytes tapes : List ℕ) (lines : List Line) (i : ℕ) (d : Line) (within : i < length lines) where
+  abbrev pub line : Line
+  line = get_or lines i d
+
+  pub text_at : text_or_nothing (slice_get (map (stored_text bytes) lines) i) ≡ stored_text bytes line
   text_at = ap text_or_nothing (slice_get-map (stored_text bytes) lines i ∙ ap (option_map (stored_text bytes)) (slice_get-get_or lines i d within))
 
-  pub read_at : All (IsRead f bytes) lines → IsRead f bytes (get_or lines i d)
-  read_at all = all i d within
+  module _ (all : All (IsRead f bytes tapes) lines) where
+    pub read_at : IsRead f bytes tapes line
+    read_at = all i d within
 
-  -- what is told of the line
-  pub status_told : All (IsRead f bytes) lines → told_of (get_or lines i d).kind ≡ status_kind (status_of f (text_or_nothing (slice_get (map (stored_text bytes) lines) i)))
-  status_told all = kind_told f (get_or lines i d).kind (stored_text bytes (get_or lines i d)) (read_at all).kind ∙ ap (λ t. status_kind (status_of f t)) (sym text_at)
+    -- what is told of the line
+    pub status_told : told_of line ≡ status_kind (status_of f (text_or_nothing (slice_get (map (stored_text bytes) lines) i)))
+    status_told = is_told f (told_of line) (stored_text bytes line) read_at.told ∙ ap (λ t. status_kind (status_of f t)) (sym text_at)
 
-  pub tree_missing : All (IsRead f bytes) lines → ((tape : List ℕ) → (get_or lines i d).kind ≡ kinds.Tree tape → ⊥) → is_tree (status_of f (text_or_nothing (slice_get (map (stored_text bytes) lines) i))) ≡ false
-  tree_missing all none = ap (λ t. is_tree (status_of f t)) text_at ∙ no_tree f (get_or lines i d).kind (stored_text bytes (get_or lines i d)) (read_at all).kind none
+    pub tree_missing : is_tree_status (told_of line) ≡ false → is_tree (status_of f (text_or_nothing (slice_get (map (stored_text bytes) lines) i))) ≡ false
+    tree_missing none = ap (λ t. is_tree (status_of f t)) text_at ∙ (sym (told_is_tree f (told_of line) (stored_text bytes line) read_at.told) ∙ none)
+
+    pub tree_there : is_tree_status (told_of line) ≡ true → status_of f (text_or_nothing (slice_get (map (stored_text bytes) lines) i)) ≡ parsed (spelled (stored_text bytes line))
+    tree_there some = ap (status_of f) text_at ∙ tree_is f (told_of line) (stored_text bytes line) read_at.told some

@@ -3,7 +3,7 @@ pub mod Kept
 pub mod Renewed
 pub mod Found
 pub mod Built
-pub mod Places
+pub mod Positions
 pub mod Counted
 pub mod Edited
 pub mod Numbered

@@ -1,5 +1,5 @@
 -- The lines of a text, read one by one where they were found.
-use Rattle.std.proofs.Common.{◌≡◌, ◌∙◌, ◌≤◌, ◌+◌, ◌-◌, ℕ, List, [], ◌∷◌, ◌++◌, length, map, take, drop, sym, ap, subst, arith, append_assoc, length-drop}
+use Rattle.std.proofs.Common.{◌≡◌, ◌∙◌, ◌≤◌, ◌+◌, ◌-◌, ℕ, List, [], ◌∷◌, ◌++◌, length, map, take, drop, get_or, sym, ap, subst, arith, append_assoc, length-drop}
 use Rattle.std.specs.Prelude.{Some, slice_get, All}
 use Rattle.std.specs.Option.{option_map}
 use Rattle.std.proofs.lemmas.List.{length-map, map-append, take_more, take_all, length-take-le, take-take, drop-take, drop-drop}
@@ -10,7 +10,11 @@ use Rattle.jp_model.specs.Json.Marks.{marks}
 use Rattle.jp_model.specs.Json.Places.{bytes_between}
 use Rattle.jp_masks.specs.Found.{LineAt, all_at, lines_in}
 use Rattle.jp_store.specs.declared.line.Line.{Line}
-use Rattle.jp_store.specs.Stored.{stored_text, IsRead}
+use Rattle.jp_store.specs.declared.line.Line.TheVariants as lines
+use Rattle.jp_store.specs.declared.Status.{Status}
+use Rattle.jp_store.specs.declared.Status.TheVariants as told
+use Rattle.jp_tape.specs.Forms.{IsAmong}
+use Rattle.jp_store.specs.Stored.{stored_text, IsRead, IsTapeAmong}
 
 module _ (framing : Framing) (text : List ℕ) where
   abbrev bytes_of : LineAt → List ℕ
@@ -53,7 +57,7 @@ part_length bytes from to a b =
     let rest : length (drop from bytes) ≡ length bytes - from = length-drop from bytes in
     let size : length (take (to - from) (drop from bytes)) ≡ to - from = length-take-le (to - from) (drop from bytes) (omega (arith, rest)) in omega (arith, size)
 
--- what stands between two places of a part stands in the whole so much further on
+-- what stands between two positions of a part stands in the whole so much further on
 pub part_of_part : (bytes : List ℕ) (from to start end : ℕ) → from ≤ to → to ≤ length bytes → start ≤ end → end ≤ length (bytes_between bytes from to)
     → bytes_between (bytes_between bytes from to) start end ≡ bytes_between bytes (from + start) (from + end)
 part_of_part bytes from to start end a b c d =
@@ -91,10 +95,28 @@ more_came bytes stored after line i before all e f came =
     ∙ ap (λ t. before ++ (take i all ++ t ∷ [])) (sym (get_or_from_slice_get all i (stored_text bytes line) [] f))
     ∙ ap (λ l. before ++ l) (sym (take_more all i [] (slice_get_within all i (stored_text bytes line) f)))
 
-pub one_more_read : (framing : Framing) (bytes : List ℕ) (stored after : List Line) (line : Line) → after ≡ stored ++ line ∷ [] → All (IsRead framing bytes) stored → IsRead framing bytes line → All (IsRead framing bytes) after
-one_more_read framing bytes stored after line e all is =
-    subst (All (IsRead framing bytes)) (sym e) (All-append (IsRead framing bytes) stored (line ∷ []) all (All-cons (IsRead framing bytes) line [] is (λ k d l. absurd (omega arith))))
+pub one_more_read : (framing : Framing) (bytes tapes : List ℕ) (stored after : List Line) (line : Line) → after ≡ stored ++ line ∷ [] → All (IsRead framing bytes tapes) stored → IsRead framing bytes tapes line → All (IsRead framing bytes tapes) after
+one_more_read framing bytes tapes stored after line e all is =
+    subst (All (IsRead framing bytes tapes)) (sym e) (All-append (IsRead framing bytes tapes) stored (line ∷ []) all (All-cons (IsRead framing bytes tapes) line [] is (λ k d l. absurd (omega arith))))
 
 -- all have come
 pub all_came : (bytes : List ℕ) (stored : List Line) (i : ℕ) (before all : List (List ℕ)) → map (stored_text bytes) stored ≡ before ++ take i all → length all ≤ i → map (stored_text bytes) stored ≡ before ++ all
 all_came bytes stored i before all came l = came ∙ ap (λ ls. before ++ ls) (take_all i all l)
+
+-- ---- more tapes after those of a line leave the line what it is
+
+abbrev pub AreKept : Type 0
+AreKept = (words more line : List ℕ) (start nodes : ℕ) → IsAmong words start nodes line → IsAmong (words ++ more) start nodes line
+
+tape_stays : AreKept → (status : Status) (tapes more : List ℕ) (tape nodes : ℕ) (text : List ℕ) → IsTapeAmong status tapes tape nodes text → IsTapeAmong status (tapes ++ more) tape nodes text
+tape_stays law told.Blank tapes more tape nodes text h = tt
+tape_stays law (told.Refused fault) tapes more tape nodes text h = tt
+tape_stays law told.Tree tapes more tape nodes text h = law tapes more text tape nodes h
+
+stays : AreKept → (framing : Framing) (bytes tapes more : List ℕ) (line : Line) → IsRead framing bytes tapes line → IsRead framing bytes (tapes ++ more) line
+stays law framing bytes tapes more (lines.Loaded status nodes span tape) h = record { within = h.within; told = h.told; tape = tape_stays law status tapes more tape nodes (bytes_between bytes span.start span.end) h.tape }
+stays law framing bytes tapes more (lines.Edited line) h = record { within = h.within; told = h.told; tape = h.tape }
+
+pub all_stay : AreKept → (framing : Framing) (bytes tapes more after : List ℕ) (stored : List Line) → after ≡ tapes ++ more → All (IsRead framing bytes tapes) stored → All (IsRead framing bytes after) stored
+all_stay law framing bytes tapes more after stored e all =
+    subst (λ t. All (IsRead framing bytes t) stored) (sym e) (λ i d within. stays law framing bytes tapes more (get_or stored i d) (all i d within))

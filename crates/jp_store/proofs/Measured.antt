@@ -10,9 +10,9 @@ use Rattle.jp_model.specs.Script.Machine.{bytes_held, statuses, is_refused_statu
 use Rattle.jp_store.specs.declared.line.Line.{Line}
 use Rattle.jp_store.specs.declared.counts.Counts.{Counts}
 use Rattle.jp_model.specs.Numbered.{numbers_where}
-use Rattle.jp_store.specs.Stored.{AreCounted, IsRead, stored_text, is_tree_kind, is_refused_kind}
+use Rattle.jp_store.specs.Stored.{told_of, AreCounted, IsRead, stored_text, is_tree_status, is_fault_status}
 use Rattle.jp_store.specs.Numbered.{with_number}
-use Rattle.jp_store.proofs.Kept.{kind_is_refused, kind_is_tree}
+use Rattle.jp_store.proofs.Kept.{told_is_fault, told_is_tree}
 use Rattle.jp_store.proofs.Numbered.{lines_more}
 
 module _ (bytes : List ℕ) (lines : List Line) (i : ℕ) (line : Line) (within : i < length lines) (here : line ≡ get_or lines i line) where
@@ -28,26 +28,26 @@ module _ (bytes : List ℕ) (lines : List Line) (i : ℕ) (line : Line) (within 
   held_more = ap bytes_held text_more ∙ sum_by-append (λ l. length l + 1) (texts i) (stored_text bytes line ∷ [])
       ∙ ap (λ n. bytes_held (texts i) + n) (zero-add (length (stored_text bytes line) + 1))
 
-  module _ (framing : Framing) (all : All (IsRead framing bytes) lines) where
-    read : IsRead framing bytes line
-    read = subst (IsRead framing bytes) (sym here) (all i line within)
+  module _ (framing : Framing) (tapes : List ℕ) (all : All (IsRead framing bytes tapes) lines) where
+    read : IsRead framing bytes tapes line
+    read = subst (IsRead framing bytes tapes) (sym here) (all i line within)
 
     statuses_more : statuses framing (texts (i + 1)) ≡ statuses framing (texts i) ++ status_of framing (stored_text bytes line) ∷ []
     statuses_more = ap (statuses framing) text_more ∙ map-append (status_of framing) (texts i) (stored_text bytes line ∷ [])
 
-    pub trees_more : count_by is_tree (statuses framing (texts (i + 1))) ≡ count_by is_tree (statuses framing (texts i)) + cond (is_tree_kind line.kind) 1 0
+    pub trees_more : count_by is_tree (statuses framing (texts (i + 1))) ≡ count_by is_tree (statuses framing (texts i)) + cond (is_tree_status (told_of line)) 1 0
     trees_more =
         ap (count_by is_tree) statuses_more
         ∙ sum_by-append (λ s. cond (is_tree s) 1 0) (statuses framing (texts i)) (status_of framing (stored_text bytes line) ∷ [])
         ∙ ap (λ n. count_by is_tree (statuses framing (texts i)) + n) (zero-add (cond (is_tree (status_of framing (stored_text bytes line))) 1 0))
-        ∙ ap (λ b. count_by is_tree (statuses framing (texts i)) + cond b 1 0) (sym (kind_is_tree framing line.kind (stored_text bytes line) read.kind))
+        ∙ ap (λ b. count_by is_tree (statuses framing (texts i)) + cond b 1 0) (sym (told_is_tree framing (told_of line) (stored_text bytes line) read.told))
 
-    pub refused_more : with_number (i + 1) (is_refused_kind line.kind) (numbers_where is_refused_status 1 (statuses framing (texts i))) ≡ numbers_where is_refused_status 1 (statuses framing (texts (i + 1)))
+    pub refused_more : with_number (i + 1) (is_fault_status (told_of line)) (numbers_where is_refused_status 1 (statuses framing (texts i))) ≡ numbers_where is_refused_status 1 (statuses framing (texts (i + 1)))
     refused_more =
         let status = status_of framing (stored_text bytes line) in
         let size : length (statuses framing (texts i)) ≡ i =
         length-map (texts i) (status_of framing) ∙ length-map (take i lines) (stored_text bytes) ∙ length-take-le i lines (omega (arith, within)) in
-        ap (λ b. with_number (i + 1) b (numbers_where is_refused_status 1 (statuses framing (texts i)))) (kind_is_refused framing line.kind (stored_text bytes line) read.kind)
+        ap (λ b. with_number (i + 1) b (numbers_where is_refused_status 1 (statuses framing (texts i)))) (told_is_fault framing (told_of line) (stored_text bytes line) read.told)
         ∙ (lines_more is_refused_status 1 (statuses framing (texts i)) (i + 1) status (omega (arith, size)) ∙ ap (numbers_where is_refused_status 1) (sym statuses_more))
 
 -- what was counted of all

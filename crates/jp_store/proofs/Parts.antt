@@ -59,28 +59,28 @@ sequence_parted front rest =
 
 -- ---- the cut that a search finds
 
-module _ (text : List ℕ) (least place separator : ℕ) (within : least ≤ length text) (h : IsFirstByte (is_byte separator) (slice_range text least (length text)) (Some place)) where
+module _ (text : List ℕ) (least position separator : ℕ) (within : least ≤ length text) (h : IsFirstByte (is_byte separator) (slice_range text least (length text)) (Some position)) where
   behind_least : slice_range text least (length text) ≡ drop least text
   behind_least = take_rest text least
 
-  pub place_within : least + place < length text
-  place_within = omega (arith, h.0.high, ap length behind_least, length-drop least text)
+  pub position_within : least + position < length text
+  position_within = omega (arith, h.0.high, ap length behind_least, length-drop least text)
 
-  byte_there : get_or text (least + place) 0 ≡ separator
-  byte_there = sym (get_or-drop least text place 0) ∙ ap (λ l. get_or l place 0) (sym behind_least) ∙ eqb-true (get_or (slice_range text least (length text)) place 0) separator h.1
+  byte_there : get_or text (least + position) 0 ≡ separator
+  byte_there = sym (get_or-drop least text position 0) ∙ ap (λ l. get_or l position 0) (sym behind_least) ∙ eqb-true (get_or (slice_range text least (length text)) position 0) separator h.1
 
-  pub parted_lines : separator ≡ 10 → text_lines text ≡ text_lines (take (least + place + 1) text) ++ text_lines (drop (least + place + 1) text)
+  pub parted_lines : separator ≡ 10 → text_lines text ≡ text_lines (take (least + position + 1) text) ++ text_lines (drop (least + position + 1) text)
   parted_lines e =
-      ap text_lines (sym (take-append-drop (least + place + 1) text))
-      ∙ lines_parted (take (least + place + 1) text) (drop (least + place + 1) text)
-      (ap open_line (take_more text (least + place) 0 place_within ∙ ap (λ b. take (least + place) text ++ b ∷ []) (byte_there ∙ e)) ∙ open-separator 10 (take (least + place) text))
+      ap text_lines (sym (take-append-drop (least + position + 1) text))
+      ∙ lines_parted (take (least + position + 1) text) (drop (least + position + 1) text)
+      (ap open_line (take_more text (least + position) 0 position_within ∙ ap (λ b. take (least + position) text ++ b ∷ []) (byte_there ∙ e)) ∙ open-separator 10 (take (least + position) text))
 
-  pub parted_sequence : separator ≡ 30 → sequence_texts text ≡ sequence_texts (take (least + place) text) ++ sequence_texts (drop (least + place) text)
+  pub parted_sequence : separator ≡ 30 → sequence_texts text ≡ sequence_texts (take (least + position) text) ++ sequence_texts (drop (least + position) text)
   parted_sequence e =
-      let front = take (least + place) text in
-      let rest : drop (least + place) text ≡ 30 ∷ drop (least + place + 1) text = drop_more text (least + place) 0 place_within ∙ ap (λ b. b ∷ drop (least + place + 1) text) (byte_there ∙ e) in
-      ap sequence_texts (sym (take-append-drop (least + place) text) ∙ ap (λ l. front ++ l) rest)
-      ∙ sequence_parted front (drop (least + place + 1) text)
+      let front = take (least + position) text in
+      let rest : drop (least + position) text ≡ 30 ∷ drop (least + position + 1) text = drop_more text (least + position) 0 position_within ∙ ap (λ b. b ∷ drop (least + position + 1) text) (byte_there ∙ e) in
+      ap sequence_texts (sym (take-append-drop (least + position) text) ∙ ap (λ l. front ++ l) rest)
+      ∙ sequence_parted front (drop (least + position + 1) text)
       ∙ ap (λ l. sequence_texts front ++ sequence_texts l) (sym rest)
 
 no_lines : (framing : Framing) → lines_in framing [] ≡ []
@@ -118,10 +118,10 @@ part_came framing before after all bytes rest start n same parted came so_far =
 
 -- ---- the framing of a sequence
 
-pub framed_at : (bytes text : List ℕ) (place separator : ℕ) → text ≡ without_byte_order_mark bytes → separator ≡ 30 → IsFirstByte (is_byte separator) text (Some place)
-    → is_blank (take place text) ≡ is_framed framings.Sequence bytes
-framed_at bytes text place separator e s h =
-    let first : pieces 30 text ≡ take place text ∷ pieces 30 (slice_range text (place + 1) (length text)) = first_cut 30 text place (subst (λ b. IsFirstByte (is_byte b) text (Some place)) s h) in
+pub framed_at : (bytes text : List ℕ) (position separator : ℕ) → text ≡ without_byte_order_mark bytes → separator ≡ 30 → IsFirstByte (is_byte separator) text (Some position)
+    → is_blank (take position text) ≡ is_framed framings.Sequence bytes
+framed_at bytes text position separator e s h =
+    let first : pieces 30 text ≡ take position text ∷ pieces 30 (slice_range text (position + 1) (length text)) = first_cut 30 text position (subst (λ b. IsFirstByte (is_byte b) text (Some position)) s h) in
     ap (λ ps. is_blank (first_piece ps)) (sym first) ∙ ap (λ l. is_blank (first_piece (pieces 30 l))) e
 
 pub framed_whole : (bytes text : List ℕ) (separator : ℕ) → text ≡ without_byte_order_mark bytes → separator ≡ 30 → IsFirstByte (is_byte separator) text None

@@ -45,11 +45,11 @@ module _ (c : Collection) (n : ℕ) (text : List ℕ) (low : 1 ≤ n) (high : n 
       there ∙ ap (λ b. if b then Some edits.Size else if has_separator text c then Some edits.Separator else None) small ∙ ap (λ b. if b then Some edits.Separator else None) h.1
   some edits.Memory h = absurd h
 
-module _ (f : Framing) (bytes : List ℕ) (lines : List Line) (counts : Counts) (xs : List ValueIndex) (kept : IsKept f bytes lines counts xs) (n : ℕ) (low : 1 ≤ n) (high : n ≤ length lines)
+module _ (f : Framing) (bytes tapes : List ℕ) (lines : List Line) (counts : Counts) (xs : List ValueIndex) (kept : IsKept f bytes tapes lines counts xs) (n : ℕ) (low : 1 ≤ n) (high : n ≤ length lines)
     (before : Line) (old : List ℕ) (is : old ≡ stored_text bytes (get_or lines (n - 1) before)) where
   -- what the other lines hold
   pub others : length old + 1 ≤ counts.held
-  others = omega (arith, held_least f bytes lines (n - 1) before (omega (arith, low, high)) counts kept.each kept.counted, ap length is)
+  others = omega (arith, held_least f bytes tapes lines (n - 1) before (omega (arith, low, high)) counts kept.each kept.counted, ap length is)
 
   -- the size with another text in the place of that line's
   pub size : (text : List ℕ) → counts.held - length old - 1 + (length text + 1) ≡ bytes_held (slice_set (map (stored_text bytes) lines) (n - 1) text)

@@ -25,13 +25,13 @@ bit_is ws i d l = get_or-map-range_with_len (bit_of ws) 0 (64 * length ws) i i d
 
 -- ---- where a bit is
 
-pub in_word : (place k : ℕ) → place ≤ k → k < (place / 64 + 1) * 64 → (k / 64 ≡ place / 64) × (k % 64 ≡ place % 64 + (k - place))
-in_word place k l m = (omega arith, omega arith)
+pub in_word : (position k : ℕ) → position ≤ k → k < (position / 64 + 1) * 64 → (k / 64 ≡ position / 64) × (k % 64 ≡ position % 64 + (k - position))
+in_word position k l m = (omega arith, omega arith)
 
-pub none_in_word : (ws : List ℕ) (place rest : ℕ) → rest ≡ get_or ws (place / 64) 0 / 2 ^ (place % 64) → rest ≡ 0 → (k : ℕ) → place ≤ k → k < (place / 64 + 1) * 64 → bit_of ws k ≡ 0
-none_in_word ws place rest e z k l m =
-    let at = in_word place k l m in
-    ap₂ (λ (i j : ℕ). bit_at (get_or ws i 0) j) at.0 at.1 ∙ sym (shifted (get_or ws (place / 64) 0) (place % 64) (k - place)) ∙ ap (λ w. bit_at w (k - place)) (sym e ∙ z) ∙ bit_at-zero (k - place)
+pub none_in_word : (ws : List ℕ) (position rest : ℕ) → rest ≡ get_or ws (position / 64) 0 / 2 ^ (position % 64) → rest ≡ 0 → (k : ℕ) → position ≤ k → k < (position / 64 + 1) * 64 → bit_of ws k ≡ 0
+none_in_word ws position rest e z k l m =
+    let at = in_word position k l m in
+    ap₂ (λ (i j : ℕ). bit_at (get_or ws i 0) j) at.0 at.1 ∙ sym (shifted (get_or ws (position / 64) 0) (position % 64) (k - position)) ∙ ap (λ w. bit_at w (k - position)) (sym e ∙ z) ∙ bit_at-zero (k - position)
 
 pub within_word : (w s n : ℕ) → w < 2 ^ 64 → bit_at (w / 2 ^ s) n ≡ 1 → s + n < 64
 within_word w s n few e = elim (cases_lt (s + n) 64) [
@@ -39,34 +39,34 @@ within_word w s n few e = elim (cases_lt (s + n) 64) [
   | inr high ↦ let f : bit_at w (s + n) ≡ 0 = bit_at_above w 64 (s + n) few high in let g : bit_at w (s + n) ≡ 1 = sym (shifted w s n) ∙ e in absurd (omega arith)
 ]
 
-pub found_in_word : (ws : List ℕ) (place n : ℕ) → place % 64 + n < 64 → bit_of ws (place + n) ≡ bit_at (get_or ws (place / 64) 0 / 2 ^ (place % 64)) n
-found_in_word ws place n l =
-    let at = in_word place (place + n) (omega arith) (omega arith) in
-    let e : place + n - place ≡ n = omega arith in
-    ap₂ (λ (i j : ℕ). bit_at (get_or ws i 0) j) at.0 (at.1 ∙ ap (λ k. place % 64 + k) e) ∙ sym (shifted (get_or ws (place / 64) 0) (place % 64) n)
+pub found_in_word : (ws : List ℕ) (position n : ℕ) → position % 64 + n < 64 → bit_of ws (position + n) ≡ bit_at (get_or ws (position / 64) 0 / 2 ^ (position % 64)) n
+found_in_word ws position n l =
+    let at = in_word position (position + n) (omega arith) (omega arith) in
+    let e : position + n - position ≡ n = omega arith in
+    ap₂ (λ (i j : ℕ). bit_at (get_or ws i 0) j) at.0 (at.1 ∙ ap (λ k. position % 64 + k) e) ∙ sym (shifted (get_or ws (position / 64) 0) (position % 64) n)
 
 -- ---- a bit that is written
 
-module _ (ws : List ℕ) (place v b : ℕ) (within : place < 64 * length ws) (here : bit_at v (place % 64) ≡ b) (others : (j : ℕ) → j < 64 → j ≢ place % 64 → bit_at v j ≡ bit_at (get_or ws (place / 64) 0) j) where
-  word_there : place / 64 < length ws
+module _ (ws : List ℕ) (position v b : ℕ) (within : position < 64 * length ws) (here : bit_at v (position % 64) ≡ b) (others : (j : ℕ) → j < 64 → j ≢ position % 64 → bit_at v j ≡ bit_at (get_or ws (position / 64) 0) j) where
+  word_there : position / 64 < length ws
   word_there = omega arith
 
-  bit_set : (i : ℕ) → i ≢ place → bit_of (set ws (place / 64) v) i ≡ bit_of ws i
-  bit_set i n = elim (cases_eq (i / 64) (place / 64)) [
-    | inl same ↦ ap (λ w. bit_at w (i % 64)) (get_or-set_at ws (place / 64) (i / 64) v 0 same word_there) ∙ (others (i % 64) (omega arith) (λ e. n (omega arith)) ∙ ap (λ k. bit_at (get_or ws k 0) (i % 64)) (sym same))
-    | inr other ↦ ap (λ w. bit_at w (i % 64)) (get_or-set_other ws (place / 64) (i / 64) v 0 other)
+  bit_set : (i : ℕ) → i ≢ position → bit_of (set ws (position / 64) v) i ≡ bit_of ws i
+  bit_set i n = elim (cases_eq (i / 64) (position / 64)) [
+    | inl same ↦ ap (λ w. bit_at w (i % 64)) (get_or-set_at ws (position / 64) (i / 64) v 0 same word_there) ∙ (others (i % 64) (omega arith) (λ e. n (omega arith)) ∙ ap (λ k. bit_at (get_or ws k 0) (i % 64)) (sym same))
+    | inr other ↦ ap (λ w. bit_at w (i % 64)) (get_or-set_other ws (position / 64) (i / 64) v 0 other)
   ]
 
-  pub bits_set : bits_of (set ws (place / 64) v) ≡ set (bits_of ws) place b
+  pub bits_set : bits_of (set ws (position / 64) v) ≡ set (bits_of ws) position b
   bits_set =
-      let l : length (set ws (place / 64) v) ≡ length ws = length-set ws (place / 64) v in
-      let m = length_bits (set ws (place / 64) v) in
+      let l : length (set ws (position / 64) v) ≡ length ws = length-set ws (position / 64) v in
+      let m = length_bits (set ws (position / 64) v) in
       let k = length_bits ws in
-      let j = length-set (bits_of ws) place b in
-      ext_get_or 0 (bits_of (set ws (place / 64) v)) (set (bits_of ws) place b) (omega arith)
-      (λ i low. bit_is (set ws (place / 64) v) i 0 (omega arith) ∙ elim (cases_eq i place) [
-        | inl same ↦ ap (bit_of (set ws (place / 64) v)) same ∙ (ap (λ w. bit_at w (place % 64)) (get_or-set_at ws (place / 64) (place / 64) v 0 refl word_there) ∙ (here ∙ sym (get_or-set_at (bits_of ws) place i b 0 same (omega arith))))
-        | inr other ↦ bit_set i other ∙ sym (get_or-set_other (bits_of ws) place i b 0 other ∙ bit_is ws i 0 (omega arith))
+      let j = length-set (bits_of ws) position b in
+      ext_get_or 0 (bits_of (set ws (position / 64) v)) (set (bits_of ws) position b) (omega arith)
+      (λ i low. bit_is (set ws (position / 64) v) i 0 (omega arith) ∙ elim (cases_eq i position) [
+        | inl same ↦ ap (bit_of (set ws (position / 64) v)) same ∙ (ap (λ w. bit_at w (position % 64)) (get_or-set_at ws (position / 64) (position / 64) v 0 refl word_there) ∙ (here ∙ sym (get_or-set_at (bits_of ws) position i b 0 same (omega arith))))
+        | inr other ↦ bit_set i other ∙ sym (get_or-set_other (bits_of ws) position i b 0 other ∙ bit_is ws i 0 (omega arith))
       ])
 
 -- ---- the numbers of the bits that are set
@@ -119,26 +119,26 @@ numbers_push ws =
     let at : i / 64 ≡ length ws + 0 = omega arith in
     bit_is more i 0 (omega arith) ∙ (ap (λ j. bit_at (get_or more j 0) (i % 64)) at ∙ (ap (λ w. bit_at w (i % 64)) (get_or-append-add ws (0 ∷ []) 0 0) ∙ bit_at-zero (i % 64))))
 
--- ---- the numbers up to a place
+-- ---- the numbers up to a position
 
-module _ (ws : List ℕ) (place : ℕ) where
+module _ (ws : List ℕ) (position : ℕ) where
   -- one whose bit is set
-  pub number_more : place < 64 * length ws → bit_of ws place ≡ 1 → numbers_where is_set 0 (take (place + 1) (bits_of ws)) ≡ numbers_where is_set 0 (take place (bits_of ws)) ++ place ∷ []
+  pub number_more : position < 64 * length ws → bit_of ws position ≡ 1 → numbers_where is_set 0 (take (position + 1) (bits_of ws)) ≡ numbers_where is_set 0 (take position (bits_of ws)) ++ position ∷ []
   number_more l e =
       let m = length_bits ws in
-      let at : get_or (bits_of ws) place 0 ≡ 1 = bit_is ws place 0 l ∙ e in
-      let short : length (take place (bits_of ws)) ≡ place = length-take place (bits_of ws) ∙ omega arith in
-      ap (numbers_where is_set 0) (take_more (bits_of ws) place 0 (omega arith) ∙ ap (λ b. take place (bits_of ws) ++ b ∷ []) at)
-      ∙ numbers_where-append is_set 0 place (take place (bits_of ws)) 1 (omega arith)
+      let at : get_or (bits_of ws) position 0 ≡ 1 = bit_is ws position 0 l ∙ e in
+      let short : length (take position (bits_of ws)) ≡ position = length-take position (bits_of ws) ∙ omega arith in
+      ap (numbers_where is_set 0) (take_more (bits_of ws) position 0 (omega arith) ∙ ap (λ b. take position (bits_of ws) ++ b ∷ []) at)
+      ∙ numbers_where-append is_set 0 position (take position (bits_of ws)) 1 (omega arith)
 
   -- those that are passed over
-  pub numbers_skip : (next : ℕ) → place ≤ next → next ≤ 64 * length ws → ((k : ℕ) → place ≤ k → k < next → bit_of ws k ≡ 0) → numbers_where is_set 0 (take next (bits_of ws)) ≡ numbers_where is_set 0 (take place (bits_of ws))
+  pub numbers_skip : (next : ℕ) → position ≤ next → next ≤ 64 * length ws → ((k : ℕ) → position ≤ k → k < next → bit_of ws k ≡ 0) → numbers_where is_set 0 (take next (bits_of ws)) ≡ numbers_where is_set 0 (take position (bits_of ws))
   numbers_skip next l n h =
       let m = length_bits ws in
-      let short : length (take place (bits_of ws)) ≡ place = length-take place (bits_of ws) ∙ omega arith in
+      let short : length (take position (bits_of ws)) ≡ position = length-take position (bits_of ws) ∙ omega arith in
       let long : length (take next (bits_of ws)) ≡ next = length-take next (bits_of ws) ∙ omega arith in
-      none_more 0 (take place (bits_of ws)) (take next (bits_of ws)) (omega arith)
-      (λ i low. get_or-take next (bits_of ws) i 0 (omega arith) ∙ sym (get_or-take place (bits_of ws) i 0 (omega arith)))
+      none_more 0 (take position (bits_of ws)) (take next (bits_of ws)) (omega arith)
+      (λ i low. get_or-take next (bits_of ws) i 0 (omega arith) ∙ sym (get_or-take position (bits_of ws) i 0 (omega arith)))
       (λ i high low. get_or-take next (bits_of ws) i 0 (omega arith) ∙ (bit_is ws i 0 (omega arith) ∙ h i (omega arith) (omega arith)))
 
 one_or_none : (b : Bool) → is_set (cond b 1 0) ≡ b

@@ -8,7 +8,8 @@ use Rattle.jp_model.specs.Json.Tree.{Tree}
 use Rattle.jp_model.specs.Plans.{is_tree}
 use Rattle.jp_model.specs.Steps.{Step}
 use Rattle.jp_model.specs.Script.Machine.{bytes_held, statuses, is_refused_status}
-use Rattle.jp_tape.specs.Tapes.{spelled, IsTapeOf}
+use Rattle.jp_tape.specs.Tapes.{spelled}
+use Rattle.jp_tape.specs.Forms.{IsAmong}
 use Rattle.jp_query.specs.SingularPaths.{path_steps}
 use Rattle.jp_index.specs.Entries.{entries_of}
 use Rattle.jp_index.specs.Indexes.{IsIndexOf}
@@ -17,55 +18,66 @@ use Rattle.jp_model.specs.Numbered.{numbers_where}
 use Rattle.jp_store.specs.LineSetViews.{numbers_of}
 use Rattle.jp_store.specs.declared.counts.Counts.{Counts}
 use Rattle.jp_store.specs.declared.line.Line.{Line}
-use Rattle.jp_store.specs.declared.line.LineKind.{LineKind}
-use Rattle.jp_store.specs.declared.line.LineKind.TheVariants as kinds
-use Rattle.jp_store.specs.declared.line.LineText.{LineText}
-use Rattle.jp_store.specs.declared.line.LineText.TheVariants as texts
+use Rattle.jp_store.specs.declared.line.Line.TheVariants as lines
+use Rattle.jp_store.specs.declared.Status.{Status}
+use Rattle.jp_store.specs.declared.Status.TheVariants as told
 
--- the bytes of a line, of which some stand among those that were loaded
-abbrev pub text_in : List ℕ → LineText → List ℕ
-text_in bytes (texts.Loaded span) = bytes_between bytes span.start span.end
-text_in bytes (texts.Edited text) = text.value.items
+-- the text of a stored line: some bytes of those that were loaded, or its own
+abbrev pub stored_text : List ℕ → Line → List ℕ
+stored_text bytes (lines.Loaded status nodes span tape) = bytes_between bytes span.start span.end
+stored_text bytes (lines.Edited line) = line.value.text.items
 
 -- a span is of the loaded bytes
-abbrev pub IsWithin : List ℕ → LineText → Type 0
-IsWithin bytes (texts.Loaded span) = (span.start ≤ span.end) × (span.end ≤ length bytes)
-IsWithin bytes (texts.Edited text) = Unit {0}
+abbrev pub IsWithin : List ℕ → Line → Type 0
+IsWithin bytes (lines.Loaded status nodes span tape) = (span.start ≤ span.end) × (span.end ≤ length bytes)
+IsWithin bytes (lines.Edited line) = Unit {0}
 
--- the line is of that kind, and the tape is the line's
-abbrev pub IsOfKind : Framing → LineKind → List ℕ → Type 0
-IsOfKind framing kinds.Blank line = status_of framing line ≡ blank
-IsOfKind framing (kinds.Refused fault) line = status_of framing line ≡ refused fault
-IsOfKind framing (kinds.Tree tape) line = (status_of framing line ≡ parsed (spelled line)) × IsTapeOf tape line
+-- what is told of a stored line
+abbrev pub told_of : Line → Status
+told_of (lines.Loaded status nodes span tape) = status
+told_of (lines.Edited line) = line.value.status
 
--- it has a tree
-abbrev pub is_tree_kind : LineKind → Bool
-is_tree_kind (kinds.Tree tape) = true
-is_tree_kind kind = false
+-- the line with this text is what is told of it
+abbrev pub IsTold : Framing → Status → List ℕ → Type 0
+IsTold framing told.Blank line = status_of framing line ≡ blank
+IsTold framing (told.Refused fault) line = status_of framing line ≡ refused fault
+IsTold framing told.Tree line = status_of framing line ≡ parsed (spelled line)
 
--- it is refused
-abbrev pub is_refused_kind : LineKind → Bool
-is_refused_kind (kinds.Refused fault) = true
-is_refused_kind kind = false
+-- where a tree is told of, so many nodes from a word of the tapes on are the tape of the line
+abbrev pub IsTapeAmong : Status → (tapes : List ℕ) (tape nodes : ℕ) → List ℕ → Type 0
+IsTapeAmong told.Tree tapes tape nodes line = IsAmong tapes tape nodes line
+IsTapeAmong status tapes tape nodes line = Unit {0}
 
--- the tree of a line of that kind, where it has one
-abbrev pub kind_tree : LineKind → List ℕ → Option Tree
-kind_tree (kinds.Tree tape) line = Some (spelled line)
-kind_tree kind line = None
+-- a stored line has its tape, among those that were loaded or alone
+abbrev pub HasTape : List ℕ → Line → List ℕ → Type 0
+HasTape tapes (lines.Loaded status nodes span tape) text = IsTapeAmong status tapes tape nodes text
+HasTape tapes (lines.Edited line) text = IsTapeAmong line.value.status line.value.tape.items 0 line.value.nodes text
 
--- the text of a stored line
-abbrev pub stored_text : List ℕ → Line → List ℕ
-stored_text bytes line = text_in bytes line.text
+-- a status that tells of a tree
+abbrev pub is_tree_status : Status → Bool
+is_tree_status told.Tree = true
+is_tree_status status = false
+
+-- one that tells of a fault
+abbrev pub is_fault_status : Status → Bool
+is_fault_status (told.Refused fault) = true
+is_fault_status status = false
+
+-- the tree of a line of which this is told, where it has one
+abbrev pub told_tree : Status → List ℕ → Option Tree
+told_tree told.Tree line = Some (spelled line)
+told_tree status line = None
 
 -- a stored line is read
-pub record IsRead (framing : Framing) (bytes : List ℕ) (line : Line) : Type 0 where
-  pub within : IsWithin bytes line.text
-  pub kind : IsOfKind framing line.kind (stored_text bytes line)
+pub record IsRead (framing : Framing) (bytes tapes : List ℕ) (line : Line) : Type 0 where
+  pub within : IsWithin bytes line
+  pub told : IsTold framing (told_of line) (stored_text bytes line)
+  pub tape : HasTape tapes line (stored_text bytes line)
 
 -- the same in some framing
-pub record IsTold (bytes : List ℕ) (line : Line) : Type 0 where
+pub record IsReadSomehow (bytes tapes : List ℕ) (line : Line) : Type 0 where
   pub framing : Framing
-  pub read : IsRead framing bytes line
+  pub read : IsRead framing bytes tapes line
 
 -- the path of an index
 abbrev pub path_of : ValueIndex → List Step
@@ -82,8 +94,8 @@ pub record AreCounted (framing : Framing) (texts : List (List ℕ)) (counts : Co
   pub refused_is : numbers_of counts.refused ≡ numbers_where is_refused_status 1 (statuses framing texts)
 
 -- The lines are read, few enough to be numbered by 32 bits, and counted, and each index is of them.
-pub record IsKept (framing : Framing) (bytes : List ℕ) (lines : List Line) (counts : Counts) (indexes : List ValueIndex) : Type 0 where
-  pub each : All (IsRead framing bytes) lines
+pub record IsKept (framing : Framing) (bytes tapes : List ℕ) (lines : List Line) (counts : Counts) (indexes : List ValueIndex) : Type 0 where
+  pub each : All (IsRead framing bytes tapes) lines
   pub few : length lines < 2 ^ 32
   pub counted : AreCounted framing (map (stored_text bytes) lines) counts
   pub indexed : All (IsOver (statuses framing (map (stored_text bytes) lines))) indexes

@@ -20,7 +20,7 @@ pub(crate) struct Counts {
 
 impl Counts {
     ghost use Rattle.jp_store.specs.LineSetViews.{numbers_of, room_in};
-    ghost use Rattle.jp_store.specs.Stored.{is_refused_kind, is_tree_kind};
+    ghost use Rattle.jp_store.specs.Stored.{told_of, is_fault_status, is_tree_status};
 
     /// Makes room for the lines up to one. The counts stay, also after an `Err`.
     pub(crate) fn reserve(&mut self, number: u32) -> Result<(), AllocError>
@@ -39,8 +39,8 @@ impl Counts {
         requires most { self.old.trees + 1 < 2 ^ 32 + cond had_tree 1 0 }
         requires room { number < room_in self.old.refused }
         ensures held { self.new.held ≡ held }
-        ensures trees { self.new.trees + cond had_tree 1 0 ≡ self.old.trees + cond (is_tree_kind line.now.kind) 1 0 }
-        ensures refused { numbers_of self.new.refused ≡ with_number number (is_refused_kind line.now.kind) (numbers_of self.old.refused) }
+        ensures trees { self.new.trees + cond had_tree 1 0 ≡ self.old.trees + cond (is_tree_status (told_of line.now)) 1 0 }
+        ensures refused { numbers_of self.new.refused ≡ with_number number (is_fault_status (told_of line.now)) (numbers_of self.old.refused) }
         ensures room { room_in self.new.refused ≡ room_in self.old.refused }
     {
         self.held = held;

@@ -25,7 +25,7 @@ pub(crate) fn is_framed_text(framing: Framing, bytes: &[u8]) -> bool
         Framing::Sequence => {
             let text = without_byte_order_mark(bytes);
             match memchr(separator(framing), text) {
-                Some(place) => is_blank(&text[..place]),
+                Some(position) => is_blank(&text[..position]),
                 None => is_blank(text),
             }
         }

@@ -2,47 +2,57 @@
 
 ghost use Rattle.std.specs.Prelude.{◌≡◌};
 
-use jp_model::{LineFault, Span};
-use jp_tape::Tape;
-
-/// Where the bytes of a line are.
-#[derive(Drop)]
-pub(crate) enum LineText {
-    /// Among the bytes that were loaded.
-    Loaded(Span),
-    /// On their own: the line was edited. They are boxed, since few lines are, and a record of a line is to be small.
-    Edited(Box<Vec<u8>>),
-}
-
-/// What a line is, with its tape where it has one.
-#[derive(Drop)]
-pub(crate) enum LineKind {
-    Blank,
-    Refused(LineFault),
-    Tree(Tape),
-}
+use crate::Status;
+use jp_model::Span;
 
 /// A line without its separator.
 #[derive(Drop)]
-pub(crate) struct Line {
-    pub(crate) text: LineText,
-    pub(crate) kind: LineKind,
+pub(crate) enum Line {
+    /// Its bytes are among those that were loaded. Where it has a tree, so many nodes of the tapes that were loaded, from a word
+    /// on, are its own.
+    Loaded {
+        status: Status,
+        nodes: u32,
+        span: Span,
+        tape: usize,
+    },
+    /// It is boxed, since few lines are edited, and a record of a line is to be small.
+    Edited(Box<EditedLine>),
+}
+
+/// A line that was edited. Its bytes are its own, and so are the nodes of its tape, where it has a tree.
+#[derive(Drop)]
+pub(crate) struct EditedLine {
+    pub(crate) status: Status,
+    pub(crate) nodes: u32,
+    pub(crate) text: Vec<u8>,
+    pub(crate) tape: Vec<u64>,
 }
 
 impl Line {
-    ghost use Rattle.jp_store.specs.Stored.{is_refused_kind, is_tree_kind};
+    ghost use Rattle.jp_store.specs.Stored.{told_of, is_fault_status, is_tree_status};
+
+    /// What it is.
+    pub(crate) fn status(&self) -> Status
+        ensures { result ≡ told_of self.now }
+    {
+        match self {
+            Line::Loaded { status, .. } => *status,
+            Line::Edited(line) => line.status,
+        }
+    }
 
     /// Whether it has a tree.
     pub(crate) fn is_tree(&self) -> bool
-        ensures { result ≡ is_tree_kind self.now.kind }
+        ensures { result ≡ is_tree_status (told_of self.now) }
     {
-        matches!(self.kind, LineKind::Tree(_))
+        matches!(self.status(), Status::Tree)
     }
 
     /// Whether it is refused.
     pub(crate) fn is_refused(&self) -> bool
-        ensures { result ≡ is_refused_kind self.now.kind }
+        ensures { result ≡ is_fault_status (told_of self.now) }
     {
-        matches!(self.kind, LineKind::Refused(_))
+        matches!(self.status(), Status::Refused(_))
     }
 }

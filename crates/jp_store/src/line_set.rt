@@ -17,30 +17,30 @@ pub(crate) struct LineSet {
     ghost counted: { count ≡ length (numbers_in words.items) },
 }
 
-/// Whether the bit at a place is set.
-fn has_bit(words: &[u64], place: usize) -> bool
-    requires { place < 64 * length words.now }
-    ensures { result ≡ (bit_of words.now place == 1) }
+/// Whether the bit at a position is set.
+fn has_bit(words: &[u64], position: usize) -> bool
+    requires { position < 64 * length words.now }
+    ensures { result ≡ (bit_of words.now position == 1) }
 {
-    (words[place / 64] >> (place % 64)) & 1 == 1
+    (words[position / 64] >> (position % 64)) & 1 == 1
 }
 
-/// Sets the bit at a place, or clears it.
-fn set_bit(words: &mut Vec<u64>, place: usize, is_set: bool)
-    requires { place < 64 * length words.old.items }
-    ensures bits { bits_of words.new.items ≡ set (bits_of words.old.items) place (cond is_set 1 0) }
+/// Sets the bit at a position, or clears it.
+fn set_bit(words: &mut Vec<u64>, position: usize, is_set: bool)
+    requires { position < 64 * length words.old.items }
+    ensures bits { bits_of words.new.items ≡ set (bits_of words.old.items) position (cond is_set 1 0) }
     ensures length { length words.new.items ≡ length words.old.items }
 {
-    let bit = 1 << (place % 64);
+    let bit = 1 << (position % 64);
     if is_set {
-        words[place / 64] |= bit;
+        words[position / 64] |= bit;
     } else {
-        words[place / 64] &= !bit;
+        words[position / 64] &= !bit;
     }
 }
 
-/// The first place, from one on, whose bit is set, or the place behind all.
-fn next_place(words: &[u64], from: usize) -> usize
+/// The first position, from one on, whose bit is set, or the position behind all.
+fn next_position(words: &[u64], from: usize) -> usize
     requires few { length words.now ≤ 2 ^ 26 }
     requires within { from ≤ 64 * length words.now }
     ensures from { from ≤ result }
@@ -48,15 +48,15 @@ fn next_place(words: &[u64], from: usize) -> usize
     ensures between { (k : ℕ) → from ≤ k → k < result → bit_of words.now k ≡ 0 }
     ensures there { result < 64 * length words.now → bit_of words.now result ≡ 1 }
 {
-    let mut place = from;
-    while place < 64 * words.len() {
-        let rest = words[place / 64] >> (place % 64);
+    let mut position = from;
+    while position < 64 * words.len() {
+        let rest = words[position / 64] >> (position % 64);
         if rest != 0 {
-            return place + rest.trailing_zeros() as usize;
+            return position + rest.trailing_zeros() as usize;
         }
-        place = (place / 64 + 1) * 64;
+        position = (position / 64 + 1) * 64;
     }
-    place
+    position
 }
 
 impl LineSet {
@@ -96,9 +96,9 @@ impl LineSet {
         ensures lines { numbers_of self.new ≡ with_number line is_in (numbers_of self.old) }
         ensures room { room_in self.new ≡ room_in self.old }
     {
-        let place = line as usize;
-        let count = self.count - usize::from(has_bit(&self.words, place)) + usize::from(is_in);
-        set_bit(&mut self.words, place, is_in);
+        let position = line as usize;
+        let count = self.count - usize::from(has_bit(&self.words, position)) + usize::from(is_in);
+        set_bit(&mut self.words, position, is_in);
         self.count = count;
     }
 
@@ -111,10 +111,10 @@ impl LineSet {
             return Ok(numbers);
         }
         let end = 64 * self.words.len();
-        let mut place = next_place(&self.words, 0);
-        while place < end {
-            numbers.push(place as u32)?;
-            place = next_place(&self.words, place + 1);
+        let mut position = next_position(&self.words, 0);
+        while position < end {
+            numbers.push(position as u32)?;
+            position = next_position(&self.words, position + 1);
         }
         Ok(numbers)
     }

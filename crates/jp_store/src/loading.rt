@@ -1,6 +1,6 @@
 //! The lines of the bytes that were read.
 
-ghost use Rattle.std.specs.Prelude.{◌≡◌, ◌+◌, ◌<◌, ◌≤◌, ◌^◌, ◌++◌, All, take, drop, map, length, slice_get, Some, IfOk, OnOk};
+ghost use Rattle.std.specs.Prelude.{ℕ, List, ◌≡◌, ◌+◌, ◌<◌, ◌≤◌, ◌^◌, ◌++◌, All, take, drop, map, length, slice_get, Some, IfOk, OnOk};
 ghost use Rattle.jp_model.specs.Lines.{lines, without_byte_order_mark as without_mark};
 ghost use Rattle.jp_model.specs.Json.Places.{bytes_between};
 ghost use Rattle.jp_masks.specs.Found.{found, lines_in};
@@ -8,11 +8,11 @@ ghost use Rattle.jp_masks.specs.Scanned.{AreAllOf};
 ghost use Rattle.jp_store.specs.Stored.{IsRead, stored_text};
 
 use crate::framing::separator;
-use crate::line::{Line, LineText};
+use crate::line::Line;
 use crate::reading::judge;
 use jp_masks::{Marks, Scanner, laws};
 use jp_model::{Framing, Span, without_byte_order_mark};
-use jp_tape::Builder;
+use jp_tape::{Builder, tapes_are_kept};
 use memchr::memchr;
 use std::alloc::{AllocError, Global};
 
@@ -36,9 +36,9 @@ fn front_length(framing: Framing, text: &[u8]) -> usize
 {
     let least = PIECE.min(text.len());
     match memchr(separator(framing), &text[least..]) {
-        Some(place) => match framing {
-            Framing::Lines => least + place + 1,
-            Framing::Sequence => least + place,
+        Some(position) => match framing {
+            Framing::Lines => least + position + 1,
+            Framing::Sequence => least + position,
         },
         None => text.len(),
     }
@@ -58,15 +58,16 @@ fn scan(framing: Framing, text: &[u8], marks: &mut Marks) -> Result<(), AllocErr
     Ok(())
 }
 
-/// The line that is at an index, from 0, of a piece of the bytes. The builder lends its memory.
+/// The line that is at an index, from 0, of a piece of the bytes. Its tape is appended to those of other lines. The builder
+/// lends its memory.
 fn read_line<'a>(
-    alloc: Global,
     builder: &mut Builder<'a>,
     framing: Framing,
     bytes: &'a [u8],
     piece: Span,
     marks: &'a Marks,
     index: usize,
+    tapes: &mut Vec<u64>,
 ) -> Result<Line, AllocError>
     requires order { piece.start ≤ piece.end }
     requires last { piece.end ≤ length bytes.now }
@@ -74,25 +75,29 @@ fn read_line<'a>(
     requires all { AreAllOf framing (bytes_between bytes.now piece.start piece.end) marks.now }
     requires within { index < length (found marks.now) }
     ensures text { IfOk result (λ line. slice_get (lines_in framing (bytes_between bytes.now piece.start piece.end)) index ≡ Some (stored_text bytes.now line)) }
-    ensures read { IfOk result (λ line. IsRead framing bytes.now line) }
+    ensures read { IfOk result (λ line. IsRead framing bytes.now tapes.new.items line) }
+    ensures more { (words : List ℕ) × (tapes.new.items ≡ tapes.old.items ++ words) }
 {
     laws::lines_are_those_of_the_text();
     let text = &bytes[piece.start as usize..piece.end as usize];
     let line = marks.line(index);
     let is_utf8 = marks.line_is_utf8(text, index);
     let own = &text[line.span.start as usize..line.span.end as usize];
-    let kind = judge(alloc, builder, framing, own, line.positions, is_utf8)?;
+    let tape = tapes.len();
+    let judged = judge(builder, framing, own, line.positions, is_utf8, tapes)?;
     let span = Span {
         start: piece.start + line.span.start,
         end: piece.start + line.span.end,
     };
-    Ok(Line {
-        text: LineText::Loaded(span),
-        kind,
+    Ok(Line::Loaded {
+        status: judged.status,
+        nodes: judged.nodes,
+        span,
+        tape,
     })
 }
 
-/// Appends the lines of a piece of the bytes, each read, to others. `marks` lends its memory.
+/// Appends the lines of a piece of the bytes, each read, to others, and their tapes to those of others. `marks` lends its memory.
 fn read_piece(
     alloc: Global,
     framing: Framing,
@@ -100,49 +105,54 @@ fn read_piece(
     piece: Span,
     marks: &mut Marks,
     lines: &mut Vec<Line>,
+    tapes: &mut Vec<u64>,
 ) -> Result<(), AllocError>
     requires order { piece.start ≤ piece.end }
     requires last { piece.end ≤ length bytes.now }
     requires room { length bytes.now < 2 ^ 32 }
     ensures came { OnOk result (map (stored_text bytes.now) lines.new.items ≡ map (stored_text bytes.now) lines.old.items ++ lines_in framing (bytes_between bytes.now piece.start piece.end)) }
-    ensures read { All (IsRead framing bytes.now) lines.old.items → OnOk result (All (IsRead framing bytes.now) lines.new.items) }
+    ensures read { All (IsRead framing bytes.now tapes.old.items) lines.old.items → OnOk result (All (IsRead framing bytes.now tapes.new.items) lines.new.items) }
 {
     scan(
         framing,
         &bytes[piece.start as usize..piece.end as usize],
         marks,
     )?;
+    tapes_are_kept();
     let count = marks.line_count();
     lines.reserve(count)?;
     let mut builder = Builder::new(alloc);
     for index in 0..count {
-        let line = read_line(alloc, &mut builder, framing, bytes, piece, marks, index)?;
+        let line = read_line(&mut builder, framing, bytes, piece, marks, index, tapes)?;
         lines.push(line)?;
     }
     Ok(())
 }
 
-/// The lines of a collection, each read. Each byte is scanned once, piece by piece into the same memory.
+/// The lines of a collection, each read, and their tapes. Each byte is scanned once, piece by piece into the same memory.
 pub(crate) fn read_lines(
     alloc: Global,
     framing: Framing,
     bytes: &[u8],
-) -> Result<Vec<Line>, AllocError>
+) -> Result<(Vec<Line>, Vec<u64>), AllocError>
     requires { length bytes.now < 2 ^ 32 }
-    ensures came { IfOk result (λ ls. map (stored_text bytes.now) ls.items ≡ lines framing bytes.now) }
-    ensures read { IfOk result (λ ls. All (IsRead framing bytes.now) ls.items) }
+    ensures came { IfOk result (λ read. map (stored_text bytes.now) read.0.items ≡ lines framing bytes.now) }
+    ensures read { IfOk result (λ read. All (IsRead framing bytes.now read.1.items) read.0.items) }
 {
     let mut start = lines_start(bytes);
     let mut marks = Marks::new(alloc);
     let mut all = Vec::new(alloc);
+    let mut tapes = Vec::new(alloc);
     while start < bytes.len() {
         let end = start + front_length(framing, &bytes[start..]);
         let piece = Span {
             start: start as u32,
             end: end as u32,
         };
-        read_piece(alloc, framing, bytes, piece, &mut marks, &mut all)?;
+        read_piece(
+            alloc, framing, bytes, piece, &mut marks, &mut all, &mut tapes,
+        )?;
         start = end;
     }
-    Ok(all)
+    Ok((all, tapes))
 }

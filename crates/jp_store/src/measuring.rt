@@ -1,6 +1,6 @@
 //! The counts of lines that were loaded.
 
-ghost use Rattle.std.specs.Prelude.{◌<◌, ◌^◌, All, map, length, IfOk};
+ghost use Rattle.std.specs.Prelude.{ℕ, List, ◌<◌, ◌^◌, All, map, length, IfOk};
 ghost use Rattle.jp_model.specs.declared.Framing.{Framing};
 ghost use Rattle.jp_model.specs.Script.Machine.{bytes_held};
 ghost use Rattle.jp_store.specs.Stored.{AreCounted, IsRead, stored_text};
@@ -15,8 +15,8 @@ use std::alloc::{AllocError, Global};
 pub(crate) fn measure(alloc: Global, bytes: &[u8], lines: &[Line]) -> Result<Counts, AllocError>
     requires few { length lines.now < 2 ^ 32 }
     requires room { bytes_held (map (stored_text bytes.now) lines.now) < 2 ^ 64 }
-    requires read { (framing : Framing) × All (IsRead framing bytes.now) lines.now }
-    ensures { (framing : Framing) → All (IsRead framing bytes.now) lines.now
+    requires read { (framing : Framing) × (tapes : List ℕ) × All (IsRead framing bytes.now tapes) lines.now }
+    ensures { (framing : Framing) (tapes : List ℕ) → All (IsRead framing bytes.now tapes) lines.now
         → IfOk result (λ counts. AreCounted framing (map (stored_text bytes.now) lines.now) counts) }
 {
     let mut refused = LineSet::new(alloc);

@@ -21,11 +21,11 @@ use crate::counts::Counts;
 use crate::edits::{root_of_line, test_edit};
 use crate::framing::is_framed_text;
 use crate::indexes::{build_index, edit_indexes, has_index, remove_index};
-use crate::line::{Line, LineKind};
+use crate::line::Line;
 use crate::loading::read_lines;
 use crate::measuring::measure;
 use crate::reading::read_edited;
-use crate::text::text_of;
+use crate::text::{tape_of, text_of};
 use crate::view::{LineView, Opened};
 use crate::{EditFault, IndexFault, LoadFault, Missing, Status};
 use jp_index::{ValueIndex, laws};
@@ -43,6 +43,8 @@ pub struct Store {
     most: u32,
     bytes: Vec<u8>,
     lines: Vec<Line>,
+    /// The tapes of the lines that were loaded.
+    tapes: Vec<u64>,
     counts: Counts,
     indexes: Vec<ValueIndex>,
     alloc: Global,
@@ -58,7 +60,7 @@ impl Model for Store {
 
     ghost view = { λ s. record { framing = s.framing; most = s.most; state = record { lines = map (stored_text s.bytes.items) s.lines.items; paths = map path_of s.indexes.items } } };
 
-    ghost invariant = { λ s. IsKept s.framing s.bytes.items s.lines.items s.counts s.indexes.items };
+    ghost invariant = { λ s. IsKept s.framing s.bytes.items s.tapes.items s.lines.items s.counts s.indexes.items };
 }
 
 impl Store {
@@ -93,7 +95,7 @@ impl Store {
         if !is_framed_text(framing, &bytes) {
             return Err(LoadFault::Framing);
         }
-        let Ok(lines) = read_lines(alloc, framing, &bytes) else {
+        let Ok((lines, tapes)) = read_lines(alloc, framing, &bytes) else {
             return Err(LoadFault::Memory);
         };
         let Ok(counts) = measure(alloc, &bytes, &lines) else {
@@ -104,6 +106,7 @@ impl Store {
             most,
             bytes,
             lines,
+            tapes,
             counts,
             indexes: Vec::new(alloc),
             alloc,
@@ -148,11 +151,7 @@ impl Store {
         requires last { n ≤ length self.now.state.lines }
         ensures { result ≡ status_kind (line_status n self.now) }
     {
-        match &self.lines[n as usize - 1].kind {
-            LineKind::Blank => Status::Blank,
-            LineKind::Refused(fault) => Status::Refused(*fault),
-            LineKind::Tree(_) => Status::Tree,
-        }
+        self.lines[n as usize - 1].status()
     }
 
     /// A count of opened lines, at 0.
@@ -173,16 +172,15 @@ impl Store {
             (λ view. (line_status n self.now ≡ parsed (tree_of_view view)) × (text_of_view view ≡ line_text n self.now) × (opened.new ≡ opened.old + 1)) }
     {
         let line = &self.lines[n as usize - 1];
-        match &line.kind {
-            LineKind::Tree(tape) => {
-                opened.count += 1;
-                Some(LineView {
-                    tape,
-                    line: text_of(&self.bytes, line),
-                })
-            }
-            _ => None,
+        if !line.is_tree() {
+            return None;
         }
+        opened.count += 1;
+        let text = text_of(&self.bytes, line);
+        Some(LineView {
+            words: tape_of(&self.tapes, line, text),
+            line: text,
+        })
     }
 
     /// Makes an index of a path, the last one, and answers in how many lines the path has a node.
@@ -203,7 +201,7 @@ impl Store {
         if self.indexes.len() >= 16 {
             return Err(IndexFault::Limit);
         }
-        let Ok(index) = build_index(self.alloc, path, &self.bytes, &self.lines) else {
+        let Ok(index) = build_index(self.alloc, path, &self.bytes, &self.tapes, &self.lines) else {
             return Err(IndexFault::Memory);
         };
         let count = index.count();
@@ -276,7 +274,7 @@ impl Store {
         let Ok(()) = self.counts.reserve(n) else {
             return Err(EditFault::Memory);
         };
-        let root = root_of_line(&self.bytes, &line);
+        let root = root_of_line(&self.bytes, &self.tapes, &line);
         let Ok(()) = edit_indexes(self.alloc, &mut self.indexes, 0, n, root) else {
             return Err(EditFault::Memory);
         };
@@ -298,8 +296,8 @@ impl Store {
         if n == 0 || n as usize > self.lines.len() {
             return Err(EditFault::NoLine);
         }
-        let place = n as usize - 1;
-        let old = &self.lines[place];
+        let position = n as usize - 1;
+        let old = &self.lines[position];
         let had_tree = old.is_tree();
         let rest = self.counts.held - text_of(&self.bytes, old).len() as u64 - 1;
         let held = match test_edit(self.framing, self.most, rest, text) {
@@ -312,12 +310,12 @@ impl Store {
         let Ok(()) = self.counts.reserve(n) else {
             return Err(EditFault::Memory);
         };
-        let root = root_of_line(&self.bytes, &line);
+        let root = root_of_line(&self.bytes, &self.tapes, &line);
         let Ok(()) = edit_indexes(self.alloc, &mut self.indexes, 0, n, root) else {
             return Err(EditFault::Memory);
         };
         self.counts.change(held, n, had_tree, &line);
-        self.lines[place] = line;
+        self.lines[position] = line;
         Ok(())
     }
 }

@@ -9,8 +9,8 @@ use Rattle.jp_model.specs.Json.Tree.{no_child, child, Name, span, value_of}
 use Rattle.jp_model.specs.Json.Spelling.{Text}
 use Rattle.jp_model.specs.Meaning.Nodes.{Node, root_node, step_to, children, subtree}
 use Rattle.jp_tape.specs.declared.cursor.Cursor.{Cursor}
-use Rattle.jp_tape.specs.declared.tape.Word.{Word}
-use Rattle.jp_tape.specs.Forms.{joined}
+use Rattle.jp_tape.specs.declared.word.Word.{Word}
+use Rattle.jp_tape.specs.Forms.{joined, words_in}
 use Rattle.jp_tape.specs.Words.{node_count, children_node_count, nodes_below, head_word, span_word, label_word, kind_code}
 use Rattle.jp_tape.specs.Spots.{Spot, root_spot, spot_at, children_in, nodes_at, nodes_behind, last_step, name_points}
 use Rattle.jp_tape.specs.Tapes.{spelled}
@@ -105,7 +105,7 @@ span_room c =
 -- ---- its words
 
 -- three for each node of the line
-pub words_counted : (c : Cursor) → length c.tape.now ≡ length (subtree (root_node (root_of c))) * 3
+pub words_counted : (c : Cursor) → length (words_in c.bits c.words.now) ≡ length (subtree (root_node (root_of c))) * 3
 unfolding line_of
 words_counted c =
     let a = ap length c.words_are in
@@ -113,23 +113,23 @@ words_counted c =
     let d = places.length-tree (root_of c) in
     omega (arith, a, b, d)
 
-pub words_long : (c : Cursor) → place_of c * 3 + 2 < length c.tape.now
+pub words_long : (c : Cursor) → place_of c * 3 + 2 < length (words_in c.bits c.words.now)
 words_long c =
     let a = words_counted c in
     let b = within c in
     omega (arith, a, b)
 
-pub head-of : (c : Cursor) (i : ℕ) → i ≡ place_of c * 3 → get_or c.tape.now i 0 ≡ head_word (kind_code (value_of (node_of c).tree)) (nodes_below (value_of (node_of c).tree)) (up_of c)
+pub head-of : (c : Cursor) (i : ℕ) → i ≡ place_of c * 3 → get_or (words_in c.bits c.words.now) i 0 ≡ head_word (kind_code (value_of (node_of c).tree)) (nodes_below (value_of (node_of c).tree)) (up_of c)
 unfolding line_of
 head-of c i e =
     ap (λ w. get_or w i 0) c.words_are
     ∙ (head-at (root_of c) (place_of c) i (inside c) e ∙ ap (λ (s : Spot). head_word (kind_code (value_of s.node.tree)) (nodes_below (value_of s.node.tree)) s.up) (sym (spot-is c)))
 
-pub span-of : (c : Cursor) (i : ℕ) → i ≡ place_of c * 3 + 1 → get_or c.tape.now i 0 ≡ span_word (span (node_of c).tree)
+pub span-of : (c : Cursor) (i : ℕ) → i ≡ place_of c * 3 + 1 → get_or (words_in c.bits c.words.now) i 0 ≡ span_word (span (node_of c).tree)
 unfolding line_of
 span-of c i e = ap (λ w. get_or w i 0) c.words_are ∙ (span-at (root_of c) (place_of c) i (inside c) e ∙ ap (λ (s : Spot). span_word (span s.node.tree)) (sym (spot-is c)))
 
-pub label-of : (c : Cursor) (i : ℕ) → i ≡ place_of c * 3 + 2 → get_or c.tape.now i 0 ≡ label_word (index_of c) (name_of c)
+pub label-of : (c : Cursor) (i : ℕ) → i ≡ place_of c * 3 + 2 → get_or (words_in c.bits c.words.now) i 0 ≡ label_word (index_of c) (name_of c)
 unfolding line_of
 label-of c i e = ap (λ w. get_or w i 0) c.words_are ∙ (label-at (root_of c) (place_of c) i (inside c) e ∙ ap (λ (s : Spot). label_word s.index s.name) (sym (spot-is c)))
 

@@ -25,7 +25,7 @@ pub record AreSmall (bound : ℕ) (s : Spot) : Type 0 where
   pub label : IsSmall bound (label_word s.index s.name)
 
 -- a line of fewer bytes than the bound, which is above the numbers of all kinds
-module _ (bound : ℕ) (least : 2 ^ 10 ≤ bound) (most : bound ≤ 2 ^ 16) where
+module _ (bound : ℕ) (least : 2 ^ 10 ≤ bound) (most : bound ≤ 2 ^ 21) where
   head_small : (v : Value) (parent : ℕ) → nodes_below v + 5 < bound → parent * 2 + 1 < bound → IsSmall bound (head_word (kind_code v) (nodes_below v) parent)
   unfolding head_word
   head_small null parent b p = record { high = omega arith; low = omega arith }

@@ -4,13 +4,13 @@ pub mod Places
 pub mod Parents
 pub mod Packed
 mod Halves
-pub mod Narrow
-pub mod Compact
+pub mod Unpacking
 pub mod Bounds
 pub mod Stands
 pub mod Sound
 pub mod Contents
 pub mod Trees
+pub mod Packing
 pub mod Cursors
 -- Lemmas on the walk over a line.
 pub mod Ahead

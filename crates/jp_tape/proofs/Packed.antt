@@ -4,7 +4,7 @@ use Rattle.std.proofs.lemmas.Bool.Decides.{nat_tests}
 use Rattle.jp_model.specs.declared.Span.{Span}
 use Rattle.jp_model.specs.Json.Tree.{Value, null, boolean, number, string, container, array, object}
 use Rattle.jp_tape.specs.declared.Kind.TheVariants as kinds
-use Rattle.jp_tape.specs.declared.tape.Word.{Word}
+use Rattle.jp_tape.specs.declared.word.Word.{Word}
 use Rattle.jp_tape.specs.Words.{nodes_below, children_node_count, head_word, span_word, kind_code}
 use Rattle.jp_tape.specs.Forms.{joined}
 use Rattle.jp_tape.specs.Kinds.{kind_of, kind_by}

@@ -1,16 +1,15 @@
 //! The builder of a tape: it reads a line once, and reports its first fault.
 
-ghost use Rattle.std.specs.Prelude.{◌≡◌, ◌<◌, ◌↔◌, ◌^◌, false, length, map, IfOk, IfErr, IsTrue, IsUtf8};
-ghost use Rattle.std.specs.Box.{boxed_slice_items};
+ghost use Rattle.std.specs.Prelude.{◌≡◌, ◌<◌, ◌↔◌, ◌^◌, ◌++◌, ℕ, List, false, length, IfOk, IfErr, OnOk, OnErr, IsTrue, IsUtf8};
 ghost use Rattle.jp_model.specs.Lines.{is_blank};
 ghost use Rattle.jp_model.specs.Json.Faults.{is_truncated as truncated};
 ghost use Rattle.jp_model.specs.Json.Marks.{marks as marks_of};
 ghost use Rattle.jp_model.specs.Json.Tree.{Tree};
 ghost use Rattle.jp_model.specs.Json.Spelling.{Text};
 ghost use Rattle.jp_model.specs.Json.Status.{HasStatus, parsed, fault_of_tree};
-ghost use Rattle.jp_tape.specs.Tapes.{IsTapeOf};
+ghost use Rattle.jp_tape.specs.Tapes.{spelled, IsTapeOf};
 ghost use Rattle.jp_tape.specs.Words.{tape_words};
-ghost use Rattle.jp_tape.specs.Forms.{narrowed, packed_node, packed_nodes, words_of};
+ghost use Rattle.jp_tape.specs.Forms.{compact_node, three_halves, in_one, in_two, nodes_by, packed, IsAmong};
 ghost use Rattle.jp_tape.specs.Machine.{IsFinished};
 ghost use Rattle.jp_tape.specs.Refusals.{IsRefused};
 
@@ -22,12 +21,11 @@ mod names;
 mod scan;
 mod tokens;
 
-use crate::tape::{Tape, Words};
+use crate::tape::{COMPACT, MEDIUM, Tape, half_bits};
 use jp_model::{Framing, LineFault};
 pub use machine::Builder;
 use machine::walk;
 use std::alloc::{AllocError, Global};
-use std::boxed::BoxedSlice;
 
 /// Why a line has no tape.
 #[derive(Clone, Copy, Debug, PartialEq, Eq)]
@@ -74,93 +72,98 @@ fn fault_of(builder: &Builder<'_>, line: &[u8], framing: Framing) -> Option<Line
     }
 }
 
-/// The halves of all words of a line have at most 10 bits where its bytes are fewer than this.
-const COMPACT: usize = 1 << 10;
-
-/// The words of a node in 64 bits: the halves of the second are 10 bits above those of the first, and those of the third
-/// 10 more.
+/// The three words of a node in one, where each half of them has at most 10 bits.
 #[inline(always)]
-#[tactic(auto, unfolding(crate::specs::Forms::packed_node))]
-fn pack(head: u64, span: u64, label: u64) -> u64
-    ensures { result ≡ packed_node head span label }
+#[tactic(auto, unfolding(crate::specs::Forms::compact_node))]
+fn compact(head: u64, span: u64, label: u64) -> u64
+    ensures { result ≡ compact_node head span label }
 {
     head.wrapping_add(span.wrapping_mul(1 << 10))
         .wrapping_add(label.wrapping_mul(1 << 20))
 }
 
-/// The words, those of each node in 64 bits.
-fn compact_words(alloc: Global, words: &[u64]) -> Result<BoxedSlice<u64>, AllocError>
-    ensures { IfOk result (λ nodes. boxed_slice_items nodes ≡ packed_nodes words.now) }
+/// Three halves in a word, where each has at most 21 bits.
+#[inline(always)]
+#[tactic(auto, unfolding(crate::specs::Forms::three_halves))]
+fn join_halves(head: u64, span: u64, label: u64) -> u64
+    ensures { result ≡ three_halves head span label }
+{
+    head.wrapping_add(span.wrapping_mul(1 << 21))
+        .wrapping_add(label.wrapping_mul(1 << 42))
+}
+
+/// Appends the nodes of these words, three to a node, each in one word.
+fn append_compact(words: &[u64], tapes: &mut Vec<u64>) -> Result<(), AllocError>
+    ensures added { OnOk result (tapes.new.items ≡ tapes.old.items ++ nodes_by in_one words.now) }
+    ensures same { OnErr result (tapes.new.items ≡ tapes.old.items) }
 {
     let count = words.len() / 3;
-    let mut nodes = Vec::with_capacity(alloc, count)?;
+    tapes.reserve(count)?;
     for place in 0..count {
-        nodes.push_reserved(pack(words[3 * place], words[3 * place + 1], words[3 * place + 2]));
+        let node = compact(words[3 * place], words[3 * place + 1], words[3 * place + 2]);
+        tapes.push_reserved(node);
     }
-    Ok(nodes.into_boxed_slice())
+    Ok(())
 }
 
-/// The halves of all words of a line have at most 16 bits where its bytes are fewer than this.
-const NARROW: usize = 1 << 16;
-
-/// The low 16 bits of each half of a word, in 32 bits.
-#[inline(always)]
-#[tactic(auto, unfolding(crate::specs::Forms::narrowed))]
-fn narrow(word: u64) -> u32
-    ensures { result ≡ narrowed word }
+/// Appends the nodes of these words, three to a node, each in two words.
+fn append_medium(words: &[u64], tapes: &mut Vec<u64>) -> Result<(), AllocError>
+    ensures added { OnOk result (tapes.new.items ≡ tapes.old.items ++ nodes_by in_two words.now) }
+    ensures same { OnErr result (tapes.new.items ≡ tapes.old.items) }
 {
-    ((word >> 32) % (1 << 16) * (1 << 16) + word % (1 << 16)) as u32
+    let count = words.len() / 3;
+    tapes.reserve(2 * count)?;
+    for place in 0..count {
+        let (head, span, label) = (words[3 * place], words[3 * place + 1], words[3 * place + 2]);
+        let highs = join_halves(head >> 32, span >> 32, label >> 32);
+        let lows = join_halves(head % (1 << 32), span % (1 << 32), label % (1 << 32));
+        tapes.push_reserved(highs);
+        tapes.push_reserved(lows);
+    }
+    Ok(())
 }
 
-/// The words, each in 32 bits.
-fn narrow_words(alloc: Global, words: &[u64]) -> Result<BoxedSlice<u32>, AllocError>
-    ensures { IfOk result (λ packed. boxed_slice_items packed ≡ map narrowed words.now) }
+/// Appends words as they are. The first of all are handed over with their memory.
+fn append_wide(words: &mut Vec<u64>, tapes: &mut Vec<u64>) -> Result<(), AllocError>
+    ensures added { OnOk result (tapes.new.items ≡ tapes.old.items ++ words.old.items) }
+    ensures same { OnErr result (tapes.new.items ≡ tapes.old.items) }
 {
-    let mut packed = Vec::with_capacity(alloc, words.len())?;
-    packed.extend(words.iter().map(|word| narrow(*word)))?;
-    Ok(packed.into_boxed_slice())
+    if tapes.is_empty() {
+        std::mem::swap(words, tapes);
+        return Ok(());
+    }
+    tapes.extend_from_slice(words)
 }
-
-/// So many words of a tape, those of 16,384 nodes, are copied, and more are handed over with their memory.
-const MOST_COPIED: usize = 3 << 14;
 
 impl<'a> Builder<'a> {
-    /// The words of the line that was read, in memory of their own. Those of a short line are compact or narrow.
-    fn tape_words(&mut self, alloc: Global, line: &[u8]) -> Result<Words, AllocError>
-        requires { (t : Tree) × Text line.now t × (self.old.words.items ≡ tape_words t) }
-        ensures { IfOk result (λ words. words_of words ≡ self.old.words.items) }
+    /// Appends the words of the line that was read, with so many bits to a half.
+    fn append_words(&mut self, bits: u32, tapes: &mut Vec<u64>) -> Result<(), AllocError>
+        ensures added { OnOk result (tapes.new.items ≡ tapes.old.items ++ packed bits self.old.words.items) }
+        ensures same { OnErr result (tapes.new.items ≡ tapes.old.items) }
     {
-        if line.len() < COMPACT {
-            return Ok(Words::Compact(compact_words(alloc, &self.words)?));
+        if bits == COMPACT {
+            append_compact(&self.words, tapes)
+        } else if bits == MEDIUM {
+            append_medium(&self.words, tapes)
+        } else {
+            append_wide(&mut self.words, tapes)
         }
-        if line.len() < NARROW {
-            return Ok(Words::Narrow(narrow_words(alloc, &self.words)?));
-        }
-        if self.words.len() <= MOST_COPIED {
-            return Ok(Words::Wide(BoxedSlice::from_slice(alloc, &self.words)?));
-        }
-        let words = std::mem::replace(&mut self.words, Vec::new(alloc));
-        Ok(Words::Wide(words.into_boxed_slice()))
     }
 
-    /// The tape of a line, or the line's first fault, as the function `build` gives them. The tape has memory of its own, and
-    /// that of a short line no more than its words need; the walk over the line has the memory of the lines before, which it
-    /// forgets.
-    pub fn build(
+    /// Reads a line, or finds its first fault. The words are then those of the line's tape.
+    fn read(
         &mut self,
-        alloc: Global,
         line: &'a [u8],
         marks: &'a [u32],
         is_utf8: bool,
         framing: Framing,
-    ) -> Result<Tape, BuildFault>
+    ) -> Result<(), BuildFault>
         requires not_blank { is_blank line.now ≡ false }
         requires room { length line.now < 2 ^ 32 }
         requires marks { marks.now ≡ marks_of line.now }
         requires verdict { IsTrue is_utf8 ↔ IsUtf8 line.now }
-        ensures tree { IfOk result (λ tape. (t : Tree) × HasStatus framing line.now (parsed t) × (tape ≡ tape_words t)) }
-        ensures only { IfOk result (λ tape. (t : Tree) → Text line.now t → tape ≡ tape_words t) }
-        ensures made { IfOk result (λ tape. IsTapeOf tape line.now) }
+        ensures status { OnOk result (HasStatus framing line.now (parsed (spelled line.now))) }
+        ensures made { OnOk result (IsTapeOf self.new.words.items line.now) }
         ensures fault { IfErr result (λ fault. IsRefused framing line.now fault) }
     {
         if !is_utf8 {
@@ -169,10 +172,39 @@ impl<'a> Builder<'a> {
         walk(self, line, marks)?;
         match fault_of(self, line, framing) {
             Some(fault) => Err(BuildFault::Line(fault)),
-            None => match self.tape_words(alloc, line) {
-                Ok(words) => Ok(Tape { words }),
-                Err(_) => Err(BuildFault::Memory),
-            },
+            None => Ok(()),
+        }
+    }
+
+    /// Appends the tape of a line to those of other lines, and answers how many nodes it has. The walk over the line has the
+    /// memory of the lines before, which it forgets.
+    ///
+    /// # Errors
+    ///
+    /// The line's first fault, as the function `build` gives it, or out of memory. Then nothing is appended.
+    pub fn append(
+        &mut self,
+        line: &'a [u8],
+        marks: &'a [u32],
+        is_utf8: bool,
+        framing: Framing,
+        tapes: &mut Vec<u64>,
+    ) -> Result<u32, BuildFault>
+        requires not_blank { is_blank line.now ≡ false }
+        requires room { length line.now < 2 ^ 32 }
+        requires marks { marks.now ≡ marks_of line.now }
+        requires verdict { IsTrue is_utf8 ↔ IsUtf8 line.now }
+        ensures status { OnOk result (HasStatus framing line.now (parsed (spelled line.now))) }
+        ensures tape { IfOk result (λ nodes. IsAmong tapes.new.items (length tapes.old.items) nodes line.now) }
+        ensures more { OnOk result ((words : List ℕ) × (tapes.new.items ≡ tapes.old.items ++ words)) }
+        ensures fault { IfErr result (λ fault. IsRefused framing line.now fault) }
+        ensures same { OnErr result (tapes.new.items ≡ tapes.old.items) }
+    {
+        self.read(line, marks, is_utf8, framing)?;
+        let nodes = (self.words.len() / 3) as u32;
+        match self.append_words(half_bits(line), tapes) {
+            Ok(()) => Ok(nodes),
+            Err(_) => Err(BuildFault::Memory),
         }
     }
 }
@@ -202,5 +234,11 @@ pub fn build(
     ensures fault { IfErr result (λ fault. IsRefused framing line.now fault) }
 {
     let mut builder = Builder::new(alloc);
-    builder.build(alloc, line, marks, is_utf8, framing)
+    builder.read(line, marks, is_utf8, framing)?;
+    let bits = half_bits(line);
+    let mut words = Vec::new(alloc);
+    match builder.append_words(bits, &mut words) {
+        Ok(()) => Ok(Tape { words, bits }),
+        Err(_) => Err(BuildFault::Memory),
+    }
 }

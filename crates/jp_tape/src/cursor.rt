@@ -11,29 +11,29 @@ ghost use Rattle.jp_model.specs.Rows.{source as source_of};
 ghost use Rattle.jp_strings.specs.Points.{IsText, points_of};
 ghost use Rattle.jp_tape.specs.Kinds.{kind_of, kind_by};
 ghost use Rattle.jp_tape.specs.Contents.{text_in, number_in};
-ghost use Rattle.jp_tape.specs.Forms.{joined};
+ghost use Rattle.jp_tape.specs.Forms.{joined, words_in, IsPackedTapeOf};
 ghost use Rattle.jp_tape.specs.Spots.{children_in, last_step, name_points};
 ghost use Rattle.jp_tape.specs.Tapes.{is_spelled, spelled, IsTapeOf};
 ghost use Rattle.jp_model.specs.declared.Span.{Span};
 ghost use Rattle.jp_tape.specs.Words.{node_count, tape_words, nodes_below, head_word, span_word, label_word, kind_code};
 
 use crate::Kind;
-use crate::tape::{Tape, Word};
+use crate::tape::{Tape, half_bits, has_node, word_at};
+use crate::word::Word;
 use jp_decimal::Decimal;
 use jp_model::Span;
 
 /// A node of a line (RFC 9535, section 1.1): a place in the line's tape. It is copied freely and owns nothing.
 #[derive(Clone, Copy)]
 pub struct Cursor<'a> {
-    tape: &'a Tape,
-    /// How many words the tape has.
-    len: usize,
+    words: &'a [u64],
     line: &'a [u8],
+    /// How many bits each half of a word has. It has four bytes, so that it is copied together with the place.
+    bits: u32,
     // It comes last: what is copied sixteen bytes at a time is then not what was just written.
     place: u32,
     ghost spelled_line: { is_spelled line.now ≡ true },
-    ghost words_are: { tape.now ≡ tape_words (spelled line.now) },
-    ghost len_is: { len ≡ length tape.now },
+    ghost words_are: { words_in bits words.now ≡ tape_words (spelled line.now) },
     ghost short: { length line.now < 2 ^ 32 },
     ghost whole: { has_surrogate (spelled line.now) ≡ false },
     ghost exponents: { has_long_exponent line.now (spelled line.now) ≡ false },
@@ -80,9 +80,25 @@ impl<'a> Cursor<'a> {
         ensures node { node_of result ≡ root_node (spelled line.now) }
     {
         Cursor {
-            tape,
-            len: tape.len(),
+            words: &tape.words,
             line,
+            bits: tape.bits,
+            place: 0,
+        }
+    }
+
+    /// The root node of a line whose tape a builder has appended to others: these words of them.
+    #[inline(always)]
+    pub fn of_words(words: &'a [u64], line: &'a [u8]) -> Cursor<'a>
+        requires { IsPackedTapeOf words.now line.now }
+        ensures line { line_of result ≡ line.now }
+        ensures place { place_of result ≡ 0 }
+        ensures node { node_of result ≡ root_node (spelled line.now) }
+    {
+        Cursor {
+            words,
+            line,
+            bits: half_bits(line),
             place: 0,
         }
     }
@@ -106,9 +122,9 @@ impl<'a> Cursor<'a> {
         ensures node { slice_get (subtree (root_node (root_of self.entry))) place ≡ Some (node_of result) }
     {
         Cursor {
-            tape: self.tape,
-            len: self.len,
+            words: self.words,
             line: self.line,
+            bits: self.bits,
             place,
         }
     }
@@ -199,7 +215,7 @@ impl<'a> Cursor<'a> {
         ensures place { IfSome result (λ c. place_of c ≡ place_of self.entry + length (subtree (node_of self.entry))) }
     {
         let place = self.after();
-        if self.len <= 3 * place as usize {
+        if !has_node(self.words, self.bits, place as usize) {
             return None;
         }
         let next = self.go_to(place);
@@ -346,7 +362,7 @@ impl<'a> Cursor<'a> {
         ensures below { nodes_below (value_of (node_of self.entry).tree) < 2 ^ 31 }
         ensures parent { up_of self.entry < 2 ^ 31 }
     {
-        self.tape.head(self.place as usize)
+        word_at(self.words, self.bits, self.place as usize, 0)
     }
 
     /// The second word: where the value is.
@@ -354,7 +370,7 @@ impl<'a> Cursor<'a> {
     fn body(self) -> Word
         ensures { joined result ≡ span_word (span_of (node_of self.entry).tree) }
     {
-        self.tape.span(self.place as usize)
+        word_at(self.words, self.bits, self.place as usize, 1)
     }
 
     /// The third word: where the body of the name is, or the index of a node that has no name.
@@ -363,6 +379,6 @@ impl<'a> Cursor<'a> {
         ensures word { joined result ≡ label_word (index_of self.entry) (name_of self.entry) }
         ensures index { index_of self.entry < 2 ^ 32 }
     {
-        self.tape.label(self.place as usize)
+        word_at(self.words, self.bits, self.place as usize, 2)
     }
 }

@@ -14,10 +14,11 @@ mod cursor;
 mod tape;
 #[cfg(test)]
 mod tests;
+mod word;
 
 pub use builder::{BuildFault, Builder, build};
 pub use cursor::Cursor;
-pub use tape::{Tape, tapes_are_of_lines};
+pub use tape::{Tape, packed_words, tapes_are_kept, tapes_are_of_lines};
 
 /// What kind of value a node is (RFC 8259, section 3).
 #[derive(Clone, Copy, Debug, PartialEq, Eq)]

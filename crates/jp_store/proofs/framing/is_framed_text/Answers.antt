@@ -8,7 +8,7 @@ pub returns-in-Some : goal.returns-in-Some
 returns-in-Some c =
     let bytes = c.args.bytes.now in
     c.is_blank.ensures
-    ∙ framed_at bytes _ c.in-Some.place c.separator.result c.without_byte_order_mark-text.ensures (c.separator.ensures ∙ ap separator_of c.in-Sequence.is) c.in-Some.ensures
+    ∙ framed_at bytes _ c.in-Some.position c.separator.result c.without_byte_order_mark-text.ensures (c.separator.ensures ∙ ap separator_of c.in-Sequence.is) c.in-Some.ensures
     ∙ ap (λ f. is_framed f bytes) (sym c.in-Sequence.is)
 
 pub returns-in-None : goal.returns-in-None

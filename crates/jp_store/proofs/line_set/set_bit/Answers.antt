@@ -10,19 +10,19 @@ use Rattle.jp_store.proofs.line_set.set_bit.Goals as goal
 pub returns-then-is_set-clause-bits : goal.returns-then-is_set-clause-bits
 returns-then-is_set-clause-bits c =
     let words = c.args.words.now.items in
-    let place = c.args.place in
-    let word = get_or words (place / 64) 0 in
-    let is : c.index_mut.result.now ≡ word = c.index_mut.ensures.value ∙ get_or_default words (place / 64) c.index_mut.result.now 0 (omega (arith, c.requires)) in
-    ap (λ w. bits_of (set words (place / 64) (bit_or w (1 * 2 ^ (place % 64) % 2 ^ 64)))) is
-    ∙ (bits_set words place (bit_or word (1 * 2 ^ (place % 64) % 2 ^ 64)) 1 c.requires (bit_at_set_same w64 word (place % 64) (omega arith)) (λ j l n. bit_at_set_other w64 word (place % 64) (omega arith) j n)
-    ∙ ap (λ b. set (bits_of words) place (cond b 1 0)) (sym c.if-is_set.true))
+    let position = c.args.position in
+    let word = get_or words (position / 64) 0 in
+    let is : c.index_mut.result.now ≡ word = c.index_mut.ensures.value ∙ get_or_default words (position / 64) c.index_mut.result.now 0 (omega (arith, c.requires)) in
+    ap (λ w. bits_of (set words (position / 64) (bit_or w (1 * 2 ^ (position % 64) % 2 ^ 64)))) is
+    ∙ (bits_set words position (bit_or word (1 * 2 ^ (position % 64) % 2 ^ 64)) 1 c.requires (bit_at_set_same w64 word (position % 64) (omega arith)) (λ j l n. bit_at_set_other w64 word (position % 64) (omega arith) j n)
+    ∙ ap (λ b. set (bits_of words) position (cond b 1 0)) (sym c.if-is_set.true))
 
 pub returns-else-is_set-clause-bits : goal.returns-else-is_set-clause-bits
 returns-else-is_set-clause-bits c =
     let words = c.args.words.now.items in
-    let place = c.args.place in
-    let word = get_or words (place / 64) 0 in
-    let is : c.index_mut-else-is_set.result.now ≡ word = c.index_mut-else-is_set.ensures.value ∙ get_or_default words (place / 64) c.index_mut-else-is_set.result.now 0 (omega (arith, c.requires)) in
-    ap (λ w. bits_of (set words (place / 64) (bit_and w (bit_not w64 (1 * 2 ^ (place % 64) % 2 ^ 64))))) is
-    ∙ (bits_set words place (bit_and word (bit_not w64 (1 * 2 ^ (place % 64) % 2 ^ 64))) 0 c.requires (bit_at_clear_same w64 word (place % 64) (omega arith)) (λ j l n. bit_at_clear_other w64 word (place % 64) (omega arith) j l n)
-    ∙ ap (λ b. set (bits_of words) place (cond b 1 0)) (sym c.if-is_set.false))
+    let position = c.args.position in
+    let word = get_or words (position / 64) 0 in
+    let is : c.index_mut-else-is_set.result.now ≡ word = c.index_mut-else-is_set.ensures.value ∙ get_or_default words (position / 64) c.index_mut-else-is_set.result.now 0 (omega (arith, c.requires)) in
+    ap (λ w. bits_of (set words (position / 64) (bit_and w (bit_not w64 (1 * 2 ^ (position % 64) % 2 ^ 64))))) is
+    ∙ (bits_set words position (bit_and word (bit_not w64 (1 * 2 ^ (position % 64) % 2 ^ 64))) 0 c.requires (bit_at_clear_same w64 word (position % 64) (omega arith)) (λ j l n. bit_at_clear_other w64 word (position % 64) (omega arith) j l n)
+    ∙ ap (λ b. set (bits_of words) position (cond b 1 0)) (sym c.if-is_set.false))

@@ -13,17 +13,17 @@ pub returns-in-Lines-clause-parted : goal.returns-in-Lines-clause-parted
 returns-in-Lines-clause-parted c =
     let text = c.args.text.now in
     let least = c.min-least.result in
-    let place = c.in-Some.place in
-    subst (IsParted text (least + place + 1)) (sym c.in-Lines.is)
-    (parted_lines text least place c.separator.result (omega (arith, c.min-least.ensures)) c.in-Some.ensures (c.separator.ensures ∙ ap separator_of c.in-Lines.is))
+    let position = c.in-Some.position in
+    subst (IsParted text (least + position + 1)) (sym c.in-Lines.is)
+    (parted_lines text least position c.separator.result (omega (arith, c.min-least.ensures)) c.in-Some.ensures (c.separator.ensures ∙ ap separator_of c.in-Lines.is))
 
 pub returns-in-Sequence-clause-parted : goal.returns-in-Sequence-clause-parted
 returns-in-Sequence-clause-parted c =
     let text = c.args.text.now in
     let least = c.min-least.result in
-    let place = c.in-Some.place in
-    subst (IsParted text (least + place)) (sym c.in-Sequence.is)
-    (parted_sequence text least place c.separator.result (omega (arith, c.min-least.ensures)) c.in-Some.ensures (c.separator.ensures ∙ ap separator_of c.in-Sequence.is))
+    let position = c.in-Some.position in
+    subst (IsParted text (least + position)) (sym c.in-Sequence.is)
+    (parted_sequence text least position c.separator.result (omega (arith, c.min-least.ensures)) c.in-Some.ensures (c.separator.ensures ∙ ap separator_of c.in-Sequence.is))
 
 pub returns-in-None-clause-parted : goal.returns-in-None-clause-parted
 returns-in-None-clause-parted c = parted_nowhere c.args.framing c.args.text.now

@@ -1,5 +1,5 @@
 -- What follows the mark begins where the mark ends.
-use Rattle.std.proofs.Common.{◌≡◌, ◌-◌, ◌∙◌, length, drop, ap, arith}
+use Rattle.std.proofs.Common.{◌-◌, ◌∙◌, length, drop, ap, arith}
 use Rattle.jp_store.proofs.Sizes.{behind_mark, mark_shorter}
 use Rattle.jp_store.proofs.loading.lines_start.Goals as goal
 

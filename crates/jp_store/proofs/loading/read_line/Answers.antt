@@ -1,8 +1,8 @@
 -- The line stands where it was found, with its marks.
-use Rattle.std.proofs.Common.{◌∙◌, ap, subst, arith}
+use Rattle.std.proofs.Common.{◌≡◌, ◌∙◌, ap, subst, arith, length}
 use Rattle.std.specs.Prelude.{Some}
 use Rattle.jp_model.specs.Json.Places.{bytes_between}
-use Rattle.jp_store.specs.Stored.{IsOfKind}
+use Rattle.jp_store.specs.Stored.{IsTold, IsTapeAmong}
 use Rattle.jp_store.proofs.LinesRead.{found_bytes, found_marks, line_within, line_text}
 use Rattle.jp_store.proofs.loading.read_line.Goals as goal
 
@@ -38,8 +38,14 @@ returns-clause-read c =
     let text = bytes_between c.args.bytes.now c.args.piece.start c.args.piece.end in
     let law = c.lines_are_those_of_the_text.ensures.within c.args.framing text in
     let within = line_within c.args.framing c.args.bytes.now c.args.piece.start c.args.piece.end _ c.args.index _ c.requires.all.lines c.line-line.ensures law c.requires.order c.requires.last in
+    let same = line_text c.args.framing c.args.bytes.now c.args.piece.start c.args.piece.end _ c.args.index _ c.requires.all.lines c.line-line.ensures law c.requires.order c.requires.last in
+    let status = c.in_ok-judged.judged.status in
+    let nodes = c.in_ok-judged.judged.nodes in
+    let own = bytes_between text c.line-line.result.span.start c.line-line.result.span.end in
+    let start : length c.args.tapes.now.items ≡ c.len-tape.result = omega (arith, c.len-tape.ensures, c.args.tapes.now.ok) in
     record {
       within = (omega (arith, within), omega (arith, within, c.requires.last));
-      kind = subst (IsOfKind c.args.framing c.in_ok-kind.kind)
-          (line_text c.args.framing c.args.bytes.now c.args.piece.start c.args.piece.end _ c.args.index _ c.requires.all.lines c.line-line.ensures law c.requires.order c.requires.last) c.in_ok-kind.ensures;
+      told = subst (IsTold c.args.framing status) same c.in_ok-judged.ensures.judged.0;
+      tape = subst (IsTapeAmong status c.judge.new.tapes.items c.len-tape.result nodes) same
+          (subst (λ start. IsTapeAmong status c.judge.new.tapes.items start nodes own) start c.in_ok-judged.ensures.judged.1);
     }

@@ -15,7 +15,7 @@ loop-start-init c =
     let none = c.new-all.ensures.items in
     record {
       came = ap (λ (ls : List Line). map (stored_text bytes) ls ++ lines_in framing (drop c.lines_start-start.result bytes)) none ∙ all_lines framing bytes c.lines_start-start.result c.lines_start-start.ensures.rest;
-      read = subst (λ (ls : List Line). All (IsRead framing bytes) ls) (sym none) (λ k d l. absurd (omega arith));
+      read = subst (λ (ls : List Line). All (IsRead framing bytes c.new-tapes.result.items) ls) (sym none) (λ k d l. absurd (omega arith));
       within = c.lines_start-start.ensures.within;
     }
 

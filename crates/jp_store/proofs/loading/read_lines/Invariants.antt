@@ -8,7 +8,7 @@ use Rattle.jp_store.proofs.loading.read_lines.Given as goal
 abbrev pub invariant-loop-start : goal.invariant-loop-start
 invariant-loop-start l = record {
   came : map (stored_text l.bytes) l.all.items ++ lines_in l.framing (drop l.start l.bytes) ≡ lines l.framing l.bytes;
-  read : All (IsRead l.framing l.bytes) l.all.items;
+  read : All (IsRead l.framing l.bytes l.tapes.items) l.all.items;
   within : l.start ≤ length l.bytes;
 }
 

@@ -8,5 +8,5 @@ use Rattle.jp_store.proofs.loading.read_piece.Given as goal
 abbrev pub invariant-loop-index : goal.invariant-loop-index
 invariant-loop-index l = record {
   came : map (stored_text l.bytes) l.lines.items ≡ map (stored_text l.bytes) l.fn.lines.items ++ take l.index (lines_in l.framing (bytes_between l.bytes l.piece.start l.piece.end));
-  read : All (IsRead l.framing l.bytes) l.fn.lines.items → All (IsRead l.framing l.bytes) l.lines.items;
+  read : All (IsRead l.framing l.bytes l.fn.tapes.items) l.fn.lines.items → All (IsRead l.framing l.bytes l.tapes.items) l.lines.items;
 }

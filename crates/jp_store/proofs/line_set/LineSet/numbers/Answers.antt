@@ -6,36 +6,36 @@ use Rattle.jp_store.specs.LineSets.{bit_of, bits_of}
 use Rattle.jp_store.proofs.SetBits.{is_set, length_bits, number_more, numbers_skip}
 use Rattle.jp_store.proofs.line_set.LineSet.numbers.Goals as goal
 
-pub loop-place-init : goal.loop-place-init
-loop-place-init c =
+pub loop-position-init : goal.loop-position-init
+loop-position-init c =
     let words = c.args.self.now.words.items in
     let held = c.args.self.now.words.ok.0 in
-    let place = c.next_place-place.result in
-    let most : place ≤ 64 * length words = subst (λ ws. place ≤ 64 * length ws) c.deref.ensures.value c.next_place-place.ensures.within in
+    let position = c.next_position-position.result in
+    let most : position ≤ 64 * length words = subst (λ ws. position ≤ 64 * length ws) c.deref.ensures.value c.next_position-position.ensures.within in
     record {
       within = omega (arith, c.len-end.ensures);
-      there = λ l. subst (λ ws. place < 64 * length ws → bit_of ws place ≡ 1) c.deref.ensures.value c.next_place-place.ensures.there (omega (arith, c.len-end.ensures));
-      numbers = c.new-numbers.ensures.items ∙ sym (numbers_skip words 0 place (omega arith) most (subst (λ ws. (k : ℕ) → 0 ≤ k → k < place → bit_of ws k ≡ 0) c.deref.ensures.value c.next_place-place.ensures.between));
+      there = λ l. subst (λ ws. position < 64 * length ws → bit_of ws position ≡ 1) c.deref.ensures.value c.next_position-position.ensures.there (omega (arith, c.len-end.ensures));
+      numbers = c.new-numbers.ensures.items ∙ sym (numbers_skip words 0 position (omega arith) most (subst (λ ws. (k : ℕ) → 0 ≤ k → k < position → bit_of ws k ≡ 0) c.deref.ensures.value c.next_position-position.ensures.between));
     }
 
-pub loop-place-preserved : goal.loop-place-preserved
-loop-place-preserved c =
+pub loop-position-preserved : goal.loop-position-preserved
+loop-position-preserved c =
     let words = c.args.self.now.words.items in
     let held = c.args.self.now.words.ok.0 in
-    let place = c.loop-place.place in
-    let next = c.next_place-place-in-loop-place.result in
-    let same = c.deref-in-loop-place.ensures.value in
-    let most : next ≤ 64 * length words = subst (λ ws. next ≤ 64 * length ws) same c.next_place-place-in-loop-place.ensures.within in
-    let more = number_more words place (omega (arith, c.len-end.ensures, c.loop-place-test.true)) (c.loop-place.invariant.there c.loop-place-test.true) in
+    let position = c.loop-position.position in
+    let next = c.next_position-position-in-loop-position.result in
+    let same = c.deref-in-loop-position.ensures.value in
+    let most : next ≤ 64 * length words = subst (λ ws. next ≤ 64 * length ws) same c.next_position-position-in-loop-position.ensures.within in
+    let more = number_more words position (omega (arith, c.len-end.ensures, c.loop-position-test.true)) (c.loop-position.invariant.there c.loop-position-test.true) in
     record {
       within = omega (arith, c.len-end.ensures);
-      there = λ l. subst (λ ws. next < 64 * length ws → bit_of ws next ≡ 1) same c.next_place-place-in-loop-place.ensures.there (omega (arith, c.len-end.ensures));
-      numbers = c.in_ok-push.ensures.items ∙ (ap (λ ns. ns ++ place ∷ []) c.loop-place.invariant.numbers
-          ∙ (sym more ∙ sym (numbers_skip words (place + 1) next c.next_place-place-in-loop-place.ensures.from most (subst (λ ws. (k : ℕ) → place + 1 ≤ k → k < next → bit_of ws k ≡ 0) same c.next_place-place-in-loop-place.ensures.between))));
+      there = λ l. subst (λ ws. next < 64 * length ws → bit_of ws next ≡ 1) same c.next_position-position-in-loop-position.ensures.there (omega (arith, c.len-end.ensures));
+      numbers = c.in_ok-push.ensures.items ∙ (ap (λ ns. ns ++ position ∷ []) c.loop-position.invariant.numbers
+          ∙ (sym more ∙ sym (numbers_skip words (position + 1) next c.next_position-position-in-loop-position.ensures.from most (subst (λ ws. (k : ℕ) → position + 1 ≤ k → k < next → bit_of ws k ≡ 0) same c.next_position-position-in-loop-position.ensures.between))));
     }
 
 pub returns : goal.returns
 returns c =
     let l = length_bits c.args.self.now.words.items in
     let n = c.args.self.now.words.ok.0 in
-    c.loop-place.invariant.numbers ∙ ap (numbers_where is_set 0) (take_all c.loop-place.place (bits_of c.args.self.now.words.items) (omega (arith, c.loop-place-test.false, c.len-end.ensures)))
+    c.loop-position.invariant.numbers ∙ ap (numbers_where is_set 0) (take_all c.loop-position.position (bits_of c.args.self.now.words.items) (omega (arith, c.loop-position-test.false, c.len-end.ensures)))

@@ -1,16 +1,16 @@
--- The numbers in front of a place whose bit is set, or of all.
+-- The numbers in front of a position whose bit is set, or of all.
 use Rattle.std.proofs.Common.{◌≡◌, ◌-◌, ◌<◌, ◌≤◌, take}
 use Rattle.jp_model.specs.Numbered.{numbers_where}
 use Rattle.jp_store.specs.LineSets.{bit_of, bits_of}
 use Rattle.jp_store.proofs.SetBits.{is_set}
 use Rattle.jp_store.proofs.line_set.LineSet.numbers.Given as goal
 
-abbrev pub invariant-loop-place : goal.invariant-loop-place
-invariant-loop-place l = record {
-  within : l.place ≤ l.end;
-  there : l.place < l.end → bit_of l.self.words.items l.place ≡ 1;
-  numbers : l.numbers.items ≡ numbers_where is_set 0 (take l.place (bits_of l.self.words.items));
+abbrev pub invariant-loop-position : goal.invariant-loop-position
+invariant-loop-position l = record {
+  within : l.position ≤ l.end;
+  there : l.position < l.end → bit_of l.self.words.items l.position ≡ 1;
+  numbers : l.numbers.items ≡ numbers_where is_set 0 (take l.position (bits_of l.self.words.items));
 }
 
-abbrev pub decreases-loop-place : goal.decreases-loop-place
-decreases-loop-place l = l.end - l.place
+abbrev pub decreases-loop-position : goal.decreases-loop-position
+decreases-loop-position l = l.end - l.position

@@ -18,7 +18,7 @@ use Rattle.jp_store.proofs.store.Store.add_index.Goals as goal
 pub build_index-requires-clause-read : goal.build_index-requires-clause-read
 build_index-requires-clause-read c =
     let s = c.self.inside in
-    (s.framing, subst (λ lines. All (IsRead s.framing c.deref-2.result.now) lines) (sym c.deref-3.ensures.value) (subst (λ bytes. All (IsRead s.framing bytes) s.lines.items) (sym c.deref-2.ensures.value) c.self.invariant.each))
+    (s.framing, subst (λ lines. All (IsRead s.framing c.deref-2.result.now c.deref-3.result.now) lines) (sym c.deref-4.ensures.value) (subst (λ bytes. All (IsRead s.framing bytes c.deref-3.result.now) s.lines.items) (sym c.deref-2.ensures.value) (subst (λ tapes. All (IsRead s.framing s.bytes.items tapes) s.lines.items) (sym c.deref-3.ensures.value) c.self.invariant.each)))
 
 pub returns : goal.returns
 returns c =
@@ -26,11 +26,11 @@ returns c =
     let p : List Step = path_steps c.args.path in
     let old : Collection = c.args.self.now in
     let ss : List LineStatus = statuses s.framing (map (stored_text s.bytes.items) s.lines.items) in
-    let each = subst (λ lines. All (IsRead s.framing c.deref-2.result.now) lines) (sym c.deref-3.ensures.value) (subst (λ bytes. All (IsRead s.framing bytes) s.lines.items) (sym c.deref-2.ensures.value) c.self.invariant.each) in
+    let each = subst (λ lines. All (IsRead s.framing c.deref-2.result.now c.deref-3.result.now) lines) (sym c.deref-4.ensures.value) (subst (λ bytes. All (IsRead s.framing bytes c.deref-3.result.now) s.lines.items) (sym c.deref-2.ensures.value) (subst (λ tapes. All (IsRead s.framing s.bytes.items tapes) s.lines.items) (sym c.deref-3.ensures.value) c.self.invariant.each)) in
     let built = c.in-Ok.ensures s.framing each in
     let is : IsIndexOf c.in-Ok.index p (entries_of p ss) =
-    subst (λ lines. IsIndexOf c.in-Ok.index p (entries_of p (statuses s.framing (map (stored_text s.bytes.items) lines)))) c.deref-3.ensures.value
-    (subst (λ bytes. IsIndexOf c.in-Ok.index p (entries_of p (statuses s.framing (map (stored_text bytes) c.deref-3.result.now)))) c.deref-2.ensures.value built) in
+    subst (λ lines. IsIndexOf c.in-Ok.index p (entries_of p (statuses s.framing (map (stored_text s.bytes.items) lines)))) c.deref-4.ensures.value
+    (subst (λ bytes. IsIndexOf c.in-Ok.index p (entries_of p (statuses s.framing (map (stored_text bytes) c.deref-4.result.now)))) c.deref-2.ensures.value built) in
     let none : has_path p old.state.paths ≡ false =
     ap (λ (v : Collection). has_path p v.state.paths) (sym c.self.view_is) ∙ (ap (λ xs. has_path p (map path_of xs)) (sym c.deref.ensures.value) ∙ (sym c.has_index.ensures ∙ c.if-has_index.false)) in
     let few : length old.state.paths < 16 = omega (arith, c.if-len-ge16.false, c.len.ensures, ap (λ (v : Collection). length v.state.paths) c.self.view_is, length-map s.indexes.items path_of) in (
@@ -46,11 +46,11 @@ invariant_of-self-2 c =
     let s = c.self.inside in
     let p : List Step = path_steps c.args.path in
     let ss : List LineStatus = statuses s.framing (map (stored_text s.bytes.items) s.lines.items) in
-    let each = subst (λ lines. All (IsRead s.framing c.deref-2.result.now) lines) (sym c.deref-3.ensures.value) (subst (λ bytes. All (IsRead s.framing bytes) s.lines.items) (sym c.deref-2.ensures.value) c.self.invariant.each) in
+    let each = subst (λ lines. All (IsRead s.framing c.deref-2.result.now c.deref-3.result.now) lines) (sym c.deref-4.ensures.value) (subst (λ bytes. All (IsRead s.framing bytes c.deref-3.result.now) s.lines.items) (sym c.deref-2.ensures.value) (subst (λ tapes. All (IsRead s.framing s.bytes.items tapes) s.lines.items) (sym c.deref-3.ensures.value) c.self.invariant.each)) in
     let built = c.in-Ok.ensures s.framing each in
     let is : IsIndexOf c.in-Ok.index p (entries_of p ss) =
-    subst (λ lines. IsIndexOf c.in-Ok.index p (entries_of p (statuses s.framing (map (stored_text s.bytes.items) lines)))) c.deref-3.ensures.value
-    (subst (λ bytes. IsIndexOf c.in-Ok.index p (entries_of p (statuses s.framing (map (stored_text bytes) c.deref-3.result.now)))) c.deref-2.ensures.value built) in
+    subst (λ lines. IsIndexOf c.in-Ok.index p (entries_of p (statuses s.framing (map (stored_text s.bytes.items) lines)))) c.deref-4.ensures.value
+    (subst (λ bytes. IsIndexOf c.in-Ok.index p (entries_of p (statuses s.framing (map (stored_text bytes) c.deref-4.result.now)))) c.deref-2.ensures.value built) in
     record {
       each = c.self.invariant.each;
       few = c.self.invariant.few;

@@ -85,8 +85,8 @@ measure-requires-clause-room g c =
 
 pub measure-requires-clause-read : goal.measure-requires-clause-read
 measure-requires-clause-read g c =
-    let read = subst (λ (b : List ℕ). All (IsRead c.args.framing b) c.in-Ok-read_lines.lines.items) (c.deref-2.ensures.value ∙ sym c.deref-3.ensures.value) c.in-Ok-read_lines.ensures.read in
-    (c.args.framing, subst (λ (ls : List Line). All (IsRead c.args.framing c.deref-3.result.now) ls) (sym c.deref-4.ensures.value) read)
+    let read = subst (λ (b : List ℕ). All (IsRead c.args.framing b c.in-Ok-read_lines.tapes.items) c.in-Ok-read_lines.lines.items) (c.deref-2.ensures.value ∙ sym c.deref-3.ensures.value) c.in-Ok-read_lines.ensures.read in
+    (c.args.framing, c.in-Ok-read_lines.tapes.items, subst (λ (ls : List Line). All (IsRead c.args.framing c.deref-3.result.now c.in-Ok-read_lines.tapes.items) ls) (sym c.deref-4.ensures.value) read)
 
 pub invariant_of-result : goal.invariant_of-result
 invariant_of-result g c =
@@ -96,9 +96,9 @@ invariant_of-result g c =
     let came = c.in-Ok.ensures.bytes.2 in
     let told = subst (λ (b : List ℕ). map (stored_text b) stored ≡ lines framing b) c.deref-2.ensures.value c.in-Ok-read_lines.ensures.came in
     let few = few_stored framing bytes stored told (omega (arith, ap length came.0, came.1, c.ranges.most.fits)) in
-    let read = subst (λ (b : List ℕ). All (IsRead framing b) stored) c.deref-2.ensures.value c.in-Ok-read_lines.ensures.read in
-    let seen = subst (λ (ls : List Line). All (IsRead framing c.deref-3.result.now) ls) (sym c.deref-4.ensures.value) (subst (λ (b : List ℕ). All (IsRead framing b) stored) (sym c.deref-3.ensures.value) read) in
-    let counted = c.in-Ok-measure.ensures framing seen in
+    let read = subst (λ (b : List ℕ). All (IsRead framing b c.in-Ok-read_lines.tapes.items) stored) c.deref-2.ensures.value c.in-Ok-read_lines.ensures.read in
+    let seen = subst (λ (ls : List Line). All (IsRead framing c.deref-3.result.now c.in-Ok-read_lines.tapes.items) ls) (sym c.deref-4.ensures.value) (subst (λ (b : List ℕ). All (IsRead framing b c.in-Ok-read_lines.tapes.items) stored) (sym c.deref-3.ensures.value) read) in
+    let counted = c.in-Ok-measure.ensures framing c.in-Ok-read_lines.tapes.items seen in
     record {
       each = read;
       few = few.0;

@@ -6,7 +6,7 @@ use Rattle.jp_store.specs.Collections.{replaced, with_lines}
 use Rattle.jp_store.specs.Edits.{AreEdited}
 use Rattle.jp_store.specs.Faults.{RefusesEdit, replace_fault}
 use Rattle.jp_store.specs.Numbered.{with_number}
-use Rattle.jp_store.specs.Stored.{IsRead, is_refused_kind, is_tree_kind, kind_tree, stored_text, path_of}
+use Rattle.jp_store.specs.Stored.{told_of, IsRead, is_fault_status, is_tree_status, told_tree, stored_text, path_of}
 use Rattle.jp_store.specs.declared.line.Line.{Line}
 use Rattle.jp_store.proofs.Commits.{bit, kept_same, kept_set, trees_least, trees_most}
 use Rattle.jp_store.proofs.Edited.{edited_paths, same_paths}
@@ -22,7 +22,7 @@ overflow_sub-rest c =
     let low : 1 ≤ c.args.n = omega (arith, c.if-n-eq0.false) in
     let high : c.args.n ≤ length s.lines.items = omega (arith, c.if-n-len.false, c.len.ensures) in
     let is = text_is s.bytes.items s.lines.items (c.args.n - 1) c.index-old.result.now c.deref.result.now c.text_of.result.now c.text_of.ensures c.deref.ensures.value c.index-old.ensures in
-    omega (arith, others s.framing s.bytes.items s.lines.items s.counts s.indexes.items c.self.invariant c.args.n low high c.index-old.result.now c.text_of.result.now is)
+    omega (arith, others s.framing s.bytes.items s.tapes.items s.lines.items s.counts s.indexes.items c.self.invariant c.args.n low high c.index-old.result.now c.text_of.result.now is)
 
 pub overflow_sub-rest-2 : goal.overflow_sub-rest-2
 overflow_sub-rest-2 c =
@@ -30,7 +30,7 @@ overflow_sub-rest-2 c =
     let low : 1 ≤ c.args.n = omega (arith, c.if-n-eq0.false) in
     let high : c.args.n ≤ length s.lines.items = omega (arith, c.if-n-len.false, c.len.ensures) in
     let is = text_is s.bytes.items s.lines.items (c.args.n - 1) c.index-old.result.now c.deref.result.now c.text_of.result.now c.text_of.ensures c.deref.ensures.value c.index-old.ensures in
-    omega (arith, others s.framing s.bytes.items s.lines.items s.counts s.indexes.items c.self.invariant c.args.n low high c.index-old.result.now c.text_of.result.now is)
+    omega (arith, others s.framing s.bytes.items s.tapes.items s.lines.items s.counts s.indexes.items c.self.invariant c.args.n low high c.index-old.result.now c.text_of.result.now is)
 
 pub returns-in-Err : goal.returns-in-Err
 returns-in-Err c =
@@ -38,7 +38,7 @@ returns-in-Err c =
     let low : 1 ≤ c.args.n = omega (arith, c.if-n-eq0.false) in
     let high : c.args.n ≤ length s.lines.items = omega (arith, c.if-n-len.false, c.len.ensures) in
     let is = text_is s.bytes.items s.lines.items (c.args.n - 1) c.index-old.result.now c.deref.result.now c.text_of.result.now c.text_of.ensures c.deref.ensures.value c.index-old.ensures in
-    (subst (λ v. RefusesEdit c.in-Err.fault (replace_fault c.args.n c.args.text.now v)) c.self.view_is (something s.framing s.bytes.items s.lines.items s.counts s.indexes.items c.self.invariant c.args.n low high c.index-old.result.now c.text_of.result.now is s.most c.args.text.now (map path_of s.indexes.items) c.in-Err.fault c.in-Err.ensures), refl)
+    (subst (λ v. RefusesEdit c.in-Err.fault (replace_fault c.args.n c.args.text.now v)) c.self.view_is (something s.framing s.bytes.items s.tapes.items s.lines.items s.counts s.indexes.items c.self.invariant c.args.n low high c.index-old.result.now c.text_of.result.now is s.most c.args.text.now (map path_of s.indexes.items) c.in-Err.fault c.in-Err.ensures), refl)
 
 pub returns-in_default : goal.returns-in_default
 returns-in_default c =
@@ -46,7 +46,7 @@ returns-in_default c =
     let low : 1 ≤ c.args.n = omega (arith, c.if-n-eq0.false) in
     let high : c.args.n ≤ length s.lines.items = omega (arith, c.if-n-len.false, c.len.ensures) in
     let is = text_is s.bytes.items s.lines.items (c.args.n - 1) c.index-old.result.now c.deref.result.now c.text_of.result.now c.text_of.ensures c.deref.ensures.value c.index-old.ensures in
-    (subst (λ v. replace_fault c.args.n c.args.text.now v ≡ None) c.self.view_is (nothing s.framing s.bytes.items s.lines.items s.counts s.indexes.items c.self.invariant c.args.n low high c.index-old.result.now c.text_of.result.now is s.most c.args.text.now (map path_of s.indexes.items) c.in-Ok.held c.in-Ok.ensures.0 c.in-Ok.ensures.1 c.in-Ok.ensures.2), refl)
+    (subst (λ v. replace_fault c.args.n c.args.text.now v ≡ None) c.self.view_is (nothing s.framing s.bytes.items s.tapes.items s.lines.items s.counts s.indexes.items c.self.invariant c.args.n low high c.index-old.result.now c.text_of.result.now is s.most c.args.text.now (map path_of s.indexes.items) c.in-Ok.held c.in-Ok.ensures.0 c.in-Ok.ensures.1 c.in-Ok.ensures.2), refl)
 
 pub returns-in_default-reserve : goal.returns-in_default-reserve
 returns-in_default-reserve c =
@@ -54,16 +54,16 @@ returns-in_default-reserve c =
     let low : 1 ≤ c.args.n = omega (arith, c.if-n-eq0.false) in
     let high : c.args.n ≤ length s.lines.items = omega (arith, c.if-n-len.false, c.len.ensures) in
     let is = text_is s.bytes.items s.lines.items (c.args.n - 1) c.index-old.result.now c.deref.result.now c.text_of.result.now c.text_of.ensures c.deref.ensures.value c.index-old.ensures in
-    (subst (λ v. replace_fault c.args.n c.args.text.now v ≡ None) c.self.view_is (nothing s.framing s.bytes.items s.lines.items s.counts s.indexes.items c.self.invariant c.args.n low high c.index-old.result.now c.text_of.result.now is s.most c.args.text.now (map path_of s.indexes.items) c.in-Ok.held c.in-Ok.ensures.0 c.in-Ok.ensures.1 c.in-Ok.ensures.2), c.self.view_is)
+    (subst (λ v. replace_fault c.args.n c.args.text.now v ≡ None) c.self.view_is (nothing s.framing s.bytes.items s.tapes.items s.lines.items s.counts s.indexes.items c.self.invariant c.args.n low high c.index-old.result.now c.text_of.result.now is s.most c.args.text.now (map path_of s.indexes.items) c.in-Ok.held c.in-Ok.ensures.0 c.in-Ok.ensures.1 c.in-Ok.ensures.2), c.self.view_is)
 
 pub root_of_line-root-requires : goal.root_of_line-root-requires
 root_of_line-root-requires c =
-    record { framing = c.self.inside.framing; read = (c.in-Ok-read_edited.ensures c.deref-2.result.now).0 }
+    record { framing = c.self.inside.framing; read = (c.in-Ok-read_edited.ensures c.deref-2.result.now c.deref-3.result.now).0 }
 
 pub invariant_of-self-in_default-edit_indexes : goal.invariant_of-self-in_default-edit_indexes
 invariant_of-self-in_default-edit_indexes c =
     let s = c.self.inside in
-    kept_same s.framing s.bytes.items s.lines.items s.counts c.reserve.new.self s.indexes.items c.edit_indexes.new.indexes.items c.self.invariant c.in-Ok-reserve.ensures.held c.in-Ok-reserve.ensures.trees c.in-Ok-reserve.ensures.refused
+    kept_same s.framing s.bytes.items s.tapes.items s.lines.items s.counts c.reserve.new.self s.indexes.items c.edit_indexes.new.indexes.items c.self.invariant c.in-Ok-reserve.ensures.held c.in-Ok-reserve.ensures.trees c.in-Ok-reserve.ensures.refused
     c.in_default-edit_indexes.ensures.err
 
 pub returns-in_default-edit_indexes : goal.returns-in_default-edit_indexes
@@ -72,7 +72,7 @@ returns-in_default-edit_indexes c =
     let low : 1 ≤ c.args.n = omega (arith, c.if-n-eq0.false) in
     let high : c.args.n ≤ length s.lines.items = omega (arith, c.if-n-len.false, c.len.ensures) in
     let is = text_is s.bytes.items s.lines.items (c.args.n - 1) c.index-old.result.now c.deref.result.now c.text_of.result.now c.text_of.ensures c.deref.ensures.value c.index-old.ensures in (
-      subst (λ v. replace_fault c.args.n c.args.text.now v ≡ None) c.self.view_is (nothing s.framing s.bytes.items s.lines.items s.counts s.indexes.items c.self.invariant c.args.n low high c.index-old.result.now c.text_of.result.now is s.most c.args.text.now (map path_of s.indexes.items) c.in-Ok.held c.in-Ok.ensures.0 c.in-Ok.ensures.1 c.in-Ok.ensures.2),
+      subst (λ v. replace_fault c.args.n c.args.text.now v ≡ None) c.self.view_is (nothing s.framing s.bytes.items s.tapes.items s.lines.items s.counts s.indexes.items c.self.invariant c.args.n low high c.index-old.result.now c.text_of.result.now is s.most c.args.text.now (map path_of s.indexes.items) c.in-Ok.held c.in-Ok.ensures.0 c.in-Ok.ensures.1 c.in-Ok.ensures.2),
       ap (shown s.framing s.most (map (stored_text s.bytes.items) s.lines.items)) (same_paths s.indexes.items c.edit_indexes.new.indexes.items c.in_default-edit_indexes.ensures.err) ∙ c.self.view_is,
     )
 
@@ -81,26 +81,26 @@ change-requires-clause-least c =
     let s = c.self.inside in
     let low : 1 ≤ c.args.n = omega (arith, c.if-n-eq0.false) in
     let high : c.args.n ≤ length s.lines.items = omega (arith, c.if-n-len.false, c.len.ensures) in
-    let had = ap bit (c.is_tree-had_tree.ensures ∙ ap (λ (l : Line). is_tree_kind l.kind) c.index-old.ensures) in
-    omega (arith, trees_least s.framing s.bytes.items s.lines.items (c.args.n - 1) c.index-old.result.now (omega (arith, low, high)) s.counts c.self.invariant.each c.self.invariant.counted, had, c.in-Ok-reserve.ensures.trees)
+    let had = ap bit (c.is_tree-had_tree.ensures ∙ ap (λ (l : Line). is_tree_status (told_of l)) c.index-old.ensures) in
+    omega (arith, trees_least s.framing s.bytes.items s.tapes.items s.lines.items (c.args.n - 1) c.index-old.result.now (omega (arith, low, high)) s.counts c.self.invariant.each c.self.invariant.counted, had, c.in-Ok-reserve.ensures.trees)
 
 pub change-requires-clause-most : goal.change-requires-clause-most
 change-requires-clause-most c =
     let s = c.self.inside in
     let low : 1 ≤ c.args.n = omega (arith, c.if-n-eq0.false) in
     let high : c.args.n ≤ length s.lines.items = omega (arith, c.if-n-len.false, c.len.ensures) in
-    let had = ap bit (c.is_tree-had_tree.ensures ∙ ap (λ (l : Line). is_tree_kind l.kind) c.index-old.ensures) in
-    omega (arith, trees_most s.framing s.bytes.items s.lines.items (c.args.n - 1) c.index-old.result.now (omega (arith, low, high)) s.counts c.self.invariant.each c.self.invariant.counted, had, c.in-Ok-reserve.ensures.trees, c.self.invariant.few)
+    let had = ap bit (c.is_tree-had_tree.ensures ∙ ap (λ (l : Line). is_tree_status (told_of l)) c.index-old.ensures) in
+    omega (arith, trees_most s.framing s.bytes.items s.tapes.items s.lines.items (c.args.n - 1) c.index-old.result.now (omega (arith, low, high)) s.counts c.self.invariant.each c.self.invariant.counted, had, c.in-Ok-reserve.ensures.trees, c.self.invariant.few)
 
-module _ (c : goal.Joined-index_mut-line-2) where
-  read : IsRead c.self.inside.framing c.self.inside.bytes.items c.in-Ok-read_edited.line
-  read = (c.in-Ok-read_edited.ensures c.self.inside.bytes.items).0
+module _ (c : goal.Joined-index_mut-line) where
+  read : IsRead c.self.inside.framing c.self.inside.bytes.items c.self.inside.tapes.items c.in-Ok-read_edited.line
+  read = (c.in-Ok-read_edited.ensures c.self.inside.bytes.items c.self.inside.tapes.items).0
 
   text_now : stored_text c.self.inside.bytes.items c.in-Ok-read_edited.line ≡ c.args.text.now
-  text_now = (c.in-Ok-read_edited.ensures c.self.inside.bytes.items).1
+  text_now = (c.in-Ok-read_edited.ensures c.self.inside.bytes.items c.self.inside.tapes.items).1
 
-  edited : AreEdited c.args.n (kind_tree c.in-Ok-read_edited.line.kind (stored_text c.self.inside.bytes.items c.in-Ok-read_edited.line)) c.self.inside.indexes.items c.edit_indexes.new.indexes.items
-  edited = subst (λ t. AreEdited c.args.n t c.self.inside.indexes.items c.edit_indexes.new.indexes.items) (c.root_of_line-root.ensures ∙ ap (λ b. kind_tree c.in-Ok-read_edited.line.kind (stored_text b c.in-Ok-read_edited.line)) c.deref-2.ensures.value) c.in-Ok-edit_indexes.ensures.ok
+  edited : AreEdited c.args.n (told_tree (told_of c.in-Ok-read_edited.line) (stored_text c.self.inside.bytes.items c.in-Ok-read_edited.line)) c.self.inside.indexes.items c.edit_indexes.new.indexes.items
+  edited = subst (λ t. AreEdited c.args.n t c.self.inside.indexes.items c.edit_indexes.new.indexes.items) (c.root_of_line-root.ensures ∙ ap (λ b. told_tree (told_of c.in-Ok-read_edited.line) (stored_text b c.in-Ok-read_edited.line)) c.deref-2.ensures.value) c.in-Ok-edit_indexes.ensures.ok
 
 pub invariant_of-self-2 : goal.invariant_of-self-2
 invariant_of-self-2 c =
@@ -108,13 +108,13 @@ invariant_of-self-2 c =
     let low : 1 ≤ c.args.n = omega (arith, c.if-n-eq0.false) in
     let high : c.args.n ≤ length s.lines.items = omega (arith, c.if-n-len.false, c.len.ensures) in
     let is = text_is s.bytes.items s.lines.items (c.args.n - 1) c.index-old.result.now c.deref.result.now c.text_of.result.now c.text_of.ensures c.deref.ensures.value c.index-old.ensures in
-    let had = (c.is_tree-had_tree.ensures ∙ ap (λ (l : Line). is_tree_kind l.kind) c.index-old.ensures) in
+    let had = (c.is_tree-had_tree.ensures ∙ ap (λ (l : Line). is_tree_status (told_of l)) c.index-old.ensures) in
     let line = c.in-Ok-read_edited.line in
-    kept_set s.framing s.bytes.items s.lines.items line (read c) c.args.n (c.args.n - 1) c.index-old.result.now (omega (arith, low, high)) (omega (arith, low))
+    kept_set s.framing s.bytes.items s.tapes.items s.lines.items line (read c) c.args.n (c.args.n - 1) c.index-old.result.now (omega (arith, low, high)) (omega (arith, low))
     s.counts c.change.new.self s.indexes.items c.edit_indexes.new.indexes.items c.self.invariant
-    (omega (arith, c.change.ensures.held, c.in-Ok.ensures.0, others s.framing s.bytes.items s.lines.items s.counts s.indexes.items c.self.invariant c.args.n low high c.index-old.result.now c.text_of.result.now is, ap length is, ap length (text_now c)))
+    (omega (arith, c.change.ensures.held, c.in-Ok.ensures.0, others s.framing s.bytes.items s.tapes.items s.lines.items s.counts s.indexes.items c.self.invariant c.args.n low high c.index-old.result.now c.text_of.result.now is, ap length is, ap length (text_now c)))
     (omega (arith, c.change.ensures.trees, c.in-Ok-reserve.ensures.trees, ap bit had))
-    (c.change.ensures.refused ∙ ap (with_number c.args.n (is_refused_kind line.kind)) c.in-Ok-reserve.ensures.refused)
+    (c.change.ensures.refused ∙ ap (with_number c.args.n (is_fault_status (told_of line))) c.in-Ok-reserve.ensures.refused)
     (edited c)
 
 pub returns : goal.returns
@@ -124,8 +124,8 @@ returns c =
     let high : c.args.n ≤ length s.lines.items = omega (arith, c.if-n-len.false, c.len.ensures) in
     let is = text_is s.bytes.items s.lines.items (c.args.n - 1) c.index-old.result.now c.deref.result.now c.text_of.result.now c.text_of.ensures c.deref.ensures.value c.index-old.ensures in
     let line = c.in-Ok-read_edited.line in (
-      subst (λ v. replace_fault c.args.n c.args.text.now v ≡ None) c.self.view_is (nothing s.framing s.bytes.items s.lines.items s.counts s.indexes.items c.self.invariant c.args.n low high c.index-old.result.now c.text_of.result.now is s.most c.args.text.now (map path_of s.indexes.items) c.in-Ok.held c.in-Ok.ensures.0 c.in-Ok.ensures.1 c.in-Ok.ensures.2),
+      subst (λ v. replace_fault c.args.n c.args.text.now v ≡ None) c.self.view_is (nothing s.framing s.bytes.items s.tapes.items s.lines.items s.counts s.indexes.items c.self.invariant c.args.n low high c.index-old.result.now c.text_of.result.now is s.most c.args.text.now (map path_of s.indexes.items) c.in-Ok.held c.in-Ok.ensures.0 c.in-Ok.ensures.1 c.in-Ok.ensures.2),
       ap₂ (shown s.framing s.most) (map-set (stored_text s.bytes.items) s.lines.items (c.args.n - 1) line ∙ ap (set (map (stored_text s.bytes.items) s.lines.items) (c.args.n - 1)) (text_now c))
-          (edited_paths c.args.n (kind_tree line.kind (stored_text s.bytes.items line)) s.indexes.items c.edit_indexes.new.indexes.items (edited c))
+          (edited_paths c.args.n (told_tree (told_of line) (stored_text s.bytes.items line)) s.indexes.items c.edit_indexes.new.indexes.items (edited c))
           ∙ ap (λ v. with_lines (replaced c.args.n c.args.text.now v) v) c.self.view_is,
     )

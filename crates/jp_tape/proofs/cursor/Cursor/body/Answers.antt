@@ -3,10 +3,10 @@ use Rattle.jp_tape.specs.Cursors.{place_of}
 use Rattle.jp_tape.proofs.Cursors.{words_long, span-of}
 use Rattle.jp_tape.proofs.cursor.Cursor.body.Goals as goal
 
-pub span-requires : goal.span-requires
+pub word_at-requires-clause-within : goal.word_at-requires-clause-within
 unfolding place_of
-span-requires c = let l = words_long c.args.self in omega (arith, l)
+word_at-requires-clause-within c = let l = words_long c.args.self in omega (arith, l)
 
 pub returns : goal.returns
 unfolding place_of
-returns c = c.span.ensures ∙ span-of c.args.self _ (omega arith)
+returns c = c.word_at.ensures ∙ span-of c.args.self _ (omega arith)

@@ -9,7 +9,7 @@ pub invariant_of-result : goal.invariant_of-result
 unfolding line_of
 invariant_of-result c =
     let n = length-tree (spelled c.args.self.line.now) in
-    record { spelled_line = c.args.self.spelled_line; words_are = c.args.self.words_are; len_is = c.args.self.len_is; short = c.args.self.short; whole = c.args.self.whole; exponents = c.args.self.exponents; distinct = c.args.self.distinct; within = omega (arith, n) }
+    record { spelled_line = c.args.self.spelled_line; words_are = c.args.self.words_are; short = c.args.self.short; whole = c.args.self.whole; exponents = c.args.self.exponents; distinct = c.args.self.distinct; within = omega (arith, n) }
 
 pub returns : goal.returns
 unfolding line_of place_of

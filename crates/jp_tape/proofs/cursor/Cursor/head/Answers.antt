@@ -3,10 +3,10 @@ use Rattle.jp_tape.specs.Cursors.{place_of}
 use Rattle.jp_tape.proofs.Cursors.{words_long, head-of, below_short, up_short}
 use Rattle.jp_tape.proofs.cursor.Cursor.head.Goals as goal
 
-pub head-requires : goal.head-requires
+pub word_at-requires-clause-within : goal.word_at-requires-clause-within
 unfolding place_of
-head-requires c = let l = words_long c.args.self in omega (arith, l)
+word_at-requires-clause-within c = let l = words_long c.args.self in omega (arith, l)
 
 pub returns : goal.returns
 unfolding place_of
-returns c = record { word = c.head.ensures ∙ head-of c.args.self _ (omega arith); below = below_short c.args.self; parent = up_short c.args.self }
+returns c = record { word = c.word_at.ensures ∙ head-of c.args.self _ (omega arith); below = below_short c.args.self; parent = up_short c.args.self }

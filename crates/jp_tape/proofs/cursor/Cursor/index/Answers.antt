@@ -2,7 +2,7 @@ use Rattle.std.proofs.Common.{◌≡◌, ℕ, ◌+◌, ◌-◌, ◌<◌, ◌∙�
 use Rattle.jp_model.specs.Json.Tree.{value_of, count_children}
 use Rattle.jp_model.specs.Meaning.Nodes.{step_to, children}
 use Rattle.jp_tape.specs.declared.cursor.Cursor.{Cursor}
-use Rattle.jp_tape.specs.declared.tape.Word.{Word}
+use Rattle.jp_tape.specs.declared.word.Word.{Word}
 use Rattle.jp_tape.specs.Forms.{joined}
 use Rattle.jp_tape.specs.Words.{label_word}
 use Rattle.jp_tape.specs.Spots.{children_in, last_step}

@@ -3,10 +3,10 @@ use Rattle.jp_tape.specs.Cursors.{place_of}
 use Rattle.jp_tape.proofs.Cursors.{words_long, label-of, index_short}
 use Rattle.jp_tape.proofs.cursor.Cursor.label.Goals as goal
 
-pub label-requires : goal.label-requires
+pub word_at-requires-clause-within : goal.word_at-requires-clause-within
 unfolding place_of
-label-requires c = let l = words_long c.args.self in omega (arith, l)
+word_at-requires-clause-within c = let l = words_long c.args.self in omega (arith, l)
 
 pub returns : goal.returns
 unfolding place_of
-returns c = record { word = c.label.ensures ∙ label-of c.args.self _ (omega arith); index = index_short c.args.self }
+returns c = record { word = c.word_at.ensures ∙ label-of c.args.self _ (omega arith); index = index_short c.args.self }

@@ -1,24 +1,24 @@
-use Rattle.std.proofs.Common.{◌≡◌, ◌+◌, ◌∙◌, length, sym, arith}
+use Rattle.std.proofs.Common.{◌≡◌, ◌+◌, ◌*◌, ◌<◌, ◌∙◌, length, sym, subst, arith, IsTrue, false}
 use Rattle.jp_model.specs.Meaning.Nodes.{subtree}
 use Rattle.jp_tape.specs.Cursors.{place_of, node_of}
+use Rattle.jp_tape.specs.Forms.{words_in}
 use Rattle.jp_tape.proofs.Cursors.{words_counted, next_sibling, same_parent, other_parent, at_end, no_sibling}
 use Rattle.jp_tape.proofs.cursor.Cursor.next_sibling.Goals as goal
 
 pub go_to-next-requires : goal.go_to-next-requires
 go_to-next-requires c =
     let w = words_counted c.args.self in
-    let n = c.args.self.len_is in
-    let f = c.if-self-place.false in
-    omega (arith, w, n, f)
+    let n = c.has_node.ensures.0 c.if-not-has_node.false in
+    omega (arith, w, n)
 
-pub returns-then-self-place : goal.returns-then-self-place
-returns-then-self-place c =
+pub returns-then-not-has_node : goal.returns-then-not-has_node
+returns-then-not-has_node c =
     let self = c.args.self in
     let w = words_counted self in
-    let n = self.len_is in
-    let t = c.if-self-place.true in
+    let t = c.if-not-has_node.true in
+    let none : 3 * c.after-place.result < length (words_in self.bits self.words.now) → ⊥ = λ h. let no : IsTrue false = subst IsTrue t (c.has_node.ensures.1 h) in absurd (cc) in
     let v = c.after-place.ensures.value in
-    let found = no_sibling self (at_end self (omega (arith, w, n, t, v))) in
+    let found = no_sibling self (at_end self (omega (arith, w, none, v))) in
     record { nodes = sym found.0; children = sym found.1; line = tt; place = tt }
 
 pub returns-then-up : goal.returns-then-up

@@ -1,5 +1,6 @@
-use Rattle.std.proofs.Common.{refl}
+use Rattle.std.proofs.Common.{refl, ap, ◌∙◌}
 use Rattle.jp_tape.specs.Cursors.{line_of, place_of}
+use Rattle.jp_tape.specs.Forms.{words_in}
 use Rattle.jp_tape.specs.Tapes.{spelled}
 use Rattle.jp_tape.proofs.Places.{some_node}
 use Rattle.jp_tape.proofs.Cursors.{at_root}
@@ -7,7 +8,7 @@ use Rattle.jp_tape.proofs.cursor.Cursor.root.Goals as goal
 
 pub invariant_of-result : goal.invariant_of-result
 invariant_of-result c =
-    record { spelled_line = c.requires.spelled_line; words_are = c.requires.words_are; len_is = c.len.ensures; short = c.requires.short; whole = c.requires.whole; exponents = c.requires.exponents; distinct = c.requires.distinct; within = some_node (spelled c.args.line.now) }
+    record { spelled_line = c.requires.spelled_line; words_are = ap (λ words. words_in c.tape.inside.bits words) c.deref.ensures.value ∙ (c.tape.view_is ∙ c.requires.words_are); short = c.requires.short; whole = c.requires.whole; exponents = c.requires.exponents; distinct = c.requires.distinct; within = some_node (spelled c.args.line.now) }
 
 pub returns : goal.returns
 unfolding line_of place_of
