@@ -444,7 +444,7 @@ def pattern_growths(lines, condition):
 
 
 def check_growths(checks):
-    """The growths of an edit or a query do not come with the number of lines: a text that runs through the places of a pattern has
+    """The growths of an edit or a query do not come with the number of lines: a text that runs through the states of a pattern has
     none."""
     cases = [("an edit", lambda lines: edit_growths(lines, "")),
              ("an edit with an index", lambda lines: edit_growths(lines, "index $\n")),

@@ -1,4 +1,4 @@
--- Answers at their places.
+-- Answers at their positions.
 use Rattle.std.proofs.Common.{◌≡◌, ℕ, zero, suc, List, [], ◌∷◌, ◌++◌, slice_set, Option, Some, None, sym, ◌∙◌, ap, refl, subst}
 use Rattle.std.specs.Prelude.{slice_get, IfSome}
 use Rattle.jp_model.specs.Meaning.Nodes.{Node}
@@ -15,27 +15,27 @@ use Rattle.jp_eval.specs.declared.program.Nodes.TheVariants as slots
 
 -- no answer is there
 pub record HasNone (answers : List (Option Answer)) : Type 0 where
-  pub none : (place : ℕ) (answer : Answer) → slice_get answers place ≡ Some (Some answer) → ⊥
+  pub none : (position : ℕ) (answer : Answer) → slice_get answers position ≡ Some (Some answer) → ⊥
 
 pub none_at_all : HasNone []
 none_at_all = record { none = go }
   where
-    go : (place : ℕ) (answer : Answer) → slice_get [] place ≡ Some (Some answer) → ⊥
+    go : (position : ℕ) (answer : Answer) → slice_get [] position ≡ Some (Some answer) → ⊥
     go zero answer e = cc
-    go (suc place) answer e = cc
+    go (suc position) answer e = cc
 
 pub none_in : (answers : List (Option Answer)) → answers ≡ [] → HasNone answers
 none_in answers e = subst (λ (l : List (Option Answer)). HasNone l) (sym e) none_at_all
 
 pub none_more : (answers new : List (Option Answer)) → new ≡ answers ++ None ∷ [] → HasNone answers → HasNone new
-none_more answers new e h = record { none = λ place answer f. go answers h.none place answer (ap (λ (l : List (Option Answer)). slice_get l place) (sym e) ∙ f) }
+none_more answers new e h = record { none = λ position answer f. go answers h.none position answer (ap (λ (l : List (Option Answer)). slice_get l position) (sym e) ∙ f) }
   where
-    go : (l : List (Option Answer)) → ((place : ℕ) (answer : Answer) → slice_get l place ≡ Some (Some answer) → ⊥) → (place : ℕ) (answer : Answer) → slice_get (l ++ None ∷ []) place ≡ Some (Some answer) → ⊥
+    go : (l : List (Option Answer)) → ((position : ℕ) (answer : Answer) → slice_get l position ≡ Some (Some answer) → ⊥) → (position : ℕ) (answer : Answer) → slice_get (l ++ None ∷ []) position ≡ Some (Some answer) → ⊥
     go [] h zero answer e = cc
     go [] h (suc zero) answer e = cc
-    go [] h (suc (suc place)) answer e = cc
+    go [] h (suc (suc position)) answer e = cc
     go (o ∷ l) h zero answer e = h zero answer e
-    go (o ∷ l) h (suc place) answer e = go l (λ p a f. h (suc p) a f) place answer e
+    go (o ∷ l) h (suc position) answer e = go l (λ p a f. h (suc p) a f) position answer e
 
 -- what stands in a list in which one item was set
 pub got : {A B : Type 0} (l : List A) (i j : ℕ) (x y : A) → slice_get (slice_set l i x) j ≡ Some y → (i ≡ j → x ≡ y → B) → (slice_get l j ≡ Some y → B) → B
@@ -50,5 +50,5 @@ pub told_before : (run : Run) (asked : Nodes) (n : Node) (result : Option Answer
 told_before run asked n result answer told is = (subst (λ r. IfSome r (λ a. (m : Node) → IsAnswer (path_nodes (nodes_view (table_in run) asked) m (tree_in run)) a)) is told) n
 
 -- the answer of the query of a slot, from whatever node a filter looks
-pub told_from : (run : Run) (asked : Nodes) (place : ℕ) (n : Node) (answer : Answer) → asked ≡ slots.Slot place → IsAnswer (slot_nodes run place) answer → IsAnswer (path_nodes (nodes_view (table_in run) asked) n (tree_in run)) answer
-told_from run asked place n answer is told = subst (λ (p : Path). IsAnswer (path_nodes p n (tree_in run)) answer) (sym (ap (nodes_view (table_in run)) is ∙ slot_is (table_in run) place)) told
+pub told_from : (run : Run) (asked : Nodes) (position : ℕ) (n : Node) (answer : Answer) → asked ≡ slots.Slot position → IsAnswer (slot_nodes run position) answer → IsAnswer (path_nodes (nodes_view (table_in run) asked) n (tree_in run)) answer
+told_from run asked position n answer is told = subst (λ (p : Path). IsAnswer (path_nodes p n (tree_in run)) answer) (sym (ap (nodes_view (table_in run)) is ∙ slot_is (table_in run) position)) told

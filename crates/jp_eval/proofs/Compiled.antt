@@ -1,5 +1,5 @@
 -- What the parts of a compiled query mean, and those of the query that they are made of, one level deep.
-use Rattle.std.proofs.Common.{◌≡◌, ◌∙◌, ℕ, ℤ, map, sym, ap, Vec, Global, Box, Option}
+use Rattle.std.proofs.Common.{◌≡◌, ◌∙◌, ℕ, ℤ, sym, ap, Vec, Global, Box, Option}
 use Rattle.jp_model.specs.Query.Syntax as syntax
 use Rattle.jp_query.specs.View.{segment_view, selectors_view, selector_view, logicals_view, logical_view, comparable_view, call_view, path_view, op_view, literal_view, argument_step, comparable_step, logical_step, segment_step, selector_step, call_step, path_step}
 use Rattle.jp_query.specs.declared.tree.Call.{Call}
@@ -21,7 +21,7 @@ use Rattle.jp_eval.specs.declared.question.Key.{Key}
 use Rattle.jp_eval.specs.declared.question.Question.{Question}
 use Rattle.jp_eval.specs.Keys.{key_view}
 use Rattle.jp_eval.specs.Questions.{question_view}
-use Rattle.jp_model.specs.Query.Singular.{step_selector, steps_query}
+use Rattle.jp_model.specs.Query.Singular.{step_selector}
 use Rattle.jp_eval.specs.declared.program.Step.{Step, fold-roll-Step}
 use Rattle.jp_eval.specs.declared.program.Step.TheVariants as steps
 use Rattle.jp_eval.specs.declared.program.Choice.{Choice, fold-roll-Choice}

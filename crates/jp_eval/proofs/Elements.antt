@@ -45,62 +45,62 @@ drop_none : (k : ℕ) → picked (drop k []) ≡ []
 drop_none zero = refl
 drop_none (suc k) = refl
 
-behind_one : (place index : ℕ) (p : Step × Tree) (ps : List (Step × Tree)) → index < place → picked (drop (place - (index + 1)) ps) ≡ picked (drop (place - index) (p ∷ ps))
-behind_one place index p ps h = let e : place - index ≡ suc (place - (index + 1)) = omega (arith, h) in ap (λ k. picked (drop k (p ∷ ps))) (sym e)
+behind_one : (position index : ℕ) (p : Step × Tree) (ps : List (Step × Tree)) → index < position → picked (drop (position - (index + 1)) ps) ≡ picked (drop (position - index) (p ∷ ps))
+behind_one position index p ps h = let e : position - index ≡ suc (position - (index + 1)) = omega (arith, h) in ap (λ k. picked (drop k (p ∷ ps))) (sym e)
 
-first_one : (place index : ℕ) (p : Step × Tree) (ps : List (Step × Tree)) → place ≤ index → picked (p ∷ ps) ≡ picked (drop (place - index) (p ∷ ps))
-first_one place index p ps h = let e : place - index ≡ 0 = omega (arith, h) in ap (λ k. picked (drop k (p ∷ ps))) (sym e)
+first_one : (position index : ℕ) (p : Step × Tree) (ps : List (Step × Tree)) → position ≤ index → picked (p ∷ ps) ≡ picked (drop (position - index) (p ∷ ps))
+first_one position index p ps h = let e : position - index ≡ 0 = omega (arith, h) in ap (λ k. picked (drop k (p ∷ ps))) (sym e)
 
-pub picked_at : (place index : ℕ) (kids : Children) → index ≤ place → filter (λ (p : Step × Tree). is_index (same_int (pos place)) p.0) (steps_from index kids) ≡ picked (drop (place - index) (steps_from index kids))
-picked_at place index no_child h = sym (drop_none (place - index))
-picked_at place index (child None t more) h =
+pub picked_at : (position index : ℕ) (kids : Children) → index ≤ position → filter (λ (p : Step × Tree). is_index (same_int (pos position)) p.0) (steps_from index kids) ≡ picked (drop (position - index) (steps_from index kids))
+picked_at position index no_child h = sym (drop_none (position - index))
+picked_at position index (child None t more) h =
     let p : Step × Tree = (index_step (pos index), t) in
     let ps : List (Step × Tree) = steps_from (index + 1) more in
-    let others : List (Step × Tree) = filter (λ (q : Step × Tree). is_index (same_int (pos place)) q.0) ps in
-    elim (cases_lt index place) [
-      | inl l ↦ ap (λ b. cond b (p ∷ others) others) (int_other place index (λ e. omega (arith, e, l))) ∙ (picked_at place (index + 1) more (omega (arith, l)) ∙ behind_one place index p ps l)
+    let others : List (Step × Tree) = filter (λ (q : Step × Tree). is_index (same_int (pos position)) q.0) ps in
+    elim (cases_lt index position) [
+      | inl l ↦ ap (λ b. cond b (p ∷ others) others) (int_other position index (λ e. omega (arith, e, l))) ∙ (picked_at position (index + 1) more (omega (arith, l)) ∙ behind_one position index p ps l)
       | inr l ↦
-          (let e : index ≡ place = omega (arith, h, l) in
-          let same : same_int (pos place) (pos index) ≡ true = ap (λ k. same_int (pos place) (pos k)) e ∙ int_self place in
-          let none : others ≡ [] = none_at (pos place) (index + 1) more (λ i a b. int_other place i (λ f. omega (arith, e, f, a))) in
-          ap (λ b. cond b (p ∷ others) others) same ∙ (ap (λ (l : List (Step × Tree)). p ∷ l) none ∙ first_one place index p ps l))
+          (let e : index ≡ position = omega (arith, h, l) in
+          let same : same_int (pos position) (pos index) ≡ true = ap (λ k. same_int (pos position) (pos k)) e ∙ int_self position in
+          let none : others ≡ [] = none_at (pos position) (index + 1) more (λ i a b. int_other position i (λ f. omega (arith, e, f, a))) in
+          ap (λ b. cond b (p ∷ others) others) same ∙ (ap (λ (l : List (Step × Tree)). p ∷ l) none ∙ first_one position index p ps l))
     ]
-picked_at place index (child (Some name) t more) h =
+picked_at position index (child (Some name) t more) h =
     let p : Step × Tree = (name_step name.points, t) in
     let ps : List (Step × Tree) = steps_from (index + 1) more in
-    elim (cases_lt index place) [
-      | inl l ↦ picked_at place (index + 1) more (omega (arith, l)) ∙ behind_one place index p ps l
-      | inr l ↦ none_at (pos place) (index + 1) more (λ i a b. int_other place i (λ f. omega (arith, f, l, a))) ∙ first_one place index p ps l
+    elim (cases_lt index position) [
+      | inl l ↦ picked_at position (index + 1) more (omega (arith, l)) ∙ behind_one position index p ps l
+      | inr l ↦ none_at (pos position) (index + 1) more (λ i a b. int_other position i (λ f. omega (arith, f, l, a))) ∙ first_one position index p ps l
     ]
 
 -- what an index selects is the child there, if it is an element
-pub picked_child : (parent : Node) (place : ℕ) (next : Option Cursor) → IsAt parent place next
-    → children_where (is_index (same_int (pos place))) parent ≡ map (child_of parent) (picked (steps_from place (children_from next)))
-picked_child parent place next at =
+pub picked_child : (parent : Node) (position : ℕ) (next : Option Cursor) → IsAt parent position next
+    → children_where (is_index (same_int (pos position))) parent ≡ map (child_of parent) (picked (steps_from position (children_from next)))
+picked_child parent position next at =
     let kids : Children = children_in (value_of parent.tree) in
     let all = steps_of_children (value_of parent.tree) in
-    let e : place - 0 ≡ place = omega arith in
-    ap (λ l. map (child_of parent) (filter (λ (p : Step × Tree). is_index (same_int (pos place)) p.0) l)) all
-    ∙ (ap (map (child_of parent)) (picked_at place 0 kids (omega arith)
+    let e : position - 0 ≡ position = omega arith in
+    ap (λ l. map (child_of parent) (filter (λ (p : Step × Tree). is_index (same_int (pos position)) p.0) l)) all
+    ∙ (ap (map (child_of parent)) (picked_at position 0 kids (omega arith)
     ∙ (ap (λ k. picked (drop k (steps_from 0 kids))) e
-    ∙ (ap (λ l. picked (drop place l)) (sym all) ∙ ap picked (sym at.steps)))))
+    ∙ (ap (λ l. picked (drop position l)) (sym all) ∙ ap picked (sym at.steps)))))
 
-pub element_here : (parent : Node) (place : ℕ) (c : Cursor) → IsAt parent place (Some c) → None ≡ option_map (λ (n : Name). n.points) (name_of c) → node_of c ∷ [] ≡ children_where (is_index (same_int (pos place))) parent
-element_here parent place c at h =
-    sym (picked_child parent place (Some c) at
-    ∙ (nameless (name_of c) h ∙ ap (λ (n : Node). n ∷ []) (sym (child_here parent place c at))))
+pub element_here : (parent : Node) (position : ℕ) (c : Cursor) → IsAt parent position (Some c) → None ≡ option_map (λ (n : Name). n.points) (name_of c) → node_of c ∷ [] ≡ children_where (is_index (same_int (pos position))) parent
+element_here parent position c at h =
+    sym (picked_child parent position (Some c) at
+    ∙ (nameless (name_of c) h ∙ ap (λ (n : Node). n ∷ []) (sym (child_here parent position c at))))
   where
-    nameless : (o : Option Name) → None ≡ option_map (λ (n : Name). n.points) o → map (child_of parent) (picked ((step_to place o, (node_of c).tree) ∷ steps_from (place + 1) (children_after c))) ≡ child_of parent (step_to place o, (node_of c).tree) ∷ []
+    nameless : (o : Option Name) → None ≡ option_map (λ (n : Name). n.points) o → map (child_of parent) (picked ((step_to position o, (node_of c).tree) ∷ steps_from (position + 1) (children_after c))) ≡ child_of parent (step_to position o, (node_of c).tree) ∷ []
     nameless None h = refl
     nameless (Some n) h = absurd (cc)
 
-pub none_here : (parent : Node) (place : ℕ) → IsAt parent place None → [] ≡ children_where (is_index (same_int (pos place))) parent
-none_here parent place at = sym (picked_child parent place None at)
+pub none_here : (parent : Node) (position : ℕ) → IsAt parent position None → [] ≡ children_where (is_index (same_int (pos position))) parent
+none_here parent position at = sym (picked_child parent position None at)
 
 -- the child at an index, if there is one
-pub nth_is : (parent : Node) (place : ℕ) (r : Option Cursor) → IsAt parent place r → ((c : Cursor) → r ≡ Some c → name_of c ≡ None) → node_list r ≡ children_where (is_index (same_int (pos place))) parent
-nth_is parent place None at h = none_here parent place at
-nth_is parent place (Some c) at h = element_here parent place c at (ap (option_map (λ (n : Name). n.points)) (sym (h c refl)))
+pub nth_is : (parent : Node) (position : ℕ) (r : Option Cursor) → IsAt parent position r → ((c : Cursor) → r ≡ Some c → name_of c ≡ None) → node_list r ≡ children_where (is_index (same_int (pos position))) parent
+nth_is parent position None at h = none_here parent position at
+nth_is parent position (Some c) at h = element_here parent position c at (ap (option_map (λ (n : Name). n.points)) (sym (h c refl)))
 
 -- no child has an index below 0 or past 4,294,967,295
 pub none_outside : (c : Cursor) (z : ℤ) → (z <ℤ pos 0) ⊎ (pos 4294967295 <ℤ z) → [] ≡ children_where (is_index (same_int z)) (node_of c)

@@ -1,4 +1,4 @@
--- The query from the root at a place, read by its own slots.
+-- The query from the root at a position, read by its own slots.
 use Rattle.std.proofs.Common.{◌≡◌, ℕ, zero, suc, List, [], ◌∷◌, map, Some, None, sym, ◌∙◌, ap, refl}
 use Rattle.std.specs.Prelude.{slice_get}
 use Rattle.jp_model.specs.Query.Syntax.{Segments}
@@ -15,25 +15,25 @@ use Rattle.jp_eval.specs.declared.program.Step.{Step}
 use Rattle.jp_eval.proofs.Descendants.{root_is}
 use Rattle.jp_eval.proofs.Meanings.{slot_viewed}
 
-get_map : {A B : Type 0} (f : A → B) (l : List A) (place : ℕ) (x : A) → slice_get l place ≡ Some x → slice_get (map f l) place ≡ Some (f x)
-get_map f [] place x e = absurd (cc)
+get_map : {A B : Type 0} (f : A → B) (l : List A) (position : ℕ) (x : A) → slice_get l position ≡ Some x → slice_get (map f l) position ≡ Some (f x)
+get_map f [] position x e = absurd (cc)
 get_map f (y ∷ l) zero x e = let same : y ≡ x = cc in ap (λ z. Some (f z)) same
-get_map f (y ∷ l) (suc place) x e = get_map f l place x e
+get_map f (y ∷ l) (suc position) x e = get_map f l position x e
 
-none_map : {A B : Type 0} (f : A → B) (l : List A) (place : ℕ) → slice_get l place ≡ None → slice_get (map f l) place ≡ None
-none_map f [] place e = refl
+none_map : {A B : Type 0} (f : A → B) (l : List A) (position : ℕ) → slice_get l position ≡ None → slice_get (map f l) position ≡ None
+none_map f [] position e = refl
 none_map f (y ∷ l) zero e = absurd (cc)
-none_map f (y ∷ l) (suc place) e = none_map f l place e
+none_map f (y ∷ l) (suc position) e = none_map f l position e
 
-pub one_entered : (slots : List Slot) (place : ℕ) (slot : Slot) → slice_get slots place ≡ Some slot → steps_view (table_of (out-Slot slot).slots.items) (out-Slot slot).steps.items ≡ segments_or_none (slice_get (table_of slots) place)
-one_entered slots place slot e = sym (slot_viewed slot) ∙ ap segments_or_none (sym (get_map slot_view slots place slot e))
+pub one_entered : (slots : List Slot) (position : ℕ) (slot : Slot) → slice_get slots position ≡ Some slot → steps_view (table_of (out-Slot slot).slots.items) (out-Slot slot).steps.items ≡ segments_or_none (slice_get (table_of slots) position)
+one_entered slots position slot e = sym (slot_viewed slot) ∙ ap segments_or_none (sym (get_map slot_view slots position slot e))
 
-pub none_entered : (slots : List Slot) (place : ℕ) → slice_get slots place ≡ None → steps_view (table_of slots) [] ≡ segments_or_none (slice_get (table_of slots) place)
-none_entered slots place e = ap segments_or_none (sym (none_map slot_view slots place e))
+pub none_entered : (slots : List Slot) (position : ℕ) → slice_get slots position ≡ None → steps_view (table_of slots) [] ≡ segments_or_none (slice_get (table_of slots) position)
+none_entered slots position e = ap segments_or_none (sym (none_map slot_view slots position e))
 
-pub entered : (run inner : Run) (steps : List Step) (place : ℕ) → inner.root.now ≡ run.root.now → steps_view (table_in inner) steps ≡ segments_or_none (slice_get (table_in run) place) → reached inner steps (node_of run.root.now ∷ []) ≡ slot_nodes run place
-entered run inner steps place r e =
-    let found : Segments = segments_or_none (slice_get (table_in run) place) in
+pub entered : (run inner : Run) (steps : List Step) (position : ℕ) → inner.root.now ≡ run.root.now → steps_view (table_in inner) steps ≡ segments_or_none (slice_get (table_in run) position) → reached inner steps (node_of run.root.now ∷ []) ≡ slot_nodes run position
+entered run inner steps position r e =
+    let found : Segments = segments_or_none (slice_get (table_in run) position) in
     ap (λ (ss : Segments). nodes ss (node_of run.root.now ∷ []) (tree_in inner)) e
     ∙ (ap (λ (c : Cursor). nodes found (node_of run.root.now ∷ []) (node_of c).tree) r
     ∙ ap (λ (m : Node). nodes found (m ∷ []) (tree_in run)) (sym (root_is run.root.now run.at_root)))

@@ -71,23 +71,23 @@ map-append f [] ys = refl
 map-append f (x ∷ xs) ys = ap (λ l. f x ∷ l) (map-append f xs ys)
 
 -- what stands behind a list of this length
-get_behind : {A : Type 0} (l : List A) (x : A) (more : List A) (place : ℕ) → place ≡ length l → slice_get ((l ++ x ∷ []) ++ more) place ≡ Some x
-get_behind {A} l x more place e = ap (slice_get ((l ++ x ∷ []) ++ more)) e ∙ go l
+get_behind : {A : Type 0} (l : List A) (x : A) (more : List A) (position : ℕ) → position ≡ length l → slice_get ((l ++ x ∷ []) ++ more) position ≡ Some x
+get_behind {A} l x more position e = ap (slice_get ((l ++ x ∷ []) ++ more)) e ∙ go l
   where
     go : (l : List A) → slice_get ((l ++ x ∷ []) ++ more) (length l) ≡ Some x
     go [] = refl
     go (y ∷ l) = go l
 
 -- a slot was added, and the part is its query
-pub slot_means : (old new : List Slot) (s : Slot) (u : Table → syntax.Path) (place : ℕ) (x : syntax.Segments) (y : syntax.Path)
-    → ((table : Table) → u table ≡ slot_in table place) → y ≡ syntax.path syntax.root x → slot_view s ≡ x → new ≡ old ++ s ∷ [] → place ≡ length old → Means old new u y
-slot_means old new s u place x y h e m g p =
+pub slot_means : (old new : List Slot) (s : Slot) (u : Table → syntax.Path) (position : ℕ) (x : syntax.Segments) (y : syntax.Path)
+    → ((table : Table) → u table ≡ slot_in table position) → y ≡ syntax.path syntax.root x → slot_view s ≡ x → new ≡ old ++ s ∷ [] → position ≡ length old → Means old new u y
+slot_means old new s u position x y h e m g p =
     let grown : table_of new ≡ table_of old ++ slot_view s ∷ [] = ap table_of g ∙ map-append slot_view old (s ∷ []) in
-    let size : place ≡ length (table_of old) = p ∙ sym (length-map old slot_view) in
+    let size : position ≡ length (table_of old) = p ∙ sym (length-map old slot_view) in
     record {
       grows = (slot_view s ∷ [], grown);
       is = λ more.
-          let found : slice_get (table_of new ++ more) place ≡ Some (slot_view s) = ap (λ (l : Table). slice_get (l ++ more) place) grown ∙ get_behind (table_of old) (slot_view s) more place size in
+          let found : slice_get (table_of new ++ more) position ≡ Some (slot_view s) = ap (λ (l : Table). slice_get (l ++ more) position) grown ∙ get_behind (table_of old) (slot_view s) more position size in
           h (table_of new ++ more) ∙ (ap (λ o. syntax.path syntax.root (segments_or_none o)) found ∙ (ap (syntax.path syntax.root) m ∙ sym e));
     }
 

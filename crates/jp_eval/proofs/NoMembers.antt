@@ -61,9 +61,9 @@ no_elements line passes n h other = ap (map (child_of n)) (unplaced_tree n.tree 
   unplaced_tree (node s v) k o = unplaced_in line passes s v k o
 
 -- a step by an index leads to a child without a name
-by_index : (place : ℕ) (o : Option Name) (z : ℤ) → step_to place o ≡ index_step z → o ≡ None
-by_index place None z e = refl
-by_index place (Some name) z e = absurd (cc)
+by_index : (position : ℕ) (o : Option Name) (z : ℤ) → step_to position o ≡ index_step z → o ≡ None
+by_index position None z e = refl
+by_index position (Some name) z e = absurd (cc)
 
 first_step : (a b : Step) (t u : Tree) (xs ys : List (Step × Tree)) → (a, t) ∷ xs ≡ (b, u) ∷ ys → a ≡ b
 first_step a b t u xs ys e =
@@ -72,32 +72,32 @@ first_step a b t u xs ys e =
     let same : p ≡ q = cc in
     ap (λ (r : Step × Tree). r.0) same
 
-nameless_more : (line : List ℕ) (index from to : ℕ) (kids : Children) → SpellsMore line array from to kids → (k place : ℕ) (o : Option Name) (t : Tree) (rest : List (Step × Tree)) → (step_to place o, t) ∷ rest ≡ drop k (steps_from index kids) → o ≡ None
-nameless_more line index from to no_child h zero place o t rest e = absurd (cc)
-nameless_more line index from to no_child h (suc k) place o t rest e = absurd (cc)
-nameless_more line index from to (child (Some name) u more) h k place o t rest e = absurd h.2
-nameless_more line index from to (child None u more) h zero place o t rest e = by_index place o (pos index) (first_step (step_to place o) (index_step (pos index)) t u rest (steps_from (index + 1) more) e)
-nameless_more line index from to (child None u more) h (suc k) place o t rest e = nameless_more line (index + 1) (span u).end to more h.4 k place o t rest e
+nameless_more : (line : List ℕ) (index from to : ℕ) (kids : Children) → SpellsMore line array from to kids → (k position : ℕ) (o : Option Name) (t : Tree) (rest : List (Step × Tree)) → (step_to position o, t) ∷ rest ≡ drop k (steps_from index kids) → o ≡ None
+nameless_more line index from to no_child h zero position o t rest e = absurd (cc)
+nameless_more line index from to no_child h (suc k) position o t rest e = absurd (cc)
+nameless_more line index from to (child (Some name) u more) h k position o t rest e = absurd h.2
+nameless_more line index from to (child None u more) h zero position o t rest e = by_index position o (pos index) (first_step (step_to position o) (index_step (pos index)) t u rest (steps_from (index + 1) more) e)
+nameless_more line index from to (child None u more) h (suc k) position o t rest e = nameless_more line (index + 1) (span u).end to more h.4 k position o t rest e
 
-nameless_first : (line : List ℕ) (from to : ℕ) (kids : Children) → SpellsFirst line array from to kids → (k place : ℕ) (o : Option Name) (t : Tree) (rest : List (Step × Tree)) → (step_to place o, t) ∷ rest ≡ drop k (steps_from 0 kids) → o ≡ None
-nameless_first line from to no_child h zero place o t rest e = absurd (cc)
-nameless_first line from to no_child h (suc k) place o t rest e = absurd (cc)
-nameless_first line from to (child (Some name) u more) h k place o t rest e = absurd h.2
-nameless_first line from to (child None u more) h zero place o t rest e = by_index place o (pos 0) (first_step (step_to place o) (index_step (pos 0)) t u rest (steps_from 1 more) e)
-nameless_first line from to (child None u more) h (suc k) place o t rest e = nameless_more line 1 (span u).end to more h.4 k place o t rest e
+nameless_first : (line : List ℕ) (from to : ℕ) (kids : Children) → SpellsFirst line array from to kids → (k position : ℕ) (o : Option Name) (t : Tree) (rest : List (Step × Tree)) → (step_to position o, t) ∷ rest ≡ drop k (steps_from 0 kids) → o ≡ None
+nameless_first line from to no_child h zero position o t rest e = absurd (cc)
+nameless_first line from to no_child h (suc k) position o t rest e = absurd (cc)
+nameless_first line from to (child (Some name) u more) h k position o t rest e = absurd h.2
+nameless_first line from to (child None u more) h zero position o t rest e = by_index position o (pos 0) (first_step (step_to position o) (index_step (pos 0)) t u rest (steps_from 1 more) e)
+nameless_first line from to (child None u more) h (suc k) position o t rest e = nameless_more line 1 (span u).end to more h.4 k position o t rest e
 
-nameless_in : (line : List ℕ) (s : Span) (v : Value) → SpellsValue line s v → kind_of v ≡ kinds.Array → (k place : ℕ) (o : Option Name) (t : Tree) (rest : List (Step × Tree)) → (step_to place o, t) ∷ rest ≡ drop k (steps_in v) → o ≡ None
-nameless_in line s null h is k place o t rest e = absurd (cc)
-nameless_in line s (boolean true) h is k place o t rest e = absurd (cc)
-nameless_in line s (boolean false) h is k place o t rest e = absurd (cc)
-nameless_in line s (number m f) h is k place o t rest e = absurd (cc)
-nameless_in line s (string points) h is k place o t rest e = absurd (cc)
-nameless_in line s (container object kids) h is k place o t rest e = absurd (cc)
-nameless_in line s (container array kids) h is k place o t rest e = nameless_first line (s.start + 1) s.end kids h.1 k place o t rest e
+nameless_in : (line : List ℕ) (s : Span) (v : Value) → SpellsValue line s v → kind_of v ≡ kinds.Array → (k position : ℕ) (o : Option Name) (t : Tree) (rest : List (Step × Tree)) → (step_to position o, t) ∷ rest ≡ drop k (steps_in v) → o ≡ None
+nameless_in line s null h is k position o t rest e = absurd (cc)
+nameless_in line s (boolean true) h is k position o t rest e = absurd (cc)
+nameless_in line s (boolean false) h is k position o t rest e = absurd (cc)
+nameless_in line s (number m f) h is k position o t rest e = absurd (cc)
+nameless_in line s (string points) h is k position o t rest e = absurd (cc)
+nameless_in line s (container object kids) h is k position o t rest e = absurd (cc)
+nameless_in line s (container array kids) h is k position o t rest e = nameless_first line (s.start + 1) s.end kids h.1 k position o t rest e
 
 -- no child of an array has a name
-pub nameless : (line : List ℕ) (parent : Node) (place : ℕ) (c : Cursor) → Spells line parent.tree → kind_of (value_of parent.tree) ≡ kinds.Array → IsAt parent place (Some c) → name_of c ≡ None
-nameless line parent place c h is at = go parent.tree h is at.steps
+pub nameless : (line : List ℕ) (parent : Node) (position : ℕ) (c : Cursor) → Spells line parent.tree → kind_of (value_of parent.tree) ≡ kinds.Array → IsAt parent position (Some c) → name_of c ≡ None
+nameless line parent position c h is at = go parent.tree h is at.steps
   where
-    go : (t : Tree) → Spells line t → kind_of (value_of t) ≡ kinds.Array → steps_from place (children_from (Some c)) ≡ drop place (steps_in (value_of t)) → name_of c ≡ None
-    go (node s v) k o e = nameless_in line s v k o place place (name_of c) (node_of c).tree (steps_from (place + 1) (children_after c)) e
+    go : (t : Tree) → Spells line t → kind_of (value_of t) ≡ kinds.Array → steps_from position (children_from (Some c)) ≡ drop position (steps_in (value_of t)) → name_of c ≡ None
+    go (node s v) k o e = nameless_in line s v k o position position (name_of c) (node_of c).tree (steps_from (position + 1) (children_after c)) e

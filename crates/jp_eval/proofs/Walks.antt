@@ -72,11 +72,11 @@ none_left i k l e = sym (drop-drop k i l) ∙ (ap (drop k) (sym e) ∙ none k)
     none (suc k) = refl
 
 -- behind the last child there is none
-pub at_none : (parent : Node) (i place : ℕ) → IsAt parent i None → i ≤ place → IsAt parent place None
-at_none parent i place at h =
+pub at_none : (parent : Node) (i position : ℕ) → IsAt parent i None → i ≤ position → IsAt parent position None
+at_none parent i position at h =
     let all : List (Step × Tree) = steps_in (value_of parent.tree) in
-    let e : i + (place - i) ≡ place = omega (arith, h) in
-    record { steps = sym (ap (λ n. drop n all) (sym e) ∙ none_left i (place - i) all at.steps); nodes = refl }
+    let e : i + (position - i) ≡ position = omega (arith, h) in
+    record { steps = sym (ap (λ n. drop n all) (sym e) ∙ none_left i (position - i) all at.steps); nodes = refl }
 
 -- the index of a child, and the next, are small
 pub index_fits : (parent : Cursor) (index : ℕ) (c : Cursor) → IsAt (node_of parent) index (Some c) → index + 1 < 2 ^ 32

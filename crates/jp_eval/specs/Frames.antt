@@ -37,11 +37,11 @@ reached run steps starts = nodes (steps_view (table_in run) steps) starts (tree_
 
 -- what the query of a slot selects
 abbrev pub slot_nodes : Run → ℕ → List Node
-slot_nodes run place = path_nodes (slot_in (table_in run) place) (node_of run.root.now) (tree_in run)
+slot_nodes run position = path_nodes (slot_in (table_in run) position) (node_of run.root.now) (tree_in run)
 
 -- each answer that was kept is right
 abbrev pub AreKept : Run → List (Option Answer) → Type 0
-AreKept run answers = (place : ℕ) (answer : Answer) → slice_get answers place ≡ Some (Some answer) → IsAnswer (slot_nodes run place) answer
+AreKept run answers = (position : ℕ) (answer : Answer) → slice_get answers position ≡ Some (Some answer) → IsAnswer (slot_nodes run position) answer
 
 -- a frame whose answers are right, and that has no more nodes than are looked for
 pub record Stands (at : At) (frame : Frame) : Type 0 where

@@ -27,7 +27,7 @@ segments_or_none (Some ss) = ss
 
 -- the query of a slot
 abbrev pub slot_in : Table → ℕ → syntax.Path
-slot_in table place = syntax.path syntax.root (segments_or_none (slice_get table place))
+slot_in table position = syntax.path syntax.root (segments_or_none (slice_get table position))
 
 -- ---- one level, with what is inside already seen
 
@@ -57,7 +57,7 @@ given_step (Given-F.Given::Result c) = syntax.result_argument c
 
 -- a query within a filter
 abbrev pub nodes_step : Table → Nodes-F syntax.Selector syntax.Logical syntax.Argument syntax.Path syntax.Comparable syntax.Segment syntax.Call → syntax.Path
-nodes_step table (Nodes-F.Slot place) = slot_in table place
+nodes_step table (Nodes-F.Slot position) = slot_in table position
 nodes_step table (Nodes-F.Current ss) = syntax.path syntax.current (segments_of ss.items)
 
 -- a side of a comparison

@@ -15,12 +15,12 @@ use crate::frame::{Answer, Frame, Run};
 use crate::program::{Nodes, Step};
 use std::alloc::Global;
 
-/// No answer, at so many places.
+/// No answer, at so many positions.
 pub(crate) fn no_answers<'a>(alloc: Global, count: usize) -> Result<Vec<Option<Answer<'a>>>>
     ensures { (run : AnyRun) → IfOk result (λ answers. AreKept run answers.items) }
 {
     let mut answers = Vec::with_capacity(alloc, count)?;
-    for _place in 0..count {
+    for _position in 0..count {
         answers.push(None)?;
     }
     Ok(answers)
@@ -55,14 +55,14 @@ impl<'a> Answer<'a> {
 }
 
 impl<'p, 'a> Run<'p, 'a> {
-    /// The query from the root at a place: its own slots, and its steps.
+    /// The query from the root at a position: its own slots, and its steps.
     #[inline(always)]
-    pub(crate) fn enter(self, place: usize) -> (Run<'p, 'a>, &'p [Step])
+    pub(crate) fn enter(self, position: usize) -> (Run<'p, 'a>, &'p [Step])
         ensures root { result.0.root.now ≡ self.entry.root.now }
-        ensures nodes { reached result.0 result.1.now (node_of self.entry.root.now ∷ []) ≡ slot_nodes self.entry place }
-        ensures view { steps_view (table_in result.0) result.1.now ≡ segments_or_none (slice_get (table_in self.entry) place) }
+        ensures nodes { reached result.0 result.1.now (node_of self.entry.root.now ∷ []) ≡ slot_nodes self.entry position }
+        ensures view { steps_view (table_in result.0) result.1.now ≡ segments_or_none (slice_get (table_in self.entry) position) }
     {
-        match self.slots.get(place) {
+        match self.slots.get(position) {
             Some(slot) => {
                 let inner = Run {
                     alloc: self.alloc,
@@ -89,11 +89,11 @@ impl<'p, 'a> Run<'p, 'a> {
 
     /// What was answered of the query of a slot, where it was asked before in the line.
     #[inline(always)]
-    fn kept_at(self, place: usize, frame: &Frame<'a>) -> Option<Answer<'a>>
+    fn kept_at(self, position: usize, frame: &Frame<'a>) -> Option<Answer<'a>>
         requires { AreKept self frame.now.answers.items }
-        ensures { IfSome result (λ answer. IsAnswer (slot_nodes self.entry place) answer) }
+        ensures { IfSome result (λ answer. IsAnswer (slot_nodes self.entry position) answer) }
     {
-        frame.answers.get(place).copied()?
+        frame.answers.get(position).copied()?
     }
 
     /// What was answered of a query within a filter, where it begins at the root and was asked before in the line.
@@ -103,7 +103,7 @@ impl<'p, 'a> Run<'p, 'a> {
         ensures { IfSome result (λ answer. (node : Node) → IsAnswer (path_nodes (nodes_view (table_in self.entry) nodes.now) node (tree_in self.entry)) answer) }
     {
         match nodes {
-            Nodes::Slot(place) => self.kept_at(*place, frame),
+            Nodes::Slot(position) => self.kept_at(*position, frame),
             Nodes::Current(_) => None,
         }
     }
@@ -112,7 +112,7 @@ impl<'p, 'a> Run<'p, 'a> {
     #[inline(always)]
     pub(crate) fn keeps(self, nodes: &Nodes, frame: &Frame<'a>) -> bool {
         match nodes {
-            Nodes::Slot(place) => *place < frame.answers.len(),
+            Nodes::Slot(position) => *position < frame.answers.len(),
             Nodes::Current(_) => false,
         }
     }
@@ -121,13 +121,13 @@ impl<'p, 'a> Run<'p, 'a> {
     #[inline(always)]
     pub(crate) fn keep(self, nodes: &Nodes, answer: Answer<'a>, frame: &mut Frame<'a>)
         requires kept { AreKept self frame.old.answers.items }
-        requires right { (place : ℕ) → nodes.now ≡ slots.Slot place → IsAnswer (slot_nodes self place) answer }
+        requires right { (position : ℕ) → nodes.now ≡ slots.Slot position → IsAnswer (slot_nodes self position) answer }
         ensures kept { AreKept self.entry frame.new.answers.items }
         ensures found { frame.new.found ≡ frame.old.found }
     {
-        if let Nodes::Slot(place) = nodes {
-            if *place < frame.answers.len() {
-                frame.answers[*place] = Some(answer.read());
+        if let Nodes::Slot(position) = nodes {
+            if *position < frame.answers.len() {
+                frame.answers[*position] = Some(answer.read());
             }
         }
     }

@@ -1,4 +1,4 @@
-//! Children that are selected by name or by place (RFC 9535, sections 2.3.1, 2.3.3 and 2.3.4).
+//! Children that are selected by name or by index (RFC 9535, sections 2.3.1, 2.3.3 and 2.3.4).
 
 ghost use Rattle.std.specs.Prelude.{◌≡◌, ℕ, false, pos, neg_ℤ, ◌-ℤ◌, ◌<ℤ◌, ◌≤ℤ◌, ◌≢◌, ◌^◌, true, length, int_le, unwrap_or, map, IfOk, IfSome, IsTrue, ◌↔◌};
 ghost use Rattle.std.specs.Str.{chars};
@@ -67,12 +67,12 @@ fn normal(count: u32, index: i64) -> i64
 }
 
 /// The child that so many children come before.
-fn nth_child(node: Cursor<'_>, place: u32) -> Option<Cursor<'_>>
-    ensures at { IsAt (node_of node.entry) place result }
+fn nth_child(node: Cursor<'_>, position: u32) -> Option<Cursor<'_>>
+    ensures at { IsAt (node_of node.entry) position result }
     ensures line { IfSome result (λ c. line_of c ≡ line_of node.entry) }
 {
     let mut next = node.first_child();
-    for _passed in 0..place {
+    for _passed in 0..position {
         match next {
             Some(child) => next = child.next_sibling(),
             None => return None,
@@ -88,7 +88,7 @@ fn is_array(node: Cursor<'_>) -> bool
 }
 
 /// An index of a node's elements from the start. They are counted only where it is negative.
-fn place_from_start(node: Cursor<'_>, index: i64) -> i64
+fn index_from_start(node: Cursor<'_>, index: i64) -> i64
     ensures { result ≡ normal_of (count_of (node_of node.entry)) index }
 {
     if index < 0 {
@@ -106,11 +106,11 @@ pub(crate) fn find_element(node: Cursor<'_>, index: i64) -> Option<Cursor<'_>>
     if !is_array(node) {
         return None;
     }
-    let place = place_from_start(node, index);
-    if place < 0 || place > 0xFFFF_FFFF {
+    let position = index_from_start(node, index);
+    if position < 0 || position > 0xFFFF_FFFF {
         return None;
     }
-    nth_child(node, place as u32)
+    nth_child(node, position as u32)
 }
 
 /// Whether an index is a whole number of steps from the start (RFC 9535, section 2.3.4.2.2).
@@ -161,8 +161,8 @@ impl Rising {
         ensures { children_where (is_index (rises result.low result.high result.step)) (node_of node.entry) ≡ sliced slice.first slice.last slice.step (node_of node.entry) }
     {
         Rising {
-            low: place_from_start(node, slice.first.unwrap_or(0)).max(0),
-            high: place_from_start(node, slice.last.unwrap_or(i64::MAX)),
+            low: index_from_start(node, slice.first.unwrap_or(0)).max(0),
+            high: index_from_start(node, slice.last.unwrap_or(i64::MAX)),
             step: slice.step,
         }
     }

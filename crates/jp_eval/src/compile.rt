@@ -318,9 +318,9 @@ impl Compiler {
                 let mut inner = Compiler::new(self.alloc);
                 let steps = inner.compile_segments(&path.segments)?;
                 let slots = inner.slots;
-                let place = self.slots.len();
+                let position = self.slots.len();
                 self.slots.push(Slot { slots, steps })?;
-                Ok(Nodes::Slot(place))
+                Ok(Nodes::Slot(position))
             }
             Origin::Current => Ok(Nodes::Current(self.compile_segments(&path.segments)?)),
         }

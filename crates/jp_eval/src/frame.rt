@@ -39,7 +39,7 @@ pub(crate) enum Answer<'a> {
     Single(bool, Value<'a>),
 }
 
-/// What changes: the nodes that were found, and what was answered of the queries from the root, by their places.
+/// What changes: the nodes that were found, and what was answered of the queries from the root, by their positions.
 #[derive(Drop)]
 pub(crate) struct Frame<'a> {
     pub(crate) found: Vec<Cursor<'a>>,

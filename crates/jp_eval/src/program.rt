@@ -84,7 +84,7 @@ pub(crate) enum Given {
 #[cycle(program)]
 #[derive(Drop)]
 pub(crate) enum Nodes {
-    /// The query from the root that has this place among the slots around it.
+    /// The query from the root that has this position among the slots around it.
     Slot(usize),
     /// From the node that is filtered.
     Current(Vec<Step>),

@@ -350,11 +350,11 @@ impl<'r, 'a> At<'r, 'a> {
         ensures { Pushes self.entry frame.old frame.new result (path_nodes (nodes_view (table_at self.entry) nodes.now) (here self.entry) (tree_at self.entry)) }
     {
         let At { run, most, .. } = self;
-        let place = match nodes {
-            Nodes::Slot(place) => *place,
+        let position = match nodes {
+            Nodes::Slot(position) => *position,
             Nodes::Current(steps) => return self.push_steps(steps, frame),
         };
-        let (inner, steps) = run.enter(place);
+        let (inner, steps) = run.enter(position);
         let mut answers = no_answers(inner.alloc, inner.slots.len())?;
         std::mem::swap(&mut frame.answers, &mut answers);
         let (run, node) = (&inner, *inner.root);

@@ -52,7 +52,7 @@ impl<'r, 'a> At<'r, 'a> {
         ensures { IfSome result (λ end. node_list end ≡ path_nodes (nodes_view (table_at self.entry) nodes.now) (here self.entry) (tree_at self.entry)) }
     {
         match nodes {
-            Nodes::Slot(place) => singular_path(self.run.enter(*place).1, *self.run.root),
+            Nodes::Slot(position) => singular_path(self.run.enter(*position).1, *self.run.root),
             Nodes::Current(steps) => singular_path(steps, self.node),
         }
     }

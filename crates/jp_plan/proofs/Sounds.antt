@@ -1,11 +1,11 @@
 -- The guard of a query has a guard operator, and a literal of the query.
-use Rattle.std.proofs.Common.{◌≡◌, ◌<◌, List, [], ◌∷◌, length, IfSome, flat_map, Bool, true, false, ◌&&◌, Option, Some, None, if◌then◌else◌, refl, sym, ap, subst, ◌∙◌, ◌⊎◌, inl, inr, ⊎_elim}
+use Rattle.std.proofs.Common.{◌≡◌, ◌<◌, List, length, IfSome, flat_map, Bool, true, false, ◌&&◌, Option, Some, None, if◌then◌else◌, refl, sym, ap, subst, ◌∙◌, ⊎_elim}
 use Rattle.std.specs.List.{list_any}
 use Rattle.std.proofs.lemmas.Bool.{and_parts}
 use Rattle.jp_model.proofs.Guard.{by_comparison, by_filter, from_first, alone}
-use Rattle.jp_model.specs.Plans.{Guard, guard_on, conjunct_guard, first_guard, guard_or, conjuncts, conjuncts_of, only_filter, segment_conjuncts, guard_of, is_guard_operator, mirrored}
+use Rattle.jp_model.specs.Plans.{Guard, guard_on, conjunct_guard, first_guard, conjuncts, conjuncts_of, only_filter, segment_conjuncts, guard_of, is_guard_operator, mirrored}
 use Rattle.jp_model.specs.Query.Singular.{singular_steps}
-use Rattle.jp_model.specs.Query.Syntax.{CompareOp, Literal, root, current, Segment, child_segment, descendant_segment, Segments, no_segments, segment, name_selector, wildcard_selector, index_selector, slice_selector, filter_selector, Selectors, no_selectors, selector, Logical, or_all, and_all, negated, compare, exists, test, Logicals, no_logicals, logical, segment_list, constant, single, result, path}
+use Rattle.jp_model.specs.Query.Syntax.{CompareOp, Literal, Segment, child_segment, descendant_segment, Segments, no_segments, segment, Selectors, Logical, or_all, and_all, negated, compare, exists, test, Logicals, no_logicals, logical, segment_list}
 use Rattle.jp_model.specs.Steps.{Step, steps_equal}
 use Rattle.jp_query.specs.Sound.{is_sound, has_sound_literals, logical_has_sound_literals}
 use Rattle.jp_query.specs.View.{literal_view, op_view}

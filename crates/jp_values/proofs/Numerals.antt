@@ -1,12 +1,12 @@
 -- The digits of a count are read as the count, and orders the other way round.
-use Rattle.std.proofs.Common.{◌≡◌, ℕ, zero, suc, ltb, ◌<◌, ◌≤◌, ◌^◌, Bool, true, false, cond, List, [], ◌∷◌, length, get_or, sym, ◌∙◌, ap, ap₂, refl, arith, ℤ, pos, negsuc, None, decimal, append-nil}
+use Rattle.std.proofs.Common.{◌≡◌, ℕ, zero, suc, ltb, ◌<◌, ◌^◌, Bool, true, false, cond, List, [], ◌∷◌, length, get_or, sym, ◌∙◌, ap, ap₂, refl, arith, ℤ, pos, negsuc, None, decimal, append-nil}
 use Rattle.std.specs.Ordering.{int_cmp, ordering_reverse}
 use Rattle.std.proofs.lemmas.Bool.{ne_eqb}
 use Rattle.std.proofs.lemmas.Bool.Decides.{nat_tests}
 use Rattle.std.proofs.lemmas.Cmp.{int_cmp_total}
 use Rattle.std.proofs.lemmas.Fmt.{digits_decimal, digits_value-decimal, decimal_nonempty, first_decimal, decimal_digit}
 use Rattle.jp_model.proofs.Digits.{digits_model}
-use Rattle.jp_model.specs.Characters.{is_digit, digits_value, value_behind}
+use Rattle.jp_model.specs.Characters.{digits_value}
 use Rattle.jp_model.specs.Json.Numbers.{Numeral, IsNumeral, IsInt, AreDigits, numeral_bytes, numeral_of, is_long_exponent, mantissa, scale, smaller, brought_to}
 use Rattle.jp_model.proofs.Reader.Numbers.{parts_read}
 use Rattle.jp_model.proofs.Reader.Lexical.{clash}

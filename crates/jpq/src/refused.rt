@@ -20,15 +20,15 @@ fn shown(alloc: Global, bytes: &[u8]) -> Result<String, AllocError> {
 /// there is one.
 pub(crate) fn refuse_word(rt: &HostRuntime) -> End {
     let mut room = [0; 4096];
-    for place in 0..usize::MAX {
-        let bytes = match rt.arg(place, &mut room) {
+    for number in 0..usize::MAX {
+        let bytes = match rt.arg(number, &mut room) {
             Ok(length) => &room[..length],
             Err(FillError::TooLong) => continue,
             Err(FillError::NotPresent) => break,
         };
         if str::from_utf8(bytes).is_err() {
             if let Ok(word) = shown(rt.alloc(), bytes) {
-                let _ = eprintln!(rt; "jpq: word {place} is not UTF-8: {word:?}");
+                let _ = eprintln!(rt; "jpq: word {number} is not UTF-8: {word:?}");
                 return End::Words;
             }
         }

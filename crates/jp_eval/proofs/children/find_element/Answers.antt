@@ -14,23 +14,23 @@ use Rattle.jp_eval.specs.Walks.{IsAt}
 use Rattle.jp_eval.proofs.Elements.{none_outside, nth_is}
 use Rattle.jp_eval.proofs.NoMembers.{no_elements, nameless}
 use Rattle.jp_eval.proofs.children.find_element.Goals as goal
-use Rattle.jp_eval.proofs.children.find_element.Goals.{then-place-lt0-via-then-place-lt0, then-place-lt0-via-else-place-lt0+then-place-gt4294967295}
+use Rattle.jp_eval.proofs.children.find_element.Goals.{then-position-lt0-via-then-position-lt0, then-position-lt0-via-else-position-lt0+then-position-gt4294967295}
 
 pub returns-then-not-is_array-clause-nodes : goal.returns-then-not-is_array-clause-nodes
 returns-then-not-is_array-clause-nodes c =
     let n = node_of c.args.node in
     sym (no_elements (line_of c.args.node) (same_int (normal (child_count n) c.args.index)) n (standing c.args.node).spells (λ is. true≢false (sym (c.is_array.ensures.1 is) ∙ c.if-not-is_array.true)))
 
-pub returns-then-place-lt0-clause-nodes : goal.returns-then-place-lt0-clause-nodes
-returns-then-place-lt0-clause-nodes c =
-    let place : ℤ = c.place_from_start-place.result in
+pub returns-then-position-lt0-clause-nodes : goal.returns-then-position-lt0-clause-nodes
+returns-then-position-lt0-clause-nodes c =
+    let position : ℤ = c.index_from_start-position.result in
     let fits : to_z w64 (of_z w64 c.args.index) ≡ c.args.index = search rules in
-    let outside : (place <ℤ pos 0) ⊎ (pos 4294967295 <ℤ place) =
-    elim c.then-place-lt0.branch [
-      | then-place-lt0-via-then-place-lt0 w ↦ inl (omega (arith, ints))
-      | then-place-lt0-via-else-place-lt0+then-place-gt4294967295 w ↦ inr (omega (arith, ints))
+    let outside : (position <ℤ pos 0) ⊎ (pos 4294967295 <ℤ position) =
+    elim c.then-position-lt0.branch [
+      | then-position-lt0-via-then-position-lt0 w ↦ inl (omega (arith, ints))
+      | then-position-lt0-via-else-position-lt0+then-position-gt4294967295 w ↦ inr (omega (arith, ints))
     ] in
-    none_outside c.args.node place outside ∙ ap (λ (z : ℤ). children_where (is_index (same_int z)) (node_of c.args.node)) c.place_from_start-place.ensures
+    none_outside c.args.node position outside ∙ ap (λ (z : ℤ). children_where (is_index (same_int z)) (node_of c.args.node)) c.index_from_start-position.ensures
     ∙ ap (λ (z : ℤ). indexed z (node_of c.args.node)) fits
 
 whole_again : (z : ℤ) → int_lt z (pos 0) ≡ false → pos (nat_abs z) ≡ z
@@ -40,10 +40,10 @@ whole_again (negsuc n) h = absurd (cc)
 pub returns-clause-nodes : goal.returns-clause-nodes
 returns-clause-nodes c =
     let n = node_of c.args.node in
-    let raw : ℤ = to_z w64 (of_z w64 c.place_from_start-place.result) in
-    let place : ℕ = nat_abs raw in
-    let at : IsAt n place c.nth_child.result = c.nth_child.ensures.at in
-    let kept : raw ≡ c.place_from_start-place.result = search rules in
+    let raw : ℤ = to_z w64 (of_z w64 c.index_from_start-position.result) in
+    let position : ℕ = nat_abs raw in
+    let at : IsAt n position c.nth_child.result = c.nth_child.ensures.at in
+    let kept : raw ≡ c.index_from_start-position.result = search rules in
     let fits : to_z w64 (of_z w64 c.args.index) ≡ c.args.index = search rules in
-    nth_is n place c.nth_child.result at (λ d e. nameless (line_of c.args.node) n place d (standing c.args.node).spells (c.is_array.ensures.0 c.if-not-is_array.false) (subst (λ (r : Option Cursor). IsAt n place r) e at))
-    ∙ (ap (λ (z : ℤ). children_where (is_index (same_int z)) n) (whole_again raw c.if-place-lt0.false ∙ (kept ∙ c.place_from_start-place.ensures)) ∙ ap (λ (z : ℤ). indexed z n) fits)
+    nth_is n position c.nth_child.result at (λ d e. nameless (line_of c.args.node) n position d (standing c.args.node).spells (c.is_array.ensures.0 c.if-not-is_array.false) (subst (λ (r : Option Cursor). IsAt n position r) e at))
+    ∙ (ap (λ (z : ℤ). children_where (is_index (same_int z)) n) (whole_again raw c.if-position-lt0.false ∙ (kept ∙ c.index_from_start-position.ensures)) ∙ ap (λ (z : ℤ). indexed z n) fits)

@@ -12,7 +12,7 @@ pub returns-in-None-clause-at : goal.returns-in-None-clause-at
 returns-in-None-clause-at c =
     let n : Node = node_of c.args.node in
     let i : ℕ = c.loop-passed._passed in
-    at_none n i c.args.place (subst (λ (o : Option Cursor). IsAt n i o) c.in-None.is c.loop-passed.invariant.at) (omega arith)
+    at_none n i c.args.position (subst (λ (o : Option Cursor). IsAt n i o) c.in-None.is c.loop-passed.invariant.at) (omega arith)
 
 pub loop-passed-preserved : goal.loop-passed-preserved
 loop-passed-preserved c =

@@ -28,14 +28,14 @@ returns c =
     let len : ℕ = child_count n in
     let fit1 : to_z w64 (of_z w64 c.unwrap_or.result) ≡ c.unwrap_or.result = search rules in
     let fit2 : to_z w64 (of_z w64 c.unwrap_or-2.result) ≡ c.unwrap_or-2.result = search rules in
-    let fit3 : to_z w64 (of_z w64 c.place_from_start.result) ≡ c.place_from_start.result = search rules in
+    let fit3 : to_z w64 (of_z w64 c.index_from_start.result) ≡ c.index_from_start.result = search rules in
     let low : c.max.result ≡ int_max (normal len (unwrap_or s.first (pos 0))) (pos 0) =
-    c.max.ensures.value ∙ ap (λ (a : ℤ). int_max a (pos 0)) (fit3 ∙ (c.place_from_start.ensures ∙ ap (normal len) (fit1 ∙ c.unwrap_or.ensures))) in
-    let high : c.place_from_start-2.result ≡ normal len (unwrap_or s.last (pos 9223372036854775807)) = c.place_from_start-2.ensures ∙ ap (normal len) (fit2 ∙ c.unwrap_or-2.ensures) in
+    c.max.ensures.value ∙ ap (λ (a : ℤ). int_max a (pos 0)) (fit3 ∙ (c.index_from_start.ensures ∙ ap (normal len) (fit1 ∙ c.unwrap_or.ensures))) in
+    let high : c.index_from_start-2.result ≡ normal len (unwrap_or s.last (pos 9223372036854775807)) = c.index_from_start-2.ensures ∙ ap (normal len) (fit2 ∙ c.unwrap_or-2.ensures) in
     let fit4 : to_z w64 (of_z w64 c.max.result) ≡ c.max.result = search rules in
-    let fit5 : to_z w64 (of_z w64 c.place_from_start-2.result) ≡ c.place_from_start-2.result = search rules in
+    let fit5 : to_z w64 (of_z w64 c.index_from_start-2.result) ≡ c.index_from_start-2.result = search rules in
     let fit6 : to_z w64 (of_z w64 s.step) ≡ s.step = search rules in
     let l : ℤ = to_z w64 (of_z w64 c.max.result) in
-    let h : ℤ = to_z w64 (of_z w64 c.place_from_start-2.result) in
+    let h : ℤ = to_z w64 (of_z w64 c.index_from_start-2.result) in
     ap (λ (z : ℤ). children_where (is_index (rises l h z)) n) fit6
     ∙ (rising_is c.args.node l h s.first s.last s.step (fit4 ∙ low) (fit5 ∙ high) ∙ up s.first s.last s.step n c.requires)

@@ -81,10 +81,10 @@ compile_logical-returns-in_ok-right-in-Compare t c =
 pub compile_path-returns-in_ok-push-in-Root : goal.compile_path-returns-in_ok-push-in-Root
 compile_path-returns-in_ok-push-in-Root t c =
     let made : Slot-F Slot = record { slots = c.compile_segments.new.self.slots; steps = c.in_ok-steps-in-Root.steps } in
-    slot_means c.args.self.now.slots.items c.push.new.self.items (roll-Slot made) (λ (table : Table). nodes_view table (paths.Slot c.len-place.result)) c.len-place.result (segments_view c.args.path.now.segments.items) (path_view c.args.path.now)
-    (λ table. slot_is table c.len-place.result)
+    slot_means c.args.self.now.slots.items c.push.new.self.items (roll-Slot made) (λ (table : Table). nodes_view table (paths.Slot c.len-position.result)) c.len-position.result (segments_view c.args.path.now.segments.items) (path_view c.args.path.now)
+    (λ table. slot_is table c.len-position.result)
     (path_viewed c.args.path.now ∙ ap (λ (o : Origin). syntax.path (origin_view o) (segments_view c.args.path.now.segments.items)) c.in-Root.is)
-    (slot_made made ∙ (whole _ _ c.in_ok-steps-in-Root.ensures ∙ ap segments_view c.deref.ensures.value)) c.in_ok-push-in-Root.ensures.items (c.len-place.ensures ∙ c.args.self.now.slots.ok.0)
+    (slot_made made ∙ (whole _ _ c.in_ok-steps-in-Root.ensures ∙ ap segments_view c.deref.ensures.value)) c.in_ok-push-in-Root.ensures.items (c.len-position.ensures ∙ c.args.self.now.slots.ok.0)
 
 pub compile_path-returns-in_ok-compile_segments-in-Current : goal.compile_path-returns-in_ok-compile_segments-in-Current
 compile_path-returns-in_ok-compile_segments-in-Current t c =

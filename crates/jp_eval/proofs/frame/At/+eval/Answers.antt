@@ -1,10 +1,10 @@
 -- What was added is what the steps select, and what was answered is what the parts of a filter mean.
-use Rattle.std.proofs.Common.{rules, w64, ℤ, Bool, ◌≡◌, ◌∙◌, ◌+◌, ◌-◌, ◌++◌, [], ◌∷◌, List, ℕ, true, false, refl, map, take, drop, length, filter, flat_map, sym, ap, ap₂, append-nil, subst, arith, Some, Option, Vec, Global}
+use Rattle.std.proofs.Common.{rules, w64, ℤ, Bool, ◌≡◌, ◌∙◌, ◌+◌, ◌-◌, ◌++◌, [], ◌∷◌, List, ℕ, true, false, refl, map, take, drop, length, filter, flat_map, sym, ap, subst, arith, Some, Option, Vec, Global}
 use Rattle.std.specs.Prelude.{IfOk, OnOk, not}
 use Rattle.jp_model.specs.Json.Tree.{Tree, Value}
 use Rattle.jp_model.specs.Meaning.Nodes.{Node, children, children_where, subtree}
 use Rattle.jp_model.specs.Steps.{Step}
-use Rattle.jp_model.specs.Meaning.Selecting.{nodes, segment_nodes, selected, select, truth, path_nodes, given_by, call_value, call_truth}
+use Rattle.jp_model.specs.Meaning.Selecting.{nodes, segment_nodes, selected, select, truth, path_nodes, given_by, call_value}
 use Rattle.jp_model.specs.Meaning.Slices.{sliced, is_index}
 use Rattle.jp_model.specs.Meaning.Functions.{counted, in_pattern, single_value, literal_value}
 use Rattle.jp_model.specs.Query.Syntax as syntax
@@ -21,7 +21,7 @@ use Rattle.jp_eval.specs.Functions.{passing, measured}
 use Rattle.jp_eval.specs.Questions.{answered}
 use Rattle.jp_eval.specs.Keys.{key_view}
 use Rattle.jp_eval.specs.Steps.{step_nodes}
-use Rattle.jp_eval.specs.Programs.{Table, slot_in, step_view, steps_view, choices_view, choice_view, condition_view, nodes_view, invoked_view, given_view}
+use Rattle.jp_eval.specs.Programs.{Table, slot_in, step_view, steps_view, choices_view, choice_view, condition_view, nodes_view, given_view}
 use Rattle.jp_eval.specs.Walks.{IsAt, rises}
 use Rattle.jp_eval.specs.declared.frame.Answer.{Answer}
 use Rattle.jp_eval.specs.declared.frame.Frame.{Frame}
@@ -270,7 +270,7 @@ count_nodes-returns-in-Some-Count-clause-value t c =
     told_before c.args.self.run.now c.args.nodes.now (node_of c.args.self.node) c.kept.result _ c.kept.ensures (c.in-Some-Count.is ∙ ap (λ (a : Answer). Some a) c.in-Some-Count.field-0-is)
 
 pub count_nodes-keep-requires-clause-right : goal.count_nodes-keep-requires-clause-right
-count_nodes-keep-requires-clause-right t c = λ place is.
+count_nodes-keep-requires-clause-right t c = λ position is.
     let new = c.push_nodes.new.frame.found in
     let table : Table = table_in c.args.self.run.now in
     let select = λ (p : syntax.Path). path_nodes p (node_of c.args.self.node) (node_of c.args.self.run.now.root.now).tree in
@@ -279,7 +279,7 @@ count_nodes-keep-requires-clause-right t c = λ place is.
     let small = new.small in
     let old = c.args.frame.now.found.ok.0 in
     let sum = counted_so 18446744073709551615 c.args.frame.now.found.items new.items found c.in_ok-push_nodes.ensures.nodes (omega (arith, size, small)) in
-    let here : length found ≡ length (slot_nodes c.args.self.run.now place) = ap (λ (p : syntax.Path). length (select p)) (ap (nodes_view table) is ∙ slot_is table place) in
+    let here : length found ≡ length (slot_nodes c.args.self.run.now position) = ap (λ (p : syntax.Path). length (select p)) (ap (nodes_view table) is ∙ slot_is table position) in
     omega (arith, sum, size, old, c.len.ensures, c.len-before.ensures, here)
 
 pub count_nodes-returns-clause-value : goal.count_nodes-returns-clause-value

@@ -32,5 +32,5 @@ returns-in-Slot c =
     let inner : Run = c.enter.result.0 in
     let same : nodes (steps_view (table_in inner) c.enter.result.1.now) (node_of c.args.self.run.now.root.now ∷ []) (tree_in inner) ≡ path_nodes (nodes_view table c.args.nodes.now) n t =
     c.enter.ensures.nodes
-    ∙ sym (ap (λ (p : Path). path_nodes p n t) (ap (nodes_view table) c.in-Slot.is ∙ slot_is table c.in-Slot.place)) in
+    ∙ sym (ap (λ (p : Path). path_nodes p n t) (ap (nodes_view table) c.in-Slot.is ∙ slot_is table c.in-Slot.position)) in
     subst (λ (l : List Node). IfSome c.singular_path.result (λ end. node_list end ≡ l)) same (c.singular_path.ensures (table_in inner) (tree_in inner))

@@ -14,18 +14,18 @@ returns-in-Some-clause-view c =
     let slots : List Slot = c.args.self.slots.now in
     let l = c.in-Some.ensures.lookup in
     ap₂ (λ (own : List Slot) (steps : List Step). steps_view (table_of own) steps) c.deref.ensures.value c.deref-in-Some.ensures.value
-    ∙ one_entered slots c.args.place c.in-Some.slot.now (slice_get_read slots (length slots) c.args.place c.in-Some.slot.now refl l.3.0 l.1)
+    ∙ one_entered slots c.args.position c.in-Some.slot.now (slice_get_read slots (length slots) c.args.position c.in-Some.slot.now refl l.3.0 l.1)
 
 pub returns-in-None-clause-view : goal.returns-in-None-clause-view
 returns-in-None-clause-view c =
     let slots : List Slot = c.args.self.slots.now in
-    none_entered slots c.args.place (slice_get_past slots c.args.place (ltb-false c.args.place (length slots) (sym c.in-None.ensures.lookup.0)))
+    none_entered slots c.args.position (slice_get_past slots c.args.position (ltb-false c.args.position (length slots) (sym c.in-None.ensures.lookup.0)))
 
 pub returns-in-Some-clause-nodes : goal.returns-in-Some-clause-nodes
 returns-in-Some-clause-nodes c =
     let run : Run = c.args.self in
     let inner : Run = record { alloc = run.alloc; slots = c.deref.result; root = run.root; at_root = run.at_root } in
-    entered run inner c.deref-in-Some.result.now c.args.place refl (returns-in-Some-clause-view c)
+    entered run inner c.deref-in-Some.result.now c.args.position refl (returns-in-Some-clause-view c)
 
 pub returns-in-None-clause-nodes : goal.returns-in-None-clause-nodes
-returns-in-None-clause-nodes c = entered c.args.self c.args.self [] c.args.place refl (returns-in-None-clause-view c)
+returns-in-None-clause-nodes c = entered c.args.self c.args.self [] c.args.position refl (returns-in-None-clause-view c)
