@@ -5,7 +5,7 @@ ghost use Rattle.jp_tape.specs.Tapes.{IsTapeOf};
 
 mod names;
 
-use crate::{BuildFault, Builder, Cursor, Kind, Tape, build};
+use crate::{BuildFault, Builder, Cursor, Kind, Tape, build, packed_words};
 use jp_decimal::Decimal;
 use jp_masks::line_marks;
 use jp_model::{Framing, LineFault, Span, is_blank};
@@ -42,8 +42,34 @@ fn read(alloc: Global, line: &[u8], framing: Framing) -> Result<Tape, BuildFault
     build(alloc, line, &marks, is_utf8, framing)
 }
 
-/// Reads a line by a builder that read another before.
-fn read_behind(alloc: Global, before: &[u8], line: &[u8]) -> Result<Tape, Fail> {
+/// What a tape tells of a node.
+#[derive(Clone, Copy, Debug, PartialEq, Eq)]
+struct Seen {
+    kind: Kind,
+    span: Span,
+    name: Option<Span>,
+    index: u32,
+    after: u32,
+}
+
+/// What a tape tells of its nodes.
+fn nodes_of(alloc: Global, root: Cursor<'_>) -> Result<Vec<Seen>, AllocError> {
+    let mut nodes = Vec::new(alloc);
+    for place in 0..root.after() {
+        let node = root.go_to(place);
+        nodes.push(Seen {
+            kind: node.kind(),
+            span: node.span(),
+            name: node.name_span(),
+            index: node.index(),
+            after: node.after(),
+        })?;
+    }
+    Ok(nodes)
+}
+
+/// What is told of a line whose tape is behind that of another, by the builder that read the other before.
+fn nodes_behind(alloc: Global, before: &[u8], line: &[u8]) -> Result<Vec<Seen>, Fail> {
     if is_blank(before)
         || before.len() > 0xffff_ffff
         || is_blank(line)
@@ -55,20 +81,19 @@ fn read_behind(alloc: Global, before: &[u8], line: &[u8]) -> Result<Tape, Fail> 
     let marks = line_marks(alloc, line)?;
     let is_utf8 = std::str::from_utf8(before).is_ok();
     let mut builder = Builder::new(alloc);
-    let _tape = builder.build(alloc, before, &marks_before, is_utf8, Framing::Lines);
+    let mut tapes = Vec::new(alloc);
+    let _nodes = builder.append(before, &marks_before, is_utf8, Framing::Lines, &mut tapes);
+    let start = tapes.len();
     let is_utf8 = std::str::from_utf8(line).is_ok();
-    Ok(builder.build(alloc, line, &marks, is_utf8, Framing::Lines)?)
+    let nodes = builder.append(line, &marks, is_utf8, Framing::Lines, &mut tapes)?;
+    let words = packed_words(&tapes, start, nodes, line);
+    Ok(nodes_of(alloc, Cursor::of_words(words, line))?)
 }
 
-/// The words of a tape.
-fn words_of(alloc: Global, tape: &Tape) -> Result<Vec<u64>, AllocError> {
-    let mut words = Vec::new(alloc);
-    for place in 0..tape.len() / 3 {
-        for word in [tape.head(place), tape.span(place), tape.label(place)] {
-            words.push(u64::from(word.high) << 32 | u64::from(word.low))?;
-        }
-    }
-    Ok(words)
+/// The three words of a node in one, as a short line has them.
+fn in_one(head: u64, span: u64, label: u64) -> u64 {
+    head.wrapping_add(span.wrapping_mul(1 << 10))
+        .wrapping_add(label.wrapping_mul(1 << 20))
 }
 
 fn fault(alloc: Global, line: &[u8], framing: Framing) -> Option<LineFault> {
@@ -90,21 +115,17 @@ fn is_refused(alloc: Global, line: &[u8], wanted: LineFault) -> bool {
 #[test]
 fn nodes_stand_in_order(rt: HostRuntime) -> Result<(), Fail> {
     let tape = read(rt.alloc(), b"{\"a\":[1,true]}", Framing::Lines)?;
-    let words: [u64; 12] = [
-        (5 + 3) * 4294967296 + 1,
-        14,
-        0,
-        (5 + 2) * 4294967296,
-        5 * 4294967296 + 13,
-        2 * 4294967296 + 3,
-        3 * 4294967296 + 2,
-        6 * 4294967296 + 7,
-        0,
-        2 * 4294967296 + 2,
-        8 * 4294967296 + 12,
-        1,
+    let nodes = [
+        in_one((5 + 3) * 4294967296 + 1, 14, 0),
+        in_one(
+            (5 + 2) * 4294967296,
+            5 * 4294967296 + 13,
+            2 * 4294967296 + 3,
+        ),
+        in_one(3 * 4294967296 + 2, 6 * 4294967296 + 7, 0),
+        in_one(2 * 4294967296 + 2, 8 * 4294967296 + 12, 1),
     ];
-    assert!(rt; words_of(rt.alloc(), &tape)?.as_slice() == words.as_slice());
+    assert!(rt; tape.words.as_slice() == nodes.as_slice());
     Ok(())
 }
 
@@ -117,8 +138,9 @@ fn the_line_before_is_forgotten(rt: HostRuntime) -> Result<(), Fail> {
     ] {
         for line in ["{\"a\":{\"b\":1}}", "0"] {
             let alone = read(alloc, line.as_bytes(), Framing::Lines)?;
-            let behind = read_behind(alloc, before.as_bytes(), line.as_bytes())?;
-            assert!(rt; words_of(alloc, &behind)? == words_of(alloc, &alone)?);
+            let alone = nodes_of(alloc, Cursor::root(&alone, line.as_bytes()))?;
+            let behind = nodes_behind(alloc, before.as_bytes(), line.as_bytes())?;
+            assert!(rt; behind == alone);
         }
     }
     Ok(())
@@ -227,7 +249,7 @@ fn depth_is_bounded_and_not_recursive(rt: HostRuntime) -> Result<(), Fail> {
 }
 
 /// So many blanks, and an object of one member.
-fn behind_blanks(alloc: Global, blanks: u16) -> Result<Vec<u8>, AllocError> {
+fn behind_blanks(alloc: Global, blanks: u32) -> Result<Vec<u8>, AllocError> {
     let mut line = Vec::new(alloc);
     for _ in 0..blanks {
         line.push(b' ')?;
@@ -241,19 +263,36 @@ fn behind_blanks(alloc: Global, blanks: u16) -> Result<Vec<u8>, AllocError> {
 #[test]
 fn words_are_kept_at_each_limit(rt: HostRuntime) -> Result<(), Fail> {
     let alloc = rt.alloc();
-    // The lines have 1,023 and 1,024 bytes, and 65,535 and 65,536.
-    for blanks in [1016_u16, 1017, 65528, 65529] {
-        let tape = read(alloc, &behind_blanks(alloc, blanks)?, Framing::Lines)?;
-        let start = u64::from(blanks);
-        let words: [u64; 6] = [
-            (5 + 1) * 4294967296 + 1,
-            start * 4294967296 + start + 7,
-            0,
-            3 * 4294967296,
-            (start + 5) * 4294967296 + start + 6,
-            (start + 2) * 4294967296 + start + 3,
-        ];
-        assert!(rt; words_of(alloc, &tape)?.as_slice() == words.as_slice());
+    // The lines have 1,023 and 1,024 bytes, and 2,097,151 and 2,097,152.
+    for blanks in [1016_u32, 1017, 2097144, 2097145] {
+        let line = behind_blanks(alloc, blanks)?;
+        let tape = read(alloc, &line, Framing::Lines)?;
+        let object = Seen {
+            kind: Kind::Object,
+            span: Span {
+                start: blanks,
+                end: blanks + 7,
+            },
+            name: None,
+            index: 0,
+            after: 2,
+        };
+        let member = Seen {
+            kind: Kind::Number,
+            span: Span {
+                start: blanks + 5,
+                end: blanks + 6,
+            },
+            name: Some(Span {
+                start: blanks + 2,
+                end: blanks + 3,
+            }),
+            index: 0,
+            after: 2,
+        };
+        assert!(rt;
+            nodes_of(alloc, Cursor::root(&tape, &line))?.as_slice() == [object, member].as_slice()
+        );
     }
     Ok(())
 }
@@ -262,10 +301,12 @@ fn words_are_kept_at_each_limit(rt: HostRuntime) -> Result<(), Fail> {
 fn blanks_behind_a_text_change_no_word(rt: HostRuntime) -> Result<(), Fail> {
     let alloc = rt.alloc();
     let mut line = nested(alloc, 511, 511)?;
-    let short = read(alloc, &line, Framing::Lines)?;
+    let tape = read(alloc, &line, Framing::Lines)?;
+    let short = nodes_of(alloc, Cursor::root(&tape, &line))?;
     line.extend_from_slice(b"  ")?;
-    let long = read(alloc, &line, Framing::Lines)?;
-    assert!(rt; words_of(alloc, &short)? == words_of(alloc, &long)?);
+    let tape = read(alloc, &line, Framing::Lines)?;
+    let long = nodes_of(alloc, Cursor::root(&tape, &line))?;
+    assert!(rt; short == long);
     Ok(())
 }
 
