@@ -20,9 +20,9 @@ fn digit_count(text: &[u8]) -> usize
     ensures count { result ≡ length (leading_digits text.now) }
     ensures within { result ≤ length text.now }
 {
-    for (place, byte) in text.iter().enumerate() {
+    for (count, byte) in text.iter().enumerate() {
         if !(b'0'..=b'9').contains(byte) {
-            return place;
+            return count;
         }
     }
     text.len()

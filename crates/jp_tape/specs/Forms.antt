@@ -71,11 +71,11 @@ packed bits words = cond (bits == 10) (nodes_by in_one words) (cond (bits == 21)
 abbrev pub IsPackedTapeOf : (words line : List ℕ) → Type 0
 IsPackedTapeOf words line = IsTapeOf (words_in (half_bits (length line)) words) line
 
--- where so many nodes end, that begin at a place of a list of words and are the tape of a line of this length
+-- where so many nodes end, that begin at a word of a list and are the tape of a line of this length
 abbrev pub tape_end : (start nodes size : ℕ) → ℕ
 tape_end start nodes size = start + nodes * node_size (half_bits size)
 
--- so many nodes, from a place of these words on, are the tape of the line
+-- so many nodes, from one of these words on, are the tape of the line
 pub record IsAmong (words : List ℕ) (start nodes : ℕ) (line : List ℕ) : Type 0 where
   pub within : tape_end start nodes (length line) ≤ length words
   pub tape : IsPackedTapeOf (slice_range words start (tape_end start nodes (length line))) line
