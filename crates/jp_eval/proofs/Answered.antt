@@ -1,10 +1,10 @@
 -- Answers at their positions.
-use Rattle.std.proofs.Common.{◌≡◌, ℕ, zero, suc, List, [], ◌∷◌, ◌++◌, slice_set, Option, Some, None, sym, ◌∙◌, ap, refl, subst}
+use Rattle.std.proofs.Common.{◌≡◌, ℕ, zero, suc, List, [], ◌∷◌, ◌++◌, slice_set, Bool, Option, Some, None, sym, ◌∙◌, ap, refl, subst}
 use Rattle.std.specs.Prelude.{slice_get, IfSome}
 use Rattle.jp_model.specs.Meaning.Nodes.{Node}
 use Rattle.jp_model.specs.Meaning.Selecting.{path_nodes}
 use Rattle.jp_eval.specs.Answers.{IsAnswer}
-use Rattle.jp_eval.specs.Frames.{table_in, tree_in, slot_nodes}
+use Rattle.jp_eval.specs.Frames.{table_in, tree_in, slot_nodes, slot_truth}
 use Rattle.jp_model.specs.Query.Syntax.{Path}
 use Rattle.jp_eval.specs.Programs.{nodes_view}
 use Rattle.jp_eval.proofs.Compiled.{slot_is}
@@ -46,9 +46,9 @@ got (z ∷ l) (suc i) zero x y h f g = g h
 got (z ∷ l) (suc i) (suc j) x y h f g = got l i j x y h (λ e k. f (ap suc e) k) g
 
 -- a kept answer is that of the nodes, from whatever node a filter looks
-pub told_before : (run : Run) (asked : Nodes) (n : Node) (result : Option Answer) (answer : Answer) → IfSome result (λ a. (m : Node) → IsAnswer (path_nodes (nodes_view (table_in run) asked) m (tree_in run)) a) → result ≡ Some answer → IsAnswer (path_nodes (nodes_view (table_in run) asked) n (tree_in run)) answer
-told_before run asked n result answer told is = (subst (λ r. IfSome r (λ a. (m : Node) → IsAnswer (path_nodes (nodes_view (table_in run) asked) m (tree_in run)) a)) is told) n
+pub told_before : (run : Run) (asked : Nodes) (n : Node) (result : Option Answer) (answer : Answer) → IfSome result (λ a. (m : Node) → (truth : Bool) × IsAnswer (path_nodes (nodes_view (table_in run) asked) m (tree_in run)) truth a) → result ≡ Some answer → (truth : Bool) × IsAnswer (path_nodes (nodes_view (table_in run) asked) n (tree_in run)) truth answer
+told_before run asked n result answer told is = (subst (λ r. IfSome r (λ a. (m : Node) → (truth : Bool) × IsAnswer (path_nodes (nodes_view (table_in run) asked) m (tree_in run)) truth a)) is told) n
 
 -- the answer of the query of a slot, from whatever node a filter looks
-pub told_from : (run : Run) (asked : Nodes) (position : ℕ) (n : Node) (answer : Answer) → asked ≡ slots.Slot position → IsAnswer (slot_nodes run position) answer → IsAnswer (path_nodes (nodes_view (table_in run) asked) n (tree_in run)) answer
-told_from run asked position n answer is told = subst (λ (p : Path). IsAnswer (path_nodes p n (tree_in run)) answer) (sym (ap (nodes_view (table_in run)) is ∙ slot_is (table_in run) position)) told
+pub told_from : (run : Run) (asked : Nodes) (position : ℕ) (n : Node) (answer : Answer) → asked ≡ slots.Slot position → IsAnswer (slot_nodes run position) (slot_truth run position) answer → (truth : Bool) × IsAnswer (path_nodes (nodes_view (table_in run) asked) n (tree_in run)) truth answer
+told_from run asked position n answer is told = (slot_truth run position, subst (λ (p : Path). IsAnswer (path_nodes p n (tree_in run)) (slot_truth run position) answer) (sym (ap (nodes_view (table_in run)) is ∙ slot_is (table_in run) position)) told)

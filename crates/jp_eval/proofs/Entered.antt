@@ -1,18 +1,21 @@
 -- The query from the root at a position, read by its own slots.
 use Rattle.std.proofs.Common.{◌≡◌, ℕ, zero, suc, List, [], ◌∷◌, map, Some, None, sym, ◌∙◌, ap, refl}
 use Rattle.std.specs.Prelude.{slice_get}
-use Rattle.jp_model.specs.Query.Syntax.{Segments}
+use Rattle.jp_model.specs.Query.Syntax.{Logical, Segments}
 use Rattle.jp_model.specs.Meaning.Nodes.{Node}
-use Rattle.jp_model.specs.Meaning.Selecting.{nodes}
+use Rattle.jp_model.specs.Meaning.Selecting.{nodes, truth}
 use Rattle.jp_tape.specs.declared.cursor.Cursor.{Cursor}
 use Rattle.jp_tape.specs.Cursors.{node_of}
-use Rattle.jp_eval.specs.Frames.{table_in, tree_in, reached, slot_nodes}
-use Rattle.jp_eval.specs.Programs.{table_of, slot_view, steps_view, segments_or_none}
+use Rattle.jp_eval.specs.Frames.{table_in, tree_in, reached, slot_nodes, slot_truth}
+use Rattle.jp_eval.specs.Programs.{Meant, asked_view, condition_view, logical_or_none, table_of, slot_view, steps_view, segments_or_none}
 use Rattle.jp_eval.specs.declared.frame.Run.{Run}
+use Rattle.jp_eval.specs.declared.program.Condition.TheVariants as conditions
 use Rattle.jp_eval.specs.declared.program.Slot.{Slot}
 use Rattle.jp_eval.specs.declared.program.Slot.TheViews.{out-Slot}
 use Rattle.jp_eval.specs.declared.program.Step.{Step}
+use Rattle.jp_eval.proofs.Compiled.{once_is}
 use Rattle.jp_eval.proofs.Descendants.{root_is}
+use Rattle.jp_eval.proofs.FromRoot.{told_of_root}
 use Rattle.jp_eval.proofs.Meanings.{slot_viewed}
 
 get_map : {A B : Type 0} (f : A → B) (l : List A) (position : ℕ) (x : A) → slice_get l position ≡ Some x → slice_get (map f l) position ≡ Some (f x)
@@ -25,11 +28,11 @@ none_map f [] position e = refl
 none_map f (y ∷ l) zero e = absurd (cc)
 none_map f (y ∷ l) (suc position) e = none_map f l position e
 
-pub one_entered : (slots : List Slot) (position : ℕ) (slot : Slot) → slice_get slots position ≡ Some slot → steps_view (table_of (out-Slot slot).slots.items) (out-Slot slot).steps.items ≡ segments_or_none (slice_get (table_of slots) position)
-one_entered slots position slot e = sym (slot_viewed slot) ∙ ap segments_or_none (sym (get_map slot_view slots position slot e))
+pub slot_found : (slots : List Slot) (position : ℕ) (slot : Slot) → slice_get slots position ≡ Some slot → Some (asked_view (table_of (out-Slot slot).slots.items) (out-Slot slot).asked) ≡ slice_get (table_of slots) position
+slot_found slots position slot e = ap (λ (m : Meant). Some m) (sym (slot_viewed slot)) ∙ sym (get_map slot_view slots position slot e)
 
-pub none_entered : (slots : List Slot) (position : ℕ) → slice_get slots position ≡ None → steps_view (table_of slots) [] ≡ segments_or_none (slice_get (table_of slots) position)
-none_entered slots position e = ap segments_or_none (sym (none_map slot_view slots position e))
+pub no_slot : (slots : List Slot) (position : ℕ) → slice_get slots position ≡ None → None ≡ slice_get (table_of slots) position
+no_slot slots position e = sym (none_map slot_view slots position e)
 
 pub entered : (run inner : Run) (steps : List Step) (position : ℕ) → inner.root.now ≡ run.root.now → steps_view (table_in inner) steps ≡ segments_or_none (slice_get (table_in run) position) → reached inner steps (node_of run.root.now ∷ []) ≡ slot_nodes run position
 entered run inner steps position r e =
@@ -37,3 +40,11 @@ entered run inner steps position r e =
     ap (λ (ss : Segments). nodes ss (node_of run.root.now ∷ []) (tree_in inner)) e
     ∙ (ap (λ (c : Cursor). nodes found (node_of run.root.now ∷ []) (node_of c).tree) r
     ∙ ap (λ (m : Node). nodes found (m ∷ []) (tree_in run)) (sym (root_is run.root.now run.at_root)))
+
+-- what a slot asks of the root says the same of each node
+pub once_told : (run : Run) (position : ℕ) (n : Node) → truth (condition_view (table_in run) (conditions.Once position)) n (tree_in run) ≡ slot_truth run position
+once_told run position n =
+    let l : Logical = logical_or_none (slice_get (table_in run) position) in
+    ap (λ (x : Logical). truth x n (tree_in run)) (once_is (table_in run) position)
+    ∙ (told_of_root l n (tree_in run)
+    ∙ ap (λ (m : Node). truth l m (tree_in run)) (root_is run.root.now run.at_root))

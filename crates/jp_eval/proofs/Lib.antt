@@ -15,6 +15,7 @@ pub mod NoMembers
 pub mod Slices
 pub mod Meanings
 pub mod Compiled
+pub mod FromRoot
 pub mod Patterns
 pub mod Answered
 pub mod Entered

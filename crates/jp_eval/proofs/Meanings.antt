@@ -1,12 +1,11 @@
 -- What was compiled keeps its meaning as slots are added.
-use Rattle.std.proofs.Common.{◌≡◌, ℕ, List, [], ◌∷◌, ◌++◌, length, map, sym, ◌∙◌, ap, ap₂, refl, append_assoc, append-nil, Some}
+use Rattle.std.proofs.Common.{◌≡◌, ℕ, List, [], ◌∷◌, ◌++◌, length, map, sym, ◌∙◌, ap, ap₂, refl, append_assoc, append-nil, Option, Some}
 use Rattle.std.specs.Prelude.{slice_get}
-use Rattle.jp_model.specs.Query.Syntax as syntax
 use Rattle.std.proofs.lemmas.List.{length-map}
 use Rattle.jp_eval.specs.declared.program.Slot.{Slot, fold_out-Slot, fold-roll-Slot}
 use Rattle.jp_eval.specs.declared.program.Slot.TheOpen.{Slot-F}
 use Rattle.jp_eval.specs.declared.program.Slot.TheViews.{out-Slot, roll-Slot}
-use Rattle.jp_eval.specs.Programs.{Table, Means, Grows, steps_view, table_of, slot_view, slot_step, slot_in, segments_or_none}
+use Rattle.jp_eval.specs.Programs.{Meant, Table, Means, Grows, asked_view, table_of, slot_view, slot_step}
 
 pub grows_not : (old : List Slot) → Grows old old
 grows_not old = ([], sym (append-nil (table_of old)))
@@ -78,25 +77,25 @@ get_behind {A} l x more position e = ap (slice_get ((l ++ x ∷ []) ++ more)) e 
     go [] = refl
     go (y ∷ l) = go l
 
--- a slot was added, and the part is its query
-pub slot_means : (old new : List Slot) (s : Slot) (u : Table → syntax.Path) (position : ℕ) (x : syntax.Segments) (y : syntax.Path)
-    → ((table : Table) → u table ≡ slot_in table position) → y ≡ syntax.path syntax.root x → slot_view s ≡ x → new ≡ old ++ s ∷ [] → position ≡ length old → Means old new u y
-slot_means old new s u position x y h e m g p =
-    let grown : table_of new ≡ table_of old ++ slot_view s ∷ [] = ap table_of g ∙ map-append slot_view old (s ∷ []) in
+-- a slot was added, and the part is what is read of it
+pub slot_means : {A : Type 0} (old new : List Slot) (m : Meant) (u : Table → A) (read : Option Meant → A) (position : ℕ) (y : A)
+    → ((table : Table) → u table ≡ read (slice_get table position)) → y ≡ read (Some m) → table_of new ≡ table_of old ++ m ∷ [] → position ≡ length old → Means old new u y
+slot_means {A} old new m u read position y h e grown p =
     let size : position ≡ length (table_of old) = p ∙ sym (length-map old slot_view) in
     record {
-      grows = (slot_view s ∷ [], grown);
+      grows = (m ∷ [], grown);
       is = λ more.
-          let found : slice_get (table_of new ++ more) position ≡ Some (slot_view s) = ap (λ (l : Table). slice_get (l ++ more) position) grown ∙ get_behind (table_of old) (slot_view s) more position size in
-          h (table_of new ++ more) ∙ (ap (λ o. syntax.path syntax.root (segments_or_none o)) found ∙ (ap (syntax.path syntax.root) m ∙ sym e));
+          let found : slice_get (table_of new ++ more) position ≡ Some m = ap (λ (l : Table). slice_get (l ++ more) position) grown ∙ get_behind (table_of old) m more position size in
+          h (table_of new ++ more) ∙ (ap read found ∙ sym e);
     }
 
--- the query of a slot is read by its own slots
-pub slot_viewed : (s : Slot) → slot_view s ≡ steps_view (table_of (out-Slot s).slots.items) (out-Slot s).steps.items
-slot_viewed s = fold_out-Slot syntax.Segments slot_step s
+-- the slot that is put behind others
+pub slot_added : (old new : List Slot) (s : Slot-F Slot) → new ≡ old ++ roll-Slot s ∷ [] → table_of new ≡ table_of old ++ asked_view (table_of s.slots.items) s.asked ∷ []
+slot_added old new s e = ap table_of e ∙ (map-append slot_view old (roll-Slot s ∷ []) ∙ ap (λ (m : Meant). table_of old ++ m ∷ []) (fold-roll-Slot Meant slot_step s))
 
-pub slot_made : (s : Slot-F Slot) → slot_view (roll-Slot s) ≡ steps_view (table_of s.slots.items) s.steps.items
-slot_made s = fold-roll-Slot syntax.Segments slot_step s
+-- what a slot asks is read by its own slots
+pub slot_viewed : (s : Slot) → slot_view s ≡ asked_view (table_of (out-Slot s).slots.items) (out-Slot s).asked
+slot_viewed s = fold_out-Slot Meant slot_step s
 
 -- with no more slots
 pub whole : {A : Type 0} {v : Table → A} {x : A} (old new : List Slot) → Means old new v x → v (table_of new) ≡ x

@@ -29,7 +29,7 @@ abbrev mutual
 
   pub size_of_logicals : Logicals → ℕ
   size_of_logicals no_logicals = 0
-  size_of_logicals (logical l ls) = size_of_logical l + 2 + size_of_logicals ls
+  size_of_logicals (logical l ls) = size_of_logical l + 4 + size_of_logicals ls
 
   pub size_of_comparable : Comparable → ℕ
   size_of_comparable (constant c) = 0

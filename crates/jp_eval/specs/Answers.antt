@@ -1,5 +1,5 @@
 -- Answers to what is asked of the nodes that a query selects.
-use Rattle.std.specs.Prelude.{◌≡◌, List, length, ◌==◌, not, Option, true}
+use Rattle.std.specs.Prelude.{◌≡◌, List, length, ◌==◌, not, Bool, Option, true}
 use Rattle.jp_model.specs.Json.Tree as tree
 use Rattle.jp_model.specs.Meaning.Functions.{single_value}
 use Rattle.jp_model.specs.Meaning.Nodes.{Node}
@@ -14,8 +14,9 @@ pub record IsValue (side : Value) (wanted : Option tree.Value) : Type 0 where
   pub value : value_view side ≡ wanted
   pub sound : is_sound_value side ≡ true
 
--- the answer is that of these nodes (RFC 9535, sections 2.3.5.2.2, 2.4.4, 2.4.5 and 2.4.8)
-abbrev pub IsAnswer : List Node → Answer → Type 0
-IsAnswer found (answers.Exists some) = some ≡ not (length found == 0)
-IsAnswer found (answers.Count count) = count ≡ length found
-IsAnswer found (answers.Single is_length side) = IsValue side (measured is_length (single_value found))
+-- the answer is that of these nodes (RFC 9535, sections 2.3.5.2.2, 2.4.4, 2.4.5 and 2.4.8), or this truth
+abbrev pub IsAnswer : List Node → Bool → Answer → Type 0
+IsAnswer found truth (answers.Exists some) = some ≡ not (length found == 0)
+IsAnswer found truth (answers.Count count) = count ≡ length found
+IsAnswer found truth (answers.Single is_length side) = IsValue side (measured is_length (single_value found))
+IsAnswer found truth (answers.Holds is) = is ≡ truth

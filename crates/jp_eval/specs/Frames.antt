@@ -1,11 +1,11 @@
 -- What a call promises of the frame that it is lent.
-use Rattle.std.specs.Prelude.{◌≡◌, ◌≤◌, ℕ, List, ◌++◌, length, map, take, Option, Some, Result, OnOk, slice_get}
+use Rattle.std.specs.Prelude.{◌≡◌, ◌≤◌, ℕ, Bool, List, ◌++◌, length, map, take, Option, Some, Result, OnOk, slice_get}
 use Rattle.jp_model.specs.Json.Tree.{Tree}
 use Rattle.jp_model.specs.Meaning.Nodes.{Node}
-use Rattle.jp_model.specs.Meaning.Selecting.{nodes, path_nodes}
+use Rattle.jp_model.specs.Meaning.Selecting.{nodes, path_nodes, truth}
 use Rattle.jp_eval.specs.Answers.{IsAnswer}
 use Rattle.jp_eval.specs.Found.{Adds}
-use Rattle.jp_eval.specs.Programs.{Table, table_of, slot_in, steps_view}
+use Rattle.jp_eval.specs.Programs.{Table, logical_or_none, table_of, slot_in, steps_view}
 use Rattle.jp_eval.specs.declared.frame.At.{At}
 use Rattle.jp_eval.specs.declared.frame.Run.{Run}
 use Rattle.jp_eval.specs.declared.frame.Answer.{Answer}
@@ -39,9 +39,13 @@ reached run steps starts = nodes (steps_view (table_in run) steps) starts (tree_
 abbrev pub slot_nodes : Run → ℕ → List Node
 slot_nodes run position = path_nodes (slot_in (table_in run) position) (node_of run.root.now) (tree_in run)
 
+-- whether the expression of a slot holds of the root
+abbrev pub slot_truth : Run → ℕ → Bool
+slot_truth run position = truth (logical_or_none (slice_get (table_in run) position)) (node_of run.root.now) (tree_in run)
+
 -- each answer that was kept is right
 abbrev pub AreKept : Run → List (Option Answer) → Type 0
-AreKept run answers = (position : ℕ) (answer : Answer) → slice_get answers position ≡ Some (Some answer) → IsAnswer (slot_nodes run position) answer
+AreKept run answers = (position : ℕ) (answer : Answer) → slice_get answers position ≡ Some (Some answer) → IsAnswer (slot_nodes run position) (slot_truth run position) answer
 
 -- a frame whose answers are right, and that has no more nodes than are looked for
 pub record Stands (at : At) (frame : Frame) : Type 0 where

@@ -4,6 +4,7 @@ pub mod Expressions
 pub mod Functions
 pub mod Constants
 pub mod Walks
+pub mod Roots
 pub mod Programs
 pub mod Compiled
 pub mod Answers

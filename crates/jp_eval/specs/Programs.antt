@@ -5,6 +5,9 @@ use Rattle.jp_query.specs.View.{segments_of, selectors_of, logicals_of, argument
 use Rattle.jp_model.specs.Query.Singular.{step_selector}
 use Rattle.jp_eval.specs.Keys.{key_view}
 use Rattle.jp_eval.specs.Questions.{question_view}
+use Rattle.jp_eval.specs.Roots.{logical_from_root}
+use Rattle.jp_eval.specs.declared.program.Asked.{Asked}
+use Rattle.jp_eval.specs.declared.program.Asked.TheVariants as asked
 use Rattle.jp_eval.specs.declared.program.Step.{Step, fold-Step}
 use Rattle.jp_eval.specs.declared.program.Choice.{Choice, fold-Choice}
 use Rattle.jp_eval.specs.declared.program.Condition.{Condition, fold-Condition}
@@ -16,14 +19,26 @@ use Rattle.jp_eval.specs.declared.program.Slot.{Slot, fold-Slot}
 use Rattle.jp_eval.specs.declared.program.Slot.TheOpen.{Slot-F}
 use Rattle.jp_eval.specs.declared.program.Choice.TheOpen.{Choice-F, Condition-F, Given-F, Nodes-F, Side-F, Step-F, Invoked-F}
 
--- the segments of each slot
-abbrev pub Table : Type 0
-Table = List syntax.Segments
+-- what is asked of the root: a query, or an expression
+pub data Meant : Type 0 where
+  query : syntax.Segments → Meant
+  expression : syntax.Logical → Meant
 
--- no segments where there are none
-abbrev pub segments_or_none : Option syntax.Segments → syntax.Segments
+-- what each slot asks
+abbrev pub Table : Type 0
+Table = List Meant
+
+-- no segments where there is no query
+abbrev pub segments_or_none : Option Meant → syntax.Segments
+segments_or_none (Some (query ss)) = ss
+segments_or_none (Some (expression l)) = syntax.no_segments
 segments_or_none None = syntax.no_segments
-segments_or_none (Some ss) = ss
+
+-- no part of an expression where there is none
+abbrev pub logical_or_none : Option Meant → syntax.Logical
+logical_or_none (Some (query ss)) = syntax.or_all syntax.no_logicals
+logical_or_none (Some (expression l)) = l
+logical_or_none None = syntax.or_all syntax.no_logicals
 
 -- the query of a slot
 abbrev pub slot_in : Table → ℕ → syntax.Path
@@ -38,14 +53,15 @@ choice_step Choice-F.Wildcard = syntax.wildcard_selector
 choice_step (Choice-F.Slice first last step) = syntax.slice_selector first last step
 choice_step (Choice-F.Filter l) = syntax.filter_selector l
 
--- a logical expression
-abbrev pub condition_step : Condition-F syntax.Selector syntax.Logical syntax.Argument syntax.Path syntax.Comparable syntax.Segment syntax.Call → syntax.Logical
-condition_step (Condition-F.Or ls) = syntax.or_all (logicals_of ls.items)
-condition_step (Condition-F.And ls) = syntax.and_all (logicals_of ls.items)
-condition_step (Condition-F.Not l) = syntax.negated l.value
-condition_step (Condition-F.Compare a op b) = syntax.compare a (op_view op) b
-condition_step (Condition-F.Asks p question) = question_view question p
-condition_step (Condition-F.Test c) = syntax.test c
+-- a logical expression; what is asked of the root says `$` where it said `@`
+abbrev pub condition_step : Table → Condition-F syntax.Selector syntax.Logical syntax.Argument syntax.Path syntax.Comparable syntax.Segment syntax.Call → syntax.Logical
+condition_step table (Condition-F.Or ls) = syntax.or_all (logicals_of ls.items)
+condition_step table (Condition-F.And ls) = syntax.and_all (logicals_of ls.items)
+condition_step table (Condition-F.Not l) = syntax.negated l.value
+condition_step table (Condition-F.Compare a op b) = syntax.compare a (op_view op) b
+condition_step table (Condition-F.Asks p question) = question_view question p
+condition_step table (Condition-F.Once position) = logical_from_root (logical_or_none (slice_get table position))
+condition_step table (Condition-F.Test c) = syntax.test c
 
 -- an argument
 abbrev pub given_step : Given-F syntax.Selector syntax.Logical syntax.Argument syntax.Path syntax.Comparable syntax.Segment syntax.Call → syntax.Argument
@@ -80,31 +96,31 @@ invoked_step c = syntax.call (chars (string_bytes c.named.name)) (arguments_of c
 
 -- the selector that a choice was made of
 abbrev pub choice_view : Table → Choice → syntax.Selector
-choice_view table = fold-Choice syntax.Selector syntax.Logical syntax.Argument syntax.Path syntax.Comparable syntax.Segment syntax.Call choice_step condition_step given_step (nodes_step table) side_step step_step invoked_step
+choice_view table = fold-Choice syntax.Selector syntax.Logical syntax.Argument syntax.Path syntax.Comparable syntax.Segment syntax.Call choice_step (condition_step table) given_step (nodes_step table) side_step step_step invoked_step
 
 -- the logical expression of a condition
 abbrev pub condition_view : Table → Condition → syntax.Logical
-condition_view table = fold-Condition syntax.Selector syntax.Logical syntax.Argument syntax.Path syntax.Comparable syntax.Segment syntax.Call choice_step condition_step given_step (nodes_step table) side_step step_step invoked_step
+condition_view table = fold-Condition syntax.Selector syntax.Logical syntax.Argument syntax.Path syntax.Comparable syntax.Segment syntax.Call choice_step (condition_step table) given_step (nodes_step table) side_step step_step invoked_step
 
 -- the argument that is given
 abbrev pub given_view : Table → Given → syntax.Argument
-given_view table = fold-Given syntax.Selector syntax.Logical syntax.Argument syntax.Path syntax.Comparable syntax.Segment syntax.Call choice_step condition_step given_step (nodes_step table) side_step step_step invoked_step
+given_view table = fold-Given syntax.Selector syntax.Logical syntax.Argument syntax.Path syntax.Comparable syntax.Segment syntax.Call choice_step (condition_step table) given_step (nodes_step table) side_step step_step invoked_step
 
 -- the query within a filter
 abbrev pub nodes_view : Table → Nodes → syntax.Path
-nodes_view table = fold-Nodes syntax.Selector syntax.Logical syntax.Argument syntax.Path syntax.Comparable syntax.Segment syntax.Call choice_step condition_step given_step (nodes_step table) side_step step_step invoked_step
+nodes_view table = fold-Nodes syntax.Selector syntax.Logical syntax.Argument syntax.Path syntax.Comparable syntax.Segment syntax.Call choice_step (condition_step table) given_step (nodes_step table) side_step step_step invoked_step
 
 -- the side of a comparison
 abbrev pub side_view : Table → Side → syntax.Comparable
-side_view table = fold-Side syntax.Selector syntax.Logical syntax.Argument syntax.Path syntax.Comparable syntax.Segment syntax.Call choice_step condition_step given_step (nodes_step table) side_step step_step invoked_step
+side_view table = fold-Side syntax.Selector syntax.Logical syntax.Argument syntax.Path syntax.Comparable syntax.Segment syntax.Call choice_step (condition_step table) given_step (nodes_step table) side_step step_step invoked_step
 
 -- the segment of a step
 abbrev pub step_view : Table → Step → syntax.Segment
-step_view table = fold-Step syntax.Selector syntax.Logical syntax.Argument syntax.Path syntax.Comparable syntax.Segment syntax.Call choice_step condition_step given_step (nodes_step table) side_step step_step invoked_step
+step_view table = fold-Step syntax.Selector syntax.Logical syntax.Argument syntax.Path syntax.Comparable syntax.Segment syntax.Call choice_step (condition_step table) given_step (nodes_step table) side_step step_step invoked_step
 
 -- the call of a function
 abbrev pub invoked_view : Table → Invoked → syntax.Call
-invoked_view table = fold-Invoked syntax.Selector syntax.Logical syntax.Argument syntax.Path syntax.Comparable syntax.Segment syntax.Call choice_step condition_step given_step (nodes_step table) side_step step_step invoked_step
+invoked_view table = fold-Invoked syntax.Selector syntax.Logical syntax.Argument syntax.Path syntax.Comparable syntax.Segment syntax.Call choice_step (condition_step table) given_step (nodes_step table) side_step step_step invoked_step
 
 -- the segments of some steps, in order
 abbrev pub steps_view : Table → List Step → syntax.Segments
@@ -124,13 +140,18 @@ givens_view table args = arguments_of (map (given_view table) args)
 
 -- ---- slots
 
--- the segments of a query from the root, whose own slots are seen already
-abbrev pub slot_step : Slot-F syntax.Segments → syntax.Segments
-slot_step s = steps_view s.slots.items s.steps.items
+-- what is asked of the root, whose own slots are seen already
+abbrev pub asked_view : Table → Asked → Meant
+asked_view table (asked.Steps ss) = query (steps_view table ss.items)
+asked_view table (asked.Compare a op b) = expression (syntax.compare (side_view table a) (op_view op) (side_view table b))
+asked_view table (asked.Test c) = expression (syntax.test (invoked_view table c))
 
--- the segments of a slot
-abbrev pub slot_view : Slot → syntax.Segments
-slot_view = fold-Slot syntax.Segments slot_step
+-- what a slot asks
+abbrev pub slot_step : Slot-F Meant → Meant
+slot_step s = asked_view s.slots.items s.asked
+
+abbrev pub slot_view : Slot → Meant
+slot_view = fold-Slot Meant slot_step
 
 -- those of each slot
 abbrev pub table_of : List Slot → Table

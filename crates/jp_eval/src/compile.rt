@@ -1,11 +1,11 @@
 //! A query is compiled: once, and not for each line.
 
-ghost use Rattle.std.specs.Prelude.{◌≡◌, [], map, true, IfOk, IfSome, option_map, chars, string_bytes};
+ghost use Rattle.std.specs.Prelude.{◌≡◌, ◌++◌, [], ◌∷◌, length, map, true, IfOk, IfSome, OnOk, option_map, chars, string_bytes};
 ghost use Rattle.jp_decimal.specs.Decimals.{numeral_number};
 ghost use Rattle.jp_eval.specs.Constants.{is_read_as};
 ghost use Rattle.jp_eval.specs.Expressions.{readable};
 ghost use Rattle.jp_eval.specs.Questions.{passing_name};
-ghost use Rattle.jp_eval.specs.Programs.{Table, Means, steps_view, step_view, choices_view, choice_view, conditions_view, condition_view, side_view, nodes_view, invoked_view, givens_view, given_view};
+ghost use Rattle.jp_eval.specs.Programs.{Table, Means, asked_view, table_of, steps_view, step_view, choices_view, choice_view, conditions_view, condition_view, side_view, nodes_view, invoked_view, givens_view, given_view};
 ghost use Rattle.jp_model.specs.Query.Limits.{segments_pass, segment_passes, selectors_pass, selector_passes, logical_passes, logicals_pass, comparable_passes, path_passes, call_passes, arguments_pass, argument_passes};
 ghost use Rattle.jp_eval.specs.Keys.{key_view};
 ghost use Rattle.jp_model.specs.Query.Singular.{step_selector};
@@ -16,8 +16,9 @@ ghost use Rattle.jp_query.specs.View.{op_view, literal_view, segments_view, segm
 use crate::Result;
 use crate::functions::{Function, function_of};
 use crate::leaves::{Constant, LiteralPattern, MemberName, Named};
-use crate::program::{Choice, Condition, Given, Invoked, Nodes, Side, Slot, Step};
+use crate::program::{Asked, Choice, Condition, Given, Invoked, Nodes, Side, Slot, Step};
 use crate::question::{Key, Question};
+use crate::roots::{call_asks_root, sides_ask_root};
 use jp_decimal::{Decimal, Numeral};
 use jp_iregexp::Pattern;
 use jp_query::{
@@ -152,7 +153,12 @@ fn match_of(call: &Call) -> Option<(bool, &Path, &str)>
     }
 }
 
-/// What compiles a query, and the slots of the queries from the root that it has come upon.
+/// Whether a comparison is one question of one query.
+fn is_question(left: &Comparable, right: &Comparable) -> bool {
+    matches!(left, Comparable::Single(_)) && matches!(right, Comparable::Constant(_))
+}
+
+/// What compiles a query, and the slots of what it has come upon that is asked of the root.
 #[derive(Drop)]
 pub(crate) struct Compiler {
     pub(crate) alloc: Global,
@@ -168,6 +174,16 @@ impl Compiler {
             alloc,
             slots: Vec::new(alloc),
         }
+    }
+
+    /// Adds a slot, and answers its position.
+    fn add_slot(&mut self, slots: Vec<Slot>, asked: Asked) -> Result<usize>
+        ensures position { IfOk result (λ position. position ≡ length self.old.slots.items) }
+        ensures added { OnOk result (table_of self.new.slots.items ≡ table_of self.old.slots.items ++ asked_view (table_of slots.items) asked ∷ []) }
+    {
+        let position = self.slots.len();
+        self.slots.push(Slot { slots, asked })?;
+        Ok(position)
     }
 
     /// The steps of segments, in their order.
@@ -264,11 +280,7 @@ impl Compiler {
                 let inner = self.compile_logical(inner)?;
                 Ok(Condition::Not(Box::new(self.alloc, inner)?))
             }
-            Logical::Compare { left, op, right } => {
-                let left = self.compile_side(left)?;
-                let right = self.compile_side(right)?;
-                Ok(comparison(left, *op, right))
-            }
+            Logical::Compare { left, op, right } => self.compile_comparison(left, *op, right),
             Logical::Exists(path) => {
                 let nodes = self.compile_path(path)?;
                 Ok(Condition::Asks(nodes, Question::Exists))
@@ -277,12 +289,42 @@ impl Compiler {
         }
     }
 
-    /// The condition of a call that answers a truth.
+    /// The condition of a comparison. One that asks the root alone becomes a slot, where it is more than a question.
+    #[cycle(compile)]
+    fn compile_comparison(
+        &mut self,
+        left: &Comparable,
+        op: CompareOp,
+        right: &Comparable,
+    ) -> Result<Condition>
+        requires left { comparable_passes (comparable_view left.now) readable ≡ true }
+        requires right { comparable_passes (comparable_view right.now) readable ≡ true }
+        ensures { IfOk result (λ condition. Means self.old.slots.items self.new.slots.items (λ (table : Table). condition_view table condition) (compare (comparable_view left.now) (op_view op) (comparable_view right.now))) }
+    {
+        if !is_question(left, right) && sides_ask_root(left, right) {
+            let mut inner = Compiler::new(self.alloc);
+            let left = inner.compile_side(left)?;
+            let right = inner.compile_side(right)?;
+            let position = self.add_slot(inner.slots, Asked::Compare { left, op, right })?;
+            return Ok(Condition::Once(position));
+        }
+        let left = self.compile_side(left)?;
+        let right = self.compile_side(right)?;
+        Ok(comparison(left, op, right))
+    }
+
+    /// The condition of a call that answers a truth. One that asks the root alone becomes a slot.
     #[cycle(compile)]
     fn compile_test(&mut self, call: &Call) -> Result<Condition>
         requires literals { call_passes (call_view call.now) readable ≡ true }
         ensures { IfOk result (λ condition. Means self.old.slots.items self.new.slots.items (λ (table : Table). condition_view table condition) (test (call_view call.now))) }
     {
+        if call_asks_root(call) {
+            let mut inner = Compiler::new(self.alloc);
+            let invoked = inner.compile_call(call)?;
+            let position = self.add_slot(inner.slots, Asked::Test(invoked))?;
+            return Ok(Condition::Once(position));
+        }
         if let Some((whole, path, text)) = match_of(call) {
             let nodes = self.compile_path(path)?;
             let pattern = compile_pattern(self.alloc, text)?;
@@ -317,9 +359,7 @@ impl Compiler {
             Origin::Root => {
                 let mut inner = Compiler::new(self.alloc);
                 let steps = inner.compile_segments(&path.segments)?;
-                let slots = inner.slots;
-                let position = self.slots.len();
-                self.slots.push(Slot { slots, steps })?;
+                let position = self.add_slot(inner.slots, Asked::Steps(steps))?;
                 Ok(Nodes::Slot(position))
             }
             Origin::Current => Ok(Nodes::Current(self.compile_segments(&path.segments)?)),

@@ -8,8 +8,8 @@ use jp_tape::Cursor;
 use jp_values::Value;
 use std::alloc::Global;
 
-/// What stays the same: where memory comes from, the queries from the root that are asked of, and the root of the line, which
-/// is `$` in each expression.
+/// What stays the same: where memory comes from, what is asked of the root, and the root of the line, which is `$` in each
+/// expression.
 #[derive(Clone, Copy)]
 pub(crate) struct Run<'p, 'a> {
     pub(crate) alloc: Global,
@@ -28,7 +28,7 @@ pub(crate) struct At<'r, 'a> {
     ghost in_line: { line_of node ≡ line_of run.now.root.now },
 }
 
-/// The answer to what was asked of the nodes that a query selects.
+/// The answer to what was asked of the nodes that a query from the root selects, or of the root alone.
 #[derive(Clone, Copy)]
 pub(crate) enum Answer<'a> {
     /// Whether there is one.
@@ -37,9 +37,11 @@ pub(crate) enum Answer<'a> {
     Count(u64),
     /// The value of the single node, or how long it is.
     Single(bool, Value<'a>),
+    /// Whether a comparison holds, or a call is true.
+    Holds(bool),
 }
 
-/// What changes: the nodes that were found, and what was answered of the queries from the root, by their positions.
+/// What changes: the nodes that were found, and what was answered of what is asked of the root, by the positions of the slots.
 #[derive(Drop)]
 pub(crate) struct Frame<'a> {
     pub(crate) found: Vec<Cursor<'a>>,

@@ -16,6 +16,7 @@ mod functions;
 mod leaves;
 mod program;
 mod question;
+mod roots;
 mod run;
 mod singular;
 mod steps;

@@ -6,7 +6,7 @@
 //! |---|---|---|
 //! | `Segment` | `Step` | whether it leads to one child, by a `Key` |
 //! | `Selector` | `Choice` | of a name, whether each of its bytes stands for itself |
-//! | `Logical` | `Condition` | whether it asks one query one `Question` |
+//! | `Logical` | `Condition` | whether it asks one query one `Question`; whether it asks the root alone |
 //! | `Path` | `Nodes` | the slot of a query from the root |
 //! | `Comparable` | `Side` | the value of a number |
 //! | `Argument` | `Given` | the same, and the pattern that a text spells |
@@ -51,6 +51,8 @@ pub(crate) enum Condition {
     Not(Box<Condition>),
     /// What is asked of the nodes of a query, beside what the filter spells. Most filters ask no more.
     Asks(Nodes, Question),
+    /// What the slot at this position asks of the root, so that the answer is the same for each node of a line.
+    Once(usize),
     Compare {
         left: Side,
         op: CompareOp,
@@ -98,9 +100,24 @@ pub(crate) struct Invoked {
     pub(crate) arguments: Vec<Given>,
 }
 
-/// A query from the root within a filter, and those within its own filters.
+/// What a filter asks of the root, once in a line, and the slots of what is within it.
 #[derive(Drop)]
 pub(crate) struct Slot {
     pub(crate) slots: Vec<Slot>,
-    pub(crate) steps: Vec<Step>,
+    pub(crate) asked: Asked,
+}
+
+/// What is asked of the root.
+#[derive(Drop)]
+pub(crate) enum Asked {
+    /// The nodes of a query.
+    Steps(Vec<Step>),
+    /// Whether a comparison holds that asks nothing of another node.
+    Compare {
+        left: Side,
+        op: CompareOp,
+        right: Side,
+    },
+    /// Whether a call is true that asks nothing of another node.
+    Test(Invoked),
 }

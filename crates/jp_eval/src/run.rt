@@ -15,7 +15,7 @@ ghost use Rattle.jp_eval.specs.Answers.{IsValue};
 ghost use Rattle.jp_eval.specs.Expressions.{all_are};
 ghost use Rattle.jp_eval.specs.Found.{AreOf};
 ghost use Rattle.jp_eval.specs.Functions.{measured};
-ghost use Rattle.jp_eval.specs.Frames.{here, table_at, tree_at, reached, AreKept, Stands, Pushes, Lends};
+ghost use Rattle.jp_eval.specs.Frames.{here, table_at, tree_at, slot_truth, reached, AreKept, Stands, Pushes, Lends};
 ghost use Rattle.jp_eval.specs.Questions.{answered};
 ghost use Rattle.jp_eval.specs.Programs.{step_view, choices_view, choice_view, conditions_view, condition_view, side_view, nodes_view, invoked_view, given_view};
 ghost use Rattle.jp_eval.specs.Walks.{rises};
@@ -25,8 +25,9 @@ use crate::answers::no_answers;
 use crate::children::{Rising, Slice, find_falling};
 use crate::frame::{Answer, At, Frame};
 use crate::functions::{Function, length_of, measure, read_passes, read_pattern};
-use crate::program::{Choice, Condition, Given, Invoked, Nodes, Side, Step};
+use crate::program::{Asked, Choice, Condition, Given, Invoked, Nodes, Side, Step};
 use crate::question::Question;
+use crate::roots::condition_asks_root;
 use crate::singular::singular_path;
 use jp_query::CompareOp;
 use jp_tape::Cursor;
@@ -204,10 +205,8 @@ impl<'r, 'a> At<'r, 'a> {
         requires { Stands self frame.old }
         ensures { Pushes self.entry frame.old frame.new result (reached self.entry.run.now rest.now (filter (λ c. truth_of (condition_view (table_at self.entry) condition.now) c (tree_at self.entry)) (children (here self.entry)))) }
     {
-        if let Condition::Asks(nodes, question) = condition
-            && let Nodes::Slot(_) = nodes
-        {
-            return if self.ask(nodes, question, frame)? {
+        if condition_asks_root(condition) {
+            return if self.holds_by_parts(condition, frame)? {
                 self.push_children(rest, frame)
             } else {
                 Ok(())
@@ -259,11 +258,52 @@ impl<'r, 'a> At<'r, 'a> {
             Condition::And(parts) => self.are_all(parts, true, frame),
             Condition::Not(inner) => Ok(!self.holds(inner, frame)?),
             Condition::Asks(nodes, question) => self.ask(nodes, question, frame),
+            Condition::Once(position) => self.holds_once(*position, frame),
             Condition::Compare { left, op, right } => {
                 self.compare_values(*op, left, right, frame)
             }
             Condition::Test(invoked) => self.call_truth(invoked, frame),
         }
+    }
+
+    /// Whether what a slot asks of the root holds. What is found is kept.
+    #[cycle(eval)]
+    #[inline(never)]
+    fn holds_once(self, position: usize, frame: &mut Frame<'a>) -> Result<bool>
+        requires { AreKept self.run.now frame.old.answers.items }
+        ensures lends { Lends self.entry frame.old frame.new result }
+        ensures value { IfOk result (λ b. b ≡ slot_truth self.entry.run.now position) }
+    {
+        if let Some(Answer::Holds(truth)) = self.run.kept_at(position, frame) {
+            return Ok(truth);
+        }
+        let truth = self.ask_root(position, frame)?;
+        self.run.keep_at(position, Answer::Holds(truth), frame);
+        Ok(truth)
+    }
+
+    /// Whether what a slot asks of the root holds. It is read by its own slots, of which each is asked once, so that no answer is kept.
+    #[cycle(eval)]
+    #[inline(always)]
+    fn ask_root(self, position: usize, frame: &mut Frame<'a>) -> Result<bool>
+        requires { AreKept self.run.now frame.old.answers.items }
+        ensures lends { Lends self.entry frame.old frame.new result }
+        ensures value { IfOk result (λ b. b ≡ slot_truth self.entry.run.now position) }
+    {
+        let Some((inner, asked)) = self.run.asked_at(position) else {
+            return Ok(false);
+        };
+        let mut answers = Vec::new(inner.alloc);
+        std::mem::swap(&mut frame.answers, &mut answers);
+        let (run, node, most) = (&inner, *inner.root, self.most);
+        let at = At { run, node, most };
+        let result = match asked {
+            Asked::Steps(_) => Ok(false),
+            Asked::Compare { left, op, right } => at.compare_values(*op, left, right, frame),
+            Asked::Test(invoked) => at.call_truth(invoked, frame),
+        };
+        std::mem::swap(&mut frame.answers, &mut answers);
+        result
     }
 
     /// Whether each part is true, or each is false.

@@ -1,5 +1,6 @@
 -- What was compiled means what it was made of.
-use Rattle.std.proofs.Common.{rules, arith, ◌≡◌, ◌∙◌, ℕ, ◌+◌, true, List, ◌∷◌, map, drop, sym, ap, refl, subst, chars, string_bytes}
+use Rattle.std.proofs.Common.{rules, arith, ◌≡◌, ◌∙◌, ℕ, ◌+◌, true, List, ◌∷◌, map, drop, sym, ap, ap₂, refl, subst, chars, string_bytes, Option}
+use Rattle.std.specs.Prelude.{IfOk}
 use Rattle.std.proofs.lemmas.Bool.{and_parts}
 use Rattle.jp_model.specs.Query.Syntax as syntax
 use Rattle.jp_model.specs.Query.Limits.{segments_pass, selectors_pass, logicals_pass, arguments_pass, logical_passes, comparable_passes, call_passes}
@@ -11,7 +12,8 @@ use Rattle.jp_query.specs.declared.tree.Argument.{Argument}
 use Rattle.jp_query.specs.declared.tree.Origin.{Origin}
 use Rattle.jp_eval.specs.Expressions.{readable}
 use Rattle.jp_eval.specs.Questions.{passing_name, question_view}
-use Rattle.jp_eval.specs.Programs.{Table, step_view, choice_view, condition_view, given_view, nodes_view, side_view, invoked_view, givens_view}
+use Rattle.jp_eval.specs.Roots.{logical_from_root, side_asks_root}
+use Rattle.jp_eval.specs.Programs.{Meant, query, expression, Means, Table, logical_or_none, segments_or_none, table_of, steps_view, step_view, choice_view, condition_view, given_view, nodes_view, side_view, invoked_view, givens_view}
 use Rattle.jp_eval.specs.declared.program.Step.TheVariants as steps
 use Rattle.jp_eval.specs.declared.program.Choice.TheVariants as choices
 use Rattle.jp_eval.specs.declared.program.Condition.TheVariants as conditions
@@ -20,15 +22,13 @@ use Rattle.jp_eval.specs.declared.program.Given.TheVariants as givens
 use Rattle.jp_eval.specs.declared.program.Nodes.TheVariants as paths
 use Rattle.jp_eval.specs.declared.question.Question.TheVariants as questions
 use Rattle.jp_eval.specs.declared.program.Invoked.{Invoked}
-use Rattle.jp_eval.specs.declared.program.Slot.{Slot}
-use Rattle.jp_eval.specs.declared.program.Slot.TheOpen.{Slot-F}
-use Rattle.jp_eval.specs.declared.program.Slot.TheViews.{roll-Slot}
 use Rattle.std.proofs.lemmas.List.{drop_all}
 use Rattle.jp_eval.proofs.Lists.{item_at}
 use Rattle.jp_eval.proofs.Sizes.{size_of_segments, size_of_selectors, size_of_logical, size_of_logicals, size_of_arguments, size_of_call}
 use Rattle.jp_eval.proofs.Views.{path_viewed, call_viewed, compare_viewed, nodes_viewed, condition_viewed, result_viewed}
-use Rattle.jp_eval.proofs.Compiled.{child_seen, descendant_seen, filter_seen, or_seen, and_seen, not_seen, exists_seen, single_seen, result_seen, child_is, descendant_is, filter_is, or_is, and_is, not_is, asks_is, test_is, single_is, result_is, nodes_given, condition_given, result_given, slot_is, current_is, invoked_is}
-use Rattle.jp_eval.proofs.Meanings.{means_by, both_mean, one_more, none_more, slot_means, slot_made, whole}
+use Rattle.jp_eval.proofs.FromRoot.{call_rooted, side_rooted}
+use Rattle.jp_eval.proofs.Compiled.{once_is, child_seen, descendant_seen, filter_seen, or_seen, and_seen, not_seen, exists_seen, single_seen, result_seen, child_is, descendant_is, filter_is, or_is, and_is, not_is, asks_is, test_is, single_is, result_is, nodes_given, condition_given, result_given, slot_is, current_is, invoked_is}
+use Rattle.jp_eval.proofs.Meanings.{means_by, both_mean, one_more, none_more, slot_means, whole}
 use Rattle.jp_eval.proofs.compile.Compiler.+compile.Goals as goal
 
 pub compile_segment-returns-in_ok-compile_selectors-in-Child : goal.compile_segment-returns-in_ok-compile_selectors-in-Child
@@ -70,21 +70,64 @@ compile_logical-returns-in_ok-new-in-Not t c =
     (λ table. not_is table c.in_ok-new-in-Not.field-0 ∙ search (rules, c.in_ok-new-in-Not.ensures))
     (ap logical_view c.in-Not.is ∙ (not_seen c.in-Not.inner ∙ ap (λ (l : Logical). syntax.negated (logical_view l)) (sym c.deref-in-Not.ensures))) c.in_ok-inner-in-Not.ensures
 
-pub compile_logical-returns-in_ok-right-in-Compare : goal.compile_logical-returns-in_ok-right-in-Compare
-compile_logical-returns-in_ok-right-in-Compare t c =
-    let op = c.in-Compare.op in
-    both_mean (λ (a b : syntax.Comparable). syntax.compare a (op_view op) b) (λ (table : Table). condition_view table c.comparison.result) (logical_view c.args.expression.now)
-    c.comparison.ensures
-    (ap logical_view c.in-Compare.is ∙ compare_viewed c.in-Compare.left op c.in-Compare.right)
-    c.in_ok-left-in-Compare.ensures c.in_ok-right-in-Compare.ensures
+pub compile_logical-returns-in-Compare : goal.compile_logical-returns-in-Compare
+compile_logical-returns-in-Compare t c =
+    let seen = ap logical_view c.in-Compare.is ∙ compare_viewed c.in-Compare.left c.in-Compare.op c.in-Compare.right in
+    subst (λ (l : syntax.Logical). IfOk c.compile_comparison.result (λ x. Means c.args.self.now.slots.items c.compile_comparison.new.self.slots.items (λ (table : Table). condition_view table x) l)) (sym seen) c.compile_comparison.ensures
 
-pub compile_path-returns-in_ok-push-in-Root : goal.compile_path-returns-in_ok-push-in-Root
-compile_path-returns-in_ok-push-in-Root t c =
-    let made : Slot-F Slot = record { slots = c.compile_segments.new.self.slots; steps = c.in_ok-steps-in-Root.steps } in
-    slot_means c.args.self.now.slots.items c.push.new.self.items (roll-Slot made) (λ (table : Table). nodes_view table (paths.Slot c.len-position.result)) c.len-position.result (segments_view c.args.path.now.segments.items) (path_view c.args.path.now)
-    (λ table. slot_is table c.len-position.result)
-    (path_viewed c.args.path.now ∙ ap (λ (o : Origin). syntax.path (origin_view o) (segments_view c.args.path.now.segments.items)) c.in-Root.is)
-    (slot_made made ∙ (whole _ _ c.in_ok-steps-in-Root.ensures ∙ ap segments_view c.deref.ensures.value)) c.in_ok-push-in-Root.ensures.items (c.len-position.ensures ∙ c.args.self.now.slots.ok.0)
+pub compile_logical-compile_comparison-requires : goal.compile_logical-compile_comparison-requires
+compile_logical-compile_comparison-requires t c =
+    let seen = ap logical_view c.in-Compare.is ∙ compare_viewed c.in-Compare.left c.in-Compare.op c.in-Compare.right in
+    let both = and_parts (comparable_passes (comparable_view c.in-Compare.left) readable) (comparable_passes (comparable_view c.in-Compare.right) readable) (subst (λ (l : syntax.Logical). logical_passes l readable ≡ true) seen c.requires.literals) in
+    let size = ap size_of_logical seen in
+    (omega (arith, size, c.decreases), both)
+
+pub compile_comparison-returns : goal.compile_comparison-returns
+compile_comparison-returns t c =
+    let op = op_view c.args.op in
+    both_mean (λ (a b : syntax.Comparable). syntax.compare a op b) (λ (table : Table). condition_view table c.comparison.result) (syntax.compare (comparable_view c.args.left.now) op (comparable_view c.args.right.now))
+    c.comparison.ensures refl c.in_ok-left-2.ensures c.in_ok-right-2.ensures
+
+pub compile_path-returns-in_ok-position-in-Root : goal.compile_path-returns-in_ok-position-in-Root
+compile_path-returns-in_ok-position-in-Root t c =
+    let asked : Meant = query (steps_view (table_of c.compile_segments.new.self.slots.items) c.in_ok-steps-in-Root.steps.items) in
+    let position : ℕ = c.in_ok-position-in-Root.position in
+    slot_means c.args.self.now.slots.items c.add_slot.new.self.slots.items asked (λ (table : Table). nodes_view table (paths.Slot position)) (λ (o : Option Meant). syntax.path syntax.root (segments_or_none o)) position (path_view c.args.path.now)
+    (λ table. slot_is table position)
+    (path_viewed c.args.path.now
+    ∙ (ap (λ (o : Origin). syntax.path (origin_view o) (segments_view c.args.path.now.segments.items)) c.in-Root.is
+    ∙ ap (syntax.path syntax.root) (sym (whole _ _ c.in_ok-steps-in-Root.ensures ∙ ap segments_view c.deref.ensures.value))))
+    c.in_ok-position-in-Root.ensures.added c.in_ok-position-in-Root.ensures.position
+
+-- ---- what asks the root alone
+
+pub compile_comparison-returns-then-sides_ask_root : goal.compile_comparison-returns-then-sides_ask_root
+compile_comparison-returns-then-sides_ask_root t c =
+    let op = op_view c.args.op in
+    let a : syntax.Comparable = comparable_view c.args.left.now in
+    let b : syntax.Comparable = comparable_view c.args.right.now in
+    let own : Table = table_of c.compile_side-then-sides_ask_root.new.self.slots.items in
+    let made : syntax.Logical = syntax.compare (side_view own c.in_ok-left.left) op (side_view own c.in_ok-right.right) in
+    let so : made ≡ syntax.compare a op b =
+    whole _ _ (both_mean (λ (x y : syntax.Comparable). syntax.compare x op y) (λ (table : Table). syntax.compare (side_view table c.in_ok-left.left) op (side_view table c.in_ok-right.right)) (syntax.compare a op b) (λ table. refl) refl c.in_ok-left.ensures c.in_ok-right.ensures) in
+    let both = and_parts (side_asks_root a) (side_asks_root b) (sym c.sides_ask_root.ensures ∙ c.if-sides_ask_root.true) in
+    let rooted = ap₂ (λ (x y : syntax.Comparable). syntax.compare x op y) (side_rooted a both.0) (side_rooted b both.1) in
+    slot_means c.args.self.now.slots.items c.add_slot.new.self.slots.items (expression made) (λ (table : Table). condition_view table (conditions.Once c.in_ok-position.position)) (λ (o : Option Meant). logical_from_root (logical_or_none o)) c.in_ok-position.position (syntax.compare a op b)
+    (λ table. once_is table c.in_ok-position.position)
+    (sym rooted ∙ ap logical_from_root (sym so))
+    c.in_ok-position.ensures.added c.in_ok-position.ensures.position
+
+pub compile_test-returns-then-call_asks_root : goal.compile_test-returns-then-call_asks_root
+compile_test-returns-then-call_asks_root t c =
+    let v : syntax.Call = call_view c.args.call.now in
+    let own : Table = table_of c.compile_call.new.self.slots.items in
+    let made : syntax.Logical = syntax.test (invoked_view own c.in_ok-invoked.invoked) in
+    let so : made ≡ syntax.test v = ap syntax.test (whole _ _ c.in_ok-invoked.ensures) in
+    let rooted : logical_from_root (syntax.test v) ≡ syntax.test v = ap syntax.test (call_rooted v (sym c.call_asks_root.ensures ∙ c.if-call_asks_root.true)) in
+    slot_means c.args.self.now.slots.items c.add_slot.new.self.slots.items (expression made) (λ (table : Table). condition_view table (conditions.Once c.in_ok-position.position)) (λ (o : Option Meant). logical_from_root (logical_or_none o)) c.in_ok-position.position (syntax.test v)
+    (λ table. once_is table c.in_ok-position.position)
+    (sym rooted ∙ ap logical_from_root (sym so))
+    c.in_ok-position.ensures.added c.in_ok-position.ensures.position
 
 pub compile_path-returns-in_ok-compile_segments-in-Current : goal.compile_path-returns-in_ok-compile_segments-in-Current
 compile_path-returns-in_ok-compile_segments-in-Current t c =
@@ -92,13 +135,6 @@ compile_path-returns-in_ok-compile_segments-in-Current t c =
     (λ table. current_is table c.in_ok-compile_segments-in-Current.field-0)
     (path_viewed c.args.path.now ∙ (ap (λ (o : Origin). syntax.path (origin_view o) (segments_view c.args.path.now.segments.items)) c.in-Current.is ∙ ap (λ (l : List Segment). syntax.path syntax.current (segments_view l)) (sym c.deref-in-Current.ensures.value)))
     c.in_ok-compile_segments-in-Current.ensures
-
-pub compile_logical-compile_side-requires-in-Compare : goal.compile_logical-compile_side-requires-in-Compare
-compile_logical-compile_side-requires-in-Compare t c =
-    let seen = ap logical_view c.in-Compare.is ∙ compare_viewed c.in-Compare.left c.in-Compare.op c.in-Compare.right in
-    let both = and_parts (comparable_passes (comparable_view c.in-Compare.left) readable) (comparable_passes (comparable_view c.in-Compare.right) readable) (subst (λ (l : syntax.Logical). logical_passes l readable ≡ true) seen c.requires.literals) in
-    let size = ap size_of_logical seen in
-    (omega (arith, size, c.decreases), both.1)
 
 pub compile_call-returns : goal.compile_call-returns
 compile_call-returns t c =

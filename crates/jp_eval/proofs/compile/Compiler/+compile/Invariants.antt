@@ -25,6 +25,9 @@ decreases-compile_logicals l = size_of_logicals (logicals_view l.parts.now)
 abbrev pub decreases-compile_logical : goal.decreases-compile_logical
 decreases-compile_logical l = size_of_logical (logical_view l.expression.now)
 
+abbrev pub decreases-compile_comparison : goal.decreases-compile_comparison
+decreases-compile_comparison l = size_of_comparable (comparable_view l.left.now) + size_of_comparable (comparable_view l.right.now) + 2
+
 abbrev pub decreases-compile_test : goal.decreases-compile_test
 decreases-compile_test l = size_of_call (call_view l.call.now) + 1
 

@@ -1,6 +1,6 @@
 -- What was added is what the steps select, and what was answered is what the parts of a filter mean.
 use Rattle.std.proofs.Common.{rules, w64, ℤ, Bool, ◌≡◌, ◌∙◌, ◌+◌, ◌-◌, ◌++◌, [], ◌∷◌, List, ℕ, true, false, refl, map, take, drop, length, filter, flat_map, sym, ap, subst, arith, Some, Option, Vec, Global}
-use Rattle.std.specs.Prelude.{IfOk, OnOk, not}
+use Rattle.std.specs.Prelude.{IfOk, OnOk, not, slice_get}
 use Rattle.jp_model.specs.Json.Tree.{Tree, Value}
 use Rattle.jp_model.specs.Meaning.Nodes.{Node, children, children_where, subtree}
 use Rattle.jp_model.specs.Steps.{Step}
@@ -15,13 +15,13 @@ use Rattle.jp_tape.specs.Cursors.{line_of, place_of, node_of, nodes_from, nodes_
 use Rattle.jp_values.specs.declared.value.Value.{Value as Side}
 use Rattle.jp_values.specs.Values.{value_view, is_sound_value}
 use Rattle.jp_eval.specs.Answers.{IsValue}
-use Rattle.jp_eval.specs.Frames.{table_in, slot_nodes, AreKept, Pushes}
+use Rattle.jp_eval.specs.Frames.{table_in, slot_nodes, AreKept}
 use Rattle.jp_eval.specs.Found.{node_list}
 use Rattle.jp_eval.specs.Functions.{passing, measured}
 use Rattle.jp_eval.specs.Questions.{answered}
 use Rattle.jp_eval.specs.Keys.{key_view}
 use Rattle.jp_eval.specs.Steps.{step_nodes}
-use Rattle.jp_eval.specs.Programs.{Table, slot_in, step_view, steps_view, choices_view, choice_view, condition_view, nodes_view, given_view}
+use Rattle.jp_eval.specs.Programs.{Table, logical_or_none, step_view, steps_view, choices_view, choice_view, condition_view, nodes_view, given_view}
 use Rattle.jp_eval.specs.Walks.{IsAt, rises}
 use Rattle.jp_eval.specs.declared.frame.Answer.{Answer}
 use Rattle.jp_eval.specs.declared.frame.Frame.{Frame}
@@ -42,7 +42,9 @@ use Rattle.jp_eval.specs.declared.program.Invoked.{Invoked}
 use Rattle.jp_eval.proofs.Answered.{told_before}
 use Rattle.jp_eval.proofs.Childless.{none_first, none_selected}
 use Rattle.jp_eval.proofs.Calls.{called, passing_called, function_passing, few_called, many_called, none_called, several_called}
-use Rattle.jp_eval.proofs.Compiled.{chosen_is, asks_is, current_is, slot_is, slice_is, nodes_given, pattern_given}
+use Rattle.jp_eval.proofs.Entered.{once_told}
+use Rattle.jp_eval.proofs.FromRoot.{logical_size}
+use Rattle.jp_eval.proofs.Compiled.{chosen_is, once_is, asks_is, current_is, slot_is, slice_is, nodes_given, pattern_given}
 use Rattle.jp_eval.proofs.Counts.{counted_so, single_found, none_single}
 use Rattle.jp_eval.proofs.Descendants.{below_at}
 use Rattle.jp_eval.proofs.Goes.{Goes, others_are, goes_from, is_done, is_full, now_is, filter_taken, filter_passed, filter_all, filter_none, nothing_added}
@@ -52,14 +54,14 @@ use Rattle.jp_eval.proofs.Patterns.{told, one_proof}
 use Rattle.jp_eval.proofs.Following.{select_is}
 use Rattle.jp_eval.proofs.Asked.{asks_so}
 use Rattle.jp_eval.proofs.SingularSteps.{one_selects}
-use Rattle.jp_eval.proofs.Sizes.{size_of_selectors}
+use Rattle.jp_eval.proofs.Sizes.{size_of_logical, size_of_selectors}
 use Rattle.jp_eval.proofs.Slices.{none_risen}
 use Rattle.jp_eval.proofs.Walks.{chosen_from, chosen_here, passed_here, at_next, index_fits}
 use Rattle.std.proofs.lemmas.Bool.{ltb-true, ltb-false}
 use Rattle.std.proofs.lemmas.List.{drop_all}
 use mir.Val.{to_z, of_z}
 use Rattle.jp_eval.proofs.frame.At.+eval.Goals as goal
-use Rattle.jp_eval.proofs.frame.At.+eval.Goals.{call_truth-in-Some-Match, call_truth-in-Some-Search, push_where-then-branch, push_where-else-branch, push_where-then-branch-2+in_ok-push_steps, push_where-else-branch-2, call_value-in_default-via-then-as_slice-lt1, call_value-in_default-via-else-as_slice-lt1+else-this-lt2, push_rising-then-has+in_ok-push_steps, push_rising-else-has, push_rising-then-len-most-via-then-len-most, push_rising-then-len-most-via-else-len-most+then-ends_before, find_single-then-len-before, find_single-else-len-before}
+use Rattle.jp_eval.proofs.frame.At.+eval.Goals.{call_truth-in-Some-Match, call_truth-in-Some-Search, push_where-then-branch-2+in_ok-push_steps, push_where-else-branch-2, call_value-in_default-via-then-as_slice-lt1, call_value-in_default-via-else-as_slice-lt1+else-this-lt2, push_rising-then-has+in_ok-push_steps, push_rising-else-has, push_rising-then-len-most-via-then-len-most, push_rising-then-len-most-via-else-len-most+then-ends_before, find_single-then-len-before, find_single-else-len-before}
 
 -- ---- children
 
@@ -164,12 +166,12 @@ push_where-loop-next-preserved t c =
       line = line_on next _ _ c.next_sibling-next.ensures.line (line_of_some _ child _ c.in-Some.is kept.line);
     }
 
-pub push_where-returns-2 : goal.push_where-returns-2
-push_where-returns-2 t c =
+pub push_where-returns : goal.push_where-returns
+push_where-returns t c =
     let u : Tree = (node_of c.args.self.run.now.root.now).tree in
     let ss : Segments = steps_view (table_in c.args.self.run.now) c.args.rest.now in
     let p = λ (n : Node). truth (condition_view (table_in c.args.self.run.now) c.args.condition.now) n u in
-    record { adds = c.loop-next.invariant.goes.kept; kept = c.loop-next.invariant.kept; nodes = is_done c.loop-next.invariant.goes (ap (λ (o : Option Cursor). nodes ss (filter p (nodes_from o)) u) c.in_default-2.is ∙ no_nodes ss u) }
+    record { adds = c.loop-next.invariant.goes.kept; kept = c.loop-next.invariant.kept; nodes = is_done c.loop-next.invariant.goes (ap (λ (o : Option Cursor). nodes ss (filter p (nodes_from o)) u) c.in_default.is ∙ no_nodes ss u) }
 
 -- ---- from each of some nodes
 
@@ -263,11 +265,11 @@ find_single-returns-clause-lends t c =
 
 pub has_node-returns-in-Some-Exists-clause-value : goal.has_node-returns-in-Some-Exists-clause-value
 has_node-returns-in-Some-Exists-clause-value t c =
-    told_before c.args.self.run.now c.args.nodes.now (node_of c.args.self.node) c.kept.result _ c.kept.ensures (c.in-Some-Exists.is ∙ ap (λ (a : Answer). Some a) c.in-Some-Exists.field-0-is)
+    (told_before c.args.self.run.now c.args.nodes.now (node_of c.args.self.node) c.kept.result _ c.kept.ensures (c.in-Some-Exists.is ∙ ap (λ (a : Answer). Some a) c.in-Some-Exists.field-0-is)).1
 
 pub count_nodes-returns-in-Some-Count-clause-value : goal.count_nodes-returns-in-Some-Count-clause-value
 count_nodes-returns-in-Some-Count-clause-value t c =
-    told_before c.args.self.run.now c.args.nodes.now (node_of c.args.self.node) c.kept.result _ c.kept.ensures (c.in-Some-Count.is ∙ ap (λ (a : Answer). Some a) c.in-Some-Count.field-0-is)
+    (told_before c.args.self.run.now c.args.nodes.now (node_of c.args.self.node) c.kept.result _ c.kept.ensures (c.in-Some-Count.is ∙ ap (λ (a : Answer). Some a) c.in-Some-Count.field-0-is)).1
 
 pub count_nodes-keep-requires-clause-right : goal.count_nodes-keep-requires-clause-right
 count_nodes-keep-requires-clause-right t c = λ position is.
@@ -324,7 +326,7 @@ value_of-returns-clause-value t c =
     let n : Node = node_of c.args.self.node in
     let found : List Node = path_nodes (nodes_view (table_in run) c.args.nodes.now) n (node_of run.root.now).tree in
     subst (λ (b : Bool). IsValue c.in-Some-Single.value (measured b (single_value found))) (same_flag c.in-Some-Single.kept c.args.is_length c.if-kept-is_length.true)
-    (told_before run c.args.nodes.now n c.kept.result _ c.kept.ensures (c.in-Some-Single.is ∙ ap (λ (a : Answer). Some a) c.in-Some-Single.field-0-is))
+    (told_before run c.args.nodes.now n c.kept.result _ c.kept.ensures (c.in-Some-Single.is ∙ ap (λ (a : Answer). Some a) c.in-Some-Single.field-0-is)).1
 
 -- ---- calls
 
@@ -468,46 +470,56 @@ push_rising-returns-then-len-most t c =
 
 -- ---- a filter that asks the root
 
-pub push_where-returns : goal.push_where-returns
-push_where-returns t c =
+pub push_where-returns-then-branch : goal.push_where-returns-then-branch
+push_where-returns-then-branch t c =
     let table : Table = table_in c.args.self.run.now in
     let u : Tree = (node_of c.args.self.run.now.root.now).tree in
     let ss : Segments = steps_view table c.args.rest.now in
     let most : ℕ = c.args.self.most in
     let p = λ (n : Node). truth (condition_view table c.args.condition.now) n u in
-    let q : Question = c.in-Asks.question in
-    let asked : Nodes = c.in-Asks.nodes in
+    let old : List Cursor = c.args.frame.now.found.items in
+    let new : List Cursor = c.push_children.new.frame.found.items in
+    let below : List Node = children (node_of c.args.self.node) in
+    let same : (n : Node) → p n ≡ true = λ n. c.condition_asks_root.ensures c.if-condition_asks_root.true table n (node_of c.args.self.node) u ∙ (sym c.in_ok-holds_by_parts.ensures.value ∙ c.if-branch.true) in
+    let all : filter p below ≡ below = filter_all p below same in
+    record {
+      adds = adds_more c.in_ok-holds_by_parts.ensures.lends.adds c.push_children.ensures.adds;
+      kept = c.push_children.ensures.kept;
+      nodes = subst (λ (l : List Node). OnOk c.push_children.result (map node_of new ≡ take most (map node_of old ++ nodes ss l u))) (sym all)
+          (subst (λ (l : List Cursor). OnOk c.push_children.result (map node_of new ≡ take most (map node_of l ++ nodes ss below u))) c.in_ok-holds_by_parts.ensures.lends.same c.push_children.ensures.nodes);
+    }
+
+pub push_where-returns-else-branch : goal.push_where-returns-else-branch
+push_where-returns-else-branch t c =
+    let table : Table = table_in c.args.self.run.now in
+    let u : Tree = (node_of c.args.self.run.now.root.now).tree in
+    let ss : Segments = steps_view table c.args.rest.now in
+    let most : ℕ = c.args.self.most in
+    let p = λ (n : Node). truth (condition_view table c.args.condition.now) n u in
     let old : List Cursor = c.args.frame.now.found.items in
     let below : List Node = children (node_of c.args.self.node) in
-    let path : nodes_view table asked ≡ slot_in table c.in-Slot.field-0 = ap (nodes_view table) c.in-Slot.is ∙ slot_is table c.in-Slot.field-0 in
-    let same : (n : Node) → p n ≡ c.in_ok-ask.field-0 = λ n.
-    ap (λ (x : Condition). truth (condition_view table x) n u) c.in-Asks.is
-    ∙ (ap (λ (l : syntax.Logical). truth l n u) (asks_is table asked q)
-    ∙ (asks_so q (nodes_view table asked) n u
-    ∙ (ap (λ (x : syntax.Path). answered q (path_nodes x n u)) path
-    ∙ (sym (ap (λ (x : syntax.Path). answered q (path_nodes x (node_of c.args.self.node) u)) path) ∙ sym c.in_ok-ask.ensures.value)))) in
-    elim c.if-branch.branch [
-      | push_where-then-branch w ↦
-          (let new : List Cursor = w.push_children.new.frame.found.items in
-          let all : filter p below ≡ below = filter_all p below (λ n. same n ∙ w.if-branch.true) in
-          subst (λ (f : Frame). Pushes c.args.self c.args.frame.now f c.if-branch.result (nodes ss (filter p below) u)) (sym w.frame-is)
-          (subst (λ r. Pushes c.args.self c.args.frame.now w.push_children.new.frame r (nodes ss (filter p below) u)) (sym w.result-is)
-          (record {
-            adds = adds_more c.in_ok-ask.ensures.lends.adds w.push_children.ensures.adds;
-            kept = w.push_children.ensures.kept;
-            nodes = subst (λ (l : List Node). OnOk w.push_children.result (map node_of new ≡ take most (map node_of old ++ nodes ss l u))) (sym all)
-                (subst (λ (l : List Cursor). OnOk w.push_children.result (map node_of new ≡ take most (map node_of l ++ nodes ss below u))) c.in_ok-ask.ensures.lends.same w.push_children.ensures.nodes);
-          })))
-      | push_where-else-branch w ↦
-          (let none : filter p below ≡ [] = filter_none p below (λ n. same n ∙ w.if-branch.false) in
-          subst (λ (f : Frame). Pushes c.args.self c.args.frame.now f c.if-branch.result (nodes ss (filter p below) u)) (sym w.frame-is)
-          (subst (λ r. Pushes c.args.self c.args.frame.now c.ask.new.frame r (nodes ss (filter p below) u)) (sym w.result-is)
-          (record {
-            adds = c.in_ok-ask.ensures.lends.adds;
-            kept = c.in_ok-ask.ensures.lends.kept;
-            nodes = ap (map node_of) c.in_ok-ask.ensures.lends.same ∙ nothing_added most old ss u (filter p below) c.requires.room none;
-          })))
-    ]
+    let same : (n : Node) → p n ≡ false = λ n. c.condition_asks_root.ensures c.if-condition_asks_root.true table n (node_of c.args.self.node) u ∙ (sym c.in_ok-holds_by_parts.ensures.value ∙ c.if-branch.false) in
+    let none : filter p below ≡ [] = filter_none p below same in
+    record {
+      adds = c.in_ok-holds_by_parts.ensures.lends.adds;
+      kept = c.in_ok-holds_by_parts.ensures.lends.kept;
+      nodes = ap (map node_of) c.in_ok-holds_by_parts.ensures.lends.same ∙ nothing_added most old ss u (filter p below) c.requires.room none;
+    }
+
+pub holds_by_parts-holds_once-requires : goal.holds_by_parts-holds_once-requires
+holds_by_parts-holds_once-requires t c =
+    let table : Table = table_in c.args.self.run.now in
+    let position : ℕ = c.in-Once.position in
+    let size = ap (λ (x : Condition). size_of_logical (condition_view table x)) c.in-Once.is ∙ (ap size_of_logical (once_is table position) ∙ logical_size (logical_or_none (slice_get table position))) in
+    (omega (arith, size, c.decreases), c.requires)
+
+pub holds_by_parts-returns-in-Once-clause-value : goal.holds_by_parts-returns-in-Once-clause-value
+holds_by_parts-returns-in-Once-clause-value t c =
+    let run : Run = c.args.self.run.now in
+    let n : Node = node_of c.args.self.node in
+    let u : Tree = (node_of run.root.now).tree in
+    let seen = ap (λ (x : Condition). truth (condition_view (table_in run) x) n u) c.in-Once.is ∙ once_told run c.in-Once.position n in
+    subst (λ (v : Bool). IfOk c.holds_once.result (λ b. b ≡ v)) (sym seen) c.holds_once.ensures.value
 
 -- ---- no child of that name or index
 

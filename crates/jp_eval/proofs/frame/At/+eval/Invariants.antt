@@ -1,13 +1,13 @@
 -- How far each loop has come, and how large the part of the query is that each function goes into.
 use Rattle.std.proofs.Common.{◌≡◌, ◌≤◌, ◌+◌, ◌-◌, map, length, filter, flat_map, drop}
-use Rattle.std.specs.Prelude.{IfSome}
+use Rattle.std.specs.Prelude.{IfSome, slice_get}
 use Rattle.jp_model.specs.Meaning.Nodes.{Node, children, children_where, subtree}
 use Rattle.jp_model.specs.Meaning.Selecting.{nodes, selected, truth}
 use Rattle.jp_model.specs.Meaning.Slices.{is_index}
 use Rattle.jp_tape.specs.Cursors.{line_of, place_of, node_of, nodes_from}
 use Rattle.jp_eval.specs.Expressions.{all_are}
 use Rattle.jp_eval.specs.Frames.{table_in, tree_in, AreKept}
-use Rattle.jp_eval.specs.Programs.{step_view, steps_view, choices_view, choice_view, conditions_view, condition_view, side_view, nodes_view, invoked_view, given_view}
+use Rattle.jp_eval.specs.Programs.{logical_or_none, step_view, steps_view, choices_view, choice_view, conditions_view, condition_view, side_view, nodes_view, invoked_view, given_view}
 use Rattle.jp_eval.specs.Walks.{IsAt, rises}
 use Rattle.jp_eval.proofs.Goes.{Goes}
 use Rattle.jp_eval.proofs.Walks.{chosen_from}
@@ -45,10 +45,16 @@ abbrev pub decreases-push_where : goal.decreases-push_where
 decreases-push_where l = size_of_logical (condition_view (table_in l.self.run.now) l.condition.now) + size_of_segments (steps_view (table_in l.self.run.now) l.rest.now) + 4
 
 abbrev pub decreases-holds : goal.decreases-holds
-decreases-holds l = size_of_logical (condition_view (table_in l.self.run.now) l.condition.now) + 1
+decreases-holds l = size_of_logical (condition_view (table_in l.self.run.now) l.condition.now) + 3
 
 abbrev pub decreases-holds_by_parts : goal.decreases-holds_by_parts
-decreases-holds_by_parts l = size_of_logical (condition_view (table_in l.self.run.now) l.condition.now)
+decreases-holds_by_parts l = size_of_logical (condition_view (table_in l.self.run.now) l.condition.now) + 2
+
+abbrev pub decreases-holds_once : goal.decreases-holds_once
+decreases-holds_once l = size_of_logical (logical_or_none (slice_get (table_in l.self.run.now) l.position)) + 1
+
+abbrev pub decreases-ask_root : goal.decreases-ask_root
+decreases-ask_root l = size_of_logical (logical_or_none (slice_get (table_in l.self.run.now) l.position))
 
 abbrev pub decreases-ask : goal.decreases-ask
 decreases-ask l = size_of_path (nodes_view (table_in l.self.run.now) l.nodes.now) + 3
