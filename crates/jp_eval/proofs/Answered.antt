@@ -1,6 +1,6 @@
 -- Answers at their positions.
 use Rattle.std.proofs.Common.{◌≡◌, ℕ, zero, suc, List, [], ◌∷◌, ◌++◌, slice_set, Bool, Option, Some, None, sym, ◌∙◌, ap, refl, subst}
-use Rattle.std.specs.Prelude.{slice_get, IfSome}
+use Rattle.std.specs.Prelude.{slice_get}
 use Rattle.jp_model.specs.Meaning.Nodes.{Node}
 use Rattle.jp_model.specs.Meaning.Selecting.{path_nodes}
 use Rattle.jp_eval.specs.Answers.{IsAnswer}
@@ -45,9 +45,9 @@ got (z ∷ l) zero (suc j) x y h f g = g h
 got (z ∷ l) (suc i) zero x y h f g = g h
 got (z ∷ l) (suc i) (suc j) x y h f g = got l i j x y h (λ e k. f (ap suc e) k) g
 
--- a kept answer is that of the nodes, from whatever node a filter looks
-pub told_before : (run : Run) (asked : Nodes) (n : Node) (result : Option Answer) (answer : Answer) → IfSome result (λ a. (m : Node) → (truth : Bool) × IsAnswer (path_nodes (nodes_view (table_in run) asked) m (tree_in run)) truth a) → result ≡ Some answer → (truth : Bool) × IsAnswer (path_nodes (nodes_view (table_in run) asked) n (tree_in run)) truth answer
-told_before run asked n result answer told is = (subst (λ r. IfSome r (λ a. (m : Node) → (truth : Bool) × IsAnswer (path_nodes (nodes_view (table_in run) asked) m (tree_in run)) truth a)) is told) n
+-- a kept answer, as it was found
+pub told_before : (found : List Node) (kept answer : Answer) → (truth : Bool) × IsAnswer found truth kept → kept ≡ answer → (truth : Bool) × IsAnswer found truth answer
+told_before found kept answer told is = (told.0, subst (λ (a : Answer). IsAnswer found told.0 a) is told.1)
 
 -- the answer of the query of a slot, from whatever node a filter looks
 pub told_from : (run : Run) (asked : Nodes) (position : ℕ) (n : Node) (answer : Answer) → asked ≡ slots.Slot position → IsAnswer (slot_nodes run position) (slot_truth run position) answer → (truth : Bool) × IsAnswer (path_nodes (nodes_view (table_in run) asked) n (tree_in run)) truth answer

@@ -49,7 +49,7 @@ impl<'a> Answer<'a> {
     {
         match self {
             Answer::Single(is_length, value) => Answer::Single(is_length, value.read()),
-            _ => self,
+            other => other,
         }
     }
 }
@@ -102,18 +102,18 @@ impl<'p, 'a> Run<'p, 'a> {
 
     /// What was answered of a slot, where it was asked before in the line.
     #[inline(always)]
-    pub(crate) fn kept_at(self, position: usize, frame: &Frame<'a>) -> Option<Answer<'a>>
+    pub(crate) fn kept_at<'f>(self, position: usize, frame: &'f Frame<'a>) -> Option<&'f Answer<'a>>
         requires { AreKept self frame.now.answers.items }
-        ensures { IfSome result (λ answer. IsAnswer (slot_nodes self.entry position) (slot_truth self.entry position) answer) }
+        ensures { IfSome result (λ answer. IsAnswer (slot_nodes self.entry position) (slot_truth self.entry position) answer.now) }
     {
-        frame.answers.get(position).copied()?
+        frame.answers.get(position)?.as_ref()
     }
 
     /// What was answered of a query within a filter, where it begins at the root and was asked before in the line.
     #[inline(always)]
-    pub(crate) fn kept(self, nodes: &Nodes, frame: &Frame<'a>) -> Option<Answer<'a>>
+    pub(crate) fn kept<'f>(self, nodes: &Nodes, frame: &'f Frame<'a>) -> Option<&'f Answer<'a>>
         requires { AreKept self frame.now.answers.items }
-        ensures { IfSome result (λ answer. (node : Node) → (truth : Bool) × IsAnswer (path_nodes (nodes_view (table_in self.entry) nodes.now) node (tree_in self.entry)) truth answer) }
+        ensures { IfSome result (λ answer. (node : Node) → (truth : Bool) × IsAnswer (path_nodes (nodes_view (table_in self.entry) nodes.now) node (tree_in self.entry)) truth answer.now) }
     {
         match nodes {
             Nodes::Slot(position) => self.kept_at(*position, frame),

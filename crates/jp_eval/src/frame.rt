@@ -4,6 +4,7 @@ ghost use Rattle.std.specs.Prelude.{◌≡◌};
 ghost use Rattle.jp_tape.specs.Cursors.{line_of, place_of};
 
 use crate::program::Slot;
+use jp_iregexp::Pattern;
 use jp_tape::Cursor;
 use jp_values::Value;
 use std::alloc::Global;
@@ -29,7 +30,7 @@ pub(crate) struct At<'r, 'a> {
 }
 
 /// The answer to what was asked of the nodes that a query from the root selects, or of the root alone.
-#[derive(Clone, Copy)]
+#[derive(Drop)]
 pub(crate) enum Answer<'a> {
     /// Whether there is one.
     Exists(bool),
@@ -37,6 +38,8 @@ pub(crate) enum Answer<'a> {
     Count(u64),
     /// The value of the single node, or how long it is.
     Single(bool, Value<'a>),
+    /// The pattern that the value of the single node spells, where it spells one.
+    Pattern(Box<Option<Pattern>>),
     /// Whether a comparison holds, or a call is true.
     Holds(bool),
 }

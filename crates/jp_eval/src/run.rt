@@ -4,17 +4,18 @@
 //! list is made in between, and a search for one node stops at the first.
 
 ghost use Rattle.std.specs.Prelude.{◌≡◌, [], ◌∷◌, ◌==◌, not, map, length, filter, flat_map, IfOk};
-ghost use Rattle.jp_model.specs.Meaning.Functions.{single_value as single_value_of, length_of as length_of_value};
+ghost use Rattle.jp_model.specs.Meaning.Functions.{in_pattern, single_value as single_value_of, length_of as length_of_value};
 ghost use Rattle.jp_model.specs.Meaning.Compare.{compared};
 ghost use Rattle.jp_model.specs.Meaning.Nodes.{children, children_where, subtree};
 ghost use Rattle.jp_model.specs.Meaning.Selecting.{segment_nodes, selected, select, truth as truth_of, compared_value, path_nodes, given_by, call_value as call_value_of, call_truth as call_truth_of};
 ghost use Rattle.jp_model.specs.Meaning.Slices.{is_index, sliced};
 ghost use Rattle.jp_query.specs.View.{op_view};
 ghost use Rattle.jp_tape.specs.Cursors.{line_of, node_of};
+ghost use Rattle.jp_values.specs.Values.{value_view};
 ghost use Rattle.jp_eval.specs.Answers.{IsValue};
 ghost use Rattle.jp_eval.specs.Expressions.{all_are};
 ghost use Rattle.jp_eval.specs.Found.{AreOf};
-ghost use Rattle.jp_eval.specs.Functions.{measured};
+ghost use Rattle.jp_eval.specs.Functions.{measured, passing};
 ghost use Rattle.jp_eval.specs.Frames.{here, table_at, tree_at, slot_truth, reached, AreKept, Stands, Pushes, Lends};
 ghost use Rattle.jp_eval.specs.Questions.{answered};
 ghost use Rattle.jp_eval.specs.Programs.{step_view, choices_view, choice_view, conditions_view, condition_view, side_view, nodes_view, invoked_view, given_view};
@@ -275,7 +276,7 @@ impl<'r, 'a> At<'r, 'a> {
         ensures value { IfOk result (λ b. b ≡ slot_truth self.entry.run.now position) }
     {
         if let Some(Answer::Holds(truth)) = self.run.kept_at(position, frame) {
-            return Ok(truth);
+            return Ok(*truth);
         }
         let truth = self.ask_root(position, frame)?;
         self.run.keep_at(position, Answer::Holds(truth), frame);
@@ -438,7 +439,7 @@ impl<'r, 'a> At<'r, 'a> {
         ensures value { IfOk result (λ b. b ≡ not (length (path_nodes (nodes_view (table_at self.entry) nodes.now) (here self.entry) (tree_at self.entry)) == 0)) }
     {
         if let Some(Answer::Exists(some)) = self.run.kept(nodes, frame) {
-            return Ok(some);
+            return Ok(*some);
         }
         let At { run, node, .. } = self;
         let before = frame.found.len();
@@ -458,7 +459,7 @@ impl<'r, 'a> At<'r, 'a> {
         ensures value { IfOk result (λ count. count ≡ length (path_nodes (nodes_view (table_at self.entry) nodes.now) (here self.entry) (tree_at self.entry))) }
     {
         if let Some(Answer::Count(count)) = self.run.kept(nodes, frame) {
-            return Ok(count);
+            return Ok(*count);
         }
         let At { run, node, .. } = self;
         let before = frame.found.len();
@@ -480,9 +481,9 @@ impl<'r, 'a> At<'r, 'a> {
         ensures value { IfOk result (λ v. IsValue v (measured is_length (single_value_of (path_nodes (nodes_view (table_at self.entry) nodes.now) (here self.entry) (tree_at self.entry))))) }
     {
         if let Some(Answer::Single(kept, value)) = self.run.kept(nodes, frame)
-            && kept == is_length
+            && *kept == is_length
         {
-            return Ok(value);
+            return Ok(*value);
         }
         let value = measure(self.find_single(nodes, frame)?, is_length);
         self.run
@@ -545,6 +546,31 @@ impl<'r, 'a> At<'r, 'a> {
         }
     }
 
+    /// Whether a value is a string that passes the pattern that the single node of a query spells. What one from the root spells is
+    /// kept, so that it is read once in a line.
+    #[cycle(eval)]
+    #[inline(never)]
+    fn passes_found(
+        self,
+        nodes: &Nodes,
+        whole: bool,
+        text: Value<'_>,
+        frame: &mut Frame<'a>,
+    ) -> Result<bool>
+        requires { AreKept self.run.now frame.old.answers.items }
+        ensures lends { Lends self.entry frame.old frame.new result }
+        ensures value { IfOk result (λ b. b ≡ in_pattern (passing whole) (value_view text.entry) (single_value_of (path_nodes (nodes_view (table_at self.entry) nodes.now) (here self.entry) (tree_at self.entry)))) }
+    {
+        if let Some(Answer::Pattern(read)) = self.run.kept(nodes, frame) {
+            return read_passes(self.run.alloc, read, whole, text);
+        }
+        let pattern = self.value_of(nodes, false, frame)?;
+        let read = Box::new(self.run.alloc, read_pattern(self.run.alloc, pattern)?)?;
+        let passes = read_passes(self.run.alloc, &read, whole, text)?;
+        self.run.keep(nodes, Answer::Pattern(read), frame);
+        Ok(passes)
+    }
+
     /// What a call answers as a truth (RFC 9535, section 2.4).
     #[cycle(eval)]
     #[inline(never)]
@@ -564,6 +590,9 @@ impl<'r, 'a> At<'r, 'a> {
         let text = self.given_value(text, frame)?;
         if let Given::Pattern(pattern) = pattern {
             return read_passes(self.run.alloc, &pattern.read, whole, text);
+        }
+        if let Given::Nodes(nodes) = pattern {
+            return self.passes_found(nodes, whole, text, frame);
         }
         let pattern = self.given_value(pattern, frame)?;
         let read = read_pattern(self.run.alloc, pattern)?;

@@ -1,6 +1,6 @@
 -- What was added is what the steps select, and what was answered is what the parts of a filter mean.
-use Rattle.std.proofs.Common.{rules, w64, ℤ, Bool, ◌≡◌, ◌∙◌, ◌+◌, ◌-◌, ◌++◌, [], ◌∷◌, List, ℕ, true, false, refl, map, take, drop, length, filter, flat_map, sym, ap, subst, arith, Some, Option, Vec, Global}
-use Rattle.std.specs.Prelude.{IfOk, OnOk, not, slice_get}
+use Rattle.std.proofs.Common.{rules, w64, ℤ, Bool, ◌≡◌, ◌∙◌, ◌+◌, ◌-◌, ◌++◌, [], ◌∷◌, List, ℕ, true, false, refl, map, take, drop, length, filter, flat_map, sym, ap, subst, arith, Some, Option, Vec, Global, Ok}
+use Rattle.std.specs.Prelude.{IfOk, OnOk, not, slice_get, option_map}
 use Rattle.jp_model.specs.Json.Tree.{Tree, Value}
 use Rattle.jp_model.specs.Meaning.Nodes.{Node, children, children_where, subtree}
 use Rattle.jp_model.specs.Steps.{Step}
@@ -17,13 +17,14 @@ use Rattle.jp_values.specs.Values.{value_view, is_sound_value}
 use Rattle.jp_eval.specs.Answers.{IsValue}
 use Rattle.jp_eval.specs.Frames.{table_in, slot_nodes, AreKept}
 use Rattle.jp_eval.specs.Found.{node_list}
-use Rattle.jp_eval.specs.Functions.{passing, measured}
+use Rattle.jp_iregexp.specs.Trees.{pattern_view}
+use Rattle.jp_iregexp.specs.declared.pattern.Pattern.{Pattern}
+use Rattle.jp_eval.specs.Functions.{passing, pattern_in, measured}
 use Rattle.jp_eval.specs.Questions.{answered}
 use Rattle.jp_eval.specs.Keys.{key_view}
 use Rattle.jp_eval.specs.Steps.{step_nodes}
 use Rattle.jp_eval.specs.Programs.{Table, logical_or_none, step_view, steps_view, choices_view, choice_view, condition_view, nodes_view, given_view}
 use Rattle.jp_eval.specs.Walks.{IsAt, rises}
-use Rattle.jp_eval.specs.declared.frame.Answer.{Answer}
 use Rattle.jp_eval.specs.declared.frame.Frame.{Frame}
 use Rattle.jp_eval.specs.declared.frame.Run.{Run}
 use Rattle.jp_eval.specs.declared.functions.Function.{Function}
@@ -264,12 +265,10 @@ find_single-returns-clause-lends t c =
     record { adds = adds_none _ _ _ same; kept = c.in_ok-push_nodes.ensures.kept; same = same }
 
 pub has_node-returns-in-Some-Exists-clause-value : goal.has_node-returns-in-Some-Exists-clause-value
-has_node-returns-in-Some-Exists-clause-value t c =
-    (told_before c.args.self.run.now c.args.nodes.now (node_of c.args.self.node) c.kept.result _ c.kept.ensures (c.in-Some-Exists.is ∙ ap (λ (a : Answer). Some a) c.in-Some-Exists.field-0-is)).1
+has_node-returns-in-Some-Exists-clause-value t c = (told_before _ _ _ (c.in-Some-Exists.ensures (node_of c.args.self.node)) c.in-Some-Exists.field-0-is).1
 
 pub count_nodes-returns-in-Some-Count-clause-value : goal.count_nodes-returns-in-Some-Count-clause-value
-count_nodes-returns-in-Some-Count-clause-value t c =
-    (told_before c.args.self.run.now c.args.nodes.now (node_of c.args.self.node) c.kept.result _ c.kept.ensures (c.in-Some-Count.is ∙ ap (λ (a : Answer). Some a) c.in-Some-Count.field-0-is)).1
+count_nodes-returns-in-Some-Count-clause-value t c = (told_before _ _ _ (c.in-Some-Count.ensures (node_of c.args.self.node)) c.in-Some-Count.field-0-is).1
 
 pub count_nodes-keep-requires-clause-right : goal.count_nodes-keep-requires-clause-right
 count_nodes-keep-requires-clause-right t c = λ position is.
@@ -326,7 +325,35 @@ value_of-returns-clause-value t c =
     let n : Node = node_of c.args.self.node in
     let found : List Node = path_nodes (nodes_view (table_in run) c.args.nodes.now) n (node_of run.root.now).tree in
     subst (λ (b : Bool). IsValue c.in-Some-Single.value (measured b (single_value found))) (same_flag c.in-Some-Single.kept c.args.is_length c.if-kept-is_length.true)
-    (told_before run c.args.nodes.now n c.kept.result _ c.kept.ensures (c.in-Some-Single.is ∙ ap (λ (a : Answer). Some a) c.in-Some-Single.field-0-is)).1
+    (told_before _ _ _ (c.in-Some-Single.ensures n) c.in-Some-Single.field-0-is).1
+
+-- ---- a pattern that a query gives
+
+pub passes_found-returns-in-Some-Pattern-clause-value : goal.passes_found-returns-in-Some-Pattern-clause-value
+passes_found-returns-in-Some-Pattern-clause-value t c =
+    let run : Run = c.args.self.run.now in
+    let n : Node = node_of c.args.self.node in
+    let found : List Node = path_nodes (nodes_view (table_in run) c.args.nodes.now) n (node_of run.root.now).tree in
+    let spelled = ap (λ (o : Option Pattern). option_map pattern_view o) c.deref.ensures ∙ (told_before _ _ _ (c.in-Some-Pattern.ensures n) c.in-Some-Pattern.field-0-is).1 in
+    told c.read_passes.result (passing c.args.whole) _ (value_view c.args.text) (single_value found) spelled c.read_passes.ensures
+
+pub passes_found-keep-requires-clause-right : goal.passes_found-keep-requires-clause-right
+passes_found-keep-requires-clause-right t c = λ position is.
+    let run : Run = c.args.self.run.now in
+    let n : Node = node_of c.args.self.node in
+    let select = λ (p : syntax.Path). path_nodes p n (node_of run.root.now).tree in
+    let here : single_value (select (nodes_view (table_in run) c.args.nodes.now)) ≡ single_value (slot_nodes run position) = ap (λ (p : syntax.Path). single_value (select p)) (ap (nodes_view (table_in run)) is ∙ slot_is (table_in run) position) in
+    let boxed : c.in_ok-read.read.value ≡ c.in_ok-read_pattern.field-0 = search (rules, c.in_ok-read.ensures) in
+    ap (λ (o : Option Pattern). option_map pattern_view o) boxed ∙ (c.in_ok-read_pattern.ensures ∙ ap pattern_in (c.in_ok-pattern.ensures.value.value ∙ here))
+
+pub passes_found-returns-clause-value : goal.passes_found-returns-clause-value
+passes_found-returns-clause-value t c =
+    let run : Run = c.args.self.run.now in
+    let n : Node = node_of c.args.self.node in
+    let found : List Node = path_nodes (nodes_view (table_in run) c.args.nodes.now) n (node_of run.root.now).tree in
+    let boxed : c.in_ok-read.read.value ≡ c.in_ok-read_pattern.field-0 = search (rules, c.in_ok-read.ensures) in
+    let spelled = ap (λ (o : Option Pattern). option_map pattern_view o) (c.deref-2.ensures ∙ boxed) ∙ (c.in_ok-read_pattern.ensures ∙ ap pattern_in c.in_ok-pattern.ensures.value.value) in
+    told {E = ℕ} (Ok c.in_ok-passes.passes) (passing c.args.whole) _ (value_view c.args.text) (single_value found) spelled c.in_ok-passes.ensures
 
 -- ---- calls
 
@@ -603,6 +630,26 @@ call_truth-returns-in-Pattern-clause-value t c =
     let answer = passing_called c.args.self call whole text pattern own spelled are so c.in_ok-text.ensures.value.value second in
     ∥∥₁_elim read.spelled (one_proof c.read_passes.result _)
     (λ e. subst (λ (v : Bool). IfOk c.read_passes.result (λ b. b ≡ v)) answer (told c.read_passes.result (passing whole) _ own spelled e c.read_passes.ensures))
+
+pub call_truth-returns-in-Nodes-clause-value : goal.call_truth-returns-in-Nodes-clause-value
+call_truth-returns-in-Nodes-clause-value t c =
+    let call : Invoked = c.args.invoked.now in
+    let n : Node = node_of c.args.self.node in
+    let run : Run = c.args.self.run.now in
+    let text : Held = c.text-item.result in
+    let pattern : Held = c.pattern-item.result in
+    let whole : Bool = c.match-which-2.whole in
+    let given = λ (x : Held). (given_by (given_view (table_in run) x) n (node_of run.root.now).tree).value in
+    let are : text ∷ pattern ∷ [] ≡ call.arguments.items = sym (sym c.as_slice.ensures.value ∙ two_items c.as_slice.result.now text pattern c.text-item.is c.pattern-item.is c.in-len2.len_at_least c.in-len2.len_below) in
+    let so : call.named.function ≡ Some (function_passing whole) =
+    elim c.match-which-2.branch [
+      | call_truth-in-Some-Match w ↦ (let f : call.named.function ≡ Some functions.Match = cc in f ∙ ap (λ (b : Bool). Some (function_passing b)) (sym w.whole-is))
+      | call_truth-in-Some-Search w ↦ (let f : call.named.function ≡ Some functions.Search = cc in f ∙ ap (λ (b : Bool). Some (function_passing b)) (sym w.whole-is))
+    ] in
+    let spelled : Option Value = single_value (path_nodes (nodes_view (table_in run) c.in-Nodes.nodes) n (node_of run.root.now).tree) in
+    let second : spelled ≡ given pattern = sym (ap given c.in-Nodes.is ∙ ap (λ (a : syntax.Argument). (given_by a n (node_of run.root.now).tree).value) (nodes_given (table_in run) c.in-Nodes.nodes)) in
+    let answer = passing_called c.args.self call whole text pattern (value_view c.in_ok-text.text) spelled are so c.in_ok-text.ensures.value.value second in
+    subst (λ (v : Bool). IfOk c.passes_found.result (λ b. b ≡ v)) answer c.passes_found.ensures.value
 
 pub call_truth-returns-clause-value : goal.call_truth-returns-clause-value
 call_truth-returns-clause-value t c =

@@ -89,6 +89,9 @@ decreases-given_value l = size_of_argument (given_view (table_in l.self.run.now)
 abbrev pub decreases-given_length : goal.decreases-given_length
 decreases-given_length l = size_of_argument (given_view (table_in l.self.run.now) l.given.now) + 1
 
+abbrev pub decreases-passes_found : goal.decreases-passes_found
+decreases-passes_found l = size_of_path (nodes_view (table_in l.self.run.now) l.nodes.now) + 3
+
 abbrev pub decreases-call_value : goal.decreases-call_value
 decreases-call_value l = size_of_call (invoked_view (table_in l.self.run.now) l.invoked.now)
 

@@ -4,4 +4,4 @@ use Rattle.jp_eval.proofs.Answered.{told_from}
 use Rattle.jp_eval.proofs.frame.Run.kept.Goals as goal
 
 pub returns-in-Slot : goal.returns-in-Slot
-returns-in-Slot c = IfSome_then c.kept_at.result c.kept_at.ensures (λ answer told n. told_from c.args.self c.args.nodes.now c.in-Slot.position n answer c.in-Slot.is told)
+returns-in-Slot c = IfSome_then c.kept_at.result c.kept_at.ensures (λ answer told n. told_from c.args.self c.args.nodes.now c.in-Slot.position n answer.now c.in-Slot.is told)
