@@ -296,6 +296,18 @@ def filters_from_the_root(checks):
         checks.check(f"a filter of the last element of many, {query}", answered(f"{many}\n", f"query {query}\n"), (0, "= 0\n"))
 
 
+def conditions_of_the_root(checks):
+    """What a filter asks of the root is answered once in a line, beside whatever it asks of each child."""
+    text, numbers = "ab" * 200_000, list(range(20_000))
+    line = '{"t":"%s","p":"(ab)*","q":"[a-c]{1,40}","l":%s}' % (text, str(numbers).replace(" ", ""))
+    found = {1: rows([(1, "$['l'][0]")], "0"), 0: "= 0\n"}
+    asked = {'search($.t,"bb")': 0, "match($.t,$.p)": 1, "length(value($..t))==400000": 1, "$==$": 1, "$.l!=$.l": 0, "match($.q,$.p)": 0}
+    script = "".join(f"query $.l[?{condition} && @<1]\n" for condition in asked)
+    script += "query $[?$!=$]\nquery $..[?$!=$]\nquery $.l[?match(@,$.q)]\n"
+    stated = "".join(found[answer] for answer in asked.values()) + "= 0\n" * 3
+    checks.check("conditions of the root", answered(line + "\n", script), (0, stated))
+
+
 def devices(checks):
     """A script that comes byte by byte, and an answer before the next command is sent."""
     lines = file_of("lines", '{"a":1}\n')
@@ -343,7 +355,8 @@ def main():
     checks = Checks()
     for part in (texts_of_brackets, texts_cut_short, texts_of_backslashes, texts_about_64_kibibytes, lines_behind_long_ones,
                  objects_of_many_members, many_lines, lines_of_one_key, edits_of_many_lines, texts_of_numbers, texts_of_names, queries, patterns,
-                 long_texts, long_numbers, objects_turned, large_objects, filters_from_the_root, devices, sizes):
+                 long_texts, long_numbers, objects_turned, large_objects, filters_from_the_root, conditions_of_the_root,
+                 devices, sizes):
         part(checks)
     print(f"{checks.passed} passed, {checks.failed} failed")
     return 1 if checks.failed else 0
