@@ -89,6 +89,7 @@ impl<'p, 'a> Run<'p, 'a> {
     }
 
     /// Makes room for answers, where a filter is going to ask of one child after another. What is asked once is not kept.
+    #[inline(never)]
     pub(crate) fn prepare(self, frame: &mut Frame<'a>) -> Result<()>
         requires { AreKept self frame.old.answers.items }
         ensures kept { AreKept self.entry frame.new.answers.items }

@@ -1,14 +1,9 @@
 //! What asks nothing of the current node, so that it is answered once in a line.
 
-ghost use Rattle.std.specs.Prelude.{◌≡◌, ◌&&◌, true};
-ghost use Rattle.jp_model.specs.Json.Tree.{Tree};
-ghost use Rattle.jp_model.specs.Meaning.Nodes.{Node};
-ghost use Rattle.jp_model.specs.Meaning.Selecting.{truth};
+ghost use Rattle.std.specs.Prelude.{◌≡◌, ◌&&◌};
 ghost use Rattle.jp_query.specs.View.{argument_view, call_view, comparable_view, path_view};
-ghost use Rattle.jp_eval.specs.Programs.{Table, condition_view};
 ghost use Rattle.jp_eval.specs.Roots.{argument_asks_root, call_asks_root, path_asks_root, side_asks_root};
 
-use crate::program::{Condition, Nodes};
 use jp_query::{Argument, Call, Comparable, Origin, Path};
 
 /// Whether a query within a filter begins at the root (RFC 9535, section 2.3.5.1).
@@ -63,19 +58,4 @@ pub(crate) fn sides_ask_root(left: &Comparable, right: &Comparable) -> bool
     ensures { result ≡ (side_asks_root (comparable_view left.now) && side_asks_root (comparable_view right.now)) }
 {
     side_asks_root(left) && side_asks_root(right)
-}
-
-/// Whether a condition is seen to ask the root alone. It holds of each node of a line then, or of none.
-#[inline(always)]
-pub(crate) fn condition_asks_root(condition: &Condition) -> bool
-    ensures { result ≡ true → (table : Table) (n other : Node) (t : Tree) → truth (condition_view table condition.now) n t ≡ truth (condition_view table condition.now) other t }
-{
-    match condition {
-        Condition::Once(_) => true,
-        Condition::Asks(nodes, _) => match nodes {
-            Nodes::Slot(_) => true,
-            Nodes::Current(_) => false,
-        },
-        _ => false,
-    }
 }

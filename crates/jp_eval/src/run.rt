@@ -3,10 +3,10 @@
 //! The nodes are found node by node: for each child that the first step selects, the other steps go on from there. So no
 //! list is made in between, and a search for one node stops at the first.
 
-ghost use Rattle.std.specs.Prelude.{◌≡◌, [], ◌∷◌, ◌==◌, not, map, length, filter, flat_map, IfOk};
+ghost use Rattle.std.specs.Prelude.{◌≡◌, [], ◌∷◌, ◌==◌, not, map, length, filter, flat_map, IfOk, IfSome};
 ghost use Rattle.jp_model.specs.Meaning.Functions.{in_pattern, single_value as single_value_of, length_of as length_of_value};
 ghost use Rattle.jp_model.specs.Meaning.Compare.{compared};
-ghost use Rattle.jp_model.specs.Meaning.Nodes.{children, children_where, subtree};
+ghost use Rattle.jp_model.specs.Meaning.Nodes.{Node, children, children_where, subtree};
 ghost use Rattle.jp_model.specs.Meaning.Selecting.{segment_nodes, selected, select, truth as truth_of, compared_value, path_nodes, given_by, call_value as call_value_of, call_truth as call_truth_of};
 ghost use Rattle.jp_model.specs.Meaning.Slices.{is_index, sliced};
 ghost use Rattle.jp_query.specs.View.{op_view};
@@ -28,7 +28,6 @@ use crate::frame::{Answer, At, Frame};
 use crate::functions::{Function, length_of, measure, read_passes, read_pattern};
 use crate::program::{Asked, Choice, Condition, Given, Invoked, Nodes, Side, Step};
 use crate::question::Question;
-use crate::roots::condition_asks_root;
 use crate::singular::singular_path;
 use jp_query::CompareOp;
 use jp_tape::Cursor;
@@ -206,8 +205,8 @@ impl<'r, 'a> At<'r, 'a> {
         requires { Stands self frame.old }
         ensures { Pushes self.entry frame.old frame.new result (reached self.entry.run.now rest.now (filter (λ c. truth_of (condition_view (table_at self.entry) condition.now) c (tree_at self.entry)) (children (here self.entry)))) }
     {
-        if condition_asks_root(condition) {
-            return if self.holds_by_parts(condition, frame)? {
+        if let Some(is_true) = self.holds_of_root(condition, frame)? {
+            return if is_true {
                 self.push_children(rest, frame)
             } else {
                 Ok(())
@@ -227,6 +226,24 @@ impl<'r, 'a> At<'r, 'a> {
             next = node.next_sibling();
         }
         Ok(())
+    }
+
+    /// Whether a condition that is seen to ask the root alone holds, of each node or of none. None of another condition.
+    #[cycle(eval)]
+    #[inline(always)]
+    fn holds_of_root(self, condition: &Condition, frame: &mut Frame<'a>) -> Result<Option<bool>>
+        requires { AreKept self.run.now frame.old.answers.items }
+        ensures lends { Lends self.entry frame.old frame.new result }
+        ensures value { IfOk result (λ found. IfSome found (λ b. (n : Node) → truth_of (condition_view (table_at self.entry) condition.now) n (tree_at self.entry) ≡ b)) }
+    {
+        match condition {
+            Condition::Once(position) => Ok(Some(self.holds_once(*position, frame)?)),
+            Condition::Asks(nodes, question) => match nodes {
+                Nodes::Slot(_) => Ok(Some(self.ask(nodes, question, frame)?)),
+                Nodes::Current(_) => Ok(None),
+            },
+            _ => Ok(None),
+        }
     }
 
     /// Whether the condition holds of a node. Most ask of it what names and indexes lead to, which costs no call.

@@ -1,6 +1,6 @@
 -- What was added is what the steps select, and what was answered is what the parts of a filter mean.
 use Rattle.std.proofs.Common.{rules, w64, ℤ, Bool, ◌≡◌, ◌∙◌, ◌+◌, ◌-◌, ◌++◌, [], ◌∷◌, List, ℕ, true, false, refl, map, take, drop, length, filter, flat_map, sym, ap, subst, arith, Some, Option, Vec, Global, Ok}
-use Rattle.std.specs.Prelude.{IfOk, OnOk, not, slice_get, option_map}
+use Rattle.std.specs.Prelude.{IfOk, IfSome, OnOk, not, slice_get, option_map}
 use Rattle.jp_model.specs.Json.Tree.{Tree, Value}
 use Rattle.jp_model.specs.Meaning.Nodes.{Node, children, children_where, subtree}
 use Rattle.jp_model.specs.Steps.{Step}
@@ -62,7 +62,7 @@ use Rattle.std.proofs.lemmas.Bool.{ltb-true, ltb-false}
 use Rattle.std.proofs.lemmas.List.{drop_all}
 use mir.Val.{to_z, of_z}
 use Rattle.jp_eval.proofs.frame.At.+eval.Goals as goal
-use Rattle.jp_eval.proofs.frame.At.+eval.Goals.{call_truth-in-Some-Match, call_truth-in-Some-Search, push_where-then-branch-2+in_ok-push_steps, push_where-else-branch-2, call_value-in_default-via-then-as_slice-lt1, call_value-in_default-via-else-as_slice-lt1+else-this-lt2, push_rising-then-has+in_ok-push_steps, push_rising-else-has, push_rising-then-len-most-via-then-len-most, push_rising-then-len-most-via-else-len-most+then-ends_before, find_single-then-len-before, find_single-else-len-before}
+use Rattle.jp_eval.proofs.frame.At.+eval.Goals.{call_truth-in-Some-Match, call_truth-in-Some-Search, push_where-then-branch+in_ok-push_steps, push_where-else-branch, call_value-in_default-via-then-as_slice-lt1, call_value-in_default-via-else-as_slice-lt1+else-this-lt2, push_rising-then-has+in_ok-push_steps, push_rising-else-has, push_rising-then-len-most-via-then-len-most, push_rising-then-len-most-via-else-len-most+then-ends_before, find_single-then-len-before, find_single-else-len-before}
 
 -- ---- children
 
@@ -140,31 +140,31 @@ push_where-loop-next-preserved t c =
     let u : Tree = (node_of c.args.self.run.now.root.now).tree in
     let ss : Segments = steps_view (table_in c.args.self.run.now) c.args.rest.now in
     let p = λ (n : Node). truth (condition_view (table_in c.args.self.run.now) c.args.condition.now) n u in
-    let child : Cursor = c.in-Some.node in
+    let child : Cursor = c.in-Some-next.node in
     let kept = c.loop-next.invariant in
     let next : Option Cursor = c.next_sibling-next.result in
     let here : Goes (line_of c.args.self.run.now.root.now) c.args.self.most c.args.frame.now.found.items c.holds.new.frame.found.items (nodes ss (filter p (node_of child ∷ nodes_after child)) u) (nodes ss (filter p (children (node_of c.args.self.node))) u) =
-    now_is c.holds.new.frame.found.items c.in_ok-holds.ensures.lends.same (others_are (nodes ss (filter p (nodes_from (Some child))) u) (ap (λ (o : Option Cursor). nodes ss (filter p (nodes_from o)) u) c.in-Some.is) kept.goes) in
-    let goes : Goes (line_of c.args.self.run.now.root.now) c.args.self.most c.args.frame.now.found.items c.if-branch-2.frame.found.items (nodes ss (filter p (nodes_after child)) u) (nodes ss (filter p (children (node_of c.args.self.node))) u) =
-    elim c.if-branch-2.branch [
-      | push_where-then-branch-2+in_ok-push_steps w ↦
-          (let taken : p (node_of child) ≡ true = sym c.in_ok-holds.ensures.value ∙ w.if-branch-2.true in
-          now_is c.if-branch-2.frame.found.items (ap (λ (v : Frame). v.found.items) w.frame-is)
+    now_is c.holds.new.frame.found.items c.in_ok-holds.ensures.lends.same (others_are (nodes ss (filter p (nodes_from (Some child))) u) (ap (λ (o : Option Cursor). nodes ss (filter p (nodes_from o)) u) c.in-Some-next.is) kept.goes) in
+    let goes : Goes (line_of c.args.self.run.now.root.now) c.args.self.most c.args.frame.now.found.items c.if-branch.frame.found.items (nodes ss (filter p (nodes_after child)) u) (nodes ss (filter p (children (node_of c.args.self.node))) u) =
+    elim c.if-branch.branch [
+      | push_where-then-branch+in_ok-push_steps w ↦
+          (let taken : p (node_of child) ≡ true = sym c.in_ok-holds.ensures.value ∙ w.if-branch.true in
+          now_is c.if-branch.frame.found.items (ap (λ (v : Frame). v.found.items) w.frame-is)
           (goes_from w.push_steps.new.frame.found.items ss u (node_of child ∷ []) (filter p (nodes_after child))
           (others_are (nodes ss (node_of child ∷ filter p (nodes_after child)) u) (ap (λ (l : List Node). nodes ss l u) (filter_taken p (node_of child) (nodes_after child) taken)) here)
           w.in_ok-push_steps.ensures.adds w.in_ok-push_steps.ensures.nodes))
-      | push_where-else-branch-2 w ↦
-          (let passed : p (node_of child) ≡ false = sym c.in_ok-holds.ensures.value ∙ w.if-branch-2.false in
-          now_is c.if-branch-2.frame.found.items (ap (λ (v : Frame). v.found.items) w.frame-is)
+      | push_where-else-branch w ↦
+          (let passed : p (node_of child) ≡ false = sym c.in_ok-holds.ensures.value ∙ w.if-branch.false in
+          now_is c.if-branch.frame.found.items (ap (λ (v : Frame). v.found.items) w.frame-is)
           (others_are (nodes ss (filter p (nodes_after child)) u) (ap (λ (l : List Node). nodes ss l u) (filter_passed p (node_of child) (nodes_after child) passed)) here))
     ] in
     record {
       goes = others_are (nodes ss (filter p (nodes_from next)) u) (ap (λ (l : List Node). nodes ss (filter p l) u) (sym c.next_sibling-next.ensures.nodes)) goes;
-      kept = elim c.if-branch-2.branch [
-        | push_where-then-branch-2+in_ok-push_steps w ↦ subst (λ (f : Frame). AreKept c.args.self.run.now f.answers.items) (sym w.frame-is) w.in_ok-push_steps.ensures.kept
-        | push_where-else-branch-2 w ↦ subst (λ (f : Frame). AreKept c.args.self.run.now f.answers.items) (sym w.frame-is) c.in_ok-holds.ensures.lends.kept
+      kept = elim c.if-branch.branch [
+        | push_where-then-branch+in_ok-push_steps w ↦ subst (λ (f : Frame). AreKept c.args.self.run.now f.answers.items) (sym w.frame-is) w.in_ok-push_steps.ensures.kept
+        | push_where-else-branch w ↦ subst (λ (f : Frame). AreKept c.args.self.run.now f.answers.items) (sym w.frame-is) c.in_ok-holds.ensures.lends.kept
       ];
-      line = line_on next _ _ c.next_sibling-next.ensures.line (line_of_some _ child _ c.in-Some.is kept.line);
+      line = line_on next _ _ c.next_sibling-next.ensures.line (line_of_some _ child _ c.in-Some-next.is kept.line);
     }
 
 pub push_where-returns : goal.push_where-returns
@@ -172,7 +172,7 @@ push_where-returns t c =
     let u : Tree = (node_of c.args.self.run.now.root.now).tree in
     let ss : Segments = steps_view (table_in c.args.self.run.now) c.args.rest.now in
     let p = λ (n : Node). truth (condition_view (table_in c.args.self.run.now) c.args.condition.now) n u in
-    record { adds = c.loop-next.invariant.goes.kept; kept = c.loop-next.invariant.kept; nodes = is_done c.loop-next.invariant.goes (ap (λ (o : Option Cursor). nodes ss (filter p (nodes_from o)) u) c.in_default.is ∙ no_nodes ss u) }
+    record { adds = c.loop-next.invariant.goes.kept; kept = c.loop-next.invariant.kept; nodes = is_done c.loop-next.invariant.goes (ap (λ (o : Option Cursor). nodes ss (filter p (nodes_from o)) u) c.in_default-next.is ∙ no_nodes ss u) }
 
 -- ---- from each of some nodes
 
@@ -497,41 +497,51 @@ push_rising-returns-then-len-most t c =
 
 -- ---- a filter that asks the root
 
-pub push_where-returns-then-branch : goal.push_where-returns-then-branch
-push_where-returns-then-branch t c =
-    let table : Table = table_in c.args.self.run.now in
+pub push_where-returns-then-is_true : goal.push_where-returns-then-is_true
+push_where-returns-then-is_true t c =
     let u : Tree = (node_of c.args.self.run.now.root.now).tree in
-    let ss : Segments = steps_view table c.args.rest.now in
+    let ss : Segments = steps_view (table_in c.args.self.run.now) c.args.rest.now in
     let most : ℕ = c.args.self.most in
-    let p = λ (n : Node). truth (condition_view table c.args.condition.now) n u in
+    let p = λ (n : Node). truth (condition_view (table_in c.args.self.run.now) c.args.condition.now) n u in
     let old : List Cursor = c.args.frame.now.found.items in
     let new : List Cursor = c.push_children.new.frame.found.items in
     let below : List Node = children (node_of c.args.self.node) in
-    let same : (n : Node) → p n ≡ true = λ n. c.condition_asks_root.ensures c.if-condition_asks_root.true table n (node_of c.args.self.node) u ∙ (sym c.in_ok-holds_by_parts.ensures.value ∙ c.if-branch.true) in
-    let all : filter p below ≡ below = filter_all p below same in
+    let told : (n : Node) → p n ≡ c.in-Some.is_true = subst (λ (o : Option Bool). IfSome o (λ b. (n : Node) → p n ≡ b)) c.in-Some.is c.in_ok-is_true.ensures.value in
+    let all : filter p below ≡ below = filter_all p below (λ n. told n ∙ c.if-is_true.true) in
     record {
-      adds = adds_more c.in_ok-holds_by_parts.ensures.lends.adds c.push_children.ensures.adds;
+      adds = adds_more c.in_ok-is_true.ensures.lends.adds c.push_children.ensures.adds;
       kept = c.push_children.ensures.kept;
       nodes = subst (λ (l : List Node). OnOk c.push_children.result (map node_of new ≡ take most (map node_of old ++ nodes ss l u))) (sym all)
-          (subst (λ (l : List Cursor). OnOk c.push_children.result (map node_of new ≡ take most (map node_of l ++ nodes ss below u))) c.in_ok-holds_by_parts.ensures.lends.same c.push_children.ensures.nodes);
+          (subst (λ (l : List Cursor). OnOk c.push_children.result (map node_of new ≡ take most (map node_of l ++ nodes ss below u))) c.in_ok-is_true.ensures.lends.same c.push_children.ensures.nodes);
     }
 
-pub push_where-returns-else-branch : goal.push_where-returns-else-branch
-push_where-returns-else-branch t c =
-    let table : Table = table_in c.args.self.run.now in
+pub push_where-returns-else-is_true : goal.push_where-returns-else-is_true
+push_where-returns-else-is_true t c =
     let u : Tree = (node_of c.args.self.run.now.root.now).tree in
-    let ss : Segments = steps_view table c.args.rest.now in
+    let ss : Segments = steps_view (table_in c.args.self.run.now) c.args.rest.now in
     let most : ℕ = c.args.self.most in
-    let p = λ (n : Node). truth (condition_view table c.args.condition.now) n u in
+    let p = λ (n : Node). truth (condition_view (table_in c.args.self.run.now) c.args.condition.now) n u in
     let old : List Cursor = c.args.frame.now.found.items in
     let below : List Node = children (node_of c.args.self.node) in
-    let same : (n : Node) → p n ≡ false = λ n. c.condition_asks_root.ensures c.if-condition_asks_root.true table n (node_of c.args.self.node) u ∙ (sym c.in_ok-holds_by_parts.ensures.value ∙ c.if-branch.false) in
-    let none : filter p below ≡ [] = filter_none p below same in
+    let told : (n : Node) → p n ≡ c.in-Some.is_true = subst (λ (o : Option Bool). IfSome o (λ b. (n : Node) → p n ≡ b)) c.in-Some.is c.in_ok-is_true.ensures.value in
+    let none : filter p below ≡ [] = filter_none p below (λ n. told n ∙ c.if-is_true.false) in
     record {
-      adds = c.in_ok-holds_by_parts.ensures.lends.adds;
-      kept = c.in_ok-holds_by_parts.ensures.lends.kept;
-      nodes = ap (map node_of) c.in_ok-holds_by_parts.ensures.lends.same ∙ nothing_added most old ss u (filter p below) c.requires.room none;
+      adds = c.in_ok-is_true.ensures.lends.adds;
+      kept = c.in_ok-is_true.ensures.lends.kept;
+      nodes = ap (map node_of) c.in_ok-is_true.ensures.lends.same ∙ nothing_added most old ss u (filter p below) c.requires.room none;
     }
+
+pub holds_of_root-holds_once-requires : goal.holds_of_root-holds_once-requires
+holds_of_root-holds_once-requires t c =
+    let table : Table = table_in c.args.self.run.now in
+    let position : ℕ = c.in-Once.position in
+    let size = ap (λ (x : Condition). size_of_logical (condition_view table x)) c.in-Once.is ∙ (ap size_of_logical (once_is table position) ∙ logical_size (logical_or_none (slice_get table position))) in
+    (omega (arith, size, c.decreases), c.requires)
+
+pub holds_of_root-returns-in_ok-holds_once-in-Once-clause-value : goal.holds_of_root-returns-in_ok-holds_once-in-Once-clause-value
+holds_of_root-returns-in_ok-holds_once-in-Once-clause-value t c = λ n.
+    let run : Run = c.args.self.run.now in
+    ap (λ (x : Condition). truth (condition_view (table_in run) x) n (node_of run.root.now).tree) c.in-Once.is ∙ (once_told run c.in-Once.position n ∙ sym c.in_ok-holds_once-in-Once.ensures.value)
 
 pub holds_by_parts-holds_once-requires : goal.holds_by_parts-holds_once-requires
 holds_by_parts-holds_once-requires t c =

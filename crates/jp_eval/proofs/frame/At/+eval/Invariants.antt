@@ -47,6 +47,9 @@ decreases-push_where l = size_of_logical (condition_view (table_in l.self.run.no
 abbrev pub decreases-holds : goal.decreases-holds
 decreases-holds l = size_of_logical (condition_view (table_in l.self.run.now) l.condition.now) + 3
 
+abbrev pub decreases-holds_of_root : goal.decreases-holds_of_root
+decreases-holds_of_root l = size_of_logical (condition_view (table_in l.self.run.now) l.condition.now) + 3
+
 abbrev pub decreases-holds_by_parts : goal.decreases-holds_by_parts
 decreases-holds_by_parts l = size_of_logical (condition_view (table_in l.self.run.now) l.condition.now) + 2
 
