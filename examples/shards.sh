@@ -14,7 +14,8 @@
 # rows the number of texts before the block is added, which jpq itself counts (`check`), and the counts are summed.
 #
 # Status 0: what was written is what one run would write. 2: the arguments or the files are wrong. 1: a block was not answered,
-# or ran out of memory for a command (`error: memory`): nothing was written, and more blocks may help.
+# or ran out of memory for a command (`error: memory`): nothing was written, and more blocks may help. 15: the answers cannot be
+# written. If `head` has read enough it is 141.
 set -euo pipefail
 export LC_ALL=C
 refuse() { echo "shards.sh: $2" >&2; exit "$1"; }
@@ -30,7 +31,7 @@ shift 2
 [[ $blocks =~ ^[1-9][0-9]*$ ]] || refuse 2 "not a number of blocks: $blocks"
 room=$(mktemp -d)
 trap 'rm -rf "$room"' EXIT
-cat "$script" > "$room/script" || refuse 2 "cannot read $script"
+cat -- "$script" > "$room/script" || refuse 2 "cannot read $script"
 if edit=$(grep -a -n -E '^(append|replace) ' "$room/script"); then
     refuse 2 "not for a script with: $(head -n 1 <<< "$edit")"
 fi
@@ -44,6 +45,8 @@ end=$'\n' front=$'\xef\xbb\xbf'
 export front
 number=0 last=''
 for file; do
+    # for `split` a hyphen in front begins an option
+    case $file in -*) file=./$file ;; esac
     [ -f "$file" ] && [ -r "$file" ] || refuse 2 "no file that can be read and cut: $file"
     [ -s "$file" ] || continue
     if [ -z "$seq" ] && [ -n "$last" ] && [ -n "$(tail -c 1 "$last")" ]; then
@@ -130,4 +133,8 @@ awk -v seq="$seq" '
             while ((getline row < ("rows." command)) > 0) print row
             print end[command]
         }
-    }' parts
+    }' parts || {
+    status=$?
+    [ $status -ne 2 ] || refuse 15 'cannot write' # awk's own status for that
+    exit $status
+}

@@ -16,12 +16,14 @@ again on the others; if all are, it waits for one to come. With edits in the scr
 counted first.
 
 Status 0: what was written is what one run would write. 2: the arguments or the files are wrong. 1: a block was not answered,
-or ran out of memory for a command (`error: memory`); then nothing was written, unless a worker was lost late. One thing
-differs from one run: the limit of 4 GiB is that of a block.
+or ran out of memory for a command (`error: memory`); then nothing was written, unless a worker was lost late. 15: the answers
+cannot be written; if `head` has read enough it is 141, and nothing is said. One thing differs from one run: the limit of 4 GiB
+is that of a block.
 """
 
 import argparse
 import collections
+import contextlib
 import gzip
 import itertools
 import os
@@ -48,6 +50,10 @@ Answer = collections.namedtuple("Answer", "rows end")
 
 class Unfit(Exception):
     """The files cannot be run as one."""
+
+
+class Unwritten(Exception):
+    """The answers cannot be written."""
 
 
 # What runs here, before.
@@ -255,11 +261,23 @@ def write_all(parts, out):
             write_part(asked.popleft(), out)
     while asked:
         write_part(asked.popleft(), out)
-    out.flush()
+    with told_apart():
+        out.flush()
 
 
 def write_part(part, out):
-    out.write(part if isinstance(part, bytes) else part.result())
+    rows = part if isinstance(part, bytes) else part.result()
+    with told_apart():
+        out.write(rows)
+
+
+@contextlib.contextmanager
+def told_apart():
+    """A write that fails is told apart from the faults of the workers."""
+    try:
+        yield
+    except OSError as fault:
+        raise Unwritten from fault
 
 
 def run_all(client, commands, blocks, program, out):
@@ -293,6 +311,13 @@ def main():
     try:
         with Client(**where, direct_to_workers=True) as client:
             run_all(client, commands, blocks, words.program, sys.stdout.buffer)
+    except Unwritten as unwritten:
+        # what is left in the buffer goes nowhere, else it would be tried again at the end
+        os.dup2(os.open(os.devnull, os.O_WRONLY), sys.stdout.fileno())
+        if isinstance(unwritten.__cause__, BrokenPipeError):
+            return 141
+        print(f"shards_dask.py: cannot write: {unwritten.__cause__.strerror}", file=sys.stderr)
+        return 15
     except Exception as fault:
         print(f"shards_dask.py: {type(fault).__name__}: {fault}", file=sys.stderr)
         return 1
