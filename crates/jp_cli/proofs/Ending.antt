@@ -10,7 +10,7 @@ use Rattle.jp_model.specs.Devices.{Came, Device, Received, Begins}
 use Rattle.jp_model.specs.Lines.{text_lines, closed_lines, lines_so_far}
 use Rattle.jp_model.specs.Query.Status.{QueryStatus}
 use Rattle.jp_model.specs.Script.Commands.{without_final_cr, command_lines, closed_command_lines}
-use Rattle.jp_model.specs.Script.Headline.{Given, WasLoaded, lines_within, loaded, Answered, AnsweredInPart, AnsweredFirst, RunEnded, RunStopped}
+use Rattle.jp_model.specs.Script.Headline.{GivenToRun, WasLoaded, lines_within, loaded, Answered, AnsweredInPart, AnsweredFirst, RunEnded, RunStopped}
 use Rattle.jp_model.specs.Script.Machine.{State, Outcome, step, step_unless, run_commands, OnlyForMemory}
 use Rattle.jp_model.specs.Script.Commands.{command_of}
 use Rattle.jp_cli.specs.Commands.{asked_in}
@@ -52,7 +52,7 @@ module _ (query_of : List ℕ → QueryStatus) (setup : Setup) where
         (map without_final_cr h.0, (map without_final_cr h.1.0, ap (map without_final_cr) h.1.1 ∙ map-append without_final_cr h.0 h.1.0), answered_as state h.0 h.2)
 
     -- what is known of the whole run
-    pub ends : (result : Result (Unit {0}) RunFault) (first last : Progress) (given : Given)
+    pub ends : (result : Result (Unit {0}) RunFault) (first last : Progress) (given : GivenToRun)
         → WasLoaded setup given.collection → first.state ≡ loaded setup given.collection.bytes
         → MatchResult result
         (λ _. (given.script.ended ≡ true) × (length given.script.bytes ≤ setup.script_most) × Ran query_of asked_in contents old new setup first (text_lines given.script.bytes) last)
@@ -87,7 +87,7 @@ module _ (query_of : List ℕ → QueryStatus) (setup : Setup) where
         )
 
 -- no byte of the script came, and the collection did not come to its end
-abbrev pub only_collection : Came → Given
+abbrev pub only_collection : Came → GivenToRun
 only_collection came = record { collection = came; script = came_so [] false false }
 
 -- the bytes that came are all, where the reader is at its end

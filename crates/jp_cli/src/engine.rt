@@ -2,7 +2,7 @@
 
 ghost use Rattle.std.specs.Prelude.{◌≡◌, ◌+◌, ◌≤◌, true, false, OnOk, IfSome, MatchResult};
 ghost use Rattle.jp_model.specs.Devices.{GaveUpTo, HasEnded};
-ghost use Rattle.jp_model.specs.Script.Headline.{Given, RunEnded, RunStopped, is_write_fault, is_read_collection, OnlyReadScript};
+ghost use Rattle.jp_model.specs.Script.Headline.{GivenToRun, RunEnded, RunStopped, is_write_fault, is_read_collection, OnlyReadScript};
 ghost use Rattle.jp_model.specs.Script.Commands.{command_of};
 ghost use Rattle.jp_query.specs.Status.{query_of};
 
@@ -37,7 +37,7 @@ pub fn run<C: Read, R: Read, W: Write>(
     requires script { script.old.failed ≡ false }
     requires out { out.old.failed ≡ false }
     // The readers gave some bytes. At Ok they gave all, and the writer received the output for them; else what `RunStopped` says.
-    ensures output { (given : Given)
+    ensures output { (given : GivenToRun)
         × GaveUpTo C.remaining collection.old collection.new given.collection
         × GaveUpTo R.remaining script.old script.new given.script
         × MatchResult result

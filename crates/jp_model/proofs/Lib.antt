@@ -10,5 +10,6 @@ pub mod Rows
 pub mod Reader
 pub mod LineSteps
 pub mod Devices
+mod Walks
 pub mod LowestBit
 pub mod Digits

@@ -1,7 +1,7 @@
 use super::*;
 use std::alloc::{AllocError, Global};
 use std::io;
-use std::io::{Read, Write};
+use std::io::{BufWriter, Read, Write};
 use std::test::Fail;
 
 /// Gives one byte a call, and fails once its bytes have ended.
@@ -281,5 +281,40 @@ fn each_call_is_one_call_of_the_device(rt: HostRuntime) -> Result<(), Fail> {
     writer.flush()?;
     assert_eq!(rt; writer.calls(), 4);
     assert_eq!(rt; writer.into_inner().calls, 4);
+    Ok(())
+}
+
+#[test]
+fn reads_that_come_before_a_flush_are_counted(rt: HostRuntime) -> Result<(), Fail> {
+    let mut reader = Watched::new(b"abcd".as_slice());
+    let mut writer = Watched::new(Vec::new(rt.alloc()));
+    let mut byte = [0u8; 1];
+    assert_eq!(rt; reader.read_after(&writer, &mut byte)?, 1);
+    assert_eq!(rt; reader.early(), 0);
+    assert_eq!(rt; writer.write(b"x")?, 1);
+    assert_eq!(rt; reader.read_after(&writer, &mut byte)?, 1);
+    assert_eq!(rt; byte[0], b'b');
+    assert_eq!(rt; reader.early(), 1);
+    writer.flush()?;
+    assert_eq!(rt; reader.read_after(&writer, &mut byte)?, 1);
+    assert_eq!(rt; reader.early(), 1);
+    assert_eq!(rt; reader.read(&mut byte)?, 1);
+    assert_eq!(rt; reader.early(), 2);
+    assert_eq!(rt; reader.calls(), 4);
+    assert_eq!(rt; writer.early(), 0);
+    Ok(())
+}
+
+#[test]
+fn a_watched_writer_stands_behind_a_buffer(rt: HostRuntime) -> Result<(), Fail> {
+    let mut buffer = BufWriter::new(rt.alloc(), Watched::new(Vec::new(rt.alloc())))?;
+    buffer.write_all(b"ab")?;
+    assert_eq!(rt; buffer.get_ref().calls(), 0);
+    buffer.flush()?;
+    let (writer, rest) = buffer.into_parts();
+    assert!(rt; rest.is_empty());
+    assert_eq!(rt; writer.calls(), 2);
+    assert!(rt; !writer.unflushed());
+    assert_eq!(rt; writer.into_inner().as_slice(), b"ab".as_slice());
     Ok(())
 }

@@ -37,7 +37,7 @@ OnlyReadScript faults.ReadScript failed = Unit {0}
 OnlyReadScript _ failed = failed ≡ false
 
 -- what the readers of a run gave
-pub record Given : Type 0 where
+pub record GivenToRun : Type 0 where
   pub collection : Came
   pub script : Came
 
@@ -88,7 +88,7 @@ module _ (query_of : List ℕ → QueryStatus) (asked : List ℕ → Command) wh
   -- What the writer received of a run that stopped, by the fault and by what the readers gave. A collection over which
   -- commands ran came to its end, fits and is framed; under want of memory it may have come in part, or be framed and not
   -- loaded, and then nothing was written. No reader gave more than the byte past its limit, nor came to its end behind it.
-  abbrev pub RunStopped : {W : Type 0} → (W → Option (List ℕ)) → Device W → Device W → RunFault → Setup → Given → Type 0
+  abbrev pub RunStopped : {W : Type 0} → (W → Option (List ℕ)) → Device W → Device W → RunFault → Setup → GivenToRun → Type 0
   RunStopped contents old new faults.ReadCollection setup given = (given.collection.ended ≡ false) × (length given.collection.bytes ≤ setup.most)
       × Received contents old new []
   RunStopped contents old new faults.Size setup given = (given.collection.ended ≡ false) × (length given.collection.bytes ≡ setup.most + 1)

@@ -1,7 +1,7 @@
 -- Where the collection was not loaded, no byte of the script came and none was written; else the run ends as the script does.
 use Rattle.std.proofs.Common.{◌∙◌, ◌||◌, sym, ap, inl}
 use Rattle.std.proofs.KnownBytes.{Appends-nil}
-use Rattle.jp_model.specs.Script.Headline.{Given, RunEnded, WasStarved}
+use Rattle.jp_model.specs.Script.Headline.{GivenToRun, RunEnded, WasStarved}
 use Rattle.jp_model.proofs.Devices.{nothing_came, or_true}
 use Rattle.jp_cli.specs.Runs.{at}
 use Rattle.jp_store.specs.Collections.{Collection}
@@ -44,7 +44,7 @@ pub returns-clause-output : goal.returns-clause-output
 returns-clause-output g c =
     let came = c.in-Ok.ensures.came in
     let given = c.run_script.ensures.output in
-    let all : Given = record { collection = came.0; script = given.0 } in (
+    let all : GivenToRun = record { collection = came.0; script = given.0 } in (
       all,
       came.1,
       given.1,
