@@ -1,3 +1,4 @@
 -- What the contracts of lane kernels speak of.
+pub mod First
 pub mod Search
 pub mod Word

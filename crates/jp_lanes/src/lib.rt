@@ -6,12 +6,18 @@
 //! - `separators`, `are_ascii`: which of 64 bytes are RS; whether all of them are ASCII characters
 //! - `first_special`, `has_special`, `equal_bytes`: the next quote, backslash or control byte; whether there is one; equality
 //!   of bytes
+//! - `first_escape`, `digits_end`: the next backslash or control byte; the next byte that is no digit
 #![tactic(auto)]
 
 mod classes;
+mod digits;
+mod escapes;
 mod search;
 #[cfg(test)]
 mod tests;
+mod widths;
 
 pub use classes::{Classes, are_ascii, classify, pad, separators};
+pub use digits::digits_end;
+pub use escapes::first_escape;
 pub use search::{equal_bytes, first_special, has_special};

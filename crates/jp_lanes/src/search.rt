@@ -3,15 +3,8 @@ ghost use Rattle.std.specs.Prelude.{◌≡◌, ◌↔◌, ℕ, ◌+◌, ◌<◌,
 ghost use Rattle.std.specs.Simd.Lanes.{mask_l, chunk};
 ghost use Rattle.jp_lanes.specs.Search.{HasSpecial, IsFirstSpecial, is_special as is_special_byte};
 
+use crate::widths::{BLOCK, EIGHTH, QUARTER, SIXTEENTH};
 use std::simd::prelude::*;
-
-const BLOCK: usize = 64;
-
-const QUARTER: usize = 16;
-
-const EIGHTH: usize = 8;
-
-const SIXTEENTH: usize = 4;
 
 fn is_special(byte: u8) -> bool
     ensures { result ≡ is_special_byte byte }

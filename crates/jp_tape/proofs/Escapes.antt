@@ -1,74 +1,31 @@
 -- A line with no escape: which of its bytes stand for themselves.
-use Rattle.std.proofs.Common.{◌≡◌, ℕ, suc, ◌+◌, ◌*◌, ◌-◌, ◌%◌, ◌^◌, ◌<◌, ◌≤◌, Bool, true, false, not, cond, ◌&&◌, ◌||◌, List, [], ◌∷◌, map, length, get_or, take, get_or-take, length-take, sym, ◌∙◌, ap, subst, refl, arith, bit_or}
-use lib.Lanes.{mask_l, zip2, top, chunk}
-use Rattle.std.proofs.lemmas.Simd.{zip2_of_maps, map-map, mask_l-mod, length-chunk, get_or-chunk}
-use Rattle.std.proofs.lemmas.List.{length-map}
+use Rattle.std.proofs.Common.{◌≡◌, ℕ, ◌+◌, ◌-◌, ◌<◌, ◌≤◌, Bool, true, false, not, ◌&&◌, List, length, take, get_or-take, length-take, sym, ◌∙◌, ap, subst, refl, arith}
 use Rattle.std.proofs.lemmas.Bool.Decides.{nat_tests}
+use Rattle.jp_lanes.specs.First.{is_escape, IsFirst}
 use Rattle.jp_lanes.specs.Search.{is_special}
 use Rattle.jp_model.specs.Characters.{is_quote, is_backslash}
 use Rattle.jp_model.specs.Json.Places.{byte_at}
 use Rattle.jp_model.specs.Json.Marks.{is_escaped}
 use Rattle.jp_strings.specs.Plain.{ArePlain}
-use Rattle.jp_tape.specs.Places.{is_escape, HasEscape, AreUnescaped, IsUnescaped, IsUnquoted}
+use Rattle.jp_tape.specs.Places.{HasEscape, IsUnescaped, IsUnquoted}
 use Rattle.jp_tape.proofs.Ahead.{free_next}
-
--- ---- lanes
-
--- a lane of ones or of zeros
-abbrev pub lane : Bool → ℕ
-lane b = cond b 255 0
-
-either_lane : (a b : Bool) → top 7 (bit_or (lane a) (lane b)) ≡ (a || b)
-either_lane true true = refl
-either_lane true false = refl
-either_lane false true = refl
-either_lane false false = refl
-
-same_map : {A B : Type 0} (f g : A → B) (xs : List A) → ((x : A) → f x ≡ g x) → map f xs ≡ map g xs
-same_map f g xs e = λ t. map (λ x. e x t) xs
-
--- the lanes of which one test or another is true
-pub either_mask : (p q is : ℕ → Bool) (xs : List ℕ) {ys zs : List ℕ} → ys ≡ map (λ x. lane (p x)) xs → zs ≡ map (λ x. lane (q x)) xs → ((x : ℕ) → (p x || q x) ≡ is x) → length xs ≤ 64
-    → mask_l (map (top 7) (zip2 bit_or ys zs)) % 2 ^ 64 ≡ mask_l (map is xs)
-either_mask p q is xs first second right few =
-    let two = zip2_of_maps bit_or (λ x. lane (p x)) (λ x. lane (q x)) xs first second in
-    let tops = ap (map (top 7)) two ∙ (map-map (top 7) (λ x. bit_or (lane (p x)) (lane (q x))) xs ∙ same_map _ is xs (λ x. either_lane (p x) (q x) ∙ right x)) in
-    ap (λ ms. mask_l ms % 2 ^ 64) tops ∙ mask_l-mod (map is xs) 64 (let l = length-map xs is in omega (arith, l, few))
-
--- a mask that is not empty tells of a byte
-some_from_mask : (xs : List ℕ) → (mask_l (map is_escape xs) ≡ 0 → ⊥) → (k : ℕ) × (k < length xs) × (is_escape (get_or xs k 0) ≡ true)
-some_from_mask [] some = absurd (some refl)
-some_from_mask (x ∷ xs) some = go (is_escape x) refl some (some_from_mask xs)
-  where
-    go : (b : Bool) → is_escape x ≡ b → (cond b 1 0 + 2 * mask_l (map is_escape xs) ≡ 0 → ⊥) → ((mask_l (map is_escape xs) ≡ 0 → ⊥) → (k : ℕ) × (k < length xs) × (is_escape (get_or xs k 0) ≡ true))
-        → (k : ℕ) × (k < length (x ∷ xs)) × (is_escape (get_or (x ∷ xs) k 0) ≡ true)
-    go true e some later = (0, omega arith, e)
-    go false e some later = let found = later (λ none. some (omega (arith, none))) in let within = found.1 in (suc found.0, omega (arith, within), found.2)
-
-pub some_in_chunk : (line : List ℕ) (at n : ℕ) → at + n ≤ length line → (mask_l (map is_escape (chunk at n line)) ≡ 0 → ⊥) → HasEscape line
-some_in_chunk line at n l some =
-    let found = some_from_mask (chunk at n line) some in
-    let size = length-chunk at n line l in
-    let within : found.0 < n = let w = found.1 in omega (arith, w, size) in
-    record { place = at + found.0; within = omega (arith, within, l); escapes = ap is_escape (sym (get_or-chunk at n line found.0 0 within)) ∙ found.2 }
 
 -- ---- all bytes but the last
 
 front_byte : (line : List ℕ) (k : ℕ) → k + 1 < length line → byte_at (take (length line - 1) line) k ≡ byte_at line k
 front_byte line k l = get_or-take (length line - 1) line k 0 (omega (arith, l))
 
-pub unescaped_front : (line : List ℕ) → AreUnescaped (take (length line - 1) line) → IsUnescaped line
-unfolding AreUnescaped IsUnescaped
-unescaped_front line p k l =
+pub unescaped_front : (line : List ℕ) (at : ℕ) → IsFirst is_escape (take (length line - 1) line) 0 at → length (take (length line - 1) line) ≤ at → IsUnescaped line
+unfolding IsUnescaped
+unescaped_front line at f end k l =
     let size = length-take (length line - 1) line in
-    sym (ap is_escape (front_byte line k l)) ∙ p k (omega (arith, size, l))
+    sym (ap is_escape (front_byte line k l)) ∙ f.before k (omega arith) (omega (arith, size, l, end))
 
-pub escape_in_front : (line : List ℕ) → HasEscape (take (length line - 1) line) → HasEscape line
-escape_in_front line h =
+pub escape_in_front : (line : List ℕ) (at : ℕ) → IsFirst is_escape (take (length line - 1) line) 0 at → at < length (take (length line - 1) line) → HasEscape line
+escape_in_front line at f within =
     let size = length-take (length line - 1) line in
-    let w = h.within in
-    let inside : h.place + 1 < length line = omega (arith, size, w) in
-    record { place = h.place; within = omega (arith, inside); escapes = ap is_escape (sym (front_byte line h.place inside)) ∙ h.escapes }
+    let inside : at + 1 < length line = omega (arith, size, within) in
+    record { place = at; within = omega (arith, inside); escapes = ap is_escape (sym (front_byte line at inside)) ∙ f.stops within }
 
 -- ---- strings
 

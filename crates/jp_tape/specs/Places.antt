@@ -1,14 +1,11 @@
 -- Where tokens end.
-use Rattle.std.specs.Prelude.{◌≡◌, ℕ, ◌+◌, ◌<◌, ◌≤◌, ◌||◌, ◌==◌, Bool, true, false, not, List, length}
-use Rattle.jp_model.specs.Characters.{is_white, is_digit, is_backslash, is_control}
+use Rattle.std.specs.Prelude.{◌≡◌, ℕ, ◌+◌, ◌<◌, ◌≤◌, ◌||◌, ◌==◌, Bool, true, false, List, length}
+use Rattle.jp_model.specs.Characters.{is_white, is_digit}
+use Rattle.jp_lanes.specs.First.{is_escape}
 use Rattle.jp_lanes.specs.Search.{is_special}
 use Rattle.jp_model.specs.Json.Places.{byte_at}
 use Rattle.jp_model.specs.Json.Marks.{is_unescaped_quote}
 use Rattle.jp_model.specs.Json.Strings.{SpellsCharacters}
-
--- a byte that is no digit
-abbrev pub is_other : ℕ → Bool
-is_other b = not (is_digit b)
 
 -- a byte of a number's spelling (RFC 8259, section 6)
 abbrev pub in_number : ℕ → Bool
@@ -30,19 +27,11 @@ pub record Passes (line : List ℕ) (at to : ℕ) : Type 0 where
   pub plain : (k : ℕ) → at ≤ k → k < middle → is_special (byte_at line k) ≡ false
   pub characters : SpellsCharacters line middle to units
 
--- a byte that no character stands for as it is: a backslash, or a control character
-abbrev pub is_escape : ℕ → Bool
-is_escape b = is_backslash b || is_control b
-
--- such a byte stands in the line
+-- a reverse solidus or a control character stands in the line
 pub record HasEscape (line : List ℕ) : Type 0 where
   pub place : ℕ
   pub within : place < length line
   pub escapes : is_escape (byte_at line place) ≡ true
-
--- none is among these bytes
-unfoldable pub AreUnescaped : List ℕ → Type 0
-AreUnescaped bytes = (k : ℕ) → k < length bytes → is_escape (byte_at bytes k) ≡ false
 
 -- none stands before the last byte of the line, which is in no string that ends
 unfoldable pub IsUnescaped : List ℕ → Type 0

@@ -1,6 +1,6 @@
 //! The searches, at each position.
 
-use crate::{equal_bytes, first_special, has_special};
+use crate::{digits_end, equal_bytes, first_escape, first_special, has_special};
 use std::alloc::{AllocError, Global};
 use std::test::Fail;
 
@@ -50,6 +50,54 @@ fn each_position_is_found(alloc: Global, size: usize) -> Result<bool, AllocError
 fn a_special_byte_is_found_in_short_texts(rt: HostRuntime) -> Result<(), Fail> {
     for size in 0..131usize {
         assert!(rt; each_position_is_found(rt.alloc(), size)?);
+    }
+    Ok(())
+}
+
+// Whether a reverse solidus or a control character at each position of a text of that length is found, from the front and from
+// the position behind it.
+fn each_escape_is_found(alloc: Global, size: usize) -> Result<bool, AllocError> {
+    let mut bytes = Vec::new(alloc);
+    for _ in 0..size {
+        bytes.push(b'"')?;
+    }
+    let escapes = [b'\\', 0, 0x1f];
+    for position in 0..bytes.len() {
+        bytes[position] = escapes[position % 3];
+        let found = first_escape(&bytes, 0) == position
+            && first_escape(&bytes, position) == position
+            && first_escape(&bytes, position + 1) == bytes.len();
+        bytes[position] = b' ';
+        if !found {
+            return Ok(false);
+        }
+    }
+    Ok(first_escape(&bytes, 0) == bytes.len() && first_escape(&bytes, bytes.len()) == bytes.len())
+}
+
+#[test]
+fn an_escape_is_found_in_texts_of_any_length(rt: HostRuntime) -> Result<(), Fail> {
+    for size in 0..135usize {
+        assert!(rt; each_escape_is_found(rt.alloc(), size)?);
+    }
+    Ok(())
+}
+
+#[test]
+fn digits_end_at_the_first_other_byte(rt: HostRuntime) -> Result<(), Fail> {
+    let digits = b"0123456789012345678901234567890123456789";
+    for end in 0..41usize {
+        assert_eq!(rt; digits_end(&digits[..end], 0), end);
+        for other in [b'/', b':', 0, 0xff] {
+            let mut bytes = Vec::new(rt.alloc());
+            bytes.extend_from_slice(&digits[..end])?;
+            bytes.push(other)?;
+            bytes.extend_from_slice(digits)?;
+            for from in 0..end {
+                assert_eq!(rt; digits_end(&bytes, from), end);
+            }
+            assert_eq!(rt; digits_end(&bytes, end), end);
+        }
     }
     Ok(())
 }

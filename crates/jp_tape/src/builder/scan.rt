@@ -1,14 +1,11 @@
 //! Places in a line: where white space, words, numbers and strings end.
 
-ghost use Rattle.std.specs.Prelude.{◌≡◌, ℕ, ◌+◌, ◌<◌, ◌≤◌, true, false, length, map, drop, List, IfSome, IfNone};
-ghost use Rattle.std.specs.Simd.Lanes.{mask_l};
+ghost use Rattle.std.specs.Prelude.{◌≡◌, ℕ, ◌+◌, ◌<◌, ◌≤◌, true, false, length, drop, List, IfSome, IfNone};
 ghost use Rattle.jp_model.specs.Characters.{is_white, is_digit};
 ghost use Rattle.jp_model.specs.Json.Places.{White, Has, Reads, byte_at};
 ghost use Rattle.jp_model.specs.Json.Marks.{may_begin};
-ghost use Rattle.jp_tape.specs.Places.{in_number, is_other, Ended, Stops};
+ghost use Rattle.jp_tape.specs.Places.{in_number, Ended, Stops};
 ghost use Rattle.jp_tape.specs.Ahead.{IsAhead, IsNext, first_or};
-
-use std::simd::prelude::*;
 
 fn is_white_byte(byte: u8) -> bool
     ensures { result ≡ is_white byte }
@@ -93,47 +90,6 @@ pub(super) fn marks_behind(marks: &[u32], count: usize) -> &[u32]
     &marks[count..]
 }
 
-/// So many bytes are looked at together for digits.
-const LANES: usize = 16;
-
-/// Bit i tells whether lane i is no digit.
-#[inline(always)]
-fn other_lanes(lanes: Simd<u8, LANES>) -> u64
-    ensures { result ≡ mask_l (map is_other lanes) }
-{
-    let below = lanes.simd_lt(Simd::splat(b'0'));
-    let above = lanes.simd_gt(Simd::splat(b'9'));
-    (below | above).to_bitmask()
-}
-
-/// How many of the lanes at a place come before the first that is no digit.
-#[inline(always)]
-fn digit_run(line: &[u8], at: usize) -> usize
-    requires inside { at + LANES ≤ length line.now }
-    ensures most { result ≤ LANES }
-    ensures digits { (k : ℕ) → at ≤ k → k < at + result → is_digit (byte_at line.now k) ≡ true }
-{
-    let others = other_lanes(Simd::<u8, LANES>::from_slice(&line[at..]));
-    if others == 0 {
-        return LANES;
-    }
-    others.trailing_zeros() as usize
-}
-
-/// The first place at or after `from` with no digit, or the length, byte by byte.
-fn digits_end_plainly(line: &[u8], from: usize) -> usize
-    requires { from ≤ length line.now }
-    ensures order { from ≤ result }
-    ensures within { result ≤ length line.now }
-    ensures digits { (k : ℕ) → from ≤ k → k < result → is_digit (byte_at line.now k) ≡ true }
-{
-    let mut at = from;
-    while at < line.len() && is_digit_byte(line[at]) {
-        at += 1;
-    }
-    at
-}
-
 /// The first place at or after `from` with no digit, or the length.
 #[inline(always)]
 pub(super) fn digits_end(line: &[u8], from: usize) -> usize
@@ -142,14 +98,7 @@ pub(super) fn digits_end(line: &[u8], from: usize) -> usize
     ensures within { result ≤ length line.now }
     ensures digits { (k : ℕ) → from ≤ k → k < result → is_digit (byte_at line.now k) ≡ true }
 {
-    if line.len() - from < LANES {
-        return digits_end_plainly(line, from);
-    }
-    let run = digit_run(line, from);
-    if run < LANES {
-        return from + run;
-    }
-    digits_end_plainly(line, from + LANES)
+    jp_lanes::digits_end(line, from)
 }
 
 /// Whether a byte of a number is there.

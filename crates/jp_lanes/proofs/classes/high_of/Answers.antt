@@ -1,4 +1,4 @@
-use Rattle.std.proofs.Common.{ℕ, nat_lt, ltb, map, ap, ◌∙◌, ◌%◌, ◌^◌, arith, w8}
+use Rattle.std.proofs.Common.{nat_lt, ltb, map, ap, ◌∙◌, ◌%◌, ◌^◌, arith, w8}
 use Rattle.std.specs.Prelude.{replicate}
 use lib.Lanes.{mask_l}
 use Rattle.std.proofs.lemmas.List.{length-map}

@@ -1,4 +1,4 @@
-use Rattle.std.proofs.Common.{arith}
+use Rattle.std.proofs.Common.{◌-◌, arith, length, take}
 use Rattle.jp_tape.specs.Places.{IsUnescaped}
 use Rattle.jp_tape.proofs.Escapes.{unescaped_front, escape_in_front}
 use Rattle.jp_tape.proofs.builder.escapes.has_escape.Goals as goal
@@ -8,7 +8,7 @@ unfolding IsUnescaped
 returns-then-line-lt2-clause-none c told k l = absurd (omega (arith, l, c.if-line-lt2.true))
 
 pub returns-clause-none : goal.returns-clause-none
-returns-clause-none c told = unescaped_front c.args.line.now (c.has_escape_among.ensures.none told)
+returns-clause-none c told = unescaped_front c.args.line.now c.first_escape.result c.first_escape.ensures c.if-first_escape-front.false
 
-pub returns-clause-some : goal.returns-clause-some
-returns-clause-some c told = escape_in_front c.args.line.now (c.has_escape_among.ensures.some told)
+pub returns-then-first_escape-front-clause-some : goal.returns-then-first_escape-front-clause-some
+returns-then-first_escape-front-clause-some c told = escape_in_front c.args.line.now c.first_escape.result c.first_escape.ensures c.if-first_escape-front.true

@@ -2,9 +2,10 @@ use Rattle.std.proofs.Common.{◌≡◌, ℕ, not, ◌||◌, ltb, arith}
 use Rattle.std.proofs.lemmas.Bool.Decides.{nat_tests}
 use Rattle.std.proofs.lemmas.Simd.{zip2_splat, zip2_splat_left}
 use Rattle.jp_model.specs.Characters.{is_digit}
-use Rattle.jp_tape.specs.Places.{is_other}
-use Rattle.jp_tape.proofs.Escapes.{lane, either_mask}
-use Rattle.jp_tape.proofs.builder.scan.other_lanes.Goals as goal
+use Rattle.jp_lanes.specs.First.{is_other}
+use Rattle.jp_lanes.proofs.SearchLanes.{lane}
+use Rattle.jp_lanes.proofs.FirstLanes.{either_mask}
+use Rattle.jp_lanes.proofs.digits.other_lanes.Goals as goal
 
 no_digit : (x : ℕ) → (ltb x 0x30 || ltb 0x39 x) ≡ not (is_digit x)
 no_digit x = grind (arith, nat_tests)

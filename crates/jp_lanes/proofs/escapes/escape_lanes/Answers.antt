@@ -1,8 +1,9 @@
 use Rattle.std.proofs.Common.{eqb, ltb, refl, arith}
 use Rattle.std.proofs.lemmas.Simd.{zip2_splat}
-use Rattle.jp_tape.specs.Places.{is_escape}
-use Rattle.jp_tape.proofs.Escapes.{lane, either_mask}
-use Rattle.jp_tape.proofs.builder.escapes.escape_lanes.Goals as goal
+use Rattle.jp_lanes.specs.First.{is_escape}
+use Rattle.jp_lanes.proofs.SearchLanes.{lane}
+use Rattle.jp_lanes.proofs.FirstLanes.{either_mask}
+use Rattle.jp_lanes.proofs.escapes.escape_lanes.Goals as goal
 
 pub returns : goal.returns
 returns g c =
