@@ -19,6 +19,7 @@ pub mod SameSteps
 mod Digits
 mod Exponents
 mod Loop
+mod OneFilter
 mod Outcomes
 mod Quotes
 mod Runs

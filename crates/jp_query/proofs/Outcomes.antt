@@ -74,10 +74,10 @@ module _ (text : List ℕ) (q : Segments) (sized : IsFalse (is_oversized text)) 
   answer_only (Err (parse_faults.Refused faults.Types)) h = h
   answer_only (Err parse_faults.Memory) h = tt
 
-not_exact : (q : Segments) → has_exact_integers q ≡ false → fault_of_query q ≡ Some faults.Integer
+pub not_exact : (q : Segments) → has_exact_integers q ≡ false → fault_of_query q ≡ Some faults.Integer
 not_exact q h = rw h refl
 
-not_small : (q : Segments) → has_exact_integers q ≡ true → has_small_exponents q ≡ false → fault_of_query q ≡ Some faults.Number
+pub not_small : (q : Segments) → has_exact_integers q ≡ true → has_small_exponents q ≡ false → fault_of_query q ≡ Some faults.Number
 not_small q e h = rw (e, h) refl
 
 pub answer_fault : (text : List ℕ) (e : ParseFault) → FaultMet text e → IsFirstFault text e

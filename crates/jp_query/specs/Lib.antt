@@ -3,7 +3,10 @@ pub mod Answers
 pub mod Integers
 pub mod Limits
 pub mod Outcome
+pub mod Conditions
+pub mod ConditionOutcome
 pub mod Connectives
+pub mod Filters
 pub mod Parsing
 pub mod Queries
 pub mod Reading

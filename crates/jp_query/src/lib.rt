@@ -3,12 +3,14 @@
 //! Public calls:
 //!
 //! - `parse`, `ParseFault`, `Query`: the syntax tree of a text, or its first fault
+//! - `parse_condition`, `Condition`: a logical expression that stands alone, or the first fault of its text
 //! - `Segment`, `Selector`, `Logical`, `Comparable`, `Argument`, `Path`, `Call`, `Origin`, `Literal`, `CompareOp`: the syntax
 //!   tree
 //! - `singular`, `is_singular`, `SingularPath`, `Step`: the steps of a singular query, if it is one; `singular_selector` of a
 //!   segment
 #![tactic(auto)]
 
+mod condition;
 mod fault;
 pub mod laws;
 mod limit;
@@ -18,8 +20,9 @@ mod paths;
 mod query;
 mod tree;
 
+pub use condition::Condition;
 pub use fault::ParseFault;
-pub use parser::parse;
+pub use parser::{parse, parse_condition};
 pub use paths::{SingularPath, Step, is_singular, singular, singular_selector};
 pub use query::Query;
 pub use tree::{

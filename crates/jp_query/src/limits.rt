@@ -156,7 +156,7 @@ fn selector_passes(selector: &Selector, limit: Limit) -> bool
 
 /// Whether all of an expression keeps the limit.
 #[cycle(limits)]
-fn logical_passes(logical: &Logical, limit: Limit) -> bool
+pub(crate) fn logical_passes(logical: &Logical, limit: Limit) -> bool
     ensures { result ≡ logical_passes (logical_view logical.now) (limit_tests limit) }
 {
     match logical {

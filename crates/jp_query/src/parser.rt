@@ -1,6 +1,7 @@
 //! Reading a query (RFC 9535, section 2 and appendix A).
 
 mod class;
+mod conditions;
 mod expression;
 mod failure;
 mod literals;
@@ -29,6 +30,7 @@ use crate::limit::Limit;
 use crate::limits::segments_pass;
 use crate::query::Query;
 use crate::tree::Segment;
+pub use conditions::parse_condition;
 use failure::Failure;
 use jp_model::QueryFault;
 use queries::segments;

@@ -3,6 +3,7 @@ use jp_query::{ParseFault, parse};
 use std::alloc::{AllocError, Global};
 use std::test::Fail;
 
+mod conditions;
 mod examples;
 mod paths;
 

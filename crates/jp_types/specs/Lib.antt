@@ -1,3 +1,4 @@
 -- What the contracts of typing speak of.
+pub mod CheckedConditions
 pub mod Checks
 pub mod Signatures

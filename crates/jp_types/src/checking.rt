@@ -1,15 +1,19 @@
-//! The check of a query's types.
+//! The check of the types of a query, and of a condition.
 
 ghost use Rattle.std.specs.Prelude.{◌≡◌, MatchResult, Some, None};
 ghost use Rattle.jp_model.specs.Query.Status.{fault_of_query};
+ghost use Rattle.jp_query.specs.Conditions.{condition_view};
+ghost use Rattle.jp_query.specs.Filters.{filter_by};
 ghost use Rattle.jp_query.specs.Queries.{query_view};
+ghost use Rattle.jp_types.specs.CheckedConditions.{checked_condition_view};
 ghost use Rattle.jp_types.specs.Checks.{checked_view};
 
 use crate::checked::Checked;
-use crate::names::segments_known;
-use crate::typing::segments_typed;
+use crate::condition::CheckedCondition;
+use crate::names::{logical_known, segments_known};
+use crate::typing::{logical_typed, segments_typed};
 use jp_model::QueryFault;
-use jp_query::Query;
+use jp_query::{Condition, Query};
 
 /// Checks the types of a query (RFC 9535, section 2.4.3). It allocates nothing.
 ///
@@ -29,4 +33,22 @@ pub fn check(query: Query) -> Result<Checked, (QueryFault, Query)>
         return Err((QueryFault::Types, query));
     }
     Err((QueryFault::Function, query))
+}
+
+/// Checks the types of a logical expression that stands alone (RFC 9535, section 2.4.3). It allocates nothing.
+///
+/// # Errors
+///
+/// As those of [`check`], of the query in whose only filter the expression stands; with the condition as it was.
+pub fn check_condition(condition: Condition) -> Result<CheckedCondition, (QueryFault, Condition)>
+    ensures same { MatchResult result (λ c. checked_condition_view c ≡ condition_view condition) (λ e. e.1 ≡ condition) }
+    ensures fault { MatchResult result (λ c. fault_of_query (filter_by (condition_view condition)) ≡ None) (λ e. fault_of_query (filter_by (condition_view condition)) ≡ Some e.0) }
+{
+    if logical_typed(condition.expression()) {
+        return Ok(CheckedCondition::new(condition));
+    }
+    if logical_known(condition.expression()) {
+        return Err((QueryFault::Types, condition));
+    }
+    Err((QueryFault::Function, condition))
 }

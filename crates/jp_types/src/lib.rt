@@ -3,13 +3,16 @@
 //! Public calls:
 //!
 //! - `check`, `Checked`: a well-typed query, or the fault and the query
+//! - `check_condition`, `CheckedCondition`: the same of a logical expression that stands alone
 #![tactic(auto)]
 
 mod checked;
 mod checking;
+mod condition;
 mod names;
 mod signature;
 mod typing;
 
 pub use checked::Checked;
-pub use checking::check;
+pub use checking::{check, check_condition};
+pub use condition::CheckedCondition;

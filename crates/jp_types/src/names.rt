@@ -42,7 +42,7 @@ fn selectors_known(selectors: &[Selector]) -> bool
 }
 
 #[cycle(names)]
-fn logical_known(condition: &Logical) -> bool
+pub(crate) fn logical_known(condition: &Logical) -> bool
     ensures { result ≡ logical_passes (logical_view condition.now) names }
 {
     match condition {

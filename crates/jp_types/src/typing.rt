@@ -42,7 +42,7 @@ fn selectors_typed(selectors: &[Selector]) -> bool
 }
 
 #[cycle(typing)]
-fn logical_typed(condition: &Logical) -> bool
+pub(crate) fn logical_typed(condition: &Logical) -> bool
     ensures { result ≡ logical_typed (logical_view condition.now) }
 {
     match condition {

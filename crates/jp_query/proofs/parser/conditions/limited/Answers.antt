@@ -1,0 +1,16 @@
+-- An expression within its limits was read from the whole text.
+use Rattle.std.proofs.Common.{◌≡◌, ◌∙◌, Some, ap, sym, true}
+use Rattle.jp_model.specs.Query.Limits.{has_exact_integers, has_small_exponents}
+use Rattle.jp_model.specs.Query.Syntax as syntax
+use Rattle.jp_query.specs.Filters.{filter_by}
+use Rattle.jp_query.specs.View.{logical_view}
+use Rattle.jp_query.proofs.OneFilter.{filter_passes}
+use Rattle.jp_query.proofs.Outcomes.{well_formed}
+use Rattle.jp_query.proofs.parser.conditions.limited.Goals as goal
+
+pub new-requires : goal.new-requires
+new-requires c =
+    let l = logical_view c.in-Some.expression in
+    let exact : has_exact_integers (filter_by l) ≡ true = filter_passes l _ true (sym c.if-not-logical_passes.ensures) in
+    let small : has_small_exponents (filter_by l) ≡ true = filter_passes l _ true (sym c.if-not-logical_passes-2.ensures) in
+    ∣ well_formed c.args._whole.now (filter_by l) ((c.requires.0, c.requires.1 ∙ ap (λ (q : syntax.Segments). Some q) c.in-Some.ensures), (exact, small)) ∣₁

@@ -1,0 +1,37 @@
+//! A logical expression that stands alone.
+
+ghost use Rattle.jp_query.specs.Filters.{filter_by};
+ghost use Rattle.jp_query.specs.View.{logical_view};
+ghost use Rattle.jp_query.specs.WellFormed.{IsWellFormed};
+
+use crate::tree::Logical;
+
+/// A logical expression that is no part of a query, as in `@.level == "error"` (RFC 9535, section 2.3.5). Some text within the
+/// limits spells it between `$[?` and `]`.
+#[derive(Drop)]
+pub struct Condition {
+    expression: Logical,
+    ghost well_formed: { ∥ IsWellFormed (filter_by (logical_view expression)) ∥₁ },
+}
+
+impl Condition {
+    ghost use Rattle.std.specs.Prelude.{◌≡◌, true};
+    ghost use Rattle.jp_query.specs.Conditions.{condition_view};
+    ghost use Rattle.jp_query.specs.Sound.{logical_has_sound_literals};
+
+    pub(crate) fn new(expression: Logical) -> Condition
+        requires { ∥ IsWellFormed (filter_by (logical_view expression)) ∥₁ }
+        ensures { condition_view result ≡ logical_view expression }
+    {
+        Condition { expression }
+    }
+
+    /// The expression.
+    pub fn expression(&self) -> &Logical
+        ensures value { logical_view result.now ≡ condition_view self.now }
+        ensures well_formed { ∥ IsWellFormed (filter_by (condition_view self.now)) ∥₁ }
+        ensures sound { logical_has_sound_literals (condition_view self.now) ≡ true }
+    {
+        &self.expression
+    }
+}
