@@ -81,7 +81,7 @@ above_behind : (l : List Step) (n : Node) → Behind l n → l ≢ n.location
 above_behind l n h e = longer l h.0 h.1 (e ∙ h.2)
 
 -- a step is none of those to some children
-abbrev IsOther : Step → ℕ → Children → Type 0
+abbrev pub IsOther : Step → ℕ → Children → Type 0
 IsOther s p no_child = Unit {0}
 IsOther s p (child name t more) = (s ≢ step_to p name) × IsOther s (p + 1) more
 
@@ -116,7 +116,7 @@ other_names x p (child (Some name) t more) h =
     let q = or_parts (bytes_eq x name.points) (list_any (bytes_eq x) (names more)) h in
     ((λ e. both_ways _ q.0 ((bytes_eq-Decides x name.points).1 (name_scalars x name.points e))), other_names x (p + 1) more q.1)
 
-first_is_other : (p : ℕ) (name : Option Name) (t : Tree) (more : Children) → has_repeated (names (child name t more)) ≡ false → IsOther (step_to p name) (p + 1) more × (has_repeated (names more) ≡ false)
+pub first_is_other : (p : ℕ) (name : Option Name) (t : Tree) (more : Children) → has_repeated (names (child name t more)) ≡ false → IsOther (step_to p name) (p + 1) more × (has_repeated (names more) ≡ false)
 first_is_other p None t more h = (later_indexes p (p + 1) more (omega arith), h)
 first_is_other p (Some name) t more h = let q = or_parts (list_any (bytes_eq name.points) (names more)) (has_repeated (names more)) h in (other_names name.points (p + 1) more q.0, q.1)
 

@@ -6,8 +6,10 @@ pub mod Descendants
 pub mod Distinct
 pub mod Moved
 pub mod NumberOrder
+pub mod OrderedValues
 pub mod PathTexts
 pub mod EndIndexes
+pub mod EqualNames
 pub mod Locations
 pub mod PlainSides
 pub mod Reached

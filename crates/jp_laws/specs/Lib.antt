@@ -1,5 +1,6 @@
 -- What the laws speak of beside the definitions of jp_model.
 pub mod Fallbacks
+pub mod Kinds
 pub mod Nodes
 pub mod Scripts
 pub mod Slices

@@ -5,6 +5,7 @@ pub mod calls;
 pub mod comparisons;
 pub mod cutting;
 pub mod nodes;
+pub mod order;
 pub mod paths;
 pub mod rows;
 pub mod scripts;

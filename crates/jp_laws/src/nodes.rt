@@ -3,12 +3,21 @@
 ghost use Rattle.std.specs.Prelude.{◌≡◌, ◌≢◌, ◌≤◌, ◌↔◌, ℕ, List, [], ◌∷◌, length, All, false, true, is_some, codes};
 ghost use Rattle.jp_model.specs.Json.Faults.{has_duplicate};
 ghost use Rattle.jp_model.specs.Json.Tree.{Tree};
-ghost use Rattle.jp_model.specs.Meaning.Nodes.{Node, root_node, subtree};
+ghost use Rattle.jp_model.specs.Meaning.Nodes.{Node, root_node, children, subtree};
 ghost use Rattle.jp_model.specs.Meaning.Selecting.{nodes, truth, compared_value, call_value};
 ghost use Rattle.jp_model.specs.Query.Singular.{singular_steps};
 ghost use Rattle.jp_model.specs.Query.Syntax.{Segments, Path, exists, single, nodes_argument, argument, no_arguments, call};
 ghost use Rattle.jp_model.specs.Query.Typing.{is_singular_path};
 ghost use Rattle.jp_laws.specs.Nodes.{IsAmong, IsWithin, AreApart, all_descendants};
+
+/// A tree has equal names just where two children of one of its nodes are at one location: where the locations of each node's
+/// children are different there are none, and where those of one node are not, there are.
+///
+/// That every tree has equal names would leave the laws of trees without them empty, and is refused here.
+pub fn equal_names_are_children_at_one_location()
+    ensures none { (t : Tree) → ((n : Node) → IsWithin (root_node t) n → AreApart (children n)) → has_duplicate t ≡ false }
+    ensures some { (t : Tree) (n : Node) → IsWithin (root_node t) n → (AreApart (children n) → ⊥) → has_duplicate t ≡ true }
+{}
 
 /// From nodes whose trees have no equal names a query selects nodes whose trees have none either.
 pub fn selected_nodes_have_no_equal_names()
