@@ -1,13 +1,13 @@
 -- A tree whose nodes have children at different locations has no equal names.
-use Rattle.std.proofs.Common.{◌≡◌, ◌≢◌, ℕ, ◌+◌, pos, List, [], ◌∷◌, ◌++◌, map, Bool, true, false, ◌||◌, bytes_eq, Option, Some, None, inl, inr, refl, ap}
+use Rattle.std.proofs.Common.{◌≡◌, ◌≢◌, ℕ, ◌+◌, List, [], ◌∷◌, ◌++◌, map, Bool, true, false, ◌||◌, bytes_eq, Some, None, inl, inr, refl, ap}
 use Rattle.std.specs.List.{list_any}
 use Rattle.std.proofs.lemmas.Bool.{cases_Bool, or_parts}
 use Rattle.std.proofs.lemmas.List.{same_from_push}
 use Rattle.std.proofs.lemmas.Slice.Eq.{bytes_eq-Decides}
 use Rattle.jp_model.specs.Json.Faults.{names, has_repeated, has_duplicate, value_has_duplicate, children_have_duplicate}
-use Rattle.jp_model.specs.Json.Tree.{Tree, node, Value, null, boolean, number, string, container, Children, no_child, child, Name, value_of}
+use Rattle.jp_model.specs.Json.Tree.{Tree, node, Value, null, boolean, number, string, container, Children, no_child, child, value_of}
 use Rattle.jp_model.specs.Meaning.Nodes.{Node, root_node, child_of, children, step_to, steps_from, steps_in}
-use Rattle.jp_model.specs.Steps.{Step, name_step, index_step}
+use Rattle.jp_model.specs.Steps.{Step, name_step}
 use Rattle.jp_laws.specs.Nodes.{IsAmong, first_of, later_of, IsWithin, itself, child_of_one, IsElsewhere, AreApart}
 use Rattle.jp_laws.proofs.Descendants.{IsOther, each_among, first_is_other}
 use Rattle.jp_laws.proofs.Distinct.{IsDistinct, children_distinct}
@@ -19,7 +19,7 @@ neither : (a b : Bool) → a ≡ false → b ≡ false → (a || b) ≡ false
 neither true b f g = f
 neither false b f g = g
 
-within_within : (a b : Node) {c : Node} → IsWithin a b → IsWithin b c → IsWithin a c
+pub within_within : (a b : Node) {c : Node} → IsWithin a b → IsWithin b c → IsWithin a c
 within_within a b w itself = w
 within_within a b w (child_of_one v i) = child_of_one (within_within a b w v) i
 

@@ -10,6 +10,7 @@ pub mod OrderedValues
 pub mod PathTexts
 pub mod EndIndexes
 pub mod EqualNames
+pub mod JoinedParts
 pub mod Locations
 pub mod PlainSides
 pub mod Reached

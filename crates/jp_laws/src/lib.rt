@@ -4,6 +4,7 @@
 pub mod calls;
 pub mod comparisons;
 pub mod cutting;
+pub mod joining;
 pub mod nodes;
 pub mod order;
 pub mod paths;
