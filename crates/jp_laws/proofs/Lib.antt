@@ -8,6 +8,7 @@ pub mod Moved
 pub mod NumberOrder
 pub mod OrderedValues
 pub mod PathTexts
+pub mod DroppedIndex
 pub mod EndIndexes
 pub mod EqualNames
 pub mod JoinedParts
@@ -20,4 +21,5 @@ pub mod Utf8Lines
 pub mod WayBack
 pub mod SingularNodes
 pub mod SliceLoops
+pub mod Somewhere
 pub mod ValueEquality

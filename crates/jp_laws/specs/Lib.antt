@@ -2,6 +2,7 @@
 pub mod Fallbacks
 pub mod Kinds
 pub mod Nodes
+pub mod Patterns
 pub mod Queries
 pub mod Scripts
 pub mod Slices

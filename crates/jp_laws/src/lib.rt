@@ -8,6 +8,7 @@ pub mod joining;
 pub mod nodes;
 pub mod order;
 pub mod paths;
+pub mod patterns;
 pub mod rows;
 pub mod scripts;
 pub mod slices;

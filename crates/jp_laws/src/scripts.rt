@@ -1,13 +1,14 @@
 //! Laws of scripts: what a script answers does not depend on indexes, edits are loads, and its output goes on.
 
-ghost use Rattle.std.specs.Prelude.{◌≡◌, ℕ, List, [], ◌∷◌, ◌++◌, Bool, false, All, take, drop, length};
+ghost use Rattle.std.specs.Prelude.{◌≡◌, ◌<◌, ℕ, List, [], ◌∷◌, ◌++◌, Bool, false, All, Some, take, drop, length};
 ghost use Rattle.jp_model.specs.declared.Framing.TheVariants.{Lines as in_lines};
 ghost use Rattle.jp_model.specs.declared.Setup.{Setup};
 ghost use Rattle.jp_model.specs.Lines.{lines, first_piece, separator_of, HasNoSeparator, open_line};
 ghost use Rattle.jp_model.specs.Query.Status.{QueryStatus};
-ghost use Rattle.jp_model.specs.Script.Commands.{Command, command_lines};
+ghost use Rattle.jp_model.specs.Script.Commands.{Command, command_lines, drop_line, index_line};
 ghost use Rattle.jp_model.specs.Script.Headline.{loaded};
-ghost use Rattle.jp_model.specs.Script.Machine.{State, step, run_commands};
+ghost use Rattle.jp_model.specs.Script.Machine.{State, has_path, index_path, step, run_commands};
+ghost use Rattle.jp_model.specs.Steps.{Step};
 ghost use Rattle.jp_laws.specs.Scripts.{is_of_indexes, other_lines, other_flags, other_answers, with_line_feeds, begins_with_mark};
 
 /// Indexes are not seen: over states with equal lines every command but `index`, `drop`, `indexes` and `explain` answers
@@ -53,4 +54,12 @@ pub fn output_goes_on()
         → (run_commands query_of asked setup s (a ++ b) flags).after
         ≡ (run_commands query_of asked setup (run_commands query_of asked setup s a (take (length a) flags)).after b (drop (length a) flags)).after }
     ensures commands { (a b : List ℕ) → open_line a ≡ [] → command_lines (a ++ b) ≡ command_lines a ++ command_lines b }
+{}
+
+/// An index that is made and deleted again leaves what was there, where its path had none and fewer than sixteen did.
+///
+/// An index that a `drop` takes from the front of the list, or that stays behind it, is refused here.
+pub fn a_dropped_index_leaves_no_trace()
+    ensures { (query_of : List ℕ → QueryStatus) (setup : Setup) (s : State) (x : List ℕ) (p : List Step) → index_path (query_of x) ≡ Some p → has_path p s.paths ≡ false → length s.paths < 16
+        → (step query_of setup (step query_of setup s (index_line x)).after (drop_line x)).after ≡ s }
 {}
