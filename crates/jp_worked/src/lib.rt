@@ -5,3 +5,4 @@
 pub mod collections;
 pub mod queries;
 pub mod texts;
+pub mod untrue;
