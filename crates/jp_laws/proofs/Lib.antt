@@ -1,4 +1,6 @@
 -- Proofs of the laws.
+pub mod AlikeValues
+pub mod AlikeNodes
 pub mod Shifted
 pub mod CutPieces
 pub mod Defaults

@@ -12,7 +12,7 @@ use Rattle.jp_model.specs.Meaning.Compare.{compared, both_equal, is_less, text_l
 use Rattle.jp_model.specs.Query.Syntax.{CompareOp, equal, not_equal, less, less_equal, greater, greater_equal}
 use Rattle.jp_laws.specs.Values.{exactly_one}
 
-abbrev of : ℤ → ℤ → Number
+abbrev pub of : ℤ → ℤ → Number
 of m e = record { mantissa = m; scale = e }
 
 one_order : (o : Ordering) → exactly_one (is_lt o) (is_eq o) (is_lt (ordering_reverse o)) ≡ true
@@ -20,7 +20,7 @@ one_order Less = refl
 one_order Equal = refl
 one_order Greater = refl
 
-is_equal : (o : Ordering) → is_eq o ≡ true → o ≡ Equal
+pub is_equal : (o : Ordering) → is_eq o ≡ true → o ≡ Equal
 is_equal Less h = absurd (cc)
 is_equal Equal h = refl
 is_equal Greater h = absurd (cc)
@@ -103,7 +103,7 @@ module _ (order_total : IsTotalOrder order) where
   less_chain x y z p q = absurd (cc)
 
 -- a comparison tells only which of two is less and whether they are equal
-compared_alike : (op : CompareOp) (x y v w : Option Value) → both_equal x y ≡ both_equal v w → is_less x y ≡ is_less v w → is_less y x ≡ is_less w v → compared op x y ≡ compared op v w
+pub compared_alike : (op : CompareOp) (x y v w : Option Value) → both_equal x y ≡ both_equal v w → is_less x y ≡ is_less v w → is_less y x ≡ is_less w v → compared op x y ≡ compared op v w
 compared_alike equal x y v w same below above = same
 compared_alike not_equal x y v w same below above = ap not same
 compared_alike less x y v w same below above = below

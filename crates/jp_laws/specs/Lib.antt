@@ -1,4 +1,5 @@
 -- What the laws speak of beside the definitions of jp_model.
+pub mod Alike
 pub mod Fallbacks
 pub mod Kinds
 pub mod Nodes

@@ -1,6 +1,6 @@
 //! Laws of what queries select: singular queries, and descendants (RFC 9535, sections 2.3.5.1 and 2.5.2).
 
-ghost use Rattle.std.specs.Prelude.{◌≡◌, ◌≢◌, ◌≤◌, ◌↔◌, ℕ, List, [], ◌∷◌, length, All, false, true, is_some, codes};
+ghost use Rattle.std.specs.Prelude.{◌≡◌, ◌≢◌, ◌≤◌, ◌↔◌, ℕ, List, [], ◌∷◌, length, map, All, false, true, is_some, codes};
 ghost use Rattle.jp_model.specs.Json.Faults.{has_duplicate};
 ghost use Rattle.jp_model.specs.Json.Tree.{Tree};
 ghost use Rattle.jp_model.specs.Meaning.Nodes.{Node, root_node, children, subtree};
@@ -8,7 +8,10 @@ ghost use Rattle.jp_model.specs.Meaning.Selecting.{nodes, truth, compared_value,
 ghost use Rattle.jp_model.specs.Query.Singular.{singular_steps};
 ghost use Rattle.jp_model.specs.Query.Syntax.{Segments, Path, exists, single, nodes_argument, argument, no_arguments, call};
 ghost use Rattle.jp_model.specs.Query.Typing.{is_singular_path};
+ghost use Rattle.jp_laws.specs.Alike.{AlikeTrees};
 ghost use Rattle.jp_laws.specs.Nodes.{IsAmong, IsWithin, AreApart, all_descendants};
+
+use jp_decimal::laws;
 
 /// A tree has equal names just where two children of one of its nodes are at one location: where the locations of each node's
 /// children are different there are none, and where those of one node are not, there are.
@@ -54,3 +57,13 @@ pub fn all_descendants_are_selected_once()
     ensures apart { (t : Tree) → has_duplicate t ≡ false → AreApart (nodes all_descendants (root_node t ∷ []) t) }
     ensures all { (t : Tree) (m : Node) → IsAmong m (nodes all_descendants (root_node t ∷ []) t) ↔ (IsWithin (root_node t) m × (m.location ≢ [])) }
 {}
+
+/// Trees that say the same have nodes at the same locations for every query: it does not matter where a value stands, how its
+/// strings and names are escaped, and how its numbers are spelled.
+///
+/// A filter that compares numbers as they are spelled, or a function that counts escapes, is refused here.
+pub fn spelling_does_not_matter()
+    ensures { (q : Segments) (t u : Tree) → AlikeTrees t u → map (λ (n : Node). n.location) (nodes q (root_node t ∷ []) t) ≡ map (λ (n : Node). n.location) (nodes q (root_node u ∷ []) u) }
+{
+    laws::values_are_in_total_order();
+}
