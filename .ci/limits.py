@@ -93,18 +93,21 @@ def texts_of_backslashes(checks):
     checks.check("backslashes before a quote", answered("\n".join(lines) + "\n", "check\n"), (0, stated))
 
 
-def texts_about_64_kibibytes(checks):
-    """Lines of fewer than 65,536 bytes have tapes of another form than longer ones. Both tell the same nodes."""
+def texts_of_each_form_of_tape(checks):
+    """A tape has one word a node for a line of fewer than 1,024 bytes, two for one of fewer than 2,097,152 bytes, and three for a
+    longer one. All tell the same nodes, to the last."""
     front, end = '{"a":[1,{"b":"', '"}],"last":[0,{"c":null}]}'
-    for length in range(65_533, 65_540):
+    for length in [limit + off for limit in (1_024, 2_097_152) for off in (-1, 0, 1)]:
         text = "x" * (length - len(front) - len(end))
         script = "query $.last[1].c\nquery $..b\nquery $.a[-1]..c\nquery $[?@[1].b].c\n"
         stated = rows([(1, "$['last'][1]['c']")], "null") + rows([(1, "$['a'][1]['b']")], f'"{text}"') + "= 0\n= 0\n"
         checks.check(f"a line of {length} bytes", answered(front + text + end + "\n", script), (0, stated))
-    for count in range(32_765, 32_770):
-        script = "query $[-1]\nquery $[?@>1]\n"
-        line = "[" + ",".join(["1"] * count) + "]"
-        checks.check(f"{count} elements", answered(line + "\n", script), (0, rows([(1, f"$[{count - 1}]")], "1") + "= 0\n"))
+        # as many nodes as a line of this length can have
+        count = (length - 1) // 2
+        line = "[" + ",".join(["1"] * (count - 1) + ["2"]) + " " * (length - 1 - 2 * count) + "]"
+        script = "query $[-1]\nquery $[?@>1]\nquery $[?@>2]\n"
+        last = rows([(1, f"$[{count - 1}]")], "2")
+        checks.check(f"{count} elements in {length} bytes", answered(line + "\n", script), (0, last + last + "= 0\n"))
 
 
 def lines_behind_long_ones(checks):
@@ -353,7 +356,7 @@ def sizes(checks):
 
 def main():
     checks = Checks()
-    for part in (texts_of_brackets, texts_cut_short, texts_of_backslashes, texts_about_64_kibibytes, lines_behind_long_ones,
+    for part in (texts_of_brackets, texts_cut_short, texts_of_backslashes, texts_of_each_form_of_tape, lines_behind_long_ones,
                  objects_of_many_members, many_lines, lines_of_one_key, edits_of_many_lines, texts_of_numbers, texts_of_names, queries, patterns,
                  long_texts, long_numbers, objects_turned, large_objects, filters_from_the_root, conditions_of_the_root,
                  devices, sizes):

@@ -1,4 +1,4 @@
-use Rattle.std.proofs.Common.{◌-◌, arith, length, take}
+use Rattle.std.proofs.Common.{arith}
 use Rattle.jp_tape.specs.Places.{IsUnescaped}
 use Rattle.jp_tape.proofs.Escapes.{unescaped_front, escape_in_front}
 use Rattle.jp_tape.proofs.builder.escapes.has_escape.Goals as goal
