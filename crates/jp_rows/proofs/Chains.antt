@@ -1,17 +1,12 @@
 -- What is received of a text whose pieces are written one after another.
 use Rattle.std.proofs.Common.{◌≡◌, ℕ, List, ◌++◌, length, drop, sym, ◌∙◌, ap, subst, append_assoc, take-append-drop, Option, Result, Ok, Err, MatchResult, IsErr, true, false}
-use Rattle.std.specs.Io.KnownBytes.{Appends}
-use Rattle.std.proofs.KnownBytes.{Appends-trans}
-use Rattle.jp_model.specs.Devices.{Begins}
+use Rattle.jp_model.specs.Devices.{Begins, Device, Received, Writes}
+use Rattle.jp_model.proofs.Devices.{received_more}
 use Rattle.jp_rows.proofs.Transfers.{begins_front}
 
--- the bytes went from the first to the second: a beginning of the text
-abbrev pub Part : Option (List ℕ) → Option (List ℕ) → List ℕ → Type 0
-Part old new text = (part : List ℕ) × Begins part text × Appends old new part
-
--- all of the text, or at an Err a beginning
-abbrev pub Ends : {A E : Type 0} → Option (List ℕ) → Option (List ℕ) → Result A E → List ℕ → Type 0
-Ends old new result text = MatchResult result (λ _. Appends old new text) (λ _. Part old new text)
+-- the writer received a beginning of the text
+abbrev pub Part : {W : Type 0} → (W → Option (List ℕ)) → Device W → Device W → List ℕ → Type 0
+Part contents old new text = (part : List ℕ) × Begins part text × Received contents old new part
 
 begins_rest : (part text : List ℕ) → Begins part text → text ≡ part ++ drop (length part) text
 begins_rest part text h = sym (take-append-drop (length part) text) ∙ ap (λ x. x ++ drop (length part) text) h
@@ -28,22 +23,27 @@ begins_behind a part b h =
     let e : a ++ b ≡ (a ++ part) ++ rest = ap (λ x. a ++ x) (begins_rest part b h) ∙ sym (append_assoc a part rest) in
     subst (λ x. Begins (a ++ part) x) (sym e) (begins_front (a ++ part) rest)
 
--- more text would have followed
-pub part_more : (old new : Option (List ℕ)) (a b : List ℕ) → Part old new a → Part old new (a ++ b)
-part_more old new a b p = (p.0, begins_more p.0 a b p.1, p.2)
+module _ {W : Type 0} {contents : W → Option (List ℕ)} where
+  -- one text, and then another
+  pub both_received : (old mid new : Device W) (a b : List ℕ) → Received contents old mid a → Received contents mid new b → Received contents old new (a ++ b)
+  both_received old mid new a b p q = received_more contents old mid new a b p q
 
--- a text stands before it
-pub part_behind : (old mid new : Option (List ℕ)) (a b : List ℕ) → Appends old mid a → Part mid new b → Part old new (a ++ b)
-part_behind old mid new a b w p = (a ++ p.0, begins_behind a p.0 b p.1, Appends-trans old mid new a p.0 w p.2)
+  -- more text would have followed
+  pub part_more : (old new : Device W) (a b : List ℕ) → Part contents old new a → Part contents old new (a ++ b)
+  part_more old new a b p = (p.0, begins_more p.0 a b p.1, p.2)
 
-pub ends_behind : {A E : Type 0} (result : Result A E) (old mid new : Option (List ℕ)) (a b : List ℕ) → Appends old mid a → Ends mid new result b → Ends old new result (a ++ b)
-ends_behind (Ok x) old mid new a b w p = Appends-trans old mid new a b w p
-ends_behind (Err e) old mid new a b w p = part_behind old mid new a b w p
+  -- a text stands before it
+  pub part_behind : (old mid new : Device W) (a b : List ℕ) → Received contents old mid a → Part contents mid new b → Part contents old new (a ++ b)
+  part_behind old mid new a b w p = (a ++ p.0, begins_behind a p.0 b p.1, both_received old mid new a p.0 w p.2)
 
--- a beginning is what is received at an Err
-pub ends_in_part : {A E : Type 0} (result : Result A E) (old new : Option (List ℕ)) (text : List ℕ) → IsErr result → Part old new text → Ends old new result text
-ends_in_part (Ok x) old new text h p = absurd (of_ok h)
-  where
-    of_ok : false ≡ true → ⊥
-    of_ok e = cc
-ends_in_part (Err e) old new text h p = p
+  pub ends_behind : {A E : Type 0} (result : Result A E) (old mid new : Device W) (a b : List ℕ) → Received contents old mid a → Writes contents mid new result b → Writes contents old new result (a ++ b)
+  ends_behind (Ok x) old mid new a b w p = both_received old mid new a b w p
+  ends_behind (Err e) old mid new a b w p = part_behind old mid new a b w p
+
+  -- a beginning is what is received at an Err
+  pub ends_in_part : {A E : Type 0} (result : Result A E) (old new : Device W) (text : List ℕ) → IsErr result → Part contents old new text → Writes contents old new result text
+  ends_in_part (Ok x) old new text h p = absurd (of_ok h)
+    where
+      of_ok : false ≡ true → ⊥
+      of_ok e = cc
+  ends_in_part (Err e) old new text h p = p

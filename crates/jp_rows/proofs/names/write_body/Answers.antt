@@ -1,10 +1,9 @@
 -- In one piece what the body spells is the body. Else each turn writes one more scalar.
 use Rattle.std.proofs.Common.{◌≡◌, ◌∙◌, ◌++◌, ◌∷◌, [], sym, ap, append_assoc}
-use Rattle.std.proofs.KnownBytes.{Appends-trans}
 use Rattle.jp_strings.specs.Points.{points_of}
 use Rattle.jp_strings.specs.Scalars.{scalars_left}
 use Rattle.jp_rows.specs.Names.{name_text}
-use Rattle.jp_rows.proofs.Chains.{part_more, part_behind, ends_in_part}
+use Rattle.jp_rows.proofs.Chains.{both_received, part_more, part_behind, ends_in_part}
 use Rattle.jp_rows.proofs.Printed.{name-push, name-parts}
 use Rattle.jp_rows.proofs.Plain.{plain_name}
 use Rattle.jp_rows.proofs.names.write_body.Goals as goal
@@ -30,5 +29,5 @@ loop-scalar-preserved g c =
       left = all ∙ sym (append_assoc c.loop-scalar.yielded (c.in-Some.scalar ∷ []) (scalars_left c.next.new.self));
       working = c.in_ok-write_scalar.ensures.fault;
       early = c.in_ok-write_scalar.ensures.after ∙ c.loop-scalar.invariant.early;
-      written = rw (name-push c.loop-scalar.yielded c.in-Some.scalar) (Appends-trans _ _ _ _ _ c.loop-scalar.invariant.written c.in_ok-write_scalar.ensures.text);
+      written = rw (name-push c.loop-scalar.yielded c.in-Some.scalar) (both_received _ _ _ _ _ c.loop-scalar.invariant.written c.in_ok-write_scalar.ensures.text);
     }

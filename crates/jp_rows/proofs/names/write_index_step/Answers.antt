@@ -3,8 +3,7 @@ use Rattle.std.proofs.Common.{◌≡◌, ℕ, ℤ, List, codes, sym, subst, rule
 use Rattle.std.proofs.lemmas.Int.{ints}
 use Rattle.std.specs.Fmt.{signed_decimal}
 use Rattle.std.specs.Str.{IsAscii}
-use Rattle.std.proofs.KnownBytes.{Appends-trans}
-use Rattle.jp_rows.proofs.Chains.{part_more, part_behind, ends_behind, ends_in_part}
+use Rattle.jp_rows.proofs.Chains.{both_received, part_more, part_behind, ends_behind, ends_in_part}
 use Rattle.jp_rows.proofs.Printed.{indexed}
 use Rattle.jp_rows.proofs.names.write_index_step.Goals as goal
 
@@ -21,6 +20,6 @@ returns-in_err-write_whole-2-clause-text g c =
 pub returns-clause-text : goal.returns-clause-text
 returns-clause-text g c =
     let number : c.as_bytes.result.now ≡ signed_decimal c.args.index = search (rules, ints) in
-    let written = rw number at (Appends-trans _ _ _ (codes "[") _ c.in_ok-write_whole.ensures.text c.in_ok-write_whole-2.ensures.text) in
+    let written = rw number at (both_received _ _ _ (codes "[") _ c.in_ok-write_whole.ensures.text c.in_ok-write_whole-2.ensures.text) in
     rw (indexed c.args.index (ascii c.args.index c.as_bytes.result.now _ c.as_bytes.ensures.value number c.format.ensures.ascii))
     (ends_behind c.write_whole-3.result _ _ _ _ (codes "]") written c.write_whole-3.ensures.text)

@@ -1,10 +1,9 @@
 -- Each turn writes one scalar more.
 use Rattle.std.proofs.Common.{◌≡◌, ◌∙◌, ◌+◌, ◌++◌, ◌∷◌, List, ℕ, ap, chars, drop, length}
-use Rattle.std.proofs.KnownBytes.{Appends-trans}
 use Rattle.std.proofs.lemmas.Iterator.{YieldsList-from_chars}
 use Rattle.std.proofs.lemmas.Iterator.Consumers.{YieldsList-turn, YieldsList-end, YieldsList-so_far}
 use Rattle.jp_rows.specs.Names.{name_text}
-use Rattle.jp_rows.proofs.Chains.{part_more, part_behind, ends_in_part}
+use Rattle.jp_rows.proofs.Chains.{both_received, part_more, part_behind, ends_in_part}
 use Rattle.jp_rows.proofs.Printed.{name-push, name-parts}
 use Rattle.jp_rows.proofs.Turns.{around, all_read}
 use Rattle.jp_rows.proofs.names.write_scalars.Goals as goal
@@ -30,5 +29,5 @@ pub loop-scalar-preserved : goal.loop-scalar-preserved
 loop-scalar-preserved g c = record {
   working = c.in_ok-write_scalar.ensures.fault;
   early = c.in_ok-write_scalar.ensures.after ∙ c.loop-scalar.invariant.early;
-  written = rw (name-push c.loop-scalar.yielded c.in-Some.scalar) (Appends-trans _ _ _ _ _ c.loop-scalar.invariant.written c.in_ok-write_scalar.ensures.text);
+  written = rw (name-push c.loop-scalar.yielded c.in-Some.scalar) (both_received _ _ _ _ _ c.loop-scalar.invariant.written c.in_ok-write_scalar.ensures.text);
 }

@@ -1,9 +1,8 @@
 -- What was put together is the text. Else the start of the row, the path, and the tab follow one another.
-use Rattle.std.proofs.KnownBytes.{Appends-trans}
 use Rattle.jp_model.specs.Rows.{tab}
 use Rattle.jp_model.specs.Meaning.Paths.{path_text}
 use Rattle.jp_tape.specs.Cursors.{node_of}
-use Rattle.jp_rows.proofs.Chains.{part_more, part_behind, ends_behind, ends_in_part}
+use Rattle.jp_rows.proofs.Chains.{both_received, part_more, part_behind, ends_behind, ends_in_part}
 use Rattle.jp_rows.proofs.rows.write_head.Goals as goal
 
 pub returns-in_err-write_path-clause-text : goal.returns-in_err-write_path-clause-text
@@ -13,5 +12,5 @@ returns-in_err-write_path-clause-text g c =
 
 pub returns-clause-text : goal.returns-clause-text
 returns-clause-text g c =
-    let path = Appends-trans _ _ _ _ (path_text (node_of c.args.cursor).location) c.in_ok-write_start.ensures.text c.in_ok-write_path.ensures.text in
+    let path = both_received _ _ _ _ (path_text (node_of c.args.cursor).location) c.in_ok-write_start.ensures.text c.in_ok-write_path.ensures.text in
     ends_behind c.write_whole-2.result _ _ _ _ tab path c.write_whole-2.ensures.text

@@ -1,11 +1,10 @@
 -- The row was put together, and is written as a whole. Else what stands before the bytes of the value, those bytes, and the line
 -- feed follow one another.
 use Rattle.std.proofs.Common.{◌≡◌, subst}
-use Rattle.std.proofs.KnownBytes.{Appends-trans}
 use Rattle.jp_model.specs.Devices.{Writes}
 use Rattle.jp_model.specs.Rows.{line_feed, source}
 use Rattle.jp_tape.specs.Cursors.{line_of, node_of}
-use Rattle.jp_rows.proofs.Chains.{part_more, part_behind, ends_behind, ends_in_part}
+use Rattle.jp_rows.proofs.Chains.{both_received, part_more, part_behind, ends_behind, ends_in_part}
 use Rattle.jp_rows.proofs.Ends.{alone}
 use Rattle.jp_rows.proofs.rows.write_node.Goals as goal
 
@@ -27,5 +26,5 @@ returns-in_err-write_whole-clause-text g c =
 pub returns-clause-text : goal.returns-clause-text
 returns-clause-text g c =
     let value : c.source.result.now ≡ source (line_of c.args.cursor) (node_of c.args.cursor).tree = c.source.ensures in
-    let written = rw value at (Appends-trans _ _ _ _ _ c.in_ok-write_head.ensures.text c.in_ok-write_whole.ensures.text) in
+    let written = rw value at (both_received _ _ _ _ _ c.in_ok-write_head.ensures.text c.in_ok-write_whole.ensures.text) in
     ends_behind c.write_whole-3.result _ _ _ _ line_feed written c.write_whole-3.ensures.text

@@ -1,11 +1,10 @@
 -- Each turn writes one step more.
 use Rattle.std.proofs.Common.{◌≡◌, ◌∙◌, ◌+◌, ◌∷◌, ◌++◌, List, ℕ, ap, drop, encode_utf8_all, map, sym, take}
-use Rattle.std.proofs.KnownBytes.{Appends-trans}
 use Rattle.jp_model.specs.Meaning.Paths.{path_text, steps_text}
 use Rattle.jp_model.specs.Steps as model
 use Rattle.jp_query.specs.SingularPaths.{step_view, path_steps}
 use Rattle.jp_query.specs.declared.paths.Step.{Step}
-use Rattle.jp_rows.proofs.Chains.{part_more, part_behind, ends_in_part}
+use Rattle.jp_rows.proofs.Chains.{both_received, part_more, part_behind, ends_in_part}
 use Rattle.jp_rows.proofs.Printed.{path-push, path-parts}
 use Rattle.jp_rows.proofs.Turns.{map_around, map_push}
 use Rattle.jp_rows.proofs.singular.write_steps.Goals as goal
@@ -32,5 +31,5 @@ loop-step-preserved g c =
       working = c.in_ok-write_singular_step.ensures.fault;
       early = c.in_ok-write_singular_step.ensures.after ∙ c.loop-step.invariant.early;
       written = rw (ap path_text (map_push step_view items k step c.loop-step-test.true c.step-item.is) ∙ path-push (map step_view (take k items)) (step_view step))
-          (Appends-trans _ _ _ _ _ c.loop-step.invariant.written c.in_ok-write_singular_step.ensures.text);
+          (both_received _ _ _ _ _ c.loop-step.invariant.written c.in_ok-write_singular_step.ensures.text);
     }
