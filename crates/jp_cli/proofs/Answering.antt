@@ -1,11 +1,11 @@
 -- What the writer received over one run of command lines after another.
 use Rattle.std.proofs.Common.{◌≡◌, ℕ, List, [], ◌++◌, length, drop, sym, ap, ◌∙◌, append-nil, append_assoc, subst, take-append-drop}
-use Rattle.std.proofs.KnownBytes.{Appends-trans, Appends-nil, Appends-kept}
 use Rattle.std.proofs.Math.Seq.{take-append_seam}
 use Rattle.std.specs.Io.KnownBytes.{Keeps}
 use Rattle.std.specs.Prelude.{Option}
 use Rattle.jp_model.specs.declared.Setup.{Setup}
 use Rattle.jp_model.specs.Devices.{Device, Received, Begins}
+use Rattle.jp_model.proofs.Devices.{received_kept, received_more, received_none}
 use Rattle.jp_model.specs.Query.Status.{QueryStatus}
 use Rattle.jp_model.specs.Script.Commands.{Command}
 use Rattle.jp_model.specs.Script.Headline.{Answered, AnsweredInPart}
@@ -25,12 +25,12 @@ begins_within front part text rest h =
 module _ (query_of : List ℕ → QueryStatus) (asked : List ℕ → Command) (setup : Setup) {W : Type 0} (contents : W → Option (List ℕ)) where
   pub ran_none : (w : Device W) (state : Progress) (lines : List (List ℕ)) → lines ≡ [] → Ran query_of asked contents w w setup state lines state
   ran_none w state lines e =
-      ([], subst (λ l. MayAnswer query_of asked setup state l [] state) (sym e) (answer_none query_of asked setup state), Appends-nil (contents w.device))
+      ([], subst (λ l. MayAnswer query_of asked setup state l [] state) (sym e) (answer_none query_of asked setup state), received_none contents w)
 
   pub ran_more : (a b c : Device W) (old mid new : Progress) (first more : List (List ℕ)) → Ran query_of asked contents a b setup old first mid → Ran query_of asked contents b c setup mid more new
       → Ran query_of asked contents a c setup old (first ++ more) new
   ran_more a b c old mid new first more p q =
-      (p.0 ++ q.0, answer_more query_of asked setup old mid new first more p.0 q.0 p.1 q.1, Appends-trans _ _ _ p.0 q.0 p.2 q.2)
+      (p.0 ++ q.0, answer_more query_of asked setup old mid new first more p.0 q.0 p.1 q.1, received_more contents a b c p.0 q.0 p.2 q.2)
 
   pub ran_answered : (a b : Device W) (old new : Progress) (lines : List (List ℕ)) → Ran query_of asked contents a b setup old lines new → Answered query_of asked contents a b setup old.state lines
   ran_answered a b old new lines p = (p.1.flags, p.1.only, subst (Received contents a b) p.1.text_is p.2)
@@ -45,7 +45,7 @@ module _ (query_of : List ℕ → QueryStatus) (asked : List ℕ → Command) (s
       cc in (
         p.1.flags ++ q.0,
         only-append query_of asked setup first more p.1.flags q.0 p.1.each p.1.only q.1,
-        subst (Received contents a c) (sym whole) (Appends-trans _ _ _ p.0 (run_commands query_of asked setup mid.state more q.0).written p.2 q.2),
+        subst (Received contents a c) (sym whole) (received_more contents a b c p.0 (run_commands query_of asked setup mid.state more q.0).written p.2 q.2),
       )
 
   pub part_more : (a b c : Device W) (old mid : Progress) (first more : List (List ℕ)) → Ran query_of asked contents a b setup old first mid → AnsweredInPart query_of asked contents b c setup mid.state more
@@ -62,7 +62,7 @@ module _ (query_of : List ℕ → QueryStatus) (asked : List ℕ → Command) (s
         p.0 ++ q.1,
         only-append query_of asked setup first more p.1.flags q.0 p.1.each p.1.only q.2,
         subst (Begins (p.0 ++ q.1)) (sym whole) (begins_within p.0 q.1 text [] q.3),
-        Appends-trans _ _ _ p.0 q.1 p.2 q.4,
+        received_more contents a b c p.0 q.1 p.2 q.4,
       )
 
   -- a beginning of what some lines answer begins what they and more answer
@@ -88,8 +88,8 @@ module _ (query_of : List ℕ → QueryStatus) (asked : List ℕ → Command) (s
       part_before a c old.state (first ++ line) rest (part_more a b c old mid first line p (part_of_line b c mid new line text part q h r))
 
   -- what was received stays behind a flush
-  pub ran_kept : (a b c : Device W) (old new : Progress) (lines : List (List ℕ)) → Ran query_of asked contents a b setup old lines new → Keeps (contents b.device) (contents c.device) → Ran query_of asked contents a c setup old lines new
-  ran_kept a b c old new lines p k = (p.0, p.1, Appends-kept (contents a.device) (contents b.device) (contents c.device) p.0 p.2 k)
+  pub ran_kept : (a b c : Device W) (old new : Progress) (lines : List (List ℕ)) → Ran query_of asked contents a b setup old lines new → (c.taken ≡ b.taken) × Keeps (contents b.device) (contents c.device) → Ran query_of asked contents a c setup old lines new
+  ran_kept a b c old new lines p k = (p.0, p.1, received_kept contents a b c p.0 p.2 k.0 k.1)
 
   -- the whole answer is a beginning of it
   pub ran_in_part : (a b : Device W) (old new : Progress) (lines : List (List ℕ)) → Ran query_of asked contents a b setup old lines new → AnsweredInPart query_of asked contents a b setup old.state lines

@@ -1,12 +1,14 @@
 -- How a run ends, by how its script ended.
-use Rattle.std.proofs.Common.{◌≡◌, ◌∙◌, ◌≤◌, ℕ, List, [], ◌∷◌, ◌++◌, length, take, map, sym, ap, subst, refl, Bool, true, false, ◌||◌, Option, Some, None, Result, Ok, Err, MatchResult, append-nil, inr}
+use Rattle.std.proofs.Common.{◌≡◌, ◌∙◌, ◌≤◌, ℕ, List, [], ◌∷◌, ◌++◌, length, take, drop, map, sym, ap, subst, refl, Bool, true, false, ◌||◌, Option, Some, None, Result, Ok, Err, MatchResult, append-nil, inr}
 use Rattle.std.specs.Prelude.{OnOk, IfSome}
 use Rattle.std.proofs.lemmas.List.{map-append}
 use Rattle.std.specs.Io.KnownBytes.{Consumes, IsAtEnd}
 use Rattle.jp_model.specs.declared.Setup.{Setup}
 use Rattle.jp_model.specs.declared.RunFault.{RunFault}
 use Rattle.jp_model.specs.declared.RunFault.TheVariants as faults
-use Rattle.jp_model.specs.Devices.{Came, Device, Received, Begins}
+use Rattle.jp_model.specs.Devices.{Came, Device, Gave, Received, Begins}
+use Rattle.jp_cli.specs.Passed.{given_since}
+use Rattle.std.proofs.Math.Seq.{drop-append_seam}
 use Rattle.jp_model.specs.Lines.{text_lines, closed_lines, lines_so_far}
 use Rattle.jp_model.specs.Query.Status.{QueryStatus}
 use Rattle.jp_model.specs.Script.Commands.{without_final_cr, command_lines, closed_command_lines}
@@ -118,3 +120,14 @@ came_ended (Ok x) old new ended P Stops e h = e ∙ (ap (λ b. old || b) h.0 ∙
 pub both_ended : {X F : Type 0} (result : Result X F) (A B : Type 0) → A → OnOk result B → OnOk result (A × B)
 both_ended (Err fault) A B a b = tt
 both_ended (Ok x) A B a b = (a, b)
+
+-- the bytes that a reader gave are those that its reads added
+pub since : {R : Type 0} (remaining : R → Option (List ℕ)) (old new : Device R) (bytes : List ℕ) → Gave remaining old new bytes → bytes ≡ given_since old new
+since remaining old new bytes gave = sym (ap (drop (length old.given)) gave.given ∙ drop-append_seam old.given bytes)
+
+-- so what holds of the bytes that both readers gave holds of those
+pub passed_by_all : {X F R S : Type 0} (result : Result X F) (Stops : F → Type 0) (remaining : R → Option (List ℕ)) (others : S → Option (List ℕ)) (c0 c1 : Device R) (s0 s1 : Device S) (c s : List ℕ) (P : List ℕ → List ℕ → Type 0)
+    → Gave remaining c0 c1 c → Gave others s0 s1 s → MatchResult result (λ _. P c s) Stops → OnOk result (P (given_since c0 c1) (given_since s0 s1))
+passed_by_all (Err fault) Stops remaining others c0 c1 s0 s1 c s P h k out = tt
+passed_by_all (Ok x) Stops remaining others c0 c1 s0 s1 c s P h k out =
+    subst (λ b. P b (given_since s0 s1)) (since remaining c0 c1 c h) (subst (P c) (since others s0 s1 s k) out)

@@ -3,9 +3,8 @@ use Rattle.std.proofs.Common.{◌≡◌, ◌∙◌, ◌+◌, ◌-◌, ◌<◌, �
 use Rattle.std.specs.Prelude.{Option, count_by, cond, suc, if◌then◌else◌, Bool, true, false}
 use Rattle.std.proofs.lemmas.List.{take_more, length-take-le, length-map}
 use Rattle.std.proofs.lemmas.List.Sums.{sum_by-cons}
-use Rattle.std.proofs.KnownBytes.{Appends-trans}
-use Rattle.std.specs.Io.KnownBytes.{Appends}
-use Rattle.jp_rows.proofs.Chains.{Part, part_more, part_behind}
+use Rattle.jp_rows.proofs.Chains.{Part, both_received, part_more, part_behind}
+use Rattle.jp_model.specs.Devices.{Device, Received}
 use Rattle.jp_model.specs.declared.Framing.{Framing}
 use Rattle.jp_model.specs.Json.Reader.{status_of}
 use Rattle.jp_model.specs.Json.Status.{LineStatus, blank, refused, parsed}
@@ -49,17 +48,17 @@ module _ (f : Framing) (c : Collection) (i : ℕ) (within : i < length c.state.l
       ap (refusals_from f 1) (sym (take-append-drop (i + 1) ss))
       ∙ (refusals_append f 1 (take (i + 1) ss) (drop (i + 1) ss) ∙ ap (λ t. t ++ refusals_from f (1 + length (take (i + 1) ss)) (drop (i + 1) ss)) one_more)
 
-  pub line_written : (old mid new : Option (List ℕ)) → Appends old mid (refusals_from f 1 (take i ss)) → Appends mid new (refusals_from f (i + 1) (line_status (i + 1) c ∷ []))
-      → Appends old new (refusals_from f 1 (take (i + 1) ss))
-  line_written old mid new a b =
-      subst (Appends old new) (sym one_more) (Appends-trans old mid new (refusals_from f 1 (take i ss)) (refusals_from f (i + 1) (line_status (i + 1) c ∷ [])) a b)
+  pub line_written : {W : Type 0} {contents : W → Option (List ℕ)} (old mid new : Device W) → Received contents old mid (refusals_from f 1 (take i ss)) → Received contents mid new (refusals_from f (i + 1) (line_status (i + 1) c ∷ []))
+      → Received contents old new (refusals_from f 1 (take (i + 1) ss))
+  line_written {contents = contents} old mid new a b =
+      subst (Received contents old new) (sym one_more) (both_received old mid new (refusals_from f 1 (take i ss)) (refusals_from f (i + 1) (line_status (i + 1) c ∷ [])) a b)
 
-  pub line_in_part : (old mid new : Option (List ℕ)) → Appends old mid (refusals_from f 1 (take i ss)) → Part mid new (refusals_from f (i + 1) (line_status (i + 1) c ∷ []))
-      → Part old new (refusals_from f 1 ss)
-  line_in_part old mid new a p =
+  pub line_in_part : {W : Type 0} {contents : W → Option (List ℕ)} (old mid new : Device W) → Received contents old mid (refusals_from f 1 (take i ss)) → Part contents mid new (refusals_from f (i + 1) (line_status (i + 1) c ∷ []))
+      → Part contents old new (refusals_from f 1 ss)
+  line_in_part {contents = contents} old mid new a p =
       let here = refusals_from f (i + 1) (line_status (i + 1) c ∷ []) in
       let rest = refusals_from f (1 + length (take (i + 1) ss)) (drop (i + 1) ss) in
-      subst (Part old new) (sym whole_is) (part_more old new (refusals_from f 1 (take i ss) ++ here) rest (part_behind old mid new (refusals_from f 1 (take i ss)) here a p))
+      subst (Part contents old new) (sym whole_is) (part_more old new (refusals_from f 1 (take i ss) ++ here) rest (part_behind old mid new (refusals_from f 1 (take i ss)) here a p))
 
 -- each line is blank, refused, or has a tree
 each_is_one : (s : LineStatus) → cond (is_blank_status s) 1 0 + cond (is_refused_status s) 1 0 + cond (is_tree s) 1 0 ≡ 1

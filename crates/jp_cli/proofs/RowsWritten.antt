@@ -3,14 +3,12 @@ use Rattle.std.proofs.Common.{◌≡◌, ◌∙◌, ◌+◌, ◌<◌, ℕ, List,
 use Rattle.std.specs.Prelude.{suc}
 use Rattle.std.proofs.Math.Seq.{take-suc}
 use Rattle.std.proofs.lemmas.Grind.{flat_map-append}
-use Rattle.std.proofs.KnownBytes.{Appends-trans}
-use Rattle.std.specs.Io.KnownBytes.{Appends}
 use Rattle.jp_model.specs.declared.Framing.{Framing}
 use Rattle.jp_model.specs.declared.LineFault.{LineFault}
 use Rattle.jp_model.specs.Devices.{Device, Received}
 use Rattle.jp_model.specs.Meaning.Nodes.{Node}
 use Rattle.jp_model.specs.Rows.{node_text, refusal_text}
-use Rattle.jp_rows.proofs.Chains.{Part, part_more, part_behind}
+use Rattle.jp_rows.proofs.Chains.{Part, both_received, part_more, part_behind}
 use Rattle.jp_store.specs.declared.view.LineView.{LineView}
 use Rattle.jp_store.specs.Views.{text_of_view}
 use Rattle.jp_tape.specs.Cursors.{line_of, node_of, place_of}
@@ -37,12 +35,13 @@ module _ {X : Type 0} (text : X → List ℕ) (rows : List X) (i : ℕ) (row : X
       ∙ flat_map-append text (take (i + 1) rows) (drop (i + 1) rows)
       ∙ ap (λ t. t ++ flat_map text (drop (i + 1) rows)) one_more
 
-  pub row_written : (old mid new : Option (List ℕ)) → Appends old mid (flat_map text (take i rows)) → Appends mid new (text row) → Appends old new (flat_map text (take (i + 1) rows))
-  row_written old mid new a b = subst (Appends old new) (sym one_more) (Appends-trans old mid new (flat_map text (take i rows)) (text row) a b)
+  pub row_written : {W : Type 0} {contents : W → Option (List ℕ)} (old mid new : Device W) → Received contents old mid (flat_map text (take i rows)) → Received contents mid new (text row)
+      → Received contents old new (flat_map text (take (i + 1) rows))
+  row_written {contents = contents} old mid new a b = subst (Received contents old new) (sym one_more) (both_received old mid new (flat_map text (take i rows)) (text row) a b)
 
-  pub row_in_part : (old mid new : Option (List ℕ)) → Appends old mid (flat_map text (take i rows)) → Part mid new (text row) → Part old new (flat_map text rows)
-  row_in_part old mid new a p =
-      subst (Part old new) (sym whole_is)
+  pub row_in_part : {W : Type 0} {contents : W → Option (List ℕ)} (old mid new : Device W) → Received contents old mid (flat_map text (take i rows)) → Part contents mid new (text row) → Part contents old new (flat_map text rows)
+  row_in_part {contents = contents} old mid new a p =
+      subst (Part contents old new) (sym whole_is)
       (part_more old new (flat_map text (take i rows) ++ text row) (flat_map text (drop (i + 1) rows)) (part_behind old mid new (flat_map text (take i rows)) (text row) a p))
 
 -- ---- rows by line
@@ -82,13 +81,13 @@ module _ {W : Type 0} (contents : W → Option (List ℕ)) (f : Framing) (whole 
     piece_all : (so.done ++ piece) ++ left ≡ whole
     piece_all = append_assoc so.done piece left ∙ (ap (λ (t : List ℕ). so.done ++ t) (sym parts) ∙ so.all)
 
-    in_part : (new : Device W) → Part (contents out.device) (contents new.device) piece → Part (contents initial.device) (contents new.device) whole
+    in_part : (new : Device W) → Part contents out new piece → Part contents initial new whole
     in_part new p =
-        subst (Part (contents initial.device) (contents new.device)) piece_all
-        (part_more (contents initial.device) (contents new.device) (so.done ++ piece) left (part_behind (contents initial.device) (contents out.device) (contents new.device) so.done piece so.written p))
+        subst (Part contents initial new) piece_all
+        (part_more initial new (so.done ++ piece) left (part_behind initial out new so.done piece so.written p))
 
     more : (new : Device W) → Received contents out new piece → Received contents initial new (so.done ++ piece)
-    more new r = Appends-trans (contents initial.device) (contents out.device) (contents new.device) so.done piece so.written r
+    more new r = both_received initial out new so.done piece so.written r
 
   module _ (line : ℕ) (view : LineView) (count : ℕ) (e : ls ≡ by_line.Nodes line view count ∷ rest) where
     pub turned : AreInTurn (by_line.Nodes line view count ∷ rest) ps
@@ -111,10 +110,10 @@ module _ {W : Type 0} (contents : W → Option (List ℕ)) (f : Framing) (whole 
       all = piece_all here left (nodes_text f ls rest line view count ps e);
     })
 
-    pub nodes_in_part : (mine : List ℕ) (new : Device W) → mine ≡ take count ps → Part (contents out.device) (contents new.device) (flat_map (place_text f line view) mine)
-        → Part (contents initial.device) (contents new.device) whole
+    pub nodes_in_part : (mine : List ℕ) (new : Device W) → mine ≡ take count ps → Part contents out new (flat_map (place_text f line view) mine)
+        → Part contents initial new whole
     nodes_in_part mine new m p =
-        in_part here left (nodes_text f ls rest line view count ps e) new (subst (λ (qs : List ℕ). Part (contents out.device) (contents new.device) (flat_map (place_text f line view) qs)) m p)
+        in_part here left (nodes_text f ls rest line view count ps e) new (subst (λ (qs : List ℕ). Part contents out new (flat_map (place_text f line view) qs)) m p)
 
   module _ (line : ℕ) (fault : LineFault) (e : ls ≡ by_line.Refused line fault ∷ rest) where
     pub refusal_written : (new : Device W) → Received contents out new (refusal_text f line fault) → new.failed ≡ false → new.after ≡ out.after → IsWritten contents f whole initial rest ps new
@@ -127,7 +126,7 @@ module _ {W : Type 0} (contents : W → Option (List ℕ)) (f : Framing) (whole 
       all = piece_all (refusal_text f line fault) (flat_map (found_text f) (expanded rest ps)) (refusal_told f ls rest line fault ps e);
     }
 
-    pub refusal_in_part : (new : Device W) → Part (contents out.device) (contents new.device) (refusal_text f line fault) → Part (contents initial.device) (contents new.device) whole
+    pub refusal_in_part : (new : Device W) → Part contents out new (refusal_text f line fault) → Part contents initial new whole
     refusal_in_part new p = in_part (refusal_text f line fault) (flat_map (found_text f) (expanded rest ps)) (refusal_told f ls rest line fault ps e) new p
 
 -- at the end all are written

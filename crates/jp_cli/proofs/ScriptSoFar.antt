@@ -5,8 +5,7 @@ use Rattle.std.proofs.lemmas.Bool.{true≢false, false≢true, eqb-false, ne_eqb
 use Rattle.std.proofs.lemmas.List.{take_all, take-take, length-take}
 use Rattle.std.proofs.lemmas.Grind.{common_steps}
 use Rattle.std.proofs.Math.Seq.{take-append-add}
-use Rattle.std.proofs.KnownBytes.{Consumes-trans, Consumes-kept}
-use Rattle.std.specs.Io.KnownBytes.{Keeps}
+use Rattle.std.specs.Io.KnownBytes.{Consumes, Keeps}
 use Rattle.jp_model.specs.declared.Setup.{Setup}
 use Rattle.jp_model.specs.declared.RunFault.{RunFault}
 use Rattle.jp_model.specs.declared.RunFault.TheVariants as faults
@@ -15,7 +14,7 @@ use Rattle.jp_model.specs.Lines.{text_lines, closed_lines, open_line, line_unles
 use Rattle.jp_model.specs.Query.Status.{QueryStatus}
 use Rattle.jp_model.specs.Script.Commands.{Command}
 use Rattle.jp_model.specs.Script.Headline.{Answered, AnsweredInPart}
-use Rattle.jp_model.proofs.Devices.{or_false, or_true, came_so, CameToEnd, goes_on, came_whole}
+use Rattle.jp_model.proofs.Devices.{or_false, or_true, came_so, CameToEnd, goes_on, came_whole, gave_kept, gave_more}
 use Rattle.jp_model.proofs.Pieces.{closed-append, open-append}
 use Rattle.jp_cli.specs.Runs.{Progress, MayAnswer, Ran, RanFirst, StoppedIn, ScriptStopped}
 use Rattle.jp_cli.proofs.Answering.{ran_answered, ran_more, ran_kept, ran_in_part, answered_more, part_more, part_of_line, ran_first, first_more}
@@ -28,6 +27,10 @@ pub record SoFar (query_of : List ℕ → QueryStatus) (asked : List ℕ → Com
   pub counted : length bytes ≡ count
   pub ran : Ran query_of asked contents out_old out_new setup old (closed_lines bytes) new
   pub open_is : held ≡ open_line bytes
+
+-- what one read gave
+pub gave_piece : {R : Type 0} (remaining : R → Option (List ℕ)) (s1 s2 : Device R) (piece : List ℕ) → s2.given ≡ s1.given ++ piece → Consumes (remaining s1.device) (remaining s2.device) piece → Gave remaining s1 s2 piece
+gave_piece remaining s1 s2 piece e left = record { given = e; left = left }
 
 -- the bytes of a script within its limit, where some came before
 within_limit : (bytes got : List ℕ) (most count : ℕ) → length bytes ≡ count → count ≤ most → take most (bytes ++ got) ≡ bytes ++ take (most - count) got
@@ -92,13 +95,13 @@ at_end_with_room remaining s0 s1 old taken bytes buffer room size left worked e 
 module _ (query_of : List ℕ → QueryStatus) (asked : List ℕ → Command) (setup : Setup) {R W : Type 0} (remaining : R → Option (List ℕ)) (contents : W → Option (List ℕ)) where
   -- a read that failed
   pub stopped_read : (s0 s1 s2 : Device R) (o0 o1 : Device W) (old new : Progress) (held : List ℕ) (count : ℕ)
-      → SoFar query_of asked setup remaining contents s0 s1 o0 o1 old new held count → Keeps (remaining s1.device) (remaining s2.device) → count ≤ setup.script_most
+      → SoFar query_of asked setup remaining contents s0 s1 o0 o1 old new held count → (s2.given ≡ s1.given) × Keeps (remaining s1.device) (remaining s2.device) → count ≤ setup.script_most
       → s0.failed ≡ false → s2.ended ≡ s0.ended → s2.failed ≡ true
       → (came : Came) × GaveUpTo remaining s0 s2 came × ((CameShort setup.script_most came × Answered query_of asked contents o0 o1 setup old.state (closed_lines (take setup.script_most came.bytes)))
       × RanFirst query_of asked setup old (lines_so_far came.ended (take setup.script_most came.bytes)) new)
   stopped_read s0 s1 s2 o0 o1 old new held count so keeps within worked going failed = (
     came_so so.bytes false s2.failed,
-    goes_on remaining s0 s2 so.bytes (Consumes-kept _ _ _ so.bytes so.came keeps) worked going,
+    goes_on remaining s0 s2 so.bytes (gave_kept remaining s0 s1 s2 so.bytes so.came keeps.0 keeps.1) worked going,
     (
       (
         record { going = refl; read = λ e. omega (arith, so.counted); size = λ e. absurd (true≢false (sym failed ∙ e)) },
@@ -111,7 +114,7 @@ module _ (query_of : List ℕ → QueryStatus) (asked : List ℕ → Command) (s
 
   -- the writer was flushed
   pub flushed : (s0 s1 : Device R) (o0 o1 o2 : Device W) (old new : Progress) (held : List ℕ) (count : ℕ)
-      → SoFar query_of asked setup remaining contents s0 s1 o0 o1 old new held count → Keeps (contents o1.device) (contents o2.device) → SoFar query_of asked setup remaining contents s0 s1 o0 o2 old new held count
+      → SoFar query_of asked setup remaining contents s0 s1 o0 o1 old new held count → (o2.taken ≡ o1.taken) × Keeps (contents o1.device) (contents o2.device) → SoFar query_of asked setup remaining contents s0 s1 o0 o2 old new held count
   flushed s0 s1 o0 o1 o2 old new held count so keeps = record {
     bytes = so.bytes;
     came = so.came;
@@ -144,7 +147,7 @@ module _ (query_of : List ℕ → QueryStatus) (asked : List ℕ → Command) (s
       → SoFar query_of asked setup remaining contents s0 s2 o0 o2 old new held' (count + n)
   taken s0 s1 s2 o0 o1 o2 old mid new held held' count n piece so gave e ran opened = record {
     bytes = so.bytes ++ piece;
-    came = Consumes-trans _ _ _ so.bytes piece so.came gave;
+    came = gave_more remaining s0 s1 s2 so.bytes piece so.came gave;
     counted = omega (arith, so.counted, length-append so.bytes piece);
     ran = subst (λ l. Ran query_of asked contents o0 o2 setup old l new) (sym (closed-append 0x0A so.bytes piece ∙ ap (λ h. closed_lines so.bytes ++ closed_lines (h ++ piece)) (sym so.open_is)))
         (ran_more query_of asked setup contents o0 o1 o2 old mid new (closed_lines so.bytes) (closed_lines (held ++ piece)) so.ran ran);
@@ -167,7 +170,7 @@ module _ (query_of : List ℕ → QueryStatus) (asked : List ℕ → Command) (s
       × RanFirst query_of asked setup old (lines_so_far came.ended (take setup.script_most came.bytes)) new)
   too_long s0 s1 s2 o0 o1 o2 old mid new held count got so within gave worked works going long ran = (
     came_so (so.bytes ++ got) false s2.failed,
-    goes_on remaining s0 s2 (so.bytes ++ got) (Consumes-trans _ _ _ so.bytes got so.came gave) worked going,
+    goes_on remaining s0 s2 (so.bytes ++ got) (gave_more remaining s0 s1 s2 so.bytes got so.came gave) worked going,
     (
       (
         record { going = refl; read = λ e. absurd (false≢true (sym works ∙ e)); size = λ e. omega (arith, so.counted, length-append so.bytes got) },
@@ -192,7 +195,7 @@ module _ (query_of : List ℕ → QueryStatus) (asked : List ℕ → Command) (s
       let first = closed_lines so.bytes in
       let more = closed_lines (held ++ take (setup.script_most - count) got) in (
         came_so (so.bytes ++ got) false s2.failed,
-        goes_on remaining s0 s2 (so.bytes ++ got) (Consumes-trans _ _ _ so.bytes got so.came gave) worked going,
+        goes_on remaining s0 s2 (so.bytes ++ got) (gave_more remaining s0 s1 s2 so.bytes got so.came gave) worked going,
         (
           (
             record { bytes = omega (arith, so.counted, length-append so.bytes got); end = λ e. absurd (false≢true e) },
@@ -207,7 +210,7 @@ module _ (query_of : List ℕ → QueryStatus) (asked : List ℕ → Command) (s
       let split : closed_lines (take setup.script_most (so.bytes ++ got)) ≡ (first ++ stop.0) ++ stop.1.0 =
       closed_within s0 s1 o0 o1 old mid held count got so within ∙ ap (λ l. first ++ l) stop.1.1 ∙ sym (append_assoc first stop.0 stop.1.0) in (
         came_so (so.bytes ++ got) false s2.failed,
-        goes_on remaining s0 s2 (so.bytes ++ got) (Consumes-trans _ _ _ so.bytes got so.came gave) worked going,
+        goes_on remaining s0 s2 (so.bytes ++ got) (gave_more remaining s0 s1 s2 so.bytes got so.came gave) worked going,
         (
           (
             record { bytes = omega (arith, so.counted, length-append so.bytes got); end = λ e. absurd (false≢true e) },
@@ -223,7 +226,7 @@ module _ (query_of : List ℕ → QueryStatus) (asked : List ℕ → Command) (s
   ended s0 s1 s2 o0 o1 old new held count n piece so gave e = record {
     bytes = so.bytes;
     came = subst (Gave remaining s0 s2) (append-nil so.bytes)
-        (Consumes-trans _ _ _ so.bytes [] so.came (subst (λ m. Gave remaining s1 s2 (take m piece)) e gave));
+        (gave_more remaining s0 s1 s2 so.bytes [] so.came (subst (λ m. Gave remaining s1 s2 (take m piece)) e gave));
     counted = so.counted;
     ran = so.ran;
     open_is = so.open_is;
@@ -231,7 +234,7 @@ module _ (query_of : List ℕ → QueryStatus) (asked : List ℕ → Command) (s
 
   -- the writer was flushed, and no byte more came
   pub flushed_at_end : (s0 s1 s2 : Device R) (o0 o1 o2 : Device W) (old new : Progress) (held : List ℕ) (count n : ℕ) (piece : List ℕ)
-      → SoFar query_of asked setup remaining contents s0 s1 o0 o1 old new held count → Keeps (contents o1.device) (contents o2.device) → Gave remaining s1 s2 (take n piece) → n ≡ 0 → SoFar query_of asked setup remaining contents s0 s2 o0 o2 old new held count
+      → SoFar query_of asked setup remaining contents s0 s1 o0 o1 old new held count → (o2.taken ≡ o1.taken) × Keeps (contents o1.device) (contents o2.device) → Gave remaining s1 s2 (take n piece) → n ≡ 0 → SoFar query_of asked setup remaining contents s0 s2 o0 o2 old new held count
   flushed_at_end s0 s1 s2 o0 o1 o2 old new held count n piece so keeps gave none =
       ended s0 s1 s2 o0 o2 old new held count n piece (flushed s0 s1 o0 o1 o2 old new held count so keeps) gave none
 

@@ -9,3 +9,4 @@ pub mod Replies
 pub mod Runs
 pub mod Sources
 pub mod Words
+pub mod Passed

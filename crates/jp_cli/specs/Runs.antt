@@ -14,9 +14,9 @@ use Rattle.jp_store.specs.Collections.{Collection}
 use Rattle.jp_cli.specs.Replies.{reply_text}
 use Rattle.jp_cli.specs.declared.reply.Reply.{Reply}
 
--- the framing and the greatest size of a run are those of its collection
+-- the framing and the greatest size of a run are those of its collection, whose meter was had: so no other one is
 abbrev pub FitsSetup : Setup → Collection → Type 0
-FitsSetup setup c = (setup.framing ≡ c.framing) × (setup.most ≡ c.most)
+FitsSetup setup c = (setup.framing ≡ c.framing) × (setup.most ≡ c.most) × (c.is_metered ≡ true)
 
 -- where a run stands: the state of its collection, and how many lines it opened so far
 pub record Progress : Type 0 where

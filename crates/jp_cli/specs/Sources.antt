@@ -1,5 +1,5 @@
 -- Where the collection and the script come from (profile).
-use Rattle.std.specs.Prelude.{◌≡◌, List, [], ◌∷◌, ◌++◌, Option, Some, None, codes, true, false, ⊤}
+use Rattle.std.specs.Prelude.{◌≡◌, List, [], ◌∷◌, ◌++◌, Bool, Option, Some, None, codes, true, false, ⊤}
 use Rattle.std.specs.Str.{bytes_eq}
 use Rattle.std.specs.String.{string_bytes}
 use Rattle.clap.specs.Words.{Text}
@@ -24,3 +24,8 @@ IsScriptOf file (c ∷ cs) (scripts.Commands text) = string_bytes text ≡ scrip
 IsScriptOf (Some file) [] (scripts.File name) = name.now ≡ file
 IsScriptOf None [] scripts.StandardInput = ⊤
 IsScriptOf _ _ _ = ⊥
+
+-- standard input is the collection, or the script
+abbrev pub comes_from_input : Text → Option Text → List Text → Bool
+comes_from_input file None [] = true
+comes_from_input file _ _ = bytes_eq file (codes "-")

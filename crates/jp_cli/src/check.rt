@@ -26,7 +26,8 @@ fn write_if_refused<W: Write>(
 {
     match store.line_status(number) {
         Status::Refused(fault) => write_refusal(number, fault, framing, out),
-        Status::Blank | Status::Tree => Ok(()),
+        Status::Blank => Ok(()),
+        Status::Tree => Ok(()),
     }
 }
 

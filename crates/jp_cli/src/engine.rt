@@ -5,6 +5,7 @@ ghost use Rattle.jp_model.specs.Devices.{GaveUpTo, HasEnded};
 ghost use Rattle.jp_model.specs.Script.Headline.{GivenToRun, RunEnded, RunStopped, is_write_fault, is_read_collection, OnlyReadScript};
 ghost use Rattle.jp_model.specs.Script.Commands.{command_of};
 ghost use Rattle.jp_query.specs.Status.{query_of};
+ghost use Rattle.jp_cli.specs.Passed.{given_since};
 
 use crate::script::run_script;
 use jp_model::{RunFault, Setup, Watched};
@@ -46,6 +47,8 @@ pub fn run<C: Read, R: Read, W: Write>(
     // In short: where the readers tell their bytes, Ok means the output of all of them.
     ensures told { OnOk result (IfSome (C.remaining collection.old.device) (λ c. IfSome (R.remaining script.old.device) (λ s.
         RunEnded query_of command_of W.contents out.old out.new setup c s))) }
+    // Of every device, files and pipes too: Ok means the output of what the reads gave, and the writes took it.
+    ensures passed { OnOk result (RunEnded query_of command_of W.contents out.old out.new setup (given_since collection.old collection.new) (given_since script.old script.new)) }
     ensures ended { OnOk result (HasEnded C.remaining collection.new × HasEnded R.remaining script.new) }
     // Also of readers that do not tell their bytes, Ok means that both came to their ends.
     ensures ends { OnOk result ((collection.new.ended ≡ true) × (script.new.ended ≡ true)) }
@@ -60,6 +63,8 @@ pub fn run<C: Read, R: Read, W: Write>(
     ensures collection_after { collection.old.ended ≡ false → collection.new.after ≡ collection.old.after }
     ensures script_after { script.old.ended ≡ false → script.new.after ≡ script.old.after }
     ensures out_after { out.new.after ≡ out.old.after }
+    // No read of the script comes while the writer has bytes unflushed.
+    ensures script_early { script.new.early ≡ script.old.early }
 {
     let mut store = match Store::load(alloc, setup.framing, setup.most, collection) {
         Ok(store) => store,

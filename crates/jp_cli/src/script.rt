@@ -3,7 +3,7 @@
 ghost use Rattle.std.specs.Prelude.{◌≡◌, ℕ, ◌+◌, ◌*◌, ◌^◌, ◌<◌, ◌≤◌, ◌++◌, ◌||◌, [], ◌∷◌, true, false, length, take, List, OnOk, IfErr, is_err, MatchResult};
 ghost use Rattle.std.specs.Io.{ReadsAtMost};
 ghost use Rattle.std.specs.Io.KnownBytes.{Keeps, ReadConsumes};
-ghost use Rattle.jp_model.specs.Devices.{Came, GaveUpTo, HasEnded, Writes, one_more, read_failed, read_ended};
+ghost use Rattle.jp_model.specs.Devices.{Came, GaveUpTo, Grew, HasEnded, Writes, one_more, read_failed, read_ended};
 ghost use Rattle.jp_model.specs.Lines.{HasNoSeparator, text_lines, closed_lines, lines_so_far, open_line};
 ghost use Rattle.jp_model.specs.Script.Headline.{is_write_fault, OnlyReadScript};
 ghost use Rattle.jp_cli.specs.Commands.{asked_in};
@@ -87,6 +87,7 @@ fn answer_lines<W: Write>(
 fn flush_answers<W: Write>(out: &mut Watched<W>) -> io::Result<()>
     requires working { out.old.failed ≡ false }
     ensures bytes { Keeps (W.contents out.old.device) (W.contents out.new.device) }
+    ensures taken { out.new.taken ≡ out.old.taken }
     ensures flushed { OnOk result (out.new.unflushed ≡ false) }
     ensures fault { out.new.failed ≡ is_err result }
     ensures after { out.new.after ≡ out.old.after }
@@ -97,7 +98,7 @@ fn flush_answers<W: Write>(out: &mut Watched<W>) -> io::Result<()>
     Ok(())
 }
 
-/// Reads the script into some room. Nothing that was answered is unflushed then: no other function reads it.
+/// Reads the script into some room. Nothing that was answered is unflushed then.
 fn read_script<R: Read, W: Write>(
     script: &mut Watched<R>,
     piece: &mut [u8],
@@ -108,13 +109,14 @@ fn read_script<R: Read, W: Write>(
     requires room { 0 < length piece.old }
     ensures bound { ReadsAtMost result piece.new }
     ensures bytes { ReadConsumes (R.remaining script.old.device) (R.remaining script.new.device) result piece.new }
+    ensures given { Grew script.old.given script.new.given result piece.new }
     ensures failed { script.new.failed ≡ read_failed result }
     ensures ended { script.new.ended ≡ (script.old.ended || read_ended result piece.new) }
     ensures calls { script.new.calls ≡ one_more script.old.calls }
     ensures after { script.old.ended ≡ false → script.new.after ≡ script.old.after }
+    ensures early { script.new.early ≡ script.old.early }
 {
-    prove!(!out.unflushed());
-    script.read(piece)
+    script.read_after(out, piece)
 }
 
 /// Answers the lines of a script, each as its line feed comes. It makes at most one read for each byte of the script up to
@@ -149,6 +151,7 @@ pub(crate) fn run_script<R: Read, W: Write>(
     ensures calls { script.new.calls ≤ script.old.calls + (setup.script_most + 1) }
     ensures reads_after { script.old.ended ≡ false → script.new.after ≡ script.old.after }
     ensures writes_after { out.new.after ≡ out.old.after }
+    ensures early { script.new.early ≡ script.old.early }
 {
     let mut held = Vec::new(alloc);
     let mut buffer = [0; PIECE];

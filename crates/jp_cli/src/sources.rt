@@ -1,7 +1,7 @@
 //! Where the collection and the script come from.
 
 ghost use Rattle.std.specs.Prelude.{◌≡◌, IfOk, map, option_map};
-ghost use Rattle.jp_cli.specs.Sources.{IsCollectionOf, IsScriptOf};
+ghost use Rattle.jp_cli.specs.Sources.{IsCollectionOf, IsScriptOf, comes_from_input};
 
 use crate::Options;
 use std::alloc::{AllocError, Global};
@@ -36,6 +36,14 @@ impl<'a> Options<'a> {
         } else {
             CollectionSource::File(self.file)
         }
+    }
+
+    /// Whether the collection or the script comes from standard input.
+    pub fn reads_standard_input(&self) -> bool
+        ensures { result ≡ comes_from_input self.now.file.now (option_map (λ s. s.now) self.now.script)
+            (map (λ s. s.now) self.now.commands.items) }
+    {
+        self.file == "-" || (self.script.is_none() && self.commands.is_empty())
     }
 
     /// Where the script comes from: the commands, each with a line feed after it, if there are any; else the file of

@@ -28,6 +28,9 @@ fn a_plan_can_be_answered_again(rt: HostRuntime) -> Result<(), Fail> {
     };
     laws::no_more_lines_are_opened();
     assert_eq!(&rt; store.line_count(), 7);
+    if store.is_metered() {
+        return Err("the meter was had".into());
+    }
     let mut opened = store.meter();
     let plan = Plan::new(alloc, &query, &store)?;
     // Three nodes and the refused line; four lines have the node where the index leads.

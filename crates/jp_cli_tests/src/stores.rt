@@ -46,6 +46,9 @@ fn root_of(alloc: Global, store: &mut Store, n: u32) -> Result<(Vec<u8>, u32), F
     if n == 0 || store.line_count() < n {
         return Err("there is no such line".into());
     }
+    if store.is_metered() {
+        return Err("the meter was had".into());
+    }
     let mut opened = store.meter();
     match store.view(n, &mut opened) {
         Some(line) => Ok((
@@ -100,6 +103,9 @@ fn a_text_of_a_sequence_may_hold_line_feeds(rt: HostRuntime) -> Result<(), Fail>
 fn a_line_with_a_tree_is_counted(rt: HostRuntime) -> Result<(), Fail> {
     let mut store = loaded(rt.alloc(), Framing::Lines, 1000, b"[1,22]\n\nx\n3")?;
     assert_eq!(&rt; store.line_count(), 4);
+    if store.is_metered() {
+        return Err("the meter was had".into());
+    }
     let mut opened = store.meter();
     assert_eq!(&rt; opened.count(), 0);
     assert!(&rt; store.view(2, &mut opened).is_none());
@@ -114,6 +120,6 @@ fn a_line_with_a_tree_is_counted(rt: HostRuntime) -> Result<(), Fail> {
     assert!(&rt; store.view(4, &mut opened).is_some());
     assert!(&rt; store.view(4, &mut opened).is_some());
     assert_eq!(&rt; opened.count(), 3);
-    assert_eq!(&rt; store.meter().count(), 0);
+    assert!(&rt; store.is_metered());
     Ok(())
 }

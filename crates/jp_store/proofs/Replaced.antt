@@ -1,5 +1,5 @@
 -- Why a line is not replaced, or that nothing is in the way.
-use Rattle.std.proofs.Common.{◌≡◌, ◌∙◌, ◌≤◌, ◌+◌, ◌-◌, ℕ, List, length, map, get_or, true, false, sym, ap, subst, arith, if◌then◌else◌}
+use Rattle.std.proofs.Common.{◌≡◌, ◌∙◌, ◌≤◌, ◌+◌, ◌-◌, ℕ, Bool, List, length, map, get_or, true, false, sym, ap, subst, arith, if◌then◌else◌}
 use Rattle.std.specs.Prelude.{None, Some, slice_set, nat_lt, nat_le, ◌&&◌, ◌==◌}
 use Rattle.std.specs.List.{list_any}
 use Rattle.std.proofs.lemmas.List.{length-map, get_or-map}
@@ -20,8 +20,8 @@ use Rattle.jp_store.specs.declared.line.Line.{Line}
 use Rattle.jp_store.proofs.Commits.{held_least}
 
 -- a collection of these lines
-abbrev pub shown : Framing → ℕ → List (List ℕ) → List (List Step) → Collection
-shown f most texts paths = record { framing = f; most = most; state = record { lines = texts; paths = paths } }
+abbrev pub shown : Framing → ℕ → Bool → List (List ℕ) → List (List Step) → Collection
+shown f most is_metered texts paths = record { framing = f; most = most; state = record { lines = texts; paths = paths }; is_metered = is_metered }
 
 module _ (c : Collection) (n : ℕ) (text : List ℕ) (low : 1 ≤ n) (high : n ≤ length c.state.lines) where
   there : replace_fault n text c ≡ edit_fault text (replaced n text c) c
@@ -59,9 +59,9 @@ module _ (f : Framing) (bytes tapes : List ℕ) (lines : List Line) (counts : Co
       let at : get_or texts (n - 1) (stored_text bytes before) ≡ old = get_or-map (stored_text bytes) lines (n - 1) before (stored_text bytes before) (omega (arith, low, high)) ∙ sym is in
       omega (arith, others, sums, ap length at, kept.counted.held_is)
 
-  module _ (most : ℕ) (text : List ℕ) (paths : List (List Step)) where
+  module _ (most : ℕ) (is_metered : Bool) (text : List ℕ) (paths : List (List Step)) where
     abbrev now : Collection
-    now = shown f most (map (stored_text bytes) lines) paths
+    now = shown f most is_metered (map (stored_text bytes) lines) paths
 
     within : n ≤ length now.state.lines
     within = omega (arith, high, length-map lines (stored_text bytes))

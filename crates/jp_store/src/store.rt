@@ -8,7 +8,7 @@ ghost use Rattle.jp_model.specs.Plans.{is_tree};
 ghost use Rattle.jp_model.specs.Script.Machine.{has_node, has_path, is_refused_status};
 ghost use Rattle.jp_model.specs.Steps.{Step};
 ghost use Rattle.jp_query.specs.SingularPaths.{path_steps};
-ghost use Rattle.jp_store.specs.Collections.{statuses_in, line_text, line_status, loaded, with_lines, with_index, without_index, appended, replaced};
+ghost use Rattle.jp_store.specs.Collections.{statuses_in, line_text, line_status, loaded, with_lines, with_index, without_index, appended, replaced, metered};
 ghost use Rattle.jp_model.specs.Numbered.{numbers_where};
 ghost use Rattle.jp_store.specs.Loads.{LoadStopped, is_read_fault};
 ghost use Rattle.jp_store.specs.Faults.{RefusesIndex, index_fault, RefusesEdit, append_fault, replace_fault};
@@ -47,6 +47,7 @@ pub struct Store {
     tapes: Vec<u64>,
     counts: Counts,
     indexes: Vec<ValueIndex>,
+    is_metered: bool,
     alloc: Global,
 }
 
@@ -58,7 +59,7 @@ impl Model for Store {
 
     ghost use Rattle.jp_store.specs.Stored.{IsKept, stored_text, path_of};
 
-    ghost view = { λ s. record { framing = s.framing; most = s.most; state = record { lines = map (stored_text s.bytes.items) s.lines.items; paths = map path_of s.indexes.items } } };
+    ghost view = { λ s. record { framing = s.framing; most = s.most; state = record { lines = map (stored_text s.bytes.items) s.lines.items; paths = map path_of s.indexes.items }; is_metered = s.is_metered } };
 
     ghost invariant = { λ s. IsKept s.framing s.bytes.items s.tapes.items s.lines.items s.counts s.indexes.items };
 }
@@ -109,6 +110,7 @@ impl Store {
             tapes,
             counts,
             indexes: Vec::new(alloc),
+            is_metered: false,
             alloc,
         })
     }
@@ -154,11 +156,20 @@ impl Store {
         self.lines[n as usize - 1].status()
     }
 
-    /// A count of opened lines, at 0.
-    pub fn meter(&mut self) -> Opened
-        ensures count { result ≡ 0 }
-        ensures same { self.new ≡ self.old }
+    /// Whether its meter was had.
+    pub fn is_metered(&self) -> bool
+        ensures { result ≡ self.now.is_metered }
     {
+        self.is_metered
+    }
+
+    /// A count of opened lines, at 0. It can be had once, so each line that is opened later is counted in it.
+    pub fn meter(&mut self) -> Opened
+        requires { self.old.is_metered ≡ false }
+        ensures count { result ≡ 0 }
+        ensures had { self.new ≡ metered self.old }
+    {
+        self.is_metered = true;
         Opened { count: 0 }
     }
 

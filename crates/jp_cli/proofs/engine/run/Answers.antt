@@ -1,44 +1,43 @@
 -- Where the collection was not loaded, no byte of the script came and none was written; else the run ends as the script does.
 use Rattle.std.proofs.Common.{◌∙◌, ◌||◌, sym, ap, inl}
-use Rattle.std.proofs.KnownBytes.{Appends-nil}
 use Rattle.jp_model.specs.Script.Headline.{GivenToRun, RunEnded, WasStarved}
-use Rattle.jp_model.proofs.Devices.{nothing_came, or_true}
+use Rattle.jp_model.proofs.Devices.{nothing_came, or_true, received_none}
 use Rattle.jp_cli.specs.Runs.{at}
-use Rattle.jp_store.specs.Collections.{Collection}
+use Rattle.jp_store.specs.Collections.{Collection, metered}
 use Rattle.jp_model.specs.Script.Commands.{command_of}
 use Rattle.jp_query.specs.Status.{query_of}
-use Rattle.jp_cli.proofs.Ending.{only_collection, ends, told_of_all, both_ended}
+use Rattle.jp_cli.proofs.Ending.{only_collection, ends, told_of_all, both_ended, passed_by_all}
 use Rattle.jp_cli.proofs.engine.run.Goals as goal
 
 pub returns-in-Err-Read-clause-output : goal.returns-in-Err-Read-clause-output
 returns-in-Err-Read-clause-output g c =
     let came = c.in-Err-Read.ensures.came in
     let why = rw c.in-Err-Read.field-0-is at came.2 in
-    (only_collection came.0, came.1, nothing_came g.R.Read.remaining c.args.script.now c.requires.script, (why.0, why.1, Appends-nil (g.W.Write.contents c.args.out.now.device)))
+    (only_collection came.0, came.1, nothing_came g.R.Read.remaining c.args.script.now c.requires.script, (why.0, why.1, received_none g.W.Write.contents c.args.out.now))
 
 pub returns-in-Err-Size-clause-output : goal.returns-in-Err-Size-clause-output
 returns-in-Err-Size-clause-output g c =
     let came = c.in-Err-Size.ensures.came in
     let why = rw c.in-Err-Size.field-0-is at came.2 in
-    (only_collection came.0, came.1, nothing_came g.R.Read.remaining c.args.script.now c.requires.script, (why.0, why.1, Appends-nil (g.W.Write.contents c.args.out.now.device)))
+    (only_collection came.0, came.1, nothing_came g.R.Read.remaining c.args.script.now c.requires.script, (why.0, why.1, received_none g.W.Write.contents c.args.out.now))
 
 pub returns-in-Err-Framing-clause-output : goal.returns-in-Err-Framing-clause-output
 returns-in-Err-Framing-clause-output g c =
     let came = c.in-Err-Framing.ensures.came in
     let why = rw c.in-Err-Framing.field-0-is at came.2 in
-    (only_collection came.0, came.1, nothing_came g.R.Read.remaining c.args.script.now c.requires.script, (why.0, why.1, why.2, Appends-nil (g.W.Write.contents c.args.out.now.device)))
+    (only_collection came.0, came.1, nothing_came g.R.Read.remaining c.args.script.now c.requires.script, (why.0, why.1, why.2, received_none g.W.Write.contents c.args.out.now))
 
 pub returns-in-Err-Memory-clause-output : goal.returns-in-Err-Memory-clause-output
 returns-in-Err-Memory-clause-output g c =
     let came = c.in-Err-Memory.ensures.came in
     let why = rw c.in-Err-Memory.field-0-is at came.2 in
     let starved : WasStarved c.args.setup came.0 = record { within = why.0; framed = why.1 } in
-    (only_collection came.0, came.1, nothing_came g.R.Read.remaining c.args.script.now c.requires.script, inl (starved, Appends-nil (g.W.Write.contents c.args.out.now.device)))
+    (only_collection came.0, came.1, nothing_came g.R.Read.remaining c.args.script.now c.requires.script, inl (starved, received_none g.W.Write.contents c.args.out.now))
 
 pub run_script-requires-clause-fits : goal.run_script-requires-clause-fits
 run_script-requires-clause-fits g c =
-    let is = c.meter-opened.ensures.same ∙ c.in-Ok.ensures.came.2.3 in
-    (sym (ap (λ (s : Collection). s.framing) is), sym (ap (λ (s : Collection). s.most) is))
+    let is = c.meter-opened.ensures.had ∙ ap metered c.in-Ok.ensures.came.2.3 in
+    (sym (ap (λ (s : Collection). s.framing) is), sym (ap (λ (s : Collection). s.most) is), ap (λ (s : Collection). s.is_metered) is)
 
 pub returns-clause-output : goal.returns-clause-output
 returns-clause-output g c =
@@ -49,14 +48,14 @@ returns-clause-output g c =
       came.1,
       given.1,
       ends query_of c.args.setup g.W.Write.contents c.args.out.now c.run_script.new.out c.run_script.result (at c.meter-opened.new.self.state c.meter-opened.result) (at c.run_script.new.store.state c.run_script.new.opened) all
-          (came.2.0, (came.2.1, came.2.2)) (ap (λ (s : Collection). s.state) (c.meter-opened.ensures.same ∙ came.2.3)) given.2,
+          (came.2.0, (came.2.1, came.2.2)) (ap (λ (s : Collection). s.state) (c.meter-opened.ensures.had ∙ ap metered came.2.3)) given.2,
     )
 
 pub returns-clause-told : goal.returns-clause-told
 returns-clause-told g c =
     let came = c.in-Ok.ensures.came in
     let out = returns-clause-output g c in
-    told_of_all c.run_script.result _ _ _ _ _ out.0.collection.bytes out.0.script.bytes (RunEnded query_of command_of g.W.Write.contents c.args.out.now c.run_script.new.out c.args.setup) out.1.0 out.2.0
+    told_of_all c.run_script.result _ _ _ _ _ out.0.collection.bytes out.0.script.bytes (RunEnded query_of command_of g.W.Write.contents c.args.out.now c.run_script.new.out c.args.setup) out.1.0.left out.2.0.left
     (both_ended c.run_script.result _ _ (came.1.3 came.2.0) c.run_script.ensures.ended) out.3
 
 pub returns-clause-ended : goal.returns-clause-ended
@@ -67,3 +66,9 @@ pub returns-clause-ends : goal.returns-clause-ends
 returns-clause-ends g c =
     let came = c.in-Ok.ensures.came in
     both_ended c.run_script.result _ _ (came.1.1 ∙ (ap (λ b. c.args.collection.now.ended || b) came.2.0 ∙ sym (or_true c.args.collection.now.ended))) c.run_script.ensures.end
+
+pub returns-clause-passed : goal.returns-clause-passed
+returns-clause-passed g c =
+    let out = returns-clause-output g c in
+    passed_by_all c.run_script.result _ g.C.Read.remaining g.R.Read.remaining _ _ _ _ out.0.collection.bytes out.0.script.bytes
+    (RunEnded query_of command_of g.W.Write.contents c.args.out.now c.run_script.new.out c.args.setup) out.1.0 out.2.0 out.3

@@ -14,7 +14,7 @@ returns-in-Err-clause-text g c =
     let place = get_or places c.loop-place.place-index 0 in
     let row = placed c.args.framing c.args.line c.args.view place c.at.result c.at.ensures.line c.at.ensures.place in
     row_in_part text places c.loop-place.place-index place c.loop-place-test.true (sym (get_or_default_zero places c.loop-place.place-index place c.loop-place-test.true)) _ _ _
-    c.loop-place.invariant.written (subst (Part _ _) row c.in-Err.ensures.text)
+    c.loop-place.invariant.written (subst (Part g.W.Write.contents c.loop-place.out c.write_node.new.out) row c.in-Err.ensures.text)
 
 pub loop-place-preserved : goal.loop-place-preserved
 loop-place-preserved g c =

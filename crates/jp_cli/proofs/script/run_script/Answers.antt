@@ -5,7 +5,7 @@ use Rattle.std.proofs.lemmas.List.{length-take}
 use Rattle.jp_model.specs.Lines.{HasNoSeparator, closed_lines, open_line}
 use Rattle.jp_cli.specs.Runs.{Ran, RanFirst, StoppedIn, at}
 use Rattle.jp_model.proofs.Pieces.{pieces_clear}
-use Rattle.jp_cli.proofs.ScriptSoFar.{still_going, no_end, little_room, at_end_with_room, flushed, flushed_at_end, stopped_flush, stopped_read, taken, too_long, stopped_piece, cut_to, min_first, one_more_call, not_empty, all_run, last_run, last_stopped}
+use Rattle.jp_cli.proofs.ScriptSoFar.{gave_piece, still_going, no_end, little_room, at_end_with_room, flushed, flushed_at_end, stopped_flush, stopped_read, taken, too_long, stopped_piece, cut_to, min_first, one_more_call, not_empty, all_run, last_run, last_stopped}
 use Rattle.jp_cli.specs.Commands.{asked_in}
 use Rattle.jp_query.specs.Status.{query_of}
 use Rattle.jp_cli.proofs.script.run_script.Goals as goal
@@ -14,7 +14,7 @@ pub returns-then-is_err-clause-output : goal.returns-then-is_err-clause-output
 returns-then-is_err-clause-output g c =
     let inv = c.loop-alloc.invariant in
     let so = flushed query_of asked_in c.args.setup g.R.Read.remaining g.W.Write.contents c.args.script.now c.loop-alloc.script c.args.out.now c.loop-alloc.out c.flush_answers.new.out
-    (at c.args.store.now.state c.args.opened.now) (at c.loop-alloc.store.state c.loop-alloc.opened) c.loop-alloc.held.items c.loop-alloc.count inv.so_far c.flush_answers.ensures.bytes in
+    (at c.args.store.now.state c.args.opened.now) (at c.loop-alloc.store.state c.loop-alloc.opened) c.loop-alloc.held.items c.loop-alloc.count inv.so_far (c.flush_answers.ensures.taken, c.flush_answers.ensures.bytes) in
     stopped_flush query_of asked_in c.args.setup g.R.Read.remaining g.W.Write.contents c.args.script.now c.loop-alloc.script c.args.out.now c.flush_answers.new.out
     (at c.args.store.now.state c.args.opened.now) (at c.loop-alloc.store.state c.loop-alloc.opened) c.loop-alloc.held.items c.loop-alloc.count so inv.within c.requires.reads inv.going
 
@@ -22,9 +22,9 @@ pub returns-in_default-clause-output : goal.returns-in_default-clause-output
 returns-in_default-clause-output g c =
     let inv = c.loop-alloc.invariant in
     let so = flushed query_of asked_in c.args.setup g.R.Read.remaining g.W.Write.contents c.args.script.now c.loop-alloc.script c.args.out.now c.loop-alloc.out c.flush_answers.new.out
-    (at c.args.store.now.state c.args.opened.now) (at c.loop-alloc.store.state c.loop-alloc.opened) c.loop-alloc.held.items c.loop-alloc.count inv.so_far c.flush_answers.ensures.bytes in
+    (at c.args.store.now.state c.args.opened.now) (at c.loop-alloc.store.state c.loop-alloc.opened) c.loop-alloc.held.items c.loop-alloc.count inv.so_far (c.flush_answers.ensures.taken, c.flush_answers.ensures.bytes) in
     stopped_read query_of asked_in c.args.setup g.R.Read.remaining g.W.Write.contents c.args.script.now c.loop-alloc.script c.read_script.new.script c.args.out.now c.flush_answers.new.out
-    (at c.args.store.now.state c.args.opened.now) (at c.loop-alloc.store.state c.loop-alloc.opened) c.loop-alloc.held.items c.loop-alloc.count so c.in_default.ensures.bytes inv.within
+    (at c.args.store.now.state c.args.opened.now) (at c.loop-alloc.store.state c.loop-alloc.opened) c.loop-alloc.held.items c.loop-alloc.count so (c.in_default.ensures.given, c.in_default.ensures.bytes) inv.within
     c.requires.reads (still_going _ _ _ _ c.in_default.ensures.ended inv.going refl) c.in_default.ensures.failed
 
 pub answer_lines-requires-clause-open : goal.answer_lines-requires-clause-open
@@ -36,11 +36,11 @@ pub returns-in-Err-clause-output : goal.returns-in-Err-clause-output
 returns-in-Err-clause-output g c =
     let inv = c.loop-alloc.invariant in
     let so = flushed query_of asked_in c.args.setup g.R.Read.remaining g.W.Write.contents c.args.script.now c.loop-alloc.script c.args.out.now c.loop-alloc.out c.flush_answers.new.out
-    (at c.args.store.now.state c.args.opened.now) (at c.loop-alloc.store.state c.loop-alloc.opened) c.loop-alloc.held.items c.loop-alloc.count inv.so_far c.flush_answers.ensures.bytes in
+    (at c.args.store.now.state c.args.opened.now) (at c.loop-alloc.store.state c.loop-alloc.opened) c.loop-alloc.held.items c.loop-alloc.count inv.so_far (c.flush_answers.ensures.taken, c.flush_answers.ensures.bytes) in
     let cut = cut_to c.in-Ok.read (c.args.setup.script_most - c.loop-alloc.count) c.min.result c.read_script.new.piece c.min.ensures in
     stopped_piece query_of asked_in c.args.setup g.R.Read.remaining g.W.Write.contents c.args.script.now c.loop-alloc.script c.read_script.new.script c.args.out.now c.flush_answers.new.out c.answer_lines.new.out
     (at c.args.store.now.state c.args.opened.now) (at c.loop-alloc.store.state c.loop-alloc.opened) (at c.answer_lines.new.store.state c.answer_lines.new.opened) c.loop-alloc.held.items c.loop-alloc.count (take c.in-Ok.read c.read_script.new.piece) c.in-Err.fault
-    so inv.within c.in-Ok.ensures.bytes.0 c.requires.reads (still_going _ _ _ _ c.in-Ok.ensures.ended inv.going (no_end c.in-Ok.read _ c.if-read-eq0.false))
+    so inv.within (gave_piece g.R.Read.remaining c.loop-alloc.script c.read_script.new.script (take c.in-Ok.read c.read_script.new.piece) c.in-Ok.ensures.given c.in-Ok.ensures.bytes.0) c.requires.reads (still_going _ _ _ _ c.in-Ok.ensures.ended inv.going (no_end c.in-Ok.read _ c.if-read-eq0.false))
     (let read = c.in-Ok.ensures.bound in omega (arith, read.0, read.1, little_room c.read_script.new.piece c.loop-alloc.buffer c.min-room.result 4095 (c.args.setup.script_most - c.loop-alloc.count) c.read_script.auto.piece c.min-room.ensures))
     (subst (λ p. StoppedIn query_of asked_in g.W.Write.contents c.flush_answers.new.out c.answer_lines.new.out c.in-Err.fault c.args.setup c.loop-alloc.store.state (closed_lines (c.loop-alloc.held.items ++ p))) cut
     c.in-Err.ensures.err.0)
@@ -50,11 +50,11 @@ pub returns-then-read-left-clause-output : goal.returns-then-read-left-clause-ou
 returns-then-read-left-clause-output g c =
     let inv = c.loop-alloc.invariant in
     let so = flushed query_of asked_in c.args.setup g.R.Read.remaining g.W.Write.contents c.args.script.now c.loop-alloc.script c.args.out.now c.loop-alloc.out c.flush_answers.new.out
-    (at c.args.store.now.state c.args.opened.now) (at c.loop-alloc.store.state c.loop-alloc.opened) c.loop-alloc.held.items c.loop-alloc.count inv.so_far c.flush_answers.ensures.bytes in
+    (at c.args.store.now.state c.args.opened.now) (at c.loop-alloc.store.state c.loop-alloc.opened) c.loop-alloc.held.items c.loop-alloc.count inv.so_far (c.flush_answers.ensures.taken, c.flush_answers.ensures.bytes) in
     let cut = cut_to c.in-Ok.read (c.args.setup.script_most - c.loop-alloc.count) c.min.result c.read_script.new.piece c.min.ensures in
     too_long query_of asked_in c.args.setup g.R.Read.remaining g.W.Write.contents c.args.script.now c.loop-alloc.script c.read_script.new.script c.args.out.now c.flush_answers.new.out c.answer_lines.new.out
     (at c.args.store.now.state c.args.opened.now) (at c.loop-alloc.store.state c.loop-alloc.opened) (at c.answer_lines.new.store.state c.answer_lines.new.opened) c.loop-alloc.held.items c.loop-alloc.count (take c.in-Ok.read c.read_script.new.piece)
-    so inv.within c.in-Ok.ensures.bytes.0 c.requires.reads c.in-Ok.ensures.failed (still_going _ _ _ _ c.in-Ok.ensures.ended inv.going (no_end c.in-Ok.read _ c.if-read-eq0.false))
+    so inv.within (gave_piece g.R.Read.remaining c.loop-alloc.script c.read_script.new.script (take c.in-Ok.read c.read_script.new.piece) c.in-Ok.ensures.given c.in-Ok.ensures.bytes.0) c.requires.reads c.in-Ok.ensures.failed (still_going _ _ _ _ c.in-Ok.ensures.ended inv.going (no_end c.in-Ok.read _ c.if-read-eq0.false))
     (let read = c.in-Ok.ensures.bound in omega (arith, read.0, read.1, little_room c.read_script.new.piece c.loop-alloc.buffer c.min-room.result 4095 (c.args.setup.script_most - c.loop-alloc.count) c.read_script.auto.piece c.min-room.ensures, c.if-read-left.true))
     (subst (λ p. Ran query_of asked_in g.W.Write.contents c.flush_answers.new.out c.answer_lines.new.out c.args.setup (at c.loop-alloc.store.state c.loop-alloc.opened) (closed_lines (c.loop-alloc.held.items ++ p)) (at c.answer_lines.new.store.state c.answer_lines.new.opened)) cut
     c.in_default-answer_lines.ensures.ok.0)
@@ -63,7 +63,7 @@ pub loop-alloc-preserved : goal.loop-alloc-preserved
 loop-alloc-preserved g c =
     let inv = c.loop-alloc.invariant in
     let so = flushed query_of asked_in c.args.setup g.R.Read.remaining g.W.Write.contents c.args.script.now c.loop-alloc.script c.args.out.now c.loop-alloc.out c.flush_answers.new.out
-    (at c.args.store.now.state c.args.opened.now) (at c.loop-alloc.store.state c.loop-alloc.opened) c.loop-alloc.held.items c.loop-alloc.count inv.so_far c.flush_answers.ensures.bytes in
+    (at c.args.store.now.state c.args.opened.now) (at c.loop-alloc.store.state c.loop-alloc.opened) c.loop-alloc.held.items c.loop-alloc.count inv.so_far (c.flush_answers.ensures.taken, c.flush_answers.ensures.bytes) in
     let promised = c.in-Ok.ensures in
     let got = take c.in-Ok.read c.read_script.new.piece in
     let all : c.min.result ≡ c.in-Ok.read = c.min.ensures ∙ min_first c.in-Ok.read (c.args.setup.script_most - c.loop-alloc.count) c.if-read-left.false in
@@ -76,12 +76,13 @@ loop-alloc-preserved g c =
       writes = c.in_default-answer_lines.ensures.fault;
       going = still_going _ _ _ _ promised.ended inv.going (no_end c.in-Ok.read _ c.if-read-eq0.false);
       reads_early = λ e. promised.after (inv.going ∙ e) ∙ inv.reads_early e;
+      early = promised.early ∙ inv.early;
       writes_early = c.answer_lines.ensures.after ∙ (c.flush_answers.ensures.after ∙ inv.writes_early);
       fits = c.answer_lines.ensures.fits;
       few = omega (arith, c.answer_lines.ensures.few, inv.few, all, length-take c.min.result c.read_script.new.piece);
       so_far = taken query_of asked_in c.args.setup g.R.Read.remaining g.W.Write.contents c.args.script.now c.loop-alloc.script c.read_script.new.script c.args.out.now c.flush_answers.new.out c.answer_lines.new.out
           (at c.args.store.now.state c.args.opened.now) (at c.loop-alloc.store.state c.loop-alloc.opened) (at c.answer_lines.new.store.state c.answer_lines.new.opened) c.loop-alloc.held.items c.answer_lines.new.held.items c.loop-alloc.count c.in-Ok.read got
-          so promised.bytes.0 (sym promised.bound.1) done.0 done.1;
+          so (gave_piece g.R.Read.remaining c.loop-alloc.script c.read_script.new.script got promised.given promised.bytes.0) (sym promised.bound.1) done.0 done.1;
       calls = one_more_call c.args.script.now.calls c.loop-alloc.script.calls c.read_script.new.script.calls c.loop-alloc.count c.in-Ok.read inv.calls promised.calls c.if-read-eq0.false;
     }
 
@@ -89,7 +90,7 @@ pub returns-then-is_empty-clause-output : goal.returns-then-is_empty-clause-outp
 returns-then-is_empty-clause-output g c =
     let inv = c.loop-alloc.invariant in
     let all = flushed_at_end query_of asked_in c.args.setup g.R.Read.remaining g.W.Write.contents c.args.script.now c.loop-alloc.script c.read_script.new.script c.args.out.now c.loop-alloc.out c.flush_answers.new.out
-    (at c.args.store.now.state c.args.opened.now) (at c.loop-alloc.store.state c.loop-alloc.opened) c.loop-alloc.held.items c.loop-alloc.count c.in-Ok.read c.read_script.new.piece inv.so_far c.flush_answers.ensures.bytes c.in-Ok.ensures.bytes.0 c.if-read-eq0.true in
+    (at c.args.store.now.state c.args.opened.now) (at c.loop-alloc.store.state c.loop-alloc.opened) c.loop-alloc.held.items c.loop-alloc.count c.in-Ok.read c.read_script.new.piece inv.so_far (c.flush_answers.ensures.taken, c.flush_answers.ensures.bytes) (gave_piece g.R.Read.remaining c.loop-alloc.script c.read_script.new.script (take c.in-Ok.read c.read_script.new.piece) c.in-Ok.ensures.given c.in-Ok.ensures.bytes.0) c.if-read-eq0.true in
     let end = at_end_with_room g.R.Read.remaining c.args.script.now c.read_script.new.script c.loop-alloc.script.ended c.in-Ok.read c.read_script.new.piece c.loop-alloc.buffer c.min-room.result 4095 (c.args.setup.script_most - c.loop-alloc.count)
     c.requires.reads c.in-Ok.ensures.ended c.in-Ok.ensures.bytes.1 c.if-read-eq0.true c.read_script.auto.piece c.min-room.ensures c.min-room.array_long in
     all_run query_of asked_in c.args.setup g.R.Read.remaining g.W.Write.contents c.args.script.now c.read_script.new.script c.args.out.now c.flush_answers.new.out
@@ -99,7 +100,7 @@ pub returns-in-Ok-answer_line-clause-output : goal.returns-in-Ok-answer_line-cla
 returns-in-Ok-answer_line-clause-output g c =
     let inv = c.loop-alloc.invariant in
     let all = flushed_at_end query_of asked_in c.args.setup g.R.Read.remaining g.W.Write.contents c.args.script.now c.loop-alloc.script c.read_script.new.script c.args.out.now c.loop-alloc.out c.flush_answers.new.out
-    (at c.args.store.now.state c.args.opened.now) (at c.loop-alloc.store.state c.loop-alloc.opened) c.loop-alloc.held.items c.loop-alloc.count c.in-Ok.read c.read_script.new.piece inv.so_far c.flush_answers.ensures.bytes c.in-Ok.ensures.bytes.0 c.if-read-eq0.true in
+    (at c.args.store.now.state c.args.opened.now) (at c.loop-alloc.store.state c.loop-alloc.opened) c.loop-alloc.held.items c.loop-alloc.count c.in-Ok.read c.read_script.new.piece inv.so_far (c.flush_answers.ensures.taken, c.flush_answers.ensures.bytes) (gave_piece g.R.Read.remaining c.loop-alloc.script c.read_script.new.script (take c.in-Ok.read c.read_script.new.piece) c.in-Ok.ensures.given c.in-Ok.ensures.bytes.0) c.if-read-eq0.true in
     let end = at_end_with_room g.R.Read.remaining c.args.script.now c.read_script.new.script c.loop-alloc.script.ended c.in-Ok.read c.read_script.new.piece c.loop-alloc.buffer c.min-room.result 4095 (c.args.setup.script_most - c.loop-alloc.count)
     c.requires.reads c.in-Ok.ensures.ended c.in-Ok.ensures.bytes.1 c.if-read-eq0.true c.read_script.auto.piece c.min-room.ensures c.min-room.array_long in
     let ran = c.in-Ok-answer_line.ensures.ran in
@@ -111,7 +112,7 @@ pub returns-clause-output : goal.returns-clause-output
 returns-clause-output g c =
     let inv = c.loop-alloc.invariant in
     let all = flushed_at_end query_of asked_in c.args.setup g.R.Read.remaining g.W.Write.contents c.args.script.now c.loop-alloc.script c.read_script.new.script c.args.out.now c.loop-alloc.out c.flush_answers.new.out
-    (at c.args.store.now.state c.args.opened.now) (at c.loop-alloc.store.state c.loop-alloc.opened) c.loop-alloc.held.items c.loop-alloc.count c.in-Ok.read c.read_script.new.piece inv.so_far c.flush_answers.ensures.bytes c.in-Ok.ensures.bytes.0 c.if-read-eq0.true in
+    (at c.args.store.now.state c.args.opened.now) (at c.loop-alloc.store.state c.loop-alloc.opened) c.loop-alloc.held.items c.loop-alloc.count c.in-Ok.read c.read_script.new.piece inv.so_far (c.flush_answers.ensures.taken, c.flush_answers.ensures.bytes) (gave_piece g.R.Read.remaining c.loop-alloc.script c.read_script.new.script (take c.in-Ok.read c.read_script.new.piece) c.in-Ok.ensures.given c.in-Ok.ensures.bytes.0) c.if-read-eq0.true in
     let end = at_end_with_room g.R.Read.remaining c.args.script.now c.read_script.new.script c.loop-alloc.script.ended c.in-Ok.read c.read_script.new.piece c.loop-alloc.buffer c.min-room.result 4095 (c.args.setup.script_most - c.loop-alloc.count)
     c.requires.reads c.in-Ok.ensures.ended c.in-Ok.ensures.bytes.1 c.if-read-eq0.true c.read_script.auto.piece c.min-room.ensures c.min-room.array_long in
     let ran = c.in-Err-answer_line.ensures.ran in

@@ -13,6 +13,7 @@ invariant-loop-alloc g l = record {
   writes : l.out.failed ≡ false;
   going : l.script.ended ≡ l.fn.script.ended;
   reads_early : l.fn.script.ended ≡ false → l.script.after ≡ l.fn.script.after;
+  early : l.script.early ≡ l.fn.script.early;
   writes_early : l.out.after ≡ l.fn.out.after;
   so_far : SoFar query_of asked_in l.setup g.R.Read.remaining g.W.Write.contents l.fn.script l.script l.fn.out l.out (at l.fn.store.state l.fn.opened) (at l.store.state l.opened) l.held.items l.count;
   few : l.opened ≤ l.count * most_lines;

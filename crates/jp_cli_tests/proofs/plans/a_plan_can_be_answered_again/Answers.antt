@@ -9,5 +9,5 @@ pub answer-requires : goal.answer-requires
 answer-requires g c =
     let few = c.no_more_lines_are_opened.ensures (plan_of c.in_ok-plan.plan) in
     let over = ap (λ (p : Planned). length p.over.state.lines) c.in_ok-plan.ensures in
-    let same = ap (λ (s : Collection). length s.state.lines) c.meter-opened.ensures.same in
+    let same = ap (λ (s : Collection). length s.state.lines) c.meter-opened.ensures.had in
     omega (arith, few, over, same, c.line_count.ensures, c.meter-opened.ensures.count)

@@ -35,7 +35,7 @@ returns c =
     ap (λ (v : Collection). has_path p v.state.paths) (sym c.self.view_is) ∙ (ap (λ xs. has_path p (map path_of xs)) (sym c.deref.ensures.value) ∙ (sym c.has_index.ensures ∙ c.if-has_index.false)) in
     let few : length old.state.paths < 16 = omega (arith, c.if-len-ge16.false, c.len.ensures, ap (λ (v : Collection). length v.state.paths) c.self.view_is, length-map s.indexes.items path_of) in (
       no_fault p old none few,
-      ap (λ ps. with_paths ps (record { framing = s.framing; most = s.most; state = record { lines = map (stored_text s.bytes.items) s.lines.items; paths = [] } }))
+      ap (λ ps. with_paths ps (record { framing = s.framing; most = s.most; state = record { lines = map (stored_text s.bytes.items) s.lines.items; paths = [] }; is_metered = s.is_metered }))
           (ap (map path_of) c.in-Ok-push.ensures.items ∙ map-append path_of s.indexes.items (c.in-Ok.index ∷ []) ∙ ap (λ q. map path_of s.indexes.items ++ q ∷ []) is.path_is)
           ∙ ap (with_index p) c.self.view_is,
       c.count-count.ensures p (entries_of p ss) is ∙ entries_count p 1 ss (λ m. c.a_line_has_one_entry.ensures c.in-Ok.index p (entries_of p ss) m is) ∙ ap (λ (v : Collection). count_by (has_node p) (statuses_in v)) c.self.view_is,

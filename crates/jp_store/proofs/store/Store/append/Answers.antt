@@ -30,7 +30,7 @@ returns-in_default-edit_indexes c =
     let s = c.self.inside in
     let texts : List (List ℕ) = map (stored_text s.bytes.items) s.lines.items in
     let fits : bytes_held texts + (length c.args.text.now + 1) ≤ s.most = omega (arith, c.in-Ok.ensures.0, c.in-Ok.ensures.1, c.self.invariant.counted.held_is) in
-    let shown : List (List Step) → List Line → Collection = λ ps ls. record { framing = s.framing; most = s.most; state = record { lines = map (stored_text s.bytes.items) ls; paths = ps } } in (
+    let shown : List (List Step) → List Line → Collection = λ ps ls. record { framing = s.framing; most = s.most; state = record { lines = map (stored_text s.bytes.items) ls; paths = ps }; is_metered = s.is_metered } in (
       subst (λ v. append_fault c.args.text.now v ≡ None) c.self.view_is (appends (shown (map path_of s.indexes.items) s.lines.items) c.args.text.now fits c.in-Ok.ensures.2),
       ap₂ shown (same_paths s.indexes.items c.edit_indexes.new.indexes.items c.in_default-edit_indexes.ensures.err) c.in-Ok-reserve.ensures.items ∙ c.self.view_is,
     )
@@ -82,7 +82,7 @@ returns c =
     let texts : List (List ℕ) = map (stored_text s.bytes.items) s.lines.items in
     let line = c.in-Ok-read_edited.line in
     let fits : bytes_held texts + (length text + 1) ≤ s.most = omega (arith, c.in-Ok.ensures.0, c.in-Ok.ensures.1, c.self.invariant.counted.held_is) in
-    let shown : List (List Step) → List (List ℕ) → Collection = λ ps ls. record { framing = s.framing; most = s.most; state = record { lines = ls; paths = ps } } in (
+    let shown : List (List Step) → List (List ℕ) → Collection = λ ps ls. record { framing = s.framing; most = s.most; state = record { lines = ls; paths = ps }; is_metered = s.is_metered } in (
       subst (λ v. append_fault text v ≡ None) c.self.view_is (appends (shown (map path_of s.indexes.items) texts) text fits c.in-Ok.ensures.2),
       ap₂ shown (edited_paths (c.len.result + 1) (told_tree (told_of line) (stored_text s.bytes.items line)) s.indexes.items c.edit_indexes.new.indexes.items (edited c))
           (ap (map (stored_text s.bytes.items)) (lines_are c) ∙ map-append (stored_text s.bytes.items) s.lines.items (line ∷ []) ∙ ap (λ t. texts ++ t ∷ []) (text_is c))

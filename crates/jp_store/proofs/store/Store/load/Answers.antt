@@ -63,7 +63,7 @@ returns-clause-came g c =
         refl,
         came.2.1,
         ap (is_framed c.args.framing) (sym came.2.0 ∙ sym c.deref.ensures.value) ∙ sym c.if-not-is_framed_text.ensures,
-        ap₂ (λ (ls : List (List ℕ)) (ps : List (List Step)). let whole : Collection = record { framing = c.args.framing; most = c.args.most; state = record { lines = ls; paths = ps } } in whole)
+        ap₂ (λ (ls : List (List ℕ)) (ps : List (List Step)). let whole : Collection = record { framing = c.args.framing; most = c.args.most; state = record { lines = ls; paths = ps }; is_metered = false } in whole)
             (subst (λ (b : List ℕ). map (stored_text b) c.in-Ok-read_lines.lines.items ≡ lines c.args.framing b) c.deref-2.ensures.value c.in-Ok-read_lines.ensures.came ∙ ap (lines c.args.framing) came.2.0)
             (ap (map path_of) c.new.ensures.items),
       ),

@@ -38,7 +38,7 @@ returns-in-Err c =
     let low : 1 ≤ c.args.n = omega (arith, c.if-n-eq0.false) in
     let high : c.args.n ≤ length s.lines.items = omega (arith, c.if-n-len.false, c.len.ensures) in
     let is = text_is s.bytes.items s.lines.items (c.args.n - 1) c.index-old.result.now c.deref.result.now c.text_of.result.now c.text_of.ensures c.deref.ensures.value c.index-old.ensures in
-    (subst (λ v. RefusesEdit c.in-Err.fault (replace_fault c.args.n c.args.text.now v)) c.self.view_is (something s.framing s.bytes.items s.tapes.items s.lines.items s.counts s.indexes.items c.self.invariant c.args.n low high c.index-old.result.now c.text_of.result.now is s.most c.args.text.now (map path_of s.indexes.items) c.in-Err.fault c.in-Err.ensures), refl)
+    (subst (λ v. RefusesEdit c.in-Err.fault (replace_fault c.args.n c.args.text.now v)) c.self.view_is (something s.framing s.bytes.items s.tapes.items s.lines.items s.counts s.indexes.items c.self.invariant c.args.n low high c.index-old.result.now c.text_of.result.now is s.most s.is_metered c.args.text.now (map path_of s.indexes.items) c.in-Err.fault c.in-Err.ensures), refl)
 
 pub returns-in_default : goal.returns-in_default
 returns-in_default c =
@@ -46,7 +46,7 @@ returns-in_default c =
     let low : 1 ≤ c.args.n = omega (arith, c.if-n-eq0.false) in
     let high : c.args.n ≤ length s.lines.items = omega (arith, c.if-n-len.false, c.len.ensures) in
     let is = text_is s.bytes.items s.lines.items (c.args.n - 1) c.index-old.result.now c.deref.result.now c.text_of.result.now c.text_of.ensures c.deref.ensures.value c.index-old.ensures in
-    (subst (λ v. replace_fault c.args.n c.args.text.now v ≡ None) c.self.view_is (nothing s.framing s.bytes.items s.tapes.items s.lines.items s.counts s.indexes.items c.self.invariant c.args.n low high c.index-old.result.now c.text_of.result.now is s.most c.args.text.now (map path_of s.indexes.items) c.in-Ok.held c.in-Ok.ensures.0 c.in-Ok.ensures.1 c.in-Ok.ensures.2), refl)
+    (subst (λ v. replace_fault c.args.n c.args.text.now v ≡ None) c.self.view_is (nothing s.framing s.bytes.items s.tapes.items s.lines.items s.counts s.indexes.items c.self.invariant c.args.n low high c.index-old.result.now c.text_of.result.now is s.most s.is_metered c.args.text.now (map path_of s.indexes.items) c.in-Ok.held c.in-Ok.ensures.0 c.in-Ok.ensures.1 c.in-Ok.ensures.2), refl)
 
 pub returns-in_default-reserve : goal.returns-in_default-reserve
 returns-in_default-reserve c =
@@ -54,7 +54,7 @@ returns-in_default-reserve c =
     let low : 1 ≤ c.args.n = omega (arith, c.if-n-eq0.false) in
     let high : c.args.n ≤ length s.lines.items = omega (arith, c.if-n-len.false, c.len.ensures) in
     let is = text_is s.bytes.items s.lines.items (c.args.n - 1) c.index-old.result.now c.deref.result.now c.text_of.result.now c.text_of.ensures c.deref.ensures.value c.index-old.ensures in
-    (subst (λ v. replace_fault c.args.n c.args.text.now v ≡ None) c.self.view_is (nothing s.framing s.bytes.items s.tapes.items s.lines.items s.counts s.indexes.items c.self.invariant c.args.n low high c.index-old.result.now c.text_of.result.now is s.most c.args.text.now (map path_of s.indexes.items) c.in-Ok.held c.in-Ok.ensures.0 c.in-Ok.ensures.1 c.in-Ok.ensures.2), c.self.view_is)
+    (subst (λ v. replace_fault c.args.n c.args.text.now v ≡ None) c.self.view_is (nothing s.framing s.bytes.items s.tapes.items s.lines.items s.counts s.indexes.items c.self.invariant c.args.n low high c.index-old.result.now c.text_of.result.now is s.most s.is_metered c.args.text.now (map path_of s.indexes.items) c.in-Ok.held c.in-Ok.ensures.0 c.in-Ok.ensures.1 c.in-Ok.ensures.2), c.self.view_is)
 
 pub root_of_line-root-requires : goal.root_of_line-root-requires
 root_of_line-root-requires c =
@@ -72,8 +72,8 @@ returns-in_default-edit_indexes c =
     let low : 1 ≤ c.args.n = omega (arith, c.if-n-eq0.false) in
     let high : c.args.n ≤ length s.lines.items = omega (arith, c.if-n-len.false, c.len.ensures) in
     let is = text_is s.bytes.items s.lines.items (c.args.n - 1) c.index-old.result.now c.deref.result.now c.text_of.result.now c.text_of.ensures c.deref.ensures.value c.index-old.ensures in (
-      subst (λ v. replace_fault c.args.n c.args.text.now v ≡ None) c.self.view_is (nothing s.framing s.bytes.items s.tapes.items s.lines.items s.counts s.indexes.items c.self.invariant c.args.n low high c.index-old.result.now c.text_of.result.now is s.most c.args.text.now (map path_of s.indexes.items) c.in-Ok.held c.in-Ok.ensures.0 c.in-Ok.ensures.1 c.in-Ok.ensures.2),
-      ap (shown s.framing s.most (map (stored_text s.bytes.items) s.lines.items)) (same_paths s.indexes.items c.edit_indexes.new.indexes.items c.in_default-edit_indexes.ensures.err) ∙ c.self.view_is,
+      subst (λ v. replace_fault c.args.n c.args.text.now v ≡ None) c.self.view_is (nothing s.framing s.bytes.items s.tapes.items s.lines.items s.counts s.indexes.items c.self.invariant c.args.n low high c.index-old.result.now c.text_of.result.now is s.most s.is_metered c.args.text.now (map path_of s.indexes.items) c.in-Ok.held c.in-Ok.ensures.0 c.in-Ok.ensures.1 c.in-Ok.ensures.2),
+      ap (shown s.framing s.most s.is_metered (map (stored_text s.bytes.items) s.lines.items)) (same_paths s.indexes.items c.edit_indexes.new.indexes.items c.in_default-edit_indexes.ensures.err) ∙ c.self.view_is,
     )
 
 pub change-requires-clause-least : goal.change-requires-clause-least
@@ -124,8 +124,8 @@ returns c =
     let high : c.args.n ≤ length s.lines.items = omega (arith, c.if-n-len.false, c.len.ensures) in
     let is = text_is s.bytes.items s.lines.items (c.args.n - 1) c.index-old.result.now c.deref.result.now c.text_of.result.now c.text_of.ensures c.deref.ensures.value c.index-old.ensures in
     let line = c.in-Ok-read_edited.line in (
-      subst (λ v. replace_fault c.args.n c.args.text.now v ≡ None) c.self.view_is (nothing s.framing s.bytes.items s.tapes.items s.lines.items s.counts s.indexes.items c.self.invariant c.args.n low high c.index-old.result.now c.text_of.result.now is s.most c.args.text.now (map path_of s.indexes.items) c.in-Ok.held c.in-Ok.ensures.0 c.in-Ok.ensures.1 c.in-Ok.ensures.2),
-      ap₂ (shown s.framing s.most) (map-set (stored_text s.bytes.items) s.lines.items (c.args.n - 1) line ∙ ap (set (map (stored_text s.bytes.items) s.lines.items) (c.args.n - 1)) (text_now c))
+      subst (λ v. replace_fault c.args.n c.args.text.now v ≡ None) c.self.view_is (nothing s.framing s.bytes.items s.tapes.items s.lines.items s.counts s.indexes.items c.self.invariant c.args.n low high c.index-old.result.now c.text_of.result.now is s.most s.is_metered c.args.text.now (map path_of s.indexes.items) c.in-Ok.held c.in-Ok.ensures.0 c.in-Ok.ensures.1 c.in-Ok.ensures.2),
+      ap₂ (shown s.framing s.most s.is_metered) (map-set (stored_text s.bytes.items) s.lines.items (c.args.n - 1) line ∙ ap (set (map (stored_text s.bytes.items) s.lines.items) (c.args.n - 1)) (text_now c))
           (edited_paths c.args.n (told_tree (told_of line) (stored_text s.bytes.items line)) s.indexes.items c.edit_indexes.new.indexes.items (edited c))
           ∙ ap (λ v. with_lines (replaced c.args.n c.args.text.now v) v) c.self.view_is,
     )
