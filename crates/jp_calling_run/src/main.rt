@@ -1,8 +1,15 @@
-//! Runs commands over JSON Lines that are held in memory, and prints their answers.
+//! Answers commands over JSON Lines that are held in memory, and prints the answers.
 #![tactic(auto)]
 
+ghost use Rattle.std.specs.Prelude.{◌≡◌, List, Bool, IfOk};
+ghost use Rattle.jp_model.specs.Script.Commands.{command_lines, command_of};
+ghost use Rattle.jp_model.specs.Script.Headline.{output};
+ghost use Rattle.jp_model.specs.Script.Machine.{OnlyForMemory};
+ghost use Rattle.jp_query.specs.Status.{query_of};
+
 use jp_cli::run;
-use jp_model::{Framing, Setup, Watched};
+use jp_model::{Framing, RunFault, Setup, Watched};
+use std::alloc::Global;
 use std::io::{self, Write};
 
 const COLLECTION: &[u8] =
@@ -10,25 +17,38 @@ const COLLECTION: &[u8] =
 
 const SCRIPT: &[u8] = b"query $.title\ncheck\n";
 
+/// What the commands of a script answer over a collection. For each command a flag tells whether a growth was refused in it,
+/// which only some commands may say.
+///
+/// # Errors
+///
+/// The fault of the run.
+fn answers(
+    alloc: Global,
+    setup: Setup,
+    collection: &[u8],
+    script: &[u8],
+) -> Result<Vec<u8>, RunFault>
+    ensures { IfOk result (λ answers. (flags : List Bool) × OnlyForMemory command_of (command_lines script.now) flags
+        × (answers.items ≡ output query_of command_of setup collection.now script.now flags)) }
+{
+    let mut collection = Watched::new(collection);
+    let mut script = Watched::new(script);
+    let mut answers = Watched::new(Vec::new(alloc));
+    match run(alloc, setup, &mut collection, &mut script, &mut answers) {
+        Ok(()) => Ok(answers.into_inner()),
+        Err(fault) => Err(fault),
+    }
+}
+
 fn main(rt: HostRuntime) -> io::Result<()> {
     let setup = Setup {
         framing: Framing::Lines,
         most: 1_000_000,
         script_most: 1_000_000,
     };
-    let mut collection = Watched::new(COLLECTION);
-    let mut script = Watched::new(SCRIPT);
-    let mut answers = Watched::new(Vec::new(rt.alloc()));
-    let ended = run(
-        rt.alloc(),
-        setup,
-        &mut collection,
-        &mut script,
-        &mut answers,
-    );
-    rt.stdout().write_all(answers.into_inner().as_slice())?;
-    match ended {
-        Ok(()) => Ok(()),
+    match answers(rt.alloc(), setup, COLLECTION, SCRIPT) {
+        Ok(answers) => rt.stdout().write_all(answers.as_slice()),
         Err(fault) => {
             println!(rt; "the run stopped: {fault:?}")?;
             Err(io::ErrorKind::Other.into())

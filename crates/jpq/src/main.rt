@@ -1,8 +1,10 @@
 //! jpq: JSONPath (RFC 9535) over JSON Lines, one JSON value per line.
 #![tactic(auto)]
 
+mod input;
 mod refused;
 
+use crate::input::StandardInput;
 use crate::refused::refuse_word;
 use clap::error::ErrorKind;
 use jp_cli::{CollectionSource, End, Options, ScriptSource, read_words, run};
@@ -40,11 +42,14 @@ fn run_files<C: Read + Drop, R: Read + Drop>(
 }
 
 /// Runs the script over the collection. A script that is a file is opened first.
-fn run_script<C: Read + Drop>(rt: &HostRuntime, options: &Options<'_>, collection: C) -> End {
+fn run_script<C: Read + Drop>(
+    rt: &HostRuntime,
+    options: &Options<'_>,
+    collection: C,
+    input: StandardInput,
+) -> End {
     match options.script_source(rt.alloc()) {
-        Ok(ScriptSource::StandardInput) => {
-            run_files(rt, options.framing, collection, rt.stdin())
-        }
+        Ok(ScriptSource::StandardInput) => run_files(rt, options.framing, collection, input),
         Ok(ScriptSource::File(file)) => match fs::open(rt, file) {
             Ok(script) => run_files(rt, options.framing, collection, script),
             Err(_) => End::NoScript,
@@ -56,12 +61,14 @@ fn run_script<C: Read + Drop>(rt: &HostRuntime, options: &Options<'_>, collectio
     }
 }
 
-/// Opens the collection and then the script, and runs it.
+/// Opens the collection and then the script, and runs it. Standard input is looked at before, since a file that is opened
+/// gets its place where it is closed.
 fn run_options(rt: &HostRuntime, options: &Options<'_>) -> End {
+    let input = StandardInput::find(rt, options.reads_standard_input());
     match options.collection_source() {
-        CollectionSource::StandardInput => run_script(rt, options, rt.stdin()),
+        CollectionSource::StandardInput => run_script(rt, options, input, input),
         CollectionSource::File(file) => match fs::open(rt, file) {
-            Ok(collection) => run_script(rt, options, collection),
+            Ok(collection) => run_script(rt, options, collection, input),
             Err(_) => End::NoCollection,
         },
     }
@@ -83,7 +90,8 @@ fn run_words(rt: &HostRuntime, words: &[&str]) -> End {
     }
 }
 
-fn run_program(rt: &HostRuntime) -> End {
+/// Reads the program's words as texts, and does what they ask for.
+fn run_arguments(rt: &HostRuntime) -> End {
     let words = match env::args(rt) {
         Ok(words) => words,
         Err(error) if error.kind() == io::ErrorKind::OutOfMemory => return End::Memory,
@@ -102,7 +110,7 @@ fn run_program(rt: &HostRuntime) -> End {
 }
 
 fn main(rt: HostRuntime) -> ExitCode {
-    let end = run_program(&rt);
+    let end = run_arguments(&rt);
     let message = end.message();
     if !message.is_empty() {
         let _ = eprintln!(rt; "{message}");
