@@ -1,5 +1,5 @@
 -- What is asked of the nodes of a query is what the expression says.
-use Rattle.std.proofs.Common.{◌≡◌, ◌≤◌, ◌+◌, true, false, refl, arith}
+use Rattle.std.proofs.Common.{◌≡◌, true, false, refl}
 use Rattle.jp_model.specs.Json.Tree.{Tree}
 use Rattle.jp_model.specs.Meaning.Nodes.{Node}
 use Rattle.jp_model.specs.Meaning.Selecting.{truth, path_nodes}
@@ -7,15 +7,9 @@ use Rattle.jp_model.specs.Query.Syntax.{Path}
 use Rattle.jp_eval.specs.Questions.{answered, question_view}
 use Rattle.jp_eval.specs.declared.question.Question.{Question}
 use Rattle.jp_eval.specs.declared.question.Question.TheVariants as questions
-use Rattle.jp_eval.proofs.Sizes.{size_of_logical, size_of_path}
 
 pub asks_so : (q : Question) (p : Path) (n : Node) (t : Tree) → truth (question_view q p) n t ≡ answered q (path_nodes p n t)
 asks_so questions.Exists p n t = refl
 asks_so (questions.Compares op constant) p n t = refl
 asks_so (questions.Passes true pattern) p n t = refl
 asks_so (questions.Passes false pattern) p n t = refl
-
-pub size_asked : (q : Question) (p : Path) → size_of_path p + 4 ≤ size_of_logical (question_view q p)
-size_asked questions.Exists p = omega arith
-size_asked (questions.Compares op constant) p = omega arith
-size_asked (questions.Passes whole pattern) p = omega arith

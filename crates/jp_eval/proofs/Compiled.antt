@@ -1,5 +1,5 @@
 -- What the parts of a compiled query mean, and those of the query that they are made of, one level deep.
-use Rattle.std.proofs.Common.{◌≡◌, ◌∙◌, ℕ, ℤ, sym, ap, Vec, Global, Box, Option}
+use Rattle.std.proofs.Common.{◌≡◌, ◌∙◌, ℕ, ℤ, Bool, sym, ap, Vec, Global, Box, Option}
 use Rattle.jp_model.specs.Query.Syntax as syntax
 use Rattle.jp_query.specs.View.{segment_view, selectors_view, selector_view, logicals_view, logical_view, comparable_view, call_view, path_view, op_view, literal_view, argument_step, comparable_step, logical_step, segment_step, selector_step, call_step, path_step}
 use Rattle.jp_query.specs.declared.tree.Call.{Call}
@@ -7,6 +7,7 @@ use Rattle.jp_query.specs.declared.tree.Path.{Path}
 use Rattle.jp_query.specs.declared.tree.CompareOp.{CompareOp}
 use Rattle.jp_query.specs.declared.tree.Comparable.{fold-roll-Comparable}
 use Rattle.jp_query.specs.declared.tree.Comparable.TheVariants as comparables
+use Rattle.jp_query.specs.declared.tree.Literal.{Literal}
 use Rattle.jp_query.specs.declared.tree.Selector.{Selector, fold-roll-Selector}
 use Rattle.jp_query.specs.declared.tree.Selector.TheVariants as selectors
 use Rattle.jp_query.specs.declared.tree.Segment.{fold-roll-Segment}
@@ -14,14 +15,15 @@ use Rattle.jp_query.specs.declared.tree.Segment.TheVariants as segments
 use Rattle.jp_query.specs.declared.tree.Logical.{Logical, fold-roll-Logical}
 use Rattle.jp_query.specs.declared.tree.Logical.TheVariants as logicals
 use Rattle.jp_query.specs.declared.tree.Argument.TheOpen.{Logical-F, Selector-F, Segment-F, Comparable-F}
-use Rattle.jp_eval.specs.Roots.{logical_from_root}
-use Rattle.jp_eval.specs.Programs.{Table, logical_or_none, slot_in, choice_step, condition_step, given_step, nodes_step, side_step, step_step, invoked_step, choice_view, condition_view, given_view, nodes_view, side_view, step_view, invoked_view, steps_view, choices_view, conditions_view, givens_view}
+use Rattle.jp_eval.specs.Calls.{length_call, count_call, value_call}
+use Rattle.jp_eval.specs.Roots.{logical_from_root, side_from_root}
+use Rattle.jp_eval.specs.Programs.{Table, argument_of, here, logical_at, side_at, choice_step, condition_step, test_step, operand_step, spelled_step, sought_step, found_step, step_step, choice_view, condition_view, test_view, operand_view, spelled_view, sought_view, found_view, step_view, steps_view, choices_view, conditions_view}
 use Rattle.jp_eval.specs.declared.leaves.Constant.{Constant}
 use Rattle.jp_eval.specs.declared.leaves.LiteralPattern.{LiteralPattern}
 use Rattle.jp_eval.specs.declared.question.Key.{Key}
 use Rattle.jp_eval.specs.declared.question.Question.{Question}
-use Rattle.jp_eval.specs.Keys.{key_view}
-use Rattle.jp_eval.specs.Questions.{question_view}
+use Rattle.jp_eval.specs.Keys.{key_view, key_segment, keys_view}
+use Rattle.jp_eval.specs.Questions.{passing_name, question_view}
 use Rattle.jp_model.specs.Query.Singular.{step_selector}
 use Rattle.jp_eval.specs.declared.program.Step.{Step, fold-roll-Step}
 use Rattle.jp_eval.specs.declared.program.Step.TheVariants as steps
@@ -29,15 +31,17 @@ use Rattle.jp_eval.specs.declared.program.Choice.{Choice, fold-roll-Choice}
 use Rattle.jp_eval.specs.declared.program.Choice.TheVariants as choices
 use Rattle.jp_eval.specs.declared.program.Condition.{Condition, fold-roll-Condition}
 use Rattle.jp_eval.specs.declared.program.Condition.TheVariants as conditions
-use Rattle.jp_eval.specs.declared.program.Side.{Side, fold-roll-Side}
-use Rattle.jp_eval.specs.declared.program.Side.TheVariants as sides
-use Rattle.jp_eval.specs.declared.program.Given.{fold-roll-Given}
-use Rattle.jp_eval.specs.declared.program.Given.TheVariants as givens
-use Rattle.jp_eval.specs.declared.program.Nodes.{Nodes, fold-roll-Nodes}
-use Rattle.jp_eval.specs.declared.program.Nodes.TheVariants as paths
-use Rattle.jp_eval.specs.declared.program.Invoked.{Invoked, fold_out-Invoked}
-use Rattle.jp_eval.specs.declared.program.Choice.TheOpen.{Choice-F, Condition-F, Given-F, Nodes-F, Side-F, Step-F}
-use Rattle.std.specs.Prelude.{chars, string_bytes, slice_get}
+use Rattle.jp_eval.specs.declared.program.Test.{Test, fold-roll-Test}
+use Rattle.jp_eval.specs.declared.program.Test.TheVariants as tests
+use Rattle.jp_eval.specs.declared.program.Operand.{Operand, fold-roll-Operand}
+use Rattle.jp_eval.specs.declared.program.Operand.TheVariants as operands
+use Rattle.jp_eval.specs.declared.program.Spelled.{Spelled, fold-roll-Spelled}
+use Rattle.jp_eval.specs.declared.program.Spelled.TheVariants as spellings
+use Rattle.jp_eval.specs.declared.program.Sought.{Sought, fold-roll-Sought}
+use Rattle.jp_eval.specs.declared.program.Sought.TheVariants as things
+use Rattle.jp_eval.specs.declared.program.Found.{Found, fold-roll-Found}
+use Rattle.jp_eval.specs.declared.program.Found.TheVariants as finds
+use Rattle.jp_eval.specs.declared.program.Choice.TheOpen.{Choice-F, Condition-F, Found-F, Operand-F, Sought-F, Spelled-F, Step-F, Test-F}
 
 pub child_seen : (x : Vec Selector Global) → segment_view (segments.Child x) ≡ syntax.child_segment (selectors_view x.items)
 child_seen x = ap segment_view (sym (segments.rolls-Child x)) ∙ fold-roll-Segment syntax.Argument syntax.Comparable syntax.Logical syntax.Segment syntax.Selector syntax.Call syntax.Path argument_step comparable_step logical_step segment_step selector_step call_step path_step (Segment-F.Child x)
@@ -63,77 +67,89 @@ exists_seen x = ap logical_view (sym (logicals.rolls-Exists x)) ∙ fold-roll-Lo
 pub test_seen : (x : Call) → logical_view (logicals.Test x) ≡ syntax.test (call_view x)
 test_seen x = ap logical_view (sym (logicals.rolls-Test x)) ∙ fold-roll-Logical syntax.Argument syntax.Comparable syntax.Logical syntax.Segment syntax.Selector syntax.Call syntax.Path argument_step comparable_step logical_step segment_step selector_step call_step path_step (Logical-F.Test x)
 
+pub constant_seen : (x : Literal) → comparable_view (comparables.Constant x) ≡ syntax.constant (literal_view x)
+constant_seen x = ap comparable_view (sym (comparables.rolls-Constant x)) ∙ fold-roll-Comparable syntax.Argument syntax.Comparable syntax.Logical syntax.Segment syntax.Selector syntax.Call syntax.Path argument_step comparable_step logical_step segment_step selector_step call_step path_step (Comparable-F.Comparable::Constant x)
+
 pub single_seen : (x : Path) → comparable_view (comparables.Single x) ≡ syntax.single (path_view x)
 single_seen x = ap comparable_view (sym (comparables.rolls-Single x)) ∙ fold-roll-Comparable syntax.Argument syntax.Comparable syntax.Logical syntax.Segment syntax.Selector syntax.Call syntax.Path argument_step comparable_step logical_step segment_step selector_step call_step path_step (Comparable-F.Single x)
 
 pub result_seen : (x : Call) → comparable_view (comparables.Result x) ≡ syntax.result (call_view x)
 result_seen x = ap comparable_view (sym (comparables.rolls-Result x)) ∙ fold-roll-Comparable syntax.Argument syntax.Comparable syntax.Logical syntax.Segment syntax.Selector syntax.Call syntax.Path argument_step comparable_step logical_step segment_step selector_step call_step path_step (Comparable-F.Comparable::Result x)
 
+pub one_is : (table : Table) (x : Key) → step_view table (steps.One x) ≡ key_segment x
+one_is table x = ap (step_view table) (sym (steps.rolls-One x)) ∙ fold-roll-Step syntax.Selector syntax.Logical syntax.Comparable syntax.Comparable syntax.Comparable syntax.Argument syntax.Segment syntax.Logical choice_step (condition_step table) found_step operand_step (sought_step table) spelled_step step_step test_step (Step-F.Step::One x)
+
 pub child_is : (table : Table) (x : Vec Choice Global) → step_view table (steps.Child x) ≡ syntax.child_segment (choices_view table x.items)
-child_is table x = ap (step_view table) (sym (steps.rolls-Child x)) ∙ fold-roll-Step syntax.Selector syntax.Logical syntax.Argument syntax.Path syntax.Comparable syntax.Segment syntax.Call choice_step (condition_step table) given_step (nodes_step table) side_step step_step invoked_step (Step-F.Child x)
+child_is table x = ap (step_view table) (sym (steps.rolls-Child x)) ∙ fold-roll-Step syntax.Selector syntax.Logical syntax.Comparable syntax.Comparable syntax.Comparable syntax.Argument syntax.Segment syntax.Logical choice_step (condition_step table) found_step operand_step (sought_step table) spelled_step step_step test_step (Step-F.Child x)
 
 pub descendant_is : (table : Table) (x : Vec Choice Global) → step_view table (steps.Descendant x) ≡ syntax.descendant_segment (choices_view table x.items)
-descendant_is table x = ap (step_view table) (sym (steps.rolls-Descendant x)) ∙ fold-roll-Step syntax.Selector syntax.Logical syntax.Argument syntax.Path syntax.Comparable syntax.Segment syntax.Call choice_step (condition_step table) given_step (nodes_step table) side_step step_step invoked_step (Step-F.Descendant x)
-
-pub filter_is : (table : Table) (x : Condition) → choice_view table (choices.Filter x) ≡ syntax.filter_selector (condition_view table x)
-filter_is table x = ap (choice_view table) (sym (choices.rolls-Filter x)) ∙ fold-roll-Choice syntax.Selector syntax.Logical syntax.Argument syntax.Path syntax.Comparable syntax.Segment syntax.Call choice_step (condition_step table) given_step (nodes_step table) side_step step_step invoked_step (Choice-F.Filter x)
-
-pub or_is : (table : Table) (x : Vec Condition Global) → condition_view table (conditions.Or x) ≡ syntax.or_all (conditions_view table x.items)
-or_is table x = ap (condition_view table) (sym (conditions.rolls-Or x)) ∙ fold-roll-Condition syntax.Selector syntax.Logical syntax.Argument syntax.Path syntax.Comparable syntax.Segment syntax.Call choice_step (condition_step table) given_step (nodes_step table) side_step step_step invoked_step (Condition-F.Or x)
-
-pub and_is : (table : Table) (x : Vec Condition Global) → condition_view table (conditions.And x) ≡ syntax.and_all (conditions_view table x.items)
-and_is table x = ap (condition_view table) (sym (conditions.rolls-And x)) ∙ fold-roll-Condition syntax.Selector syntax.Logical syntax.Argument syntax.Path syntax.Comparable syntax.Segment syntax.Call choice_step (condition_step table) given_step (nodes_step table) side_step step_step invoked_step (Condition-F.And x)
-
-pub not_is : (table : Table) (x : Box Condition Global) → condition_view table (conditions.Not x) ≡ syntax.negated (condition_view table x.value)
-not_is table x = ap (condition_view table) (sym (conditions.rolls-Not x)) ∙ fold-roll-Condition syntax.Selector syntax.Logical syntax.Argument syntax.Path syntax.Comparable syntax.Segment syntax.Call choice_step (condition_step table) given_step (nodes_step table) side_step step_step invoked_step (Condition-F.Not x)
-
-pub compare_is : (table : Table) (a : Side) (op : CompareOp) (b : Side) → condition_view table (conditions.Compare a op b) ≡ syntax.compare (side_view table a) (op_view op) (side_view table b)
-compare_is table a op b = ap (condition_view table) (sym (conditions.rolls-Compare a op b)) ∙ fold-roll-Condition syntax.Selector syntax.Logical syntax.Argument syntax.Path syntax.Comparable syntax.Segment syntax.Call choice_step (condition_step table) given_step (nodes_step table) side_step step_step invoked_step (Condition-F.Compare a op b)
-
-pub test_is : (table : Table) (x : Invoked) → condition_view table (conditions.Test x) ≡ syntax.test (invoked_view table x)
-test_is table x = ap (condition_view table) (sym (conditions.rolls-Test x)) ∙ fold-roll-Condition syntax.Selector syntax.Logical syntax.Argument syntax.Path syntax.Comparable syntax.Segment syntax.Call choice_step (condition_step table) given_step (nodes_step table) side_step step_step invoked_step (Condition-F.Test x)
-
-pub constant_is : (table : Table) (x : Constant) → side_view table (sides.Constant x) ≡ syntax.constant (literal_view x.literal)
-constant_is table x = ap (side_view table) (sym (sides.rolls-Constant x)) ∙ fold-roll-Side syntax.Selector syntax.Logical syntax.Argument syntax.Path syntax.Comparable syntax.Segment syntax.Call choice_step (condition_step table) given_step (nodes_step table) side_step step_step invoked_step (Side-F.Side::Constant x)
-
-pub single_is : (table : Table) (x : Nodes) → side_view table (sides.Single x) ≡ syntax.single (nodes_view table x)
-single_is table x = ap (side_view table) (sym (sides.rolls-Single x)) ∙ fold-roll-Side syntax.Selector syntax.Logical syntax.Argument syntax.Path syntax.Comparable syntax.Segment syntax.Call choice_step (condition_step table) given_step (nodes_step table) side_step step_step invoked_step (Side-F.Single x)
-
-pub result_is : (table : Table) (x : Invoked) → side_view table (sides.Result x) ≡ syntax.result (invoked_view table x)
-result_is table x = ap (side_view table) (sym (sides.rolls-Result x)) ∙ fold-roll-Side syntax.Selector syntax.Logical syntax.Argument syntax.Path syntax.Comparable syntax.Segment syntax.Call choice_step (condition_step table) given_step (nodes_step table) side_step step_step invoked_step (Side-F.Side::Result x)
-
-pub nodes_given : (table : Table) (x : Nodes) → given_view table (givens.Nodes x) ≡ syntax.nodes_argument (nodes_view table x)
-nodes_given table x = ap (given_view table) (sym (givens.rolls-Nodes x)) ∙ fold-roll-Given syntax.Selector syntax.Logical syntax.Argument syntax.Path syntax.Comparable syntax.Segment syntax.Call choice_step (condition_step table) given_step (nodes_step table) side_step step_step invoked_step (Given-F.Nodes x)
-
-pub condition_given : (table : Table) (x : Condition) → given_view table (givens.Condition x) ≡ syntax.condition (condition_view table x)
-condition_given table x = ap (given_view table) (sym (givens.rolls-Condition x)) ∙ fold-roll-Given syntax.Selector syntax.Logical syntax.Argument syntax.Path syntax.Comparable syntax.Segment syntax.Call choice_step (condition_step table) given_step (nodes_step table) side_step step_step invoked_step (Given-F.Condition x)
-
-pub result_given : (table : Table) (x : Invoked) → given_view table (givens.Result x) ≡ syntax.result_argument (invoked_view table x)
-result_given table x = ap (given_view table) (sym (givens.rolls-Result x)) ∙ fold-roll-Given syntax.Selector syntax.Logical syntax.Argument syntax.Path syntax.Comparable syntax.Segment syntax.Call choice_step (condition_step table) given_step (nodes_step table) side_step step_step invoked_step (Given-F.Given::Result x)
-
-pub slot_is : (table : Table) (x : ℕ) → nodes_view table (paths.Slot x) ≡ slot_in table x
-slot_is table x = ap (nodes_view table) (sym (paths.rolls-Slot x)) ∙ fold-roll-Nodes syntax.Selector syntax.Logical syntax.Argument syntax.Path syntax.Comparable syntax.Segment syntax.Call choice_step (condition_step table) given_step (nodes_step table) side_step step_step invoked_step (Nodes-F.Slot x)
-
-pub current_is : (table : Table) (x : Vec Step Global) → nodes_view table (paths.Current x) ≡ syntax.path syntax.current (steps_view table x.items)
-current_is table x = ap (nodes_view table) (sym (paths.rolls-Current x)) ∙ fold-roll-Nodes syntax.Selector syntax.Logical syntax.Argument syntax.Path syntax.Comparable syntax.Segment syntax.Call choice_step (condition_step table) given_step (nodes_step table) side_step step_step invoked_step (Nodes-F.Current x)
-
-pub invoked_is : (table : Table) (x : Invoked) → invoked_view table x ≡ syntax.call (chars (string_bytes x.named.name)) (givens_view table x.arguments.items)
-invoked_is table x = fold_out-Invoked syntax.Selector syntax.Logical syntax.Argument syntax.Path syntax.Comparable syntax.Segment syntax.Call choice_step (condition_step table) given_step (nodes_step table) side_step step_step invoked_step x
-
-pub slice_is : (table : Table) (first last step : Option ℤ) → choice_view table (choices.Slice first last step) ≡ syntax.slice_selector first last step
-slice_is table first last step = ap (choice_view table) (sym (choices.rolls-Slice first last step)) ∙ fold-roll-Choice syntax.Selector syntax.Logical syntax.Argument syntax.Path syntax.Comparable syntax.Segment syntax.Call choice_step (condition_step table) given_step (nodes_step table) side_step step_step invoked_step (Choice-F.Slice first last step)
-
-pub pattern_given : (table : Table) (x : LiteralPattern) → given_view table (givens.Pattern x) ≡ syntax.constant_argument (literal_view x.constant.literal)
-pattern_given table x = ap (given_view table) (sym (givens.rolls-Pattern x)) ∙ fold-roll-Given syntax.Selector syntax.Logical syntax.Argument syntax.Path syntax.Comparable syntax.Segment syntax.Call choice_step (condition_step table) given_step (nodes_step table) side_step step_step invoked_step (Given-F.Pattern x)
-
-pub asks_is : (table : Table) (x : Nodes) (q : Question) → condition_view table (conditions.Asks x q) ≡ question_view q (nodes_view table x)
-asks_is table x q = ap (condition_view table) (sym (conditions.rolls-Asks x q)) ∙ fold-roll-Condition syntax.Selector syntax.Logical syntax.Argument syntax.Path syntax.Comparable syntax.Segment syntax.Call choice_step (condition_step table) given_step (nodes_step table) side_step step_step invoked_step (Condition-F.Asks x q)
-
-pub once_is : (table : Table) (position : ℕ) → condition_view table (conditions.Once position) ≡ logical_from_root (logical_or_none (slice_get table position))
-once_is table position = ap (condition_view table) (sym (conditions.rolls-Once position)) ∙ fold-roll-Condition syntax.Selector syntax.Logical syntax.Argument syntax.Path syntax.Comparable syntax.Segment syntax.Call choice_step (condition_step table) given_step (nodes_step table) side_step step_step invoked_step (Condition-F.Once position)
+descendant_is table x = ap (step_view table) (sym (steps.rolls-Descendant x)) ∙ fold-roll-Step syntax.Selector syntax.Logical syntax.Comparable syntax.Comparable syntax.Comparable syntax.Argument syntax.Segment syntax.Logical choice_step (condition_step table) found_step operand_step (sought_step table) spelled_step step_step test_step (Step-F.Descendant x)
 
 pub chosen_is : (table : Table) (x : Key) → choice_view table (choices.One x) ≡ step_selector (key_view x)
-chosen_is table x = ap (choice_view table) (sym (choices.rolls-One x)) ∙ fold-roll-Choice syntax.Selector syntax.Logical syntax.Argument syntax.Path syntax.Comparable syntax.Segment syntax.Call choice_step (condition_step table) given_step (nodes_step table) side_step step_step invoked_step (Choice-F.Choice::One x)
+chosen_is table x = ap (choice_view table) (sym (choices.rolls-One x)) ∙ fold-roll-Choice syntax.Selector syntax.Logical syntax.Comparable syntax.Comparable syntax.Comparable syntax.Argument syntax.Segment syntax.Logical choice_step (condition_step table) found_step operand_step (sought_step table) spelled_step step_step test_step (Choice-F.Choice::One x)
 
-pub one_is : (table : Table) (x : Key) → step_view table (steps.One x) ≡ syntax.child_segment (syntax.selector (step_selector (key_view x)) syntax.no_selectors)
-one_is table x = ap (step_view table) (sym (steps.rolls-One x)) ∙ fold-roll-Step syntax.Selector syntax.Logical syntax.Argument syntax.Path syntax.Comparable syntax.Segment syntax.Call choice_step (condition_step table) given_step (nodes_step table) side_step step_step invoked_step (Step-F.Step::One x)
+pub slice_is : (table : Table) (first last step : Option ℤ) → choice_view table (choices.Slice first last step) ≡ syntax.slice_selector first last step
+slice_is table first last step = ap (choice_view table) (sym (choices.rolls-Slice first last step)) ∙ fold-roll-Choice syntax.Selector syntax.Logical syntax.Comparable syntax.Comparable syntax.Comparable syntax.Argument syntax.Segment syntax.Logical choice_step (condition_step table) found_step operand_step (sought_step table) spelled_step step_step test_step (Choice-F.Slice first last step)
+
+pub filter_is : (table : Table) (x : Condition) → choice_view table (choices.Filter x) ≡ syntax.filter_selector (condition_view table x)
+filter_is table x = ap (choice_view table) (sym (choices.rolls-Filter x)) ∙ fold-roll-Choice syntax.Selector syntax.Logical syntax.Comparable syntax.Comparable syntax.Comparable syntax.Argument syntax.Segment syntax.Logical choice_step (condition_step table) found_step operand_step (sought_step table) spelled_step step_step test_step (Choice-F.Filter x)
+
+pub tests_is : (table : Table) (x : Test) → condition_view table (conditions.Test x) ≡ test_view table x
+tests_is table x = ap (condition_view table) (sym (conditions.rolls-Test x)) ∙ fold-roll-Condition syntax.Selector syntax.Logical syntax.Comparable syntax.Comparable syntax.Comparable syntax.Argument syntax.Segment syntax.Logical choice_step (condition_step table) found_step operand_step (sought_step table) spelled_step step_step test_step (Condition-F.Test x)
+
+pub once_is : (table : Table) (position : ℕ) → condition_view table (conditions.Once position) ≡ logical_from_root (logical_at table position)
+once_is table position = ap (condition_view table) (sym (conditions.rolls-Once position)) ∙ fold-roll-Condition syntax.Selector syntax.Logical syntax.Comparable syntax.Comparable syntax.Comparable syntax.Argument syntax.Segment syntax.Logical choice_step (condition_step table) found_step operand_step (sought_step table) spelled_step step_step test_step (Condition-F.Condition::Once position)
+
+pub single_is : (table : Table) (keys : Vec Key Global) (q : Question) → test_view table (tests.Single keys q) ≡ question_view q (here (keys_view keys.items))
+single_is table keys q = ap (test_view table) (sym (tests.rolls-Single keys q)) ∙ fold-roll-Test syntax.Selector syntax.Logical syntax.Comparable syntax.Comparable syntax.Comparable syntax.Argument syntax.Segment syntax.Logical choice_step (condition_step table) found_step operand_step (sought_step table) spelled_step step_step test_step (Test-F.Test::Single keys q)
+
+pub or_is : (table : Table) (x : Vec Condition Global) → test_view table (tests.Or x) ≡ syntax.or_all (conditions_view table x.items)
+or_is table x = ap (test_view table) (sym (tests.rolls-Or x)) ∙ fold-roll-Test syntax.Selector syntax.Logical syntax.Comparable syntax.Comparable syntax.Comparable syntax.Argument syntax.Segment syntax.Logical choice_step (condition_step table) found_step operand_step (sought_step table) spelled_step step_step test_step (Test-F.Or x)
+
+pub and_is : (table : Table) (x : Vec Condition Global) → test_view table (tests.And x) ≡ syntax.and_all (conditions_view table x.items)
+and_is table x = ap (test_view table) (sym (tests.rolls-And x)) ∙ fold-roll-Test syntax.Selector syntax.Logical syntax.Comparable syntax.Comparable syntax.Comparable syntax.Argument syntax.Segment syntax.Logical choice_step (condition_step table) found_step operand_step (sought_step table) spelled_step step_step test_step (Test-F.And x)
+
+pub not_is : (table : Table) (x : Box Condition Global) → test_view table (tests.Not x) ≡ syntax.negated (condition_view table x.value)
+not_is table x = ap (test_view table) (sym (tests.rolls-Not x)) ∙ fold-roll-Test syntax.Selector syntax.Logical syntax.Comparable syntax.Comparable syntax.Comparable syntax.Argument syntax.Segment syntax.Logical choice_step (condition_step table) found_step operand_step (sought_step table) spelled_step step_step test_step (Test-F.Not x)
+
+pub exists_is : (table : Table) (x : Vec Step Global) → test_view table (tests.Exists x) ≡ syntax.exists (here (steps_view table x.items))
+exists_is table x = ap (test_view table) (sym (tests.rolls-Exists x)) ∙ fold-roll-Test syntax.Selector syntax.Logical syntax.Comparable syntax.Comparable syntax.Comparable syntax.Argument syntax.Segment syntax.Logical choice_step (condition_step table) found_step operand_step (sought_step table) spelled_step step_step test_step (Test-F.Exists x)
+
+pub compare_is : (table : Table) (a : Operand) (op : CompareOp) (b : Operand) → test_view table (tests.Compare a op b) ≡ syntax.compare (operand_view table a) (op_view op) (operand_view table b)
+compare_is table a op b = ap (test_view table) (sym (tests.rolls-Compare a op b)) ∙ fold-roll-Test syntax.Selector syntax.Logical syntax.Comparable syntax.Comparable syntax.Comparable syntax.Argument syntax.Segment syntax.Logical choice_step (condition_step table) found_step operand_step (sought_step table) spelled_step step_step test_step (Test-F.Compare a op b)
+
+pub passes_is : (table : Table) (whole : Bool) (text : Operand) (pattern : Spelled) → test_view table (tests.Passes whole text pattern) ≡ syntax.test (syntax.call (passing_name whole) (syntax.argument (argument_of (operand_view table text)) (syntax.argument (spelled_view table pattern) syntax.no_arguments)))
+passes_is table whole text pattern = ap (test_view table) (sym (tests.rolls-Passes whole text pattern)) ∙ fold-roll-Test syntax.Selector syntax.Logical syntax.Comparable syntax.Comparable syntax.Comparable syntax.Argument syntax.Segment syntax.Logical choice_step (condition_step table) found_step operand_step (sought_step table) spelled_step step_step test_step (Test-F.Passes whole text pattern)
+
+pub constant_is : (table : Table) (x : Constant) → operand_view table (operands.Constant x) ≡ syntax.constant (literal_view x.literal)
+constant_is table x = ap (operand_view table) (sym (operands.rolls-Constant x)) ∙ fold-roll-Operand syntax.Selector syntax.Logical syntax.Comparable syntax.Comparable syntax.Comparable syntax.Argument syntax.Segment syntax.Logical choice_step (condition_step table) found_step operand_step (sought_step table) spelled_step step_step test_step (Operand-F.Constant x)
+
+pub operand_is : (table : Table) (x : Sought) → operand_view table (operands.Sought x) ≡ sought_view table x
+operand_is table x = ap (operand_view table) (sym (operands.rolls-Sought x)) ∙ fold-roll-Operand syntax.Selector syntax.Logical syntax.Comparable syntax.Comparable syntax.Comparable syntax.Argument syntax.Segment syntax.Logical choice_step (condition_step table) found_step operand_step (sought_step table) spelled_step step_step test_step (Operand-F.Operand::Sought x)
+
+pub literal_is : (table : Table) (x : LiteralPattern) → spelled_view table (spellings.Literal x) ≡ syntax.constant_argument (literal_view x.constant.literal)
+literal_is table x = ap (spelled_view table) (sym (spellings.rolls-Literal x)) ∙ fold-roll-Spelled syntax.Selector syntax.Logical syntax.Comparable syntax.Comparable syntax.Comparable syntax.Argument syntax.Segment syntax.Logical choice_step (condition_step table) found_step operand_step (sought_step table) spelled_step step_step test_step (Spelled-F.Literal x)
+
+pub spelled_is : (table : Table) (x : Sought) → spelled_view table (spellings.Sought x) ≡ argument_of (sought_view table x)
+spelled_is table x = ap (spelled_view table) (sym (spellings.rolls-Sought x)) ∙ fold-roll-Spelled syntax.Selector syntax.Logical syntax.Comparable syntax.Comparable syntax.Comparable syntax.Argument syntax.Segment syntax.Logical choice_step (condition_step table) found_step operand_step (sought_step table) spelled_step step_step test_step (Spelled-F.Spelled::Sought x)
+
+pub found_is : (table : Table) (x : Found) → sought_view table (things.Found x) ≡ found_view table x
+found_is table x = ap (sought_view table) (sym (things.rolls-Found x)) ∙ fold-roll-Sought syntax.Selector syntax.Logical syntax.Comparable syntax.Comparable syntax.Comparable syntax.Argument syntax.Segment syntax.Logical choice_step (condition_step table) found_step operand_step (sought_step table) spelled_step step_step test_step (Sought-F.Found x)
+
+pub sought_once : (table : Table) (position : ℕ) → sought_view table (things.Once position) ≡ side_from_root (side_at table position)
+sought_once table position = ap (sought_view table) (sym (things.rolls-Once position)) ∙ fold-roll-Sought syntax.Selector syntax.Logical syntax.Comparable syntax.Comparable syntax.Comparable syntax.Argument syntax.Segment syntax.Logical choice_step (condition_step table) found_step operand_step (sought_step table) spelled_step step_step test_step (Sought-F.Sought::Once position)
+
+pub keys_found : (table : Table) (keys : Vec Key Global) → found_view table (finds.Single keys) ≡ syntax.single (here (keys_view keys.items))
+keys_found table keys = ap (found_view table) (sym (finds.rolls-Single keys)) ∙ fold-roll-Found syntax.Selector syntax.Logical syntax.Comparable syntax.Comparable syntax.Comparable syntax.Argument syntax.Segment syntax.Logical choice_step (condition_step table) found_step operand_step (sought_step table) spelled_step step_step test_step (Found-F.Found::Single keys)
+
+pub only_found : (table : Table) (x : Vec Step Global) → found_view table (finds.Only x) ≡ syntax.single (here (steps_view table x.items))
+only_found table x = ap (found_view table) (sym (finds.rolls-Only x)) ∙ fold-roll-Found syntax.Selector syntax.Logical syntax.Comparable syntax.Comparable syntax.Comparable syntax.Argument syntax.Segment syntax.Logical choice_step (condition_step table) found_step operand_step (sought_step table) spelled_step step_step test_step (Found-F.Only x)
+
+pub length_found : (table : Table) (x : Box Operand Global) → found_view table (finds.Length x) ≡ syntax.result (length_call (argument_of (operand_view table x.value)))
+length_found table x = ap (found_view table) (sym (finds.rolls-Length x)) ∙ fold-roll-Found syntax.Selector syntax.Logical syntax.Comparable syntax.Comparable syntax.Comparable syntax.Argument syntax.Segment syntax.Logical choice_step (condition_step table) found_step operand_step (sought_step table) spelled_step step_step test_step (Found-F.Length x)
+
+pub count_found : (table : Table) (x : Vec Step Global) → found_view table (finds.Count x) ≡ syntax.result (count_call (here (steps_view table x.items)))
+count_found table x = ap (found_view table) (sym (finds.rolls-Count x)) ∙ fold-roll-Found syntax.Selector syntax.Logical syntax.Comparable syntax.Comparable syntax.Comparable syntax.Argument syntax.Segment syntax.Logical choice_step (condition_step table) found_step operand_step (sought_step table) spelled_step step_step test_step (Found-F.Count x)
+
+pub value_found : (table : Table) (x : Vec Step Global) → found_view table (finds.Value x) ≡ syntax.result (value_call (here (steps_view table x.items)))
+value_found table x = ap (found_view table) (sym (finds.rolls-Value x)) ∙ fold-roll-Found syntax.Selector syntax.Logical syntax.Comparable syntax.Comparable syntax.Comparable syntax.Argument syntax.Segment syntax.Logical choice_step (condition_step table) found_step operand_step (sought_step table) spelled_step step_step test_step (Found-F.Value x)

@@ -1,45 +1,99 @@
 -- How many nodes were added, and which was the only one.
-use Rattle.std.proofs.Common.{◌≡◌, ℕ, ◌+◌, ◌<◌, List, [], ◌∷◌, ◌++◌, length, map, take, drop, get_or, sym, ◌∙◌, ap, refl, arith, Some, None, length-append}
-use Rattle.std.proofs.lemmas.List.{length-map, map-append, drop_at}
+use Rattle.std.proofs.Common.{◌≡◌, ℕ, ◌+◌, ◌<◌, List, [], ◌∷◌, ◌++◌, length, map, take, drop, get_or, Bool, true, false, not, ltb, ◌==◌, sym, ◌∙◌, ap, subst, refl, arith, Some, None, length-append, append-nil}
+use Rattle.std.proofs.lemmas.Bool.{eqb-true, lt-ltb, le-ltb}
+use Rattle.std.proofs.lemmas.List.{length-map, map-append, drop_at, take_all}
 use Rattle.jp_model.specs.Json.Tree.{value_of}
 use Rattle.jp_model.specs.Meaning.Nodes.{Node}
 use Rattle.jp_model.specs.Meaning.Functions.{single_value}
 use Rattle.jp_tape.specs.declared.cursor.Cursor.{Cursor}
 use Rattle.jp_tape.specs.Cursors.{node_of}
 use Rattle.jp_eval.specs.Found.{Adds}
+use Rattle.jp_eval.specs.Tallies.{Tally, is_counted, tallied, tally}
+use Rattle.jp_eval.specs.declared.frame.Frame.{Frame}
 use Rattle.jp_eval.proofs.Lists.{not_cut, take-behind}
 
-pub all_added : (most : ℕ) (old new : List Cursor) (found : List Node) → map node_of new ≡ take most (map node_of old ++ found) → length new < most → map node_of new ≡ map node_of old ++ found
-all_added most old new found e h =
-    let l = length-map new node_of in
-    let k = ap length e in
-    e ∙ not_cut most (map node_of old ++ found) (omega (arith, l, k, h))
+differs : (a b : ℕ) → (a ≡ b → ⊥) → (a == b) ≡ false
+differs a b n = by (a == b) refl
+  where
+    by : (q : Bool) → (a == b) ≡ q → q ≡ false
+    by false e = refl
+    by true e = absurd (n (eqb-true a b e))
 
-pub counted_so : (most : ℕ) (old new : List Cursor) (found : List Node) → map node_of new ≡ take most (map node_of old ++ found) → length new < most → length new ≡ length old + length found
-counted_so most old new found e h =
+-- fewer are looked for than are counted
+pub not_counted : (most : ℕ) (old new : Frame) (found : List Node) → most < 18446744073709551615 → tally most new [] ≡ tally most old found → tallied false most new.found.items new.count [] ≡ tallied false most old.found.items old.count found
+not_counted most old new found h e =
+    let no : is_counted most ≡ false = differs most 18446744073709551615 (λ f. by f h) in
+    subst (λ (b : Bool). tallied b most new.found.items new.count [] ≡ tallied b most old.found.items old.count found) no e
+  where
+    by : most ≡ 18446744073709551615 → most < 18446744073709551615 → ⊥
+    by f h = omega (arith, f, h)
+
+-- where all are kept, each was added
+pub all_added : (most : ℕ) (old new : List Cursor) (k n : ℕ) (found : List Node) → tallied false most new n [] ≡ tallied false most old k found → length new < most → map node_of new ≡ map node_of old ++ found
+all_added most old new k n found e h =
+    let l = length-map new node_of in
+    let whole : take most (map node_of new ++ []) ≡ map node_of new = ap (take most) (append-nil (map node_of new)) ∙ take_all most (map node_of new) (omega (arith, l, h)) in
+    let all : map node_of new ≡ take most (map node_of old ++ found) = sym whole ∙ ap (λ (t : Tally). t.nodes) e in
+    let size = ap length all in
+    all ∙ not_cut most (map node_of old ++ found) (omega (arith, size, l, h))
+
+-- where each is counted none is kept
+pub none_kept : (most : ℕ) (line : List ℕ) (old new : List Cursor) (k n : ℕ) (found : List Node) → Adds line old new → tallied true most new n [] ≡ tallied true most old k found → new ≡ old
+none_kept most line old new k n found a e =
+    let same : map node_of new ≡ map node_of old = ap (λ (t : Tally). t.nodes) e in
+    let size = ap length same in
     let l = length-map new node_of in
     let m = length-map old node_of in
-    let k = ap length (all_added most old new found e h) in
-    let a = length-append (map node_of old) found in
-    omega (arith, l, m, k, a)
+    let is = ap length a.is in
+    let sum = length-append old a.others in
+    a.is ∙ (ap (λ (xs : List Cursor). old ++ xs) (none a.others (omega (arith, size, l, m, is, sum))) ∙ append-nil old)
+  where
+    none : (xs : List Cursor) → length xs ≡ 0 → xs ≡ []
+    none [] h = refl
+    none (x ∷ xs) h = absurd (omega (arith, h))
 
--- the nodes that were added behind the old ones, two at most
-others_are_two : (line : List ℕ) (old new : List Cursor) (before : ℕ) (found : List Node) (a : Adds line old new) → length old ≡ before → map node_of new ≡ take (before + 2) (map node_of old ++ found) → map node_of a.others ≡ take 2 found
-others_are_two line old new before found a l e =
+pub counted_so : (most : ℕ) (old new : List Cursor) (k n : ℕ) (found : List Node) → tallied true most new n [] ≡ tallied true most old k found → n ≡ k + length found
+counted_so most old new k n found e =
+    let c : n + 0 ≡ k + length found = ap (λ (t : Tally). t.count) e in
+    omega (arith, c)
+
+-- the nodes that were added behind the old ones, so many at most
+others_are : (more : ℕ) (line : List ℕ) (old new : List Cursor) (k n before : ℕ) (found : List Node) (a : Adds line old new) → length old ≡ before → tallied false (before + more) new n [] ≡ tallied false (before + more) old k found
+    → take more (map node_of a.others) ≡ take more found
+others_are more line old new k n before found a l e =
     let m : length (map node_of old) ≡ before = length-map old node_of ∙ l in
-    let cut : take (before + 2) (map node_of old ++ found) ≡ map node_of old ++ take 2 found = ap (λ n. take (n + 2) (map node_of old ++ found)) (sym m) ∙ take-behind 2 (map node_of old) found in
-    let both : map node_of old ++ map node_of a.others ≡ map node_of old ++ take 2 found = sym (map-append node_of old a.others) ∙ (ap (map node_of) (sym a.is) ∙ (e ∙ cut)) in
-    sym (drop_at (map node_of old) (map node_of a.others) before m) ∙ (ap (drop before) both ∙ drop_at (map node_of old) (take 2 found) before m)
+    let own = map node_of a.others in
+    let cut : (xs : List Node) → take (before + more) (map node_of old ++ xs) ≡ map node_of old ++ take more xs = λ xs. ap (λ i. take (i + more) (map node_of old ++ xs)) (sym m) ∙ take-behind more (map node_of old) xs in
+    let new_is : map node_of new ++ [] ≡ map node_of old ++ own = append-nil (map node_of new) ∙ (ap (map node_of) a.is ∙ map-append node_of old a.others) in
+    let both : map node_of old ++ take more own ≡ map node_of old ++ take more found = sym (cut own) ∙ (ap (take (before + more)) (sym new_is) ∙ (ap (λ (t : Tally). t.nodes) e ∙ cut found)) in
+    sym (drop_at (map node_of old) (take more own) before m) ∙ (ap (drop before) both ∙ drop_at (map node_of old) (take more found) before m)
+
+-- one was added where there is one
+pub some_found : (line : List ℕ) (old new : List Cursor) (k n before : ℕ) (found : List Node) → Adds line old new → length old ≡ before → tallied false (before + 1) new n [] ≡ tallied false (before + 1) old k found
+    → ltb before (length new) ≡ not (length found == 0)
+some_found line old new k n before found a l e =
+    let one = others_are 1 line old new k n before found a l e in
+    let size = ap length a.is in
+    let sum = length-append old a.others in
+    by a.others found one (omega (arith, size, sum, l))
+  where
+    by : (others : List Cursor) (found : List Node) → take 1 (map node_of others) ≡ take 1 found → length new ≡ before + length others → ltb before (length new) ≡ not (length found == 0)
+    by [] [] e h = le-ltb before (length new) (omega (arith, h))
+    by [] (x ∷ found) e h = absurd (cc)
+    by (c ∷ others) [] e h = absurd (cc)
+    by (c ∷ others) (x ∷ found) e h = lt-ltb before (length new) (omega (arith, h)) ∙ sym (ap not (differs (length (x ∷ found)) 0 (λ i. let none : length (x ∷ found) ≡ 0 = i in absurd (cc))))
 
 single_from : (found : List Node) (n : Node) → n ∷ [] ≡ take 2 found → Some (value_of n.tree) ≡ single_value found
 single_from [] n e = absurd (cc)
 single_from (x ∷ []) n e = let same : n ≡ x = cc in ap (λ (m : Node). Some (value_of m.tree)) same
 single_from (x ∷ y ∷ found) n e = absurd (cc)
 
-none_from : (found : List Node) → (length (take 2 found) ≡ 1 → ⊥) → None ≡ single_value found
-none_from [] h = refl
-none_from (x ∷ []) h = absurd (h refl)
-none_from (x ∷ y ∷ found) h = refl
+none_from : (others found : List Node) → take 2 others ≡ take 2 found → (length others ≡ 1 → ⊥) → None ≡ single_value found
+none_from others [] e h = refl
+none_from [] (x ∷ []) e h = absurd (cc)
+none_from (o ∷ []) (x ∷ []) e h = absurd (h refl)
+none_from (o ∷ p ∷ others) (x ∷ []) e h = let size = ap length e in absurd (omega (arith, size))
+none_from others (x ∷ y ∷ found) e h = refl
 
 one_behind : (old others : List Cursor) (c : Cursor) → length others ≡ 1 → get_or (old ++ others) (length old) c ≡ c → others ≡ c ∷ []
 one_behind [] [] c l e = absurd (omega (arith, l))
@@ -47,21 +101,21 @@ one_behind [] (x ∷ []) c l e = ap (λ y. y ∷ []) e
 one_behind [] (x ∷ y ∷ others) c l e = absurd (omega (arith, l))
 one_behind (o ∷ old) others c l e = one_behind old others c l e
 
-pub single_found : (line : List ℕ) (old new : List Cursor) (before : ℕ) (found : List Node) (c : Cursor) → Adds line old new → length old ≡ before → map node_of new ≡ take (before + 2) (map node_of old ++ found)
+pub single_found : (line : List ℕ) (old new : List Cursor) (k n before : ℕ) (found : List Node) (c : Cursor) → Adds line old new → length old ≡ before → tallied false (before + 2) new n [] ≡ tallied false (before + 2) old k found
     → length new ≡ before + 1 → get_or new before c ≡ c → Some (value_of (node_of c).tree) ≡ single_value found
-single_found line old new before found c a l e n g =
-    let two = others_are_two line old new before found a l e in
+single_found line old new k n before found c a l e h g =
+    let two = others_are 2 line old new k n before found a l e in
     let size = ap length a.is in
     let sum = length-append old a.others in
     let here : get_or (old ++ a.others) (length old) c ≡ c = ap (λ (xs : List Cursor). get_or xs (length old) c) (sym a.is) ∙ (ap (λ (i : ℕ). get_or new i c) l ∙ g) in
-    let one : a.others ≡ c ∷ [] = one_behind old a.others c (omega (arith, size, sum, l, n)) here in
-    single_from found (node_of c) (ap (map node_of) (sym one) ∙ two)
+    let one : a.others ≡ c ∷ [] = one_behind old a.others c (omega (arith, size, sum, l, h)) here in
+    single_from found (node_of c) (ap (λ (xs : List Cursor). take 2 (map node_of xs)) (sym one) ∙ two)
 
-pub none_single : (line : List ℕ) (old new : List Cursor) (before : ℕ) (found : List Node) → Adds line old new → length old ≡ before → map node_of new ≡ take (before + 2) (map node_of old ++ found)
+pub none_single : (line : List ℕ) (old new : List Cursor) (k n before : ℕ) (found : List Node) → Adds line old new → length old ≡ before → tallied false (before + 2) new n [] ≡ tallied false (before + 2) old k found
     → (length new ≡ before + 1 → ⊥) → None ≡ single_value found
-none_single line old new before found a l e n =
-    let two = ap length (others_are_two line old new before found a l e) in
+none_single line old new k n before found a l e h =
+    let two = others_are 2 line old new k n before found a l e in
     let size = ap length a.is in
     let sum = length-append old a.others in
     let m = length-map a.others node_of in
-    none_from found (λ h. n (omega (arith, two, size, sum, m, l, h)))
+    none_from (map node_of a.others) found two (λ i. h (omega (arith, i, size, sum, m, l)))

@@ -1,21 +1,20 @@
--- The query from the root at a position, read by its own slots.
+-- What the slot at a position asks, read by its own slots.
 use Rattle.std.proofs.Common.{◌≡◌, ℕ, zero, suc, List, [], ◌∷◌, map, Some, None, sym, ◌∙◌, ap, refl}
 use Rattle.std.specs.Prelude.{slice_get}
-use Rattle.jp_model.specs.Query.Syntax.{Logical, Segments}
+use Rattle.jp_model.specs.Query.Syntax.{Comparable, Logical}
 use Rattle.jp_model.specs.Meaning.Nodes.{Node}
-use Rattle.jp_model.specs.Meaning.Selecting.{nodes, truth}
-use Rattle.jp_tape.specs.declared.cursor.Cursor.{Cursor}
-use Rattle.jp_tape.specs.Cursors.{node_of}
-use Rattle.jp_eval.specs.Frames.{table_in, tree_in, reached, slot_nodes, slot_truth}
-use Rattle.jp_eval.specs.Programs.{Meant, asked_view, condition_view, logical_or_none, table_of, slot_view, steps_view, segments_or_none}
+use Rattle.jp_model.specs.Meaning.Selecting.{compared_value, given_by, truth}
+use Rattle.jp_eval.specs.Answers.{table_in, tree_in, slot_truth, slot_value}
+use Rattle.jp_eval.specs.Programs.{Meant, argument_of, asked_view, condition_view, logical_at, side_at, sought_view, table_of, slot_view}
 use Rattle.jp_eval.specs.declared.frame.Run.{Run}
 use Rattle.jp_eval.specs.declared.program.Condition.TheVariants as conditions
 use Rattle.jp_eval.specs.declared.program.Slot.{Slot}
 use Rattle.jp_eval.specs.declared.program.Slot.TheViews.{out-Slot}
-use Rattle.jp_eval.specs.declared.program.Step.{Step}
-use Rattle.jp_eval.proofs.Compiled.{once_is}
+use Rattle.jp_eval.specs.declared.program.Sought.TheVariants as things
+use Rattle.jp_eval.proofs.Compiled.{once_is, sought_once}
 use Rattle.jp_eval.proofs.Descendants.{root_is}
-use Rattle.jp_eval.proofs.FromRoot.{told_of_root}
+use Rattle.jp_eval.proofs.FromRoot.{side_told, told_of_root}
+use Rattle.jp_eval.proofs.Given.{given_so}
 use Rattle.jp_eval.proofs.Meanings.{slot_viewed}
 
 get_map : {A B : Type 0} (f : A → B) (l : List A) (position : ℕ) (x : A) → slice_get l position ≡ Some x → slice_get (map f l) position ≡ Some (f x)
@@ -34,17 +33,22 @@ slot_found slots position slot e = ap (λ (m : Meant). Some m) (sym (slot_viewed
 pub no_slot : (slots : List Slot) (position : ℕ) → slice_get slots position ≡ None → None ≡ slice_get (table_of slots) position
 no_slot slots position e = sym (none_map slot_view slots position e)
 
-pub entered : (run inner : Run) (steps : List Step) (position : ℕ) → inner.root.now ≡ run.root.now → steps_view (table_in inner) steps ≡ segments_or_none (slice_get (table_in run) position) → reached inner steps (node_of run.root.now ∷ []) ≡ slot_nodes run position
-entered run inner steps position r e =
-    let found : Segments = segments_or_none (slice_get (table_in run) position) in
-    ap (λ (ss : Segments). nodes ss (node_of run.root.now ∷ []) (tree_in inner)) e
-    ∙ (ap (λ (c : Cursor). nodes found (node_of run.root.now ∷ []) (node_of c).tree) r
-    ∙ ap (λ (m : Node). nodes found (m ∷ []) (tree_in run)) (sym (root_is run.root.now run.at_root)))
-
 -- what a slot asks of the root says the same of each node
 pub once_told : (run : Run) (position : ℕ) (n : Node) → truth (condition_view (table_in run) (conditions.Once position)) n (tree_in run) ≡ slot_truth run position
 once_told run position n =
-    let l : Logical = logical_or_none (slice_get (table_in run) position) in
+    let l : Logical = logical_at (table_in run) position in
     ap (λ (x : Logical). truth x n (tree_in run)) (once_is (table_in run) position)
     ∙ (told_of_root l n (tree_in run)
     ∙ ap (λ (m : Node). truth l m (tree_in run)) (root_is run.root.now run.at_root))
+
+-- and it finds the same value
+pub once_found : (run : Run) (position : ℕ) (n : Node) → compared_value (sought_view (table_in run) (things.Once position)) n (tree_in run) ≡ slot_value run position
+once_found run position n =
+    let a : Comparable = side_at (table_in run) position in
+    ap (λ (x : Comparable). compared_value x n (tree_in run)) (sought_once (table_in run) position)
+    ∙ (side_told a n (tree_in run)
+    ∙ ap (λ (m : Node). compared_value a m (tree_in run)) (root_is run.root.now run.at_root))
+
+-- what it finds, as an argument
+pub once_given : (run : Run) (position : ℕ) (n : Node) → (given_by (argument_of (sought_view (table_in run) (things.Once position))) n (tree_in run)).value ≡ slot_value run position
+once_given run position n = given_so (sought_view (table_in run) (things.Once position)) n (tree_in run) ∙ once_found run position n

@@ -1,13 +1,12 @@
 -- What is asked of the root is the same for each node.
 use Rattle.std.proofs.Common.{◌≡◌, ◌+◌, ◌∷◌, ◌&&◌, ◌||◌, ◌==◌, Bool, true, List, length, not, refl, sym, ◌∙◌, ap, ap₂}
-use Rattle.std.proofs.lemmas.Bool.{and_parts}
 use Rattle.jp_model.specs.Json.Tree.{Tree}
 use Rattle.jp_model.specs.Meaning.Compare.{compared}
 use Rattle.jp_model.specs.Meaning.Functions.{Given, given_value, logical_function, single_value, value_function}
 use Rattle.jp_model.specs.Meaning.Nodes.{Node, root_node}
 use Rattle.jp_model.specs.Meaning.Selecting.{call_truth, call_value, compared_value, each_true, given, given_by, path_nodes, some_true, truth}
 use Rattle.jp_model.specs.Query.Syntax.{root, current, Logical, or_all, and_all, negated, compare, exists, test, Logicals, no_logicals, logical, Comparable, constant, single, result, Argument, constant_argument, nodes_argument, condition, result_argument, Arguments, no_arguments, argument, Path, path, Call, call}
-use Rattle.jp_eval.specs.Roots.{argument_asks_root, argument_from_root, arguments_ask_root, arguments_from_root, call_asks_root, call_from_root, logical_from_root, logicals_from_root, path_asks_root, path_from_root, side_asks_root, side_from_root}
+use Rattle.jp_eval.specs.Roots.{argument_from_root, arguments_from_root, call_from_root, logical_from_root, logicals_from_root, path_from_root, side_from_root}
 use Rattle.jp_eval.proofs.Sizes.{size_of_argument, size_of_arguments, size_of_call, size_of_comparable, size_of_logical, size_of_logicals, size_of_path}
 
 -- ---- `$` in place of `@` makes a query no larger
@@ -19,19 +18,19 @@ mutual
   pub logical_size : (l : Logical) → size_of_logical (logical_from_root l) ≡ size_of_logical l
   logical_size (or_all ls) = ap (λ n. n + 1) (logicals_size ls)
   logical_size (and_all ls) = ap (λ n. n + 1) (logicals_size ls)
-  logical_size (negated l) = ap (λ n. n + 2) (logical_size l)
-  logical_size (compare a op b) = ap₂ (λ n m. n + m + 3) (side_size a) (side_size b)
+  logical_size (negated l) = ap (λ n. n + 5) (logical_size l)
+  logical_size (compare a op b) = ap₂ (λ n m. n + m + 6) (side_size a) (side_size b)
   logical_size (exists p) = ap (λ n. n + 4) (path_size p)
-  logical_size (test c) = ap (λ n. n + 2) (call_size c)
+  logical_size (test c) = ap (λ n. n + 5) (call_size c)
 
   logicals_size : (ls : Logicals) → size_of_logicals (logicals_from_root ls) ≡ size_of_logicals ls
   logicals_size no_logicals = refl
-  logicals_size (logical l ls) = ap₂ (λ n m. n + 4 + m) (logical_size l) (logicals_size ls)
+  logicals_size (logical l ls) = ap₂ (λ n m. n + 5 + m) (logical_size l) (logicals_size ls)
 
-  side_size : (a : Comparable) → size_of_comparable (side_from_root a) ≡ size_of_comparable a
+  pub side_size : (a : Comparable) → size_of_comparable (side_from_root a) ≡ size_of_comparable a
   side_size (constant c) = refl
   side_size (single p) = ap (λ n. n + 3) (path_size p)
-  side_size (result c) = ap (λ n. n + 1) (call_size c)
+  side_size (result c) = ap (λ n. n + 3) (call_size c)
 
   call_size : (c : Call) → size_of_call (call_from_root c) ≡ size_of_call c
   call_size (call f args) = ap (λ n. n + 2) (arguments_size args)
@@ -44,7 +43,7 @@ mutual
   argument_size (constant_argument c) = refl
   argument_size (nodes_argument p) = ap (λ n. n + 3) (path_size p)
   argument_size (condition l) = ap (λ n. n + 1) (logical_size l)
-  argument_size (result_argument c) = ap (λ n. n + 1) (call_size c)
+  argument_size (result_argument c) = ap (λ n. n + 3) (call_size c)
 
 -- ---- with `$` in place of `@` an expression says of each node what it says of the root
 
@@ -55,7 +54,7 @@ truth_of_found found = not (length found == 0)
 abbrev nodes_given : List Node → Given
 nodes_given found = record { value = single_value found; nodes = found }
 
-path_told : (p : Path) (n : Node) (t : Tree) → path_nodes (path_from_root p) n t ≡ path_nodes p (root_node t) t
+pub path_told : (p : Path) (n : Node) (t : Tree) → path_nodes (path_from_root p) n t ≡ path_nodes p (root_node t) t
 path_told (path root ss) n t = refl
 path_told (path current ss) n t = refl
 
@@ -76,7 +75,7 @@ mutual
   each_told no_logicals n t = refl
   each_told (logical l ls) n t = ap₂ ◌&&◌ (told_of_root l n t) (each_told ls n t)
 
-  side_told : (a : Comparable) (n : Node) (t : Tree) → compared_value (side_from_root a) n t ≡ compared_value a (root_node t) t
+  pub side_told : (a : Comparable) (n : Node) (t : Tree) → compared_value (side_from_root a) n t ≡ compared_value a (root_node t) t
   side_told (constant c) n t = refl
   side_told (single p) n t = ap single_value (path_told p n t)
   side_told (result c) n t = value_told c n t
@@ -96,34 +95,3 @@ mutual
   argument_told (nodes_argument p) n t = ap nodes_given (path_told p n t)
   argument_told (condition l) n t = refl
   argument_told (result_argument c) n t = ap given_value (value_told c n t)
-
--- so it says the same of each node
-pub told_of_each : (l : Logical) (n other : Node) (t : Tree) → truth (logical_from_root l) n t ≡ truth (logical_from_root l) other t
-told_of_each l n other t = told_of_root l n t ∙ sym (told_of_root l other t)
-
--- ---- what asks nothing of the current node stays as it is
-
-path_rooted : (p : Path) → path_asks_root p ≡ true → path_from_root p ≡ p
-path_rooted (path root ss) h = refl
-path_rooted (path current ss) h = absurd (cc)
-
-mutual
-  pub call_rooted : (c : Call) → call_asks_root c ≡ true → call_from_root c ≡ c
-  call_rooted (call f args) h = ap (call f) (arguments_rooted args h)
-
-  arguments_rooted : (args : Arguments) → arguments_ask_root args ≡ true → arguments_from_root args ≡ args
-  arguments_rooted no_arguments h = refl
-  arguments_rooted (argument a args) h =
-      let both = and_parts (argument_asks_root a) (arguments_ask_root args) h in
-      ap₂ argument (argument_rooted a both.0) (arguments_rooted args both.1)
-
-  argument_rooted : (a : Argument) → argument_asks_root a ≡ true → argument_from_root a ≡ a
-  argument_rooted (constant_argument c) h = refl
-  argument_rooted (nodes_argument p) h = ap nodes_argument (path_rooted p h)
-  argument_rooted (condition l) h = absurd (cc)
-  argument_rooted (result_argument c) h = ap result_argument (call_rooted c h)
-
-pub side_rooted : (a : Comparable) → side_asks_root a ≡ true → side_from_root a ≡ a
-side_rooted (constant c) h = refl
-side_rooted (single p) h = ap single (path_rooted p h)
-side_rooted (result c) h = ap result (call_rooted c h)

@@ -1,63 +1,94 @@
 -- How far a loop has come that adds nodes as long as there is room.
-use Rattle.std.proofs.Common.{◌≡◌, ℕ, ◌≤◌, List, [], ◌∷◌, ◌++◌, length, map, take, sym, ◌∙◌, ap, subst, refl, arith, Bool, true, false, cond, filter}
+use Rattle.std.specs.Prelude.{OnOk}
+use Rattle.std.proofs.Common.{◌≡◌, ℕ, ◌+◌, List, [], ◌∷◌, ◌++◌, length, map, take, Bool, true, false, cond, filter, Result, Ok, Err, sym, ◌∙◌, ap, ap₂, subst, refl, arith, append-nil, append_assoc, length-append}
 use Rattle.jp_model.proofs.Seek.{no_nodes}
-use Rattle.std.proofs.lemmas.List.{length-map}
 use Rattle.jp_model.specs.Json.Tree.{Tree}
 use Rattle.jp_model.specs.Meaning.Nodes.{Node}
 use Rattle.jp_model.specs.Meaning.Selecting.{nodes}
 use Rattle.jp_model.specs.Query.Syntax.{Segments}
 use Rattle.jp_tape.specs.declared.cursor.Cursor.{Cursor}
-use Rattle.jp_tape.specs.Cursors.{node_of}
+use Rattle.jp_tape.specs.Cursors.{line_of, node_of}
 use Rattle.jp_eval.specs.Found.{Adds}
-use Rattle.jp_eval.proofs.Lists.{added, full_at, ended, ended_at, length-take_most}
+use Rattle.jp_eval.specs.Frames.{AreKept, Pushes, Lends}
+use Rattle.jp_eval.specs.Tallies.{Tally, is_counted, tallied, tally}
+use Rattle.jp_eval.specs.declared.frame.Frame.{Frame}
+use Rattle.jp_eval.specs.declared.frame.Walk.{Walk}
+use Rattle.jp_eval.proofs.Lists.{cut_behind}
 use Rattle.jp_eval.proofs.Nodelists.{nodes-append}
 use Rattle.jp_eval.proofs.Kept.{adds_none, adds_more}
 
--- from the old cursors it came to these, and with the other nodes they give what the old ones give with all
-pub record Goes (line : List ℕ) (most : ℕ) (old now : List Cursor) (others total : List Node) : Type 0 where
-  pub kept : Adds line old now
-  pub room : length now ≤ most
-  pub told : take most (map node_of now ++ others) ≡ take most (map node_of old ++ total)
+abbrev tally_of : List Node → ℕ → Tally
+tally_of ns n = record { nodes = ns; count = n }
 
-pub begins : (line : List ℕ) (most : ℕ) (old : List Cursor) (total : List Node) → length old ≤ most → Goes line most old old total total
-begins line most old total h = record { kept = adds_none line old old refl; room = h; told = refl }
+-- from the old frame it came to this one, and with the other nodes it gives what the old one gives with all
+pub record Goes (walk : Walk) (old now : Frame) (others total : List Node) : Type 0 where
+  pub adds : Adds (line_of walk.run.now.root.now) old.found.items now.found.items
+  pub kept : AreKept walk.run.now now.answers.items
+  pub told : tally walk.most now others ≡ tally walk.most old total
 
-pub others_are : {line : List ℕ} {most : ℕ} {old now : List Cursor} {others total : List Node} (rest : List Node) → others ≡ rest → Goes line most old now others total → Goes line most old now rest total
-others_are {line} {most} {old} {now} {others} {total} rest e g = subst (λ (x : List Node). Goes line most old now x total) e g
+-- the same frame, with the same nodes to come
+pub same_tally : (most : ℕ) (a b : Frame) (xs ys : List Node) → a.found.items ≡ b.found.items → a.count ≡ b.count → xs ≡ ys → tally most a xs ≡ tally most b ys
+same_tally most a b xs ys f n e =
+    ap₂ (λ (l : List Cursor) (k : ℕ). tallied (is_counted most) most l k xs) f n ∙ ap (tally most b) e
 
-pub room_after : (most : ℕ) (new : List Cursor) (xs : List Node) → map node_of new ≡ take most xs → length new ≤ most
-room_after most new xs e =
-    let a = length-map new node_of in
-    let b = ap length e in
-    let c = length-take_most most xs in
-    omega (arith, a, b, c)
-
-pub goes_on : {line : List ℕ} {most : ℕ} {old now : List Cursor} {total : List Node} (new : List Cursor) (part others : List Node) → Goes line most old now (part ++ others) total → Adds line now new
-    → map node_of new ≡ take most (map node_of now ++ part) → Goes line most old new others total
-goes_on {line} {most} {old} {now} {total} new part others g a e = record {
-  kept = adds_more g.kept a;
-  room = room_after most new (map node_of now ++ part) e;
-  told = added most (map node_of now) (map node_of new) part others (take most (map node_of old ++ total)) e g.told;
+pub begins : (walk : Walk) (old now : Frame) (others total : List Node) → AreKept walk.run.now now.answers.items → now.found.items ≡ old.found.items → now.count ≡ old.count → others ≡ total → Goes walk old now others total
+begins walk old now others total h f n e = record {
+  adds = adds_none (line_of walk.run.now.root.now) old.found.items now.found.items f;
+  kept = h;
+  told = same_tally walk.most now old others total f n e;
 }
 
+pub others_are : {walk : Walk} {old now : Frame} {others total : List Node} (rest : List Node) → others ≡ rest → Goes walk old now others total → Goes walk old now rest total
+others_are {walk} {old} {now} {others} {total} rest e g = subst (λ (x : List Node). Goes walk old now x total) e g
+
+-- what was added, and then the others
+behind : (b : Bool) (most : ℕ) (now new : List Cursor) (k n : ℕ) (part others : List Node) → tallied b most new n [] ≡ tallied b most now k part → tallied b most new n others ≡ tallied b most now k (part ++ others)
+behind true most now new k n part others e =
+    let ns : map node_of new ≡ map node_of now = ap (λ (t : Tally). t.nodes) e in
+    let cs : n + 0 ≡ k + length part = ap (λ (t : Tally). t.count) e in
+    let sum = length-append part others in
+    ap₂ tally_of ns (let s : n + length others ≡ k + length (part ++ others) = omega (arith, cs, sum) in s)
+behind false most now new k n part others e =
+    let ns : take most (map node_of new ++ []) ≡ take most (map node_of now ++ part) = ap (λ (t : Tally). t.nodes) e in
+    let cs : n ≡ k = ap (λ (t : Tally). t.count) e in
+    ap₂ tally_of (cut_behind most (map node_of new) (map node_of now) part others (ap (take most) (sym (append-nil (map node_of new))) ∙ ns)) cs
+
 -- the nodes of some were added, and those of the others are to come
-pub goes_from : {line : List ℕ} {most : ℕ} {old now : List Cursor} {total : List Node} (new : List Cursor) (ss : Segments) (t : Tree) (part others : List Node) → Goes line most old now (nodes ss (part ++ others) t) total → Adds line now new
-    → map node_of new ≡ take most (map node_of now ++ nodes ss part t) → Goes line most old new (nodes ss others t) total
-goes_from {line} {most} {old} {now} {total} new ss t part others g a e =
-    goes_on new (nodes ss part t) (nodes ss others t) (others_are (nodes ss part t ++ nodes ss others t) (nodes-append ss part others t) g) a e
+pub goes_past : {E U : Type 0} {u : U} {walk : Walk} {old now : Frame} {total : List Node} (new : Frame) (ss : Segments) (t : Tree) (part others : List Node) → Goes walk old now (nodes ss (part ++ others) t) total
+    → Pushes {E = E} {U = U} walk now new (Ok u) (nodes ss part t) → Goes walk old new (nodes ss others t) total
+goes_past {E} {U} {u} {walk} {old} {now} {total} new ss t part others g p = record {
+  adds = adds_more g.adds p.adds;
+  kept = p.kept;
+  told = behind (is_counted walk.most) walk.most now.found.items new.found.items now.count new.count (nodes ss part t) (nodes ss others t) p.told
+      ∙ (ap (tally walk.most now) (sym (nodes-append ss part others t)) ∙ g.told);
+}
 
-pub is_full : {line : List ℕ} {most : ℕ} {old now : List Cursor} {others total : List Node} → Goes line most old now others total → length now ≡ most → map node_of now ≡ take most (map node_of old ++ total)
-is_full {line} {most} {old} {now} {others} {total} g e = full_at most (map node_of now) others (take most (map node_of old ++ total)) (length-map now node_of ∙ e) g.told
+-- the frame was lent in between
+pub goes_lent : {E A : Type 0} {a : A} {walk : Walk} {old now : Frame} {others total : List Node} (new : Frame) → Goes walk old now others total → Lends {E = E} {A = A} walk now new (Ok a) → Goes walk old new others total
+goes_lent {E} {A} {a} {walk} {old} {now} {others} {total} new g l = record {
+  adds = adds_more g.adds l.adds;
+  kept = l.kept;
+  told = same_tally walk.most new now others others l.same l.count refl ∙ g.told;
+}
 
-pub is_done : {line : List ℕ} {most : ℕ} {old now : List Cursor} {others total : List Node} → Goes line most old now others total → others ≡ [] → map node_of now ≡ take most (map node_of old ++ total)
-is_done {line} {most} {old} {now} {others} {total} g e =
-    let room = g.room in
-    let l = length-map now node_of in
-    ended_at most (map node_of now) (take most (map node_of old ++ total)) (omega (arith, room, l)) (ap (λ x. take most (map node_of now ++ x)) (sym e) ∙ g.told)
+-- none is left to come, or no more are looked for
+pub is_done : {E U : Type 0} {u : U} {walk : Walk} {old now : Frame} {others total : List Node} → Goes walk old now others total → others ≡ [] → Pushes {E = E} {U = U} walk old now (Ok u) total
+is_done {E} {U} {u} {walk} {old} {now} {others} {total} g e = record { adds = g.adds; kept = g.kept; told = ap (tally walk.most now) (sym e) ∙ g.told }
 
--- the same cursors
-pub now_is : {line : List ℕ} {most : ℕ} {old now : List Cursor} {others total : List Node} (same : List Cursor) → same ≡ now → Goes line most old now others total → Goes line most old same others total
-now_is {line} {most} {old} {now} {others} {total} same e g = subst (λ (x : List Cursor). Goes line most old x others total) (sym e) g
+pub is_full : {E U : Type 0} {u : U} {walk : Walk} {old now : Frame} {others total : List Node} → Goes walk old now others total → ((xs : List Node) → tally walk.most now xs ≡ tally walk.most now []) → Pushes {E = E} {U = U} walk old now (Ok u) total
+is_full {E} {U} {u} {walk} {old} {now} {others} {total} g h = record { adds = g.adds; kept = g.kept; told = sym (h others) ∙ g.told }
+
+-- the frame was lent before
+pub lent_first : {E F A U : Type 0} {a : A} {walk : Walk} {old mid new : Frame} {found : List Node} (r : Result U E) → Lends {E = F} {A = A} walk old mid (Ok a) → Pushes {E = E} {U = U} walk mid new r found → Pushes {E = E} {U = U} walk old new r found
+lent_first {E} {F} {A} {U} {a} {walk} {old} {mid} {new} {found} r l p = record { adds = adds_more l.adds p.adds; kept = p.kept; told = by r p.told }
+  where
+    by : (r : Result U E) → OnOk r (tally walk.most new [] ≡ tally walk.most mid found) → OnOk r (tally walk.most new [] ≡ tally walk.most old found)
+    by (Ok u) h = h ∙ same_tally walk.most mid old found found l.same l.count refl
+    by (Err e) h = tt
+
+-- no node adds nothing
+pub nothing_added : {E U : Type 0} {u : U} (walk : Walk) (frame : Frame) (ss : Segments) (t : Tree) (found : List Node) → AreKept walk.run.now frame.answers.items → found ≡ [] → Pushes {E = E} {U = U} walk frame frame (Ok u) (nodes ss found t)
+nothing_added walk frame ss t found h e = is_done (begins walk frame frame [] (nodes ss found t) h refl refl (sym (ap (λ (l : List Node). nodes ss l t) e ∙ no_nodes ss t))) refl
 
 pub filter_taken : (p : Node → Bool) (n : Node) (ns : List Node) → p n ≡ true → filter p (n ∷ ns) ≡ n ∷ filter p ns
 filter_taken p n ns h = ap (λ b. cond b (n ∷ filter p ns) (filter p ns)) h
@@ -73,9 +104,3 @@ filter_all p (n ∷ ns) h = filter_taken p n ns (h n) ∙ ap (λ (l : List Node)
 pub filter_none : (p : Node → Bool) (ns : List Node) → ((n : Node) → p n ≡ false) → filter p ns ≡ []
 filter_none p [] h = refl
 filter_none p (n ∷ ns) h = filter_passed p n ns (h n) ∙ filter_none p ns h
-
--- no node adds nothing
-pub nothing_added : (most : ℕ) (old : List Cursor) (ss : Segments) (t : Tree) (found : List Node) → length old ≤ most → found ≡ [] → map node_of old ≡ take most (map node_of old ++ nodes ss found t)
-nothing_added most old ss t found h e =
-    let l = length-map old node_of in
-    ended most (map node_of old) (omega (arith, h, l)) ∙ ap (λ (x : List Node). take most (map node_of old ++ x)) (sym (ap (λ (x : List Node). nodes ss x t) e ∙ no_nodes ss t))

@@ -8,7 +8,7 @@ pub mod Walks
 pub mod Members
 pub mod Elements
 pub mod Views
-pub mod Calls
+pub mod Called
 pub mod Descendants
 pub mod Counts
 pub mod NoMembers
@@ -19,7 +19,8 @@ pub mod FromRoot
 pub mod Patterns
 pub mod Answered
 pub mod Entered
-pub mod SingularSteps
+pub mod Given
+pub mod Origins
 pub mod Following
 pub mod Asked
 pub mod Childless

@@ -9,34 +9,18 @@ take-inside zero xs ys = refl
 take-inside (suc n) [] ys = refl
 take-inside (suc n) (x ∷ xs) ys = ap (λ l. x ∷ l) (take-inside n xs ys)
 
--- one part was added, and the others are to come
-pub added : {A : Type 0} (most : ℕ) (old new part others total : List A) → new ≡ take most (old ++ part) → take most (old ++ (part ++ others)) ≡ total → take most (new ++ others) ≡ total
-added most old new part others total e h =
-    ap (λ l. take most (l ++ others)) e ∙ (take-inside most (old ++ part) others ∙ (ap (take most) (append_assoc old part others) ∙ h))
+-- what was added behind a part is added behind the whole
+pub cut_behind : {A : Type 0} (most : ℕ) (new old part others : List A) → take most new ≡ take most (old ++ part) → take most (new ++ others) ≡ take most (old ++ (part ++ others))
+cut_behind most new old part others e =
+    sym (take-inside most new others) ∙ (ap (λ l. take most (l ++ others)) e ∙ (take-inside most (old ++ part) others ∙ ap (take most) (append_assoc old part others)))
 
 take-front : {A : Type 0} (xs ys : List A) → take (length xs) (xs ++ ys) ≡ xs
 take-front [] ys = refl
 take-front (x ∷ xs) ys = ap (λ l. x ∷ l) (take-front xs ys)
 
 -- there is no room for more
-pub full : {A : Type 0} (most : ℕ) (now others : List A) → length now ≡ most → now ≡ take most (now ++ others)
-full most now others e = sym (take-front now others) ∙ ap (λ n. take n (now ++ others)) e
-
--- nothing is to come
-pub ended : {A : Type 0} (most : ℕ) (now : List A) → length now ≤ most → now ≡ take most (now ++ [])
-ended most now h = sym (take_all most now h) ∙ ap (take most) (sym (append-nil now))
-
--- the same, at what the whole gives
-pub full_at : {A : Type 0} (most : ℕ) (now others total : List A) → length now ≡ most → take most (now ++ others) ≡ total → now ≡ total
-full_at most now others total e h = full most now others e ∙ h
-
-pub ended_at : {A : Type 0} (most : ℕ) (now total : List A) → length now ≤ most → take most (now ++ []) ≡ total → now ≡ total
-ended_at most now total e h = ended most now e ∙ h
-
-pub length-take_most : {A : Type 0} (most : ℕ) (xs : List A) → length (take most xs) ≤ most
-length-take_most zero xs = omega arith
-length-take_most (suc n) [] = omega arith
-length-take_most (suc n) (x ∷ xs) = let h = length-take_most n xs in omega (arith, h)
+pub full : {A : Type 0} (most : ℕ) (now xs ys : List A) → length now ≡ most → take most (now ++ xs) ≡ take most (now ++ ys)
+full most now xs ys e = ap (λ n. take n (now ++ xs)) (sym e) ∙ (take-front now xs ∙ (sym (take-front now ys) ∙ ap (λ n. take n (now ++ ys)) e))
 
 -- a list that is shorter than the cut was not cut
 pub not_cut : {A : Type 0} (most : ℕ) (xs : List A) → length (take most xs) < most → take most xs ≡ xs

@@ -34,7 +34,7 @@ both_mean {A} {B} {D} {old} {mid} {new} {v} {x} {w} {y} f u z h e a b = record {
   is = λ more. h (table_of new ++ more) ∙ (ap₂ f (later new a b.grows more) (b.is more) ∙ sym e);
 }
 
-map_last : {A B : Type 0} (f : A → B) (done : List A) (c : A) → map f (done ++ c ∷ []) ≡ map f done ++ f c ∷ []
+pub map_last : {A B : Type 0} (f : A → B) (done : List A) (c : A) → map f (done ++ c ∷ []) ≡ map f done ++ f c ∷ []
 map_last f [] c = refl
 map_last f (d ∷ done) c = ap (λ l. f d ∷ l) (map_last f done c)
 

@@ -16,25 +16,25 @@ abbrev mutual
   size_of_selectors (selector s ss) = size_of_selector s + size_of_selectors ss
 
   pub size_of_selector : Selector → ℕ
-  size_of_selector (filter_selector l) = size_of_logical l + 1
+  size_of_selector (filter_selector l) = size_of_logical l + 2
   size_of_selector _ = 1
 
   pub size_of_logical : Logical → ℕ
   size_of_logical (or_all ls) = size_of_logicals ls + 1
   size_of_logical (and_all ls) = size_of_logicals ls + 1
-  size_of_logical (negated l) = size_of_logical l + 2
-  size_of_logical (compare a op b) = size_of_comparable a + size_of_comparable b + 3
+  size_of_logical (negated l) = size_of_logical l + 5
+  size_of_logical (compare a op b) = size_of_comparable a + size_of_comparable b + 6
   size_of_logical (exists p) = size_of_path p + 4
-  size_of_logical (test c) = size_of_call c + 2
+  size_of_logical (test c) = size_of_call c + 5
 
   pub size_of_logicals : Logicals → ℕ
   size_of_logicals no_logicals = 0
-  size_of_logicals (logical l ls) = size_of_logical l + 4 + size_of_logicals ls
+  size_of_logicals (logical l ls) = size_of_logical l + 5 + size_of_logicals ls
 
   pub size_of_comparable : Comparable → ℕ
   size_of_comparable (constant c) = 0
   size_of_comparable (single p) = size_of_path p + 3
-  size_of_comparable (result c) = size_of_call c + 1
+  size_of_comparable (result c) = size_of_call c + 3
 
   pub size_of_path : Path → ℕ
   size_of_path (path o ss) = size_of_segments ss + 2
@@ -50,4 +50,4 @@ abbrev mutual
   size_of_argument (constant_argument c) = 0
   size_of_argument (nodes_argument p) = size_of_path p + 3
   size_of_argument (condition l) = size_of_logical l + 1
-  size_of_argument (result_argument c) = size_of_call c + 1
+  size_of_argument (result_argument c) = size_of_call c + 3

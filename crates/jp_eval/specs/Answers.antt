@@ -1,24 +1,40 @@
--- Answers to what is asked of the nodes that a query selects.
-use Rattle.std.specs.Prelude.{◌≡◌, List, length, ◌==◌, not, Bool, Option, option_map, true}
+-- Answers to what is asked of the root.
+use Rattle.std.specs.Prelude.{◌≡◌, ℕ, Bool, Option, option_map, true}
 use Rattle.jp_model.specs.Json.Tree as tree
-use Rattle.jp_model.specs.Meaning.Functions.{single_value}
-use Rattle.jp_model.specs.Meaning.Nodes.{Node}
-use Rattle.jp_eval.specs.Functions.{measured, pattern_in}
+use Rattle.jp_model.specs.Meaning.Selecting.{compared_value, truth}
+use Rattle.jp_tape.specs.Cursors.{node_of}
+use Rattle.jp_eval.specs.Functions.{pattern_in}
+use Rattle.jp_eval.specs.Programs.{Table, logical_at, side_at, table_of}
 use Rattle.jp_eval.specs.declared.frame.Answer.{Answer}
 use Rattle.jp_eval.specs.declared.frame.Answer.TheVariants as answers
+use Rattle.jp_eval.specs.declared.frame.Run.{Run}
 use Rattle.jp_values.specs.declared.value.Value.{Value}
 use Rattle.jp_iregexp.specs.Trees.{pattern_view}
 use Rattle.jp_values.specs.Values.{value_view, is_sound_value}
 
--- a side of a comparison that can be read has this value
+-- the meanings of the slots
+abbrev pub table_in : Run → Table
+table_in run = table_of run.slots.now
+
+-- the line's tree
+abbrev pub tree_in : Run → tree.Tree
+tree_in run = (node_of run.root.now).tree
+
+-- whether the test of a slot holds of the root
+abbrev pub slot_truth : Run → ℕ → Bool
+slot_truth run position = truth (logical_at (table_in run) position) (node_of run.root.now) (tree_in run)
+
+-- the value that a slot finds at the root
+abbrev pub slot_value : Run → ℕ → Option tree.Value
+slot_value run position = compared_value (side_at (table_in run) position) (node_of run.root.now) (tree_in run)
+
+-- a value that can be read is this one
 pub record IsValue (side : Value) (wanted : Option tree.Value) : Type 0 where
   pub value : value_view side ≡ wanted
   pub sound : is_sound_value side ≡ true
 
--- the answer is that of these nodes (RFC 9535, sections 2.3.5.2.2, 2.4.4, 2.4.5 and 2.4.8), or this truth
-abbrev pub IsAnswer : List Node → Bool → Answer → Type 0
-IsAnswer found truth (answers.Exists some) = some ≡ not (length found == 0)
-IsAnswer found truth (answers.Count count) = count ≡ length found
-IsAnswer found truth (answers.Single is_length side) = IsValue side (measured is_length (single_value found))
-IsAnswer found truth (answers.Pattern read) = option_map pattern_view read.value ≡ pattern_in (single_value found)
-IsAnswer found truth (answers.Holds is) = is ≡ truth
+-- the answer is that of the slot at a position
+abbrev pub IsAnswer : Run → ℕ → Answer → Type 0
+IsAnswer run position (answers.Holds is) = is ≡ slot_truth run position
+IsAnswer run position (answers.Value side) = IsValue side (slot_value run position)
+IsAnswer run position (answers.Pattern read) = option_map pattern_view read.value ≡ pattern_in (slot_value run position)

@@ -3,6 +3,7 @@ use Rattle.std.specs.Prelude.{◌≡◌, ℕ, List, [], ◌∷◌, ◌++◌, All
 use Rattle.jp_model.specs.Meaning.Nodes.{Node}
 use Rattle.jp_tape.specs.declared.cursor.Cursor.{Cursor}
 use Rattle.jp_tape.specs.Cursors.{line_of, node_of}
+use Rattle.jp_eval.specs.declared.frame.Frame.{Frame}
 
 -- the node of a cursor, where there is one
 abbrev pub node_list : Option Cursor → List Node
@@ -18,3 +19,7 @@ pub record Adds (line : List ℕ) (old new : List Cursor) : Type 0 where
   pub others : List Cursor
   pub is : new ≡ old ++ others
   pub of_line : AreOf line others
+
+-- the cursors that a frame has found
+abbrev pub found_in : Frame → List Cursor
+found_in f = f.found.items

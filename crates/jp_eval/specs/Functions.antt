@@ -1,28 +1,9 @@
--- The functions by their names (RFC 9535, section 2.4).
-use Rattle.std.specs.Prelude.{ℕ, List, Bool, true, false, Option, Some, None, codes, if◌then◌else◌}
-use Rattle.jp_model.specs.Characters.{text_equal}
-use Rattle.jp_model.specs.Meaning.Functions.{length_of}
+-- Texts and the patterns that they pass (RFC 9535, sections 2.4.6 and 2.4.7).
+use Rattle.std.specs.Prelude.{ℕ, List, Bool, true, false, Option, Some, None}
 use Rattle.jp_model.specs.Pattern.Tree.{Pattern}
 use Rattle.jp_model.specs.Pattern.Membership.{is_in, occurs_in}
 use Rattle.jp_model.specs.Pattern.Reading.{pattern_of}
 use Rattle.jp_model.specs.Json.Tree.{Value, string}
-use Rattle.jp_eval.specs.declared.functions.Function.{Function}
-use Rattle.jp_eval.specs.declared.functions.Function.TheVariants as functions
-
--- the function of a name
-abbrev pub function_named : List ℕ → Option Function
-function_named f =
-    if text_equal f (codes "length") then Some functions.Length
-    else if text_equal f (codes "count") then Some functions.Count
-    else if text_equal f (codes "value") then Some functions.Value
-    else if text_equal f (codes "match") then Some functions.Match
-    else if text_equal f (codes "search") then Some functions.Search
-    else None
-
--- the value, or how long it is (RFC 9535, section 2.4.4)
-abbrev pub measured : Bool → Option Value → Option Value
-measured false v = v
-measured true v = length_of v
 
 -- all of a text is in the pattern, or a part of it
 abbrev pub passing : Bool → Pattern → List ℕ → Bool

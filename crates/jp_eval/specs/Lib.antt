@@ -5,6 +5,8 @@ pub mod Functions
 pub mod Constants
 pub mod Walks
 pub mod Roots
+pub mod Calls
+pub mod Tallies
 pub mod Programs
 pub mod Compiled
 pub mod Answers

@@ -1,126 +1,156 @@
 -- What a compiled query means: the segments that it was made of. The meaning of slots is given by a table.
-use Rattle.std.specs.Prelude.{◌≡◌, ℕ, List, ◌++◌, map, chars, string_bytes, Option, Some, None, slice_get}
+use Rattle.std.specs.Prelude.{◌≡◌, ℕ, List, [], ◌++◌, map, Option, Some, None, slice_get}
 use Rattle.jp_model.specs.Query.Syntax as syntax
-use Rattle.jp_query.specs.View.{segments_of, selectors_of, logicals_of, arguments_of, literal_view, op_view}
+use Rattle.jp_query.specs.View.{segments_of, selectors_of, logicals_of, literal_view, op_view}
 use Rattle.jp_model.specs.Query.Singular.{step_selector}
-use Rattle.jp_eval.specs.Keys.{key_view}
-use Rattle.jp_eval.specs.Questions.{question_view}
-use Rattle.jp_eval.specs.Roots.{logical_from_root}
+use Rattle.jp_eval.specs.Calls.{length_call, count_call, value_call}
+use Rattle.jp_eval.specs.Keys.{key_view, key_segment, keys_view}
+use Rattle.jp_eval.specs.Questions.{passing_name, question_view}
+use Rattle.jp_eval.specs.Roots.{logical_from_root, side_from_root}
 use Rattle.jp_eval.specs.declared.program.Asked.{Asked}
 use Rattle.jp_eval.specs.declared.program.Asked.TheVariants as asked
 use Rattle.jp_eval.specs.declared.program.Step.{Step, fold-Step}
 use Rattle.jp_eval.specs.declared.program.Choice.{Choice, fold-Choice}
 use Rattle.jp_eval.specs.declared.program.Condition.{Condition, fold-Condition}
-use Rattle.jp_eval.specs.declared.program.Side.{Side, fold-Side}
-use Rattle.jp_eval.specs.declared.program.Given.{Given, fold-Given}
-use Rattle.jp_eval.specs.declared.program.Nodes.{Nodes, fold-Nodes}
-use Rattle.jp_eval.specs.declared.program.Invoked.{Invoked, fold-Invoked}
+use Rattle.jp_eval.specs.declared.program.Test.{Test, fold-Test}
+use Rattle.jp_eval.specs.declared.program.Operand.{Operand, fold-Operand}
+use Rattle.jp_eval.specs.declared.program.Spelled.{Spelled, fold-Spelled}
+use Rattle.jp_eval.specs.declared.program.Sought.{Sought, fold-Sought}
+use Rattle.jp_eval.specs.declared.program.Found.{Found, fold-Found}
 use Rattle.jp_eval.specs.declared.program.Slot.{Slot, fold-Slot}
 use Rattle.jp_eval.specs.declared.program.Slot.TheOpen.{Slot-F}
-use Rattle.jp_eval.specs.declared.program.Choice.TheOpen.{Choice-F, Condition-F, Given-F, Nodes-F, Side-F, Step-F, Invoked-F}
+use Rattle.jp_eval.specs.declared.program.Choice.TheOpen.{Choice-F, Condition-F, Found-F, Operand-F, Sought-F, Spelled-F, Step-F, Test-F}
 
--- what is asked of the root: a query, or an expression
+-- what is asked of the root: whether an expression holds, or the value of a side of a comparison
 pub data Meant : Type 0 where
-  query : syntax.Segments → Meant
   expression : syntax.Logical → Meant
+  side : syntax.Comparable → Meant
 
 -- what each slot asks
 abbrev pub Table : Type 0
 Table = List Meant
 
--- no segments where there is no query
-abbrev pub segments_or_none : Option Meant → syntax.Segments
-segments_or_none (Some (query ss)) = ss
-segments_or_none (Some (expression l)) = syntax.no_segments
-segments_or_none None = syntax.no_segments
+-- no part of an expression, and a side without a value
+abbrev pub no_logical : syntax.Logical
+no_logical = syntax.or_all syntax.no_logicals
 
--- no part of an expression where there is none
+abbrev pub no_side : syntax.Comparable
+no_side = syntax.result (syntax.call [] syntax.no_arguments)
+
+-- those where there is none
 abbrev pub logical_or_none : Option Meant → syntax.Logical
-logical_or_none (Some (query ss)) = syntax.or_all syntax.no_logicals
 logical_or_none (Some (expression l)) = l
-logical_or_none None = syntax.or_all syntax.no_logicals
+logical_or_none (Some (side a)) = no_logical
+logical_or_none None = no_logical
 
--- the query of a slot
-abbrev pub slot_in : Table → ℕ → syntax.Path
-slot_in table position = syntax.path syntax.root (segments_or_none (slice_get table position))
+abbrev pub side_or_none : Option Meant → syntax.Comparable
+side_or_none (Some (expression l)) = no_side
+side_or_none (Some (side a)) = a
+side_or_none None = no_side
+
+-- what the slot at a position asks
+abbrev pub logical_at : Table → ℕ → syntax.Logical
+logical_at table position = logical_or_none (slice_get table position)
+
+abbrev pub side_at : Table → ℕ → syntax.Comparable
+side_at table position = side_or_none (slice_get table position)
+
+-- a value as the argument of a function (RFC 9535, section 2.4)
+abbrev pub argument_of : syntax.Comparable → syntax.Argument
+argument_of (syntax.constant c) = syntax.constant_argument c
+argument_of (syntax.single p) = syntax.nodes_argument p
+argument_of (syntax.result c) = syntax.result_argument c
+
+-- a query from the node that is asked about
+abbrev pub here : syntax.Segments → syntax.Path
+here ss = syntax.path syntax.current ss
 
 -- ---- one level, with what is inside already seen
 
 -- a selector
-abbrev pub choice_step : Choice-F syntax.Selector syntax.Logical syntax.Argument syntax.Path syntax.Comparable syntax.Segment syntax.Call → syntax.Selector
+abbrev pub choice_step : Choice-F syntax.Selector syntax.Logical syntax.Comparable syntax.Comparable syntax.Comparable syntax.Argument syntax.Segment syntax.Logical → syntax.Selector
 choice_step (Choice-F.Choice::One key) = step_selector (key_view key)
 choice_step Choice-F.Wildcard = syntax.wildcard_selector
 choice_step (Choice-F.Slice first last step) = syntax.slice_selector first last step
 choice_step (Choice-F.Filter l) = syntax.filter_selector l
 
 -- a logical expression; what is asked of the root says `$` where it said `@`
-abbrev pub condition_step : Table → Condition-F syntax.Selector syntax.Logical syntax.Argument syntax.Path syntax.Comparable syntax.Segment syntax.Call → syntax.Logical
-condition_step table (Condition-F.Or ls) = syntax.or_all (logicals_of ls.items)
-condition_step table (Condition-F.And ls) = syntax.and_all (logicals_of ls.items)
-condition_step table (Condition-F.Not l) = syntax.negated l.value
-condition_step table (Condition-F.Compare a op b) = syntax.compare a (op_view op) b
-condition_step table (Condition-F.Asks p question) = question_view question p
-condition_step table (Condition-F.Once position) = logical_from_root (logical_or_none (slice_get table position))
-condition_step table (Condition-F.Test c) = syntax.test c
+abbrev pub condition_step : Table → Condition-F syntax.Selector syntax.Logical syntax.Comparable syntax.Comparable syntax.Comparable syntax.Argument syntax.Segment syntax.Logical → syntax.Logical
+condition_step table (Condition-F.Test l) = l
+condition_step table (Condition-F.Condition::Once position) = logical_from_root (logical_at table position)
 
--- an argument
-abbrev pub given_step : Given-F syntax.Selector syntax.Logical syntax.Argument syntax.Path syntax.Comparable syntax.Segment syntax.Call → syntax.Argument
-given_step (Given-F.Given::Constant c) = syntax.constant_argument (literal_view c.literal)
-given_step (Given-F.Pattern p) = syntax.constant_argument (literal_view p.constant.literal)
-given_step (Given-F.Nodes p) = syntax.nodes_argument p
-given_step (Given-F.Condition l) = syntax.condition l
-given_step (Given-F.Given::Result c) = syntax.result_argument c
-
--- a query within a filter
-abbrev pub nodes_step : Table → Nodes-F syntax.Selector syntax.Logical syntax.Argument syntax.Path syntax.Comparable syntax.Segment syntax.Call → syntax.Path
-nodes_step table (Nodes-F.Slot position) = slot_in table position
-nodes_step table (Nodes-F.Current ss) = syntax.path syntax.current (segments_of ss.items)
+-- the same of what is asked of a node
+abbrev pub test_step : Test-F syntax.Selector syntax.Logical syntax.Comparable syntax.Comparable syntax.Comparable syntax.Argument syntax.Segment syntax.Logical → syntax.Logical
+test_step (Test-F.Test::Single keys question) = question_view question (here (keys_view keys.items))
+test_step (Test-F.Or ls) = syntax.or_all (logicals_of ls.items)
+test_step (Test-F.And ls) = syntax.and_all (logicals_of ls.items)
+test_step (Test-F.Not l) = syntax.negated l.value
+test_step (Test-F.Exists ss) = syntax.exists (here (segments_of ss.items))
+test_step (Test-F.Compare a op b) = syntax.compare a (op_view op) b
+test_step (Test-F.Passes whole text pattern) = syntax.test (syntax.call (passing_name whole) (syntax.argument (argument_of text) (syntax.argument pattern syntax.no_arguments)))
 
 -- a side of a comparison
-abbrev pub side_step : Side-F syntax.Selector syntax.Logical syntax.Argument syntax.Path syntax.Comparable syntax.Segment syntax.Call → syntax.Comparable
-side_step (Side-F.Side::Constant c) = syntax.constant (literal_view c.literal)
-side_step (Side-F.Single p) = syntax.single p
-side_step (Side-F.Side::Result c) = syntax.result c
+abbrev pub operand_step : Operand-F syntax.Selector syntax.Logical syntax.Comparable syntax.Comparable syntax.Comparable syntax.Argument syntax.Segment syntax.Logical → syntax.Comparable
+operand_step (Operand-F.Constant c) = syntax.constant (literal_view c.literal)
+operand_step (Operand-F.Operand::Sought a) = a
+
+-- an argument that gives a pattern
+abbrev pub spelled_step : Spelled-F syntax.Selector syntax.Logical syntax.Comparable syntax.Comparable syntax.Comparable syntax.Argument syntax.Segment syntax.Logical → syntax.Argument
+spelled_step (Spelled-F.Literal p) = syntax.constant_argument (literal_view p.constant.literal)
+spelled_step (Spelled-F.Spelled::Sought a) = argument_of a
+
+-- a query or a call whose answer is a value; what is asked of the root says `$` where it said `@`
+abbrev pub sought_step : Table → Sought-F syntax.Selector syntax.Logical syntax.Comparable syntax.Comparable syntax.Comparable syntax.Argument syntax.Segment syntax.Logical → syntax.Comparable
+sought_step table (Sought-F.Found a) = a
+sought_step table (Sought-F.Sought::Once position) = side_from_root (side_at table position)
+
+-- the same of what is found at a node
+abbrev pub found_step : Found-F syntax.Selector syntax.Logical syntax.Comparable syntax.Comparable syntax.Comparable syntax.Argument syntax.Segment syntax.Logical → syntax.Comparable
+found_step (Found-F.Found::Single keys) = syntax.single (here (keys_view keys.items))
+found_step (Found-F.Only ss) = syntax.single (here (segments_of ss.items))
+found_step (Found-F.Length a) = syntax.result (length_call (argument_of a.value))
+found_step (Found-F.Count ss) = syntax.result (count_call (here (segments_of ss.items)))
+found_step (Found-F.Value ss) = syntax.result (value_call (here (segments_of ss.items)))
 
 -- a segment
-abbrev pub step_step : Step-F syntax.Selector syntax.Logical syntax.Argument syntax.Path syntax.Comparable syntax.Segment syntax.Call → syntax.Segment
-step_step (Step-F.Step::One key) = syntax.child_segment (syntax.selector (step_selector (key_view key)) syntax.no_selectors)
+abbrev pub step_step : Step-F syntax.Selector syntax.Logical syntax.Comparable syntax.Comparable syntax.Comparable syntax.Argument syntax.Segment syntax.Logical → syntax.Segment
+step_step (Step-F.Step::One key) = key_segment key
 step_step (Step-F.Child ss) = syntax.child_segment (selectors_of ss.items)
 step_step (Step-F.Descendant ss) = syntax.descendant_segment (selectors_of ss.items)
-
--- a call of a function
-abbrev pub invoked_step : Invoked-F syntax.Selector syntax.Logical syntax.Argument syntax.Path syntax.Comparable syntax.Segment syntax.Call → syntax.Call
-invoked_step c = syntax.call (chars (string_bytes c.named.name)) (arguments_of c.arguments.items)
 
 -- ---- a value of each type
 
 -- the selector that a choice was made of
 abbrev pub choice_view : Table → Choice → syntax.Selector
-choice_view table = fold-Choice syntax.Selector syntax.Logical syntax.Argument syntax.Path syntax.Comparable syntax.Segment syntax.Call choice_step (condition_step table) given_step (nodes_step table) side_step step_step invoked_step
+choice_view table = fold-Choice syntax.Selector syntax.Logical syntax.Comparable syntax.Comparable syntax.Comparable syntax.Argument syntax.Segment syntax.Logical choice_step (condition_step table) found_step operand_step (sought_step table) spelled_step step_step test_step
 
 -- the logical expression of a condition
 abbrev pub condition_view : Table → Condition → syntax.Logical
-condition_view table = fold-Condition syntax.Selector syntax.Logical syntax.Argument syntax.Path syntax.Comparable syntax.Segment syntax.Call choice_step (condition_step table) given_step (nodes_step table) side_step step_step invoked_step
+condition_view table = fold-Condition syntax.Selector syntax.Logical syntax.Comparable syntax.Comparable syntax.Comparable syntax.Argument syntax.Segment syntax.Logical choice_step (condition_step table) found_step operand_step (sought_step table) spelled_step step_step test_step
 
--- the argument that is given
-abbrev pub given_view : Table → Given → syntax.Argument
-given_view table = fold-Given syntax.Selector syntax.Logical syntax.Argument syntax.Path syntax.Comparable syntax.Segment syntax.Call choice_step (condition_step table) given_step (nodes_step table) side_step step_step invoked_step
-
--- the query within a filter
-abbrev pub nodes_view : Table → Nodes → syntax.Path
-nodes_view table = fold-Nodes syntax.Selector syntax.Logical syntax.Argument syntax.Path syntax.Comparable syntax.Segment syntax.Call choice_step (condition_step table) given_step (nodes_step table) side_step step_step invoked_step
+-- that of a test
+abbrev pub test_view : Table → Test → syntax.Logical
+test_view table = fold-Test syntax.Selector syntax.Logical syntax.Comparable syntax.Comparable syntax.Comparable syntax.Argument syntax.Segment syntax.Logical choice_step (condition_step table) found_step operand_step (sought_step table) spelled_step step_step test_step
 
 -- the side of a comparison
-abbrev pub side_view : Table → Side → syntax.Comparable
-side_view table = fold-Side syntax.Selector syntax.Logical syntax.Argument syntax.Path syntax.Comparable syntax.Segment syntax.Call choice_step (condition_step table) given_step (nodes_step table) side_step step_step invoked_step
+abbrev pub operand_view : Table → Operand → syntax.Comparable
+operand_view table = fold-Operand syntax.Selector syntax.Logical syntax.Comparable syntax.Comparable syntax.Comparable syntax.Argument syntax.Segment syntax.Logical choice_step (condition_step table) found_step operand_step (sought_step table) spelled_step step_step test_step
+
+-- the argument that gives a pattern
+abbrev pub spelled_view : Table → Spelled → syntax.Argument
+spelled_view table = fold-Spelled syntax.Selector syntax.Logical syntax.Comparable syntax.Comparable syntax.Comparable syntax.Argument syntax.Segment syntax.Logical choice_step (condition_step table) found_step operand_step (sought_step table) spelled_step step_step test_step
+
+-- the query, or the call, whose answer is a value
+abbrev pub sought_view : Table → Sought → syntax.Comparable
+sought_view table = fold-Sought syntax.Selector syntax.Logical syntax.Comparable syntax.Comparable syntax.Comparable syntax.Argument syntax.Segment syntax.Logical choice_step (condition_step table) found_step operand_step (sought_step table) spelled_step step_step test_step
+
+-- that of what is found at a node
+abbrev pub found_view : Table → Found → syntax.Comparable
+found_view table = fold-Found syntax.Selector syntax.Logical syntax.Comparable syntax.Comparable syntax.Comparable syntax.Argument syntax.Segment syntax.Logical choice_step (condition_step table) found_step operand_step (sought_step table) spelled_step step_step test_step
 
 -- the segment of a step
 abbrev pub step_view : Table → Step → syntax.Segment
-step_view table = fold-Step syntax.Selector syntax.Logical syntax.Argument syntax.Path syntax.Comparable syntax.Segment syntax.Call choice_step (condition_step table) given_step (nodes_step table) side_step step_step invoked_step
-
--- the call of a function
-abbrev pub invoked_view : Table → Invoked → syntax.Call
-invoked_view table = fold-Invoked syntax.Selector syntax.Logical syntax.Argument syntax.Path syntax.Comparable syntax.Segment syntax.Call choice_step (condition_step table) given_step (nodes_step table) side_step step_step invoked_step
+step_view table = fold-Step syntax.Selector syntax.Logical syntax.Comparable syntax.Comparable syntax.Comparable syntax.Argument syntax.Segment syntax.Logical choice_step (condition_step table) found_step operand_step (sought_step table) spelled_step step_step test_step
 
 -- the segments of some steps, in order
 abbrev pub steps_view : Table → List Step → syntax.Segments
@@ -134,17 +164,12 @@ choices_view table ss = selectors_of (map (choice_view table) ss)
 abbrev pub conditions_view : Table → List Condition → syntax.Logicals
 conditions_view table ls = logicals_of (map (condition_view table) ls)
 
--- the arguments of a call
-abbrev pub givens_view : Table → List Given → syntax.Arguments
-givens_view table args = arguments_of (map (given_view table) args)
-
 -- ---- slots
 
 -- what is asked of the root, whose own slots are seen already
 abbrev pub asked_view : Table → Asked → Meant
-asked_view table (asked.Steps ss) = query (steps_view table ss.items)
-asked_view table (asked.Compare a op b) = expression (syntax.compare (side_view table a) (op_view op) (side_view table b))
-asked_view table (asked.Test c) = expression (syntax.test (invoked_view table c))
+asked_view table (asked.Test test) = expression (test_view table test)
+asked_view table (asked.Value found) = side (found_view table found)
 
 -- what a slot asks
 abbrev pub slot_step : Slot-F Meant → Meant

@@ -1,6 +1,6 @@
 -- Expressions that ask nothing of the current node, and those with `$` in place of it.
 use Rattle.std.specs.Prelude.{Bool, true, false, ◌&&◌}
-use Rattle.jp_model.specs.Query.Syntax.{root, current, Logical, or_all, and_all, negated, compare, exists, test, Logicals, no_logicals, logical, Comparable, constant, single, result, Argument, constant_argument, nodes_argument, condition, result_argument, Arguments, no_arguments, argument, Path, path, Call, call}
+use Rattle.jp_model.specs.Query.Syntax.{Origin, root, current, Logical, or_all, and_all, negated, compare, exists, test, Logicals, no_logicals, logical, Comparable, constant, single, result, Argument, constant_argument, nodes_argument, condition, result_argument, Arguments, no_arguments, argument, Path, path, Call, call}
 
 -- ---- which part of an expression asks nothing of the current node
 
@@ -30,6 +30,20 @@ abbrev pub side_asks_root : Comparable → Bool
 side_asks_root (constant c) = true
 side_asks_root (single p) = path_asks_root p
 side_asks_root (result c) = call_asks_root c
+
+abbrev mutual
+  -- each query in an expression does
+  pub logical_asks_root : Logical → Bool
+  logical_asks_root (or_all ls) = logicals_ask_root ls
+  logical_asks_root (and_all ls) = logicals_ask_root ls
+  logical_asks_root (negated l) = logical_asks_root l
+  logical_asks_root (compare a op b) = side_asks_root a && side_asks_root b
+  logical_asks_root (exists p) = path_asks_root p
+  logical_asks_root (test c) = call_asks_root c
+
+  pub logicals_ask_root : Logicals → Bool
+  logicals_ask_root no_logicals = true
+  logicals_ask_root (logical l ls) = logical_asks_root l && logicals_ask_root ls
 
 -- ---- `$` in place of `@`, but for the filters within
 
@@ -66,3 +80,26 @@ abbrev mutual
   argument_from_root (nodes_argument p) = nodes_argument (path_from_root p)
   argument_from_root (condition l) = condition (logical_from_root l)
   argument_from_root (result_argument c) = result_argument (call_from_root c)
+
+-- ---- what is asked of the root where that is meant, and of the current node where it is not
+
+abbrev pub is_root : Origin → Bool
+is_root root = true
+is_root current = false
+
+-- what is asked of the root asks nothing else
+abbrev pub asks_from : Origin → Bool → Bool
+asks_from root asks = asks
+asks_from current asks = true
+
+abbrev pub logical_from : Origin → Logical → Logical
+logical_from root l = logical_from_root l
+logical_from current l = l
+
+abbrev pub side_from : Origin → Comparable → Comparable
+side_from root a = side_from_root a
+side_from current a = a
+
+abbrev pub argument_from : Origin → Argument → Argument
+argument_from root a = argument_from_root a
+argument_from current a = a

@@ -2,17 +2,17 @@
 
 ghost use Rattle.std.specs.Prelude.{◌≡◌, ◌++◌, [], ◌∷◌, true, map, IfOk, OnOk, OnErr};
 ghost use Rattle.jp_model.specs.Meaning.Selecting.{nodes, truth as truth_of};
+ghost use Rattle.jp_model.specs.Query.Typing.{logical_typed, segments_typed};
 ghost use Rattle.jp_query.specs.Sound.{has_sound_literals, logical_has_sound_literals};
 ghost use Rattle.jp_query.specs.View.{segments_view, logical_view};
 ghost use Rattle.jp_tape.specs.Cursors.{line_of, place_of, node_of};
 ghost use Rattle.jp_eval.specs.Compiled.{program_view};
-ghost use Rattle.jp_eval.specs.Found.{Adds, AreOf};
+ghost use Rattle.jp_eval.specs.Found.{Adds, AreOf, found_in};
 
-use crate::answers::{first_answers, no_answers};
 use crate::compile::Compiler;
-use crate::frame::{At, Frame, Run};
+use crate::frame::{ALL, Frame, Run, Walk};
 use crate::program::{Slot, Step};
-use jp_query::{Logical, Segment};
+use jp_query::{Logical, Origin, Segment};
 use jp_tape::Cursor;
 use std::alloc::{AllocError, Global};
 
@@ -25,11 +25,12 @@ pub struct Program {
 }
 
 impl Program {
-    /// Compiles segments. What was compiled means what they mean.
+    /// Compiles segments that are well-typed. What was compiled means what they mean.
     ///
     /// If memory is refused, the answer is `AllocError`.
     pub fn compile(alloc: Global, segments: &[Segment]) -> Result<Program, AllocError>
         requires literals { has_sound_literals (segments_view segments.now) ≡ true }
+        requires typed { segments_typed (segments_view segments.now) ≡ true }
         ensures { IfOk result (λ program. program_view program ≡ segments_view segments.now) }
     {
         let mut compiler = Compiler::new(alloc);
@@ -39,36 +40,51 @@ impl Program {
     }
 
     /// Adds what the steps select from a node. No query from the root was answered before.
+    #[inline(always)]
     fn push_all<'a>(
         &self,
         alloc: Global,
         start: Cursor<'a>,
         root: Cursor<'a>,
-        out: &mut Vec<Cursor<'a>>,
+        frame: &mut Frame<'a>,
     ) -> Result<(), AllocError>
         requires line { line_of start ≡ line_of root }
         requires root { place_of root ≡ 0 }
-        ensures kept { Adds (line_of root.entry) out.old.items out.new.items }
-        ensures ok { OnOk result (map node_of out.new.items ≡ map node_of out.old.items ++ nodes (program_view self.now) (node_of start.entry ∷ []) (node_of root.entry).tree) }
+        requires answers { frame.old.answers.items ≡ [] }
+        ensures kept { Adds (line_of root.entry) frame.old.found.items frame.new.found.items }
+        ensures ok { OnOk result (map node_of frame.new.found.items ≡ map node_of frame.old.found.items ++ nodes (program_view self.now) (node_of start.entry ∷ []) (node_of root.entry).tree) }
     {
-        let answers = first_answers(alloc, &self.steps, self.slots.len())?;
         let run = Run {
             alloc,
             slots: &self.slots,
             root: &root,
         };
-        let mut frame = Frame {
-            found: std::mem::replace(out, Vec::new(alloc)),
-            answers,
-        };
-        let at = At {
+        run.begin(&self.steps, frame)?;
+        let walk = Walk {
             run: &run,
-            node: start,
-            most: usize::MAX,
+            most: ALL,
         };
-        let result = at.push_steps(&self.steps, &mut frame);
-        std::mem::swap(out, &mut frame.found);
-        result
+        walk.push_steps(start, &self.steps, frame)
+    }
+
+    /// Finds the nodelist that `run` adds, in a frame that lends its room from line to line: `found` of it is the nodelist then, and
+    /// what it had found before is forgotten.
+    ///
+    /// If memory is refused, the answer is `AllocError`, and the frame can be lent again.
+    pub fn run_in<'a>(
+        &self,
+        alloc: Global,
+        start: Cursor<'a>,
+        root: Cursor<'a>,
+        frame: &mut Frame<'a>,
+    ) -> Result<(), AllocError>
+        requires line { line_of start ≡ line_of root }
+        requires root { place_of root ≡ 0 }
+        ensures ok { OnOk result (map node_of (found_in frame.new) ≡ nodes (program_view self.now) (node_of start.entry ∷ []) (node_of root.entry).tree) }
+        ensures lines { AreOf (line_of root.entry) (found_in frame.new) }
+    {
+        frame.forget();
+        self.push_all(alloc, start, root, frame)
     }
 
     /// Adds the nodelist of the segments from a node on, with duplicates and in its order (RFC 9535, section 2.1.2). In a
@@ -89,7 +105,10 @@ impl Program {
         ensures lines { AreOf (line_of root.entry) out.old.items → AreOf (line_of root.entry) out.new.items }
     {
         let before = out.len();
-        let result = self.push_all(alloc, start, root, out);
+        let mut frame = Frame::new(alloc);
+        std::mem::swap(out, &mut frame.found);
+        let result = self.push_all(alloc, start, root, &mut frame);
+        std::mem::swap(out, &mut frame.found);
         if result.is_err() {
             out.truncate(before);
         }
@@ -112,6 +131,7 @@ pub fn eval_from<'a>(
     requires line { line_of start ≡ line_of root }
     requires root { place_of root ≡ 0 }
     requires literals { has_sound_literals (segments_view segments.now) ≡ true }
+    requires typed { segments_typed (segments_view segments.now) ≡ true }
     ensures ok { OnOk result (map node_of out.new.items ≡ map node_of out.old.items ++ nodes (segments_view segments.now) (node_of start.entry ∷ []) (node_of root.entry).tree) }
     ensures err { OnErr result (out.new.items ≡ out.old.items) }
     ensures lines { AreOf (line_of root.entry) out.old.items → AreOf (line_of root.entry) out.new.items }
@@ -133,25 +153,22 @@ pub fn truth<'a>(
     requires line { line_of node ≡ line_of root }
     requires root { place_of root ≡ 0 }
     requires literals { logical_has_sound_literals (logical_view expression.now) ≡ true }
+    requires typed { logical_typed (logical_view expression.now) ≡ true }
     ensures { IfOk result (λ answer. answer ≡ truth_of (logical_view expression.now) (node_of node.entry) (node_of root.entry).tree) }
 {
     let mut compiler = Compiler::new(alloc);
-    let condition = compiler.compile_logical(expression)?;
+    let condition = compiler.compile_logical(Origin::Current, expression)?;
     let slots = compiler.slots;
-    let answers = no_answers(alloc, slots.len())?;
-    let mut frame = Frame {
-        found: Vec::new(alloc),
-        answers,
-    };
+    let mut frame = Frame::new(alloc);
     let run = Run {
         alloc,
         slots: &slots,
         root: &root,
     };
-    let at = At {
+    run.prepare(&mut frame)?;
+    let walk = Walk {
         run: &run,
-        node,
-        most: usize::MAX,
+        most: ALL,
     };
-    at.holds(&condition, &mut frame)
+    walk.holds(node, &condition, &mut frame)
 }

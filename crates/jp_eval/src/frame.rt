@@ -1,13 +1,14 @@
 //! What an evaluation carries with it.
 
 ghost use Rattle.std.specs.Prelude.{◌≡◌};
-ghost use Rattle.jp_tape.specs.Cursors.{line_of, place_of};
+ghost use Rattle.jp_tape.specs.Cursors.{place_of};
 
+use crate::Result;
 use crate::program::Slot;
 use jp_iregexp::Pattern;
 use jp_tape::Cursor;
 use jp_values::Value;
-use std::alloc::Global;
+use std::alloc::{AllocError, Global};
 
 /// What stays the same: where memory comes from, what is asked of the root, and the root of the line, which is `$` in each
 /// expression.
@@ -19,34 +20,98 @@ pub(crate) struct Run<'p, 'a> {
     ghost at_root: { place_of root.now ≡ 0 },
 }
 
-/// A node of the line, from which as many nodes are looked for as there is room for.
+/// A walk over nodes of the line, which looks for as many as there is room for.
 #[derive(Clone, Copy)]
-pub(crate) struct At<'r, 'a> {
+pub(crate) struct Walk<'r, 'a> {
     pub(crate) run: &'r Run<'r, 'a>,
-    pub(crate) node: Cursor<'a>,
     /// How many nodes are found at most, with those that were found before.
     pub(crate) most: usize,
-    ghost in_line: { line_of node ≡ line_of run.now.root.now },
 }
 
-/// The answer to what was asked of the nodes that a query from the root selects, or of the root alone.
+/// So many nodes at most are found where each is kept. No list is so long.
+pub(crate) const ALL: usize = usize::MAX - 1;
+
+/// So many nodes at most are found where each is counted, and none is kept.
+pub(crate) const COUNTED: usize = usize::MAX;
+
+/// The answer to what a slot asks of the root.
 #[derive(Drop)]
 pub(crate) enum Answer<'a> {
-    /// Whether there is one.
-    Exists(bool),
-    /// How many there are.
-    Count(u64),
-    /// The value of the single node, or how long it is.
-    Single(bool, Value<'a>),
-    /// The pattern that the value of the single node spells, where it spells one.
-    Pattern(Box<Option<Pattern>>),
-    /// Whether a comparison holds, or a call is true.
+    /// Whether it holds.
     Holds(bool),
+    /// The value. A number was read, so that it is read once and not at each comparison.
+    Value(Value<'a>),
+    /// The pattern that the value spells, where it spells one.
+    Pattern(Box<Option<Pattern>>),
 }
 
-/// What changes: the nodes that were found, and what was answered of what is asked of the root, by the positions of the slots.
+/// The nodes that were found, and what was answered of what is asked of the root, by the positions of the slots. It lends its room
+/// from line to line.
 #[derive(Drop)]
-pub(crate) struct Frame<'a> {
+pub struct Frame<'a> {
     pub(crate) found: Vec<Cursor<'a>>,
+    /// How many nodes were counted.
+    pub(crate) count: u64,
     pub(crate) answers: Vec<Option<Answer<'a>>>,
+}
+
+impl<'a> Frame<'a> {
+    ghost use Rattle.std.specs.Prelude.{◌∷◌, [], List, OnOk, true};
+    ghost use Rattle.jp_model.specs.Meaning.Nodes.{Node};
+    ghost use Rattle.jp_tape.specs.Cursors.{line_of, node_of};
+    ghost use Rattle.jp_eval.specs.Found.{Adds, found_in};
+    ghost use Rattle.jp_eval.specs.Tallies.{tally};
+
+    /// With no node, and no room yet.
+    pub fn new(alloc: Global) -> Frame<'a>
+        ensures found { found_in result ≡ [] }
+        ensures answers { result.answers.items ≡ [] }
+    {
+        Frame {
+            found: Vec::new(alloc),
+            count: 0,
+            answers: Vec::new(alloc),
+        }
+    }
+
+    /// The nodes that were found, in their order.
+    pub fn found(&self) -> &[Cursor<'a>]
+        ensures { result.now ≡ found_in self.now }
+    {
+        &self.found
+    }
+
+    /// Forgets what was found and answered in the line before, and keeps the room.
+    #[inline(always)]
+    pub(crate) fn forget(&mut self)
+        ensures found { self.new.found.items ≡ [] }
+        ensures answers { self.new.answers.items ≡ [] }
+    {
+        self.found.clear();
+        self.count = 0;
+        self.answers.clear();
+    }
+
+    /// Whether no more nodes are looked for.
+    #[inline(always)]
+    pub(crate) fn has(&self, most: usize) -> bool
+        ensures { result ≡ true → (others : List Node) → tally most self.now others ≡ tally most self.now [] }
+    {
+        self.found.len() == most
+    }
+
+    /// Adds a node, as long as there are fewer than `most`, or counts it. More than a count holds are refused as memory is.
+    #[inline(always)]
+    pub(crate) fn add(&mut self, node: Cursor<'a>, most: usize) -> Result<()>
+        ensures adds { Adds (line_of node.entry) self.old.found.items self.new.found.items }
+        ensures answers { self.new.answers ≡ self.old.answers }
+        ensures told { OnOk result (tally most self.new [] ≡ tally most self.old (node_of node.entry ∷ [])) }
+    {
+        if most == COUNTED {
+            self.count = self.count.checked_add(1).ok_or(AllocError)?;
+        } else if self.found.len() < most {
+            self.found.push(node)?;
+        }
+        Ok(())
+    }
 }

@@ -1,12 +1,11 @@
 //! The functions of filters (RFC 9535, section 2.4).
 
-ghost use Rattle.std.specs.Prelude.{◌≡◌, length, Some, IfOk, IsTrue, option_map, true};
+ghost use Rattle.std.specs.Prelude.{◌≡◌, length, Some, IfOk, IsTrue, option_map};
 ghost use Rattle.std.specs.Str.{chars};
 ghost use Rattle.jp_model.specs.Json.Tree.{value_of};
 ghost use Rattle.jp_model.specs.Meaning.Functions.{length_of as length_of_value};
 ghost use Rattle.jp_tape.specs.Cursors.{node_of};
-ghost use Rattle.jp_eval.specs.Answers.{IsValue};
-ghost use Rattle.jp_eval.specs.Functions.{function_named, measured, passing, pattern_in, passes_as_string, passes_where_read};
+ghost use Rattle.jp_eval.specs.Functions.{passing, pattern_in, passes_as_string, passes_where_read};
 ghost use Rattle.jp_iregexp.specs.Trees.{pattern_view};
 ghost use Rattle.jp_strings.specs.Points.{IsText, points_of};
 ghost use Rattle.jp_values.specs.Values.{value_view, is_sound_value};
@@ -27,7 +26,7 @@ fn count_scalars(text: &str) -> u64
 }
 
 /// How long a node's value is: scalars of a string, elements or members (RFC 9535, section 2.4.4).
-fn length_of_node(node: Cursor<'_>) -> Value<'_>
+fn length_of_node<'v>(node: Cursor<'_>) -> Value<'v>
     ensures sound { IsTrue (is_sound_value result) }
     ensures value { value_view result ≡ length_of_value (Some (value_of (node_of node.entry).tree)) }
 {
@@ -41,7 +40,7 @@ fn length_of_node(node: Cursor<'_>) -> Value<'_>
 }
 
 /// How long a value is (RFC 9535, section 2.4.4).
-pub(crate) fn length_of<'a>(value: Value<'a>) -> Value<'a>
+pub(crate) fn length_of<'v>(value: Value<'_>) -> Value<'v>
     ensures sound { IsTrue (is_sound_value result) }
     ensures value { value_view result ≡ length_of_value (value_view value.entry) }
 {
@@ -50,15 +49,6 @@ pub(crate) fn length_of<'a>(value: Value<'a>) -> Value<'a>
         Value::Constant(Literal::Text(text)) => Value::Count(count_scalars(text.as_str())),
         _ => Value::Nothing,
     }
-}
-
-/// The value, or how long it is.
-#[inline(always)]
-pub(crate) fn measure<'a>(value: Value<'a>, is_length: bool) -> Value<'a>
-    requires { is_sound_value value ≡ true }
-    ensures { IsValue result (measured is_length (value_view value.entry)) }
-{
-    if is_length { length_of(value) } else { value }
 }
 
 /// Whether a text passes a pattern: all of it, or a part of it.
@@ -128,29 +118,5 @@ pub(crate) fn read_passes(
         Value::Node(node) => node_passes(alloc, pattern, whole, node),
         Value::Constant(Literal::Text(text)) => text_passes(alloc, pattern, whole, text.as_str()),
         _ => Ok(false),
-    }
-}
-
-/// The five functions.
-#[derive(Clone, Copy)]
-pub(crate) enum Function {
-    Length,
-    Count,
-    Value,
-    Match,
-    Search,
-}
-
-/// The function of a name.
-pub(crate) fn function_of(name: &str) -> Option<Function>
-    ensures { result ≡ function_named (chars name.now) }
-{
-    match name {
-        "length" => Some(Function::Length),
-        "count" => Some(Function::Count),
-        "value" => Some(Function::Value),
-        "match" => Some(Function::Match),
-        "search" => Some(Function::Search),
-        _ => None,
     }
 }

@@ -3,7 +3,7 @@
 ghost use Rattle.std.specs.Prelude.{◌≡◌, true, IsTrue, Some, length, option_map, chars, string_bytes};
 ghost use Rattle.jp_decimal.specs.Decimals.{numeral_number};
 ghost use Rattle.jp_eval.specs.Constants.{is_read_as};
-ghost use Rattle.jp_eval.specs.Functions.{function_named, pattern_in};
+ghost use Rattle.jp_eval.specs.Functions.{pattern_in};
 ghost use Rattle.jp_iregexp.specs.Trees.{pattern_view};
 ghost use Rattle.jp_eval.specs.Found.{node_list};
 ghost use Rattle.jp_model.specs.Meaning.Compare.{compared};
@@ -13,7 +13,6 @@ ghost use Rattle.jp_query.specs.View.{literal_view, op_view};
 ghost use Rattle.jp_strings.specs.Plain.{ArePlain};
 ghost use Rattle.jp_values.specs.Values.{value_view, is_sound_value};
 
-use crate::functions::Function;
 use jp_decimal::Numeral;
 use jp_iregexp::Pattern;
 use jp_query::{CompareOp, Literal};
@@ -66,24 +65,6 @@ pub(crate) struct MemberName {
     pub(crate) text: String,
     pub(crate) plain: bool,
     ghost known: { plain ≡ true → ArePlain (string_bytes text) 0 (length (string_bytes text)) },
-}
-
-/// A name of a function, and which of the five it is.
-#[derive(Drop)]
-pub(crate) struct Named {
-    pub(crate) name: String,
-    pub(crate) function: Option<Function>,
-    ghost known: { function ≡ function_named (chars (string_bytes name)) },
-}
-
-impl Named {
-    /// The function, where it is one of the five.
-    #[inline(always)]
-    pub(crate) fn which(&self) -> Option<Function>
-        ensures { result ≡ self.now.function }
-    {
-        self.function
-    }
 }
 
 /// A text of the query where a pattern may be wanted, and the pattern that it spells, where it spells one.

@@ -2,14 +2,19 @@
 //!
 //! Public calls:
 //!
-//! - `Program::compile`, `Program::run`: a query, compiled once and run for each line
+//! - `Program::compile`, `Program::run`, `Program::run_in`: a query, compiled once and run for each line
+//! - `Frame`: what lends its room from line to line
 //! - `eval_from`, `truth`: the nodelist of segments; whether an expression holds of a node
 //! - `follow`: the node of a singular path, without memory
 #![tactic(auto)]
 
 mod answers;
+mod calls;
 mod children;
 mod compile;
+mod compile_filter;
+mod conditions;
+mod constants;
 mod evaluate;
 mod frame;
 mod functions;
@@ -17,12 +22,13 @@ mod leaves;
 mod program;
 mod question;
 mod roots;
-mod run;
-mod singular;
+mod select;
 mod steps;
+mod values;
 
 /// What a call gives that may be refused memory.
 type Result<T> = std::result::Result<T, std::alloc::AllocError>;
 
 pub use evaluate::{Program, eval_from, truth};
+pub use frame::Frame;
 pub use steps::follow;

@@ -6,15 +6,17 @@
 //! |---|---|---|
 //! | `Segment` | `Step` | whether it leads to one child, by a `Key` |
 //! | `Selector` | `Choice` | of a name, whether each of its bytes stands for itself |
-//! | `Logical` | `Condition` | whether it asks one query one `Question`; whether it asks the root alone |
-//! | `Path` | `Nodes` | the slot of a query from the root |
-//! | `Comparable` | `Side` | the value of a number |
-//! | `Argument` | `Given` | the same, and the pattern that a text spells |
-//! | `Call` | `Invoked` | which of the five functions it is of |
+//! | `Logical` | `Condition` | whether it asks the root alone |
+//! | the same | `Test` | whether it asks one `Question` of one node |
+//! | `Comparable`, `Argument` | `Operand` | the value of a number |
+//! | `Argument` | `Spelled` | the pattern that a text spells |
+//! | `Path`, `Call` | `Sought` | whether it asks the root alone |
+//! | the same | `Found` | whether a query is singular; which of the functions a call is of |
 //!
+//! A query within a filter goes from the node that is asked about. One from the root is asked of the root, by a slot.
 //! `specs/Programs.antt` says which part of a syntax tree each value means.
 
-use crate::leaves::{Constant, LiteralPattern, Named};
+use crate::leaves::{Constant, LiteralPattern};
 use crate::question::{Key, Question};
 use jp_query::CompareOp;
 
@@ -46,58 +48,74 @@ pub(crate) enum Choice {
 #[cycle(program)]
 #[derive(Drop)]
 pub(crate) enum Condition {
+    Test(Test),
+    /// What the slot at this position asks of the root, so that the answer is the same for each node of a line.
+    Once(usize),
+}
+
+/// What is asked of a node (RFC 9535, section 2.3.5.2).
+#[cycle(program)]
+#[derive(Drop)]
+pub(crate) enum Test {
+    /// What is asked of the node that a singular query selects, beside what the filter spells. Most filters ask no more.
+    Single(Vec<Key>, Question),
     Or(Vec<Condition>),
     And(Vec<Condition>),
     Not(Box<Condition>),
-    /// What is asked of the nodes of a query, beside what the filter spells. Most filters ask no more.
-    Asks(Nodes, Question),
-    /// What the slot at this position asks of the root, so that the answer is the same for each node of a line.
-    Once(usize),
+    /// Whether the query selects a node.
+    Exists(Vec<Step>),
     Compare {
-        left: Side,
+        left: Operand,
         op: CompareOp,
-        right: Side,
+        right: Operand,
     },
-    Test(Invoked),
+    /// Whether all of a text, or a part of it, passes a pattern (RFC 9535, sections 2.4.6 and 2.4.7).
+    Passes {
+        whole: bool,
+        text: Operand,
+        pattern: Spelled,
+    },
 }
 
-/// A side of a comparison (RFC 9535, section 2.3.5.1).
+/// A value that is compared, or that a function is given (RFC 9535, sections 2.3.5.1 and 2.4).
 #[cycle(program)]
 #[derive(Drop)]
-pub(crate) enum Side {
+pub(crate) enum Operand {
     Constant(Constant),
-    Single(Nodes),
-    Result(Invoked),
+    Sought(Sought),
 }
 
-/// An argument of a function (RFC 9535, section 2.4).
+/// What spells a pattern.
 #[cycle(program)]
 #[derive(Drop)]
-pub(crate) enum Given {
-    Constant(Constant),
-    /// A text where a pattern is wanted.
-    Pattern(LiteralPattern),
-    Nodes(Nodes),
-    Condition(Condition),
-    Result(Invoked),
+pub(crate) enum Spelled {
+    Literal(LiteralPattern),
+    Sought(Sought),
 }
 
-/// A query within a filter (RFC 9535, section 2.3.5.1).
+/// A value that is looked for in the line.
 #[cycle(program)]
 #[derive(Drop)]
-pub(crate) enum Nodes {
-    /// The query from the root that has this position among the slots around it.
-    Slot(usize),
-    /// From the node that is filtered.
-    Current(Vec<Step>),
+pub(crate) enum Sought {
+    Found(Found),
+    /// What the slot at this position finds at the root.
+    Once(usize),
 }
 
-/// A call of a function (RFC 9535, section 2.4).
+/// A value that is found at a node.
 #[cycle(program)]
 #[derive(Drop)]
-pub(crate) struct Invoked {
-    pub(crate) named: Named,
-    pub(crate) arguments: Vec<Given>,
+pub(crate) enum Found {
+    /// That of the node that a singular query selects.
+    Single(Vec<Key>),
+    /// That of the only node that another query selects.
+    Only(Vec<Step>),
+    /// How long a value is (RFC 9535, section 2.4.4).
+    Length(Box<Operand>),
+    /// How many nodes a query selects (RFC 9535, section 2.4.5).
+    Count(Vec<Step>),
+    /// That of the only node that a query selects, as a function answers it (RFC 9535, section 2.4.8).
+    Value(Vec<Step>),
 }
 
 /// What a filter asks of the root, once in a line, and the slots of what is within it.
@@ -107,17 +125,9 @@ pub(crate) struct Slot {
     pub(crate) asked: Asked,
 }
 
-/// What is asked of the root.
+/// What is asked of the root. It stands here as it is asked of any node.
 #[derive(Drop)]
 pub(crate) enum Asked {
-    /// The nodes of a query.
-    Steps(Vec<Step>),
-    /// Whether a comparison holds that asks nothing of another node.
-    Compare {
-        left: Side,
-        op: CompareOp,
-        right: Side,
-    },
-    /// Whether a call is true that asks nothing of another node.
-    Test(Invoked),
+    Test(Test),
+    Value(Found),
 }

@@ -1,8 +1,10 @@
 //! What a filter asks, and the names and indexes that lead to a child.
 
-ghost use Rattle.std.specs.Prelude.{◌≡◌, IfOk, IfSome};
+ghost use Rattle.std.specs.Prelude.{◌≡◌, ◌∷◌, [], IfOk, IfSome};
+ghost use Rattle.jp_model.specs.Json.Tree.{Tree};
+ghost use Rattle.jp_model.specs.Meaning.Selecting.{nodes as nodes_of};
 ghost use Rattle.jp_eval.specs.Found.{node_list};
-ghost use Rattle.jp_eval.specs.Keys.{key_view};
+ghost use Rattle.jp_eval.specs.Keys.{key_view, keys_view};
 ghost use Rattle.jp_eval.specs.Questions.{answered};
 ghost use Rattle.jp_eval.specs.Steps.{step_nodes};
 ghost use Rattle.jp_tape.specs.Cursors.{line_of, node_of};
@@ -34,6 +36,33 @@ impl Key {
             Key::Name(name) => find_member(node, name.text.as_str(), name.plain),
             Key::Index(index) => find_element(node, *index),
         }
+    }
+}
+
+/// The node that several names and indexes lead to, if there is one.
+#[inline(never)]
+fn follow_several<'a>(keys: &[Key], start: Cursor<'a>) -> Option<Cursor<'a>>
+    ensures { (t : Tree) → node_list result ≡ nodes_of (keys_view keys.now) (node_of start.entry ∷ []) t }
+{
+    let mut node = start;
+    for key in keys {
+        match key.find(node) {
+            Some(child) => node = child,
+            None => return None,
+        }
+    }
+    Some(node)
+}
+
+/// The node that names and indexes lead to, if there is one (RFC 9535, section 2.3.5.1). Most queries have one, and no loop.
+#[inline(always)]
+pub(crate) fn follow_keys<'a>(keys: &[Key], start: Cursor<'a>) -> Option<Cursor<'a>>
+    ensures { (t : Tree) → node_list result ≡ nodes_of (keys_view keys.now) (node_of start.entry ∷ []) t }
+{
+    match keys {
+        [] => Some(start),
+        [key] => key.find(start),
+        _ => follow_several(keys, start),
     }
 }
 

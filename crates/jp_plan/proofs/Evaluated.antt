@@ -8,6 +8,7 @@ use Rattle.jp_model.specs.Meaning.Selecting.{nodes}
 use Rattle.jp_model.specs.Steps.{Step}
 use Rattle.jp_model.specs.Query.Singular.{singular_step, step_selector, steps_query}
 use Rattle.jp_model.specs.Query.Syntax.{Segment, child_segment, Segments, no_segments, segment, no_selectors, selector}
+use Rattle.jp_model.specs.Query.Typing.{segments_typed}
 use Rattle.jp_model.proofs.Seek.{segment_is}
 use Rattle.jp_model.proofs.Steps.{step_same}
 use Rattle.jp_query.specs.Sound.{has_sound_literals}
@@ -37,5 +38,15 @@ behind_sound (s ∷ ss) no_segments rest h k = absurd (cc)
 behind_sound (s ∷ ss) (segment g gs) rest h k = pick (is_of_step s (singular_step g)) h (behind_sound ss gs rest)
   where
     pick : (b : Bool) → (if b then segments_behind ss gs else None) ≡ Some rest → (segments_behind ss gs ≡ Some rest → has_sound_literals gs ≡ true → has_sound_literals rest ≡ true) → has_sound_literals rest ≡ true
+    pick true e again = again e (and_parts _ _ k).1
+    pick false e again = absurd (cc)
+
+-- and it is well-typed where the query is
+pub behind_typed : (ss : List Step) (q rest : Segments) → segments_behind ss q ≡ Some rest → segments_typed q ≡ true → segments_typed rest ≡ true
+behind_typed [] q rest h k = subst (λ p. segments_typed p ≡ true) (same_Some q rest h) k
+behind_typed (s ∷ ss) no_segments rest h k = absurd (cc)
+behind_typed (s ∷ ss) (segment g gs) rest h k = pick (is_of_step s (singular_step g)) h (behind_typed ss gs rest)
+  where
+    pick : (b : Bool) → (if b then segments_behind ss gs else None) ≡ Some rest → (segments_behind ss gs ≡ Some rest → segments_typed gs ≡ true → segments_typed rest ≡ true) → segments_typed rest ≡ true
     pick true e again = again e (and_parts _ _ k).1
     pick false e again = absurd (cc)

@@ -2,6 +2,7 @@
 
 ghost use Rattle.std.specs.Prelude.{◌≡◌, ◌<◌, true, Some, length, IfSome};
 ghost use Rattle.jp_model.specs.Plans.{leading_steps, seek_of};
+ghost use Rattle.jp_model.specs.Query.Typing.{segments_typed};
 ghost use Rattle.jp_query.specs.View.{segments_view};
 ghost use Rattle.jp_query.specs.Sound.{has_sound_literals};
 ghost use Rattle.jp_plan.specs.Behind.{segments_behind};
@@ -41,7 +42,8 @@ fn behind_seek<'s>(store: &Store, seek: Option<u32>, segments: &'s [Segment]) ->
 
 /// The way of a query over the indexes of a store.
 pub(crate) fn find_route<'s>(segments: &'s [Segment], store: &Store) -> Route<'s>
-    requires { has_sound_literals (segments_view segments.now) ≡ true }
+    requires sound { has_sound_literals (segments_view segments.now) ≡ true }
+    requires typed { segments_typed (segments_view segments.now) ≡ true }
     ensures { IsRouteOf result (segments_view segments.now) store.now }
 {
     let seek = find_seek(store, segments);

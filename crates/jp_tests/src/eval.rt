@@ -4,6 +4,7 @@ use super::tapes::tape_of;
 use jp_eval::{eval_from, truth};
 use jp_query::{Logical, parse};
 use jp_tape::Cursor;
+use jp_types::check;
 use std::test::Fail;
 
 #[test]
@@ -12,6 +13,9 @@ fn segments_select_their_nodes(rt: HostRuntime) -> Result<(), Fail> {
     let root = Cursor::root(&tape, b"[\"a\",\"b\"]");
     let Ok(query) = parse(rt.alloc(), b"$[?match(@,'a')]") else {
         return Err("no query".into());
+    };
+    let Ok(query) = check(query) else {
+        return Err("not well-typed".into());
     };
     let mut found = Vec::new(rt.alloc());
     eval_from(rt.alloc(), query.segments(), root, root, &mut found)?;

@@ -6,12 +6,12 @@ use Rattle.jp_model.specs.Query.Syntax.{Logical}
 use Rattle.jp_tape.specs.Cursors.{node_of}
 use Rattle.jp_eval.specs.Programs.{table_of, condition_view}
 use Rattle.jp_eval.specs.declared.program.Slot.{Slot}
+use Rattle.jp_eval.proofs.Answered.{none_kept}
 use Rattle.jp_eval.proofs.Meanings.{whole}
 use Rattle.jp_eval.proofs.evaluate.truth.Goals as goal
 
-pub holds-requires : goal.holds-requires
-holds-requires c =
-    c.in_ok-answers.ensures (record { alloc = c.args.alloc; slots = c.deref.result; root = record { ref_ptr = c.args.expression.ref_ptr; now = c.args.root }; at_root = c.requires.root })
+pub prepare-requires : goal.prepare-requires
+prepare-requires c = none_kept (record { alloc = c.args.alloc; slots = c.deref.result; root = record { ref_ptr = c.args.expression.ref_ptr; now = c.args.root }; at_root = c.requires.root }) _ c.new-frame.ensures.answers
 
 pub returns : goal.returns
 returns c =

@@ -10,7 +10,7 @@ use Rattle.jp_query.specs.Sound.{is_sound}
 use Rattle.jp_values.proofs.Leaves.{literal_short}
 use Rattle.jp_eval.specs.Constants.{is_read_as}
 use Rattle.jp_eval.proofs.Literals.{read_as}
-use Rattle.jp_eval.proofs.compile.read_literal.Goals as goal
+use Rattle.jp_eval.proofs.constants.read_literal.Goals as goal
 
 pub read-requires : goal.read-requires
 read-requires c =

@@ -1,0 +1,274 @@
+//! What the filters of a query ask is compiled.
+//!
+//! `from` says where the queries begin that are asked of the node: at the current node, or, in a slot, at the root. In a filter
+//! what asks the root alone becomes a slot.
+
+ghost use Rattle.std.specs.Prelude.{◌≡◌, ◌&&◌, true, IfOk, map};
+ghost use Rattle.jp_eval.specs.Expressions.{readable};
+ghost use Rattle.jp_eval.specs.Programs.{Table, Means, argument_of, condition_view, test_view, operand_view, spelled_view, sought_view, found_view};
+ghost use Rattle.jp_eval.specs.Roots.{argument_asks_root, argument_from, asks_from, call_asks_root, is_root, logical_asks_root, logical_from, logicals_ask_root, path_asks_root, side_asks_root, side_from};
+ghost use Rattle.jp_model.specs.Query.Limits.{logical_passes, logicals_pass, comparable_passes, path_passes, call_passes, argument_passes};
+ghost use Rattle.jp_model.specs.Query.Syntax.{compare, exists, result as call_result, single, test as call_test};
+ghost use Rattle.jp_model.specs.Query.Typing.{logical_typed, logicals_typed, comparable_typed, path_typed, call_typed, call_serves, argument_typed, logical_kind, value_kind};
+ghost use Rattle.jp_query.specs.View.{op_view, logicals_of, logicals_view, logical_view, comparable_view, path_view, call_view, argument_view, origin_view};
+
+use crate::Result;
+use crate::calls::{ValueCall, pattern_call, value_call};
+use crate::compile::Compiler;
+use crate::constants::{compile_keys, compile_literal, compile_pattern};
+use crate::program::{Condition, Found, Operand, Sought, Spelled, Test};
+use crate::question::Question;
+use crate::roots::{becomes_slot, call_asks_root, logical_asks_root, path_asks_root};
+use jp_query::{Argument, Call, Comparable, CompareOp, Logical, Origin, Path};
+
+impl Compiler {
+    /// The conditions of the parts of an expression, in their order.
+    #[cycle(compile)]
+    fn compile_logicals(&mut self, from: Origin, parts: &[Logical]) -> Result<Vec<Condition>>
+        requires literals { logicals_pass (logicals_view parts.now) readable ≡ true }
+        requires typed { logicals_typed (logicals_view parts.now) ≡ true }
+        requires root { asks_from (origin_view from) (logicals_ask_root (logicals_view parts.now)) ≡ true }
+        ensures { IfOk result (λ conditions. Means self.old.slots.items self.new.slots.items (λ (table : Table). logicals_of (map (λ c. logical_from (origin_view from) (condition_view table c)) conditions.items)) (logicals_view parts.now)) }
+    {
+        let mut compiled = Vec::new(self.alloc);
+        for part in parts {
+            let one = self.compile_logical(from, part)?;
+            compiled.push(one)?;
+        }
+        Ok(compiled)
+    }
+
+    /// The condition of an expression.
+    #[cycle(compile)]
+    pub(crate) fn compile_logical(
+        &mut self,
+        from: Origin,
+        expression: &Logical,
+    ) -> Result<Condition>
+        requires literals { logical_passes (logical_view expression.now) readable ≡ true }
+        requires typed { logical_typed (logical_view expression.now) ≡ true }
+        requires root { asks_from (origin_view from) (logical_asks_root (logical_view expression.now)) ≡ true }
+        ensures { IfOk result (λ condition. Means self.old.slots.items self.new.slots.items (λ (table : Table). logical_from (origin_view from) (condition_view table condition)) (logical_view expression.now)) }
+    {
+        if becomes_slot(from, logical_asks_root(expression)) {
+            let mut inner = Compiler::new(self.alloc);
+            let test = inner.compile_test(Origin::Root, expression)?;
+            return self.add_test(inner.slots, test);
+        }
+        Ok(Condition::Test(self.compile_test(from, expression)?))
+    }
+
+    /// The test of an expression, that is of a slot where it asks the root alone.
+    #[cycle(compile)]
+    fn compile_test(&mut self, from: Origin, expression: &Logical) -> Result<Test>
+        requires literals { logical_passes (logical_view expression.now) readable ≡ true }
+        requires typed { logical_typed (logical_view expression.now) ≡ true }
+        requires root { logical_asks_root (logical_view expression.now) ≡ is_root (origin_view from) }
+        ensures { IfOk result (λ test. Means self.old.slots.items self.new.slots.items (λ (table : Table). logical_from (origin_view from) (test_view table test)) (logical_view expression.now)) }
+    {
+        match expression {
+            Logical::Or(parts) => Ok(Test::Or(self.compile_logicals(from, parts)?)),
+            Logical::And(parts) => Ok(Test::And(self.compile_logicals(from, parts)?)),
+            Logical::Not(inner) => {
+                let inner = self.compile_logical(from, inner)?;
+                Ok(Test::Not(Box::new(self.alloc, inner)?))
+            }
+            Logical::Compare { left, op, right } => {
+                self.compile_comparison(from, left, *op, right)
+            }
+            Logical::Exists(path) => self.compile_exists(path),
+            Logical::Test(call) => self.compile_passes(from, call),
+        }
+    }
+
+    /// The test of a comparison.
+    #[cycle(compile)]
+    fn compile_comparison(
+        &mut self,
+        from: Origin,
+        left: &Comparable,
+        op: CompareOp,
+        right: &Comparable,
+    ) -> Result<Test>
+        requires left { comparable_passes (comparable_view left.now) readable ≡ true }
+        requires right { comparable_passes (comparable_view right.now) readable ≡ true }
+        requires left_typed { comparable_typed (comparable_view left.now) ≡ true }
+        requires right_typed { comparable_typed (comparable_view right.now) ≡ true }
+        requires root { (side_asks_root (comparable_view left.now) && side_asks_root (comparable_view right.now)) ≡ is_root (origin_view from) }
+        ensures { IfOk result (λ test. Means self.old.slots.items self.new.slots.items (λ (table : Table). logical_from (origin_view from) (test_view table test)) (compare (comparable_view left.now) (op_view op) (comparable_view right.now))) }
+    {
+        if let Comparable::Single(path) = left
+            && let Comparable::Constant(literal) = right
+            && let Some(keys) = compile_keys(self.alloc, &path.segments)?
+        {
+            let constant = compile_literal(self.alloc, literal)?;
+            return Ok(Test::Single(keys, Question::Compares(op, constant)));
+        }
+        let left = self.compile_side(from, left)?;
+        let right = self.compile_side(from, right)?;
+        Ok(Test::Compare { left, op, right })
+    }
+
+    /// The test whether a query selects a node.
+    #[cycle(compile)]
+    fn compile_exists(&mut self, path: &Path) -> Result<Test>
+        requires literals { path_passes (path_view path.now) readable ≡ true }
+        requires typed { path_typed (path_view path.now) ≡ true }
+        ensures { IfOk result (λ test. Means self.old.slots.items self.new.slots.items (λ (table : Table). logical_from (origin_view path.now.origin) (test_view table test)) (exists (path_view path.now))) }
+    {
+        if let Some(keys) = compile_keys(self.alloc, &path.segments)? {
+            return Ok(Test::Single(keys, Question::Exists));
+        }
+        Ok(Test::Exists(self.compile_segments(&path.segments)?))
+    }
+
+    /// The test of a call that answers a truth.
+    #[cycle(compile)]
+    fn compile_passes(&mut self, from: Origin, call: &Call) -> Result<Test>
+        requires literals { call_passes (call_view call.now) readable ≡ true }
+        requires typed { (call_serves logical_kind (call_view call.now) && call_typed (call_view call.now)) ≡ true }
+        requires root { call_asks_root (call_view call.now) ≡ is_root (origin_view from) }
+        ensures { IfOk result (λ test. Means self.old.slots.items self.new.slots.items (λ (table : Table). logical_from (origin_view from) (test_view table test)) (call_test (call_view call.now))) }
+    {
+        let (whole, text, pattern) = pattern_call(call);
+        if let Argument::Nodes(path) = text
+            && let Argument::Constant(literal) = pattern
+            && let Some(keys) = compile_keys(self.alloc, &path.segments)?
+        {
+            let pattern = compile_pattern(self.alloc, literal)?;
+            return Ok(Test::Single(keys, Question::Passes(whole, pattern)));
+        }
+        let text = self.compile_argument(from, text)?;
+        let pattern = self.compile_spelled(from, pattern)?;
+        Ok(Test::Passes {
+            whole,
+            text,
+            pattern,
+        })
+    }
+
+    /// The operand of a side of a comparison.
+    #[cycle(compile)]
+    fn compile_side(&mut self, from: Origin, side: &Comparable) -> Result<Operand>
+        requires literals { comparable_passes (comparable_view side.now) readable ≡ true }
+        requires typed { comparable_typed (comparable_view side.now) ≡ true }
+        requires root { asks_from (origin_view from) (side_asks_root (comparable_view side.now)) ≡ true }
+        ensures { IfOk result (λ operand. Means self.old.slots.items self.new.slots.items (λ (table : Table). side_from (origin_view from) (operand_view table operand)) (comparable_view side.now)) }
+    {
+        match side {
+            Comparable::Constant(literal) => {
+                let constant = compile_literal(self.alloc, literal)?;
+                Ok(Operand::Constant(constant))
+            }
+            Comparable::Single(path) => Ok(Operand::Sought(self.compile_path(from, path)?)),
+            Comparable::Result(call) => Ok(Operand::Sought(self.compile_call(from, call)?)),
+        }
+    }
+
+    /// The operand of an argument that is a value.
+    #[cycle(compile)]
+    fn compile_argument(&mut self, from: Origin, argument: &Argument) -> Result<Operand>
+        requires literals { argument_passes (argument_view argument.now) readable ≡ true }
+        requires typed { argument_typed (argument_view argument.now) value_kind ≡ true }
+        requires root { asks_from (origin_view from) (argument_asks_root (argument_view argument.now)) ≡ true }
+        ensures { IfOk result (λ operand. Means self.old.slots.items self.new.slots.items (λ (table : Table). argument_from (origin_view from) (argument_of (operand_view table operand))) (argument_view argument.now)) }
+    {
+        match argument {
+            Argument::Constant(literal) => {
+                let constant = compile_literal(self.alloc, literal)?;
+                Ok(Operand::Constant(constant))
+            }
+            Argument::Nodes(path) => Ok(Operand::Sought(self.compile_path(from, path)?)),
+            Argument::Result(call) => Ok(Operand::Sought(self.compile_call(from, call)?)),
+            Argument::Condition(_) => unreachable!(),
+        }
+    }
+
+    /// What spells the pattern that an argument gives.
+    #[cycle(compile)]
+    fn compile_spelled(&mut self, from: Origin, argument: &Argument) -> Result<Spelled>
+        requires literals { argument_passes (argument_view argument.now) readable ≡ true }
+        requires typed { argument_typed (argument_view argument.now) value_kind ≡ true }
+        requires root { asks_from (origin_view from) (argument_asks_root (argument_view argument.now)) ≡ true }
+        ensures { IfOk result (λ spelled. Means self.old.slots.items self.new.slots.items (λ (table : Table). argument_from (origin_view from) (spelled_view table spelled)) (argument_view argument.now)) }
+    {
+        match argument {
+            Argument::Constant(literal) => {
+                let pattern = compile_pattern(self.alloc, literal)?;
+                Ok(Spelled::Literal(pattern))
+            }
+            Argument::Nodes(path) => Ok(Spelled::Sought(self.compile_path(from, path)?)),
+            Argument::Result(call) => Ok(Spelled::Sought(self.compile_call(from, call)?)),
+            Argument::Condition(_) => unreachable!(),
+        }
+    }
+
+    /// What is looked for by a query that is a value. One from the root becomes a slot.
+    #[cycle(compile)]
+    fn compile_path(&mut self, from: Origin, path: &Path) -> Result<Sought>
+        requires literals { path_passes (path_view path.now) readable ≡ true }
+        requires typed { path_typed (path_view path.now) ≡ true }
+        requires root { asks_from (origin_view from) (path_asks_root (path_view path.now)) ≡ true }
+        ensures { IfOk result (λ sought. Means self.old.slots.items self.new.slots.items (λ (table : Table). side_from (origin_view from) (sought_view table sought)) (single (path_view path.now))) }
+    {
+        if becomes_slot(from, path_asks_root(path)) {
+            let mut inner = Compiler::new(self.alloc);
+            let found = inner.compile_only(path)?;
+            return self.add_value(inner.slots, found);
+        }
+        Ok(Sought::Found(self.compile_only(path)?))
+    }
+
+    /// The value of the only node that a query selects.
+    #[cycle(compile)]
+    fn compile_only(&mut self, path: &Path) -> Result<Found>
+        requires literals { path_passes (path_view path.now) readable ≡ true }
+        requires typed { path_typed (path_view path.now) ≡ true }
+        ensures { IfOk result (λ found. Means self.old.slots.items self.new.slots.items (λ (table : Table). side_from (origin_view path.now.origin) (found_view table found)) (single (path_view path.now))) }
+    {
+        if let Some(keys) = compile_keys(self.alloc, &path.segments)? {
+            return Ok(Found::Single(keys));
+        }
+        Ok(Found::Only(self.compile_segments(&path.segments)?))
+    }
+
+    /// What is looked for by a call whose answer is a value. One that asks the root alone becomes a slot.
+    #[cycle(compile)]
+    fn compile_call(&mut self, from: Origin, call: &Call) -> Result<Sought>
+        requires literals { call_passes (call_view call.now) readable ≡ true }
+        requires typed { (call_serves value_kind (call_view call.now) && call_typed (call_view call.now)) ≡ true }
+        requires root { asks_from (origin_view from) (call_asks_root (call_view call.now)) ≡ true }
+        ensures { IfOk result (λ sought. Means self.old.slots.items self.new.slots.items (λ (table : Table). side_from (origin_view from) (sought_view table sought)) (call_result (call_view call.now))) }
+    {
+        if becomes_slot(from, call_asks_root(call)) {
+            let mut inner = Compiler::new(self.alloc);
+            let found = inner.compile_value(Origin::Root, call)?;
+            return self.add_value(inner.slots, found);
+        }
+        Ok(Sought::Found(self.compile_value(from, call)?))
+    }
+
+    /// The value that a call answers.
+    #[cycle(compile)]
+    fn compile_value(&mut self, from: Origin, call: &Call) -> Result<Found>
+        requires literals { call_passes (call_view call.now) readable ≡ true }
+        requires typed { (call_serves value_kind (call_view call.now) && call_typed (call_view call.now)) ≡ true }
+        requires root { call_asks_root (call_view call.now) ≡ is_root (origin_view from) }
+        ensures { IfOk result (λ found. Means self.old.slots.items self.new.slots.items (λ (table : Table). side_from (origin_view from) (found_view table found)) (call_result (call_view call.now))) }
+    {
+        match value_call(call) {
+            ValueCall::Length(argument) => {
+                let operand = self.compile_argument(from, argument)?;
+                Ok(Found::Length(Box::new(self.alloc, operand)?))
+            }
+            ValueCall::Count(path) => {
+                let steps = self.compile_segments(&path.segments)?;
+                Ok(Found::Count(steps))
+            }
+            ValueCall::Value(path) => {
+                let steps = self.compile_segments(&path.segments)?;
+                Ok(Found::Value(steps))
+            }
+        }
+    }
+}

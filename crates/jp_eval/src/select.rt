@@ -1,0 +1,268 @@
+//! What the steps of a query select (RFC 9535, sections 2.1 to 2.5).
+//!
+//! The nodes are found node by node: for each child that the first step selects, the other steps go on from there. So no
+//! list is made in between, and a search for one node stops at the first.
+
+ghost use Rattle.std.specs.Prelude.{◌≡◌, [], ◌∷◌, map, filter, flat_map};
+ghost use Rattle.jp_model.specs.Meaning.Nodes.{children, children_where, subtree};
+ghost use Rattle.jp_model.specs.Meaning.Selecting.{segment_nodes, selected, select, truth as truth_of};
+ghost use Rattle.jp_model.specs.Meaning.Slices.{is_index, sliced};
+ghost use Rattle.jp_tape.specs.Cursors.{line_of, node_of};
+ghost use Rattle.jp_eval.specs.Found.{AreOf};
+ghost use Rattle.jp_eval.specs.Frames.{table_at, tree_at, reached, AreKept, Stands, Pushes};
+ghost use Rattle.jp_eval.specs.Programs.{step_view, choices_view, choice_view, condition_view, test_view};
+ghost use Rattle.jp_eval.specs.Walks.{rises};
+
+use crate::Result;
+use crate::children::{Rising, Slice, find_falling};
+use crate::frame::{Frame, Walk};
+use crate::program::{Choice, Condition, Step, Test};
+use jp_tape::Cursor;
+
+impl<'r, 'a> Walk<'r, 'a> {
+    /// Adds what the steps select from a node, as long as fewer nodes than `most` were found. Where none is left, that is the node.
+    #[cycle(eval)]
+    #[inline(always)]
+    pub(crate) fn push_steps(
+        self,
+        node: Cursor<'a>,
+        steps: &[Step],
+        frame: &mut Frame<'a>,
+    ) -> Result<()>
+        requires { Stands self node frame.old }
+        ensures { Pushes self.entry frame.old frame.new result (reached self.entry.run.now steps.now (node_of node.entry ∷ [])) }
+    {
+        if let Some((step, rest)) = steps.split_first() {
+            return self.push_step(node, step, rest, frame);
+        }
+        frame.add(node, self.most)
+    }
+
+    /// Adds what the step selects from a node, and the steps from there. Most queries end with a name or an index.
+    #[cycle(eval)]
+    #[inline(never)]
+    fn push_step(
+        self,
+        node: Cursor<'a>,
+        step: &Step,
+        rest: &[Step],
+        frame: &mut Frame<'a>,
+    ) -> Result<()>
+        requires { Stands self node frame.old }
+        ensures { Pushes self.entry frame.old frame.new result (reached self.entry.run.now rest.now (segment_nodes (step_view (table_at self.entry) step.now) (node_of node.entry) (tree_at self.entry))) }
+    {
+        match step {
+            Step::One(key) => match key.find(node) {
+                Some(child) => self.push_steps(child, rest, frame),
+                None => Ok(()),
+            },
+            Step::Child(choices) => self.push_choices(node, choices, rest, frame),
+            Step::Descendant(choices) => self.push_subtree(node, choices, rest, frame),
+        }
+    }
+
+    /// Adds what the choices select from the node and from each below it, and the steps from there.
+    #[cycle(eval)]
+    #[inline(never)]
+    fn push_subtree(
+        self,
+        node: Cursor<'a>,
+        choices: &[Choice],
+        rest: &[Step],
+        frame: &mut Frame<'a>,
+    ) -> Result<()>
+        requires { Stands self node frame.old }
+        ensures { Pushes self.entry frame.old frame.new result (reached self.entry.run.now rest.now (flat_map (λ d. selected (choices_view (table_at self.entry) choices.now) d (tree_at self.entry)) (subtree (node_of node.entry)))) }
+    {
+        for place in node.place()..node.after() {
+            if frame.has(self.most) {
+                return Ok(());
+            }
+            self.push_choices(node.go_to(place), choices, rest, frame)?;
+        }
+        Ok(())
+    }
+
+    /// Adds what the choices select from a node, in their order, and the steps from there.
+    #[cycle(eval)]
+    #[inline(always)]
+    fn push_choices(
+        self,
+        node: Cursor<'a>,
+        choices: &[Choice],
+        rest: &[Step],
+        frame: &mut Frame<'a>,
+    ) -> Result<()>
+        requires { Stands self node frame.old }
+        ensures { Pushes self.entry frame.old frame.new result (reached self.entry.run.now rest.now (selected (choices_view (table_at self.entry) choices.now) (node_of node.entry) (tree_at self.entry))) }
+    {
+        // Most nodes below a node have no children, and nothing is selected from them.
+        if node.first_child().is_none() {
+            return Ok(());
+        }
+        for choice in choices {
+            self.push_choice(node, choice, rest, frame)?;
+        }
+        Ok(())
+    }
+
+    /// Adds what the choice selects from a node, and the steps from there.
+    #[cycle(eval)]
+    #[inline(never)]
+    fn push_choice(
+        self,
+        node: Cursor<'a>,
+        choice: &Choice,
+        rest: &[Step],
+        frame: &mut Frame<'a>,
+    ) -> Result<()>
+        requires { Stands self node frame.old }
+        ensures { Pushes self.entry frame.old frame.new result (reached self.entry.run.now rest.now (select (choice_view (table_at self.entry) choice.now) (node_of node.entry) (tree_at self.entry))) }
+    {
+        match choice {
+            Choice::One(key) => match key.find(node) {
+                Some(child) => self.push_steps(child, rest, frame),
+                None => Ok(()),
+            },
+            Choice::Wildcard => self.push_children(node, rest, frame),
+            Choice::Slice { first, last, step } => {
+                let parts = Slice {
+                    first: *first,
+                    last: *last,
+                    step: step.unwrap_or(1),
+                };
+                self.push_slice(node, parts, rest, frame)
+            }
+            Choice::Filter(condition) => self.push_where(node, condition, rest, frame),
+        }
+    }
+
+    /// Adds what the steps select from each child.
+    #[cycle(eval)]
+    fn push_children(self, node: Cursor<'a>, rest: &[Step], frame: &mut Frame<'a>) -> Result<()>
+        requires { Stands self node frame.old }
+        ensures { Pushes self.entry frame.old frame.new result (reached self.entry.run.now rest.now (children (node_of node.entry))) }
+    {
+        let mut next = node.first_child();
+        while let Some(child) = next {
+            if frame.has(self.most) {
+                return Ok(());
+            }
+            self.push_steps(child, rest, frame)?;
+            next = child.next_sibling();
+        }
+        Ok(())
+    }
+
+    /// Adds what the steps select from each element of a slice, in the order in which it selects them.
+    #[cycle(eval)]
+    #[inline(never)]
+    fn push_slice(
+        self,
+        node: Cursor<'a>,
+        slice: Slice,
+        rest: &[Step],
+        frame: &mut Frame<'a>,
+    ) -> Result<()>
+        requires { Stands self node frame.old }
+        ensures { Pushes self.entry frame.old frame.new result (reached self.entry.run.now rest.now (sliced slice.first slice.last slice.step (node_of node.entry))) }
+    {
+        if slice.step > 0 {
+            return self.push_rising(node, Rising::of(node, slice), rest, frame);
+        }
+        let found = find_falling(self.run.alloc, node, slice)?;
+        self.push_each(&found, rest, frame)
+    }
+
+    /// Adds what the steps select from each element of a slice with a step above 0. It goes no further than the last.
+    #[cycle(eval)]
+    fn push_rising(
+        self,
+        node: Cursor<'a>,
+        slice: Rising,
+        rest: &[Step],
+        frame: &mut Frame<'a>,
+    ) -> Result<()>
+        requires { Stands self node frame.old }
+        ensures { Pushes self.entry frame.old frame.new result (reached self.entry.run.now rest.now (children_where (is_index (rises slice.low slice.high slice.step)) (node_of node.entry))) }
+    {
+        let mut next = node.first_child();
+        let mut index = 0;
+        while let Some(child) = next {
+            if frame.has(self.most) || slice.ends_before(index) {
+                return Ok(());
+            }
+            if slice.has(child, index) {
+                self.push_steps(child, rest, frame)?;
+            }
+            index += 1;
+            next = child.next_sibling();
+        }
+        Ok(())
+    }
+
+    /// Adds what the steps select from each of some nodes.
+    #[cycle(eval)]
+    fn push_each(self, nodes: &[Cursor<'a>], rest: &[Step], frame: &mut Frame<'a>) -> Result<()>
+        requires lines { AreOf (line_of self.run.now.root.now) nodes.now }
+        requires kept { AreKept self.run.now frame.old.answers.items }
+        ensures { Pushes self.entry frame.old frame.new result (reached self.entry.run.now rest.now (map node_of nodes.now)) }
+    {
+        for node in nodes {
+            self.push_steps(*node, rest, frame)?;
+        }
+        Ok(())
+    }
+
+    /// Adds what the steps select from each child of which the condition holds. One that asks the root alone is asked once.
+    #[cycle(eval)]
+    #[inline(never)]
+    fn push_where(
+        self,
+        node: Cursor<'a>,
+        condition: &Condition,
+        rest: &[Step],
+        frame: &mut Frame<'a>,
+    ) -> Result<()>
+        requires { Stands self node frame.old }
+        ensures { Pushes self.entry frame.old frame.new result (reached self.entry.run.now rest.now (filter (λ c. truth_of (condition_view (table_at self.entry) condition.now) c (tree_at self.entry)) (children (node_of node.entry)))) }
+    {
+        match condition {
+            Condition::Once(position) => {
+                if self.holds_once(*position, frame)? {
+                    self.push_children(node, rest, frame)
+                } else {
+                    Ok(())
+                }
+            }
+            Condition::Test(test) => self.push_tested(node, test, rest, frame),
+        }
+    }
+
+    /// Adds what the steps select from each child that passes the test.
+    #[cycle(eval)]
+    #[inline(always)]
+    fn push_tested(
+        self,
+        node: Cursor<'a>,
+        test: &Test,
+        rest: &[Step],
+        frame: &mut Frame<'a>,
+    ) -> Result<()>
+        requires { Stands self node frame.old }
+        ensures { Pushes self.entry frame.old frame.new result (reached self.entry.run.now rest.now (filter (λ c. truth_of (test_view (table_at self.entry) test.now) c (tree_at self.entry)) (children (node_of node.entry)))) }
+    {
+        self.run.prepare(frame)?;
+        let mut next = node.first_child();
+        while let Some(child) = next {
+            if frame.has(self.most) {
+                return Ok(());
+            }
+            if self.passes(child, test, frame)? {
+                self.push_steps(child, rest, frame)?;
+            }
+            next = child.next_sibling();
+        }
+        Ok(())
+    }
+}
