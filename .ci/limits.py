@@ -6,6 +6,7 @@ FOLDER is for files. Every run has the usual stack of 8 MB, and a time within wh
 input does not. What needs more memory than the machine has free is left out, and told.
 """
 import os
+import resource
 import subprocess
 import sys
 import time
@@ -51,6 +52,19 @@ def ended(words, standard_input):
     except subprocess.TimeoutExpired:
         return "it did not end", ""
     return run.returncode, run.stdout.decode()
+
+
+def grows_with_its_input(checks, name, run, count):
+    """A run over n, 2 n and 4 n gives what is stated, and takes little more than twice and four times the processor's time: a square
+    would take four and sixteen times. `run` gives what a run of a size answered, and what is stated of it."""
+    seconds = []
+    for size in (count, 2 * count, 4 * count):
+        before = resource.getrusage(resource.RUSAGE_CHILDREN)
+        checks.check(f"{name}, {size}", *run(size))
+        after = resource.getrusage(resource.RUSAGE_CHILDREN)
+        seconds.append(after.ru_utime + after.ru_stime - before.ru_utime - before.ru_stime)
+    told = ", ".join(f"{time:.2f}" for time in seconds)
+    checks.check(f"seconds of {name}: {told}", seconds[2] <= 8 * max(seconds[0], 0.05), True)
 
 
 def answered(collection, script):
@@ -311,6 +325,23 @@ def conditions_of_the_root(checks):
     checks.check("conditions of the root", answered(line + "\n", script), (0, stated))
 
 
+def texts_from_the_root(checks):
+    """A text of the root that has an escape is unescaped once in a line, and not for each child that it is asked of."""
+    def compared(count):
+        line = '{"s":"\\u0061%s","a":[%s]}' % ("b" * count, ",".join(["1"] * count))
+        return answered(line + "\n", f"query $.a[?@==2 || $.s=='a{'b' * count}c']\n"), (0, "= 0\n")
+
+    grows_with_its_input(checks, "texts from the root", compared, 15_000)
+
+
+def counts_of_many_nodes(checks):
+    """`count` keeps none of the millions of nodes that it counts, so it needs little memory."""
+    lines, script = file_of("lines", "[" * 145 + "]" * 145 + "\n"), file_of("script", "query $[?count(@..*..*..*..*)==0]\n")
+    limit = lambda: resource.setrlimit(resource.RLIMIT_AS, (64 * 2**20, 64 * 2**20))
+    run = subprocess.run([PROGRAM, lines, "--script", script], capture_output=True, timeout=SECONDS, preexec_fn=limit)
+    checks.check("a count of many nodes in 64 MB", (run.returncode, run.stdout), (0, b"= 0\n"))
+
+
 def devices(checks):
     """A script that comes byte by byte, and an answer before the next command is sent."""
     lines = file_of("lines", '{"a":1}\n')
@@ -359,7 +390,7 @@ def main():
     for part in (texts_of_brackets, texts_cut_short, texts_of_backslashes, texts_of_each_form_of_tape, lines_behind_long_ones,
                  objects_of_many_members, many_lines, lines_of_one_key, edits_of_many_lines, texts_of_numbers, texts_of_names, queries, patterns,
                  long_texts, long_numbers, objects_turned, large_objects, filters_from_the_root, conditions_of_the_root,
-                 devices, sizes):
+                 texts_from_the_root, counts_of_many_nodes, devices, sizes):
         part(checks)
     print(f"{checks.passed} passed, {checks.failed} failed")
     return 1 if checks.failed else 0

@@ -2,7 +2,7 @@
 use Rattle.std.specs.Prelude.{false, [], ◌∷◌, None}
 use Rattle.jp_model.specs.Pattern.Tree.{range, CharClass, members, Pattern, one_of, followed_by, times}
 
--- every scalar (Unicode 15, section 3.9, D76), also the two that `.` leaves out
+-- every scalar (Unicode 15, section 3.9), also the two that `.` leaves out
 abbrev pub every_scalar : CharClass
 every_scalar = members false (range 0 0x10FFFF ∷ [])
 
