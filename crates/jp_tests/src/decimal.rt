@@ -1,3 +1,5 @@
+//! What the numbers of `jp_decimal` answer: which texts are read (RFC 8259 section 6), how two compare, and which key each has.
+
 use jp_decimal::{Decimal, NumberFault, laws};
 use std::alloc::{AllocError, Global};
 use std::cmp::Ordering;

@@ -1,3 +1,5 @@
+//! What patterns match (RFC 9485), and which texts are not patterns.
+
 use jp_iregexp::{Pattern, laws};
 use std::alloc::{AllocError, Global};
 use std::test::Fail;

@@ -1,3 +1,5 @@
+//! Which texts are queries (RFC 9535), and which fault each other text has.
+
 use jp_model::QueryFault;
 use jp_query::{ParseFault, parse};
 use std::alloc::{AllocError, Global};

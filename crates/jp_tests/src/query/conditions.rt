@@ -1,3 +1,5 @@
+//! Which texts are conditions, the logical expressions of a filter (RFC 9535 section 2.3.5) by themselves.
+
 use jp_model::QueryFault;
 use jp_query::{ParseFault, parse_condition};
 use jp_types::check_condition;
