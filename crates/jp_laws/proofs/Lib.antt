@@ -5,6 +5,7 @@ pub mod Shifted
 pub mod CutPieces
 pub mod Defaults
 pub mod Descendants
+pub mod DigitTexts
 pub mod Distinct
 pub mod Moved
 pub mod NumberOrder
@@ -13,7 +14,10 @@ pub mod PathTexts
 pub mod DroppedIndex
 pub mod EndIndexes
 pub mod EqualNames
+pub mod HexDigits
 pub mod JoinedParts
+pub mod JsonStatuses
+pub mod JsonTexts
 pub mod Locations
 pub mod PlainSides
 pub mod Reached

@@ -1,13 +1,13 @@
 -- The text of a normalized path is a query: what spells it, scalar by scalar.
-use Rattle.std.proofs.Common.{◌≡◌, ◌≢◌, ℕ, zero, suc, ◌+◌, ◌/◌, ◌%◌, ◌<◌, ◌≤◌, ⊎_elim, pos, negsuc, List, [], ◌∷◌, ◌++◌, flat_map, get_or, Bool, true, false, ◌==◌, Option, Some, None, is_some, nat_lt, eqb, codes, decimal, refl, sym, ap, subst, ◌∙◌, append_assoc, arith}
+use Rattle.std.proofs.Common.{◌≡◌, ◌≢◌, ℕ, zero, suc, ◌+◌, ◌/◌, ◌%◌, ◌<◌, ◌≤◌, ⊎_elim, pos, negsuc, List, [], ◌∷◌, ◌++◌, flat_map, get_or, Bool, true, false, ◌==◌, None, is_some, nat_lt, codes, decimal, refl, sym, ap, subst, ◌∙◌, append_assoc, arith}
 use Rattle.std.specs.Char.{IsScalar}
 use lib.Utf8.{scalar, scalars, low_scalar}
-use Rattle.std.proofs.lemmas.Bool.{cond_both, agree_below_at, eqb-true, eqb-false, ltb-true, ltb-false, ne_eqb, le-leb, and_from, cases_eq, and_parts}
+use Rattle.std.proofs.lemmas.Bool.{cond_both, eqb-true, eqb-false, ltb-true, ltb-false, ne_eqb, le-leb, and_from, cases_eq, and_parts}
 use Rattle.std.proofs.lemmas.Bool.Decides.{nat_tests}
 use Rattle.std.proofs.lemmas.Fmt.{digits_decimal, digits_value-decimal, first_decimal, decimal_digit}
 use Rattle.std.proofs.lemmas.Str.{chars-encodes}
 use Rattle.jp_model.proofs.Digits.{digits_model}
-use Rattle.jp_model.specs.Characters.{is_digit, four_digits, is_surrogate}
+use Rattle.jp_model.specs.Characters.{is_digit, is_surrogate}
 use Rattle.jp_model.specs.Json.Numbers.{AreDigits}
 use Rattle.jp_model.specs.Meaning.Paths.{hex_digit, name_scalar, step_text, steps_text, path_text}
 use Rattle.jp_model.specs.Query.Limits.{Tests, segments_pass, selector_passes, is_exact, literal_small, has_exact_integers, has_small_exponents, knows_functions}
@@ -17,6 +17,7 @@ use Rattle.jp_model.specs.Query.Status.{TextSpells, fault_of_query}
 use Rattle.jp_model.specs.Query.Syntax.{Segments, Literal}
 use Rattle.jp_model.specs.Query.Typing.{segments_typed, selector_typed, signature_of}
 use Rattle.jp_model.specs.Steps.{Step, name_step, index_step}
+use Rattle.jp_laws.proofs.HexDigits.{low_is}
 use Rattle.jp_laws.proofs.Locations.{IsShown}
 use Rattle.jp_laws.proofs.Reached.{Each}
 
@@ -76,26 +77,6 @@ index_spelled (suc k) y h =
     (positive_int (positive_digits (decimal (suc k)) y (digits_decimal digits_model (suc k) (omega arith)) (first_decimal (suc k) (omega arith) (omega arith))))
 
 -- ---- names
-
-is_spelled : Option ℕ → ℕ → Bool
-is_spelled None n = false
-is_spelled (Some m) n = eqb m n
-
-hex_of : ℕ → Option ℕ
-hex_of c = four_digits 48 48 (hex_digit (c / 16)) (hex_digit (c % 16))
-
-low_hex : (c : ℕ) → c < 32 → is_spelled (hex_of c) c ≡ true
-unfolding is_spelled hex_of
-low_hex c h = agree_below_at (λ n. is_spelled (hex_of n) n) (λ n. true) 32 c refl h
-
-spelled_is : (o : Option ℕ) (n : ℕ) → is_spelled o n ≡ true → o ≡ Some n
-unfolding is_spelled
-spelled_is None n h = absurd (cc)
-spelled_is (Some m) n h = ap Some (eqb-true m n h)
-
-low_is : (c : ℕ) → c < 32 → four_digits 48 48 (hex_digit (c / 16)) (hex_digit (c % 16)) ≡ Some c
-unfolding hex_of
-low_is c h = spelled_is (hex_of c) c (low_hex c h)
 
 no_surrogate : (c : ℕ) → c < 32 → is_surrogate c ≡ false
 no_surrogate c h = grind (arith, nat_tests, h)

@@ -1,6 +1,8 @@
 -- What the laws speak of beside the definitions of jp_model.
 pub mod Alike
+pub mod Digits
 pub mod Fallbacks
+pub mod JsonTexts
 pub mod Kinds
 pub mod Nodes
 pub mod Patterns

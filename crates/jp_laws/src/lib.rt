@@ -12,3 +12,4 @@ pub mod patterns;
 pub mod rows;
 pub mod scripts;
 pub mod slices;
+pub mod texts;
