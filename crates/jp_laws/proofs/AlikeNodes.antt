@@ -25,7 +25,7 @@ Pairwise R [] [] = Unit {0}
 Pairwise R (x ∷ xs) (y ∷ ys) = R x y × Pairwise R xs ys
 Pairwise R _ _ = ⊥
 
-pairs_append : {X : Type 0} (R : X → X → Type 0) (xs ys vs ws : List X) → Pairwise R xs ys → Pairwise R vs ws → Pairwise R (xs ++ vs) (ys ++ ws)
+pub pairs_append : {X : Type 0} (R : X → X → Type 0) (xs ys vs ws : List X) → Pairwise R xs ys → Pairwise R vs ws → Pairwise R (xs ++ vs) (ys ++ ws)
 pairs_append R [] [] vs ws a b = b
 pairs_append R (x ∷ xs) (y ∷ ys) vs ws a b = (a.0, pairs_append R xs ys vs ws a.1 b)
 pairs_append R [] (y ∷ ys) vs ws a b = absurd a
@@ -37,13 +37,13 @@ pairs_flat R S f g h (x ∷ xs) (y ∷ ys) a = pairs_append S (f x) (g y) (flat_
 pairs_flat R S f g h [] (y ∷ ys) a = absurd a
 pairs_flat R S f g h (x ∷ xs) [] a = absurd a
 
-pairs_map : {X Y : Type 0} (R : X → X → Type 0) (S : Y → Y → Type 0) (f g : X → Y) → ((x y : X) → R x y → S (f x) (g y)) → (xs ys : List X) → Pairwise R xs ys → Pairwise S (map f xs) (map g ys)
+pub pairs_map : {X Y : Type 0} (R : X → X → Type 0) (S : Y → Y → Type 0) (f g : X → Y) → ((x y : X) → R x y → S (f x) (g y)) → (xs ys : List X) → Pairwise R xs ys → Pairwise S (map f xs) (map g ys)
 pairs_map R S f g h [] [] a = tt
 pairs_map R S f g h (x ∷ xs) (y ∷ ys) a = (h x y a.0, pairs_map R S f g h xs ys a.1)
 pairs_map R S f g h [] (y ∷ ys) a = absurd a
 pairs_map R S f g h (x ∷ xs) [] a = absurd a
 
-pairs_filter : {X : Type 0} (R : X → X → Type 0) (p q : X → Bool) → ((x y : X) → R x y → p x ≡ q y) → (xs ys : List X) → Pairwise R xs ys → Pairwise R (filter p xs) (filter q ys)
+pub pairs_filter : {X : Type 0} (R : X → X → Type 0) (p q : X → Bool) → ((x y : X) → R x y → p x ≡ q y) → (xs ys : List X) → Pairwise R xs ys → Pairwise R (filter p xs) (filter q ys)
 pairs_filter R p q h [] [] a = tt
 pairs_filter R p q h (x ∷ xs) (y ∷ ys) a = step (p x) (q y) (h x y a.0) (pairs_filter R p q h xs ys a.1)
   where
@@ -55,7 +55,7 @@ pairs_filter R p q h (x ∷ xs) (y ∷ ys) a = step (p x) (q y) (h x y a.0) (pai
 pairs_filter R p q h [] (y ∷ ys) a = absurd a
 pairs_filter R p q h (x ∷ xs) [] a = absurd a
 
-pairs_reverse : {X : Type 0} (R : X → X → Type 0) (xs ys : List X) → Pairwise R xs ys → Pairwise R (reverse xs) (reverse ys)
+pub pairs_reverse : {X : Type 0} (R : X → X → Type 0) (xs ys : List X) → Pairwise R xs ys → Pairwise R (reverse xs) (reverse ys)
 pairs_reverse R [] [] a = tt
 pairs_reverse R (x ∷ xs) (y ∷ ys) a =
     subst (λ (l : List _). Pairwise R l (reverse (y ∷ ys))) (sym (reverse-append (x ∷ []) xs))

@@ -19,8 +19,11 @@ pub mod JoinedParts
 pub mod JsonStatuses
 pub mod JsonTexts
 pub mod Locations
+pub mod Permuted
 pub mod PlainSides
 pub mod Reached
+pub mod ReorderedNodes
+pub mod ReorderedValues
 pub mod RowFields
 pub mod Runs
 pub mod Utf8Lines

@@ -16,16 +16,16 @@ use Rattle.jp_laws.proofs.NumberOrder.{number_itself, number_back, numbers_same}
 
 -- ---- names
 
-unsome : {A : Type 0} {a b : A} → Some a ≡ Some b → a ≡ b
+pub unsome : {A : Type 0} {a b : A} → Some a ≡ Some b → a ≡ b
 unsome h = cc
 
-text_itself : (x : List ℕ) → bytes_eq x x ≡ true
+pub text_itself : (x : List ℕ) → bytes_eq x x ≡ true
 text_itself x = (bytes_eq-Decides x x).1 refl
 
-text_same : (x y : List ℕ) → bytes_eq x y ≡ true → x ≡ y
+pub text_same : (x y : List ℕ) → bytes_eq x y ≡ true → x ≡ y
 text_same x y h = (bytes_eq-Decides x y).0 h
 
-abbrev among : List ℕ → List (List ℕ) → Bool
+abbrev pub among : List ℕ → List (List ℕ) → Bool
 among k ns = list_any (bytes_eq k) ns
 
 without : List ℕ → List (List ℕ) → List (List ℕ)
@@ -74,7 +74,7 @@ all_among (x ∷ xs) ys d within shorter k h =
 
 -- ---- the value of a member
 
-abbrev found : List ℕ → Children → Option Value
+abbrev pub found : List ℕ → Children → Option Value
 found k no_child = None
 found k (child None t more) = found k more
 found k (child (Some name) (node s v) more) = cond (bytes_eq k name.points) (Some v) (found k more)
@@ -117,7 +117,7 @@ named_found k (child (Some name) (node s w) more) h = step (bytes_eq k name.poin
 
 -- ---- objects, by their look-ups
 
-abbrev Matched : Children → Children → Type 0
+abbrev pub Matched : Children → Children → Type 0
 Matched xs ys = (k : List ℕ) (v : Value) → found k xs ≡ Some v → (w : Value) × (found k ys ≡ Some w) × (values_equal v w ≡ true)
 
 within_matched : (xs ys : Children) → members_within xs ys ≡ true → Matched xs ys
@@ -134,7 +134,7 @@ within_matched (child (Some name) (node s x) xs) ys h k v f = step (bytes_eq k n
         (q.0, subst (λ z. found z ys ≡ Some q.0) (sym (text_same k name.points e)) q.1, subst (λ z. values_equal z q.0 ≡ true) (unsome g) q.2)
     step false e g again = again g
 
-matched_within : (xs ys : Children) → has_repeated (names xs) ≡ false → Matched xs ys → members_within xs ys ≡ true
+pub matched_within : (xs ys : Children) → has_repeated (names xs) ≡ false → Matched xs ys → members_within xs ys ≡ true
 matched_within no_child ys d m = refl
 matched_within (child None (node s x) xs) ys d m = matched_within xs ys d m
 matched_within (child (Some name) (node s x) xs) ys d m =
@@ -173,7 +173,7 @@ distinct_each (child name (node s v) more) d = let p = or_parts (value_has_dupli
 members_itself : (cs : Children) → Each Itself cs → has_repeated (names cs) ≡ false → children_have_duplicate cs ≡ false → members_within cs cs ≡ true
 members_itself cs a r d = matched_within cs cs r (λ k v f. (v, f, each_found Itself k cs v a f (each_found (λ w. value_has_duplicate w ≡ false) k cs v (distinct_each cs d) f)))
 
-boolean_itself : (b : Bool) → boolean_equal b b ≡ true
+pub boolean_itself : (b : Bool) → boolean_equal b b ≡ true
 boolean_itself true = refl
 boolean_itself false = refl
 
@@ -187,6 +187,17 @@ plain_each (child name (node s v) more) d m =
     let p = or_parts (value_has_duplicate v) (children_have_duplicate more) d in
     let q = and_parts _ _ m in
     (record { distinct = p.0; members = q.0 }, plain_each more p.1 q.1)
+
+pub swap_by : (p q : Bool) (v w : Value) (rest : Option Value) → (p ≡ true → q ≡ true → ⊥) → cond p (Some v) (cond q (Some w) rest) ≡ cond q (Some w) (cond p (Some v) rest)
+swap_by true true v w rest h = absurd (h refl refl)
+swap_by true false v w rest h = refl
+swap_by false true v w rest h = refl
+swap_by false false v w rest h = refl
+
+pub alike : (a b : Bool) → (a ≡ true → b ≡ true) → (b ≡ true → a ≡ true) → a ≡ b
+alike true b f g = sym (f refl)
+alike false true f g = g refl
+alike false false f g = refl
 
 -- ---- by the law that the order of numbers is total
 
@@ -326,12 +337,6 @@ module _ (order_total : IsTotalOrder order) where
 
   -- ---- members in another order
 
-  swap_by : (p q : Bool) (v w : Value) (rest : Option Value) → (p ≡ true → q ≡ true → ⊥) → cond p (Some v) (cond q (Some w) rest) ≡ cond q (Some w) (cond p (Some v) rest)
-  swap_by true true v w rest h = absurd (h refl refl)
-  swap_by true false v w rest h = refl
-  swap_by false true v w rest h = refl
-  swap_by false false v w rest h = refl
-
   found_swapped : (k : List ℕ) (front rest : Children) (a b : Name) (x y : Tree) → bytes_eq a.points b.points ≡ false
       → found k (joined front (child (Some a) x (child (Some b) y rest))) ≡ found k (joined front (child (Some b) y (child (Some a) x rest)))
   found_swapped k no_child rest a b (node s v) (node t w) d =
@@ -358,11 +363,6 @@ module _ (order_total : IsTotalOrder order) where
   pub reflexive : (x : Option Value) → is_plain x ≡ true → compared equal x x ≡ true
   reflexive None h = refl
   reflexive (Some v) h = itself v (plain_value v h).distinct
-
-  alike : (a b : Bool) → (a ≡ true → b ≡ true) → (b ≡ true → a ≡ true) → a ≡ b
-  alike true b f g = sym (f refl)
-  alike false true f g = g refl
-  alike false false f g = refl
 
   pub symmetric : (x y : Option Value) → is_plain x ≡ true → is_plain y ≡ true → compared equal x y ≡ compared equal y x
   symmetric None None h g = refl

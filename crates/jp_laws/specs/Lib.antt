@@ -7,6 +7,7 @@ pub mod Kinds
 pub mod Nodes
 pub mod Patterns
 pub mod Queries
+pub mod Reordered
 pub mod Scripts
 pub mod Slices
 pub mod Spans

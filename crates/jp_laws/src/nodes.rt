@@ -1,6 +1,7 @@
 //! Laws of what queries select: singular queries, and descendants (RFC 9535, sections 2.3.5.1 and 2.5.2).
 
 ghost use Rattle.std.specs.Prelude.{◌≡◌, ◌≢◌, ◌≤◌, ◌↔◌, ℕ, List, [], ◌∷◌, length, map, All, false, true, is_some, codes};
+ghost use Rattle.std.specs.List.Sorted.{IsPermutation};
 ghost use Rattle.jp_model.specs.Json.Faults.{has_duplicate};
 ghost use Rattle.jp_model.specs.Json.Tree.{Tree};
 ghost use Rattle.jp_model.specs.Meaning.Nodes.{Node, root_node, children, subtree};
@@ -10,6 +11,7 @@ ghost use Rattle.jp_model.specs.Query.Syntax.{Segments, Path, exists, single, no
 ghost use Rattle.jp_model.specs.Query.Typing.{is_singular_path};
 ghost use Rattle.jp_laws.specs.Alike.{AlikeTrees};
 ghost use Rattle.jp_laws.specs.Nodes.{IsAmong, IsWithin, AreApart, all_descendants};
+ghost use Rattle.jp_laws.specs.Reordered.{ReorderedTrees};
 
 use jp_decimal::laws;
 
@@ -64,6 +66,17 @@ pub fn all_descendants_are_selected_once()
 /// A filter that compares numbers as they are spelled, or a function that counts escapes, is refused here.
 pub fn spelling_does_not_matter()
     ensures { (q : Segments) (t u : Tree) → AlikeTrees t u → map (λ (n : Node). n.location) (nodes q (root_node t ∷ []) t) ≡ map (λ (n : Node). n.location) (nodes q (root_node u ∷ []) u) }
+{
+    laws::values_are_in_total_order();
+}
+
+/// Trees without equal names that are the same but for the order of members have nodes at the same locations for every query,
+/// each as often, but for the order of the nodes (RFC 8259, section 4).
+///
+/// That the value of several nodes is that of the first, which depends on which member comes first, is refused here.
+pub fn nodes_do_not_depend_on_the_order_of_members()
+    ensures { (q : Segments) (t u : Tree) → ReorderedTrees t u → has_duplicate t ≡ false → has_duplicate u ≡ false
+        → IsPermutation (map (λ (n : Node). n.location) (nodes q (root_node t ∷ []) t)) (map (λ (n : Node). n.location) (nodes q (root_node u ∷ []) u)) }
 {
     laws::values_are_in_total_order();
 }
