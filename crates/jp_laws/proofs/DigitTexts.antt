@@ -66,6 +66,10 @@ spelt_int n (d ∷ e ∷ ds) s = (s.digits.0, ne_eqb d 0x30 (λ (z : d ≡ 0x30)
     not_zero : d ≡ 0x30 → ⊥
     not_zero z = ⊎_elim (λ l. let a = s.alone l in omega arith) (λ l. let f = s.first (omega arith) in omega arith) (cases_lt n 10)
 
+pub zero_digits : digits_of 0 ≡ 48 ∷ []
+unfolding digits_within
+zero_digits = refl
+
 -- ---- how many digits there are
 
 within_short : (k bound n : ℕ) → n < 10 ^ suc k → length (digits_within bound n) ≤ suc k

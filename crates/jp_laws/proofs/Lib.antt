@@ -19,8 +19,10 @@ pub mod JoinedParts
 pub mod JsonStatuses
 pub mod JsonTexts
 pub mod Locations
+pub mod PatternTexts
 pub mod Permuted
 pub mod PlainSides
+pub mod QueryTexts
 pub mod Reached
 pub mod ReorderedNodes
 pub mod ReorderedValues

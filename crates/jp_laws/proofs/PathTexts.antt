@@ -66,7 +66,7 @@ digits_run : (ds y : List ℕ) → AreDigits ds → Run is_digit (ds ++ y) y ds
 digits_run [] y a = run_ends
 digits_run (d ∷ ds) y a = run_goes_on a.0 (digits_run ds y a.1)
 
-positive_digits : (ds y : List ℕ) → AreDigits ds → 48 < get_or ds 0 0 → Positive (ds ++ y) y ds
+pub positive_digits : (ds y : List ℕ) → AreDigits ds → 48 < get_or ds 0 0 → Positive (ds ++ y) y ds
 positive_digits [] y a h = absurd (omega (arith, h))
 positive_digits (d ∷ ds) y a h = positive a.0 (λ (e : d ≡ 48). omega (arith, h)) (digits_run ds y a.1)
 
@@ -97,7 +97,7 @@ one_quoted c w y x rest =
     (λ l. escaped (escaped_scalar (hex4 (low_is c l)) (no_surrogate c l)) rest)
     (λ l n m. ⊎_elim (λ e. subst (λ k. Quoted 39 (k ∷ w) y (k ∷ x)) (sym e) (other_quote refl (λ (f : 34 ≡ 39). omega arith) rest)) (λ e. plain (plain_scalar c l e n m) rest) (cases_eq c 34))
 
-name_quoted : (x y : List ℕ) → Quoted 39 (flat_map name_scalar x ++ 39 ∷ y) y x
+pub name_quoted : (x y : List ℕ) → Quoted 39 (flat_map name_scalar x ++ 39 ∷ y) y x
 name_quoted [] y = closing_quote
 name_quoted (c ∷ x) y = subst (λ l. Quoted 39 l y (c ∷ x)) (sym (append_assoc (name_scalar c) (flat_map name_scalar x) (39 ∷ y))) (one_quoted c (flat_map name_scalar x ++ 39 ∷ y) y x (name_quoted x y))
 

@@ -5,8 +5,10 @@ pub mod Fallbacks
 pub mod JsonTexts
 pub mod Kinds
 pub mod Nodes
+pub mod PatternTexts
 pub mod Patterns
 pub mod Queries
+pub mod QueryTexts
 pub mod Reordered
 pub mod Scripts
 pub mod Slices

@@ -1,0 +1,8 @@
+use Rattle.jp_laws.proofs.QueryTexts.{query_said, query_bytes}
+use Rattle.jp_laws.proofs.texts.each_query_has_a_text.Goals as goal
+
+pub returns-clause-spelled : goal.returns-clause-spelled
+returns-clause-spelled c = query_said
+
+pub returns-clause-bytes : goal.returns-clause-bytes
+returns-clause-bytes c = query_bytes
