@@ -1,73 +1,21 @@
 -- Queries select nodes at the same locations of trees that say the same.
-use Rattle.std.proofs.Common.{◌≡◌, ℕ, ◌+◌, ℤ, pos, List, [], ◌∷◌, ◌++◌, length, map, flat_map, filter, reverse, Bool, true, false, not, ◌&&◌, ◌||◌, ◌==◌, cond, Option, Some, None, codes, bytes_eq, refl, sym, ap, ap₂, subst, ◌∙◌, suc, if◌then◌else◌, int_lt}
-use Rattle.std.specs.Prelude.{unwrap_or}
+use Rattle.std.proofs.Common.{◌≡◌, ℕ, ◌+◌, ℤ, pos, List, [], ◌∷◌, ◌++◌, length, map, filter, reverse, Bool, true, false, Option, Some, None, refl, ap, ap₂, subst, ◌∙◌, if◌then◌else◌, int_lt}
 use Rattle.std.specs.Cmp.{IsTotalOrder}
-use Rattle.std.proofs.lemmas.List.{reverse-append}
 use Rattle.jp_decimal.specs.Values.{order}
 use Rattle.jp_model.specs.Json.Numbers.{mantissa, numeral_of, scale}
 use Rattle.jp_model.specs.Json.Tree.{Tree, Value, Children, Name, value_of, count_children}
-use Rattle.jp_model.specs.Pattern.Membership.{is_in, occurs_in}
 use Rattle.jp_model.specs.Pattern.Tree.{Pattern}
-use Rattle.jp_model.specs.Query.Syntax.{root, current, Literal, null_literal, false_literal, true_literal, number_literal, string_literal, Segment, child_segment, descendant_segment, Segments, no_segments, segment, Selector, name_selector, wildcard_selector, index_selector, slice_selector, filter_selector, Selectors, no_selectors, selector, Logical, or_all, and_all, negated, compare, exists, test, Logicals, no_logicals, logical, Comparable, constant, single, result, Argument, constant_argument, nodes_argument, condition, result_argument, Arguments, no_arguments, argument, Path, path, Call, call}
+use Rattle.jp_model.specs.Query.Syntax.{Literal, null_literal, false_literal, true_literal, number_literal, string_literal, Segments}
 use Rattle.jp_model.specs.Meaning.Nodes.{Node, root_node, child_of, child_count, children, children_where, step_to, steps_from, steps_in, subtree, subtree_at, below, below_from}
-use Rattle.jp_model.specs.Meaning.Functions.{single_value, Given, counted, length_of, in_pattern, literal_value, value_function, logical_function}
-use Rattle.jp_model.specs.Meaning.Selecting.{nodes, segment_nodes, selected, select, truth, some_true, each_true, compared_value, path_nodes, call_value, call_truth, given, given_by}
-use Rattle.jp_model.specs.Meaning.Slices.{is_name, is_index, normal, sliced, upward, downward}
-use Rattle.jp_model.specs.Steps.{Step, same_int}
+use Rattle.jp_model.specs.Meaning.Functions.{single_value, counted, length_of, in_pattern, literal_value}
+use Rattle.jp_model.specs.Meaning.Selecting.{nodes}
+use Rattle.jp_model.specs.Meaning.Slices.{is_index, sliced, upward, downward}
+use Rattle.jp_model.specs.Steps.{Step}
 use Rattle.jp_laws.specs.Alike.{AlikeChildren, next_child, no_more, AlikeNames, named_alike, unnamed, AlikeTrees, alike_trees, AlikeValues, alike_booleans, alike_containers, alike_nulls, alike_numbers, alike_strings}
+use Rattle.jp_laws.proofs.Agreeing.{Agreement, agreed}
 use Rattle.jp_laws.proofs.AlikeValues.{AlikeSides, alike_compared, same_count}
 use Rattle.jp_laws.proofs.NumberOrder.{number_itself}
-
--- ---- lists that are alike, one element after another
-
-abbrev pub Pairwise : {X : Type 0} → (X → X → Type 0) → List X → List X → Type 0
-Pairwise R [] [] = Unit {0}
-Pairwise R (x ∷ xs) (y ∷ ys) = R x y × Pairwise R xs ys
-Pairwise R _ _ = ⊥
-
-pub pairs_append : {X : Type 0} (R : X → X → Type 0) (xs ys vs ws : List X) → Pairwise R xs ys → Pairwise R vs ws → Pairwise R (xs ++ vs) (ys ++ ws)
-pairs_append R [] [] vs ws a b = b
-pairs_append R (x ∷ xs) (y ∷ ys) vs ws a b = (a.0, pairs_append R xs ys vs ws a.1 b)
-pairs_append R [] (y ∷ ys) vs ws a b = absurd a
-pairs_append R (x ∷ xs) [] vs ws a b = absurd a
-
-pairs_flat : {X Y : Type 0} (R : X → X → Type 0) (S : Y → Y → Type 0) (f g : X → List Y) → ((x y : X) → R x y → Pairwise S (f x) (g y)) → (xs ys : List X) → Pairwise R xs ys → Pairwise S (flat_map f xs) (flat_map g ys)
-pairs_flat R S f g h [] [] a = tt
-pairs_flat R S f g h (x ∷ xs) (y ∷ ys) a = pairs_append S (f x) (g y) (flat_map f xs) (flat_map g ys) (h x y a.0) (pairs_flat R S f g h xs ys a.1)
-pairs_flat R S f g h [] (y ∷ ys) a = absurd a
-pairs_flat R S f g h (x ∷ xs) [] a = absurd a
-
-pub pairs_map : {X Y : Type 0} (R : X → X → Type 0) (S : Y → Y → Type 0) (f g : X → Y) → ((x y : X) → R x y → S (f x) (g y)) → (xs ys : List X) → Pairwise R xs ys → Pairwise S (map f xs) (map g ys)
-pairs_map R S f g h [] [] a = tt
-pairs_map R S f g h (x ∷ xs) (y ∷ ys) a = (h x y a.0, pairs_map R S f g h xs ys a.1)
-pairs_map R S f g h [] (y ∷ ys) a = absurd a
-pairs_map R S f g h (x ∷ xs) [] a = absurd a
-
-pub pairs_filter : {X : Type 0} (R : X → X → Type 0) (p q : X → Bool) → ((x y : X) → R x y → p x ≡ q y) → (xs ys : List X) → Pairwise R xs ys → Pairwise R (filter p xs) (filter q ys)
-pairs_filter R p q h [] [] a = tt
-pairs_filter R p q h (x ∷ xs) (y ∷ ys) a = step (p x) (q y) (h x y a.0) (pairs_filter R p q h xs ys a.1)
-  where
-    step : (b c : Bool) → b ≡ c → Pairwise R (filter p xs) (filter q ys) → Pairwise R (cond b (x ∷ filter p xs) (filter p xs)) (cond c (y ∷ filter q ys) (filter q ys))
-    step true true e g = (a.0, g)
-    step false false e g = g
-    step true false e g = absurd (cc)
-    step false true e g = absurd (cc)
-pairs_filter R p q h [] (y ∷ ys) a = absurd a
-pairs_filter R p q h (x ∷ xs) [] a = absurd a
-
-pub pairs_reverse : {X : Type 0} (R : X → X → Type 0) (xs ys : List X) → Pairwise R xs ys → Pairwise R (reverse xs) (reverse ys)
-pairs_reverse R [] [] a = tt
-pairs_reverse R (x ∷ xs) (y ∷ ys) a =
-    subst (λ (l : List _). Pairwise R l (reverse (y ∷ ys))) (sym (reverse-append (x ∷ []) xs))
-    (subst (λ (l : List _). Pairwise R (reverse xs ++ x ∷ []) l) (sym (reverse-append (y ∷ []) ys)) (pairs_append R (reverse xs) (reverse ys) (x ∷ []) (y ∷ []) (pairs_reverse R xs ys a.1) (a.0, tt)))
-pairs_reverse R [] (y ∷ ys) a = absurd a
-pairs_reverse R (x ∷ xs) [] a = absurd a
-
-pairs_length : {X : Type 0} (R : X → X → Type 0) (xs ys : List X) → Pairwise R xs ys → length xs ≡ length ys
-pairs_length R [] [] a = refl
-pairs_length R (x ∷ xs) (y ∷ ys) a = ap suc (pairs_length R xs ys a.1)
-pairs_length R [] (y ∷ ys) a = absurd a
-pairs_length R (x ∷ xs) [] a = absurd a
+use Rattle.jp_laws.proofs.Pairs.{Pairwise, pairs_append, pairs_flat, pairs_map, pairs_filter, pairs_reverse, pairs_length}
 
 -- ---- nodes at one location whose trees are alike
 
@@ -202,111 +150,34 @@ module _ (order_total : IsTotalOrder order) where
   pattern_alike passes (Some x) (Some y) None (Some w) a b = absurd b
   pattern_alike passes (Some x) (Some y) (Some v) None a b = absurd b
 
-  abbrev AlikeGiven : Given → Given → Type 0
-  AlikeGiven a b = AlikeSides order_total a.value b.value × Pairwise AlikeNodes a.nodes b.nodes
+  agreement : (t u : Tree) → AlikeTrees t u → Agreement t u AlikeNodes (Pairwise AlikeNodes) (AlikeSides order_total)
+  agreement t u same = record {
+    roots = (refl, same);
+    none = tt;
+    alone = λ n m a. (a, tt);
+    joined = pairs_append AlikeNodes;
+    mapped = pairs_flat AlikeNodes AlikeNodes;
+    kept = pairs_filter AlikeNodes;
+    as_many = pairs_length AlikeNodes;
+    all_children = children_alike;
+    some_children = where_alike;
+    slices = sliced_alike;
+    as_many_children = count_alike;
+    subtrees = subtree_alike;
+    nothing = tt;
+    values = single_alike;
+    literals = literal_itself;
+    counts = count_itself;
+    lengths = lengths_alike;
+    patterns = pattern_alike;
+    comparisons = alike_compared order_total;
+  }
 
-  values_by : (f : List ℕ) (gs hs : List Given) → Pairwise AlikeGiven gs hs → AlikeSides order_total (value_function f gs) (value_function f hs)
-  values_by f [] [] a = tt
-  values_by f (g ∷ []) (h ∷ []) a = pick (bytes_eq f (codes "length")) (bytes_eq f (codes "count")) (bytes_eq f (codes "value"))
-    where
-      pick : (l c v : Bool) → AlikeSides order_total
-          (if l then length_of g.value else if c then Some (counted (length g.nodes)) else if v then single_value g.nodes else None)
-          (if l then length_of h.value else if c then Some (counted (length h.nodes)) else if v then single_value h.nodes else None)
-      pick true c v = lengths_alike g.value h.value a.0.0
-      pick false true v = subst (λ k. AlikeValues (counted (length g.nodes)) (counted k)) (pairs_length AlikeNodes g.nodes h.nodes a.0.1) (count_itself (length g.nodes))
-      pick false false true = single_alike g.nodes h.nodes a.0.1
-      pick false false false = tt
-  values_by f (g ∷ i ∷ gs) (h ∷ j ∷ hs) a = tt
-  values_by f [] (h ∷ hs) a = absurd a
-  values_by f (g ∷ gs) [] a = absurd a
-  values_by f (g ∷ []) (h ∷ j ∷ hs) a = absurd a.1
-  values_by f (g ∷ i ∷ gs) (h ∷ []) a = absurd a.1
+  locations_of : (ns ms : List Node) → Pairwise AlikeNodes ns ms → map (λ (n : Node). n.location) ns ≡ map (λ (n : Node). n.location) ms
+  locations_of [] [] a = refl
+  locations_of (n ∷ ns) (m ∷ ms) a = ap₂ (λ (l : List Step) (ls : List (List Step)). l ∷ ls) a.0.0 (locations_of ns ms a.1)
+  locations_of [] (m ∷ ms) a = absurd a
+  locations_of (n ∷ ns) [] a = absurd a
 
-  truths_by : (f : List ℕ) (gs hs : List Given) → Pairwise AlikeGiven gs hs → logical_function f gs ≡ logical_function f hs
-  truths_by f [] [] a = refl
-  truths_by f (g ∷ []) (h ∷ []) a = refl
-  truths_by f (g ∷ i ∷ []) (h ∷ j ∷ []) a =
-      ap₂ (λ (b c : Bool). if bytes_eq f (codes "match") then b else if bytes_eq f (codes "search") then c else false)
-      (pattern_alike is_in g.value h.value i.value j.value a.0.0 a.1.0.0) (pattern_alike occurs_in g.value h.value i.value j.value a.0.0 a.1.0.0)
-  truths_by f (g ∷ i ∷ k ∷ gs) (h ∷ j ∷ l ∷ hs) a = refl
-  truths_by f [] (h ∷ hs) a = absurd a
-  truths_by f (g ∷ gs) [] a = absurd a
-  truths_by f (g ∷ []) (h ∷ j ∷ hs) a = absurd a.1
-  truths_by f (g ∷ i ∷ gs) (h ∷ []) a = absurd a.1
-  truths_by f (g ∷ i ∷ []) (h ∷ j ∷ l ∷ hs) a = absurd a.1.1
-  truths_by f (g ∷ i ∷ k ∷ gs) (h ∷ j ∷ []) a = absurd a.1.1
-
-  -- ---- queries
-
-  module _ (t u : Tree) (same : AlikeTrees t u) where
-    mutual
-      pub nodes_alike : (q : Segments) (ns ms : List Node) → Pairwise AlikeNodes ns ms → Pairwise AlikeNodes (nodes q ns t) (nodes q ms u)
-      nodes_alike no_segments ns ms a = a
-      nodes_alike (segment s ss) ns ms a =
-          nodes_alike ss (flat_map (λ n. segment_nodes s n t) ns) (flat_map (λ n. segment_nodes s n u) ms)
-          (pairs_flat AlikeNodes AlikeNodes (λ n. segment_nodes s n t) (λ n. segment_nodes s n u) (segment_alike s) ns ms a)
-
-      segment_alike : (s : Segment) (n m : Node) → AlikeNodes n m → Pairwise AlikeNodes (segment_nodes s n t) (segment_nodes s m u)
-      segment_alike (child_segment ss) n m a = selected_alike ss n m a
-      segment_alike (descendant_segment ss) n m a = pairs_flat AlikeNodes AlikeNodes (λ d. selected ss d t) (λ d. selected ss d u) (selected_alike ss) (subtree n) (subtree m) (subtree_alike n m a)
-
-      selected_alike : (ss : Selectors) (n m : Node) → AlikeNodes n m → Pairwise AlikeNodes (selected ss n t) (selected ss m u)
-      selected_alike no_selectors n m a = tt
-      selected_alike (selector s ss) n m a = pairs_append AlikeNodes (select s n t) (select s m u) (selected ss n t) (selected ss m u) (select_alike s n m a) (selected_alike ss n m a)
-
-      select_alike : (s : Selector) (n m : Node) → AlikeNodes n m → Pairwise AlikeNodes (select s n t) (select s m u)
-      select_alike (name_selector x) n m a = where_alike (is_name x) (is_name x) (λ s. refl) n m a
-      select_alike wildcard_selector n m a = children_alike n m a
-      select_alike (index_selector i) n m a = where_alike _ _ (λ s. ap (λ c. is_index (same_int (normal c i)) s) (count_alike n m a)) n m a
-      select_alike (slice_selector first last step) n m a = sliced_alike first last (unwrap_or step (pos 1)) n m a
-      select_alike (filter_selector l) n m a = pairs_filter AlikeNodes (λ c. truth l c t) (λ c. truth l c u) (truth_alike l) (children n) (children m) (children_alike n m a)
-
-      truth_alike : (l : Logical) (n m : Node) → AlikeNodes n m → truth l n t ≡ truth l m u
-      truth_alike (or_all ls) n m a = some_alike ls n m a
-      truth_alike (and_all ls) n m a = each_alike ls n m a
-      truth_alike (negated l) n m a = ap not (truth_alike l n m a)
-      truth_alike (compare x op y) n m a = alike_compared order_total op _ _ _ _ (side_alike x n m a) (side_alike y n m a)
-      truth_alike (exists p) n m a = ap (λ k. not (k == 0)) (pairs_length AlikeNodes (path_nodes p n t) (path_nodes p m u) (path_alike p n m a))
-      truth_alike (test c) n m a = call_truth_alike c n m a
-
-      some_alike : (ls : Logicals) (n m : Node) → AlikeNodes n m → some_true ls n t ≡ some_true ls m u
-      some_alike no_logicals n m a = refl
-      some_alike (logical l ls) n m a = ap₂ (λ (b c : Bool). b || c) (truth_alike l n m a) (some_alike ls n m a)
-
-      each_alike : (ls : Logicals) (n m : Node) → AlikeNodes n m → each_true ls n t ≡ each_true ls m u
-      each_alike no_logicals n m a = refl
-      each_alike (logical l ls) n m a = ap₂ (λ (b c : Bool). b && c) (truth_alike l n m a) (each_alike ls n m a)
-
-      side_alike : (c : Comparable) (n m : Node) → AlikeNodes n m → AlikeSides order_total (compared_value c n t) (compared_value c m u)
-      side_alike (constant c) n m a = literal_itself c
-      side_alike (single p) n m a = single_alike (path_nodes p n t) (path_nodes p m u) (path_alike p n m a)
-      side_alike (result c) n m a = call_value_alike c n m a
-
-      path_alike : (p : Path) (n m : Node) → AlikeNodes n m → Pairwise AlikeNodes (path_nodes p n t) (path_nodes p m u)
-      path_alike (path root ss) n m a = nodes_alike ss (root_node t ∷ []) (root_node u ∷ []) ((refl, same), tt)
-      path_alike (path current ss) n m a = nodes_alike ss (n ∷ []) (m ∷ []) (a, tt)
-
-      call_value_alike : (c : Call) (n m : Node) → AlikeNodes n m → AlikeSides order_total (call_value c n t) (call_value c m u)
-      call_value_alike (call f args) n m a = values_by f (given args n t) (given args m u) (given_alike args n m a)
-
-      call_truth_alike : (c : Call) (n m : Node) → AlikeNodes n m → call_truth c n t ≡ call_truth c m u
-      call_truth_alike (call f args) n m a = truths_by f (given args n t) (given args m u) (given_alike args n m a)
-
-      given_alike : (args : Arguments) (n m : Node) → AlikeNodes n m → Pairwise AlikeGiven (given args n t) (given args m u)
-      given_alike no_arguments n m a = tt
-      given_alike (argument x args) n m a = (argument_alike x n m a, given_alike args n m a)
-
-      argument_alike : (x : Argument) (n m : Node) → AlikeNodes n m → AlikeGiven (given_by x n t) (given_by x m u)
-      argument_alike (constant_argument c) n m a = (literal_itself c, tt)
-      argument_alike (nodes_argument p) n m a = let b = path_alike p n m a in (single_alike (path_nodes p n t) (path_nodes p m u) b, b)
-      argument_alike (condition l) n m a = (tt, tt)
-      argument_alike (result_argument c) n m a = (call_value_alike c n m a, tt)
-
-    locations_of : (ns ms : List Node) → Pairwise AlikeNodes ns ms → map (λ (n : Node). n.location) ns ≡ map (λ (n : Node). n.location) ms
-    locations_of [] [] a = refl
-    locations_of (n ∷ ns) (m ∷ ms) a = ap₂ (λ (l : List Step) (ls : List (List Step)). l ∷ ls) a.0.0 (locations_of ns ms a.1)
-    locations_of [] (m ∷ ms) a = absurd a
-    locations_of (n ∷ ns) [] a = absurd a
-
-    pub same_locations : (q : Segments) → map (λ (n : Node). n.location) (nodes q (root_node t ∷ []) t) ≡ map (λ (n : Node). n.location) (nodes q (root_node u ∷ []) u)
-    same_locations q = locations_of (nodes q (root_node t ∷ []) t) (nodes q (root_node u ∷ []) u) (nodes_alike q (root_node t ∷ []) (root_node u ∷ []) ((refl, same), tt))
+  pub same_locations : (t u : Tree) → AlikeTrees t u → (q : Segments) → map (λ (n : Node). n.location) (nodes q (root_node t ∷ []) t) ≡ map (λ (n : Node). n.location) (nodes q (root_node u ∷ []) u)
+  same_locations t u same q = locations_of (nodes q (root_node t ∷ []) t) (nodes q (root_node u ∷ []) u) (agreed t u AlikeNodes (Pairwise AlikeNodes) (AlikeSides order_total) (agreement t u same) q)

@@ -93,7 +93,7 @@ count_spelled : (least : ℕ) (most : Option ℕ) → CanBeCount least most → 
 count_spelled least None h = at_least (bound_spelled least h)
 count_spelled least (Some most) h = let a = h.0 in let b = h.1 in between (bound_spelled least (omega arith)) (bound_spelled most b) a
 
-abbrev CanBeToken : Token → Type 0
+abbrev pub CanBeToken : Token → Type 0
 CanBeToken (class_token c) = CanBeClass c
 CanBeToken (count_token least most) = CanBeCount least most
 CanBeToken _ = Unit {0}

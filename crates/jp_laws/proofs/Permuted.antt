@@ -5,7 +5,7 @@ use Rattle.std.proofs.lemmas.Grind.{flat_map-append}
 use Rattle.std.proofs.lemmas.List.{length-append, map-append}
 use Rattle.std.proofs.lemmas.List.Elements.{filter-append}
 use Rattle.std.proofs.lemmas.List.Sorted.{IsPermutation-refl, IsPermutation-cons, IsPermutation-middle, IsPermutation-sym, IsPermutation-trans}
-use Rattle.jp_laws.proofs.AlikeNodes.{Pairwise}
+use Rattle.jp_laws.proofs.Pairs.{Pairwise}
 
 -- each element of the first list has one of its own in the second
 abbrev pub Permuted : {X : Type 0} → (X → X → Type 0) → List X → List X → Type 0

@@ -1,23 +1,22 @@
 -- Queries select the same nodes, in some order, of trees that are the same but for the order of members.
-use Rattle.std.proofs.Common.{◌≡◌, ℕ, ◌+◌, ℤ, pos, List, [], ◌∷◌, ◌++◌, length, map, flat_map, filter, reverse, Bool, true, false, not, ◌&&◌, ◌||◌, ◌==◌, Option, Some, None, codes, bytes_eq, refl, sym, ap, ap₂, subst, ◌∙◌, append_assoc, arith, if◌then◌else◌, int_lt}
-use Rattle.std.specs.Prelude.{unwrap_or}
+use Rattle.std.proofs.Common.{◌≡◌, ℕ, ◌+◌, ℤ, pos, List, [], ◌∷◌, ◌++◌, length, map, filter, reverse, Bool, true, false, Option, Some, None, refl, sym, ap, ap₂, subst, ◌∙◌, append_assoc, arith, if◌then◌else◌, int_lt}
 use Rattle.std.specs.Cmp.{IsTotalOrder}
 use Rattle.std.specs.List.Sorted.{IsPermutation}
 use Rattle.std.proofs.lemmas.Bool.{or_parts}
 use Rattle.jp_decimal.specs.Values.{order}
 use Rattle.jp_model.specs.Json.Faults.{names, has_repeated, has_duplicate, value_has_duplicate, children_have_duplicate}
 use Rattle.jp_model.specs.Json.Tree.{Tree, node, Value, Children, no_child, child, joined, value_of, count_children}
-use Rattle.jp_model.specs.Pattern.Membership.{is_in, occurs_in}
 use Rattle.jp_model.specs.Pattern.Tree.{Pattern}
-use Rattle.jp_model.specs.Query.Syntax.{root, current, Literal, null_literal, false_literal, true_literal, number_literal, string_literal, Segment, child_segment, descendant_segment, Segments, no_segments, segment, Selector, name_selector, wildcard_selector, index_selector, slice_selector, filter_selector, Selectors, no_selectors, selector, Logical, or_all, and_all, negated, compare, exists, test, Logicals, no_logicals, logical, Comparable, constant, single, result, Argument, constant_argument, nodes_argument, condition, result_argument, Arguments, no_arguments, argument, Path, path, Call, call}
+use Rattle.jp_model.specs.Query.Syntax.{Literal, null_literal, false_literal, true_literal, number_literal, string_literal, Segments}
 use Rattle.jp_model.specs.Meaning.Nodes.{Node, root_node, child_of, child_count, children, children_where, step_to, steps_from, steps_in, subtree, subtree_at, below, below_from}
-use Rattle.jp_model.specs.Meaning.Functions.{single_value, Given, counted, length_of, in_pattern, literal_value, value_function, logical_function}
-use Rattle.jp_model.specs.Meaning.Selecting.{nodes, segment_nodes, selected, select, truth, some_true, each_true, compared_value, path_nodes, call_value, call_truth, given, given_by}
-use Rattle.jp_model.specs.Meaning.Slices.{is_name, is_index, normal, sliced, upward, downward}
-use Rattle.jp_model.specs.Steps.{Step, name_step, same_int}
+use Rattle.jp_model.specs.Meaning.Functions.{single_value, counted, length_of, in_pattern, literal_value}
+use Rattle.jp_model.specs.Meaning.Selecting.{nodes}
+use Rattle.jp_model.specs.Meaning.Slices.{is_index, sliced, upward, downward}
+use Rattle.jp_model.specs.Steps.{Step, name_step}
 use Rattle.jp_laws.specs.Reordered.{ReorderedTrees, reordered_trees, ReorderedValues, same_null, same_boolean, same_number, same_string, same_array, same_object, ReorderedElements, no_element, next_element, ReorderedMembers, no_member, member_among}
 use Rattle.jp_laws.specs.Values.{are_members}
-use Rattle.jp_laws.proofs.AlikeNodes.{Pairwise, pairs_map, pairs_filter, pairs_reverse}
+use Rattle.jp_laws.proofs.Agreeing.{Agreement, agreed}
+use Rattle.jp_laws.proofs.Pairs.{Pairwise, pairs_map, pairs_filter, pairs_reverse}
 use Rattle.jp_laws.proofs.Permuted.{Permuted, permuted_middle, permuted_append, permuted_flat, permuted_map, permuted_filter, permuted_length, permuted_pairs, permutation_of}
 use Rattle.jp_laws.proofs.ReorderedValues.{ReorderedSides, alike_compared, elements_count, members_count, left_named, right_named, taken_duplicate}
 
@@ -258,107 +257,29 @@ module _ (order_total : IsTotalOrder order) where
   pattern_reordered passes (Some x) (Some y) None (Some w) a b = absurd b
   pattern_reordered passes (Some x) (Some y) (Some v) None a b = absurd b
 
-  abbrev ReorderedGiven : Given → Given → Type 0
-  ReorderedGiven a b = SameSides a.value b.value × Permuted ReorderedNodes a.nodes b.nodes
-
-  values_by : (f : List ℕ) (gs hs : List Given) → Pairwise ReorderedGiven gs hs → SameSides (value_function f gs) (value_function f hs)
-  values_by f [] [] a = tt
-  values_by f (g ∷ []) (h ∷ []) a = pick (bytes_eq f (codes "length")) (bytes_eq f (codes "count")) (bytes_eq f (codes "value"))
-    where
-      pick : (l c v : Bool) → SameSides
-          (if l then length_of g.value else if c then Some (counted (length g.nodes)) else if v then single_value g.nodes else None)
-          (if l then length_of h.value else if c then Some (counted (length h.nodes)) else if v then single_value h.nodes else None)
-      pick true c v = lengths_reordered g.value h.value a.0.0
-      pick false true v = counts (length g.nodes) (length h.nodes) (permuted_length ReorderedNodes g.nodes h.nodes a.0.1)
-      pick false false true = single_reordered g.nodes h.nodes a.0.1
-      pick false false false = tt
-  values_by f (g ∷ i ∷ gs) (h ∷ j ∷ hs) a = tt
-  values_by f [] (h ∷ hs) a = absurd a
-  values_by f (g ∷ gs) [] a = absurd a
-  values_by f (g ∷ []) (h ∷ j ∷ hs) a = absurd a.1
-  values_by f (g ∷ i ∷ gs) (h ∷ []) a = absurd a.1
-
-  truths_by : (f : List ℕ) (gs hs : List Given) → Pairwise ReorderedGiven gs hs → logical_function f gs ≡ logical_function f hs
-  truths_by f [] [] a = refl
-  truths_by f (g ∷ []) (h ∷ []) a = refl
-  truths_by f (g ∷ i ∷ []) (h ∷ j ∷ []) a =
-      ap₂ (λ (b c : Bool). if bytes_eq f (codes "match") then b else if bytes_eq f (codes "search") then c else false)
-      (pattern_reordered is_in g.value h.value i.value j.value a.0.0 a.1.0.0) (pattern_reordered occurs_in g.value h.value i.value j.value a.0.0 a.1.0.0)
-  truths_by f (g ∷ i ∷ k ∷ gs) (h ∷ j ∷ l ∷ hs) a = refl
-  truths_by f [] (h ∷ hs) a = absurd a
-  truths_by f (g ∷ gs) [] a = absurd a
-  truths_by f (g ∷ []) (h ∷ j ∷ hs) a = absurd a.1
-  truths_by f (g ∷ i ∷ gs) (h ∷ []) a = absurd a.1
-  truths_by f (g ∷ i ∷ []) (h ∷ j ∷ l ∷ hs) a = absurd a.1.1
-  truths_by f (g ∷ i ∷ k ∷ gs) (h ∷ j ∷ []) a = absurd a.1.1
-
-  -- ---- queries
-
-  module _ (t u : Tree) (same : ReorderedNodes (root_node t) (root_node u)) where
-    mutual
-      nodes_reordered : (q : Segments) (ns ms : List Node) → Permuted ReorderedNodes ns ms → Permuted ReorderedNodes (nodes q ns t) (nodes q ms u)
-      nodes_reordered no_segments ns ms a = a
-      nodes_reordered (segment s ss) ns ms a =
-          nodes_reordered ss (flat_map (λ n. segment_nodes s n t) ns) (flat_map (λ n. segment_nodes s n u) ms)
-          (permuted_flat ReorderedNodes ReorderedNodes (λ n. segment_nodes s n t) (λ n. segment_nodes s n u) (segment_reordered s) ns ms a)
-
-      segment_reordered : (s : Segment) (n m : Node) → ReorderedNodes n m → Permuted ReorderedNodes (segment_nodes s n t) (segment_nodes s m u)
-      segment_reordered (child_segment ss) n m a = selected_reordered ss n m a
-      segment_reordered (descendant_segment ss) n m a = permuted_flat ReorderedNodes ReorderedNodes (λ d. selected ss d t) (λ d. selected ss d u) (selected_reordered ss) (subtree n) (subtree m) (subtree_reordered n m a)
-
-      selected_reordered : (ss : Selectors) (n m : Node) → ReorderedNodes n m → Permuted ReorderedNodes (selected ss n t) (selected ss m u)
-      selected_reordered no_selectors n m a = refl
-      selected_reordered (selector s ss) n m a = permuted_append ReorderedNodes (select s n t) (select s m u) (selected ss n t) (selected ss m u) (select_reordered s n m a) (selected_reordered ss n m a)
-
-      select_reordered : (s : Selector) (n m : Node) → ReorderedNodes n m → Permuted ReorderedNodes (select s n t) (select s m u)
-      select_reordered (name_selector x) n m a = where_reordered (is_name x) (is_name x) (λ s. refl) n m a
-      select_reordered wildcard_selector n m a = children_reordered n m a
-      select_reordered (index_selector i) n m a = where_reordered _ _ (λ s. ap (λ c. is_index (same_int (normal c i)) s) (count_reordered n m a)) n m a
-      select_reordered (slice_selector first last step) n m a = sliced_reordered first last (unwrap_or step (pos 1)) n m a
-      select_reordered (filter_selector l) n m a = permuted_filter ReorderedNodes (λ c. truth l c t) (λ c. truth l c u) (truth_reordered l) (children n) (children m) (children_reordered n m a)
-
-      truth_reordered : (l : Logical) (n m : Node) → ReorderedNodes n m → truth l n t ≡ truth l m u
-      truth_reordered (or_all ls) n m a = some_reordered ls n m a
-      truth_reordered (and_all ls) n m a = each_reordered ls n m a
-      truth_reordered (negated l) n m a = ap not (truth_reordered l n m a)
-      truth_reordered (compare x op y) n m a = alike_compared order_total op _ _ _ _ (side_reordered x n m a) (side_reordered y n m a)
-      truth_reordered (exists p) n m a = ap (λ k. not (k == 0)) (permuted_length ReorderedNodes (path_nodes p n t) (path_nodes p m u) (path_reordered p n m a))
-      truth_reordered (test c) n m a = call_truth_reordered c n m a
-
-      some_reordered : (ls : Logicals) (n m : Node) → ReorderedNodes n m → some_true ls n t ≡ some_true ls m u
-      some_reordered no_logicals n m a = refl
-      some_reordered (logical l ls) n m a = ap₂ (λ (b c : Bool). b || c) (truth_reordered l n m a) (some_reordered ls n m a)
-
-      each_reordered : (ls : Logicals) (n m : Node) → ReorderedNodes n m → each_true ls n t ≡ each_true ls m u
-      each_reordered no_logicals n m a = refl
-      each_reordered (logical l ls) n m a = ap₂ (λ (b c : Bool). b && c) (truth_reordered l n m a) (each_reordered ls n m a)
-
-      side_reordered : (c : Comparable) (n m : Node) → ReorderedNodes n m → SameSides (compared_value c n t) (compared_value c m u)
-      side_reordered (constant c) n m a = literal_itself c
-      side_reordered (single p) n m a = single_reordered (path_nodes p n t) (path_nodes p m u) (path_reordered p n m a)
-      side_reordered (result c) n m a = call_value_reordered c n m a
-
-      path_reordered : (p : Path) (n m : Node) → ReorderedNodes n m → Permuted ReorderedNodes (path_nodes p n t) (path_nodes p m u)
-      path_reordered (path root ss) n m a = nodes_reordered ss (root_node t ∷ []) (root_node u ∷ []) (root_node u, [], [], same, refl, refl)
-      path_reordered (path current ss) n m a = nodes_reordered ss (n ∷ []) (m ∷ []) (m, [], [], a, refl, refl)
-
-      call_value_reordered : (c : Call) (n m : Node) → ReorderedNodes n m → SameSides (call_value c n t) (call_value c m u)
-      call_value_reordered (call f args) n m a = values_by f (given args n t) (given args m u) (given_reordered args n m a)
-
-      call_truth_reordered : (c : Call) (n m : Node) → ReorderedNodes n m → call_truth c n t ≡ call_truth c m u
-      call_truth_reordered (call f args) n m a = truths_by f (given args n t) (given args m u) (given_reordered args n m a)
-
-      given_reordered : (args : Arguments) (n m : Node) → ReorderedNodes n m → Pairwise ReorderedGiven (given args n t) (given args m u)
-      given_reordered no_arguments n m a = tt
-      given_reordered (argument x args) n m a = (argument_reordered x n m a, given_reordered args n m a)
-
-      argument_reordered : (x : Argument) (n m : Node) → ReorderedNodes n m → ReorderedGiven (given_by x n t) (given_by x m u)
-      argument_reordered (constant_argument c) n m a = (literal_itself c, refl)
-      argument_reordered (nodes_argument p) n m a = let b = path_reordered p n m a in (single_reordered (path_nodes p n t) (path_nodes p m u) b, b)
-      argument_reordered (condition l) n m a = (tt, refl)
-      argument_reordered (result_argument c) n m a = (call_value_reordered c n m a, refl)
+  agreement : (t u : Tree) → ReorderedTrees t u → has_duplicate t ≡ false → has_duplicate u ≡ false → Agreement t u ReorderedNodes (Permuted ReorderedNodes) SameSides
+  agreement t u h d f = record {
+    roots = (refl, h, d, f);
+    none = refl;
+    alone = λ n m a. (m, [], [], a, refl, refl);
+    joined = permuted_append ReorderedNodes;
+    mapped = permuted_flat ReorderedNodes ReorderedNodes;
+    kept = permuted_filter ReorderedNodes;
+    as_many = permuted_length ReorderedNodes;
+    all_children = children_reordered;
+    some_children = where_reordered;
+    slices = sliced_reordered;
+    as_many_children = count_reordered;
+    subtrees = subtree_reordered;
+    nothing = tt;
+    values = single_reordered;
+    literals = literal_itself;
+    counts = λ k. counts k k refl;
+    lengths = lengths_reordered;
+    patterns = pattern_reordered;
+    comparisons = alike_compared order_total;
+  }
 
   pub permuted_locations : (t u : Tree) → ReorderedTrees t u → has_duplicate t ≡ false → has_duplicate u ≡ false → (q : Segments) → IsPermutation (map (λ (n : Node). n.location) (nodes q (root_node t ∷ []) t)) (map (λ (n : Node). n.location) (nodes q (root_node u ∷ []) u))
   permuted_locations t u h d f q =
-      permutation_of ReorderedNodes (λ (n : Node). n.location) (λ n m a. a.0) (nodes q (root_node t ∷ []) t) (nodes q (root_node u ∷ []) u)
-      (nodes_reordered t u (refl, h, d, f) q (root_node t ∷ []) (root_node u ∷ []) (root_node u, [], [], (refl, h, d, f), refl, refl))
+      permutation_of ReorderedNodes (λ (n : Node). n.location) (λ n m a. a.0) (nodes q (root_node t ∷ []) t) (nodes q (root_node u ∷ []) u) (agreed t u ReorderedNodes (Permuted ReorderedNodes) SameSides (agreement t u h d f) q)

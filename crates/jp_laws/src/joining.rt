@@ -15,7 +15,7 @@ ghost use Rattle.jp_laws.specs.Queries.{BeginsInTurn, beside, children_by, conti
 /// A query that goes on behind another selects what the rest selects of the nodes that the first selects, one after another
 /// (RFC 9535, section 2.1.2).
 ///
-/// Segments that are applied from the last to the first, or all to the root, are refused here.
+/// That the nodes of a query are turned round at its end is refused here.
 pub fn segments_go_on_from_node_to_node()
     ensures { (a b : Segments) (list : List Node) (t : Tree) → nodes (continued a b) list t ≡ nodes b (nodes a list t) t }
 {}
@@ -23,7 +23,7 @@ pub fn segments_go_on_from_node_to_node()
 /// `[a,b]` selects of a node what `[a]` selects, and then what `[b]` does, nodes that both select twice (RFC 9535, section
 /// 2.5.1.2).
 ///
-/// A union of sets, or one in the order of the children, is refused here.
+/// A union of sets, in which a node that two selectors select comes once, is refused here.
 pub fn selectors_are_asked_in_turn()
     ensures { (a b : Selectors) (n : Node) (t : Tree) → nodes (children_by (beside a b)) (n ∷ []) t ≡ nodes (children_by a) (n ∷ []) t ++ nodes (children_by b) (n ∷ []) t }
 {}
@@ -31,14 +31,14 @@ pub fn selectors_are_asked_in_turn()
 /// A node and its descendants come in the order in which they begin in the line: parents before their children, and each child
 /// with all below it before the next (RFC 9535, section 2.5.2.2).
 ///
-/// Descendants level by level, or children from the last to the first, are refused here.
+/// That the last child comes first, with all below it, is refused here.
 pub fn descendants_begin_in_turn()
     ensures { (line : List ℕ) (t : Tree) (n : Node) → Text line t → IsWithin (root_node t) n → BeginsInTurn (subtree n) }
 {}
 
 /// The rows of lines that are joined are the rows of the first and then those of the second, whose numbers go on.
 ///
-/// Rows sorted by path, or numbers that begin anew, are refused here.
+/// That each row has the number of the first line is refused here.
 pub fn rows_of_joined_lines_go_on()
     ensures { (q : Segments) (a b : List LineStatus) → rows q (a ++ b) ≡ rows q a ++ map (lines_later (length a)) (rows q b) }
 {}

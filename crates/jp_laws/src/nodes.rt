@@ -63,7 +63,7 @@ pub fn all_descendants_are_selected_once()
 /// Trees that say the same have nodes at the same locations for every query: it does not matter where a value stands, how its
 /// strings and names are escaped, and how its numbers are spelled.
 ///
-/// A filter that compares numbers as they are spelled, or a function that counts escapes, is refused here.
+/// A `length` of numbers that is that of their digits is refused here.
 pub fn spelling_does_not_matter()
     ensures { (q : Segments) (t u : Tree) → AlikeTrees t u → map (λ (n : Node). n.location) (nodes q (root_node t ∷ []) t) ≡ map (λ (n : Node). n.location) (nodes q (root_node u ∷ []) u) }
 {

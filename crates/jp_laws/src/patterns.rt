@@ -10,7 +10,7 @@ use jp_model::laws;
 
 /// A pattern occurs in a text of scalars just where the text matches the pattern with any text before and behind it.
 ///
-/// A search that looks only at the front of the text, or never for the empty part, is refused here.
+/// A search that looks only at the front of the text, where what occurs is what stands there, is refused here.
 pub fn occurring_is_matching_somewhere()
     ensures { (r : Pattern) (text : List ℕ) → All IsScalar text → (occurs_in r text ≡ true) ↔ (is_in (somewhere r) text ≡ true) }
 {

@@ -58,7 +58,7 @@ pub fn output_goes_on()
 
 /// An index that is made and deleted again leaves what was there, where its path had none and fewer than sixteen did.
 ///
-/// An index that a `drop` takes from the front of the list, or that stays behind it, is refused here.
+/// That `drop` takes the first index of the list, whichever it names, is refused here.
 pub fn a_dropped_index_leaves_no_trace()
     ensures { (query_of : List ℕ → QueryStatus) (setup : Setup) (s : State) (x : List ℕ) (p : List Step) → index_path (query_of x) ≡ Some p → has_path p s.paths ≡ false → length s.paths < 16
         → (step query_of setup (step query_of setup s (index_line x)).after (drop_line x)).after ≡ s }
