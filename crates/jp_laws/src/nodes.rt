@@ -76,7 +76,8 @@ pub fn spelling_does_not_matter()
 /// That the value of several nodes is that of the first, which depends on which member comes first, is refused here.
 pub fn nodes_do_not_depend_on_the_order_of_members()
     ensures { (q : Segments) (t u : Tree) → ReorderedTrees t u → has_duplicate t ≡ false → has_duplicate u ≡ false
-        → IsPermutation (map (λ (n : Node). n.location) (nodes q (root_node t ∷ []) t)) (map (λ (n : Node). n.location) (nodes q (root_node u ∷ []) u)) }
+        → IsPermutation (map (λ (n : Node). n.location) (nodes q (root_node t ∷ []) t))
+        (map (λ (n : Node). n.location) (nodes q (root_node u ∷ []) u)) }
 {
     laws::values_are_in_total_order();
 }

@@ -1,5 +1,5 @@
 //! Laws of printers that read back: what the definitions can say at all has a text that says it, so that no grammar is too
-//! narrow. That none is ambiguous, `jp_model::laws`, `jp_iregexp::laws` and `jp_query::laws` say: a text spells one thing at most.
+//! narrow. That none is ambiguous, the laws of `jp_model`, `jp_iregexp` and `jp_query` say: a text spells one thing at most.
 
 ghost use Rattle.std.specs.Prelude.{◌≡◌, ◌≤◌, ◌==◌, ℕ, List, [], ◌∷◌, ◌++◌, false, IsTrue, count_by, encode_utf8_all};
 ghost use Rattle.std.specs.Str.{all_scalars};
@@ -28,13 +28,14 @@ pub fn each_tree_has_a_text()
         → (u : Tree) × HasStatus in_sequence (tree_text t ++ 0x0A ∷ []) (parsed u) × (unplaced u ≡ unplaced t) }
 {}
 
-/// Each pattern that is branches of pieces, with no empty class, no reversed range or count, and no bound above 999,999,999, has
-/// a text: what is printed of it spells it, where that has at most 256 scalars `(` (RFC 9485, section 3). No other pattern has
-/// one.
+/// Each pattern that is branches of pieces, with no empty class, no reversed range or count, and no bound above 999,999,999,
+/// has a text: what is printed of it spells it, where that has at most 256 scalars `(` (RFC 9485, section 3). No other pattern
+/// has one.
 ///
 /// A table of properties that lacks `Nl` is refused here.
 pub fn each_pattern_has_a_text()
-    ensures spelled { (r : Pattern) → IsRegexp r → count_by (λ c. c == 0x28) (pattern_text r) ≤ 256 → SpellsPattern (pattern_text r) r }
+    ensures spelled { (r : Pattern) → IsRegexp r → count_by (λ c. c == 0x28) (pattern_text r) ≤ 256
+        → SpellsPattern (pattern_text r) r }
     ensures only { (text : List ℕ) (r : Pattern) → SpellsPattern text r → IsRegexp r }
 {}
 
@@ -46,5 +47,6 @@ pub fn each_pattern_has_a_text()
 pub fn each_query_has_a_text()
     ensures spelled { (q : Segments) → CanBeSegments q → SpellsQuery (query_text q) q }
     ensures only { (x : List ℕ) (q : Segments) → SpellsQuery x q → CanBeSegments q }
-    ensures bytes { (q : Segments) → CanBeSegments q → IsTrue (all_scalars (query_text q)) → TextSpells (encode_utf8_all (query_text q)) q }
+    ensures bytes { (q : Segments) → CanBeSegments q → IsTrue (all_scalars (query_text q))
+        → TextSpells (encode_utf8_all (query_text q)) q }
 {}
