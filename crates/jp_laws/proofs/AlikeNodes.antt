@@ -13,8 +13,9 @@ use Rattle.jp_model.specs.Meaning.Slices.{is_index, sliced, upward, downward}
 use Rattle.jp_model.specs.Steps.{Step}
 use Rattle.jp_laws.specs.Alike.{AlikeChildren, next_child, no_more, AlikeNames, named_alike, unnamed, AlikeTrees, alike_trees, AlikeValues, alike_booleans, alike_containers, alike_nulls, alike_numbers, alike_strings}
 use Rattle.jp_laws.proofs.Agreeing.{Agreement, agreed}
-use Rattle.jp_laws.proofs.AlikeValues.{AlikeSides, alike_compared, same_count}
+use Rattle.jp_laws.proofs.AlikeValues.{alike_compared, same_count}
 use Rattle.jp_laws.proofs.NumberOrder.{number_itself}
+use Rattle.jp_laws.proofs.Sides.{Sides}
 use Rattle.jp_laws.proofs.Pairs.{Pairwise, pairs_append, pairs_flat, pairs_map, pairs_filter, pairs_reverse, pairs_length}
 
 -- ---- nodes at one location whose trees are alike
@@ -98,7 +99,7 @@ sliced_alike first last step n m a = pick (int_lt (pos 0) step) (int_lt step (po
 -- ---- what functions answer
 
 module _ (order_total : IsTotalOrder order) where
-  single_alike : (ns ms : List Node) → Pairwise AlikeNodes ns ms → AlikeSides order_total (single_value ns) (single_value ms)
+  single_alike : (ns ms : List Node) → Pairwise AlikeNodes ns ms → Sides AlikeValues (single_value ns) (single_value ms)
   single_alike [] [] a = tt
   single_alike (n ∷ []) (m ∷ []) a = of_trees a.0.1
     where
@@ -120,11 +121,11 @@ module _ (order_total : IsTotalOrder order) where
   literal_itself (number_literal x) = alike_numbers (number_itself order_total (mantissa (numeral_of x)) (scale (numeral_of x)))
   literal_itself (string_literal x) = alike_strings
 
-  lengths_alike : (x y : Option Value) → AlikeSides order_total x y → AlikeSides order_total (length_of x) (length_of y)
+  lengths_alike : (x y : Option Value) → Sides AlikeValues x y → Sides AlikeValues (length_of x) (length_of y)
   lengths_alike None None a = tt
   lengths_alike (Some v) (Some w) a = by_value a
     where
-      by_value : {v w : Value} → AlikeValues v w → AlikeSides order_total (length_of (Some v)) (length_of (Some w))
+      by_value : {v w : Value} → AlikeValues v w → Sides AlikeValues (length_of (Some v)) (length_of (Some w))
       by_value alike_nulls = tt
       by_value alike_booleans = tt
       by_value (alike_numbers h) = tt
@@ -133,7 +134,7 @@ module _ (order_total : IsTotalOrder order) where
   lengths_alike None (Some w) a = absurd a
   lengths_alike (Some v) None a = absurd a
 
-  pattern_alike : (passes : Pattern → List ℕ → Bool) (x y v w : Option Value) → AlikeSides order_total x y → AlikeSides order_total v w → in_pattern passes x v ≡ in_pattern passes y w
+  pattern_alike : (passes : Pattern → List ℕ → Bool) (x y v w : Option Value) → Sides AlikeValues x y → Sides AlikeValues v w → in_pattern passes x v ≡ in_pattern passes y w
   pattern_alike passes None None v w a b = refl
   pattern_alike passes (Some x) (Some y) None None a b = none a
     where
@@ -150,7 +151,7 @@ module _ (order_total : IsTotalOrder order) where
   pattern_alike passes (Some x) (Some y) None (Some w) a b = absurd b
   pattern_alike passes (Some x) (Some y) (Some v) None a b = absurd b
 
-  agreement : (t u : Tree) → AlikeTrees t u → Agreement t u AlikeNodes (Pairwise AlikeNodes) (AlikeSides order_total)
+  agreement : (t u : Tree) → AlikeTrees t u → Agreement t u AlikeNodes (Pairwise AlikeNodes) (Sides AlikeValues)
   agreement t u same = record {
     roots = (refl, same);
     none = tt;
@@ -180,4 +181,4 @@ module _ (order_total : IsTotalOrder order) where
   locations_of (n ∷ ns) [] a = absurd a
 
   pub same_locations : (t u : Tree) → AlikeTrees t u → (q : Segments) → map (λ (n : Node). n.location) (nodes q (root_node t ∷ []) t) ≡ map (λ (n : Node). n.location) (nodes q (root_node u ∷ []) u)
-  same_locations t u same q = locations_of (nodes q (root_node t ∷ []) t) (nodes q (root_node u ∷ []) u) (agreed t u AlikeNodes (Pairwise AlikeNodes) (AlikeSides order_total) (agreement t u same) q)
+  same_locations t u same q = locations_of (nodes q (root_node t ∷ []) t) (nodes q (root_node u ∷ []) u) (agreed t u AlikeNodes (Pairwise AlikeNodes) (Sides AlikeValues) (agreement t u same) q)

@@ -1,14 +1,15 @@
 -- Values that say the same compare alike.
-use Rattle.std.proofs.Common.{◌≡◌, ℕ, suc, ℤ, nat_eq, List, Bool, true, ◌&&◌, bytes_eq, Option, Some, None, is_eq, is_lt, refl, ap, ap₂, ◌∙◌, if◌then◌else◌}
+use Rattle.std.proofs.Common.{◌≡◌, ℕ, suc, ℤ, nat_eq, List, Bool, true, ◌&&◌, bytes_eq, Option, is_eq, is_lt, refl, ap, ap₂, ◌∙◌, if◌then◌else◌}
 use Rattle.std.specs.Cmp.{IsTotalOrder}
 use Rattle.std.proofs.lemmas.Cmp.{alike_right}
 use Rattle.jp_decimal.specs.Values.{order}
 use Rattle.jp_model.specs.Json.Numbers.{number_equal, number_order}
 use Rattle.jp_model.specs.Json.Tree.{Value, array, object, Children, count_children}
-use Rattle.jp_model.specs.Meaning.Compare.{compared, both_equal, is_less, values_equal, elements_equal, member_passes, members_within, value_less}
+use Rattle.jp_model.specs.Meaning.Compare.{compared, values_equal, elements_equal, member_passes, members_within, value_less}
 use Rattle.jp_model.specs.Query.Syntax.{CompareOp}
 use Rattle.jp_laws.specs.Alike.{AlikeChildren, next_child, no_more, named_alike, unnamed, alike_trees, AlikeValues, alike_booleans, alike_containers, alike_nulls, alike_numbers, alike_strings}
-use Rattle.jp_laws.proofs.NumberOrder.{compared_alike, is_equal, of}
+use Rattle.jp_laws.proofs.NumberOrder.{is_equal, of}
+use Rattle.jp_laws.proofs.Sides.{Sides, sides_compared}
 
 module _ (order_total : IsTotalOrder order) where
   same_orders : (m e n f k g l h : ℤ) → number_equal m e n f ≡ true → number_equal k g l h ≡ true → number_order m e k g ≡ number_order n f l h
@@ -52,32 +53,5 @@ module _ (order_total : IsTotalOrder order) where
   less_alike alike_strings alike_strings = refl
   less_alike a b = refl
 
-  -- sides of a comparison
-  abbrev pub AlikeSides : Option Value → Option Value → Type 0
-  AlikeSides None None = Unit {0}
-  AlikeSides (Some v) (Some w) = AlikeValues v w
-  AlikeSides _ _ = ⊥
-
-  both_alike : (x y v w : Option Value) → AlikeSides x y → AlikeSides v w → both_equal x v ≡ both_equal y w
-  both_alike (Some x) (Some y) (Some v) (Some w) a b = equal_alike a b
-  both_alike (Some x) (Some y) None None a b = refl
-  both_alike None None (Some v) (Some w) a b = refl
-  both_alike None None None None a b = refl
-  both_alike (Some x) None v w a b = absurd a
-  both_alike None (Some y) v w a b = absurd a
-  both_alike (Some x) (Some y) (Some v) None a b = absurd b
-  both_alike (Some x) (Some y) None (Some w) a b = absurd b
-  both_alike None None (Some v) None a b = absurd b
-  both_alike None None None (Some w) a b = absurd b
-
-  sides_less : (x y v w : Option Value) → AlikeSides x y → AlikeSides v w → is_less x v ≡ is_less y w
-  sides_less (Some x) (Some y) (Some v) (Some w) a b = less_alike a b
-  sides_less (Some x) (Some y) None None a b = refl
-  sides_less None None v w a b = refl
-  sides_less (Some x) None v w a b = absurd a
-  sides_less None (Some y) v w a b = absurd a
-  sides_less (Some x) (Some y) (Some v) None a b = absurd b
-  sides_less (Some x) (Some y) None (Some w) a b = absurd b
-
-  pub alike_compared : (op : CompareOp) (x y v w : Option Value) → AlikeSides x y → AlikeSides v w → compared op x v ≡ compared op y w
-  alike_compared op x y v w a b = compared_alike op x v y w (both_alike x y v w a b) (sides_less x y v w a b) (sides_less v w x y b a)
+  pub alike_compared : (op : CompareOp) (x y v w : Option Value) → Sides AlikeValues x y → Sides AlikeValues v w → compared op x v ≡ compared op y w
+  alike_compared = sides_compared AlikeValues (λ x y v w a b. equal_alike a b) (λ x y v w a b. less_alike a b)

@@ -32,6 +32,7 @@ pub mod ReorderedValues
 pub mod RowFields
 pub mod Runs
 pub mod Shifted
+pub mod Sides
 pub mod SingularNodes
 pub mod SliceLoops
 pub mod Somewhere

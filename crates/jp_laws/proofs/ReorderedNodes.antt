@@ -18,7 +18,8 @@ use Rattle.jp_laws.specs.Values.{are_members}
 use Rattle.jp_laws.proofs.Agreeing.{Agreement, agreed}
 use Rattle.jp_laws.proofs.Pairs.{Pairwise, pairs_map, pairs_filter, pairs_reverse}
 use Rattle.jp_laws.proofs.Permuted.{Permuted, permuted_middle, permuted_append, permuted_flat, permuted_map, permuted_filter, permuted_length, permuted_pairs, permutation_of}
-use Rattle.jp_laws.proofs.ReorderedValues.{ReorderedSides, alike_compared, elements_count, members_count, left_named, right_named, taken_duplicate}
+use Rattle.jp_laws.proofs.Sides.{Sides}
+use Rattle.jp_laws.proofs.ReorderedValues.{Reordered, reordered_compared, elements_count, members_count, left_named, right_named, taken_duplicate}
 
 -- ---- nodes at one location whose trees are the same so, and have no equal names
 
@@ -195,42 +196,39 @@ subtree_reordered n m a = at_reordered n.location m.location a.0 a.1 a.2 a.3
 -- ---- what functions answer
 
 module _ (order_total : IsTotalOrder order) where
-  abbrev SameSides : Option Value → Option Value → Type 0
-  SameSides = ReorderedSides order_total
-
-  of_trees : {t u : Tree} → ReorderedTrees t u → has_duplicate t ≡ false → has_duplicate u ≡ false → SameSides (Some (value_of t)) (Some (value_of u))
+  of_trees : {t u : Tree} → ReorderedTrees t u → has_duplicate t ≡ false → has_duplicate u ≡ false → Sides Reordered (Some (value_of t)) (Some (value_of u))
   of_trees (reordered_trees h) d f = (h, d, f)
 
-  single_reordered : (ns ms : List Node) → Permuted ReorderedNodes ns ms → SameSides (single_value ns) (single_value ms)
-  single_reordered [] ms a = subst (λ (l : List Node). SameSides None (single_value l)) (sym a) tt
-  single_reordered (n ∷ []) ms a = subst (λ (l : List Node). SameSides (Some (value_of n.tree)) (single_value l)) (sym a.4) (lone a.1 a.2 a.5)
+  single_reordered : (ns ms : List Node) → Permuted ReorderedNodes ns ms → Sides Reordered (single_value ns) (single_value ms)
+  single_reordered [] ms a = subst (λ (l : List Node). Sides Reordered None (single_value l)) (sym a) tt
+  single_reordered (n ∷ []) ms a = subst (λ (l : List Node). Sides Reordered (Some (value_of n.tree)) (single_value l)) (sym a.4) (lone a.1 a.2 a.5)
     where
-      lone : (front rest : List Node) → front ++ rest ≡ [] → SameSides (Some (value_of n.tree)) (single_value (front ++ a.0 ∷ rest))
+      lone : (front rest : List Node) → front ++ rest ≡ [] → Sides Reordered (Some (value_of n.tree)) (single_value (front ++ a.0 ∷ rest))
       lone [] [] e = of_trees a.3.1 a.3.2 a.3.3
       lone [] (m ∷ rest) e = absurd (cc)
       lone (m ∷ front) rest e = absurd (cc)
   single_reordered (n ∷ i ∷ ns) ms a = many ms (permuted_length ReorderedNodes (n ∷ i ∷ ns) ms a)
     where
-      many : (ms : List Node) → length (n ∷ i ∷ ns) ≡ length ms → SameSides None (single_value ms)
+      many : (ms : List Node) → length (n ∷ i ∷ ns) ≡ length ms → Sides Reordered None (single_value ms)
       many [] e = tt
       many (m ∷ []) e = absurd (omega arith)
       many (m ∷ j ∷ ms) e = tt
 
-  literal_itself : (c : Literal) → SameSides (Some (literal_value c)) (Some (literal_value c))
+  literal_itself : (c : Literal) → Sides Reordered (Some (literal_value c)) (Some (literal_value c))
   literal_itself null_literal = (same_null, refl, refl)
   literal_itself false_literal = (same_boolean, refl, refl)
   literal_itself true_literal = (same_boolean, refl, refl)
   literal_itself (number_literal x) = (same_number, refl, refl)
   literal_itself (string_literal x) = (same_string, refl, refl)
 
-  counts : (k l : ℕ) → k ≡ l → SameSides (Some (counted k)) (Some (counted l))
-  counts k l e = subst (λ n. SameSides (Some (counted k)) (Some (counted n))) e (same_number, refl, refl)
+  counts : (k l : ℕ) → k ≡ l → Sides Reordered (Some (counted k)) (Some (counted l))
+  counts k l e = subst (λ n. Sides Reordered (Some (counted k)) (Some (counted n))) e (same_number, refl, refl)
 
-  lengths_reordered : (x y : Option Value) → SameSides x y → SameSides (length_of x) (length_of y)
+  lengths_reordered : (x y : Option Value) → Sides Reordered x y → Sides Reordered (length_of x) (length_of y)
   lengths_reordered None None a = tt
   lengths_reordered (Some v) (Some w) a = by_value a.0
     where
-      by_value : {v w : Value} → ReorderedValues v w → SameSides (length_of (Some v)) (length_of (Some w))
+      by_value : {v w : Value} → ReorderedValues v w → Sides Reordered (length_of (Some v)) (length_of (Some w))
       by_value same_null = tt
       by_value same_boolean = tt
       by_value same_number = tt
@@ -240,7 +238,7 @@ module _ (order_total : IsTotalOrder order) where
   lengths_reordered None (Some w) a = absurd a
   lengths_reordered (Some v) None a = absurd a
 
-  pattern_reordered : (passes : Pattern → List ℕ → Bool) (x y v w : Option Value) → SameSides x y → SameSides v w → in_pattern passes x v ≡ in_pattern passes y w
+  pattern_reordered : (passes : Pattern → List ℕ → Bool) (x y v w : Option Value) → Sides Reordered x y → Sides Reordered v w → in_pattern passes x v ≡ in_pattern passes y w
   pattern_reordered passes None None v w a b = refl
   pattern_reordered passes (Some x) (Some y) None None a b = none a.0
     where
@@ -257,7 +255,7 @@ module _ (order_total : IsTotalOrder order) where
   pattern_reordered passes (Some x) (Some y) None (Some w) a b = absurd b
   pattern_reordered passes (Some x) (Some y) (Some v) None a b = absurd b
 
-  agreement : (t u : Tree) → ReorderedTrees t u → has_duplicate t ≡ false → has_duplicate u ≡ false → Agreement t u ReorderedNodes (Permuted ReorderedNodes) SameSides
+  agreement : (t u : Tree) → ReorderedTrees t u → has_duplicate t ≡ false → has_duplicate u ≡ false → Agreement t u ReorderedNodes (Permuted ReorderedNodes) (Sides Reordered)
   agreement t u h d f = record {
     roots = (refl, h, d, f);
     none = refl;
@@ -277,9 +275,9 @@ module _ (order_total : IsTotalOrder order) where
     counts = λ k. counts k k refl;
     lengths = lengths_reordered;
     patterns = pattern_reordered;
-    comparisons = alike_compared order_total;
+    comparisons = reordered_compared order_total;
   }
 
   pub permuted_locations : (t u : Tree) → ReorderedTrees t u → has_duplicate t ≡ false → has_duplicate u ≡ false → (q : Segments) → IsPermutation (map (λ (n : Node). n.location) (nodes q (root_node t ∷ []) t)) (map (λ (n : Node). n.location) (nodes q (root_node u ∷ []) u))
   permuted_locations t u h d f q =
-      permutation_of ReorderedNodes (λ (n : Node). n.location) (λ n m a. a.0) (nodes q (root_node t ∷ []) t) (nodes q (root_node u ∷ []) u) (agreed t u ReorderedNodes (Permuted ReorderedNodes) SameSides (agreement t u h d f) q)
+      permutation_of ReorderedNodes (λ (n : Node). n.location) (λ n m a. a.0) (nodes q (root_node t ∷ []) t) (nodes q (root_node u ∷ []) u) (agreed t u ReorderedNodes (Permuted ReorderedNodes) (Sides Reordered) (agreement t u h d f) q)

@@ -6,11 +6,12 @@ use Rattle.jp_decimal.specs.Values.{order}
 use Rattle.jp_model.specs.declared.Span.{Span}
 use Rattle.jp_model.specs.Json.Faults.{names, has_repeated, has_duplicate, value_has_duplicate, children_have_duplicate}
 use Rattle.jp_model.specs.Json.Tree.{Tree, node, Value, Children, no_child, child, Name, joined, count_children, value_of}
-use Rattle.jp_model.specs.Meaning.Compare.{compared, both_equal, is_less, values_equal, elements_equal, value_less}
+use Rattle.jp_model.specs.Meaning.Compare.{compared, values_equal, elements_equal, value_less}
 use Rattle.jp_model.specs.Query.Syntax.{CompareOp}
 use Rattle.jp_laws.specs.Reordered.{ReorderedTrees, reordered_trees, ReorderedValues, same_null, same_boolean, same_number, same_string, same_array, same_object, ReorderedElements, no_element, next_element, ReorderedMembers, no_member, member_among}
 use Rattle.jp_laws.specs.Values.{are_members, has_members, each_has_members}
-use Rattle.jp_laws.proofs.NumberOrder.{compared_alike, number_itself}
+use Rattle.jp_laws.proofs.NumberOrder.{number_itself}
+use Rattle.jp_laws.proofs.Sides.{Sides, sides_compared}
 use Rattle.jp_laws.proofs.ValueEquality.{Plain, Matched, among, found, alike, back, boolean_itself, matched_within, on, swap_by, text_itself, text_same, unsome}
 
 -- ---- one child taken out
@@ -122,6 +123,17 @@ mutual
   members_right no_member = refl
   members_right (member_among a b {u = u} front rest e h more) = put_members front rest (Some b) u (tree_right h) (members_right more)
 
+-- values that are the same so, and have no equal names
+abbrev pub Reordered : Value → Value → Type 0
+Reordered v w = ReorderedValues v w × (value_has_duplicate v ≡ false) × (value_has_duplicate w ≡ false)
+
+same_less : {x y v w : Value} → ReorderedValues x y → ReorderedValues v w → value_less x v ≡ value_less y w
+same_less same_null b = refl
+same_less same_boolean b = refl
+same_less same_number same_number = refl
+same_less same_string same_string = refl
+same_less a b = refl
+
 -- ---- equality
 
 member_matched : (front rest cs : Children) (a b : Name) (r s : Span) (x y : Value) → a.points ≡ b.points → has_repeated (names (joined front (child (Some b) (node s y) rest))) ≡ false → values_equal x y ≡ true → Matched cs (joined front rest)
@@ -159,15 +171,10 @@ module _ (order_total : IsTotalOrder order) where
         let q = taken_duplicate front rest (Some b) (node s y) f in
         member_matched front rest cs a b i s x y e r (equal_values h p.0 q.0) (matched_members more (taken_repeated front rest b (node s y) r) p.1 q.1)
 
-  -- ---- sides of comparisons
+  -- ---- comparisons
 
-  abbrev pub ReorderedSides : Option Value → Option Value → Type 0
-  ReorderedSides None None = Unit {0}
-  ReorderedSides (Some v) (Some w) = ReorderedValues v w × (value_has_duplicate v ≡ false) × (value_has_duplicate w ≡ false)
-  ReorderedSides _ _ = ⊥
-
-  values_alike : (x y v w : Value) → ReorderedSides (Some x) (Some y) → ReorderedSides (Some v) (Some w) → values_equal x v ≡ values_equal y w
-  values_alike x y v w a b =
+  same_equal : (x y v w : Value) → Reordered x y → Reordered v w → values_equal x v ≡ values_equal y w
+  same_equal x y v w a b =
       let p : Plain x = record { distinct = a.1; members = value_left a.0 } in
       let q : Plain y = record { distinct = a.2; members = value_right a.0 } in
       let r : Plain v = record { distinct = b.1; members = value_left b.0 } in
@@ -176,33 +183,5 @@ module _ (order_total : IsTotalOrder order) where
       let f = equal_values b.0 b.1 b.2 in
       alike _ _ (λ h. on order_total y x w (back order_total x y p q e) (on order_total x v w h f)) (λ h. on order_total x y v e (on order_total y w v h (back order_total v w r s f)))
 
-  both_alike : (x y v w : Option Value) → ReorderedSides x y → ReorderedSides v w → both_equal x v ≡ both_equal y w
-  both_alike (Some x) (Some y) (Some v) (Some w) a b = values_alike x y v w a b
-  both_alike (Some x) (Some y) None None a b = refl
-  both_alike None None (Some v) (Some w) a b = refl
-  both_alike None None None None a b = refl
-  both_alike (Some x) None v w a b = absurd a
-  both_alike None (Some y) v w a b = absurd a
-  both_alike (Some x) (Some y) (Some v) None a b = absurd b
-  both_alike (Some x) (Some y) None (Some w) a b = absurd b
-  both_alike None None (Some v) None a b = absurd b
-  both_alike None None None (Some w) a b = absurd b
-
-  less_alike : {x y v w : Value} → ReorderedValues x y → ReorderedValues v w → value_less x v ≡ value_less y w
-  less_alike same_null b = refl
-  less_alike same_boolean b = refl
-  less_alike same_number same_number = refl
-  less_alike same_string same_string = refl
-  less_alike a b = refl
-
-  sides_less : (x y v w : Option Value) → ReorderedSides x y → ReorderedSides v w → is_less x v ≡ is_less y w
-  sides_less (Some x) (Some y) (Some v) (Some w) a b = less_alike a.0 b.0
-  sides_less (Some x) (Some y) None None a b = refl
-  sides_less None None v w a b = refl
-  sides_less (Some x) None v w a b = absurd a
-  sides_less None (Some y) v w a b = absurd a
-  sides_less (Some x) (Some y) (Some v) None a b = absurd b
-  sides_less (Some x) (Some y) None (Some w) a b = absurd b
-
-  pub alike_compared : (op : CompareOp) (x y v w : Option Value) → ReorderedSides x y → ReorderedSides v w → compared op x v ≡ compared op y w
-  alike_compared op x y v w a b = compared_alike op x v y w (both_alike x y v w a b) (sides_less x y v w a b) (sides_less v w x y b a)
+  pub reordered_compared : (op : CompareOp) (x y v w : Option Value) → Sides Reordered x y → Sides Reordered v w → compared op x v ≡ compared op y w
+  reordered_compared = sides_compared Reordered same_equal (λ x y v w a b. same_less a.0 b.0)
