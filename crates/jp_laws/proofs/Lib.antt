@@ -14,6 +14,8 @@ pub mod HexDigits
 pub mod JoinedParts
 pub mod JsonStatuses
 pub mod JsonTexts
+pub mod LastBytes
+pub mod LineTexts
 pub mod Locations
 pub mod Moved
 pub mod NumberOrder
@@ -31,6 +33,7 @@ pub mod ReorderedNodes
 pub mod ReorderedValues
 pub mod RowFields
 pub mod Runs
+pub mod SameFront
 pub mod Shifted
 pub mod Sides
 pub mod SingularNodes

@@ -20,7 +20,7 @@ use Rattle.jp_model.specs.Json.Tree.{Tree, node, Value, null, boolean, number, s
 abbrev Back : List ℕ → ℕ → ℕ → Type 0
 Back line i j = IsUtf8 (drop j line) → IsUtf8 (drop i line)
 
-ascii_one : (b : ℕ) → b < 128 → IsAscii (b ∷ [])
+pub ascii_one : (b : ℕ) → b < 128 → IsAscii (b ∷ [])
 ascii_one b h zero = h
 ascii_one b h (suc i) = omega arith
 

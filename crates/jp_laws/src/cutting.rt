@@ -2,11 +2,11 @@
 
 ghost use Rattle.std.specs.Prelude.{◌≡◌, ◌⊎◌, ℕ, List, [], ◌∷◌, ◌++◌, All, IsUtf8, flat_map, drop};
 ghost use Rattle.std.specs.List.{join_with_byte};
-ghost use Rattle.jp_model.specs.declared.Framing.TheVariants.{Lines as in_lines};
+ghost use Rattle.jp_model.specs.declared.Framing.TheVariants.{Lines as in_lines, Sequence as in_sequence};
 ghost use Rattle.jp_model.specs.declared.LineFault.TheVariants.{Truncated};
 ghost use Rattle.jp_model.specs.Json.Spelling.{Text};
 ghost use Rattle.jp_model.specs.Json.Tree.{Tree};
-ghost use Rattle.jp_model.specs.Json.Status.{refused, HasStatus};
+ghost use Rattle.jp_model.specs.Json.Status.{LineStatus, refused, HasStatus};
 ghost use Rattle.jp_model.specs.Lines.{pieces, first_piece, closed_lines, open_line, HasNoSeparator, without_byte_order_mark};
 ghost use Rattle.jp_laws.specs.Scripts.{with_line_feeds};
 
@@ -29,6 +29,13 @@ pub fn only_a_byte_order_mark_is_dropped()
 /// A line is never refused as truncated: that is a fault of texts in a sequence alone (RFC 7464, section 2.4).
 pub fn lines_are_never_truncated()
     ensures { (line : List ℕ) → HasStatus in_lines line (refused Truncated) → ⊥ }
+{}
+
+/// A line with a line feed behind it has in a sequence the status that it has as a line (RFC 7464, section 2.4).
+///
+/// That a number, `true`, `false` or `null` is truncated in a sequence whatever stands behind it is refused here.
+pub fn lines_are_texts_of_sequences()
+    ensures { (line : List ℕ) (x : LineStatus) → HasStatus in_lines line x → HasStatus in_sequence (line ++ 0x0A ∷ []) x }
 {}
 
 /// A line that spells a tree is UTF-8, as RFC 8259, section 8.1, asks of it.
