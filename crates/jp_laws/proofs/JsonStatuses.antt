@@ -18,7 +18,7 @@ use Rattle.jp_model.specs.Json.Status.{parsed, HasStatus, fault_of_tree}
 use Rattle.jp_model.specs.Json.Strings.{has_lone_surrogate}
 use Rattle.jp_model.specs.Json.Tree.{Tree, node, Value, null, boolean, number, string, container, Container, array, object, Children, no_child, child, Name}
 use Rattle.jp_laws.specs.Digits.{digits_of}
-use Rattle.jp_laws.specs.JsonTexts.{number_text, label_text, tree_text, value_text, first_text, more_text, CanBeLabel, CanBeSaid, CanBeValue, CanBeChildren, unplaced, unplaced_name, unplaced_value, unplaced_children}
+use Rattle.jp_laws.specs.JsonTexts.{number_text, label_text, tree_text, value_text, first_text, more_text, CanBeLabel, CanBeSaid, CanBeValue, CanBeChildren, HasShortExponents, IsShortValue, AreShortChildren, unplaced, unplaced_name, unplaced_value, unplaced_children}
 use Rattle.jp_laws.proofs.DigitTexts.{short_digits}
 use Rattle.jp_laws.proofs.JsonTexts.{Stands, parts_of, parts_correct, parts_bytes, placed, placed_name, placed_value, placed_first, placed_more, reads_front, white_none, go_on, step_on, regroup, tree_spelled}
 use Rattle.jp_laws.proofs.Utf8Lines.{text_utf8}
@@ -155,31 +155,31 @@ module _ (line : List ℕ) where
       ap is_long_exponent (ap numeral_of ((reads_front line i (number_text m e) rest at).are ∙ sym (parts_bytes m e)) ∙ parts_read (parts_of m e) (parts_correct m e)) ∙ parts_short m e h
 
   mutual
-    tree_short : (t : Tree) → CanBeSaid t → (i : ℕ) (rest : List ℕ) → Stands line i (tree_text t ++ rest) → has_long_exponent line (placed i t) ≡ false
+    tree_short : (t : Tree) → HasShortExponents t → (i : ℕ) (rest : List ℕ) → Stands line i (tree_text t ++ rest) → has_long_exponent line (placed i t) ≡ false
     tree_short (node s v) h i rest at = value_short v h i rest at
 
-    value_short : (v : Value) → CanBeValue v → (i : ℕ) (rest : List ℕ) → Stands line i (value_text v ++ rest) → value_has_long_exponent line (record { start = i; end = i + length (value_text v) }) (placed_value i v) ≡ false
+    value_short : (v : Value) → IsShortValue v → (i : ℕ) (rest : List ℕ) → Stands line i (value_text v ++ rest) → value_has_long_exponent line (record { start = i; end = i + length (value_text v) }) (placed_value i v) ≡ false
     value_short null h i rest at = refl
     value_short (boolean b) h i rest at = refl
     value_short (number m e) h i rest at = number_short m e i rest h at
     value_short (string x) h i rest at = refl
-    value_short (container kind cs) h i rest at = first_short kind cs h (i + 1) (closing kind ∷ rest) (regroup line (i + 1) (first_text cs) (closing kind ∷ []) rest (step_on line i _ _ at))
+    value_short (container kind cs) h i rest at = first_short cs h (i + 1) (closing kind ∷ rest) (regroup line (i + 1) (first_text cs) (closing kind ∷ []) rest (step_on line i _ _ at))
 
-    first_short : (kind : Container) (cs : Children) → CanBeChildren kind cs → (i : ℕ) (rest : List ℕ) → Stands line i (first_text cs ++ rest) → children_have_long_exponent line (placed_first i cs) ≡ false
-    first_short kind no_child h i rest at = refl
-    first_short kind (child name t more) h i rest at =
+    first_short : (cs : Children) → AreShortChildren cs → (i : ℕ) (rest : List ℕ) → Stands line i (first_text cs ++ rest) → children_have_long_exponent line (placed_first i cs) ≡ false
+    first_short no_child h i rest at = refl
+    first_short (child name t more) h i rest at =
         let k : ℕ = i + length (label_text name) in
         let b = go_on line i (label_text name) _ (regroup line i (label_text name) (tree_text t ++ more_text more) rest at) in
         let c = regroup line k (tree_text t) (more_text more) rest b in
-        or_from _ _ (tree_short t h.1 k _ c) (more_short kind more h.2 (k + length (tree_text t)) rest (go_on line k (tree_text t) _ c))
+        or_from _ _ (tree_short t h.0 k _ c) (more_short more h.1 (k + length (tree_text t)) rest (go_on line k (tree_text t) _ c))
 
-    more_short : (kind : Container) (cs : Children) → CanBeChildren kind cs → (i : ℕ) (rest : List ℕ) → Stands line i (more_text cs ++ rest) → children_have_long_exponent line (placed_more i cs) ≡ false
-    more_short kind no_child h i rest at = refl
-    more_short kind (child name t more) h i rest at =
+    more_short : (cs : Children) → AreShortChildren cs → (i : ℕ) (rest : List ℕ) → Stands line i (more_text cs ++ rest) → children_have_long_exponent line (placed_more i cs) ≡ false
+    more_short no_child h i rest at = refl
+    more_short (child name t more) h i rest at =
         let k : ℕ = i + 1 + length (label_text name) in
         let b = go_on line (i + 1) (label_text name) _ (regroup line (i + 1) (label_text name) (tree_text t ++ more_text more) rest (step_on line i _ _ at)) in
         let c = regroup line k (tree_text t) (more_text more) rest b in
-        or_from _ _ (tree_short t h.1 k _ c) (more_short kind more h.2 (k + length (tree_text t)) rest (go_on line k (tree_text t) _ c))
+        or_from _ _ (tree_short t h.0 k _ c) (more_short more h.1 (k + length (tree_text t)) rest (go_on line k (tree_text t) _ c))
 
 -- ---- the status
 
@@ -198,14 +198,14 @@ text_said (node s v) tail said white =
 tree_ended : (t : Tree) → is_truncated in_sequence (tree_text t ++ 0x0A ∷ []) (placed 0 t) ≡ false
 tree_ended (node s v) = and_right (has_open_end (placed_value 0 v)) _ (ap (λ l. not (list_any is_white l)) (drop_at (value_text v) (0x0A ∷ []) (0 + length (value_text v)) (omega arith)))
 
-module _ (t : Tree) (said : CanBeSaid t) (shallow : depth t ≤ 512) (distinct : has_duplicate t ≡ false) where
+module _ (t : Tree) (said : CanBeSaid t) (short : HasShortExponents t) (shallow : depth t ≤ 512) (distinct : has_duplicate t ≡ false) where
   has_status : (f : Framing) (tail : List ℕ) → White (tree_text t ++ tail) (length (tree_text t)) (length (tree_text t ++ tail)) → is_truncated f (tree_text t ++ tail) (placed 0 t) ≡ false → HasStatus f (tree_text t ++ tail) (parsed (placed 0 t))
   has_status f tail white whole =
       let line : List ℕ = tree_text t ++ tail in
       let text : Text line (placed 0 t) = text_said t tail said white in (
         text_utf8 line (placed 0 t) text,
         text,
-        no_fault_by f line (placed 0 t) whole (subst (λ n. n ≤ 512) (sym (tree_depth t 0)) shallow) (tree_whole t 0 said) (tree_short line t said 0 tail (record { place = omega arith; is = refl })) (tree_duplicate t 0 ∙ distinct),
+        no_fault_by f line (placed 0 t) whole (subst (λ n. n ≤ 512) (sym (tree_depth t 0)) shallow) (tree_whole t 0 said) (tree_short line t short 0 tail (record { place = omega arith; is = refl })) (tree_duplicate t 0 ∙ distinct),
       )
 
   pub line_status : (u : Tree) × HasStatus in_lines (tree_text t) (parsed u) × (unplaced u ≡ unplaced t)

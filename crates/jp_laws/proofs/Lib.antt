@@ -12,6 +12,7 @@ pub mod EndIndexes
 pub mod EqualNames
 pub mod HexDigits
 pub mod JoinedParts
+pub mod JsonShapes
 pub mod JsonStatuses
 pub mod JsonTexts
 pub mod LastBytes

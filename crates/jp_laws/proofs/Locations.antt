@@ -115,7 +115,7 @@ whole_scalars : (points : List ℕ) → Each IsPoint points → has_lone_surroga
 whole_scalars [] a h = tt
 whole_scalars (u ∷ points) a h = let p = or_parts (is_surrogate u) (list_any is_surrogate points) h in (⊎_elim (λ s. s) (λ s. absurd (both_ways (is_surrogate u) p.0 s)) a.0, whole_scalars points a.1 p.1)
 
-body_scalars : (line : List ℕ) (i j : ℕ) (points : List ℕ) → SpellsBody line i j points → has_lone_surrogate points ≡ false → Each IsScalar points
+pub body_scalars : (line : List ℕ) (i j : ℕ) (points : List ℕ) → SpellsBody line i j points → has_lone_surrogate points ≡ false → Each IsScalar points
 body_scalars line i j points h s = whole_scalars points (subst (Each IsPoint) h.are (paired_points h.units (units_points line h.units i j h.characters))) s
 
 -- ---- where values stand

@@ -96,7 +96,7 @@ way_back t n d (child_of_one {m = m} w a) =
 
 -- ---- of a line
 
-no_fault : (a : Bool) (fault : LineFault) (rest : Option LineFault) → cond a (Some fault) rest ≡ None → (a ≡ false) × (rest ≡ None)
+pub no_fault : (a : Bool) (fault : LineFault) (rest : Option LineFault) → cond a (Some fault) rest ≡ None → (a ≡ false) × (rest ≡ None)
 no_fault true fault rest h = absurd (cc)
 no_fault false fault rest h = (refl, h)
 

@@ -56,7 +56,7 @@ CanBeLabel array (Some name) = ⊥
 CanBeLabel object None = ⊥
 CanBeLabel object (Some name) = IsTrue (all_scalars name.points)
 
--- JSON can say a tree: strings and names are scalars, names stand in objects alone, and exponents are short (profile)
+-- JSON can say a tree: strings and names are scalars, and names stand in objects alone
 abbrev mutual
   pub CanBeSaid : Tree → Type 0
   CanBeSaid (node s v) = CanBeValue v
@@ -65,7 +65,7 @@ abbrev mutual
   pub CanBeValue : Value → Type 0
   CanBeValue null = ⊤
   CanBeValue (boolean b) = ⊤
-  CanBeValue (number m e) = nat_abs e < 10 ^ 15
+  CanBeValue (number m e) = ⊤
   CanBeValue (string points) = IsTrue (all_scalars points)
   CanBeValue (container kind cs) = CanBeChildren kind cs
 
@@ -73,6 +73,22 @@ abbrev mutual
   pub CanBeChildren : Container → Children → Type 0
   CanBeChildren kind no_child = ⊤
   CanBeChildren kind (child name t more) = CanBeLabel kind name × CanBeSaid t × CanBeChildren kind more
+
+-- each exponent is below 10^15 (profile)
+abbrev mutual
+  pub HasShortExponents : Tree → Type 0
+  HasShortExponents (node s v) = IsShortValue v
+
+  -- the same of a value
+  pub IsShortValue : Value → Type 0
+  IsShortValue (number m e) = nat_abs e < 10 ^ 15
+  IsShortValue (container kind cs) = AreShortChildren cs
+  IsShortValue _ = ⊤
+
+  -- the same of children
+  pub AreShortChildren : Children → Type 0
+  AreShortChildren no_child = ⊤
+  AreShortChildren (child name t more) = HasShortExponents t × AreShortChildren more
 
 -- a name that stands nowhere
 abbrev pub unplaced_name : Option Name → Option Name

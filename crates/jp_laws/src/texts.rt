@@ -3,6 +3,7 @@
 
 ghost use Rattle.std.specs.Prelude.{◌≡◌, ◌≤◌, ◌==◌, ℕ, List, [], ◌∷◌, ◌++◌, false, IsTrue, count_by, encode_utf8_all};
 ghost use Rattle.std.specs.Str.{all_scalars};
+ghost use Rattle.jp_model.specs.declared.Framing.{Framing};
 ghost use Rattle.jp_model.specs.declared.Framing.TheVariants.{Lines as in_lines, Sequence as in_sequence};
 ghost use Rattle.jp_model.specs.Json.Faults.{depth, has_duplicate};
 ghost use Rattle.jp_model.specs.Json.Status.{parsed, HasStatus};
@@ -12,20 +13,23 @@ ghost use Rattle.jp_model.specs.Pattern.Tree.{Pattern};
 ghost use Rattle.jp_model.specs.Query.Spelling.{SpellsQuery};
 ghost use Rattle.jp_model.specs.Query.Status.{TextSpells};
 ghost use Rattle.jp_model.specs.Query.Syntax.{Segments};
-ghost use Rattle.jp_laws.specs.JsonTexts.{CanBeSaid, tree_text, unplaced};
+ghost use Rattle.jp_laws.specs.JsonTexts.{CanBeSaid, HasShortExponents, tree_text, unplaced};
 ghost use Rattle.jp_laws.specs.PatternTexts.{IsRegexp, pattern_text};
 ghost use Rattle.jp_laws.specs.QueryTexts.{CanBeSegments, query_text};
 
 /// Each tree whose strings and names are scalars, whose objects alone have names, all different in each, whose depth is at most
 /// 512 and whose exponents are below 10^15 has a text: the status of what is printed of it is that tree, but for where its
-/// parts stand; in a sequence with a line feed behind it (RFC 8259; RFC 7464, section 2.1).
+/// parts stand; in a sequence with a line feed behind it (RFC 8259; RFC 7464, section 2.1). Each tree that is the status of a
+/// line is one of these, but that its exponents may be lower still, by the digits behind a point.
 ///
 /// A grammar of strings without the escape `\"` is refused here.
 pub fn each_tree_has_a_text()
-    ensures line { (t : Tree) → CanBeSaid t → depth t ≤ 512 → has_duplicate t ≡ false
+    ensures line { (t : Tree) → CanBeSaid t → HasShortExponents t → depth t ≤ 512 → has_duplicate t ≡ false
         → (u : Tree) × HasStatus in_lines (tree_text t) (parsed u) × (unplaced u ≡ unplaced t) }
-    ensures sequence { (t : Tree) → CanBeSaid t → depth t ≤ 512 → has_duplicate t ≡ false
+    ensures sequence { (t : Tree) → CanBeSaid t → HasShortExponents t → depth t ≤ 512 → has_duplicate t ≡ false
         → (u : Tree) × HasStatus in_sequence (tree_text t ++ 0x0A ∷ []) (parsed u) × (unplaced u ≡ unplaced t) }
+    ensures only { (f : Framing) (line : List ℕ) (t : Tree) → HasStatus f line (parsed t)
+        → CanBeSaid t × (depth t ≤ 512) × (has_duplicate t ≡ false) }
 {}
 
 /// Each pattern that is branches of pieces, with no empty class, no reversed range or count, and no bound above 999,999,999,
