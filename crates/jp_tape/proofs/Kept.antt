@@ -1,5 +1,5 @@
 -- The names that are kept.
-use Rattle.std.proofs.Common.{◌≡◌, ℕ, ◌+◌, ◌*◌, ◌<◌, ◌≤◌, ◌||◌, true, false, List, [], ◌∷◌, ◌++◌, length, sym, ◌∙◌, ap, subst, refl, arith, Option, Some, None, length-append, add-zero, append-nil}
+use Rattle.std.proofs.Common.{◌≡◌, ℕ, ◌+◌, ◌*◌, ◌<◌, ◌≤◌, ◌||◌, Bool, true, false, List, [], ◌∷◌, ◌++◌, length, sym, ◌∙◌, ap, subst, refl, arith, Option, Some, None, length-append, add-zero, append-nil}
 use Rattle.std.proofs.lemmas.List.{map-append}
 use Rattle.std.proofs.lemmas.Option.{same_Some, none-some}
 use Rattle.jp_model.specs.declared.Span.{Span}
@@ -13,7 +13,7 @@ use Rattle.jp_tape.specs.declared.builder.machine.Builder.{Builder}
 use Rattle.jp_tape.specs.declared.builder.machine.Turn.{Turn}
 use Rattle.jp_tape.specs.declared.builder.machine.Turn.TheVariants as turns
 use Rattle.jp_tape.specs.declared.builder.tokens.Label.{Label}
-use Rattle.jp_tape.specs.Machine.{Labelled, IsBehind, held}
+use Rattle.jp_tape.specs.Machine.{Labelled, IsBehind, first_fault, held}
 use Rattle.jp_tape.specs.Names.{points, all_points}
 use Rattle.jp_tape.specs.Reading.{body_of, body_word, FoundLabel}
 use Rattle.jp_strings.specs.Points.{is_text_from, points_of}
@@ -59,8 +59,8 @@ kept_span line kind from r f s e =
 
 pub labelled_named : (line : List ℕ) (kind : Container) (from : ℕ) (r : Label) (f : FoundLabel line kind from r) (old new : Builder) (s : Span) (b : Body) (word : ℕ) → word ≡ body_word old.innermost.children r.name → r.name ≡ Some s → from ≤ r.value → r.value ≤ length line →
     (r.is_lone ≡ false → points b ≡ points_of (bytes_between line s.start s.end)) → new.names.items ≡ old.names.items ++ b ∷ [] → new.words.items ≡ old.words.items → held new ≡ held old → new.deepest ≡ old.deepest →
-    new.has_surrogate ≡ old.has_surrogate || r.is_lone → new.has_long_exponent ≡ old.has_long_exponent → new.has_duplicate ≡ old.has_duplicate → Labelled line kind from (turns.Value word r.value) old new
-labelled_named line kind from r f old new s b word m e o i p n w q d u l v =
+    ((lone too_long repeated : Bool) → old.later ≡ first_fault lone too_long repeated → new.later ≡ first_fault (lone || r.is_lone) too_long repeated) → Labelled line kind from (turns.Value word r.value) old new
+labelled_named line kind from r f old new s b word m e o i p n w q d u =
     let named = label_named line kind from r f s e in
     record {
       label = r;
@@ -71,19 +71,17 @@ labelled_named line kind from r f old new s b word m e o i p n w q d u l v =
       words = w;
       opened = q;
       deepest = d;
-      surrogate = u;
-      long = l;
+      later = u;
       count = ap length n ∙ (length-append old.names.items (b ∷ []) ∙ ap (λ (x : Option Name). length old.names.items + length (name_points x [])) (sym named.1));
       names = λ z.
           ap all_points n
           ∙ (map-append points old.names.items (b ∷ []) ∙ ap (λ (xs : List (List ℕ)). all_points old.names.items ++ xs) (ap (λ (x : List ℕ). x ∷ []) (p z) ∙ sym (kept_text line kind from r f s e z).1));
-      duplicate = v;
     }
 
 pub labelled_bare : (line : List ℕ) (kind : Container) (from : ℕ) (r : Label) (f : FoundLabel line kind from r) (old new : Builder) (word : ℕ) → word ≡ body_word old.innermost.children r.name → r.name ≡ None → from ≤ r.value → r.value ≤ length line →
     new.names.items ≡ old.names.items → new.words.items ≡ old.words.items → held new ≡ held old → new.deepest ≡ old.deepest →
-    new.has_surrogate ≡ old.has_surrogate || r.is_lone → new.has_long_exponent ≡ old.has_long_exponent → new.has_duplicate ≡ old.has_duplicate → Labelled line kind from (turns.Value word r.value) old new
-labelled_bare line kind from r f old new word m e o i n w q d u l v =
+    ((lone too_long repeated : Bool) → old.later ≡ first_fault lone too_long repeated → new.later ≡ first_fault (lone || r.is_lone) too_long repeated) → Labelled line kind from (turns.Value word r.value) old new
+labelled_bare line kind from r f old new word m e o i n w q d u =
     let bare : f.name ≡ None = name_none f.name (sym f.is_body ∙ e) in
     record {
       label = r;
@@ -94,11 +92,9 @@ labelled_bare line kind from r f old new word m e o i n w q d u l v =
       words = w;
       opened = q;
       deepest = d;
-      surrogate = u;
-      long = l;
+      later = u;
       count = ap length n ∙ (sym (add-zero _) ∙ ap (λ (x : Option Name). length old.names.items + length (name_points x [])) (sym bare));
       names = λ z. ap all_points n ∙ (sym (append-nil _) ∙ ap (λ (x : Option Name). all_points old.names.items ++ name_points x []) (sym bare));
-      duplicate = v;
     }
 
 -- the turn is behind where the label was read

@@ -27,11 +27,9 @@ keeps_roomier b new ws os d lone too_long ps repeated r k = record {
   words = r.words ∙ k.words;
   opened = ap held r.rest ∙ k.opened;
   deepest = ap (λ (z : Builder). z.deepest) r.rest ∙ k.deepest;
-  surrogate = ap (λ (z : Builder). z.has_surrogate) r.rest ∙ k.surrogate;
-  long = ap (λ (z : Builder). z.has_long_exponent) r.rest ∙ k.long;
+  later = ap (λ (z : Builder). z.later) r.rest ∙ k.later;
   count = ap length r.names ∙ k.count;
   names = λ z. ap all_points r.names ∙ k.names z;
-  duplicate = λ z. ap (λ (y : Builder). y.has_duplicate) r.rest ∙ k.duplicate z;
 }
 
 stands_roomier : (line : List ℕ) (turn : Turn) (b new : Builder) → IsRoomier b new → (x : State) → Stands line turn b x → Stands line turn new x

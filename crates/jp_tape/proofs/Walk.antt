@@ -22,7 +22,7 @@ use Rattle.jp_model.specs.declared.LineFault.TheVariants as line_faults
 use Rattle.jp_tape.specs.declared.builder.BuildFault.{BuildFault}
 use Rattle.jp_tape.specs.declared.builder.BuildFault.TheVariants as faults
 use Rattle.jp_tape.specs.Words.{kind_code, nodes_below, label_word, children_words, children_node_count, head_word, span_word, container_code}
-use Rattle.jp_tape.specs.Machine.{Frame, State, Value_at, After_value, Finished, Alike, IsStuck, Keeps, Stands, GoesOn, Steps, NoStep, Labelled, IsCounted, IsClosed, IsInnermost, held, no_container, next_parent, next_index, open_count, open_words, open_names, opens, open_of, open_depth, open_surrogate, open_long, open_duplicate, is_object}
+use Rattle.jp_tape.specs.Machine.{Frame, State, Value_at, After_value, Finished, Alike, IsStuck, Keeps, Stands, GoesOn, Steps, NoStep, Labelled, IsCounted, IsClosed, IsInnermost, first_fault, held, no_container, next_parent, next_index, open_count, open_words, open_names, opens, open_of, open_depth, open_surrogate, open_long, open_duplicate, is_object}
 use Rattle.jp_tape.proofs.Steps.{scalar_step, no_value_step, empty_step, enter_step, enter_stuck, entered, comma_step, comma_stuck, close_step, neither_stuck, grown, end_step, no_end_stuck}
 use Rattle.jp_tape.proofs.Held.{or_false, or_swap, left_false, right_false, open_length, with_child, outer_names, next_label, next_words, grown_tail, grown_length, grown_few, joined_count, third, innermost_is, outer_is, outer_count, parent_place, child_index, flat_depth, root_depth, deeper, grown_depth, closed_depth, grown_surrogate, grown_long, grown_duplicate, grown_names}
 
@@ -46,9 +46,15 @@ pub record Written (b new : Builder) (words : List ℕ) (deepest : ℕ) (lone lo
   pub opened : held new ≡ held b
   pub names : new.names.items ≡ b.names.items
   pub deepest_is : new.deepest ≡ deepest
-  pub surrogate : new.has_surrogate ≡ b.has_surrogate || lone
-  pub exponent : new.has_long_exponent ≡ b.has_long_exponent || long
-  pub duplicate : new.has_duplicate ≡ b.has_duplicate
+  pub later : (s l r : Bool) → b.later ≡ first_fault s l r → new.later ≡ first_fault (s || lone) (l || long) r
+
+same_first : (a b c d e f : Bool) → a ≡ d → b ≡ e → c ≡ f → first_fault a b c ≡ first_fault d e f
+same_first a b c d e f p q r = ap₂ (λ (x : Bool × Bool) (y : Bool). first_fault x.0 x.1 y) (ap₂ (λ (x y : Bool). (x, y)) p q) r
+
+-- where a surrogate stands alone, equal names don't count
+lone_first : (lone long r q : Bool) → (lone ≡ false → r ≡ q) → first_fault lone long r ≡ first_fault lone long q
+lone_first true long r q e = refl
+lone_first false long r q e = ap (λ x. first_fault false long x) (e refl)
 
 keeps_value : (line : List ℕ) (frames : List Frame) (own : Option Name) (t : Tree) (b new : Builder) (ws : List ℕ) (d : ℕ) (lone long : Bool) → KeepsBefore line b frames own → Written b new ws d lone long →
     ws ≡ next_words frames own t → d ≡ max (open_depth frames) (length frames + depth t) → lone ≡ has_surrogate t → long ≡ has_long_exponent line t → has_duplicate t ≡ false → KeepsBehind line new frames own t
@@ -56,11 +62,11 @@ keeps_value line frames own t b new ws d lone long k w e f g h i = record {
   words = w.words_are ∙ ap₂ (λ (xs ys : List ℕ). xs ++ ys) k.words e;
   opened = w.opened ∙ k.opened;
   deepest = w.deepest_is ∙ f;
-  surrogate = w.surrogate ∙ ap₂ (λ x y. x || y) k.surrogate g;
-  long = w.exponent ∙ ap₂ (λ x y. x || y) k.long h;
+  later =
+      w.later _ _ _ k.later
+      ∙ same_first _ _ _ _ _ _ (ap (λ x. (open_surrogate frames || name_has_lone_surrogate own) || x) g) (ap (λ x. open_long line frames || x) h) (sym (or_false _) ∙ ap (λ x. open_duplicate frames || x) (sym i));
   count = ap length w.names ∙ k.count;
   names = λ z. ap all_points w.names ∙ k.names (left_false _ _ z);
-  duplicate = λ z. w.duplicate ∙ (k.duplicate (left_false _ _ z) ∙ (sym (or_false _) ∙ ap (λ x. open_duplicate frames || x) (sym i)));
 }
 
 place_is : (line : List ℕ) (frames : List Frame) (own : Option Name) (b : Builder) → KeepsBefore line b frames own → length b.words.items / 3 ≡ open_count frames
@@ -122,11 +128,9 @@ label_keeps line kind from turn old new l ws os d lone long ps dup k = record {
   words = l.words ∙ k.words;
   opened = l.opened ∙ k.opened;
   deepest = l.deepest ∙ k.deepest;
-  surrogate = l.surrogate ∙ ap₂ (λ x y. x || y) k.surrogate l.found.surrogate;
-  long = l.long ∙ k.long;
+  later = l.later lone long dup k.later ∙ ap (λ x. first_fault (lone || x) long dup) l.found.surrogate;
   count = l.count ∙ (ap (λ n. n + length (name_points l.found.name [])) k.count ∙ sym (length-append ps (name_points l.found.name [])));
   names = λ z. l.names (l.found.surrogate ∙ right_false _ _ z) ∙ ap (λ x. x ++ name_points l.found.name []) (k.names (left_false _ _ z));
-  duplicate = λ z. l.duplicate ∙ k.duplicate (left_false _ _ z);
 }
 
 -- a container with a child is entered
@@ -135,9 +139,7 @@ pub record Entered (b mid : Builder) (at label : ℕ) (kind : Container) : Type 
   pub opened : held mid ≡ held b ++ record { place = length b.words.items / 3; start = at; children = 0; names = length b.names.items; is_object = is_object kind } ∷ []
   pub names : mid.names.items ≡ b.names.items
   pub deepest : mid.deepest ≡ max b.deepest (length b.opened.items + 1)
-  pub surrogate : mid.has_surrogate ≡ b.has_surrogate
-  pub exponent : mid.has_long_exponent ≡ b.has_long_exponent
-  pub duplicate : mid.has_duplicate ≡ b.has_duplicate
+  pub later : mid.later ≡ b.later
 
 keeps_entered : (line : List ℕ) (frames : List Frame) (own : Option Name) (b mid : Builder) (at label : ℕ) (kind : Container) → KeepsBefore line b frames own → label ≡ label_word (next_index frames) own → Entered b mid at label kind →
     Keeps mid (open_words (entered kind at own ∷ frames)) (opens (entered kind at own ∷ frames)) (open_depth (entered kind at own ∷ frames)) (open_surrogate (entered kind at own ∷ frames)) (open_long line (entered kind at own ∷ frames)) (open_names (entered kind at own ∷ frames))
@@ -149,11 +151,9 @@ keeps_entered line frames own b mid at label kind k n e =
       words = e.words ∙ ap₂ (λ (xs ys : List ℕ). xs ++ 0 ∷ 0 ∷ ys) k.words (ap (λ (x : ℕ). x ∷ []) n);
       opened = e.opened ∙ ap₂ (λ (xs : List Open) (x : Open). xs ++ x ∷ []) k.opened one;
       deepest = e.deepest ∙ (deeper frames b.deepest (length b.opened.items) k.deepest (outer_count frames b.opened.items b.innermost k.opened) ∙ ap (λ x. max (open_depth frames) x) (sym (add-zero (length frames + 1))));
-      surrogate = e.surrogate ∙ (k.surrogate ∙ sym (or_false _));
-      long = e.exponent ∙ (k.long ∙ sym (or_false _));
+      later = e.later ∙ (k.later ∙ same_first _ _ _ _ _ _ (sym (or_false _)) (sym (or_false _)) (sym (or_false _)));
       count = ap length e.names ∙ (k.count ∙ ap (λ (x : List (List ℕ)). length x) (sym (append-nil (open_names frames ++ name_points own []))));
       names = λ z. ap all_points e.names ∙ (k.names (left_false _ _ z) ∙ sym (append-nil (open_names frames ++ name_points own [])));
-      duplicate = λ z. e.duplicate ∙ (k.duplicate (left_false _ _ z) ∙ sym (or_false _));
     }
 
 pub enter_goes_on : (line : List ℕ) (at place label : ℕ) (b mid new : Builder) (turn : Turn) (kind : Container) → Has line at (opening kind) → White line (at + 1) place → Stops line place → (Has line place (closing kind) → ⊥) →
@@ -237,11 +237,9 @@ keeps_grown line f frames own t b mid k c = record {
   words = c.words ∙ (k.words ∙ grown_tail f frames own t);
   opened = counted_open f frames own t b mid k.opened c;
   deepest = c.deepest ∙ (k.deepest ∙ grown_depth f frames own t);
-  surrogate = c.surrogate ∙ (k.surrogate ∙ grown_surrogate f frames own t);
-  long = c.long ∙ (k.long ∙ grown_long line f frames own t);
+  later = c.later ∙ (k.later ∙ same_first _ _ _ _ _ _ (grown_surrogate f frames own t) (grown_long line f frames own t) (grown_duplicate f frames own t));
   count = ap length c.names ∙ (k.count ∙ ap (λ (ps : List (List ℕ)). length ps) (grown_names f frames own t));
   names = λ z. ap all_points c.names ∙ (k.names (grown_surrogate f frames own t ∙ z) ∙ grown_names f frames own t);
-  duplicate = λ z. c.duplicate ∙ (k.duplicate (grown_surrogate f frames own t ∙ z) ∙ grown_duplicate f frames own t);
 }
 
 pub comma_goes_on : (line : List ℕ) (at next from : ℕ) (b mid new : Builder) (turn : Turn) (o : Open) → White line at next → Has line next 0x2C → White line (next + 1) from → Stops line from → IsCounted b mid →
@@ -339,14 +337,13 @@ close_goes_on line at next b new o w c r (After_value (f ∷ frames) own t y) h 
           words = closed_words f frames own t o (next + 1) b.words.items new.words.items new.innermost.place k.words i parent r.words;
           opened = behind;
           deepest = r.deepest ∙ (k.deepest ∙ closed_depth f frames own t);
-          surrogate = r.surrogate ∙ (k.surrogate ∙ lone);
-          long = r.long ∙ (k.long ∙ grown_long line f frames own t);
+          later =
+              r.later _ _ _ (k.later ∙ same_first _ _ _ _ _ _ lone (grown_long line f frames own t) (grown_duplicate f frames own t))
+              ∙ lone_first _ _ _ _ (λ z.
+              ap (λ (ps : List (List ℕ)). (open_duplicate frames || children_have_duplicate all) || has_repeated ps) (names_go outer (names all) b.names.items o.names base (k_names z))
+              ∙ or_swap (open_duplicate frames) (children_have_duplicate all) (has_repeated (names all)));
           count = ap length r.names ∙ (length-take-le o.names b.names.items (innermost_names line at b o (After_value (f ∷ frames) own t y) h i) ∙ base);
           names = λ z. ap all_points r.names ∙ names_stay outer (names all) b.names.items o.names base (k_names z);
-          duplicate = λ z.
-              r.duplicate (k.surrogate ∙ (lone ∙ z))
-              ∙ (ap₂ (λ x (ps : List (List ℕ)). x || has_repeated ps) (k.duplicate (lone ∙ z) ∙ grown_duplicate f frames own t) (names_go outer (names all) b.names.items o.names base (k_names z))
-              ∙ or_swap (open_duplicate frames) (children_have_duplicate all) (has_repeated (names all)));
         },
       );
       alike = subst (λ z. Alike line (After_value (f ∷ frames) own t z) (After_value frames f.name closed (next + 1))) h.0
@@ -364,7 +361,7 @@ end_goes_on line at b w z (After_value [] own t y) h =
     let k : KeepsBehind line b [] None t = subst (λ o. KeepsBehind line b [] o t) h.1 h.2 in
     record {
       next = Finished t;
-      stands = record { words = k.words; opened = k.opened; deepest = k.deepest ∙ root_depth (depth t); surrogate = k.surrogate; long = k.long; count = k.count; names = k.names; duplicate = k.duplicate };
+      stands = record { words = k.words; opened = k.opened; deepest = k.deepest ∙ root_depth (depth t); later = k.later; count = k.count; names = k.names };
       alike = subst (λ z. Alike line (After_value [] own t z) (Finished t)) h.0 (end_step line own t at w);
     }
 

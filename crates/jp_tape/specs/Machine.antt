@@ -1,5 +1,7 @@
 -- The states of the walk over a line, and which trees each completes to.
-use Rattle.std.specs.Prelude.{◌≡◌, ℕ, suc, ◌+◌, ◌-◌, ◌*◌, ◌<◌, ◌≤◌, max, Bool, true, false, ◌||◌, List, [], ◌∷◌, ◌++◌, length, take, drop, slice_set, ◌/◌, Option, None}
+use Rattle.std.specs.Prelude.{◌≡◌, ℕ, suc, ◌+◌, ◌-◌, ◌*◌, ◌<◌, ◌≤◌, max, cond, Bool, true, false, ◌||◌, List, [], ◌∷◌, ◌++◌, length, take, drop, slice_set, ◌/◌, Option, Some, None}
+use Rattle.jp_model.specs.declared.LineFault.{LineFault}
+use Rattle.jp_model.specs.declared.LineFault.TheVariants as line_faults
 use Rattle.jp_model.specs.Json.Places.{White}
 use Rattle.jp_model.specs.Json.Tree.{Tree, node, container, Container, array, object, Children, child, Name, span, count_children, joined}
 use Rattle.jp_model.specs.Json.Faults.{depth, greatest_depth, name_has_lone_surrogate, has_surrogate, children_have_surrogate, has_long_exponent, children_have_long_exponent, name_points, names, has_repeated, has_duplicate, children_have_duplicate}
@@ -116,16 +118,18 @@ abbrev pub NoRootName : List Frame → Option Name → Type 0
 NoRootName [] own = own ≡ None
 NoRootName (f ∷ frames) own = NoRootName frames f.name
 
--- what the builder holds. Names are kept, and compared, only as long as no surrogate stands alone.
+-- the first of these faults, which are noted while the line is read and count only where it is JSON (profile)
+abbrev pub first_fault : (lone too_long repeated : Bool) → Option LineFault
+first_fault lone too_long repeated = cond lone (Some line_faults.Surrogate) (cond too_long (Some line_faults.Number) (cond repeated (Some line_faults.Duplicate) None))
+
+-- what the builder holds. The names are known, and compared, only as long as no surrogate stands alone.
 pub record Keeps (b : Builder) (ws : List ℕ) (os : List Open) (d : ℕ) (lone too_long : Bool) (ps : List (List ℕ)) (repeated : Bool) : Type 0 where
   pub words : b.words.items ≡ ws
   pub opened : held b ≡ no_container ∷ os
   pub deepest : b.deepest ≡ d
-  pub surrogate : b.has_surrogate ≡ lone
-  pub long : b.has_long_exponent ≡ too_long
+  pub later : b.later ≡ first_fault lone too_long repeated
   pub count : length b.names.items ≡ length ps
   pub names : lone ≡ false → all_points b.names.items ≡ ps
-  pub duplicate : lone ≡ false → b.has_duplicate ≡ repeated
 
 -- the builder holds a whole tree
 abbrev pub IsFinished : List ℕ → Builder → Tree → Type 0
@@ -207,11 +211,9 @@ pub record Labelled (line : List ℕ) (kind : Container) (from : ℕ) (turn : Tu
   pub words : new.words.items ≡ old.words.items
   pub opened : held new ≡ held old
   pub deepest : new.deepest ≡ old.deepest
-  pub surrogate : new.has_surrogate ≡ old.has_surrogate || label.is_lone
-  pub long : new.has_long_exponent ≡ old.has_long_exponent
+  pub later : (lone too_long repeated : Bool) → old.later ≡ first_fault lone too_long repeated → new.later ≡ first_fault (lone || label.is_lone) too_long repeated
   pub count : length new.names.items ≡ length old.names.items + length (name_points found.name [])
   pub names : label.is_lone ≡ false → all_points new.names.items ≡ all_points old.names.items ++ name_points found.name []
-  pub duplicate : new.has_duplicate ≡ old.has_duplicate
 
 -- one more child of the innermost container was read
 pub record IsCounted (old new : Builder) : Type 0 where
@@ -219,10 +221,8 @@ pub record IsCounted (old new : Builder) : Type 0 where
   pub innermost : new.innermost ≡ record old.innermost { children = old.innermost.children + 1 }
   pub words : new.words.items ≡ old.words.items
   pub deepest : new.deepest ≡ old.deepest
-  pub surrogate : new.has_surrogate ≡ old.has_surrogate
-  pub long : new.has_long_exponent ≡ old.has_long_exponent
+  pub later : new.later ≡ old.later
   pub names : new.names.items ≡ old.names.items
-  pub duplicate : new.has_duplicate ≡ old.has_duplicate
 
 -- the lists of words and names may have more room, and all else is the same
 pub record IsRoomier (old new : Builder) : Type 0 where
@@ -239,7 +239,5 @@ pub record IsClosed (container : Open) (end : ℕ) (old new : Builder) : Type 0 
   pub words : new.words.items ≡ slice_set (slice_set old.words.items (3 * container.place) (head_word (container_code (container_if container.is_object)) (length old.words.items / 3 - container.place - 1) new.innermost.place)) (3 * container.place + 1) (span_word (record { start = container.start; end = end }))
   pub opened : held new ≡ old.opened.items
   pub deepest : new.deepest ≡ old.deepest
-  pub surrogate : new.has_surrogate ≡ old.has_surrogate
-  pub long : new.has_long_exponent ≡ old.has_long_exponent
+  pub later : (lone too_long repeated : Bool) → old.later ≡ first_fault lone too_long repeated → new.later ≡ first_fault lone too_long (repeated || has_repeated (all_points (drop container.names old.names.items)))
   pub names : new.names.items ≡ take container.names old.names.items
-  pub duplicate : old.has_surrogate ≡ false → new.has_duplicate ≡ old.has_duplicate || has_repeated (all_points (drop container.names old.names.items))

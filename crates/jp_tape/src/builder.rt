@@ -61,14 +61,8 @@ fn fault_of(builder: &Builder<'_>, line: &[u8], framing: Framing) -> Option<Line
         Some(LineFault::Truncated)
     } else if builder.deepest > MOST_DEPTH {
         Some(LineFault::Depth)
-    } else if builder.has_surrogate {
-        Some(LineFault::Surrogate)
-    } else if builder.has_long_exponent {
-        Some(LineFault::Number)
-    } else if builder.has_duplicate {
-        Some(LineFault::Duplicate)
     } else {
-        None
+        builder.later
     }
 }
 

@@ -1,6 +1,6 @@
 //! The walk over a line: a machine with a stack of open containers, which writes the words of the nodes.
 
-ghost use Rattle.std.specs.Prelude.{◌≡◌, ◌+◌, ◌*◌, ◌^◌, ◌<◌, ◌≤◌, ◌||◌, ◌++◌, ◌∷◌, [], ℕ, suc, max, length, drop, List, true, false, IfOk, IfErr, IsTrue, IsUtf8, vec_capacity};
+ghost use Rattle.std.specs.Prelude.{◌≡◌, ◌+◌, ◌*◌, ◌^◌, ◌<◌, ◌≤◌, ◌||◌, ◌++◌, ◌∷◌, [], ℕ, suc, max, length, drop, List, Bool, None, true, false, IfOk, IfErr, IsTrue, IsUtf8, vec_capacity};
 ghost use Rattle.jp_model.specs.Json.Places.{Has, White, byte_at, bytes_between};
 ghost use Rattle.jp_tape.specs.Names.{points};
 ghost use Rattle.jp_strings.specs.Plain.{ArePlain};
@@ -13,7 +13,7 @@ ghost use Rattle.jp_tape.specs.Words.{head_word, span_word, container_code};
 ghost use Rattle.jp_tape.specs.Places.{Stops, IsUnescaped};
 ghost use Rattle.jp_tape.specs.Ahead.{HasRoom, IsAhead, IsAheadOf, IsNext, IsPassed, first_or, name_marks};
 ghost use Rattle.jp_tape.specs.Reading.{body_word, code_of, container_if, FoundScalar, FoundLabel, IsPlainLabel, NoLabel, OnFault};
-ghost use Rattle.jp_tape.specs.Machine.{Steps, NoStep, Reached, IsWithin, IsBehind, IsSettled, Labelled, IsFinished, IsCounted, IsClosed, IsRoomier, Holds, held, no_container};
+ghost use Rattle.jp_tape.specs.Machine.{Steps, NoStep, Reached, IsWithin, IsBehind, IsSettled, Labelled, IsFinished, IsCounted, IsClosed, IsRoomier, Holds, first_fault, held, no_container};
 ghost use Rattle.jp_tape.specs.declared.builder.machine.Open.{Open};
 ghost use Rattle.jp_tape.specs.declared.builder.machine.Turn.TheVariants as turns;
 
@@ -76,10 +76,8 @@ pub struct Builder<'a> {
     /// The marks that are to come.
     marks: &'a [u32],
     pub(super) deepest: usize,
-    pub(super) has_surrogate: bool,
-    pub(super) has_long_exponent: bool,
-    /// Not kept up where a surrogate stands alone.
-    pub(super) has_duplicate: bool,
+    /// The first of the faults that count only where the line is JSON: a lone surrogate, a long exponent, equal names.
+    pub(super) later: Option<LineFault>,
 }
 
 const GRAMMAR: BuildFault = BuildFault::Line(LineFault::Grammar);
@@ -94,13 +92,15 @@ fn larger(a: usize, b: usize) -> usize
     if a < b { b } else { a }
 }
 
-/// Raises a flag, where it has to be.
+/// Notes the faults of a string or a number: a surrogate stands alone in it, or its exponent is too long.
 #[inline(always)]
-fn raise(flag: &mut bool, is_raised: bool)
-    ensures { flag.new ≡ (flag.old || is_raised) }
+fn note(later: &mut Option<LineFault>, is_lone: bool, is_long: bool)
+    ensures { (lone too_long repeated : Bool) → later.old ≡ first_fault lone too_long repeated → later.new ≡ first_fault (lone || is_lone) (too_long || is_long) repeated }
 {
-    if is_raised {
-        *flag = true;
+    if is_lone {
+        *later = Some(LineFault::Surrogate);
+    } else if is_long && *later != Some(LineFault::Surrogate) {
+        *later = Some(LineFault::Number);
     }
 }
 
@@ -220,9 +220,7 @@ impl<'a> Builder<'a> {
         ensures names { result.names.items ≡ [] }
         ensures marks { result.marks.now ≡ [] }
         ensures deepest { result.deepest ≡ 0 }
-        ensures surrogate { result.has_surrogate ≡ false }
-        ensures long { result.has_long_exponent ≡ false }
-        ensures duplicate { result.has_duplicate ≡ false }
+        ensures later { result.later ≡ None }
     {
         Builder {
             words: Vec::new(alloc),
@@ -232,9 +230,7 @@ impl<'a> Builder<'a> {
             keys: Keys::new(alloc),
             marks: &[],
             deepest: 0,
-            has_surrogate: false,
-            has_long_exponent: false,
-            has_duplicate: false,
+            later: None,
         }
     }
 
@@ -245,9 +241,7 @@ impl<'a> Builder<'a> {
         ensures names { self.new.names.items ≡ [] }
         ensures marks { self.new.marks.now ≡ marks.now }
         ensures deepest { self.new.deepest ≡ 0 }
-        ensures surrogate { self.new.has_surrogate ≡ false }
-        ensures long { self.new.has_long_exponent ≡ false }
-        ensures duplicate { self.new.has_duplicate ≡ false }
+        ensures later { self.new.later ≡ None }
     {
         self.words.clear();
         self.opened.clear();
@@ -255,9 +249,7 @@ impl<'a> Builder<'a> {
         self.names.clear();
         self.marks = marks;
         self.deepest = 0;
-        self.has_surrogate = false;
-        self.has_long_exponent = false;
-        self.has_duplicate = false;
+        self.later = None;
     }
 
     /// For how many turns of the walk the lists have room: a turn writes one node, and keeps one name at most.
@@ -300,7 +292,7 @@ impl<'a> Builder<'a> {
         ensures ahead { (n : ℕ) → HasRoom self.old n (suc n) → IsAheadOf line.now n result self.new }
     {
         let word = label_to_word(label.name, self.innermost.children);
-        raise(&mut self.has_surrogate, label.is_lone);
+        note(&mut self.later, label.is_lone, false);
         if let Some(span) = label.name {
             self.marks = marks_behind(self.marks, 3);
             let body = kept_body(line, span, label.is_lone, label.is_plain);
@@ -430,8 +422,7 @@ impl<'a> Builder<'a> {
         let head = head(scalar.kind, 0, self.innermost.place);
         let span = span_to_word(at as u32, scalar.end as u32);
         write_node(&mut self.words, head, span, label);
-        raise(&mut self.has_surrogate, scalar.is_lone);
-        raise(&mut self.has_long_exponent, scalar.is_long);
+        note(&mut self.later, scalar.is_lone, scalar.is_long);
     }
 
     /// Closes the innermost container, which ends before `end`.
@@ -448,12 +439,14 @@ impl<'a> Builder<'a> {
         ensures memory { IfErr result (λ fault. OnFault fault ⊥) }
     {
         let container = self.innermost;
-        if !self.has_surrogate {
+        if self.later.is_none() {
             let Ok(is_repeated) = has_equal(&mut self.names[container.names..], &mut self.keys)
             else {
                 return Err(BuildFault::Memory);
             };
-            self.has_duplicate |= is_repeated;
+            if is_repeated {
+                self.later = Some(LineFault::Duplicate);
+            }
         }
         self.names.truncate(container.names);
         leave(&mut self.opened, &mut self.innermost);

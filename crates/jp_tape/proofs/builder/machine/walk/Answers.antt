@@ -24,7 +24,7 @@ loop-turn-init c =
           refl,
           refl,
           refl,
-          record { words = e.words; opened = e.opened; deepest = e.deepest; surrogate = e.surrogate; long = e.long; count = ap length e.names; names = λ z. ap all_points e.names; duplicate = λ z. e.duplicate },
+          record { words = e.words; opened = e.opened; deepest = e.deepest; later = e.later; count = ap length e.names; names = λ z. ap all_points e.names },
         );
         forth = start_forth line c.next_token.result w.white w.stops;
         back = start_back line c.next_token.result w.white;

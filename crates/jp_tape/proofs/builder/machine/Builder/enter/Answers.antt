@@ -6,6 +6,7 @@ use Rattle.jp_tape.specs.declared.builder.machine.Builder.{Builder}
 use Rattle.jp_tape.specs.declared.builder.machine.Open.{Open}
 use Rattle.jp_tape.specs.Words.{head_word}
 use Rattle.jp_tape.specs.Reading.{container_if}
+use Rattle.jp_tape.specs.Machine.{first_fault}
 use Rattle.jp_tape.proofs.Held.{or_false}
 use Rattle.jp_tape.proofs.Ahead.{passes_structural, structural_begins, bracket_structural, closing_structural}
 use Rattle.jp_tape.proofs.Room.{room_behind_node}
@@ -24,9 +25,7 @@ returns-then-is_at-clause-goes_on c =
       opened = refl;
       names = refl;
       deepest_is = c.larger-self.ensures ∙ ap (λ n. max b.deepest (n + 1)) (c.len.ensures ∙ b.opened.ok.0);
-      surrogate = sym (or_false _);
-      exponent = sym (or_false _);
-      duplicate = refl;
+      later = λ s l r h. h ∙ ap₂ (λ x y. first_fault x y r) (sym (or_false s)) (sym (or_false l));
     })
 
 pub returns-clause-goes_on : goal.returns-clause-goes_on
@@ -34,7 +33,7 @@ returns-clause-goes_on c =
     let b = c.args.self.now in
     let kind = container_if c.args.is_object in
     let w = c.next_token-inside.ensures in
-    let mid : Builder = record { words = c.write_node-2.new.words; opened = c.push_reserved.new.self; innermost = record { place = _; start = c.args.at; children = 0; names = _; is_object = c.args.is_object }; names = b.names; keys = b.keys; marks = c.marks_behind-self.result; deepest = c.larger-self.result; has_surrogate = b.has_surrogate; has_long_exponent = b.has_long_exponent; has_duplicate = b.has_duplicate } in
+    let mid : Builder = record { words = c.write_node-2.new.words; opened = c.push_reserved.new.self; innermost = record { place = _; start = c.args.at; children = 0; names = _; is_object = c.args.is_object }; names = b.names; keys = b.keys; marks = c.marks_behind-self.result; deepest = c.larger-self.result; later = b.later } in
     IfOk-weaker c.next_child.result _ _
     (λ turn l. enter_goes_on c.args.line.now c.args.at c.next_token-inside.result c.args.label b mid c.next_child.new.self turn kind c.requires.opens w.white w.stops
     (λ h. c.is_at.ensures.no c.if-is_at.false (subst (λ x. Has c.args.line.now c.next_token-inside.result x) (sym c.closing_of.ensures) h))
@@ -43,9 +42,7 @@ returns-clause-goes_on c =
       opened = ap₂ (λ (os : List Open) (o : Open). os ++ o ∷ []) (rw c.reserve.ensures.items at c.push_reserved.ensures.items) (opened_is c.args.is_object _ _ _ _ c.args.at (c.len-place.ensures ∙ b.words.ok.0) (c.len-2.ensures ∙ b.names.ok.0));
       names = refl;
       deepest = c.larger-self.ensures ∙ ap (λ n. max b.deepest (n + 1)) (c.len.ensures ∙ b.opened.ok.0);
-      surrogate = refl;
-      exponent = refl;
-      duplicate = refl;
+      later = refl;
     }) l)
     c.next_child.ensures.found
 

@@ -1,6 +1,14 @@
-use Rattle.std.proofs.Common.{refl}
+use Rattle.std.proofs.Common.{◌≡◌, ◌||◌, Bool, false, Option, refl, ap, ◌∙◌}
+use Rattle.jp_model.specs.declared.LineFault.{LineFault}
+use Rattle.jp_tape.specs.Machine.{first_fault}
+use Rattle.jp_tape.proofs.Held.{or_false}
 use Rattle.jp_tape.proofs.Kept.{kept_text, labelled_named, labelled_bare}
 use Rattle.jp_tape.proofs.builder.machine.Builder.keep_label.Goals as goal
+
+-- a name has no exponent
+noted : (is_lone : Bool) (old new : Option LineFault) → ((lone too_long repeated : Bool) → old ≡ first_fault lone too_long repeated → new ≡ first_fault (lone || is_lone) (too_long || false) repeated) →
+    (lone too_long repeated : Bool) → old ≡ first_fault lone too_long repeated → new ≡ first_fault (lone || is_lone) too_long repeated
+noted is_lone old new n lone too_long repeated h = n lone too_long repeated h ∙ ap (λ x. first_fault (lone || is_lone) x repeated) (or_false too_long)
 
 pub kept_body-body-requires-clause-text : goal.kept_body-body-requires-clause-text
 kept_body-body-requires-clause-text c l =
@@ -9,8 +17,8 @@ kept_body-body-requires-clause-text c l =
 
 pub returns-in-Some-clause-found : goal.returns-in-Some-clause-found
 returns-in-Some-clause-found c kind from found order =
-    labelled_named c.args.line.now kind from c.args.label found c.args.self.now _ c.in-Some.span c.kept_body-body.result _ c.label_to_word-word.ensures c.in-Some.is order c.requires.within c.kept_body-body.ensures c.push_reserved.ensures.items refl refl refl c.raise.ensures refl refl
+    labelled_named c.args.line.now kind from c.args.label found c.args.self.now _ c.in-Some.span c.kept_body-body.result _ c.label_to_word-word.ensures c.in-Some.is order c.requires.within c.kept_body-body.ensures c.push_reserved.ensures.items refl refl refl (noted c.args.label.is_lone _ _ c.note.ensures)
 
 pub returns-in_default-clause-found : goal.returns-in_default-clause-found
 returns-in_default-clause-found c kind from found order =
-    labelled_bare c.args.line.now kind from c.args.label found c.args.self.now _ _ c.label_to_word-word.ensures c.in_default.is order c.requires.within refl refl refl refl c.raise.ensures refl refl
+    labelled_bare c.args.line.now kind from c.args.label found c.args.self.now _ _ c.label_to_word-word.ensures c.in_default.is order c.requires.within refl refl refl refl (noted c.args.label.is_lone _ _ c.note.ensures)

@@ -14,9 +14,7 @@ returns-clause-goes_on c line found =
       opened = refl;
       names = refl;
       deepest_is = refl;
-      surrogate = c.raise.ensures;
-      exponent = c.raise-2.ensures;
-      duplicate = refl;
+      later = c.note.ensures;
     })
 
 pub returns-clause-spare : goal.returns-clause-spare
