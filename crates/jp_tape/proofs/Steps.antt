@@ -7,7 +7,7 @@ use Rattle.jp_model.specs.Json.Tree.{Tree, node, container, Container, array, ob
 use Rattle.jp_model.specs.Json.Spelling.{Spells, SpellsValue, SpellsFirst, SpellsMore, SpellsLabel, opening, closing, Text}
 use Rattle.jp_model.specs.Json.Reader.{Bracket, lead_of}
 use Rattle.jp_model.proofs.Reader.Lexical.{white_unique, white_ended, end_ended, end_stops, more_ended, span_is, closing_stops, comma_no_closing}
-use Rattle.jp_model.proofs.Reader.Leads.{stops, label_stops, label_no_closing}
+use Rattle.jp_model.proofs.Reader.Leads.{stops, starts_inside, label_stops, label_no_closing}
 use Rattle.jp_tape.specs.declared.builder.tokens.Label.{Label}
 use Rattle.jp_tape.specs.declared.builder.tokens.Scalar.{Scalar}
 use Rattle.jp_tape.specs.Places.{Ended, Stops}
@@ -111,7 +111,7 @@ enter_stuck_at line kind from place to w s n l no_child first =
     n (subst (λ x. Has line x (closing kind)) same first.bracket)
 enter_stuck_at line kind from place to w s n l (child name t more) first =
     let same : first.0 ≡ place = white_unique line (from + 1) place first.0 w s first.1 (label_stops line kind first.0 name t first.2 first.3) in
-    l name (span t).start (subst (λ x. SpellsLabel line kind x (span t).start name) same first.2) (stops line t first.3)
+    l name (span t).start (subst (λ x. SpellsLabel line kind x (span t).start name) same first.2) (stops line t first.3) (starts_inside line t first.3)
 
 pub enter_stuck : (line : List ℕ) (kind : Container) (from place : ℕ) (frames : List Frame) (own : Option Name) → Has line from (opening kind) → White line (from + 1) place → Stops line place → (Has line place (closing kind) → ⊥) → NoLabel line kind place →
     IsStuck line (Value_at frames own from)
@@ -175,7 +175,7 @@ comma_stuck_at line kind at next from to w c v s l no_child m =
 comma_stuck_at line kind at next from to w c v s l (child name u more) m =
     let same : m.1.place ≡ next = white_unique line at next m.1.place w (comma_stops line next c) m.1.before (comma_stops line m.1.place m.1.is) in
     let label : m.0 ≡ from = white_unique line (next + 1) from m.0 v s (subst (λ x. White line (x + 1) m.0) same m.1.after) (label_stops line kind m.0 name u m.2 m.3) in
-    l name (span u).start (subst (λ x. SpellsLabel line kind x (span u).start name) label m.2) (stops line u m.3)
+    l name (span u).start (subst (λ x. SpellsLabel line kind x (span u).start name) label m.2) (stops line u m.3) (starts_inside line u m.3)
 
 pub comma_stuck : (line : List ℕ) (f : Frame) (frames : List Frame) (own : Option Name) (t : Tree) (at next from : ℕ) → White line at next → Has line next 0x2C → White line (next + 1) from → Stops line from → NoLabel line f.kind from →
     IsStuck line (After_value (f ∷ frames) own t at)

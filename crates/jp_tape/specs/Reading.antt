@@ -1,5 +1,5 @@
 -- What the readers of single tokens answer.
-use Rattle.std.specs.Prelude.{◌≡◌, ℕ, ◌+◌, ◌*◌, ◌^◌, Bool, true, false, List, [], Option, Some, None}
+use Rattle.std.specs.Prelude.{◌≡◌, ℕ, ◌+◌, ◌*◌, ◌^◌, ◌<◌, Bool, true, false, List, [], length, Option, Some, None}
 use Rattle.jp_model.specs.declared.Span.{Span}
 use Rattle.jp_model.specs.declared.LineFault.TheVariants as line_faults
 use Rattle.jp_model.specs.Json.Tree.{Tree, node, Value, Container, array, object, Name, span}
@@ -69,9 +69,9 @@ pub record FoundLabel (line : List ℕ) (kind : Container) (from : ℕ) (r : Lab
 abbrev pub IsPlainLabel : List ℕ → Label → Type 0
 IsPlainLabel line r = (body : Span) → r.name ≡ Some body → r.is_plain ≡ true → ArePlain line body.start body.end
 
--- nothing does
+-- nothing stands before a value there
 abbrev pub NoLabel : List ℕ → Container → ℕ → Type 0
-NoLabel line kind from = (own : Option Name) (place : ℕ) → SpellsLabel line kind from place own → Stops line place → ⊥
+NoLabel line kind from = (own : Option Name) (place : ℕ) → SpellsLabel line kind from place own → Stops line place → place < length line → ⊥
 
 -- what a fault of the grammar promises; want of memory promises nothing, and there is no other fault while a line is read
 abbrev pub OnFault : BuildFault → Type 0 → Type 0

@@ -23,7 +23,7 @@ use super::escapes::has_escape;
 use super::keys::Keys;
 use super::names::has_equal;
 use super::scan::{is_at, marks_behind, next_token, skip_white};
-use super::tokens::{Label, Scalar, name_at, name_by_marks, no_name, scalar_at, text_at};
+use super::tokens::{Label, Scalar, name_at, no_name, scalar_at, text_at};
 use crate::Kind;
 use jp_model::{LineFault, Span};
 use std::alloc::Global;
@@ -301,30 +301,6 @@ impl<'a> Builder<'a> {
         Turn::Value(word, label.value)
     }
 
-    /// Reads what comes before a member's value, and keeps its name.
-    #[inline(never)]
-    fn next_member(
-        &mut self,
-        line: &'a [u8],
-        is_unescaped: bool,
-        from: usize,
-    ) -> Result<Turn, BuildFault>
-        requires unescaped { is_unescaped ≡ true → IsUnescaped line.now }
-        requires within { from ≤ length line.now }
-        requires room { length line.now < 2 ^ 32 }
-        requires utf8 { IsUtf8 line.now }
-        requires ahead { IsAhead line.now from self.old.marks.now }
-        requires spare { HasRoom self.old 0 1 }
-        ensures found { IfOk result (λ turn. Labelled line.now object from turn self.old self.new) }
-        ensures ahead { (n : ℕ) → HasRoom self.old n (suc n) → IfOk result (λ turn. IsAheadOf line.now n turn self.new) }
-        ensures stuck { IfErr result (λ fault. OnFault fault (NoLabel line.now object from)) }
-    {
-        let Some(label) = name_at(line, is_unescaped, self.marks, from) else {
-            return Err(GRAMMAR);
-        };
-        Ok(self.keep_label(line, label))
-    }
-
     /// Reads what comes before a child's value, and keeps its name. Most names are in a line with no escape.
     #[inline(always)]
     fn next_child(
@@ -349,13 +325,13 @@ impl<'a> Builder<'a> {
             return Ok(self.keep_label(line, no_name(from)));
         }
         if is_unescaped {
-            if let Some(label) = name_by_marks(line, true, self.marks, from) {
+            if let Some(label) = name_at(line, true, self.marks, from) {
                 return Ok(self.keep_label(line, label));
             }
-        } else if let Some(label) = name_by_marks(line, false, self.marks, from) {
+        } else if let Some(label) = name_at(line, false, self.marks, from) {
             return Ok(self.keep_label(line, label));
         }
-        self.next_member(line, is_unescaped, from)
+        Err(GRAMMAR)
     }
 
     /// Reads the opening bracket at `at`, and what follows it up to the first child's value.

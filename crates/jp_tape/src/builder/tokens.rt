@@ -1,6 +1,6 @@
 //! The tokens of a line: strings, numbers, words and names.
 
-ghost use Rattle.std.specs.Prelude.{◌≡◌, ℕ, ◌+◌, ◌-◌, ◌^◌, ◌<◌, ◌≤◌, Bool, true, false, length, drop, List, Some, None, IfSome, IfNone, IsSome, IsTrue, IsUtf8, ℤ};
+ghost use Rattle.std.specs.Prelude.{◌≡◌, ℕ, ◌+◌, ◌-◌, ◌^◌, ◌<◌, ◌≤◌, Bool, true, false, length, drop, List, Some, None, IfSome, IfNone, IsTrue, IsUtf8, ℤ};
 ghost use Rattle.std.specs.List.{list_all};
 ghost use Rattle.jp_model.specs.Json.Places.{Has, Reads, byte_at, bytes_between};
 ghost use Rattle.jp_model.specs.Json.Numbers.{AreDigits, IsInt, SpellsNumber, minus_bytes, fraction_bytes, numeral_of, is_long_exponent};
@@ -14,8 +14,7 @@ ghost use Rattle.jp_tape.specs.Reading.{FoundScalar, NoValue, FoundLabel, NoLabe
 ghost use Rattle.jp_strings.specs.Plain.{ArePlain};
 
 use super::scan::{
-    digits_end, is_at, is_number_at, marks_behind, next_token, number_bytes_end, skip_white,
-    word_end,
+    digits_end, is_at, is_number_at, marks_behind, next_token, number_bytes_end, word_end,
 };
 use crate::Kind;
 use jp_decimal::{Decimal, NumberFault};
@@ -247,57 +246,12 @@ fn any_number_end(line: &[u8], from: usize) -> Option<NumberEnd>
     }
 }
 
-/// The name at `from` and its colon.
-#[inline(always)]
-pub(super) fn name_at(line: &[u8], is_unescaped: bool, marks: &[u32], from: usize) -> Option<Label>
-    requires unescaped { is_unescaped ≡ true → IsUnescaped line.now }
-    requires within { from ≤ length line.now }
-    requires room { length line.now < 2 ^ 32 }
-    requires utf8 { IsUtf8 line.now }
-    requires ahead { IsAhead line.now from marks.now }
-    ensures within { IfSome result (λ r. (from < r.value) × (r.value ≤ length line.now)) }
-    ensures stops { IfSome result (λ r. Stops line.now r.value) }
-    ensures ahead { IfSome result (λ r. IsPassed line.now marks.now 3 r.value) }
-    ensures first { IfSome result (λ r. r.value ≡ first_or (drop (name_marks r.name) marks.now) (length line.now)) }
-    ensures is_named { IfSome result (λ r. IsSome r.name) }
-    ensures plain { IfSome result (λ r. IsPlainLabel line.now r) }
-    ensures found { IfSome result (λ r. FoundLabel line.now object from r) }
-    ensures none { IfNone result (NoLabel line.now object from) }
-{
-    if !is_at(line, from, b'"') {
-        return None;
-    }
-    let Some(name) = string_end(line, is_unescaped, marks, from) else {
-        return None;
-    };
-    let colon = skip_white(line, marks_behind(marks, 2), name.end);
-    if !is_at(line, colon, b':') {
-        return None;
-    }
-    let body = Span {
-        start: (from + 1) as u32,
-        end: (name.end - 1) as u32,
-    };
-    Some(Label {
-        name: Some(body),
-        is_lone: name.is_lone,
-        is_plain: name.is_plain,
-        value: next_token(line, marks_behind(marks, 3), colon + 1),
-    })
-}
-
 /// So many marks have a name, its colon and what follows them at least.
 const NAME_AND_MORE: usize = 4;
 
-/// The name at `from` and its colon, where a token follows them: its quotes, the colon and the token are the next marks. Where
-/// there is none it is not said why.
+/// The name at `from` and its colon, where a token follows them: its quotes, the colon and the token are the next marks.
 #[inline(always)]
-pub(super) fn name_by_marks(
-    line: &[u8],
-    is_unescaped: bool,
-    marks: &[u32],
-    from: usize,
-) -> Option<Label>
+pub(super) fn name_at(line: &[u8], is_unescaped: bool, marks: &[u32], from: usize) -> Option<Label>
     requires unescaped { is_unescaped ≡ true → IsUnescaped line.now }
     requires within { from ≤ length line.now }
     requires room { length line.now < 2 ^ 32 }
@@ -309,6 +263,7 @@ pub(super) fn name_by_marks(
     ensures first { IfSome result (λ r. r.value ≡ first_or (drop (name_marks r.name) marks.now) (length line.now)) }
     ensures plain { IfSome result (λ r. IsPlainLabel line.now r) }
     ensures found { IfSome result (λ r. FoundLabel line.now object from r) }
+    ensures none { IfNone result (NoLabel line.now object from) }
 {
     if marks.len() < NAME_AND_MORE || !is_at(line, from, b'"') {
         return None;
