@@ -1,5 +1,5 @@
 -- What the builder holds is that of the state.
-use Rattle.std.proofs.Common.{◌≡◌, ℕ, suc, ◌+◌, ◌-◌, ◌*◌, ◌/◌, ◌≤◌, max, Bool, true, false, ◌||◌, List, [], ◌∷◌, ◌++◌, length, take, get_or, sym, ◌∙◌, ap, ap₂, refl, arith, Option, Some, None, append_assoc, append-nil, add-zero, add_assoc, length-append, get_or-append-add, true≢false}
+use Rattle.std.proofs.Common.{◌≡◌, ℕ, suc, ◌+◌, ◌-◌, ◌*◌, ◌/◌, ◌<◌, ◌≤◌, max, Bool, true, false, ◌||◌, List, [], ◌∷◌, ◌++◌, length, take, get_or, sym, ◌∙◌, ap, ap₂, refl, arith, Option, Some, None, append_assoc, append-nil, add-zero, add_assoc, length-append, get_or-append-add, true≢false}
 use Rattle.std.proofs.Math.Seq.{take-append_seam}
 use Rattle.jp_model.specs.Json.Tree.{Tree, node, Value, null, boolean, number, string, container, Children, no_child, child, Name, count_children, joined}
 use Rattle.jp_model.specs.Json.Faults.{depth, greatest_depth, name_has_lone_surrogate, has_surrogate, children_have_surrogate, has_long_exponent, children_have_long_exponent, name_points, names, has_duplicate, children_have_duplicate}
@@ -146,8 +146,8 @@ opens_count : (frames : List Frame) → length (opens frames) ≡ length frames
 opens_count [] = refl
 opens_count (f ∷ frames) = let h = opens_count frames in let l = length-append (opens frames) (open_of f frames ∷ []) in omega (arith, h, l)
 
-pub deeper : (frames : List Frame) (deep n : ℕ) → deep ≡ open_depth frames → n ≡ length frames → max deep (n + 1) ≡ max (open_depth frames) (length frames + 1)
-deeper frames deep n e l = omega (arith, e, l)
+pub not_too_deep : (frames : List Frame) (n : ℕ) → open_depth frames ≤ 512 → n < 512 → n ≡ length frames → max (open_depth frames) (length frames + 1) ≤ 512
+not_too_deep frames n d few l = omega (arith, d, few, l)
 
 joined_depth : (a : Children) (own : Option Name) (t : Tree) → greatest_depth (joined a (child own t no_child)) ≡ max (greatest_depth a) (depth t)
 joined_depth no_child own t = omega arith
@@ -221,7 +221,7 @@ snoc_front {A} xs ys a b e =
     let m : length xs ≡ length ys = omega arith in
     sym (take-append_seam xs (a ∷ [])) ∙ (ap₂ (λ n (zs : List A). take n zs) m e ∙ take-append_seam ys (b ∷ []))
 
-last_of : {A : Type 0} (xs : List A) (y d : A) → get_or (xs ++ y ∷ []) (length (xs ++ y ∷ []) - 1) d ≡ y
+pub last_of : {A : Type 0} (xs : List A) (y d : A) → get_or (xs ++ y ∷ []) (length (xs ++ y ∷ []) - 1) d ≡ y
 last_of {A} xs y d =
     let l = length-append xs (y ∷ []) in
     let e : length (xs ++ y ∷ []) - 1 ≡ length xs + 0 = omega (arith, l) in

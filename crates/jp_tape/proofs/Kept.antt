@@ -58,9 +58,9 @@ kept_span line kind from r f s e =
     (o, omega (arith, i))
 
 pub labelled_named : (line : List ℕ) (kind : Container) (from : ℕ) (r : Label) (f : FoundLabel line kind from r) (old new : Builder) (s : Span) (b : Body) (word : ℕ) → word ≡ body_word old.innermost.children r.name → r.name ≡ Some s → from ≤ r.value → r.value ≤ length line →
-    (r.is_lone ≡ false → points b ≡ points_of (bytes_between line s.start s.end)) → new.names.items ≡ old.names.items ++ b ∷ [] → new.words.items ≡ old.words.items → held new ≡ held old → new.deepest ≡ old.deepest →
+    (r.is_lone ≡ false → points b ≡ points_of (bytes_between line s.start s.end)) → new.names.items ≡ old.names.items ++ b ∷ [] → new.words.items ≡ old.words.items → held new ≡ held old →
     ((lone too_long repeated : Bool) → old.later ≡ first_fault lone too_long repeated → new.later ≡ first_fault (lone || r.is_lone) too_long repeated) → Labelled line kind from (turns.Value word r.value) old new
-labelled_named line kind from r f old new s b word m e o i p n w q d u =
+labelled_named line kind from r f old new s b word m e o i p n w q u =
     let named = label_named line kind from r f s e in
     record {
       label = r;
@@ -70,7 +70,6 @@ labelled_named line kind from r f old new s b word m e o i p n w q d u =
       within = i;
       words = w;
       opened = q;
-      deepest = d;
       later = u;
       count = ap length n ∙ (length-append old.names.items (b ∷ []) ∙ ap (λ (x : Option Name). length old.names.items + length (name_points x [])) (sym named.1));
       names = λ z.
@@ -79,9 +78,9 @@ labelled_named line kind from r f old new s b word m e o i p n w q d u =
     }
 
 pub labelled_bare : (line : List ℕ) (kind : Container) (from : ℕ) (r : Label) (f : FoundLabel line kind from r) (old new : Builder) (word : ℕ) → word ≡ body_word old.innermost.children r.name → r.name ≡ None → from ≤ r.value → r.value ≤ length line →
-    new.names.items ≡ old.names.items → new.words.items ≡ old.words.items → held new ≡ held old → new.deepest ≡ old.deepest →
+    new.names.items ≡ old.names.items → new.words.items ≡ old.words.items → held new ≡ held old →
     ((lone too_long repeated : Bool) → old.later ≡ first_fault lone too_long repeated → new.later ≡ first_fault (lone || r.is_lone) too_long repeated) → Labelled line kind from (turns.Value word r.value) old new
-labelled_bare line kind from r f old new word m e o i n w q d u =
+labelled_bare line kind from r f old new word m e o i n w q u =
     let bare : f.name ≡ None = name_none f.name (sym f.is_body ∙ e) in
     record {
       label = r;
@@ -91,7 +90,6 @@ labelled_bare line kind from r f old new word m e o i n w q d u =
       within = i;
       words = w;
       opened = q;
-      deepest = d;
       later = u;
       count = ap length n ∙ (sym (add-zero _) ∙ ap (λ (x : Option Name). length old.names.items + length (name_points x [])) (sym bare));
       names = λ z. ap all_points n ∙ (sym (append-nil _) ∙ ap (λ (x : Option Name). all_points old.names.items ++ name_points x []) (sym bare));

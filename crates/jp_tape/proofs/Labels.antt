@@ -7,7 +7,7 @@ use Rattle.jp_model.specs.declared.Span.{Span}
 use Rattle.jp_model.specs.Characters.{is_white, is_structural}
 use Rattle.jp_model.specs.Json.Places.{White, Has}
 use Rattle.jp_model.specs.Json.Strings.{SpellsBody, has_lone_surrogate}
-use Rattle.jp_model.specs.Json.Tree.{Name, Container, object}
+use Rattle.jp_model.specs.Json.Tree.{Name, Container, array, object}
 use Rattle.jp_model.specs.Json.Spelling.{SpellsString, SpellsName, SpellsLabel, Separator}
 use Rattle.jp_model.proofs.Reader.Lexical.{white_unique, span_is}
 use Rattle.jp_model.proofs.Reader.Bodies.{body_whole}
@@ -71,6 +71,14 @@ pub no_string_no_name : (line : List ℕ) (from : ℕ) → ((to : ℕ) (points :
 no_string_no_name line from none None place l s i = absurd l
 no_string_no_name line from none (Some n) place l s i =
     none (n.body.end + 1) n.points (record { last = n.body.end; opens = l.opens; body = subst (λ x. SpellsBody line x n.body.end n.points) l.behind_quote l.body; closes = l.closes; end = refl })
+
+-- before an element nothing stands
+pub found_none : (line : List ℕ) (from : ℕ) → FoundLabel line array from (record { name = None; is_lone = false; is_plain = true; value = from })
+found_none line from = record { name = None; is_body = refl; surrogate = refl; spelled = refl; only = only_none }
+  where
+    only_none : (own : Option Name) (place : ℕ) → SpellsLabel line array from place own → Stops line place → (own ≡ None) × (place ≡ from)
+    only_none None place l s = (refl, sym l)
+    only_none (Some n) place l s = absurd l
 
 -- where no quote stands, no name does
 pub no_quote_no_name : (line : List ℕ) (from : ℕ) → (Has line from 0x22 → ⊥) → NoLabel line object from

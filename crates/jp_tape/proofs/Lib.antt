@@ -26,6 +26,7 @@ pub mod Scalars
 pub mod Steps
 pub mod Held
 pub mod Walk
+pub mod Nesting
 pub mod Room
 pub mod Kept
 pub mod Repeated

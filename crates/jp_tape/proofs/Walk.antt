@@ -24,7 +24,7 @@ use Rattle.jp_tape.specs.declared.builder.BuildFault.TheVariants as faults
 use Rattle.jp_tape.specs.Words.{kind_code, nodes_below, label_word, children_words, children_node_count, head_word, span_word, container_code}
 use Rattle.jp_tape.specs.Machine.{Frame, State, Value_at, After_value, Finished, Alike, IsStuck, Keeps, Stands, GoesOn, Steps, NoStep, Labelled, IsCounted, IsClosed, IsInnermost, first_fault, held, no_container, next_parent, next_index, open_count, open_words, open_names, opens, open_of, open_depth, open_surrogate, open_long, open_duplicate, is_object}
 use Rattle.jp_tape.proofs.Steps.{scalar_step, no_value_step, empty_step, enter_step, enter_stuck, entered, comma_step, comma_stuck, close_step, neither_stuck, grown, end_step, no_end_stuck}
-use Rattle.jp_tape.proofs.Held.{or_false, or_swap, left_false, right_false, open_length, with_child, outer_names, next_label, next_words, grown_tail, grown_length, grown_few, joined_count, third, innermost_is, outer_is, outer_count, parent_place, child_index, flat_depth, root_depth, deeper, grown_depth, closed_depth, grown_surrogate, grown_long, grown_duplicate, grown_names}
+use Rattle.jp_tape.proofs.Held.{or_false, or_swap, left_false, right_false, open_length, with_child, outer_names, next_label, next_words, grown_tail, grown_length, grown_few, joined_count, third, innermost_is, outer_is, outer_count, parent_place, child_index, flat_depth, root_depth, not_too_deep, grown_depth, closed_depth, grown_surrogate, grown_long, grown_duplicate, grown_names}
 
 word_of_body : (index : ℕ) (own : Option Name) → body_word index (body_of own) ≡ label_word index own
 word_of_body index None = refl
@@ -41,11 +41,10 @@ KeepsBehind line b frames own t =
     (open_names frames ++ name_points own []) (open_duplicate frames || has_duplicate t)
 
 -- the node of a value is written
-pub record Written (b new : Builder) (words : List ℕ) (deepest : ℕ) (lone long : Bool) : Type 0 where
+pub record Written (b new : Builder) (words : List ℕ) (lone long : Bool) : Type 0 where
   pub words_are : new.words.items ≡ b.words.items ++ words
   pub opened : held new ≡ held b
   pub names : new.names.items ≡ b.names.items
-  pub deepest_is : new.deepest ≡ deepest
   pub later : (s l r : Bool) → b.later ≡ first_fault s l r → new.later ≡ first_fault (s || lone) (l || long) r
 
 same_first : (a b c d e f : Bool) → a ≡ d → b ≡ e → c ≡ f → first_fault a b c ≡ first_fault d e f
@@ -56,12 +55,12 @@ lone_first : (lone long r q : Bool) → (lone ≡ false → r ≡ q) → first_f
 lone_first true long r q e = refl
 lone_first false long r q e = ap (λ x. first_fault false long x) (e refl)
 
-keeps_value : (line : List ℕ) (frames : List Frame) (own : Option Name) (t : Tree) (b new : Builder) (ws : List ℕ) (d : ℕ) (lone long : Bool) → KeepsBefore line b frames own → Written b new ws d lone long →
-    ws ≡ next_words frames own t → d ≡ max (open_depth frames) (length frames + depth t) → lone ≡ has_surrogate t → long ≡ has_long_exponent line t → has_duplicate t ≡ false → KeepsBehind line new frames own t
-keeps_value line frames own t b new ws d lone long k w e f g h i = record {
+keeps_value : (line : List ℕ) (frames : List Frame) (own : Option Name) (t : Tree) (b new : Builder) (ws : List ℕ) (lone long : Bool) → KeepsBefore line b frames own → Written b new ws lone long →
+    ws ≡ next_words frames own t → max (open_depth frames) (length frames + depth t) ≤ 512 → lone ≡ has_surrogate t → long ≡ has_long_exponent line t → has_duplicate t ≡ false → KeepsBehind line new frames own t
+keeps_value line frames own t b new ws lone long k w e f g h i = record {
   words = w.words_are ∙ ap₂ (λ (xs ys : List ℕ). xs ++ ys) k.words e;
   opened = w.opened ∙ k.opened;
-  deepest = w.deepest_is ∙ f;
+  shallow = f;
   later =
       w.later _ _ _ k.later
       ∙ same_first _ _ _ _ _ _ (ap (λ x. (open_surrogate frames || name_has_lone_surrogate own) || x) g) (ap (λ x. open_long line frames || x) h) (sym (or_false _) ∙ ap (λ x. open_duplicate frames || x) (sym i));
@@ -78,7 +77,7 @@ parent_is line frames own b k = parent_place frames b.opened.items b.innermost k
 
 -- a scalar is read
 pub scalar_goes_on : (line : List ℕ) (at label : ℕ) (b new : Builder) (r : Scalar) → FoundScalar line at r →
-    Written b new (head_word (code_of r.kind) 0 b.innermost.place ∷ span_word (record { start = at; end = r.end }) ∷ label ∷ []) b.deepest r.is_lone r.is_long → Steps line (turns.Value label at) b (turns.After r.end) new
+    Written b new (head_word (code_of r.kind) 0 b.innermost.place ∷ span_word (record { start = at; end = r.end }) ∷ label ∷ []) r.is_lone r.is_long → Steps line (turns.Value label at) b (turns.After r.end) new
 scalar_goes_on line at label b new r s w (After_value frames own t from) h = absurd h
 scalar_goes_on line at label b new r s w (Finished t) h = absurd h
 scalar_goes_on line at label b new r s w (Value_at frames own from) h =
@@ -91,7 +90,7 @@ scalar_goes_on line at label b new r s w (Value_at frames own from) h =
     ap₂ (λ (x : ℕ) (xs : List ℕ). x ∷ span_word here ∷ xs) head (ap₂ (λ (x : ℕ) (xs : List ℕ). x ∷ xs) h.0 (sym (s.bare (open_count frames)))) in
     record {
       next = After_value frames own t r.end;
-      stands = (refl, h.2, keeps_value line frames own t b new _ _ _ _ h.3 w one (h.3.deepest ∙ flat_depth frames (depth t) s.flat) (sym s.surrogate) (sym s.exponent) s.duplicate);
+      stands = (refl, h.2, keeps_value line frames own t b new _ _ _ h.3 w one (subst (λ d. d ≤ 512) (flat_depth frames (depth t) s.flat) h.3.shallow) (sym s.surrogate) (sym s.exponent) s.duplicate);
       alike = subst (λ f. Alike line (Value_at frames own f) (After_value frames own t r.end)) h.1 (scalar_step line frames own at r s);
     }
 
@@ -101,19 +100,19 @@ no_value line at label b n (Finished t) h = absurd h
 no_value line at label b n (Value_at frames own from) h = no_value_step line frames own from (subst (λ x. NoValue line x) h.1 n)
 
 -- an empty container is read
-pub empty_goes_on : (line : List ℕ) (at place label : ℕ) (b new : Builder) (kind : Container) → Has line at (opening kind) → White line (at + 1) place → Has line place (closing kind) →
-    Written b new (head_word (container_code kind) 0 b.innermost.place ∷ span_word (record { start = at; end = place + 1 }) ∷ label ∷ []) (max b.deepest (length b.opened.items + 1)) false false →
+pub empty_goes_on : (line : List ℕ) (at place label : ℕ) (b new : Builder) (kind : Container) → Has line at (opening kind) → White line (at + 1) place → Has line place (closing kind) → length b.opened.items < 512 →
+    Written b new (head_word (container_code kind) 0 b.innermost.place ∷ span_word (record { start = at; end = place + 1 }) ∷ label ∷ []) false false →
     Steps line (turns.Value label at) b (turns.After (place + 1)) new
-empty_goes_on line at place label b new kind o w c r (After_value frames own t from) h = absurd h
-empty_goes_on line at place label b new kind o w c r (Finished t) h = absurd h
-empty_goes_on line at place label b new kind o w c r (Value_at frames own from) h =
+empty_goes_on line at place label b new kind o w c few r (After_value frames own t from) h = absurd h
+empty_goes_on line at place label b new kind o w c few r (Finished t) h = absurd h
+empty_goes_on line at place label b new kind o w c few r (Value_at frames own from) h =
     let here : Span = record { start = at; end = place + 1 } in
     let t = node here (container kind no_child) in
     let one : head_word (container_code kind) 0 b.innermost.place ∷ span_word here ∷ label ∷ [] ≡ next_words frames own t =
     ap₂ (λ (x y : ℕ). head_word (container_code kind) 0 x ∷ span_word here ∷ y ∷ []) (parent_is line frames own b h.3) h.0 in
     record {
       next = After_value frames own t (place + 1);
-      stands = (refl, h.2, keeps_value line frames own t b new _ _ _ _ h.3 r one (deeper frames b.deepest (length b.opened.items) h.3.deepest (outer_count frames b.opened.items b.innermost h.3.opened)) refl refl refl);
+      stands = (refl, h.2, keeps_value line frames own t b new _ _ _ h.3 r one (not_too_deep frames _ h.3.shallow few (outer_count frames b.opened.items b.innermost h.3.opened)) refl refl refl);
       alike = subst (λ f. Alike line (Value_at frames own f) (After_value frames own t (place + 1))) h.1 (empty_step line kind at place frames own o w c);
     }
 
@@ -127,43 +126,50 @@ label_keeps : (line : List ℕ) (kind : Container) (from : ℕ) (turn : Turn) (o
 label_keeps line kind from turn old new l ws os d lone long ps dup k = record {
   words = l.words ∙ k.words;
   opened = l.opened ∙ k.opened;
-  deepest = l.deepest ∙ k.deepest;
+  shallow = k.shallow;
   later = l.later lone long dup k.later ∙ ap (λ x. first_fault (lone || x) long dup) l.found.surrogate;
   count = l.count ∙ (ap (λ n. n + length (name_points l.found.name [])) k.count ∙ sym (length-append ps (name_points l.found.name [])));
   names = λ z. l.names (l.found.surrogate ∙ right_false _ _ z) ∙ ap (λ x. x ++ name_points l.found.name []) (k.names (left_false _ _ z));
 }
+
+-- a container that would nest too deep is left to another walk
+pub too_deep : (line : List ℕ) (at label : ℕ) (b : Builder) (flag : Bool) → Has line at (opening (container_if flag)) → 512 ≤ length b.opened.items → Steps line (turns.Value label at) b (turns.TooDeep at flag) b
+too_deep line at label b flag o many (After_value frames own t from) h = absurd h
+too_deep line at label b flag o many (Finished t) h = absurd h
+too_deep line at label b flag o many (Value_at frames own from) h =
+    let n = outer_count frames b.opened.items b.innermost h.3.opened in
+    record { next = Value_at frames own from; stands = (h.1, o, omega (arith, n, many), h.3.opened); alike = record { forth = λ whole x. x; back = λ whole x. x } }
 
 -- a container with a child is entered
 pub record Entered (b mid : Builder) (at label : ℕ) (kind : Container) : Type 0 where
   pub words : mid.words.items ≡ b.words.items ++ 0 ∷ 0 ∷ label ∷ []
   pub opened : held mid ≡ held b ++ record { place = length b.words.items / 3; start = at; children = 0; names = length b.names.items; is_object = is_object kind } ∷ []
   pub names : mid.names.items ≡ b.names.items
-  pub deepest : mid.deepest ≡ max b.deepest (length b.opened.items + 1)
   pub later : mid.later ≡ b.later
 
-keeps_entered : (line : List ℕ) (frames : List Frame) (own : Option Name) (b mid : Builder) (at label : ℕ) (kind : Container) → KeepsBefore line b frames own → label ≡ label_word (next_index frames) own → Entered b mid at label kind →
+keeps_entered : (line : List ℕ) (frames : List Frame) (own : Option Name) (b mid : Builder) (at label : ℕ) (kind : Container) → KeepsBefore line b frames own → length b.opened.items < 512 → label ≡ label_word (next_index frames) own → Entered b mid at label kind →
     Keeps mid (open_words (entered kind at own ∷ frames)) (opens (entered kind at own ∷ frames)) (open_depth (entered kind at own ∷ frames)) (open_surrogate (entered kind at own ∷ frames)) (open_long line (entered kind at own ∷ frames)) (open_names (entered kind at own ∷ frames))
     (open_duplicate (entered kind at own ∷ frames))
-keeps_entered line frames own b mid at label kind k n e =
+keeps_entered line frames own b mid at label kind k few n e =
     let one : record { place = length b.words.items / 3; start = at; children = 0; names = length b.names.items; is_object = is_object kind } ≡ open_of (entered kind at own) frames =
     ap₂ (λ (x y : ℕ). record { place = x; start = at; children = 0; names = y; is_object = is_object kind }) (place_is line frames own b k) k.count in
     record {
       words = e.words ∙ ap₂ (λ (xs ys : List ℕ). xs ++ 0 ∷ 0 ∷ ys) k.words (ap (λ (x : ℕ). x ∷ []) n);
       opened = e.opened ∙ ap₂ (λ (xs : List Open) (x : Open). xs ++ x ∷ []) k.opened one;
-      deepest = e.deepest ∙ (deeper frames b.deepest (length b.opened.items) k.deepest (outer_count frames b.opened.items b.innermost k.opened) ∙ ap (λ x. max (open_depth frames) x) (sym (add-zero (length frames + 1))));
+      shallow = subst (λ x. max (open_depth frames) x ≤ 512) (sym (add-zero (length frames + 1))) (not_too_deep frames _ k.shallow few (outer_count frames b.opened.items b.innermost k.opened));
       later = e.later ∙ (k.later ∙ same_first _ _ _ _ _ _ (sym (or_false _)) (sym (or_false _)) (sym (or_false _)));
       count = ap length e.names ∙ (k.count ∙ ap (λ (x : List (List ℕ)). length x) (sym (append-nil (open_names frames ++ name_points own []))));
       names = λ z. ap all_points e.names ∙ (k.names (left_false _ _ z) ∙ sym (append-nil (open_names frames ++ name_points own [])));
     }
 
-pub enter_goes_on : (line : List ℕ) (at place label : ℕ) (b mid new : Builder) (turn : Turn) (kind : Container) → Has line at (opening kind) → White line (at + 1) place → Stops line place → (Has line place (closing kind) → ⊥) →
+pub enter_goes_on : (line : List ℕ) (at place label : ℕ) (b mid new : Builder) (turn : Turn) (kind : Container) → Has line at (opening kind) → White line (at + 1) place → Stops line place → (Has line place (closing kind) → ⊥) → length b.opened.items < 512 →
     Entered b mid at label kind → Labelled line kind place turn mid new → Steps line (turns.Value label at) b turn new
-enter_goes_on line at place label b mid new turn kind o w s c e l (After_value frames own t from) h = absurd h
-enter_goes_on line at place label b mid new turn kind o w s c e l (Finished t) h = absurd h
-enter_goes_on line at place label b mid new turn kind o w s c e l (Value_at frames own from) h =
+enter_goes_on line at place label b mid new turn kind o w s c few e l (After_value frames own t from) h = absurd h
+enter_goes_on line at place label b mid new turn kind o w s c few e l (Finished t) h = absurd h
+enter_goes_on line at place label b mid new turn kind o w s c few e l (Value_at frames own from) h =
     let f = l.found in
     let inner = entered kind at own ∷ frames in
-    let k = keeps_entered line frames own b mid at label kind h.3 h.0 e in
+    let k = keeps_entered line frames own b mid at label kind h.3 few h.0 e in
     subst (λ x. GoesOn line (Value_at frames own from) x new) (sym l.is_turn)
     (record {
       next = Value_at inner f.name l.label.value;
@@ -236,7 +242,7 @@ keeps_grown : (line : List ℕ) (f : Frame) (frames : List Frame) (own : Option 
 keeps_grown line f frames own t b mid k c = record {
   words = c.words ∙ (k.words ∙ grown_tail f frames own t);
   opened = counted_open f frames own t b mid k.opened c;
-  deepest = c.deepest ∙ (k.deepest ∙ grown_depth f frames own t);
+  shallow = subst (λ d. d ≤ 512) (grown_depth f frames own t) k.shallow;
   later = c.later ∙ (k.later ∙ same_first _ _ _ _ _ _ (grown_surrogate f frames own t) (grown_long line f frames own t) (grown_duplicate f frames own t));
   count = ap length c.names ∙ (k.count ∙ ap (λ (ps : List (List ℕ)). length ps) (grown_names f frames own t));
   names = λ z. ap all_points c.names ∙ (k.names (grown_surrogate f frames own t ∙ z) ∙ grown_names f frames own t);
@@ -336,7 +342,7 @@ close_goes_on line at next b new o w c r (After_value (f ∷ frames) own t y) h 
         record {
           words = closed_words f frames own t o (next + 1) b.words.items new.words.items new.innermost.place k.words i parent r.words;
           opened = behind;
-          deepest = r.deepest ∙ (k.deepest ∙ closed_depth f frames own t);
+          shallow = subst (λ d. d ≤ 512) (closed_depth f frames own t) k.shallow;
           later =
               r.later _ _ _ (k.later ∙ same_first _ _ _ _ _ _ lone (grown_long line f frames own t) (grown_duplicate f frames own t))
               ∙ lone_first _ _ _ _ (λ z.
@@ -361,7 +367,7 @@ end_goes_on line at b w z (After_value [] own t y) h =
     let k : KeepsBehind line b [] None t = subst (λ o. KeepsBehind line b [] o t) h.1 h.2 in
     record {
       next = Finished t;
-      stands = record { words = k.words; opened = k.opened; deepest = k.deepest ∙ root_depth (depth t); later = k.later; count = k.count; names = k.names };
+      stands = record { words = k.words; opened = k.opened; shallow = subst (λ d. d ≤ 512) (root_depth (depth t)) k.shallow; later = k.later; count = k.count; names = k.names };
       alike = subst (λ z. Alike line (After_value [] own t z) (Finished t)) h.0 (end_step line own t at w);
     }
 

@@ -57,4 +57,5 @@ pub record HasRoom (b : Builder) (node_count name_count : ℕ) : Type 0 where
 abbrev pub IsAheadOf : List ℕ → ℕ → Turn → Builder → Type 0
 IsAheadOf line n (turns.Value label at) b = IsNext line at b.marks.now × HasRoom b n n
 IsAheadOf line n (turns.After at) b = IsAhead line at b.marks.now × HasRoom b n (suc n) × (may_begin line at ≡ true)
+IsAheadOf line n (turns.TooDeep at flag) b = IsNext line at b.marks.now
 IsAheadOf line n turns.End b = Unit {0}

@@ -12,4 +12,5 @@ pub mod Keys
 pub mod Ahead
 pub mod Reading
 pub mod Machine
+pub mod Nesting
 pub mod Refusals

@@ -1,11 +1,11 @@
 -- The states of the walk over a line, and which trees each completes to.
-use Rattle.std.specs.Prelude.{◌≡◌, ℕ, suc, ◌+◌, ◌-◌, ◌*◌, ◌<◌, ◌≤◌, max, cond, Bool, true, false, ◌||◌, List, [], ◌∷◌, ◌++◌, length, take, drop, slice_set, ◌/◌, Option, Some, None}
+use Rattle.std.specs.Prelude.{◌≡◌, ℕ, suc, ◌+◌, ◌-◌, ◌*◌, ◌<◌, ◌≤◌, max, cond, Bool, true, false, ◌||◌, List, [], ◌∷◌, ◌++◌, length, take, drop, map, slice_set, ◌/◌, Option, Some, None}
 use Rattle.jp_model.specs.declared.LineFault.{LineFault}
 use Rattle.jp_model.specs.declared.LineFault.TheVariants as line_faults
-use Rattle.jp_model.specs.Json.Places.{White}
+use Rattle.jp_model.specs.Json.Places.{White, Has}
 use Rattle.jp_model.specs.Json.Tree.{Tree, node, container, Container, array, object, Children, child, Name, span, count_children, joined}
 use Rattle.jp_model.specs.Json.Faults.{depth, greatest_depth, name_has_lone_surrogate, has_surrogate, children_have_surrogate, has_long_exponent, children_have_long_exponent, name_points, names, has_repeated, has_duplicate, children_have_duplicate}
-use Rattle.jp_model.specs.Json.Spelling.{Spells, SpellsMore, Text}
+use Rattle.jp_model.specs.Json.Spelling.{Spells, SpellsMore, Text, opening}
 use Rattle.jp_tape.specs.declared.builder.machine.Open.{Open}
 use Rattle.jp_tape.specs.declared.builder.machine.Builder.{Builder}
 use Rattle.jp_tape.specs.declared.builder.machine.Turn.{Turn}
@@ -93,6 +93,10 @@ no_container = record { place = 0; start = 0; children = 0; names = 0; is_object
 abbrev pub held : Builder → List Open
 held b = b.opened.items ++ b.innermost ∷ []
 
+-- whether each is an object
+abbrev pub flags_of : List Open → List Bool
+flags_of opened = map (λ (o : Open). o.is_object) opened
+
 -- how deep the open containers and what is read in them nest
 abbrev pub open_depth : List Frame → ℕ
 open_depth [] = 0
@@ -126,7 +130,7 @@ first_fault lone too_long repeated = cond lone (Some line_faults.Surrogate) (con
 pub record Keeps (b : Builder) (ws : List ℕ) (os : List Open) (d : ℕ) (lone too_long : Bool) (ps : List (List ℕ)) (repeated : Bool) : Type 0 where
   pub words : b.words.items ≡ ws
   pub opened : held b ≡ no_container ∷ os
-  pub deepest : b.deepest ≡ d
+  pub shallow : d ≤ 512
   pub later : b.later ≡ first_fault lone too_long repeated
   pub count : length b.names.items ≡ length ps
   pub names : lone ≡ false → all_points b.names.items ≡ ps
@@ -144,6 +148,8 @@ Stands line (turns.After at) b (After_value frames own t from) =
     (at ≡ from) × NoRootName frames own
     × Keeps b (open_words frames ++ words_from (open_count frames) (next_parent frames) (next_index frames) own t) (opens frames) (max (open_depth frames) (length frames + depth t)) ((open_surrogate frames || name_has_lone_surrogate own) || has_surrogate t) (open_long line frames || has_long_exponent line t)
     (open_names frames ++ name_points own []) (open_duplicate frames || has_duplicate t)
+Stands line (turns.TooDeep at flag) b (Value_at frames own from) =
+    (at ≡ from) × Has line at (opening (container_if flag)) × (512 ≤ length frames) × (held b ≡ no_container ∷ opens frames)
 Stands line turns.End b (Finished t) = IsFinished line b t
 Stands line turn b state = ⊥
 
@@ -176,24 +182,28 @@ pub record Reached (line : List ℕ) (turn : Turn) (b : Builder) : Type 0 where
 abbrev pub turn_left : List ℕ → Turn → ℕ
 turn_left line (turns.Value label at) = suc (length line - at)
 turn_left line (turns.After at) = suc (length line - at)
+turn_left line (turns.TooDeep at flag) = 0
 turn_left line turns.End = 0
 
 -- the turn is at a place of the line, and three words at most are written for a byte that was read
 abbrev pub IsWithin : List ℕ → Turn → Builder → Type 0
 IsWithin line (turns.Value label at) b = (at ≤ length line) × (length b.words.items ≤ 3 * at)
 IsWithin line (turns.After at) b = (at ≤ length line) × (length b.words.items ≤ 3 * at)
+IsWithin line (turns.TooDeep at flag) b = Unit {0}
 IsWithin line turns.End b = Unit {0}
 
 -- the turn is behind this place, and within the line
 abbrev pub IsBehind : List ℕ → ℕ → Turn → Builder → Type 0
 IsBehind line from (turns.Value label at) b = (from < at) × IsWithin line (turns.Value label at) b
 IsBehind line from (turns.After at) b = (from < at) × IsWithin line (turns.After at) b
+IsBehind line from (turns.TooDeep at flag) b = Unit {0}
 IsBehind line from turns.End b = Unit {0}
 
 -- a value is read next, or nothing
 abbrev pub IsSettled : Turn → Type 0
 IsSettled (turns.Value label at) = Unit {0}
 IsSettled (turns.After at) = ⊥
+IsSettled (turns.TooDeep at flag) = Unit {0}
 IsSettled turns.End = Unit {0}
 
 -- the innermost open container of the state is this one
@@ -210,7 +220,6 @@ pub record Labelled (line : List ℕ) (kind : Container) (from : ℕ) (turn : Tu
   pub within : label.value ≤ length line
   pub words : new.words.items ≡ old.words.items
   pub opened : held new ≡ held old
-  pub deepest : new.deepest ≡ old.deepest
   pub later : (lone too_long repeated : Bool) → old.later ≡ first_fault lone too_long repeated → new.later ≡ first_fault (lone || label.is_lone) too_long repeated
   pub count : length new.names.items ≡ length old.names.items + length (name_points found.name [])
   pub names : label.is_lone ≡ false → all_points new.names.items ≡ all_points old.names.items ++ name_points found.name []
@@ -220,7 +229,6 @@ pub record IsCounted (old new : Builder) : Type 0 where
   pub opened : new.opened.items ≡ old.opened.items
   pub innermost : new.innermost ≡ record old.innermost { children = old.innermost.children + 1 }
   pub words : new.words.items ≡ old.words.items
-  pub deepest : new.deepest ≡ old.deepest
   pub later : new.later ≡ old.later
   pub names : new.names.items ≡ old.names.items
 
@@ -238,6 +246,5 @@ Holds line turn b = (x : State) × Stands line turn b x
 pub record IsClosed (container : Open) (end : ℕ) (old new : Builder) : Type 0 where
   pub words : new.words.items ≡ slice_set (slice_set old.words.items (3 * container.place) (head_word (container_code (container_if container.is_object)) (length old.words.items / 3 - container.place - 1) new.innermost.place)) (3 * container.place + 1) (span_word (record { start = container.start; end = end }))
   pub opened : held new ≡ old.opened.items
-  pub deepest : new.deepest ≡ old.deepest
   pub later : (lone too_long repeated : Bool) → old.later ≡ first_fault lone too_long repeated → new.later ≡ first_fault lone too_long (repeated || has_repeated (all_points (drop container.names old.names.items)))
   pub names : new.names.items ≡ take container.names old.names.items

@@ -1,5 +1,5 @@
 -- What the readers of single tokens answer.
-use Rattle.std.specs.Prelude.{◌≡◌, ℕ, ◌+◌, ◌*◌, ◌^◌, ◌<◌, Bool, true, false, List, [], length, Option, Some, None}
+use Rattle.std.specs.Prelude.{◌≡◌, ℕ, ◌+◌, ◌*◌, ◌^◌, ◌<◌, Bool, true, false, List, [], length, Option, Some, None, IsUtf8}
 use Rattle.jp_model.specs.declared.Span.{Span}
 use Rattle.jp_model.specs.declared.LineFault.TheVariants as line_faults
 use Rattle.jp_model.specs.Json.Tree.{Tree, node, Value, Container, array, object, Name, span}
@@ -12,8 +12,14 @@ use Rattle.jp_tape.specs.declared.builder.BuildFault.TheVariants as faults
 use Rattle.jp_tape.specs.declared.builder.tokens.Scalar.{Scalar}
 use Rattle.jp_tape.specs.declared.builder.tokens.Label.{Label}
 use Rattle.jp_strings.specs.Plain.{ArePlain}
-use Rattle.jp_tape.specs.Places.{Ended, Stops}
+use Rattle.jp_tape.specs.Places.{Ended, Stops, IsUnescaped}
 use Rattle.jp_tape.specs.Words.{kind_code, nodes_below, words_below, span_word}
+
+-- a line that can be read: it is UTF-8, has at most 4,294,967,295 bytes, and what is told of its escapes is so
+pub record IsReadable (line : List ℕ) (is_unescaped : Bool) : Type 0 where
+  pub utf8 : IsUtf8 line
+  pub room : length line < 2 ^ 32
+  pub unescaped : is_unescaped ≡ true → IsUnescaped line
 
 -- the number of a kind
 abbrev pub code_of : Kind → ℕ

@@ -1,7 +1,9 @@
 -- Why a line has no tape.
 use Rattle.std.specs.Prelude.{List, ℕ}
 use Rattle.jp_model.specs.declared.Framing.{Framing}
-use Rattle.jp_model.specs.Json.Status.{HasStatus, refused}
+use Rattle.jp_model.specs.declared.LineFault.TheVariants as line_faults
+use Rattle.jp_model.specs.Json.Status.{HasStatus, IsNoText, refused}
+use Rattle.jp_tape.specs.Nesting.{NestsTooDeep}
 use Rattle.jp_tape.specs.declared.builder.BuildFault.{BuildFault}
 use Rattle.jp_tape.specs.declared.builder.BuildFault.TheVariants as faults
 
@@ -9,3 +11,14 @@ use Rattle.jp_tape.specs.declared.builder.BuildFault.TheVariants as faults
 abbrev pub IsRefused : Framing → List ℕ → BuildFault → Type 0
 IsRefused framing line (faults.Line fault) = HasStatus framing line (refused fault)
 IsRefused framing line faults.Memory = Unit {0}
+
+-- what a fault of the walk tells of a line that is UTF-8; there is no other one
+abbrev pub IsFaultOf : List ℕ → BuildFault → Type 0
+IsFaultOf line (faults.Line line_faults.Utf8) = ⊥
+IsFaultOf line (faults.Line line_faults.Grammar) = IsNoText line
+IsFaultOf line (faults.Line line_faults.Truncated) = ⊥
+IsFaultOf line (faults.Line line_faults.Depth) = NestsTooDeep line
+IsFaultOf line (faults.Line line_faults.Surrogate) = ⊥
+IsFaultOf line (faults.Line line_faults.Number) = ⊥
+IsFaultOf line (faults.Line line_faults.Duplicate) = ⊥
+IsFaultOf line faults.Memory = Unit {0}

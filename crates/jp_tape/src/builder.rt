@@ -18,6 +18,7 @@ mod escapes;
 mod keys;
 mod machine;
 mod names;
+mod nesting;
 mod scan;
 mod tokens;
 
@@ -35,9 +36,6 @@ pub enum BuildFault {
     /// Out of memory.
     Memory,
 }
-
-/// Arrays and objects nest no deeper (profile).
-const MOST_DEPTH: usize = 512;
 
 /// Whether a text of a sequence may have lost its end: it is a number, true, false or null, and no byte follows it.
 fn is_truncated(words: &[u64], line: &[u8], framing: Framing) -> bool
@@ -59,8 +57,6 @@ fn fault_of(builder: &Builder<'_>, line: &[u8], framing: Framing) -> Option<Line
 {
     if is_truncated(&builder.words, line, framing) {
         Some(LineFault::Truncated)
-    } else if builder.deepest > MOST_DEPTH {
-        Some(LineFault::Depth)
     } else {
         builder.later
     }

@@ -1,6 +1,6 @@
 //! The walk over a line: a machine with a stack of open containers, which writes the words of the nodes.
 
-ghost use Rattle.std.specs.Prelude.{◌≡◌, ◌+◌, ◌*◌, ◌^◌, ◌<◌, ◌≤◌, ◌||◌, ◌++◌, ◌∷◌, [], ℕ, suc, max, length, drop, List, Bool, None, true, false, IfOk, IfErr, IsTrue, IsUtf8, vec_capacity};
+ghost use Rattle.std.specs.Prelude.{◌≡◌, ◌+◌, ◌*◌, ◌^◌, ◌<◌, ◌≤◌, ◌||◌, ◌++◌, ◌∷◌, [], ℕ, suc, length, drop, List, Bool, None, true, false, IfOk, IfErr, IsTrue, IsUtf8, vec_capacity};
 ghost use Rattle.jp_model.specs.Json.Places.{Has, White, byte_at, bytes_between};
 ghost use Rattle.jp_tape.specs.Names.{points};
 ghost use Rattle.jp_strings.specs.Plain.{ArePlain};
@@ -12,8 +12,9 @@ ghost use Rattle.jp_model.specs.Json.Marks.{marks as marks_of};
 ghost use Rattle.jp_tape.specs.Words.{head_word, span_word, container_code};
 ghost use Rattle.jp_tape.specs.Places.{Stops, IsUnescaped};
 ghost use Rattle.jp_tape.specs.Ahead.{HasRoom, IsAhead, IsAheadOf, IsNext, IsPassed, first_or, name_marks};
-ghost use Rattle.jp_tape.specs.Reading.{body_word, code_of, container_if, FoundScalar, FoundLabel, IsPlainLabel, NoLabel, OnFault};
-ghost use Rattle.jp_tape.specs.Machine.{Steps, NoStep, Reached, IsWithin, IsBehind, IsSettled, Labelled, IsFinished, IsCounted, IsClosed, IsRoomier, Holds, first_fault, held, no_container};
+ghost use Rattle.jp_tape.specs.Reading.{IsReadable, body_word, code_of, container_if, FoundScalar, FoundLabel, IsPlainLabel, NoLabel, OnFault};
+ghost use Rattle.jp_tape.specs.Machine.{Steps, NoStep, Reached, IsWithin, IsBehind, IsSettled, Labelled, IsFinished, IsCounted, IsClosed, IsRoomier, Holds, first_fault, flags_of, held, no_container};
+ghost use Rattle.jp_tape.specs.Refusals.{IsFaultOf};
 ghost use Rattle.jp_tape.specs.declared.builder.machine.Open.{Open};
 ghost use Rattle.jp_tape.specs.declared.builder.machine.Turn.TheVariants as turns;
 
@@ -22,11 +23,12 @@ use super::body::Body;
 use super::escapes::has_escape;
 use super::keys::Keys;
 use super::names::has_equal;
+use super::nesting::Nesting;
 use super::scan::{is_at, marks_behind, next_token, skip_white};
 use super::tokens::{Label, Scalar, name_at, no_name, scalar_at, text_at};
 use crate::Kind;
 use jp_model::{LineFault, Span};
-use std::alloc::Global;
+use std::alloc::{AllocError, Global};
 
 /// A container that is open.
 #[derive(Clone, Copy)]
@@ -58,12 +60,16 @@ enum Turn {
     Value(u64, usize),
     /// What follows an array or an object.
     After(usize),
+    /// The array or the object at this place, which nests too deep. It is an object where the flag says so.
+    TooDeep(usize, bool),
     End,
 }
 
 /// What has been read of a line, in lists that are lent from line to line: `Builder::build` forgets the line before.
 #[derive(Drop)]
 pub struct Builder<'a> {
+    /// Where memory comes from.
+    alloc: Global,
     /// Three words to a node. The first two of an open container are not known yet.
     pub(super) words: Vec<u64>,
     /// The containers that are open around the innermost one, after `NO_CONTAINER`.
@@ -75,22 +81,18 @@ pub struct Builder<'a> {
     keys: Keys,
     /// The marks that are to come.
     marks: &'a [u32],
-    pub(super) deepest: usize,
     /// The first of the faults that count only where the line is JSON: a lone surrogate, a long exponent, equal names.
     pub(super) later: Option<LineFault>,
 }
 
-const GRAMMAR: BuildFault = BuildFault::Line(LineFault::Grammar);
+pub(super) const GRAMMAR: BuildFault = BuildFault::Line(LineFault::Grammar);
 
 /// Room is made for so many turns of the walk at once, or for fewer where fewer marks are to come. Room for a whole line at once
 /// would ask for several times the memory that a long one needs, and at each node it would cost time.
 const STRETCH: usize = 1 << 16;
 
-fn larger(a: usize, b: usize) -> usize
-    ensures { result ≡ max a b }
-{
-    if a < b { b } else { a }
-}
+/// Arrays and objects nest no deeper (profile).
+const MOST_DEPTH: usize = 512;
 
 /// Notes the faults of a string or a number: a surrogate stands alone in it, or its exponent is too long.
 #[inline(always)]
@@ -104,7 +106,8 @@ fn note(later: &mut Option<LineFault>, is_lone: bool, is_long: bool)
     }
 }
 
-fn closing_of(is_object: bool) -> u8
+/// The closing bracket.
+pub(super) fn closing_of(is_object: bool) -> u8
     ensures { result ≡ closing (container_if is_object) }
 {
     if is_object { b'}' } else { b']' }
@@ -201,6 +204,18 @@ fn kept_body<'a>(line: &'a [u8], span: Span, is_lone: bool, is_plain: bool) -> B
     Body { bytes, is_plain }
 }
 
+/// Whether each of these containers is an object.
+fn are_objects(opened: &[Open], innermost: Open, alloc: Global) -> Result<Vec<bool>, AllocError>
+    ensures { IfOk result (λ flags. flags.items ≡ flags_of (opened.now ++ innermost ∷ [])) }
+{
+    let mut flags = Vec::new(alloc);
+    for open in opened {
+        flags.push(open.is_object)?;
+    }
+    flags.push(innermost.is_object)?;
+    Ok(flags)
+}
+
 /// Leaves the innermost container.
 #[inline(always)]
 fn leave(opened: &mut Vec<Open>, innermost: &mut Open)
@@ -219,17 +234,16 @@ impl<'a> Builder<'a> {
         ensures opened { held result ≡ no_container ∷ [] }
         ensures names { result.names.items ≡ [] }
         ensures marks { result.marks.now ≡ [] }
-        ensures deepest { result.deepest ≡ 0 }
         ensures later { result.later ≡ None }
     {
         Builder {
+            alloc,
             words: Vec::new(alloc),
             opened: Vec::new(alloc),
             innermost: NO_CONTAINER,
             names: Vec::new(alloc),
             keys: Keys::new(alloc),
             marks: &[],
-            deepest: 0,
             later: None,
         }
     }
@@ -240,7 +254,6 @@ impl<'a> Builder<'a> {
         ensures opened { held self.new ≡ no_container ∷ [] }
         ensures names { self.new.names.items ≡ [] }
         ensures marks { self.new.marks.now ≡ marks.now }
-        ensures deepest { self.new.deepest ≡ 0 }
         ensures later { self.new.later ≡ None }
     {
         self.words.clear();
@@ -248,7 +261,6 @@ impl<'a> Builder<'a> {
         self.innermost = NO_CONTAINER;
         self.names.clear();
         self.marks = marks;
-        self.deepest = 0;
         self.later = None;
     }
 
@@ -355,10 +367,12 @@ impl<'a> Builder<'a> {
         ensures ahead { (n : ℕ) → HasRoom self.old (suc n) (suc n) → IfOk result (λ turn. IsAheadOf line.now n turn self.new) }
         ensures stuck { IfErr result (λ fault. OnFault fault (NoStep line.now (turns.Value label at) self.old)) }
     {
+        if self.opened.len() >= MOST_DEPTH {
+            return Ok(Turn::TooDeep(at, is_object));
+        }
         self.marks = marks_behind(self.marks, 1);
         let inside = next_token(line, self.marks, at + 1);
         let place = self.words.len() / 3;
-        self.deepest = larger(self.deepest, self.opened.len() + 1);
         if is_at(line, inside, closing_of(is_object)) {
             self.marks = marks_behind(self.marks, 1);
             let span = span_to_word(at as u32, (inside + 1) as u32);
@@ -630,6 +644,34 @@ impl<'a> Builder<'a> {
         }
         self.read_scalar(line, is_unescaped, at, label)
     }
+
+    /// The fault of the line in which the array or the object at `at` nests too deep: that it does, if the line is JSON.
+    #[inline(never)]
+    fn fault_of_deep(
+        &self,
+        line: &'a [u8],
+        is_unescaped: bool,
+        at: usize,
+        is_object: bool,
+    ) -> BuildFault
+        requires line { IsReadable line.now is_unescaped }
+        requires reached { Reached line.now (turns.TooDeep at is_object) self.now }
+        requires some { 0 < length self.now.opened.items }
+        requires ahead { IsNext line.now at self.now.marks.now }
+        ensures { IsFaultOf line.now result }
+    {
+        let Ok(are_objects) = are_objects(&self.opened[1..], self.innermost, self.alloc) else {
+            return BuildFault::Memory;
+        };
+        let mut nesting = Nesting {
+            marks: self.marks,
+            are_objects,
+        };
+        match nesting.read(line, is_unescaped, is_object, at) {
+            Ok(()) => BuildFault::Line(LineFault::Depth),
+            Err(fault) => fault,
+        }
+    }
 }
 
 /// Reads the whole line, and forgets the line before.
@@ -642,7 +684,7 @@ pub(super) fn walk<'a>(
     requires utf8 { IsUtf8 line.now }
     requires marks { marks.now ≡ marks_of line.now }
     ensures found { IfOk result (λ _. (t : Tree) × Text line.now t × IsFinished line.now builder.new t) }
-    ensures refused { IfErr result (λ fault. OnFault fault (IsNoText line.now)) }
+    ensures refused { IfErr result (λ fault. IsFaultOf line.now fault) }
 {
     builder.start(marks);
     let is_unescaped = !has_escape(line);
@@ -655,6 +697,9 @@ pub(super) fn walk<'a>(
         turns -= 1;
         let read = builder.read_on(line, is_unescaped, at, label)?;
         turn = builder.settle(line, is_unescaped, read)?;
+    }
+    if let Turn::TooDeep(at, is_object) = turn {
+        return Err(builder.fault_of_deep(line, is_unescaped, at, is_object));
     }
     Ok(())
 }

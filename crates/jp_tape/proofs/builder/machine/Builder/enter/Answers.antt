@@ -1,4 +1,4 @@
-use Rattle.std.proofs.Common.{List, ℕ, suc, ◌+◌, ◌++◌, ◌∷◌, [], max, sym, ◌∙◌, ap, ap₂, subst, refl}
+use Rattle.std.proofs.Common.{List, ℕ, suc, ◌≡◌, ◌<◌, ◌+◌, ◌++◌, ◌∷◌, [], sym, ◌∙◌, ap, ap₂, subst, refl, arith, length}
 use Rattle.std.proofs.lemmas.Result.{IfOk-weaker, IfErr-weaker}
 use Rattle.jp_model.specs.Json.Places.{Has, byte_at}
 use Rattle.jp_tape.specs.Ahead.{IsAhead}
@@ -10,8 +10,15 @@ use Rattle.jp_tape.specs.Machine.{first_fault}
 use Rattle.jp_tape.proofs.Held.{or_false}
 use Rattle.jp_tape.proofs.Ahead.{passes_structural, structural_begins, bracket_structural, closing_structural}
 use Rattle.jp_tape.proofs.Room.{room_behind_node}
-use Rattle.jp_tape.proofs.Walk.{node_is, opened_is, empty_goes_on, enter_goes_on, no_enter, on_fault}
+use Rattle.jp_tape.proofs.Walk.{node_is, opened_is, empty_goes_on, enter_goes_on, no_enter, too_deep, on_fault}
 use Rattle.jp_tape.proofs.builder.machine.Builder.enter.Goals as goal
+
+-- fewer are open than nest at most
+few : (b : Builder) (n : ℕ) → n ≡ b.opened.len → n < 512 → length b.opened.items < 512
+few b n e l = let o = b.opened.ok.0 in omega (arith, e, l, o)
+
+pub returns-then-len-ge-MOST_DEPTH-clause-goes_on : goal.returns-then-len-ge-MOST_DEPTH-clause-goes_on
+returns-then-len-ge-MOST_DEPTH-clause-goes_on c = let e = c.len.ensures in let o = c.args.self.now.opened.ok.0 in let h = c.if-len-ge-MOST_DEPTH.true in too_deep c.args.line.now c.args.at c.args.label c.args.self.now c.args.is_object c.requires.opens (omega (arith, e, o, h))
 
 pub returns-then-is_at-clause-goes_on : goal.returns-then-is_at-clause-goes_on
 returns-then-is_at-clause-goes_on c =
@@ -19,12 +26,12 @@ returns-then-is_at-clause-goes_on c =
     let kind = container_if c.args.is_object in
     empty_goes_on c.args.line.now c.args.at c.next_token-inside.result c.args.label b _ kind c.requires.opens c.next_token-inside.ensures.white
     (subst (λ x. Has c.args.line.now c.next_token-inside.result x) c.closing_of.ensures (c.is_at.ensures.yes c.if-is_at.true))
+    (few b _ (c.len.ensures) c.if-len-ge-MOST_DEPTH.false)
     (record {
       words_are = node_is b.words.items _ _ _ _ _ _ _ c.write_node.ensures.written
           (c.head-head.ensures ∙ ap (λ (x : ℕ). head_word x 0 b.innermost.place) c.container_kind.ensures) c.span_to_word-span.ensures refl;
       opened = refl;
       names = refl;
-      deepest_is = c.larger-self.ensures ∙ ap (λ n. max b.deepest (n + 1)) (c.len.ensures ∙ b.opened.ok.0);
       later = λ s l r h. h ∙ ap₂ (λ x y. first_fault x y r) (sym (or_false s)) (sym (or_false l));
     })
 
@@ -33,15 +40,15 @@ returns-clause-goes_on c =
     let b = c.args.self.now in
     let kind = container_if c.args.is_object in
     let w = c.next_token-inside.ensures in
-    let mid : Builder = record { words = c.write_node-2.new.words; opened = c.push_reserved.new.self; innermost = record { place = _; start = c.args.at; children = 0; names = _; is_object = c.args.is_object }; names = b.names; keys = b.keys; marks = c.marks_behind-self.result; deepest = c.larger-self.result; later = b.later } in
+    let mid : Builder = record { alloc = b.alloc; words = c.write_node-2.new.words; opened = c.push_reserved.new.self; innermost = record { place = _; start = c.args.at; children = 0; names = _; is_object = c.args.is_object }; names = b.names; keys = b.keys; marks = c.marks_behind-self.result; later = b.later } in
     IfOk-weaker c.next_child.result _ _
     (λ turn l. enter_goes_on c.args.line.now c.args.at c.next_token-inside.result c.args.label b mid c.next_child.new.self turn kind c.requires.opens w.white w.stops
     (λ h. c.is_at.ensures.no c.if-is_at.false (subst (λ x. Has c.args.line.now c.next_token-inside.result x) (sym c.closing_of.ensures) h))
+    (few b _ (c.len.ensures) c.if-len-ge-MOST_DEPTH.false)
     (record {
       words = node_is b.words.items _ _ _ _ _ _ _ c.write_node-2.ensures.written refl refl refl;
       opened = ap₂ (λ (os : List Open) (o : Open). os ++ o ∷ []) (rw c.reserve.ensures.items at c.push_reserved.ensures.items) (opened_is c.args.is_object _ _ _ _ c.args.at (c.len-place.ensures ∙ b.words.ok.0) (c.len-2.ensures ∙ b.names.ok.0));
       names = refl;
-      deepest = c.larger-self.ensures ∙ ap (λ n. max b.deepest (n + 1)) (c.len.ensures ∙ b.opened.ok.0);
       later = refl;
     }) l)
     c.next_child.ensures.found

@@ -28,10 +28,10 @@ some_open n m e h = let z : n ≡ 0 → ⊥ = eqb-false n 0 (sym h) in omega (ar
 
 -- what is counted and closed are no marks
 counted_from : (b : Builder) (marks : Bor (List ℕ)) (new : Builder) → IsCounted (record b { marks = marks }) new → IsCounted b new
-counted_from b marks new i = record { opened = i.opened; innermost = i.innermost; words = i.words; deepest = i.deepest; later = i.later; names = i.names }
+counted_from b marks new i = record { opened = i.opened; innermost = i.innermost; words = i.words; later = i.later; names = i.names }
 
 closed_from : (b : Builder) (marks : Bor (List ℕ)) (new : Builder) (o : Open) (end : ℕ) → IsClosed o end (record b { marks = marks }) new → IsClosed o end b new
-closed_from b marks new o end i = record { words = i.words; opened = i.opened; deepest = i.deepest; later = i.later; names = i.names }
+closed_from b marks new o end i = record { words = i.words; opened = i.opened; later = i.later; names = i.names }
 
 pub count_child-requires : goal.count_child-requires
 count_child-requires c =

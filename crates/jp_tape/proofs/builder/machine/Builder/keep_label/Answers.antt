@@ -17,8 +17,8 @@ kept_body-body-requires-clause-text c l =
 
 pub returns-in-Some-clause-found : goal.returns-in-Some-clause-found
 returns-in-Some-clause-found c kind from found order =
-    labelled_named c.args.line.now kind from c.args.label found c.args.self.now _ c.in-Some.span c.kept_body-body.result _ c.label_to_word-word.ensures c.in-Some.is order c.requires.within c.kept_body-body.ensures c.push_reserved.ensures.items refl refl refl (noted c.args.label.is_lone _ _ c.note.ensures)
+    labelled_named c.args.line.now kind from c.args.label found c.args.self.now _ c.in-Some.span c.kept_body-body.result _ c.label_to_word-word.ensures c.in-Some.is order c.requires.within c.kept_body-body.ensures c.push_reserved.ensures.items refl refl (noted c.args.label.is_lone _ _ c.note.ensures)
 
 pub returns-in_default-clause-found : goal.returns-in_default-clause-found
 returns-in_default-clause-found c kind from found order =
-    labelled_bare c.args.line.now kind from c.args.label found c.args.self.now _ _ c.label_to_word-word.ensures c.in_default.is order c.requires.within refl refl refl refl (noted c.args.label.is_lone _ _ c.note.ensures)
+    labelled_bare c.args.line.now kind from c.args.label found c.args.self.now _ _ c.label_to_word-word.ensures c.in_default.is order c.requires.within refl refl refl (noted c.args.label.is_lone _ _ c.note.ensures)

@@ -13,7 +13,6 @@ returns-clause-goes_on c line found =
           c.head-head.ensures c.span_to_word-span.ensures refl;
       opened = refl;
       names = refl;
-      deepest_is = refl;
       later = c.note.ensures;
     })
 
