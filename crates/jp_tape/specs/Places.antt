@@ -27,15 +27,9 @@ pub record Passes (line : List ℕ) (at to : ℕ) : Type 0 where
   pub plain : (k : ℕ) → at ≤ k → k < middle → is_special (byte_at line k) ≡ false
   pub characters : SpellsCharacters line middle to units
 
--- a reverse solidus or a control character stands in the line
-pub record HasEscape (line : List ℕ) : Type 0 where
-  pub place : ℕ
-  pub within : place < length line
-  pub escapes : is_escape (byte_at line place) ≡ true
-
--- none stands before the last byte of the line, which is in no string that ends
-unfoldable pub IsUnescaped : List ℕ → Type 0
-IsUnescaped line = (k : ℕ) → k + 1 < length line → is_escape (byte_at line k) ≡ false
+-- no reverse solidus and no control character stands before this place
+unfoldable pub IsUnescaped : List ℕ → ℕ → Type 0
+IsUnescaped line end = (k : ℕ) → k < end → is_escape (byte_at line k) ≡ false
 
 -- no quote that ends a string stands from a place up to another
 unfoldable pub IsUnquoted : List ℕ → ℕ → ℕ → Type 0

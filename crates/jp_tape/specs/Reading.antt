@@ -15,11 +15,11 @@ use Rattle.jp_strings.specs.Plain.{ArePlain}
 use Rattle.jp_tape.specs.Places.{Ended, Stops, IsUnescaped}
 use Rattle.jp_tape.specs.Words.{kind_code, nodes_below, words_below, span_word}
 
--- a line that can be read: it is UTF-8, has at most 4,294,967,295 bytes, and what is told of its escapes is so
-pub record IsReadable (line : List ℕ) (is_unescaped : Bool) : Type 0 where
+-- a line that can be read: it is UTF-8, has at most 4,294,967,295 bytes, and no escape before this place
+pub record IsReadable (line : List ℕ) (escape : ℕ) : Type 0 where
   pub utf8 : IsUtf8 line
   pub room : length line < 2 ^ 32
-  pub unescaped : is_unescaped ≡ true → IsUnescaped line
+  pub unescaped : IsUnescaped line escape
 
 -- the number of a kind
 abbrev pub code_of : Kind → ℕ

@@ -1,23 +1,19 @@
-//! Whether a line has an escape, or a control character where one may be.
+//! Where the first escape of a line is.
 
-ghost use Rattle.std.specs.Prelude.{◌≡◌, true, false};
-ghost use Rattle.jp_tape.specs.Places.{HasEscape, IsUnescaped};
+ghost use Rattle.std.specs.Prelude.{◌≡◌, ◌+◌, ◌<◌, true, length};
+ghost use Rattle.jp_lanes.specs.First.{is_escape};
+ghost use Rattle.jp_model.specs.Json.Places.{byte_at};
+ghost use Rattle.jp_tape.specs.Places.{IsUnescaped};
 
-use jp_lanes::first_escape;
-
-/// Whether a reverse solidus or a control character is in the line before its last byte. Where none is, the body of each
-/// string stands for itself, and none has to be searched on its own. The last byte is in no string that ends: in a file with
-/// CR LF it is a carriage return.
-pub(super) fn has_escape(line: &[u8]) -> bool
-    ensures none { result ≡ false → IsUnescaped line.now }
-    ensures some { result ≡ true → HasEscape line.now }
+/// The place of the first reverse solidus or control character before the last byte of the line, or else of that byte. The body of
+/// each string before it stands for itself, and need not be searched. The last byte is in no string that ends: in a file with CR LF
+/// it is a carriage return.
+pub(super) fn first_escape(line: &[u8]) -> usize
+    ensures before { IsUnescaped line.now result }
+    ensures is_one { result + 1 < length line.now → is_escape (byte_at line.now result) ≡ true }
 {
-    if line.len() < 2 {
-        return false;
+    if line.is_empty() {
+        return 0;
     }
-    let front = &line[..line.len() - 1];
-    if first_escape(front, 0) < front.len() {
-        return true;
-    }
-    false
+    jp_lanes::first_escape(&line[..line.len() - 1], 0)
 }

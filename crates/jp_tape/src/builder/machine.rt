@@ -10,7 +10,7 @@ ghost use Rattle.jp_model.specs.Json.Spelling.{Text, opening, closing};
 ghost use Rattle.jp_model.specs.Json.Status.{IsNoText};
 ghost use Rattle.jp_model.specs.Json.Marks.{marks as marks_of};
 ghost use Rattle.jp_tape.specs.Words.{head_word, span_word, container_code};
-ghost use Rattle.jp_tape.specs.Places.{Stops, IsUnescaped};
+ghost use Rattle.jp_tape.specs.Places.{Stops};
 ghost use Rattle.jp_tape.specs.Ahead.{HasRoom, IsAhead, IsAheadOf, IsNext, IsPassed, first_or, name_marks};
 ghost use Rattle.jp_tape.specs.Reading.{IsReadable, body_word, code_of, container_if, FoundScalar, FoundLabel, IsPlainLabel, NoLabel, OnFault};
 ghost use Rattle.jp_tape.specs.Machine.{Steps, NoStep, Reached, IsWithin, IsBehind, IsSettled, Labelled, IsFinished, IsCounted, IsClosed, IsRoomier, Holds, first_fault, flags_of, held, no_container};
@@ -20,7 +20,7 @@ ghost use Rattle.jp_tape.specs.declared.builder.machine.Turn.TheVariants as turn
 
 use super::BuildFault;
 use super::body::Body;
-use super::escapes::has_escape;
+use super::escapes::first_escape;
 use super::keys::Keys;
 use super::names::has_equal;
 use super::nesting::Nesting;
@@ -313,19 +313,17 @@ impl<'a> Builder<'a> {
         Turn::Value(word, label.value)
     }
 
-    /// Reads what comes before a child's value, and keeps its name. Most names are in a line with no escape.
+    /// Reads what comes before a child's value, and keeps its name.
     #[inline(always)]
     fn next_child(
         &mut self,
         line: &'a [u8],
-        is_unescaped: bool,
+        escape: usize,
         is_object: bool,
         from: usize,
     ) -> Result<Turn, BuildFault>
-        requires unescaped { is_unescaped ≡ true → IsUnescaped line.now }
+        requires line { IsReadable line.now escape }
         requires within { from ≤ length line.now }
-        requires room { length line.now < 2 ^ 32 }
-        requires utf8 { IsUtf8 line.now }
         requires stops { Stops line.now from }
         requires ahead { IsNext line.now from self.old.marks.now }
         requires spare { HasRoom self.old 0 1 }
@@ -336,14 +334,10 @@ impl<'a> Builder<'a> {
         if !is_object {
             return Ok(self.keep_label(line, no_name(from)));
         }
-        if is_unescaped {
-            if let Some(label) = name_at(line, true, self.marks, from) {
-                return Ok(self.keep_label(line, label));
-            }
-        } else if let Some(label) = name_at(line, false, self.marks, from) {
-            return Ok(self.keep_label(line, label));
+        match name_at(line, escape, self.marks, from) {
+            Some(label) => Ok(self.keep_label(line, label)),
+            None => Err(GRAMMAR),
         }
-        Err(GRAMMAR)
     }
 
     /// Reads the opening bracket at `at`, and what follows it up to the first child's value.
@@ -351,15 +345,13 @@ impl<'a> Builder<'a> {
     fn enter(
         &mut self,
         line: &'a [u8],
-        is_unescaped: bool,
+        escape: usize,
         at: usize,
         is_object: bool,
         label: u64,
     ) -> Result<Turn, BuildFault>
-        requires unescaped { is_unescaped ≡ true → IsUnescaped line.now }
+        requires line { IsReadable line.now escape }
         requires opens { Has line.now at (opening (container_if is_object)) }
-        requires room { length line.now < 2 ^ 32 }
-        requires utf8 { IsUtf8 line.now }
         requires few { length self.old.words.items ≤ 3 * at }
         requires ahead { IsAheadOf line.now 1 (turns.Value label at) self.old }
         ensures goes_on { IfOk result (λ turn. Steps line.now (turns.Value label at) self.old turn self.new) }
@@ -393,7 +385,7 @@ impl<'a> Builder<'a> {
         }
         self.opened.push_reserved(self.innermost);
         self.innermost = container;
-        self.next_child(line, is_unescaped, is_object, inside)
+        self.next_child(line, escape, is_object, inside)
     }
 
     /// Writes the node of a value that has no children.
@@ -463,15 +455,13 @@ impl<'a> Builder<'a> {
     fn follow(
         &mut self,
         line: &'a [u8],
-        is_unescaped: bool,
+        escape: usize,
         at: usize,
         next: usize,
     ) -> Result<Turn, BuildFault>
-        requires unescaped { is_unescaped ≡ true → IsUnescaped line.now }
+        requires line { IsReadable line.now escape }
         requires white { White line.now at next }
         requires stops { Stops line.now next }
-        requires room { length line.now < 2 ^ 32 }
-        requires utf8 { IsUtf8 line.now }
         requires few { length self.old.words.items ≤ 3 * at }
         requires ahead { IsAhead line.now next self.old.marks.now }
         requires spare { HasRoom self.old 0 1 }
@@ -493,7 +483,7 @@ impl<'a> Builder<'a> {
             self.marks = marks_behind(self.marks, 1);
             self.count_child();
             let child = next_token(line, self.marks, next + 1);
-            return self.next_child(line, is_unescaped, is_object, child);
+            return self.next_child(line, escape, is_object, child);
         }
         if !is_at(line, next, closing_of(is_object)) {
             return Err(GRAMMAR);
@@ -507,11 +497,9 @@ impl<'a> Builder<'a> {
 
     /// Reads what follows a number or a word.
     #[inline(always)]
-    fn go_on(&mut self, line: &'a [u8], is_unescaped: bool, at: usize) -> Result<Turn, BuildFault>
-        requires unescaped { is_unescaped ≡ true → IsUnescaped line.now }
+    fn go_on(&mut self, line: &'a [u8], escape: usize, at: usize) -> Result<Turn, BuildFault>
+        requires line { IsReadable line.now escape }
         requires within { at ≤ length line.now }
-        requires room { length line.now < 2 ^ 32 }
-        requires utf8 { IsUtf8 line.now }
         requires few { length self.old.words.items ≤ 3 * at }
         requires ahead { IsAhead line.now at self.old.marks.now }
         requires spare { HasRoom self.old 0 1 }
@@ -522,15 +510,13 @@ impl<'a> Builder<'a> {
         ensures stuck { IfErr result (λ fault. OnFault fault (NoStep line.now (turns.After at) self.old)) }
     {
         let next = skip_white(line, self.marks, at);
-        self.follow(line, is_unescaped, at, next)
+        self.follow(line, escape, at, next)
     }
 
     /// Reads what follows arrays and objects, up to the next value or to the end.
     #[inline(always)]
-    fn settle(&mut self, line: &'a [u8], is_unescaped: bool, from: Turn) -> Result<Turn, BuildFault>
-        requires unescaped { is_unescaped ≡ true → IsUnescaped line.now }
-        requires room { length line.now < 2 ^ 32 }
-        requires utf8 { IsUtf8 line.now }
+    fn settle(&mut self, line: &'a [u8], escape: usize, from: Turn) -> Result<Turn, BuildFault>
+        requires line { IsReadable line.now escape }
         requires reached { Reached line.now from self.old }
         requires within { IsWithin line.now from self.old }
         requires ahead { IsAheadOf line.now 0 from self.old }
@@ -543,7 +529,7 @@ impl<'a> Builder<'a> {
         let mut turn = from;
         while let Turn::After(at) = turn {
             let next = next_token(line, self.marks, at);
-            turn = self.follow(line, is_unescaped, at, next)?;
+            turn = self.follow(line, escape, at, next)?;
         }
         Ok(turn)
     }
@@ -553,14 +539,12 @@ impl<'a> Builder<'a> {
     fn read_text(
         &mut self,
         line: &'a [u8],
-        is_unescaped: bool,
+        escape: usize,
         at: usize,
         label: u64,
     ) -> Result<Turn, BuildFault>
-        requires unescaped { is_unescaped ≡ true → IsUnescaped line.now }
+        requires line { IsReadable line.now escape }
         requires opens { Has line.now at 0x22 }
-        requires room { length line.now < 2 ^ 32 }
-        requires utf8 { IsUtf8 line.now }
         requires few { length self.old.words.items ≤ 3 * at }
         requires ahead { IsAheadOf line.now 1 (turns.Value label at) self.old }
         requires holds { Holds line.now (turns.Value label at) self.old }
@@ -569,12 +553,12 @@ impl<'a> Builder<'a> {
         ensures ahead { (n : ℕ) → HasRoom self.old (suc n) (suc n) → IfOk result (λ turn. IsAheadOf line.now n turn self.new) }
         ensures stuck { IfErr result (λ fault. OnFault fault (NoStep line.now (turns.Value label at) self.old)) }
     {
-        let Some(text) = text_at(line, is_unescaped, self.marks, at) else {
+        let Some(text) = text_at(line, escape, self.marks, at) else {
             return Err(GRAMMAR);
         };
         let next = next_token(line, marks_behind(self.marks, text.marks), text.end);
         self.keep_scalar(at, label, text);
-        self.follow(line, is_unescaped, text.end, next)
+        self.follow(line, escape, text.end, next)
     }
 
     /// Reads the value at `at`, which is neither a text nor an array nor an object, and what follows it.
@@ -582,17 +566,15 @@ impl<'a> Builder<'a> {
     fn read_scalar(
         &mut self,
         line: &'a [u8],
-        is_unescaped: bool,
+        escape: usize,
         at: usize,
         label: u64,
     ) -> Result<Turn, BuildFault>
-        requires unescaped { is_unescaped ≡ true → IsUnescaped line.now }
+        requires line { IsReadable line.now escape }
         requires inside { at < length line.now }
         requires no_text { byte_at line.now at ≡ 0x22 → ⊥ }
         requires no_array { byte_at line.now at ≡ 0x5B → ⊥ }
         requires no_object { byte_at line.now at ≡ 0x7B → ⊥ }
-        requires room { length line.now < 2 ^ 32 }
-        requires utf8 { IsUtf8 line.now }
         requires few { length self.old.words.items ≤ 3 * at }
         requires ahead { IsAheadOf line.now 1 (turns.Value label at) self.old }
         requires holds { Holds line.now (turns.Value label at) self.old }
@@ -605,22 +587,20 @@ impl<'a> Builder<'a> {
             return Err(GRAMMAR);
         };
         self.keep_scalar(at, label, scalar);
-        self.go_on(line, is_unescaped, scalar.end)
+        self.go_on(line, escape, scalar.end)
     }
 
-    /// Reads the value at `at`, and after a value that has no children what follows it. Texts of lines with no escape go their own way.
+    /// Reads the value at `at`, and after a value that has no children what follows it.
     #[inline(always)]
     fn read_on(
         &mut self,
         line: &'a [u8],
-        is_unescaped: bool,
+        escape: usize,
         at: usize,
         label: u64,
     ) -> Result<Turn, BuildFault>
-        requires unescaped { is_unescaped ≡ true → IsUnescaped line.now }
+        requires line { IsReadable line.now escape }
         requires within { at ≤ length line.now }
-        requires room { length line.now < 2 ^ 32 }
-        requires utf8 { IsUtf8 line.now }
         requires few { length self.old.words.items ≤ 3 * at }
         requires ahead { IsAheadOf line.now 1 (turns.Value label at) self.old }
         requires holds { Holds line.now (turns.Value label at) self.old }
@@ -633,28 +613,19 @@ impl<'a> Builder<'a> {
             return Err(GRAMMAR);
         }
         if is_at(line, at, b'"') {
-            if is_unescaped {
-                return self.read_text(line, true, at, label);
-            }
-            return self.read_text(line, false, at, label);
+            return self.read_text(line, escape, at, label);
         }
         let is_object = is_at(line, at, b'{');
         if is_object || is_at(line, at, b'[') {
-            return self.enter(line, is_unescaped, at, is_object, label);
+            return self.enter(line, escape, at, is_object, label);
         }
-        self.read_scalar(line, is_unescaped, at, label)
+        self.read_scalar(line, escape, at, label)
     }
 
     /// The fault of the line in which the array or the object at `at` nests too deep: that it does, if the line is JSON.
     #[inline(never)]
-    fn fault_of_deep(
-        &self,
-        line: &'a [u8],
-        is_unescaped: bool,
-        at: usize,
-        is_object: bool,
-    ) -> BuildFault
-        requires line { IsReadable line.now is_unescaped }
+    fn fault_of_deep(&self, line: &'a [u8], escape: usize, at: usize, is_object: bool) -> BuildFault
+        requires line { IsReadable line.now escape }
         requires reached { Reached line.now (turns.TooDeep at is_object) self.now }
         requires some { 0 < length self.now.opened.items }
         requires ahead { IsNext line.now at self.now.marks.now }
@@ -667,7 +638,7 @@ impl<'a> Builder<'a> {
             marks: self.marks,
             are_objects,
         };
-        match nesting.read(line, is_unescaped, is_object, at) {
+        match nesting.read(line, escape, is_object, at) {
             Ok(()) => BuildFault::Line(LineFault::Depth),
             Err(fault) => fault,
         }
@@ -687,7 +658,7 @@ pub(super) fn walk<'a>(
     ensures refused { IfErr result (λ fault. IsFaultOf line.now fault) }
 {
     builder.start(marks);
-    let is_unescaped = !has_escape(line);
+    let escape = first_escape(line);
     let mut turn = Turn::Value(0, next_token(line, marks, 0));
     let mut turns = builder.room();
     while let Turn::Value(label, at) = turn {
@@ -695,11 +666,11 @@ pub(super) fn walk<'a>(
             turns = builder.make_room()?;
         }
         turns -= 1;
-        let read = builder.read_on(line, is_unescaped, at, label)?;
-        turn = builder.settle(line, is_unescaped, read)?;
+        let read = builder.read_on(line, escape, at, label)?;
+        turn = builder.settle(line, escape, read)?;
     }
     if let Turn::TooDeep(at, is_object) = turn {
-        return Err(builder.fault_of_deep(line, is_unescaped, at, is_object));
+        return Err(builder.fault_of_deep(line, escape, at, is_object));
     }
     Ok(())
 }

@@ -36,8 +36,8 @@ pub(super) struct Nesting<'a> {
 }
 
 /// The value at `at`, which is no array and no object.
-fn leaf_at(line: &[u8], is_unescaped: bool, marks: &[u32], at: usize) -> Option<Scalar>
-    requires line { IsReadable line.now is_unescaped }
+fn leaf_at(line: &[u8], escape: usize, marks: &[u32], at: usize) -> Option<Scalar>
+    requires line { IsReadable line.now escape }
     requires inside { at < length line.now }
     requires no_array { byte_at line.now at ≡ 0x5B → ⊥ }
     requires no_object { byte_at line.now at ≡ 0x7B → ⊥ }
@@ -48,7 +48,7 @@ fn leaf_at(line: &[u8], is_unescaped: bool, marks: &[u32], at: usize) -> Option<
     ensures none { IfNone result (NoValue line.now at) }
 {
     if is_at(line, at, b'"') {
-        return text_at(line, is_unescaped, marks, at);
+        return text_at(line, escape, marks, at);
     }
     scalar_at(line, marks, at)
 }
@@ -58,11 +58,11 @@ impl<'a> Nesting<'a> {
     fn child(
         &mut self,
         line: &'a [u8],
-        is_unescaped: bool,
+        escape: usize,
         is_object: bool,
         from: usize,
     ) -> Result<usize, BuildFault>
-        requires line { IsReadable line.now is_unescaped }
+        requires line { IsReadable line.now escape }
         requires within { from ≤ length line.now }
         requires ahead { IsNext line.now from self.old.marks.now }
         requires stops { Stops line.now from }
@@ -75,7 +75,7 @@ impl<'a> Nesting<'a> {
         if !is_object {
             return Ok(from);
         }
-        let Some(label) = name_at(line, is_unescaped, self.marks, from) else {
+        let Some(label) = name_at(line, escape, self.marks, from) else {
             return Err(GRAMMAR);
         };
         self.marks = marks_behind(self.marks, 3);
@@ -86,11 +86,11 @@ impl<'a> Nesting<'a> {
     fn enter(
         &mut self,
         line: &'a [u8],
-        is_unescaped: bool,
+        escape: usize,
         is_object: bool,
         at: usize,
     ) -> Result<Next, BuildFault>
-        requires line { IsReadable line.now is_unescaped }
+        requires line { IsReadable line.now escape }
         requires opens { Has line.now at (opening (container_if is_object)) }
         requires ahead { IsNext line.now at self.old.marks.now }
         requires next { IsValueNext line.now at self.old.are_objects.items 1 }
@@ -110,15 +110,15 @@ impl<'a> Nesting<'a> {
             return Err(BuildFault::Memory);
         }
         self.are_objects.push_reserved(is_object);
-        match self.child(line, is_unescaped, is_object, inside) {
+        match self.child(line, escape, is_object, inside) {
             Ok(value) => Ok(Next::Value(value)),
             Err(fault) => Err(fault),
         }
     }
 
     /// Reads the value at `at`, which is no array and no object.
-    fn scalar(&mut self, line: &'a [u8], is_unescaped: bool, at: usize) -> Result<Next, BuildFault>
-        requires line { IsReadable line.now is_unescaped }
+    fn scalar(&mut self, line: &'a [u8], escape: usize, at: usize) -> Result<Next, BuildFault>
+        requires line { IsReadable line.now escape }
         requires inside { at < length line.now }
         requires no_array { byte_at line.now at ≡ 0x5B → ⊥ }
         requires no_object { byte_at line.now at ≡ 0x7B → ⊥ }
@@ -130,7 +130,7 @@ impl<'a> Nesting<'a> {
         ensures past { IfOk result (λ next. IsPast at next) }
         ensures refused { IfErr result (λ fault. OnFault fault (IsNoText line.now)) }
     {
-        let Some(scalar) = leaf_at(line, is_unescaped, self.marks, at) else {
+        let Some(scalar) = leaf_at(line, escape, self.marks, at) else {
             return Err(GRAMMAR);
         };
         self.marks = marks_behind(self.marks, scalar.marks);
@@ -138,8 +138,8 @@ impl<'a> Nesting<'a> {
     }
 
     /// Reads the value at `at`, or the beginning of it.
-    fn value(&mut self, line: &'a [u8], is_unescaped: bool, at: usize) -> Result<Next, BuildFault>
-        requires line { IsReadable line.now is_unescaped }
+    fn value(&mut self, line: &'a [u8], escape: usize, at: usize) -> Result<Next, BuildFault>
+        requires line { IsReadable line.now escape }
         requires within { at ≤ length line.now }
         requires ahead { IsNext line.now at self.old.marks.now }
         requires next { IsValueNext line.now at self.old.are_objects.items 0 }
@@ -153,17 +153,17 @@ impl<'a> Nesting<'a> {
             return Err(GRAMMAR);
         }
         if is_at(line, at, b'{') {
-            return self.enter(line, is_unescaped, true, at);
+            return self.enter(line, escape, true, at);
         }
         if is_at(line, at, b'[') {
-            return self.enter(line, is_unescaped, false, at);
+            return self.enter(line, escape, false, at);
         }
-        self.scalar(line, is_unescaped, at)
+        self.scalar(line, escape, at)
     }
 
     /// Reads what follows a value that ends at `at`.
-    fn follow(&mut self, line: &'a [u8], is_unescaped: bool, at: usize) -> Result<Next, BuildFault>
-        requires line { IsReadable line.now is_unescaped }
+    fn follow(&mut self, line: &'a [u8], escape: usize, at: usize) -> Result<Next, BuildFault>
+        requires line { IsReadable line.now escape }
         requires within { at ≤ length line.now }
         requires ahead { IsAhead line.now at self.old.marks.now }
         requires behind { IsValueBehind line.now at self.old.are_objects.items }
@@ -186,7 +186,7 @@ impl<'a> Nesting<'a> {
         if is_at(line, next, b',') {
             self.marks = marks_behind(self.marks, 1);
             let child = next_token(line, self.marks, next + 1);
-            return match self.child(line, is_unescaped, is_object, child) {
+            return match self.child(line, escape, is_object, child) {
                 Ok(value) => Ok(Next::Value(value)),
                 Err(fault) => Err(fault),
             };
@@ -200,8 +200,8 @@ impl<'a> Nesting<'a> {
     }
 
     /// Reads what follows arrays, objects and other values, up to the next value or to the end.
-    fn settle(&mut self, line: &'a [u8], is_unescaped: bool, from: Next) -> Result<Next, BuildFault>
-        requires line { IsReadable line.now is_unescaped }
+    fn settle(&mut self, line: &'a [u8], escape: usize, from: Next) -> Result<Next, BuildFault>
+        requires line { IsReadable line.now escape }
         requires reached { IsReached line.now from self.old.are_objects.items }
         requires ahead { AreMarksOf line.now from self.old.marks.now }
         requires within { IsWithin line.now from }
@@ -214,7 +214,7 @@ impl<'a> Nesting<'a> {
     {
         let mut next = from;
         while let Next::After(at) = next {
-            next = self.follow(line, is_unescaped, at)?;
+            next = self.follow(line, escape, at)?;
         }
         Ok(next)
     }
@@ -223,22 +223,22 @@ impl<'a> Nesting<'a> {
     pub(super) fn read(
         &mut self,
         line: &'a [u8],
-        is_unescaped: bool,
+        escape: usize,
         is_object: bool,
         at: usize,
     ) -> Result<(), BuildFault>
-        requires line { IsReadable line.now is_unescaped }
+        requires line { IsReadable line.now escape }
         requires opens { Has line.now at (opening (container_if is_object)) }
         requires ahead { IsNext line.now at self.old.marks.now }
         requires next { IsValueNext line.now at self.old.are_objects.items 1 }
         ensures deep { IfOk result (λ _. NestsTooDeep line.now) }
         ensures refused { IfErr result (λ fault. OnFault fault (IsNoText line.now)) }
     {
-        let entered = self.enter(line, is_unescaped, is_object, at)?;
-        let mut next = self.settle(line, is_unescaped, entered)?;
+        let entered = self.enter(line, escape, is_object, at)?;
+        let mut next = self.settle(line, escape, entered)?;
         while let Next::Value(at) = next {
-            let read = self.value(line, is_unescaped, at)?;
-            next = self.settle(line, is_unescaped, read)?;
+            let read = self.value(line, escape, at)?;
+            next = self.settle(line, escape, read)?;
         }
         Ok(())
     }

@@ -10,7 +10,7 @@ ghost use Rattle.jp_model.specs.Json.Tree.{array, object};
 ghost use Rattle.jp_model.specs.Json.Marks.{may_begin};
 ghost use Rattle.jp_tape.specs.Places.{Ended, Stops, IsUnescaped, IsUnquoted};
 ghost use Rattle.jp_tape.specs.Ahead.{IsAhead, IsNext, IsPassed, IsSolid, first_or, in_token, name_marks};
-ghost use Rattle.jp_tape.specs.Reading.{FoundScalar, NoValue, FoundLabel, NoLabel, IsPlainLabel};
+ghost use Rattle.jp_tape.specs.Reading.{IsReadable, FoundScalar, NoValue, FoundLabel, NoLabel, IsPlainLabel};
 ghost use Rattle.jp_strings.specs.Plain.{ArePlain};
 
 use super::scan::{
@@ -81,16 +81,16 @@ fn closing_quote(line: &[u8], marks: &[u32], from: usize) -> Option<usize>
     Some(marks[1] as usize)
 }
 
-/// Whether each byte between the quotes at `from` and `last` stands for itself. In a line with no escape that is known.
+/// Whether each byte between the quotes at `from` and `last` stands for itself. Before the first escape of the line, at `escape`, that is known.
 #[inline(always)]
-fn is_plain_between(line: &[u8], is_unescaped: bool, from: usize, last: usize) -> bool
+fn is_plain_between(line: &[u8], escape: usize, from: usize, last: usize) -> bool
     requires order { from < last }
     requires within { last < length line.now }
-    requires unescaped { is_unescaped ≡ true → IsUnescaped line.now }
+    requires unescaped { IsUnescaped line.now escape }
     requires first { IsUnquoted line.now (from + 1) last }
     ensures { result ≡ true → ArePlain line.now (from + 1) last }
 {
-    is_unescaped || first_special(line, from + 1) == last
+    last <= escape || first_special(line, from + 1) == last
 }
 
 /// Whether a surrogate stands alone in the string from `from` to `last`, where it is one. Few strings come here.
@@ -112,10 +112,9 @@ fn is_lone_within(line: &[u8], from: usize, last: usize) -> Option<bool>
 
 /// The end of the string at `from`. A body without special bytes stands for itself.
 #[inline(always)]
-fn string_end(line: &[u8], is_unescaped: bool, marks: &[u32], from: usize) -> Option<StringEnd>
-    requires unescaped { is_unescaped ≡ true → IsUnescaped line.now }
+fn string_end(line: &[u8], escape: usize, marks: &[u32], from: usize) -> Option<StringEnd>
+    requires line { IsReadable line.now escape }
     requires opens { Has line.now from 0x22 }
-    requires utf8 { IsUtf8 line.now }
     requires ahead { IsAhead line.now from marks.now }
     ensures within { IfSome result (λ r. (from + 1 < r.end) × (r.end ≤ length line.now)) }
     ensures found { IfSome result (λ r. (points : List ℕ) × SpellsString line.now from r.end points × (has_lone_surrogate points ≡ r.is_lone)) }
@@ -127,7 +126,7 @@ fn string_end(line: &[u8], is_unescaped: bool, marks: &[u32], from: usize) -> Op
     let Some(last) = closing_quote(line, marks, from) else {
         return None;
     };
-    if is_plain_between(line, is_unescaped, from, last) {
+    if is_plain_between(line, escape, from, last) {
         return Some(StringEnd {
             end: last + 1,
             is_lone: false,
@@ -251,11 +250,9 @@ const NAME_AND_MORE: usize = 4;
 
 /// The name at `from` and its colon, where a token follows them: its quotes, the colon and the token are the next marks.
 #[inline(always)]
-pub(super) fn name_at(line: &[u8], is_unescaped: bool, marks: &[u32], from: usize) -> Option<Label>
-    requires unescaped { is_unescaped ≡ true → IsUnescaped line.now }
+pub(super) fn name_at(line: &[u8], escape: usize, marks: &[u32], from: usize) -> Option<Label>
+    requires line { IsReadable line.now escape }
     requires within { from ≤ length line.now }
-    requires room { length line.now < 2 ^ 32 }
-    requires utf8 { IsUtf8 line.now }
     requires ahead { IsAhead line.now from marks.now }
     ensures within { IfSome result (λ r. (from ≤ r.value) × (r.value ≤ length line.now)) }
     ensures stops { IfSome result (λ r. Stops line.now r.value) }
@@ -268,7 +265,7 @@ pub(super) fn name_at(line: &[u8], is_unescaped: bool, marks: &[u32], from: usiz
     if marks.len() < NAME_AND_MORE || !is_at(line, from, b'"') {
         return None;
     }
-    let Some(name) = string_end(line, is_unescaped, marks, from) else {
+    let Some(name) = string_end(line, escape, marks, from) else {
         return None;
     };
     let colon = next_token(line, marks_behind(marks, 2), name.end);
@@ -327,10 +324,9 @@ fn word_at(line: &[u8], marks: &[u32], from: usize, word: &[u8], kind: Kind) -> 
 
 /// The string at `from`, as a value.
 #[inline(always)]
-pub(super) fn text_at(line: &[u8], is_unescaped: bool, marks: &[u32], from: usize) -> Option<Scalar>
-    requires unescaped { is_unescaped ≡ true → IsUnescaped line.now }
+pub(super) fn text_at(line: &[u8], escape: usize, marks: &[u32], from: usize) -> Option<Scalar>
+    requires line { IsReadable line.now escape }
     requires opens { Has line.now from 0x22 }
-    requires utf8 { IsUtf8 line.now }
     requires ahead { IsAhead line.now from marks.now }
     ensures within { IfSome result (λ r. (from < r.end) × (r.end ≤ length line.now)) }
     ensures ahead { IfSome result (λ r. IsPassed line.now marks.now r.marks r.end) }
@@ -339,7 +335,7 @@ pub(super) fn text_at(line: &[u8], is_unescaped: bool, marks: &[u32], from: usiz
     ensures found { IfSome result (λ r. FoundScalar line.now from r) }
     ensures none { IfNone result (NoValue line.now from) }
 {
-    let Some(string) = string_end(line, is_unescaped, marks, from) else {
+    let Some(string) = string_end(line, escape, marks, from) else {
         return None;
     };
     Some(Scalar {

@@ -1,11 +1,9 @@
-use Rattle.std.proofs.Common.{◌≡◌, List, ℕ, Bool, true, false, not, sym, subst, length, [], refl, None, ap, arith}
-use Rattle.std.proofs.lemmas.Bool.{true≢false}
+use Rattle.std.proofs.Common.{List, ℕ, sym, subst, length, [], refl, None, ap, arith}
 use Rattle.jp_tape.specs.declared.builder.machine.Builder.{Builder}
 use Rattle.jp_tape.specs.declared.builder.machine.Turn.{Turn}
 use Rattle.jp_tape.specs.declared.builder.machine.Turn.TheVariants as turns
 use Rattle.jp_tape.specs.Machine.{Value_at, Reached}
 use Rattle.jp_tape.specs.Ahead.{IsNext, IsAheadOf}
-use Rattle.jp_tape.specs.Places.{IsUnescaped}
 use Rattle.jp_tape.proofs.Nesting.{deep_opens}
 use Rattle.jp_tape.proofs.Ahead.{all_ahead, begins_first}
 use Rattle.jp_tape.specs.Names.{all_points}
@@ -55,17 +53,13 @@ settle-requires-clause-reached c =
     ] in
     reached_then line value c.in_ok-read.read c.if-turns-eq0.builder c.read_on.new.self here c.in_ok-read.ensures.goes_on
 
-unescaped : (line : List ℕ) (b : Bool) → (b ≡ false → IsUnescaped line) → not b ≡ true → IsUnescaped line
-unescaped line true f h = absurd (true≢false (sym h))
-unescaped line false f h = f refl
-
 pub fault_of_deep-requires : goal.fault_of_deep-requires
 fault_of_deep-requires c =
     let line = c.args.line.now in
     let b = c.loop-turn.builder in
     let here : Reached line (turns.TooDeep c.in-TooDeep.at c.in-TooDeep.is_object) b = subst (λ (t : Turn). Reached line t b) c.in-TooDeep.is c.loop-turn.invariant.reached in
     record {
-      line = record { utf8 = c.requires.utf8; room = c.requires.room; unescaped = unescaped line _ c.has_escape-is_unescaped.ensures.none };
+      line = record { utf8 = c.requires.utf8; room = c.requires.room; unescaped = c.first_escape-escape.ensures.before };
       reached = here;
       some = (deep_opens line c.in-TooDeep.at c.in-TooDeep.is_object b here).1;
       ahead = subst (λ (t : Turn). IsAheadOf line c.loop-turn.turns t b) c.in-TooDeep.is c.loop-turn.invariant.ahead;

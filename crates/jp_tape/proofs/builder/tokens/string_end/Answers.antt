@@ -15,7 +15,7 @@ pub returns-then-is_plain_between-clause-found : goal.returns-then-is_plain_betw
 returns-then-is_plain_between-clause-found c =
     let e = c.in-Some.ensures in
     let plain = c.is_plain_between.ensures c.if-is_plain_between.true in
-    let t = plain_body c.args.line.now c.args.from c.in-Some.last c.requires.utf8 c.requires.opens e.within e.quote plain in
+    let t = plain_body c.args.line.now c.args.from c.in-Some.last c.requires.line.utf8 c.requires.opens e.within e.quote plain in
     spelled_string c.args.line.now c.args.from c.in-Some.last false t.0 c.requires.opens e.quote t.1 t.2
 
 pub returns-in-None-clause-none : goal.returns-in-None-clause-none

@@ -43,7 +43,7 @@ count_child-requires c =
     let few = c.requires.few in
     let order = c.requires.white.order in
     let within = c.requires.white.within in
-    let room = c.requires.room in
+    let room = c.requires.line.room in
     omega (arith, n, few, order, within, room)
 
 pub returns-then-is_at-clause-goes_on : goal.returns-then-is_at-clause-goes_on
