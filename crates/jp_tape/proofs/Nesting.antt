@@ -14,7 +14,7 @@ use Rattle.jp_tape.specs.declared.builder.tokens.Label.{Label}
 use Rattle.jp_tape.specs.declared.builder.tokens.Scalar.{Scalar}
 use Rattle.jp_tape.specs.Places.{Stops}
 use Rattle.jp_tape.specs.Reading.{container_if, FoundScalar, NoValue, FoundLabel, NoLabel}
-use Rattle.jp_tape.specs.Machine.{Frame, State, Value_at, After_value, Finished, Completes, Alike, IsStuck, Stands, Reached, flags_of, no_container, opens, open_of, open_depth, is_object}
+use Rattle.jp_tape.specs.Machine.{Frame, State, Value_at, After_value, Finished, Completes, Alike, IsStuck, BuilderStands, WalkReached, flags_of, no_container, opens, open_of, open_depth, is_object}
 use Rattle.jp_tape.specs.declared.builder.nesting.Next.{Next}
 use Rattle.jp_tape.specs.declared.builder.nesting.Next.TheVariants as nexts
 use Rattle.jp_tape.specs.Nesting.{are_objects, Leads, IsValueNext, IsValueBehind, NestsTooDeep, IsPast, IsWithin, next_left}
@@ -196,10 +196,10 @@ behind_first : (os rest : List Open) (o first : Open) → 0 < length os → os +
 behind_first [] rest o first l e = absurd (omega (arith, l))
 behind_first (x ∷ os) rest o first l e = ap (λ (xs : List Open). drop 1 xs) e
 
-pub deep_next : (line : List ℕ) (at : ℕ) (flag : Bool) (b : Builder) (os : List Open) (objects : List Bool) → os ≡ b.opened.items → objects ≡ flags_of (take (length os - 1) (drop 1 os) ++ b.innermost ∷ []) → Reached line (turns.TooDeep at flag) b → IsValueNext line at objects 1
+pub deep_next : (line : List ℕ) (at : ℕ) (flag : Bool) (b : Builder) (os : List Open) (objects : List Bool) → os ≡ b.opened.items → objects ≡ flags_of (take (length os - 1) (drop 1 os) ++ b.innermost ∷ []) → WalkReached line (turns.TooDeep at flag) b → IsValueNext line at objects 1
 deep_next line at flag b os objects o e r = go r.state r.stands r.forth r.back
   where
-    go : (x : State) → Stands line (turns.TooDeep at flag) b x → ((whole : Tree) → Text line whole → Completes line x whole) → ((whole : Tree) → Completes line x whole → Text line whole) → IsValueNext line at objects 1
+    go : (x : State) → BuilderStands line (turns.TooDeep at flag) b x → ((whole : Tree) → Text line whole → Completes line x whole) → ((whole : Tree) → Completes line x whole → Text line whole) → IsValueNext line at objects 1
     go (After_value frames own t from) h forth back = absurd h
     go (Finished t) h forth back = absurd h
     go (Value_at frames own from) h forth back =
@@ -213,10 +213,10 @@ deep_next line at flag b os objects o e r = go r.state r.stands r.forth r.back
           leads = record { forth = λ whole t. subst (λ i. Completes line (Value_at frames own i) whole) (sym h.0) (forth whole t); back = λ whole c. back whole (subst (λ i. Completes line (Value_at frames own i) whole) h.0 c) };
         }
 
-pub deep_opens : (line : List ℕ) (at : ℕ) (flag : Bool) (b : Builder) → Reached line (turns.TooDeep at flag) b → Has line at (opening (container_if flag)) × (0 < length b.opened.items)
+pub deep_opens : (line : List ℕ) (at : ℕ) (flag : Bool) (b : Builder) → WalkReached line (turns.TooDeep at flag) b → Has line at (opening (container_if flag)) × (0 < length b.opened.items)
 deep_opens line at flag b r = go r.state r.stands
   where
-    go : (x : State) → Stands line (turns.TooDeep at flag) b x → Has line at (opening (container_if flag)) × (0 < length b.opened.items)
+    go : (x : State) → BuilderStands line (turns.TooDeep at flag) b x → Has line at (opening (container_if flag)) × (0 < length b.opened.items)
     go (After_value frames own t from) h = absurd h
     go (Finished t) h = absurd h
     go (Value_at frames own from) h = let n = outer_count frames b.opened.items b.innermost h.3 in let many = h.2 in (h.1, omega (arith, n, many))

@@ -8,7 +8,7 @@ use Rattle.jp_tape.specs.declared.builder.machine.Open.{Open}
 use Rattle.jp_tape.specs.declared.builder.machine.Turn.{Turn}
 use Rattle.jp_tape.specs.declared.builder.machine.Turn.TheVariants as turns
 use Rattle.jp_tape.specs.Ahead.{HasRoom}
-use Rattle.jp_tape.specs.Machine.{State, Value_at, After_value, Finished, Keeps, Stands, Steps, Reached, IsRoomier, held}
+use Rattle.jp_tape.specs.Machine.{State, Value_at, After_value, Finished, Keeps, BuilderStands, BuilderSteps, WalkReached, IsRoomier, held}
 use Rattle.jp_tape.specs.Names.{all_points}
 
 -- a node is written
@@ -32,7 +32,7 @@ keeps_roomier b new ws os d lone too_long ps repeated r k = record {
   names = λ z. ap all_points r.names ∙ k.names z;
 }
 
-stands_roomier : (line : List ℕ) (turn : Turn) (b new : Builder) → IsRoomier b new → (x : State) → Stands line turn b x → Stands line turn new x
+stands_roomier : (line : List ℕ) (turn : Turn) (b new : Builder) → IsRoomier b new → (x : State) → BuilderStands line turn b x → BuilderStands line turn new x
 stands_roomier line (turns.Value label at) b new r (Value_at frames own from) h = (h.0, h.1, h.2, keeps_roomier b new _ _ _ _ _ _ _ r h.3)
 stands_roomier line (turns.Value label at) b new r (After_value frames own t from) h = absurd h
 stands_roomier line (turns.Value label at) b new r (Finished t) h = absurd h
@@ -46,10 +46,10 @@ stands_roomier line turns.End b new r (Value_at frames own from) h = absurd h
 stands_roomier line turns.End b new r (After_value frames own t from) h = absurd h
 stands_roomier line turns.End b new r (Finished t) h = keeps_roomier b new _ _ _ _ _ _ _ r h
 
-pub reached_roomier : (line : List ℕ) (turn : Turn) (b new : Builder) → IsRoomier b new → Reached line turn b → Reached line turn new
+pub reached_roomier : (line : List ℕ) (turn : Turn) (b new : Builder) → IsRoomier b new → WalkReached line turn b → WalkReached line turn new
 reached_roomier line turn b new r h = record { state = h.state; stands = stands_roomier line turn b new r h.state h.stands; forth = h.forth; back = h.back }
 
 -- a step leads on from what was held
-pub reached_then : (line : List ℕ) (before turn : Turn) (b new : Builder) → Reached line before b → Steps line before b turn new → Reached line turn new
+pub reached_then : (line : List ℕ) (before turn : Turn) (b new : Builder) → WalkReached line before b → BuilderSteps line before b turn new → WalkReached line turn new
 reached_then line before turn b new h s =
     let g = s h.state h.stands in record { state = g.next; stands = g.stands; forth = λ whole t. g.alike.forth whole (h.forth whole t); back = λ whole t. h.back whole (g.alike.back whole t) }

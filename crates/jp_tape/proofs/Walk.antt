@@ -22,7 +22,7 @@ use Rattle.jp_model.specs.declared.LineFault.TheVariants as line_faults
 use Rattle.jp_tape.specs.declared.builder.BuildFault.{BuildFault}
 use Rattle.jp_tape.specs.declared.builder.BuildFault.TheVariants as faults
 use Rattle.jp_tape.specs.Words.{kind_code, nodes_below, label_word, children_words, children_node_count, head_word, span_word, container_code}
-use Rattle.jp_tape.specs.Machine.{Frame, State, Value_at, After_value, Finished, Alike, IsStuck, Keeps, Stands, GoesOn, Steps, NoStep, Labelled, IsCounted, IsClosed, IsInnermost, first_fault, held, no_container, next_parent, next_index, open_count, open_words, open_names, opens, open_of, open_depth, open_surrogate, open_long, open_duplicate, is_object}
+use Rattle.jp_tape.specs.Machine.{Frame, State, Value_at, After_value, Finished, Alike, IsStuck, Keeps, BuilderStands, GoesOn, BuilderSteps, NoBuilderStep, Labelled, IsCounted, IsClosed, IsInnermost, first_fault, held, no_container, next_parent, next_index, open_count, open_words, open_names, opens, open_of, open_depth, open_surrogate, open_long, open_duplicate, is_object}
 use Rattle.jp_tape.proofs.Steps.{scalar_step, no_value_step, empty_step, enter_step, enter_stuck, entered, comma_step, comma_stuck, close_step, neither_stuck, grown, end_step, no_end_stuck}
 use Rattle.jp_tape.proofs.Held.{or_false, or_swap, left_false, right_false, open_length, with_child, outer_names, next_label, next_words, grown_tail, grown_length, grown_few, joined_count, third, innermost_is, outer_is, outer_count, parent_place, child_index, flat_depth, root_depth, not_too_deep, grown_depth, closed_depth, grown_surrogate, grown_long, grown_duplicate, grown_names}
 
@@ -77,7 +77,7 @@ parent_is line frames own b k = parent_place frames b.opened.items b.innermost k
 
 -- a scalar is read
 pub scalar_goes_on : (line : List ℕ) (at label : ℕ) (b new : Builder) (r : Scalar) → FoundScalar line at r →
-    Written b new (head_word (code_of r.kind) 0 b.innermost.place ∷ span_word (record { start = at; end = r.end }) ∷ label ∷ []) r.is_lone r.is_long → Steps line (turns.Value label at) b (turns.After r.end) new
+    Written b new (head_word (code_of r.kind) 0 b.innermost.place ∷ span_word (record { start = at; end = r.end }) ∷ label ∷ []) r.is_lone r.is_long → BuilderSteps line (turns.Value label at) b (turns.After r.end) new
 scalar_goes_on line at label b new r s w (After_value frames own t from) h = absurd h
 scalar_goes_on line at label b new r s w (Finished t) h = absurd h
 scalar_goes_on line at label b new r s w (Value_at frames own from) h =
@@ -94,7 +94,7 @@ scalar_goes_on line at label b new r s w (Value_at frames own from) h =
       alike = subst (λ f. Alike line (Value_at frames own f) (After_value frames own t r.end)) h.1 (scalar_step line frames own at r s);
     }
 
-pub no_value : (line : List ℕ) (at label : ℕ) (b : Builder) → NoValue line at → NoStep line (turns.Value label at) b
+pub no_value : (line : List ℕ) (at label : ℕ) (b : Builder) → NoValue line at → NoBuilderStep line (turns.Value label at) b
 no_value line at label b n (After_value frames own t from) h = absurd h
 no_value line at label b n (Finished t) h = absurd h
 no_value line at label b n (Value_at frames own from) h = no_value_step line frames own from (subst (λ x. NoValue line x) h.1 n)
@@ -102,7 +102,7 @@ no_value line at label b n (Value_at frames own from) h = no_value_step line fra
 -- an empty container is read
 pub empty_goes_on : (line : List ℕ) (at place label : ℕ) (b new : Builder) (kind : Container) → Has line at (opening kind) → White line (at + 1) place → Has line place (closing kind) → length b.opened.items < 512 →
     Written b new (head_word (container_code kind) 0 b.innermost.place ∷ span_word (record { start = at; end = place + 1 }) ∷ label ∷ []) false false →
-    Steps line (turns.Value label at) b (turns.After (place + 1)) new
+    BuilderSteps line (turns.Value label at) b (turns.After (place + 1)) new
 empty_goes_on line at place label b new kind o w c few r (After_value frames own t from) h = absurd h
 empty_goes_on line at place label b new kind o w c few r (Finished t) h = absurd h
 empty_goes_on line at place label b new kind o w c few r (Value_at frames own from) h =
@@ -133,7 +133,7 @@ label_keeps line kind from turn old new l ws os d lone long ps dup k = record {
 }
 
 -- a container that would nest too deep is left to another walk
-pub too_deep : (line : List ℕ) (at label : ℕ) (b : Builder) (flag : Bool) → Has line at (opening (container_if flag)) → 512 ≤ length b.opened.items → Steps line (turns.Value label at) b (turns.TooDeep at flag) b
+pub too_deep : (line : List ℕ) (at label : ℕ) (b : Builder) (flag : Bool) → Has line at (opening (container_if flag)) → 512 ≤ length b.opened.items → BuilderSteps line (turns.Value label at) b (turns.TooDeep at flag) b
 too_deep line at label b flag o many (After_value frames own t from) h = absurd h
 too_deep line at label b flag o many (Finished t) h = absurd h
 too_deep line at label b flag o many (Value_at frames own from) h =
@@ -163,7 +163,7 @@ keeps_entered line frames own b mid at label kind k few n e =
     }
 
 pub enter_goes_on : (line : List ℕ) (at place label : ℕ) (b mid new : Builder) (turn : Turn) (kind : Container) → Has line at (opening kind) → White line (at + 1) place → Stops line place → (Has line place (closing kind) → ⊥) → length b.opened.items < 512 →
-    Entered b mid at label kind → Labelled line kind place turn mid new → Steps line (turns.Value label at) b turn new
+    Entered b mid at label kind → Labelled line kind place turn mid new → BuilderSteps line (turns.Value label at) b turn new
 enter_goes_on line at place label b mid new turn kind o w s c few e l (After_value frames own t from) h = absurd h
 enter_goes_on line at place label b mid new turn kind o w s c few e l (Finished t) h = absurd h
 enter_goes_on line at place label b mid new turn kind o w s c few e l (Value_at frames own from) h =
@@ -177,7 +177,7 @@ enter_goes_on line at place label b mid new turn kind o w s c few e l (Value_at 
       alike = subst (λ y. Alike line (Value_at frames own y) (Value_at inner f.name l.label.value)) h.1 (enter_step line kind at place frames own o w s c l.label f);
     })
 
-pub no_enter : (line : List ℕ) (at place label : ℕ) (b : Builder) (kind : Container) → Has line at (opening kind) → White line (at + 1) place → Stops line place → (Has line place (closing kind) → ⊥) → NoLabel line kind place → NoStep line (turns.Value label at) b
+pub no_enter : (line : List ℕ) (at place label : ℕ) (b : Builder) (kind : Container) → Has line at (opening kind) → White line (at + 1) place → Stops line place → (Has line place (closing kind) → ⊥) → NoLabel line kind place → NoBuilderStep line (turns.Value label at) b
 no_enter line at place label b kind o w s c l (After_value frames own t from) h = absurd h
 no_enter line at place label b kind o w s c l (Finished t) h = absurd h
 no_enter line at place label b kind o w s c l (Value_at frames own from) h = subst (λ f. IsStuck line (Value_at frames own f)) h.1 (enter_stuck line kind at place frames own o w s c l)
@@ -191,14 +191,14 @@ kind_of object = refl
 innermost_kind : (o : Open) (f : Frame) (frames : List Frame) → o ≡ open_of f frames → container_if o.is_object ≡ f.kind
 innermost_kind o f frames e = ap (λ (x : Open). container_if x.is_object) e ∙ kind_of f.kind
 
-pub is_innermost : (line : List ℕ) (at : ℕ) (b : Builder) → 0 < length b.opened.items → (x : State) → Stands line (turns.After at) b x → IsInnermost b.innermost x
+pub is_innermost : (line : List ℕ) (at : ℕ) (b : Builder) → 0 < length b.opened.items → (x : State) → BuilderStands line (turns.After at) b x → IsInnermost b.innermost x
 is_innermost line at b l (Value_at frames own from) h = absurd h
 is_innermost line at b l (Finished t) h = absurd h
 is_innermost line at b l (After_value [] own t from) h = let n = outer_count [] b.opened.items b.innermost h.2.opened in absurd (omega (arith, l, n))
 is_innermost line at b l (After_value (f ∷ frames) own t from) h = innermost_is (f ∷ frames) b.opened.items b.innermost h.2.opened
 
 -- where its node stands, and its names
-pub innermost_place : (line : List ℕ) (at : ℕ) (b : Builder) (o : Open) (x : State) → Stands line (turns.After at) b x → IsInnermost o x → 3 * o.place + 2 < length b.words.items
+pub innermost_place : (line : List ℕ) (at : ℕ) (b : Builder) (o : Open) (x : State) → BuilderStands line (turns.After at) b x → IsInnermost o x → 3 * o.place + 2 < length b.words.items
 innermost_place line at b o (Value_at frames own from) h i = absurd h
 innermost_place line at b o (Finished t) h i = absurd h
 innermost_place line at b o (After_value [] own t from) h i = absurd i
@@ -207,7 +207,7 @@ innermost_place line at b o (After_value (f ∷ frames) own t from) h i =
     let n = ap length h.2.words ∙ grown_length f frames own t in
     omega (arith, p, n)
 
-pub innermost_names : (line : List ℕ) (at : ℕ) (b : Builder) (o : Open) (x : State) → Stands line (turns.After at) b x → IsInnermost o x → o.names ≤ length b.names.items
+pub innermost_names : (line : List ℕ) (at : ℕ) (b : Builder) (o : Open) (x : State) → BuilderStands line (turns.After at) b x → IsInnermost o x → o.names ≤ length b.names.items
 innermost_names line at b o (Value_at frames own from) h i = absurd h
 innermost_names line at b o (Finished t) h i = absurd h
 innermost_names line at b o (After_value [] own t from) h i = absurd i
@@ -218,7 +218,7 @@ innermost_names line at b o (After_value (f ∷ frames) own t from) h i =
     omega (arith, p, n, l)
 
 -- how many children it has
-pub innermost_children : (line : List ℕ) (at : ℕ) (b : Builder) (o : Open) (x : State) → Stands line (turns.After at) b x → IsInnermost o x → 3 * (o.children + 1) ≤ length b.words.items
+pub innermost_children : (line : List ℕ) (at : ℕ) (b : Builder) (o : Open) (x : State) → BuilderStands line (turns.After at) b x → IsInnermost o x → 3 * (o.children + 1) ≤ length b.words.items
 innermost_children line at b o (Value_at frames own from) h i = absurd h
 innermost_children line at b o (Finished t) h i = absurd h
 innermost_children line at b o (After_value [] own t from) h i = absurd i
@@ -250,7 +250,7 @@ keeps_grown line f frames own t b mid k c = record {
 
 pub comma_goes_on : (line : List ℕ) (at next from : ℕ) (b mid new : Builder) (turn : Turn) (o : Open) → White line at next → Has line next 0x2C → White line (next + 1) from → Stops line from → IsCounted b mid →
     Labelled line (container_if o.is_object) from turn mid new →
-    (x : State) → Stands line (turns.After at) b x → IsInnermost o x → GoesOn line x turn new
+    (x : State) → BuilderStands line (turns.After at) b x → IsInnermost o x → GoesOn line x turn new
 comma_goes_on line at next from b mid new turn o w c v s n l (Value_at frames own y) h i = absurd h
 comma_goes_on line at next from b mid new turn o w c v s n l (Finished t) h i = absurd h
 comma_goes_on line at next from b mid new turn o w c v s n l (After_value [] own t y) h i = absurd i
@@ -266,7 +266,7 @@ comma_goes_on line at next from b mid new turn o w c v s n l (After_value (f ∷
     })
 
 pub no_comma : (line : List ℕ) (at next from : ℕ) (b : Builder) (o : Open) → White line at next → Has line next 0x2C → White line (next + 1) from → Stops line from → NoLabel line (container_if o.is_object) from →
-    (x : State) → Stands line (turns.After at) b x → IsInnermost o x → IsStuck line x
+    (x : State) → BuilderStands line (turns.After at) b x → IsInnermost o x → IsStuck line x
 no_comma line at next from b o w c v s l (Value_at frames own y) h i = absurd h
 no_comma line at next from b o w c v s l (Finished t) h i = absurd h
 no_comma line at next from b o w c v s l (After_value [] own t y) h i = absurd i
@@ -274,7 +274,7 @@ no_comma line at next from b o w c v s l (After_value (f ∷ frames) own t y) h 
     subst (λ z. IsStuck line (After_value (f ∷ frames) own t z)) h.0 (comma_stuck line f frames own t at next from w c v s (subst (λ k. NoLabel line k from) (innermost_kind o f frames i) l))
 
 pub no_neither : (line : List ℕ) (at next : ℕ) (b : Builder) (o : Open) → White line at next → Stops line next → (Has line next 0x2C → ⊥) → (Has line next (closing (container_if o.is_object)) → ⊥) →
-    (x : State) → Stands line (turns.After at) b x → IsInnermost o x → IsStuck line x
+    (x : State) → BuilderStands line (turns.After at) b x → IsInnermost o x → IsStuck line x
 no_neither line at next b o w s c d (Value_at frames own y) h i = absurd h
 no_neither line at next b o w s c d (Finished t) h i = absurd h
 no_neither line at next b o w s c d (After_value [] own t y) h i = absurd i
@@ -319,7 +319,7 @@ names_go : (outer inner : List (List ℕ)) (bodies : List Body) (n : ℕ) → n 
 names_go outer inner bodies n e h = sym (drop-map points n bodies) ∙ (ap₂ (λ m (xs : List (List ℕ)). drop m xs) e h ∙ drop-append_seam outer inner)
 
 pub close_goes_on : (line : List ℕ) (at next : ℕ) (b new : Builder) (o : Open) → White line at next → Has line next (closing (container_if o.is_object)) → IsClosed o (next + 1) b new →
-    (x : State) → Stands line (turns.After at) b x → IsInnermost o x → GoesOn line x (turns.After (next + 1)) new
+    (x : State) → BuilderStands line (turns.After at) b x → IsInnermost o x → GoesOn line x (turns.After (next + 1)) new
 close_goes_on line at next b new o w c r (Value_at frames own y) h i = absurd h
 close_goes_on line at next b new o w c r (Finished t) h i = absurd h
 close_goes_on line at next b new o w c r (After_value [] own t y) h i = absurd i
@@ -358,7 +358,7 @@ close_goes_on line at next b new o w c r (After_value (f ∷ frames) own t y) h 
 
 -- ---- the end
 
-pub end_goes_on : (line : List ℕ) (at : ℕ) (b : Builder) → White line at (length line) → length b.opened.items ≡ 0 → Steps line (turns.After at) b turns.End b
+pub end_goes_on : (line : List ℕ) (at : ℕ) (b : Builder) → White line at (length line) → length b.opened.items ≡ 0 → BuilderSteps line (turns.After at) b turns.End b
 end_goes_on line at b w z (Value_at frames own y) h = absurd h
 end_goes_on line at b w z (Finished t) h = absurd h
 end_goes_on line at b w z (After_value (f ∷ frames) own t y) h =
@@ -371,7 +371,7 @@ end_goes_on line at b w z (After_value [] own t y) h =
       alike = subst (λ z. Alike line (After_value [] own t z) (Finished t)) h.0 (end_step line own t at w);
     }
 
-pub no_end : (line : List ℕ) (at next : ℕ) (b : Builder) → White line at next → Stops line next → (next ≡ length line → ⊥) → length b.opened.items ≡ 0 → NoStep line (turns.After at) b
+pub no_end : (line : List ℕ) (at next : ℕ) (b : Builder) → White line at next → Stops line next → (next ≡ length line → ⊥) → length b.opened.items ≡ 0 → NoBuilderStep line (turns.After at) b
 no_end line at next b w s n z (Value_at frames own y) h = absurd h
 no_end line at next b w s n z (Finished t) h = absurd h
 no_end line at next b w s n z (After_value (f ∷ frames) own t y) h =
@@ -406,7 +406,7 @@ opened_is false place n names m at p q = ap₂ (λ (x y : ℕ). record { place =
 alike_then : (line : List ℕ) (x y z : State) → Alike line x y → Alike line y z → Alike line x z
 alike_then line x y z a b = record { forth = λ whole h. b.forth whole (a.forth whole h); back = λ whole h. a.back whole (b.back whole h) }
 
-pub steps_then : (line : List ℕ) (before next last : Turn) (b new end : Builder) → Steps line before b next new → Steps line next new last end → Steps line before b last end
+pub steps_then : (line : List ℕ) (before next last : Turn) (b new end : Builder) → BuilderSteps line before b next new → BuilderSteps line next new last end → BuilderSteps line before b last end
 steps_then line before next last b new end s t x h =
     let g = s x h in
     let i = t g.next g.stands in

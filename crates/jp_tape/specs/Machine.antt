@@ -135,28 +135,35 @@ pub record Keeps (b : Builder) (ws : List ℕ) (os : List Open) (d : ℕ) (lone 
   pub count : length b.names.items ≡ length ps
   pub names : lone ≡ false → all_points b.names.items ≡ ps
 
+-- the builder has read nothing of a line
+pub record IsFresh (b : Builder) : Type 0 where
+  pub words : b.words.items ≡ []
+  pub opened : held b ≡ no_container ∷ []
+  pub names : b.names.items ≡ []
+  pub later : b.later ≡ None
+
 -- the builder holds a whole tree
 abbrev pub IsFinished : List ℕ → Builder → Tree → Type 0
 IsFinished line b t = Keeps b (tape_words t) [] (depth t) (has_surrogate t) (has_long_exponent line t) [] (has_duplicate t)
 
 -- what the builder holds stands for the state
-abbrev pub Stands : List ℕ → Turn → Builder → State → Type 0
-Stands line (turns.Value label at) b (Value_at frames own from) =
+abbrev pub BuilderStands : List ℕ → Turn → Builder → State → Type 0
+BuilderStands line (turns.Value label at) b (Value_at frames own from) =
     (label ≡ label_word (next_index frames) own) × (at ≡ from) × NoRootName frames own
     × Keeps b (open_words frames) (opens frames) (open_depth frames) (open_surrogate frames || name_has_lone_surrogate own) (open_long line frames) (open_names frames ++ name_points own []) (open_duplicate frames)
-Stands line (turns.After at) b (After_value frames own t from) =
+BuilderStands line (turns.After at) b (After_value frames own t from) =
     (at ≡ from) × NoRootName frames own
     × Keeps b (open_words frames ++ words_from (open_count frames) (next_parent frames) (next_index frames) own t) (opens frames) (max (open_depth frames) (length frames + depth t)) ((open_surrogate frames || name_has_lone_surrogate own) || has_surrogate t) (open_long line frames || has_long_exponent line t)
     (open_names frames ++ name_points own []) (open_duplicate frames || has_duplicate t)
-Stands line (turns.TooDeep at flag) b (Value_at frames own from) =
+BuilderStands line (turns.TooDeep at flag) b (Value_at frames own from) =
     (at ≡ from) × Has line at (opening (container_if flag)) × (512 ≤ length frames) × (held b ≡ no_container ∷ opens frames)
-Stands line turns.End b (Finished t) = IsFinished line b t
-Stands line turn b state = ⊥
+BuilderStands line turns.End b (Finished t) = IsFinished line b t
+BuilderStands line turn b state = ⊥
 
 -- the builder goes on from a state to one that completes alike
 pub record GoesOn (line : List ℕ) (x : State) (turn : Turn) (b : Builder) : Type 0 where
   pub next : State
-  pub stands : Stands line turn b next
+  pub stands : BuilderStands line turn b next
   pub alike : Alike line x next
 
 -- nothing completes the state
@@ -164,17 +171,17 @@ abbrev pub IsStuck : List ℕ → State → Type 0
 IsStuck line x = (whole : Tree) → Completes line x whole → ⊥
 
 -- a step from what was held
-abbrev pub Steps : List ℕ → Turn → Builder → Turn → Builder → Type 0
-Steps line before b turn new = (x : State) → Stands line before b x → GoesOn line x turn new
+abbrev pub BuilderSteps : List ℕ → Turn → Builder → Turn → Builder → Type 0
+BuilderSteps line before b turn new = (x : State) → BuilderStands line before b x → GoesOn line x turn new
 
 -- there is none
-abbrev pub NoStep : List ℕ → Turn → Builder → Type 0
-NoStep line before b = (x : State) → Stands line before b x → IsStuck line x
+abbrev pub NoBuilderStep : List ℕ → Turn → Builder → Type 0
+NoBuilderStep line before b = (x : State) → BuilderStands line before b x → IsStuck line x
 
 -- what is held completes to the trees of the whole line
-pub record Reached (line : List ℕ) (turn : Turn) (b : Builder) : Type 0 where
+pub record WalkReached (line : List ℕ) (turn : Turn) (b : Builder) : Type 0 where
   pub state : State
-  pub stands : Stands line turn b state
+  pub stands : BuilderStands line turn b state
   pub forth : (whole : Tree) → Text line whole → Completes line state whole
   pub back : (whole : Tree) → Completes line state whole → Text line whole
 
@@ -239,8 +246,8 @@ pub record IsRoomier (old new : Builder) : Type 0 where
   pub rest : new ≡ record old { words = new.words; names = new.names }
 
 -- some state is held
-abbrev pub Holds : List ℕ → Turn → Builder → Type 0
-Holds line turn b = (x : State) × Stands line turn b x
+abbrev pub BuilderHolds : List ℕ → Turn → Builder → Type 0
+BuilderHolds line turn b = (x : State) × BuilderStands line turn b x
 
 -- the innermost container is closed
 pub record IsClosed (container : Open) (end : ℕ) (old new : Builder) : Type 0 where

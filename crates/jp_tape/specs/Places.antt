@@ -1,5 +1,5 @@
 -- Where tokens end.
-use Rattle.std.specs.Prelude.{◌≡◌, ℕ, ◌+◌, ◌<◌, ◌≤◌, ◌||◌, ◌==◌, Bool, true, false, List, length}
+use Rattle.std.specs.Prelude.{◌≡◌, ℕ, ◌<◌, ◌≤◌, ◌||◌, ◌==◌, Bool, false, List}
 use Rattle.jp_model.specs.Characters.{is_white, is_digit}
 use Rattle.jp_lanes.specs.First.{is_escape}
 use Rattle.jp_lanes.specs.Search.{is_special}

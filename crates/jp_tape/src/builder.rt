@@ -23,6 +23,7 @@ mod scan;
 mod tokens;
 
 use crate::tape::{COMPACT, MEDIUM, Tape, half_bits};
+use crate::word::{Word, has_open_end, kind_of_head};
 use jp_model::{Framing, LineFault};
 pub use machine::Builder;
 use machine::walk;
@@ -45,7 +46,11 @@ fn is_truncated(words: &[u64], line: &[u8], framing: Framing) -> bool
 {
     match framing {
         Framing::Lines => false,
-        Framing::Sequence => words[0] < 4 << 32 && words[1] % (1 << 32) == line.len() as u64,
+        Framing::Sequence => {
+            let kind = kind_of_head(Word::split(words[0]));
+            let end = Word::split(words[1]).low;
+            has_open_end(kind) && end as usize == line.len()
+        }
     }
 }
 

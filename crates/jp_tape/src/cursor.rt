@@ -9,7 +9,7 @@ ghost use Rattle.jp_model.specs.Json.Spelling.{Text, Spells};
 ghost use Rattle.jp_model.specs.Meaning.Nodes.{root_node, step_to, children, subtree, child_count as count_of};
 ghost use Rattle.jp_model.specs.Rows.{source as source_of};
 ghost use Rattle.jp_strings.specs.Points.{IsText, points_of};
-ghost use Rattle.jp_tape.specs.Kinds.{kind_of, kind_by};
+ghost use Rattle.jp_tape.specs.Kinds.{kind_of};
 ghost use Rattle.jp_tape.specs.Contents.{text_in, number_in};
 ghost use Rattle.jp_tape.specs.Forms.{joined, words_in, IsPackedTapeOf};
 ghost use Rattle.jp_tape.specs.Spots.{children_in, last_step, name_points};
@@ -19,7 +19,7 @@ ghost use Rattle.jp_tape.specs.Words.{node_count, tape_words, nodes_below, head_
 
 use crate::Kind;
 use crate::tape::{Tape, half_bits, has_node, word_at};
-use crate::word::Word;
+use crate::word::{Word, kind_of_head};
 use jp_decimal::Decimal;
 use jp_model::Span;
 
@@ -51,21 +51,6 @@ fn unpack(word: Word) -> Span
     Span {
         start: word.high,
         end: word.low,
-    }
-}
-
-/// The kind by the first word of a node.
-fn kind_of_head(word: Word) -> Kind
-    ensures { result ≡ kind_by word.high word.low }
-{
-    match word.high {
-        0 => Kind::Null,
-        1 => Kind::False,
-        2 => Kind::True,
-        3 => Kind::Number,
-        4 => Kind::Text,
-        _ if word.low % 2 == 0 => Kind::Array,
-        _ => Kind::Object,
     }
 }
 

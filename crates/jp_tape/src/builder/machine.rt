@@ -13,7 +13,7 @@ ghost use Rattle.jp_tape.specs.Words.{head_word, span_word, container_code};
 ghost use Rattle.jp_tape.specs.Places.{Stops};
 ghost use Rattle.jp_tape.specs.Ahead.{HasRoom, IsAhead, IsAheadOf, IsNext, IsPassed, first_or, name_marks};
 ghost use Rattle.jp_tape.specs.Reading.{IsReadable, body_word, code_of, container_if, FoundScalar, FoundLabel, IsPlainLabel, NoLabel, OnFault};
-ghost use Rattle.jp_tape.specs.Machine.{Steps, NoStep, Reached, IsWithin, IsBehind, IsSettled, Labelled, IsFinished, IsCounted, IsClosed, IsRoomier, Holds, first_fault, flags_of, held, no_container};
+ghost use Rattle.jp_tape.specs.Machine.{BuilderSteps, NoBuilderStep, WalkReached, IsWithin, IsBehind, IsSettled, Labelled, IsFinished, IsCounted, IsClosed, IsRoomier, BuilderHolds, IsFresh, first_fault, flags_of};
 ghost use Rattle.jp_tape.specs.Refusals.{IsFaultOf};
 ghost use Rattle.jp_tape.specs.declared.builder.machine.Open.{Open};
 ghost use Rattle.jp_tape.specs.declared.builder.machine.Turn.TheVariants as turns;
@@ -27,6 +27,7 @@ use super::nesting::Nesting;
 use super::scan::{is_at, marks_behind, next_token, skip_white};
 use super::tokens::{Label, Scalar, name_at, no_name, scalar_at, text_at};
 use crate::Kind;
+use crate::word::code;
 use jp_model::{LineFault, Span};
 use std::alloc::{AllocError, Global};
 
@@ -111,21 +112,6 @@ pub(super) fn closing_of(is_object: bool) -> u8
     ensures { result ≡ closing (container_if is_object) }
 {
     if is_object { b'}' } else { b']' }
-}
-
-/// The number of a kind in a node's first word.
-fn code(kind: Kind) -> u64
-    ensures { result ≡ code_of kind }
-{
-    match kind {
-        Kind::Null => 0,
-        Kind::False => 1 << 32,
-        Kind::True => 2 << 32,
-        Kind::Number => 3 << 32,
-        Kind::Text => 4 << 32,
-        Kind::Array => 5 << 32,
-        Kind::Object => (5 << 32) + 1,
-    }
 }
 
 fn container_kind(is_object: bool) -> Kind
@@ -230,11 +216,7 @@ fn leave(opened: &mut Vec<Open>, innermost: &mut Open)
 impl<'a> Builder<'a> {
     /// A builder that has read nothing. Its lists get memory as they grow, and keep it from line to line.
     pub fn new(alloc: Global) -> Builder<'a>
-        ensures words { result.words.items ≡ [] }
-        ensures opened { held result ≡ no_container ∷ [] }
-        ensures names { result.names.items ≡ [] }
-        ensures marks { result.marks.now ≡ [] }
-        ensures later { result.later ≡ None }
+        ensures { IsFresh result }
     {
         Builder {
             alloc,
@@ -250,11 +232,8 @@ impl<'a> Builder<'a> {
 
     /// Forgets the line before.
     fn start(&mut self, marks: &'a [u32])
-        ensures words { self.new.words.items ≡ [] }
-        ensures opened { held self.new ≡ no_container ∷ [] }
-        ensures names { self.new.names.items ≡ [] }
+        ensures fresh { IsFresh self.new }
         ensures marks { self.new.marks.now ≡ marks.now }
-        ensures later { self.new.later ≡ None }
     {
         self.words.clear();
         self.opened.clear();
@@ -354,10 +333,10 @@ impl<'a> Builder<'a> {
         requires opens { Has line.now at (opening (container_if is_object)) }
         requires few { length self.old.words.items ≤ 3 * at }
         requires ahead { IsAheadOf line.now 1 (turns.Value label at) self.old }
-        ensures goes_on { IfOk result (λ turn. Steps line.now (turns.Value label at) self.old turn self.new) }
+        ensures goes_on { IfOk result (λ turn. BuilderSteps line.now (turns.Value label at) self.old turn self.new) }
         ensures behind { IfOk result (λ turn. IsBehind line.now at turn self.new) }
         ensures ahead { (n : ℕ) → HasRoom self.old (suc n) (suc n) → IfOk result (λ turn. IsAheadOf line.now n turn self.new) }
-        ensures stuck { IfErr result (λ fault. OnFault fault (NoStep line.now (turns.Value label at) self.old)) }
+        ensures stuck { IfErr result (λ fault. OnFault fault (NoBuilderStep line.now (turns.Value label at) self.old)) }
     {
         if self.opened.len() >= MOST_DEPTH {
             return Ok(Turn::TooDeep(at, is_object));
@@ -395,7 +374,7 @@ impl<'a> Builder<'a> {
         requires room { scalar.end < 2 ^ 32 }
         requires marks { scalar.marks ≤ length self.old.marks.now }
         requires spare { HasRoom self.old 1 0 }
-        ensures goes_on { (line : List ℕ) → FoundScalar line at scalar → Steps line (turns.Value label at) self.old (turns.After scalar.end) self.new }
+        ensures goes_on { (line : List ℕ) → FoundScalar line at scalar → BuilderSteps line (turns.Value label at) self.old (turns.After scalar.end) self.new }
         ensures marks { self.new.marks.now ≡ drop scalar.marks self.old.marks.now }
         ensures few { length self.new.words.items ≡ length self.old.words.items + 3 }
         ensures spare { (node_count name_count : ℕ) → HasRoom self.old (suc node_count) name_count → HasRoom self.new node_count name_count }
@@ -465,11 +444,11 @@ impl<'a> Builder<'a> {
         requires few { length self.old.words.items ≤ 3 * at }
         requires ahead { IsAhead line.now next self.old.marks.now }
         requires spare { HasRoom self.old 0 1 }
-        requires holds { Holds line.now (turns.After at) self.old }
-        ensures goes_on { IfOk result (λ turn. Steps line.now (turns.After at) self.old turn self.new) }
+        requires holds { BuilderHolds line.now (turns.After at) self.old }
+        ensures goes_on { IfOk result (λ turn. BuilderSteps line.now (turns.After at) self.old turn self.new) }
         ensures behind { IfOk result (λ turn. IsBehind line.now at turn self.new) }
         ensures ahead { (n : ℕ) → HasRoom self.old n (suc n) → IfOk result (λ turn. IsAheadOf line.now n turn self.new) }
-        ensures stuck { IfErr result (λ fault. OnFault fault (NoStep line.now (turns.After at) self.old)) }
+        ensures stuck { IfErr result (λ fault. OnFault fault (NoBuilderStep line.now (turns.After at) self.old)) }
     {
         if self.opened.is_empty() {
             return if next == line.len() {
@@ -503,11 +482,11 @@ impl<'a> Builder<'a> {
         requires few { length self.old.words.items ≤ 3 * at }
         requires ahead { IsAhead line.now at self.old.marks.now }
         requires spare { HasRoom self.old 0 1 }
-        requires holds { Holds line.now (turns.After at) self.old }
-        ensures goes_on { IfOk result (λ turn. Steps line.now (turns.After at) self.old turn self.new) }
+        requires holds { BuilderHolds line.now (turns.After at) self.old }
+        ensures goes_on { IfOk result (λ turn. BuilderSteps line.now (turns.After at) self.old turn self.new) }
         ensures behind { IfOk result (λ turn. IsBehind line.now at turn self.new) }
         ensures ahead { (n : ℕ) → HasRoom self.old n (suc n) → IfOk result (λ turn. IsAheadOf line.now n turn self.new) }
-        ensures stuck { IfErr result (λ fault. OnFault fault (NoStep line.now (turns.After at) self.old)) }
+        ensures stuck { IfErr result (λ fault. OnFault fault (NoBuilderStep line.now (turns.After at) self.old)) }
     {
         let next = skip_white(line, self.marks, at);
         self.follow(line, escape, at, next)
@@ -517,10 +496,10 @@ impl<'a> Builder<'a> {
     #[inline(always)]
     fn settle(&mut self, line: &'a [u8], escape: usize, from: Turn) -> Result<Turn, BuildFault>
         requires line { IsReadable line.now escape }
-        requires reached { Reached line.now from self.old }
+        requires reached { WalkReached line.now from self.old }
         requires within { IsWithin line.now from self.old }
         requires ahead { IsAheadOf line.now 0 from self.old }
-        ensures reached { IfOk result (λ turn. Reached line.now turn self.new) }
+        ensures reached { IfOk result (λ turn. WalkReached line.now turn self.new) }
         ensures behind { IfOk result (λ turn. (k : ℕ) → IsBehind line.now k from self.old → IsBehind line.now k turn self.new) }
         ensures ahead { (n : ℕ) → IsAheadOf line.now n from self.old → IfOk result (λ turn. IsAheadOf line.now n turn self.new) }
         ensures settled { IfOk result IsSettled }
@@ -547,11 +526,11 @@ impl<'a> Builder<'a> {
         requires opens { Has line.now at 0x22 }
         requires few { length self.old.words.items ≤ 3 * at }
         requires ahead { IsAheadOf line.now 1 (turns.Value label at) self.old }
-        requires holds { Holds line.now (turns.Value label at) self.old }
-        ensures goes_on { IfOk result (λ turn. Steps line.now (turns.Value label at) self.old turn self.new) }
+        requires holds { BuilderHolds line.now (turns.Value label at) self.old }
+        ensures goes_on { IfOk result (λ turn. BuilderSteps line.now (turns.Value label at) self.old turn self.new) }
         ensures behind { IfOk result (λ turn. IsBehind line.now at turn self.new) }
         ensures ahead { (n : ℕ) → HasRoom self.old (suc n) (suc n) → IfOk result (λ turn. IsAheadOf line.now n turn self.new) }
-        ensures stuck { IfErr result (λ fault. OnFault fault (NoStep line.now (turns.Value label at) self.old)) }
+        ensures stuck { IfErr result (λ fault. OnFault fault (NoBuilderStep line.now (turns.Value label at) self.old)) }
     {
         let Some(text) = text_at(line, escape, self.marks, at) else {
             return Err(GRAMMAR);
@@ -577,11 +556,11 @@ impl<'a> Builder<'a> {
         requires no_object { byte_at line.now at ≡ 0x7B → ⊥ }
         requires few { length self.old.words.items ≤ 3 * at }
         requires ahead { IsAheadOf line.now 1 (turns.Value label at) self.old }
-        requires holds { Holds line.now (turns.Value label at) self.old }
-        ensures goes_on { IfOk result (λ turn. Steps line.now (turns.Value label at) self.old turn self.new) }
+        requires holds { BuilderHolds line.now (turns.Value label at) self.old }
+        ensures goes_on { IfOk result (λ turn. BuilderSteps line.now (turns.Value label at) self.old turn self.new) }
         ensures behind { IfOk result (λ turn. IsBehind line.now at turn self.new) }
         ensures ahead { (n : ℕ) → HasRoom self.old (suc n) (suc n) → IfOk result (λ turn. IsAheadOf line.now n turn self.new) }
-        ensures stuck { IfErr result (λ fault. OnFault fault (NoStep line.now (turns.Value label at) self.old)) }
+        ensures stuck { IfErr result (λ fault. OnFault fault (NoBuilderStep line.now (turns.Value label at) self.old)) }
     {
         let Some(scalar) = scalar_at(line, self.marks, at) else {
             return Err(GRAMMAR);
@@ -603,11 +582,11 @@ impl<'a> Builder<'a> {
         requires within { at ≤ length line.now }
         requires few { length self.old.words.items ≤ 3 * at }
         requires ahead { IsAheadOf line.now 1 (turns.Value label at) self.old }
-        requires holds { Holds line.now (turns.Value label at) self.old }
-        ensures goes_on { IfOk result (λ turn. Steps line.now (turns.Value label at) self.old turn self.new) }
+        requires holds { BuilderHolds line.now (turns.Value label at) self.old }
+        ensures goes_on { IfOk result (λ turn. BuilderSteps line.now (turns.Value label at) self.old turn self.new) }
         ensures behind { IfOk result (λ turn. IsBehind line.now at turn self.new) }
         ensures ahead { (n : ℕ) → HasRoom self.old (suc n) (suc n) → IfOk result (λ turn. IsAheadOf line.now n turn self.new) }
-        ensures stuck { IfErr result (λ fault. OnFault fault (NoStep line.now (turns.Value label at) self.old)) }
+        ensures stuck { IfErr result (λ fault. OnFault fault (NoBuilderStep line.now (turns.Value label at) self.old)) }
     {
         if at >= line.len() {
             return Err(GRAMMAR);
@@ -626,7 +605,7 @@ impl<'a> Builder<'a> {
     #[inline(never)]
     fn fault_of_deep(&self, line: &'a [u8], escape: usize, at: usize, is_object: bool) -> BuildFault
         requires line { IsReadable line.now escape }
-        requires reached { Reached line.now (turns.TooDeep at is_object) self.now }
+        requires reached { WalkReached line.now (turns.TooDeep at is_object) self.now }
         requires some { 0 < length self.now.opened.items }
         requires ahead { IsNext line.now at self.now.marks.now }
         ensures { IsFaultOf line.now result }

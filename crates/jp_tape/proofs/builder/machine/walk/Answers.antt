@@ -2,7 +2,7 @@ use Rattle.std.proofs.Common.{List, ℕ, sym, subst, length, [], refl, None, ap,
 use Rattle.jp_tape.specs.declared.builder.machine.Builder.{Builder}
 use Rattle.jp_tape.specs.declared.builder.machine.Turn.{Turn}
 use Rattle.jp_tape.specs.declared.builder.machine.Turn.TheVariants as turns
-use Rattle.jp_tape.specs.Machine.{Value_at, Reached}
+use Rattle.jp_tape.specs.Machine.{Value_at, WalkReached}
 use Rattle.jp_tape.specs.Ahead.{IsNext, IsAheadOf}
 use Rattle.jp_tape.proofs.Nesting.{deep_opens}
 use Rattle.jp_tape.proofs.Ahead.{all_ahead, begins_first}
@@ -16,7 +16,7 @@ pub loop-turn-init : goal.loop-turn-init
 loop-turn-init c =
     let line = c.args.line.now in
     let w = c.next_token.ensures in
-    let e = c.start.ensures in
+    let e = c.start.ensures.fresh in
     let n = ap length e.words in
     record {
       reached = record {
@@ -31,7 +31,7 @@ loop-turn-init c =
         back = start_back line c.next_token.result w.white;
       };
       within = (w.white.within, omega (arith, n));
-      ahead = (subst (λ (ms : List ℕ). IsNext line c.next_token.result ms) (sym e.marks) w.next, c.room-turns.ensures.enough);
+      ahead = (subst (λ (ms : List ℕ). IsNext line c.next_token.result ms) (sym c.start.ensures.marks) w.next, c.room-turns.ensures.enough);
       settled = tt;
     }
 
@@ -45,11 +45,11 @@ pub settle-requires-clause-reached : goal.settle-requires-clause-reached
 settle-requires-clause-reached c =
     let line = c.args.line.now in
     let value : Turn = turns.Value c.in-Value.label c.in-Value.at in
-    let before = subst (λ (t : Turn). Reached line t c.loop-turn.builder) c.in-Value.is c.loop-turn.invariant.reached in
-    let here : Reached line value c.if-turns-eq0.builder =
+    let before = subst (λ (t : Turn). WalkReached line t c.loop-turn.builder) c.in-Value.is c.loop-turn.invariant.reached in
+    let here : WalkReached line value c.if-turns-eq0.builder =
     elim c.if-turns-eq0.branch [
-      | then-turns-eq0+in_ok-turns w ↦ subst (λ (b : Builder). Reached line value b) (sym w.builder-is) (reached_roomier line value c.loop-turn.builder w.make_room.new.self w.make_room.ensures.same before)
-      | else-turns-eq0 w ↦ subst (λ (b : Builder). Reached line value b) (sym w.builder-is) before
+      | then-turns-eq0+in_ok-turns w ↦ subst (λ (b : Builder). WalkReached line value b) (sym w.builder-is) (reached_roomier line value c.loop-turn.builder w.make_room.new.self w.make_room.ensures.same before)
+      | else-turns-eq0 w ↦ subst (λ (b : Builder). WalkReached line value b) (sym w.builder-is) before
     ] in
     reached_then line value c.in_ok-read.read c.if-turns-eq0.builder c.read_on.new.self here c.in_ok-read.ensures.goes_on
 
@@ -57,7 +57,7 @@ pub fault_of_deep-requires : goal.fault_of_deep-requires
 fault_of_deep-requires c =
     let line = c.args.line.now in
     let b = c.loop-turn.builder in
-    let here : Reached line (turns.TooDeep c.in-TooDeep.at c.in-TooDeep.is_object) b = subst (λ (t : Turn). Reached line t b) c.in-TooDeep.is c.loop-turn.invariant.reached in
+    let here : WalkReached line (turns.TooDeep c.in-TooDeep.at c.in-TooDeep.is_object) b = subst (λ (t : Turn). WalkReached line t b) c.in-TooDeep.is c.loop-turn.invariant.reached in
     record {
       line = record { utf8 = c.requires.utf8; room = c.requires.room; unescaped = c.first_escape-escape.ensures.before };
       reached = here;

@@ -1,10 +1,10 @@
-use Rattle.jp_tape.specs.Machine.{Reached, IsWithin, IsSettled, turn_left}
+use Rattle.jp_tape.specs.Machine.{WalkReached, IsWithin, IsSettled, turn_left}
 use Rattle.jp_tape.specs.Ahead.{IsAheadOf}
 use Rattle.jp_tape.proofs.builder.machine.walk.Given as goal
 
 abbrev pub invariant-loop-turn : goal.invariant-loop-turn
 invariant-loop-turn l = record {
-  reached : Reached l.line l.turn l.builder;
+  reached : WalkReached l.line l.turn l.builder;
   within : IsWithin l.line l.turn l.builder;
   ahead : IsAheadOf l.line l.turns l.turn l.builder;
   settled : IsSettled l.turn;
