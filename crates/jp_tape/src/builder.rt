@@ -14,13 +14,17 @@ ghost use Rattle.jp_tape.specs.Machine.{IsFinished};
 ghost use Rattle.jp_tape.specs.Refusals.{IsRefused};
 
 mod body;
+mod containers;
 mod escapes;
+mod kept;
 mod keys;
 mod machine;
 mod names;
 mod nesting;
+mod node;
 mod scan;
 mod tokens;
+mod values;
 
 use crate::tape::{COMPACT, MEDIUM, Tape, half_bits};
 use crate::word::{Word, has_open_end, kind_of_head};

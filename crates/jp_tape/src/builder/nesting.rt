@@ -55,7 +55,7 @@ fn leaf_at(line: &[u8], escape: usize, marks: &[u32], at: usize) -> Option<Scala
 
 impl<'a> Nesting<'a> {
     /// Reads what comes before the value of a child, and tells where that begins.
-    fn child(
+    fn child_begin(
         &mut self,
         line: &'a [u8],
         escape: usize,
@@ -83,7 +83,7 @@ impl<'a> Nesting<'a> {
     }
 
     /// Reads the opening bracket at `at`, and what follows it up to the first child's value.
-    fn enter(
+    fn container_begin(
         &mut self,
         line: &'a [u8],
         escape: usize,
@@ -110,14 +110,14 @@ impl<'a> Nesting<'a> {
             return Err(BuildFault::Memory);
         }
         self.are_objects.push_reserved(is_object);
-        match self.child(line, escape, is_object, inside) {
+        match self.child_begin(line, escape, is_object, inside) {
             Ok(value) => Ok(Next::Value(value)),
             Err(fault) => Err(fault),
         }
     }
 
     /// Reads the value at `at`, which is no array and no object.
-    fn scalar(&mut self, line: &'a [u8], escape: usize, at: usize) -> Result<Next, BuildFault>
+    fn read_scalar(&mut self, line: &'a [u8], escape: usize, at: usize) -> Result<Next, BuildFault>
         requires line { IsReadable line.now escape }
         requires inside { at < length line.now }
         requires no_array { byte_at line.now at ≡ 0x5B → ⊥ }
@@ -138,7 +138,7 @@ impl<'a> Nesting<'a> {
     }
 
     /// Reads the value at `at`, or the beginning of it.
-    fn value(&mut self, line: &'a [u8], escape: usize, at: usize) -> Result<Next, BuildFault>
+    fn read_value(&mut self, line: &'a [u8], escape: usize, at: usize) -> Result<Next, BuildFault>
         requires line { IsReadable line.now escape }
         requires within { at ≤ length line.now }
         requires ahead { IsNext line.now at self.old.marks.now }
@@ -153,16 +153,21 @@ impl<'a> Nesting<'a> {
             return Err(GRAMMAR);
         }
         if is_at(line, at, b'{') {
-            return self.enter(line, escape, true, at);
+            return self.container_begin(line, escape, true, at);
         }
         if is_at(line, at, b'[') {
-            return self.enter(line, escape, false, at);
+            return self.container_begin(line, escape, false, at);
         }
-        self.scalar(line, escape, at)
+        self.read_scalar(line, escape, at)
     }
 
     /// Reads what follows a value that ends at `at`.
-    fn follow(&mut self, line: &'a [u8], escape: usize, at: usize) -> Result<Next, BuildFault>
+    fn container_continue(
+        &mut self,
+        line: &'a [u8],
+        escape: usize,
+        at: usize,
+    ) -> Result<Next, BuildFault>
         requires line { IsReadable line.now escape }
         requires within { at ≤ length line.now }
         requires ahead { IsAhead line.now at self.old.marks.now }
@@ -186,7 +191,7 @@ impl<'a> Nesting<'a> {
         if is_at(line, next, b',') {
             self.marks = marks_behind(self.marks, 1);
             let child = next_token(line, self.marks, next + 1);
-            return match self.child(line, escape, is_object, child) {
+            return match self.child_begin(line, escape, is_object, child) {
                 Ok(value) => Ok(Next::Value(value)),
                 Err(fault) => Err(fault),
             };
@@ -200,7 +205,7 @@ impl<'a> Nesting<'a> {
     }
 
     /// Reads what follows arrays, objects and other values, up to the next value or to the end.
-    fn settle(&mut self, line: &'a [u8], escape: usize, from: Next) -> Result<Next, BuildFault>
+    fn until_value(&mut self, line: &'a [u8], escape: usize, from: Next) -> Result<Next, BuildFault>
         requires line { IsReadable line.now escape }
         requires reached { IsReached line.now from self.old.are_objects.items }
         requires ahead { AreMarksOf line.now from self.old.marks.now }
@@ -214,7 +219,7 @@ impl<'a> Nesting<'a> {
     {
         let mut next = from;
         while let Next::After(at) = next {
-            next = self.follow(line, escape, at)?;
+            next = self.container_continue(line, escape, at)?;
         }
         Ok(next)
     }
@@ -234,11 +239,11 @@ impl<'a> Nesting<'a> {
         ensures deep { IfOk result (λ _. NestsTooDeep line.now) }
         ensures refused { IfErr result (λ fault. OnFault fault (IsNoText line.now)) }
     {
-        let entered = self.enter(line, escape, is_object, at)?;
-        let mut next = self.settle(line, escape, entered)?;
+        let entered = self.container_begin(line, escape, is_object, at)?;
+        let mut next = self.until_value(line, escape, entered)?;
         while let Next::Value(at) = next {
-            let read = self.value(line, escape, at)?;
-            next = self.settle(line, escape, read)?;
+            let read = self.read_value(line, escape, at)?;
+            next = self.until_value(line, escape, read)?;
         }
         Ok(())
     }

@@ -41,8 +41,8 @@ next_token-requires-clause-ahead c = all_ahead c.args.line.now c.args.marks.now 
 pub next_token-requires-clause-begins : goal.next_token-requires-clause-begins
 next_token-requires-clause-begins c = begins_first c.args.line.now
 
-pub settle-requires-clause-reached : goal.settle-requires-clause-reached
-settle-requires-clause-reached c =
+pub until_value-requires-clause-reached : goal.until_value-requires-clause-reached
+until_value-requires-clause-reached c =
     let line = c.args.line.now in
     let value : Turn = turns.Value c.in-Value.label c.in-Value.at in
     let before = subst (λ (t : Turn). WalkReached line t c.loop-turn.builder) c.in-Value.is c.loop-turn.invariant.reached in
@@ -51,7 +51,7 @@ settle-requires-clause-reached c =
       | then-turns-eq0+in_ok-turns w ↦ subst (λ (b : Builder). WalkReached line value b) (sym w.builder-is) (reached_roomier line value c.loop-turn.builder w.make_room.new.self w.make_room.ensures.same before)
       | else-turns-eq0 w ↦ subst (λ (b : Builder). WalkReached line value b) (sym w.builder-is) before
     ] in
-    reached_then line value c.in_ok-read.read c.if-turns-eq0.builder c.read_on.new.self here c.in_ok-read.ensures.goes_on
+    reached_then line value c.in_ok-read.read c.if-turns-eq0.builder c.read_value.new.self here c.in_ok-read.ensures.goes_on
 
 pub fault_of_deep-requires : goal.fault_of_deep-requires
 fault_of_deep-requires c =

@@ -9,12 +9,12 @@ returns-in_default-clause-stuck c = no_value c.args.line.now c.args.at c.args.la
 
 pub returns-clause-goes_on : goal.returns-clause-goes_on
 returns-clause-goes_on c =
-    IfOk-weaker c.go_on.result _ _
+    IfOk-weaker c.scalar_end.result _ _
     (λ turn l. steps_then c.args.line.now (turns.Value c.args.label c.args.at) (turns.After c.in-Some.scalar.end) turn c.args.self.now _ _ (c.keep_scalar.ensures.goes_on c.args.line.now c.in-Some.ensures.found) l)
-    c.go_on.ensures.goes_on
+    c.scalar_end.ensures.goes_on
 
-pub go_on-requires-clause-spare : goal.go_on-requires-clause-spare
-go_on-requires-clause-spare c = c.keep_scalar.ensures.spare 0 1 c.requires.ahead.1
+pub scalar_end-requires-clause-spare : goal.scalar_end-requires-clause-spare
+scalar_end-requires-clause-spare c = c.keep_scalar.ensures.spare 0 1 c.requires.ahead.1
 
 pub returns-clause-ahead : goal.returns-clause-ahead
-returns-clause-ahead c n r = c.go_on.ensures.ahead n (c.keep_scalar.ensures.spare n (suc n) r)
+returns-clause-ahead c n r = c.scalar_end.ensures.ahead n (c.keep_scalar.ensures.spare n (suc n) r)

@@ -9,12 +9,12 @@ returns-in_default-clause-stuck c = no_value c.args.line.now c.args.at c.args.la
 
 pub returns-clause-goes_on : goal.returns-clause-goes_on
 returns-clause-goes_on c =
-    IfOk-weaker c.follow.result _ _
+    IfOk-weaker c.container_continue.result _ _
     (λ turn l. steps_then c.args.line.now (turns.Value c.args.label c.args.at) (turns.After c.in-Some.text.end) turn c.args.self.now _ _ (c.keep_scalar.ensures.goes_on c.args.line.now c.in-Some.ensures.found) l)
-    c.follow.ensures.goes_on
+    c.container_continue.ensures.goes_on
 
-pub follow-requires-clause-spare : goal.follow-requires-clause-spare
-follow-requires-clause-spare c = c.keep_scalar.ensures.spare 0 1 c.requires.ahead.1
+pub container_continue-requires-clause-spare : goal.container_continue-requires-clause-spare
+container_continue-requires-clause-spare c = c.keep_scalar.ensures.spare 0 1 c.requires.ahead.1
 
 pub returns-clause-ahead : goal.returns-clause-ahead
-returns-clause-ahead c n r = c.follow.ensures.ahead n (c.keep_scalar.ensures.spare n (suc n) r)
+returns-clause-ahead c n r = c.container_continue.ensures.ahead n (c.keep_scalar.ensures.spare n (suc n) r)

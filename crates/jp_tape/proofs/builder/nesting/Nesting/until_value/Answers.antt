@@ -2,7 +2,7 @@ use Rattle.std.proofs.Common.{subst}
 use Rattle.jp_tape.specs.declared.builder.nesting.Next.{Next}
 use Rattle.jp_tape.specs.Nesting.{IsPast}
 use Rattle.jp_tape.proofs.Nesting.{past_further}
-use Rattle.jp_tape.proofs.builder.nesting.Nesting.settle.Goals as goal
+use Rattle.jp_tape.proofs.builder.nesting.Nesting.until_value.Goals as goal
 
 pub loop-next-preserved : goal.loop-next-preserved
 loop-next-preserved c =

@@ -3,7 +3,7 @@ use Rattle.jp_model.specs.Json.Tree.{Container}
 use Rattle.jp_tape.specs.declared.builder.tokens.Label.{Label}
 use Rattle.jp_tape.specs.Reading.{container_if, FoundLabel}
 use Rattle.jp_tape.proofs.Labels.{found_none}
-use Rattle.jp_tape.proofs.builder.nesting.Nesting.child.Goals as goal
+use Rattle.jp_tape.proofs.builder.nesting.Nesting.child_begin.Goals as goal
 
 pub returns-then-not-is_object-clause-found : goal.returns-then-not-is_object-clause-found
 returns-then-not-is_object-clause-found c =

@@ -1,6 +1,6 @@
 use Rattle.std.proofs.Common.{ℕ}
 use Rattle.jp_tape.specs.Nesting.{IsReached, AreMarksOf, IsWithin, IsPast, next_left}
-use Rattle.jp_tape.proofs.builder.nesting.Nesting.settle.Given as goal
+use Rattle.jp_tape.proofs.builder.nesting.Nesting.until_value.Given as goal
 
 abbrev pub invariant-loop-next : goal.invariant-loop-next
 invariant-loop-next l = record {

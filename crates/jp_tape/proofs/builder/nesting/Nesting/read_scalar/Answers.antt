@@ -1,5 +1,5 @@
 use Rattle.jp_tape.proofs.Nesting.{scalar_behind, no_value_text}
-use Rattle.jp_tape.proofs.builder.nesting.Nesting.scalar.Goals as goal
+use Rattle.jp_tape.proofs.builder.nesting.Nesting.read_scalar.Goals as goal
 
 pub returns-in_default-clause-refused : goal.returns-in_default-clause-refused
 returns-in_default-clause-refused c = no_value_text c.args.line.now c.args.at 0 c.args.self.now.are_objects.items c.in_default.ensures.none c.requires.next

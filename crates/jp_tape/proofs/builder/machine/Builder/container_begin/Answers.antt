@@ -11,7 +11,7 @@ use Rattle.jp_tape.proofs.Held.{or_false}
 use Rattle.jp_tape.proofs.Ahead.{passes_structural, structural_begins, bracket_structural, closing_structural}
 use Rattle.jp_tape.proofs.Room.{room_behind_node}
 use Rattle.jp_tape.proofs.Walk.{node_is, opened_is, empty_goes_on, enter_goes_on, no_enter, too_deep, on_fault}
-use Rattle.jp_tape.proofs.builder.machine.Builder.enter.Goals as goal
+use Rattle.jp_tape.proofs.builder.machine.Builder.container_begin.Goals as goal
 
 -- fewer are open than nest at most
 few : (b : Builder) (n : ℕ) → n ≡ b.opened.len → n < 512 → length b.opened.items < 512
@@ -41,8 +41,8 @@ returns-clause-goes_on c =
     let kind = container_if c.args.is_object in
     let w = c.next_token-inside.ensures in
     let mid : Builder = record { alloc = b.alloc; words = c.write_node-2.new.words; opened = c.push_reserved.new.self; innermost = record { place = _; start = c.args.at; children = 0; names = _; is_object = c.args.is_object }; names = b.names; keys = b.keys; marks = c.marks_behind-self.result; later = b.later } in
-    IfOk-weaker c.next_child.result _ _
-    (λ turn l. enter_goes_on c.args.line.now c.args.at c.next_token-inside.result c.args.label b mid c.next_child.new.self turn kind c.requires.opens w.white w.stops
+    IfOk-weaker c.child_begin.result _ _
+    (λ turn l. enter_goes_on c.args.line.now c.args.at c.next_token-inside.result c.args.label b mid c.child_begin.new.self turn kind c.requires.opens w.white w.stops
     (λ h. c.is_at.ensures.no c.if-is_at.false (subst (λ x. Has c.args.line.now c.next_token-inside.result x) (sym c.closing_of.ensures) h))
     (few b _ (c.len.ensures) c.if-len-ge-MOST_DEPTH.false)
     (record {
@@ -51,17 +51,17 @@ returns-clause-goes_on c =
       names = refl;
       later = refl;
     }) l)
-    c.next_child.ensures.found
+    c.child_begin.ensures.found
 
 pub returns-clause-stuck : goal.returns-clause-stuck
 returns-clause-stuck c =
     let b = c.args.self.now in
     let kind = container_if c.args.is_object in
     let w = c.next_token-inside.ensures in
-    IfErr-weaker c.next_child.result _ _
+    IfErr-weaker c.child_begin.result _ _
     (λ fault. on_fault fault (λ l. no_enter c.args.line.now c.args.at c.next_token-inside.result c.args.label b kind c.requires.opens w.white w.stops
     (λ h. c.is_at.ensures.no c.if-is_at.false (subst (λ x. Has c.args.line.now c.next_token-inside.result x) (sym c.closing_of.ensures) h)) l))
-    c.next_child.ensures.stuck
+    c.child_begin.ensures.stuck
 
 pub marks_behind-self-requires : goal.marks_behind-self-requires
 marks_behind-self-requires c = (passes_structural c.args.line.now c.args.self.now.marks.now c.args.at c.requires.opens.inside (bracket_structural (container_if c.args.is_object) (byte_at c.args.line.now c.args.at) c.requires.opens.is) c.requires.ahead.0.ahead).within
@@ -89,4 +89,4 @@ returns-then-is_at-clause-ahead c n r =
     )
 
 pub returns-clause-ahead : goal.returns-clause-ahead
-returns-clause-ahead c n r = c.next_child.ensures.ahead n (room_behind_node c.args.self.now _ n (suc n) _ _ _ r c.write_node-2.ensures.written c.write_node-2.ensures.capacity refl)
+returns-clause-ahead c n r = c.child_begin.ensures.ahead n (room_behind_node c.args.self.now _ n (suc n) _ _ _ r c.write_node-2.ensures.written c.write_node-2.ensures.capacity refl)

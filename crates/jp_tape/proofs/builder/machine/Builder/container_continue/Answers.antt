@@ -12,7 +12,7 @@ use Rattle.jp_tape.specs.Reading.{container_if}
 use Rattle.jp_tape.proofs.Ahead.{passes_structural, structural_begins, closing_structural}
 use Rattle.jp_tape.proofs.Walk.{on_fault}
 use Rattle.jp_tape.proofs.Walk.{is_innermost, innermost_children, innermost_place, innermost_names, comma_goes_on, no_comma, no_neither, close_goes_on, end_goes_on, no_end}
-use Rattle.jp_tape.proofs.builder.machine.Builder.follow.Goals as goal
+use Rattle.jp_tape.proofs.builder.machine.Builder.container_continue.Goals as goal
 
 pub returns-then-next-line-clause-goes_on : goal.returns-then-next-line-clause-goes_on
 returns-then-next-line-clause-goes_on c =
@@ -53,10 +53,10 @@ returns-then-is_at-clause-goes_on c =
     let b = c.args.self.now in
     let o = c.args.self.now.innermost in
     let some = some_open _ _ b.opened.ok.0 c.if-is_empty.ensures in
-    IfOk-weaker c.next_child.result _ _
-    (λ turn l x h. comma_goes_on c.args.line.now c.args.at c.args.next c.next_token-child.result b c.count_child.new.self c.next_child.new.self turn o w.white (c.is_at.ensures.yes c.if-is_at.true) v.white v.stops (counted_from b c.marks_behind-self.result c.count_child.new.self c.count_child.ensures.counted) l x h
+    IfOk-weaker c.child_begin.result _ _
+    (λ turn l x h. comma_goes_on c.args.line.now c.args.at c.args.next c.next_token-child.result b c.count_child.new.self c.child_begin.new.self turn o w.white (c.is_at.ensures.yes c.if-is_at.true) v.white v.stops (counted_from b c.marks_behind-self.result c.count_child.new.self c.count_child.ensures.counted) l x h
     (is_innermost c.args.line.now c.args.at b some x h))
-    c.next_child.ensures.found
+    c.child_begin.ensures.found
 
 pub returns-then-is_at-clause-stuck : goal.returns-then-is_at-clause-stuck
 returns-then-is_at-clause-stuck c =
@@ -65,10 +65,10 @@ returns-then-is_at-clause-stuck c =
     let b = c.args.self.now in
     let o = c.args.self.now.innermost in
     let some = some_open _ _ b.opened.ok.0 c.if-is_empty.ensures in
-    IfErr-weaker c.next_child.result _ _
+    IfErr-weaker c.child_begin.result _ _
     (λ fault. on_fault fault (λ l x h. no_comma c.args.line.now c.args.at c.args.next c.next_token-child.result b o w.white (c.is_at.ensures.yes c.if-is_at.true) v.white v.stops l x h
     (is_innermost c.args.line.now c.args.at b some x h)))
-    c.next_child.ensures.stuck
+    c.child_begin.ensures.stuck
 
 pub returns-then-not-is_at-clause-stuck : goal.returns-then-not-is_at-clause-stuck
 returns-then-not-is_at-clause-stuck c x h =
@@ -135,7 +135,7 @@ returns-in-Ok-clause-ahead c n r =
     )
 
 pub returns-then-is_at-clause-ahead : goal.returns-then-is_at-clause-ahead
-returns-then-is_at-clause-ahead c n r = c.next_child.ensures.ahead n (c.count_child.ensures.spare n (suc n) (record { words = r.words; names = r.names }))
+returns-then-is_at-clause-ahead c n r = c.child_begin.ensures.ahead n (c.count_child.ensures.spare n (suc n) (record { words = r.words; names = r.names }))
 
-pub next_child-requires-clause-spare : goal.next_child-requires-clause-spare
-next_child-requires-clause-spare c = let r = c.requires.spare in c.count_child.ensures.spare 0 1 (record { words = r.words; names = r.names })
+pub child_begin-requires-clause-spare : goal.child_begin-requires-clause-spare
+child_begin-requires-clause-spare c = let r = c.requires.spare in c.count_child.ensures.spare 0 1 (record { words = r.words; names = r.names })

@@ -7,7 +7,7 @@ use Rattle.jp_tape.specs.Reading.{container_if}
 use Rattle.jp_tape.proofs.Ahead.{passes_structural, structural_begins, closing_structural}
 use Rattle.jp_tape.proofs.Nesting.{inner, inner_kind, comma_next, no_comma_text, close_behind, neither_text, end_deep, no_end_text}
 use Rattle.jp_tape.proofs.Walk.{on_fault}
-use Rattle.jp_tape.proofs.builder.nesting.Nesting.follow.Goals as goal
+use Rattle.jp_tape.proofs.builder.nesting.Nesting.container_continue.Goals as goal
 
 none_open : (n m depth : ℕ) → m ≡ n → depth ≡ m → depth ≡ 0 → n ≡ 0
 none_open n m depth e f z = omega (arith, e, f, z)
@@ -50,7 +50,7 @@ returns-in-Ok-clause-reached c =
     let k = inner_kind c.args.line.now c.args.at flags.items c.index-is_object.result.now _ _ (one_less _ _ _ flags.ok.0 c.len-depth.ensures) c.index-is_object.ensures i in
     let f = c.in-Ok.ensures.found in
     let n = comma_next c.args.line.now c.args.at c.skip_white-next.result c.next_token-child.result flags.items _ w.white (c.is_at.ensures.yes c.if-is_at.true) v.white v.stops f.0 f.1 i k in
-    subst (λ (n : ℕ). IsValueNext c.args.line.now n c.child.new.self.are_objects.items 0) (sym f.2) (subst (λ (bs : List Bool). IsValueNext c.args.line.now f.0.value bs 0) (sym c.child.ensures.same) n)
+    subst (λ (n : ℕ). IsValueNext c.args.line.now n c.child_begin.new.self.are_objects.items 0) (sym f.2) (subst (λ (bs : List Bool). IsValueNext c.args.line.now f.0.value bs 0) (sym c.child_begin.ensures.same) n)
 
 pub returns-in-Err-clause-refused : goal.returns-in-Err-clause-refused
 returns-in-Err-clause-refused c =

@@ -1,7 +1,7 @@
 use Rattle.std.proofs.Common.{ℕ}
 use Rattle.jp_tape.specs.Machine.{WalkReached, IsWithin, IsBehind, turn_left}
 use Rattle.jp_tape.specs.Ahead.{IsAheadOf}
-use Rattle.jp_tape.proofs.builder.machine.Builder.settle.Given as goal
+use Rattle.jp_tape.proofs.builder.machine.Builder.until_value.Given as goal
 
 abbrev pub invariant-loop-turn : goal.invariant-loop-turn
 invariant-loop-turn l = record {

@@ -6,7 +6,7 @@ use Rattle.jp_tape.specs.Reading.{container_if}
 use Rattle.jp_tape.proofs.Ahead.{passes_structural, structural_begins, bracket_structural, closing_structural}
 use Rattle.jp_tape.proofs.Nesting.{empty_behind, child_next, no_child_text}
 use Rattle.jp_tape.proofs.Walk.{on_fault}
-use Rattle.jp_tape.proofs.builder.nesting.Nesting.enter.Goals as goal
+use Rattle.jp_tape.proofs.builder.nesting.Nesting.container_begin.Goals as goal
 
 pub marks_behind-self-requires : goal.marks_behind-self-requires
 marks_behind-self-requires c = (passes_structural c.args.line.now c.args.self.now.marks.now c.args.at c.requires.opens.inside (bracket_structural (container_if c.args.is_object) (byte_at c.args.line.now c.args.at) c.requires.opens.is) c.requires.ahead.ahead).within
@@ -41,8 +41,8 @@ returns-in-Ok-clause-reached c =
     let f = c.in-Ok.ensures.found in
     let v = child_next c.args.line.now c.args.at c.next_token-inside.result c.args.self.now.are_objects.items c.args.is_object c.requires.opens w.white w.stops
     (λ h. c.is_at.ensures.no c.if-is_at.false (subst (λ x. Has c.args.line.now c.next_token-inside.result x) (sym c.closing_of.ensures) h)) f.0 f.1 c.requires.next in
-    subst (λ (n : ℕ). IsValueNext c.args.line.now n c.child.new.self.are_objects.items 0) (sym f.2)
-    (subst (λ (bs : List Bool). IsValueNext c.args.line.now f.0.value bs 0) (sym (c.child.ensures.same ∙ rw c.reserve.ensures.items at c.push_reserved.ensures.items)) v)
+    subst (λ (n : ℕ). IsValueNext c.args.line.now n c.child_begin.new.self.are_objects.items 0) (sym f.2)
+    (subst (λ (bs : List Bool). IsValueNext c.args.line.now f.0.value bs 0) (sym (c.child_begin.ensures.same ∙ rw c.reserve.ensures.items at c.push_reserved.ensures.items)) v)
 
 pub returns-in-Err-clause-refused : goal.returns-in-Err-clause-refused
 returns-in-Err-clause-refused c =
