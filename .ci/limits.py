@@ -87,6 +87,20 @@ def texts_of_brackets(checks):
     checks.check("brackets", answered("\n".join(lines) + "\n", "check\n"), (0, stated))
 
 
+def memory_of_deep_lines(checks):
+    """A line that nests too deep takes at most eight times its size in memory at the peak, whether it is JSON or not."""
+    script = file_of("script", "check\n")
+    for name, opening, closing in (("arrays", "[", "]"), ("elements", "[1,", ""), ("members", '{"a":', ""), ("no end", "[", "")):
+        count = 10 * MILLION // len(opening + closing)
+        lines = file_of("lines", opening * count + closing * count)
+        with subprocess.Popen([PROGRAM, lines, "--script", script], stdout=subprocess.PIPE) as run:
+            output = run.stdout.read().decode()
+            peak = os.wait4(run.pid, 0)[2].ru_maxrss * 1024
+        checks.check(f"deep lines, {name}", output.endswith(CHECKED.format(1, 1)), True)
+        told = f"{peak / os.path.getsize(lines):.1f}"
+        checks.check(f"memory of deep lines, {name}, times the line: {told}", peak <= 8 * os.path.getsize(lines), True)
+
+
 def texts_cut_short(checks):
     """No beginning of a text is a text."""
     text = '{"a":[{"b":1},{"b":2}],"b":3}'
@@ -387,10 +401,10 @@ def sizes(checks):
 
 def main():
     checks = Checks()
-    for part in (texts_of_brackets, texts_cut_short, texts_of_backslashes, texts_of_each_form_of_tape, lines_behind_long_ones,
-                 objects_of_many_members, many_lines, lines_of_one_key, edits_of_many_lines, texts_of_numbers, texts_of_names, queries, patterns,
-                 long_texts, long_numbers, objects_turned, large_objects, filters_from_the_root, conditions_of_the_root,
-                 texts_from_the_root, counts_of_many_nodes, devices, sizes):
+    for part in (texts_of_brackets, memory_of_deep_lines, texts_cut_short, texts_of_backslashes, texts_of_each_form_of_tape,
+                 lines_behind_long_ones, objects_of_many_members, many_lines, lines_of_one_key, edits_of_many_lines, texts_of_numbers,
+                 texts_of_names, queries, patterns, long_texts, long_numbers, objects_turned, large_objects, filters_from_the_root,
+                 conditions_of_the_root, texts_from_the_root, counts_of_many_nodes, devices, sizes):
         part(checks)
     print(f"{checks.passed} passed, {checks.failed} failed")
     return 1 if checks.failed else 0
