@@ -16,3 +16,4 @@ mod RefusalsWritten
 mod Runs
 mod Answering
 mod ScriptSoFar
+mod ToldEnd

@@ -1,5 +1,6 @@
 -- What the contracts of the engine speak of.
 pub mod Arguments
+pub mod Buffered
 pub mod Commands
 pub mod Ends
 pub mod Found

@@ -4,10 +4,12 @@
 //!
 //! - `run`: a whole run
 //! - `read_words`, `Options`: the program's arguments; `CollectionSource`, `ScriptSource`: where they say to read
+//! - `Options::run`: the program's run, within its limits and through a buffer; `Finished`: what it came to
 //! - `End`: how a run ended, with its exit status and message
 #![tactic(auto)]
 
 mod answer;
+mod buffered;
 mod changes;
 mod check;
 mod command;
@@ -22,6 +24,7 @@ mod script;
 mod sources;
 mod words;
 
+pub use buffered::Finished;
 pub use end::End;
 pub use engine::run;
 pub use jp_model::{Framing, RunFault, Setup};

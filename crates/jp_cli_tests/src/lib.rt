@@ -7,6 +7,8 @@
 #![tactic(auto)]
 
 #[cfg(test)]
+mod buffered;
+#[cfg(test)]
 mod devices;
 #[cfg(test)]
 mod faults;

@@ -7,37 +7,26 @@ mod refused;
 use crate::input::StandardInput;
 use crate::refused::refuse_word;
 use clap::error::ErrorKind;
-use jp_cli::{CollectionSource, End, Options, ScriptSource, read_words, run};
-use jp_model::{Framing, RunFault, Setup, Watched};
+use jp_cli::{CollectionSource, End, Options, ScriptSource, read_words};
+use jp_model::Watched;
 use std::alloc::AllocError;
-use std::io::{BufWriter, Read, Write};
+use std::io::Read;
 use std::process::ExitCode;
 use std::{env, fs, io};
 
-/// Runs the script over the collection, and writes to standard output through a buffer.
+/// Runs the script over the collection, and writes to standard output.
 fn run_files<C: Read + Drop, R: Read + Drop>(
     rt: &HostRuntime,
-    framing: Framing,
+    options: &Options<'_>,
     collection: C,
     script: R,
 ) -> End {
-    let setup = Setup {
-        framing,
-        most: u32::MAX,
-        script_most: u32::MAX,
-    };
-    let Ok(out) = BufWriter::new(rt.alloc(), rt.stdout()) else {
-        return End::Memory;
-    };
     let mut collection = Watched::new(collection);
     let mut script = Watched::new(script);
-    let mut out = Watched::new(out);
-    let ended = run(rt.alloc(), setup, &mut collection, &mut script, &mut out);
-    let flushed = out.into_inner().flush();
-    match ended {
-        Ok(()) if flushed.is_err() => End::Run(RunFault::Write),
-        Ok(()) => End::Done,
-        Err(fault) => End::Run(fault),
+    let out = Watched::new(rt.stdout());
+    match options.run(rt.alloc(), &mut collection, &mut script, out) {
+        Ok(finished) => finished.end,
+        Err(AllocError) => End::Memory,
     }
 }
 
@@ -49,13 +38,13 @@ fn run_script<C: Read + Drop>(
     input: StandardInput,
 ) -> End {
     match options.script_source(rt.alloc()) {
-        Ok(ScriptSource::StandardInput) => run_files(rt, options.framing, collection, input),
+        Ok(ScriptSource::StandardInput) => run_files(rt, options, collection, input),
         Ok(ScriptSource::File(file)) => match fs::open(rt, file) {
-            Ok(script) => run_files(rt, options.framing, collection, script),
+            Ok(script) => run_files(rt, options, collection, script),
             Err(_) => End::NoScript,
         },
         Ok(ScriptSource::Commands(script)) => {
-            run_files(rt, options.framing, collection, script.as_bytes())
+            run_files(rt, options, collection, script.as_bytes())
         }
         Err(AllocError) => End::Memory,
     }
