@@ -4,21 +4,21 @@ use Rattle.std.specs.Prelude.{count_by, cond, Option, Result, All}
 use Rattle.std.proofs.lemmas.List.{length-append, take-append-drop}
 use Rattle.std.proofs.lemmas.List.Sums.{sum_by-append}
 use Rattle.jp_model.specs.declared.Framing.{Framing}
-use Rattle.jp_model.specs.declared.Setup.{Setup}
 use Rattle.jp_model.specs.Devices.{Device, Writes}
 use Rattle.jp_model.specs.Plans.{opened}
 use Rattle.jp_model.specs.Query.Status.{QueryStatus, query}
 use Rattle.jp_model.specs.Query.Syntax.{Segments}
 use Rattle.jp_model.specs.Rows as model
 use Rattle.jp_model.specs.Script.Commands.{query_line}
-use Rattle.jp_model.specs.Script.Machine.{row_text, rows_text, is_node, count_line, text_or_nothing, query_answer, statuses}
-use Rattle.jp_store.specs.Collections.{Collection, statuses_in}
+use Rattle.jp_model.specs.Script.Machine.{row_text, rows_text, is_node, count_line, text_or_nothing, query_answer}
+use Rattle.jp_store.specs.Collections.{statuses_in}
 use Rattle.jp_store.specs.declared.view.LineView.{LineView}
 use Rattle.jp_plan.specs.ByLine.{Found, at_place, of_fault, expanded, found_row, node_at, AreInTurn, IsOfItsLine}
 use Rattle.jp_plan.specs.declared.rows.LineRows.{LineRows}
 use Rattle.jp_plan.specs.declared.rows.LineRows.TheVariants as by_line
 use Rattle.jp_cli.specs.Found.{found_text, is_found_node}
-use Rattle.jp_cli.specs.Runs.{FitsSetup, AnswersOne, at, opens, opened_by}
+use Rattle.jp_cli.specs.declared.session.Session.{Session}
+use Rattle.jp_cli.specs.Runs.{AnswersOne, at, opens, opened_by, setup_of}
 use Rattle.jp_cli.proofs.Replied.{stepped}
 
 module _ (f : Framing) (lines : List (List ℕ)) where
@@ -55,21 +55,20 @@ places_counted (by_line.Nodes line view count ∷ ls) ps turn =
 places_counted (by_line.Refused line fault ∷ ls) ps turn =
     omega (arith, places_counted ls ps turn, count_append is_found_node (of_fault line fault ∷ []) (expanded ls ps))
 
-module _ (query_of : List ℕ → QueryStatus) (setup : Setup) (c : Collection) (fits : FitsSetup setup c) (text : List ℕ) (q : Segments) (is : query_of text ≡ query q) where
+module _ (query_of : List ℕ → QueryStatus) (session : Session) (text : List ℕ) (q : Segments) (is : query_of text ≡ query q) where
   -- the rows that were found, and their count, are what a query answers
-  answer_told : (rows : List Found) → map found_row rows ≡ model.rows q (statuses_in c) → All (IsOfItsLine c.state.lines) rows
-      → flat_map (found_text setup.framing) rows ++ count_line (count_by is_found_node rows) ≡ query_answer setup.framing c.state (query_of text)
+  answer_told : (rows : List Found) → map found_row rows ≡ model.rows q (statuses_in session.store) → All (IsOfItsLine session.store.state.lines) rows
+      → flat_map (found_text session.store.framing) rows ++ count_line (count_by is_found_node rows) ≡ query_answer session.store.framing session.store.state (query_of text)
   answer_told rows are on =
-      let whole : map found_row rows ≡ model.rows q (statuses setup.framing c.state.lines) = are ∙ ap (λ (f : Framing). model.rows q (statuses f c.state.lines)) (sym fits.0) in
-      ap₂ (λ (t : List ℕ) (n : ℕ). t ++ count_line n) (texts_told setup.framing c.state.lines rows on) (nodes_told rows)
-      ∙ (ap (rows_text setup.framing c.state.lines) whole ∙ ap (query_answer setup.framing c.state) (sym is))
+      ap₂ (λ (t : List ℕ) (n : ℕ). t ++ count_line n) (texts_told session.store.framing session.store.state.lines rows on) (nodes_told rows)
+      ∙ (ap (rows_text session.store.framing session.store.state.lines) are ∙ ap (query_answer session.store.framing session.store.state) (sym is))
 
   -- it opens the lines of its plan
-  pub lines_are : opens query_of setup c.state (query_line text) ≡ length (opened q c.state.paths (statuses_in c))
-  lines_are = ap (opened_by setup c.state) is ∙ ap (λ (f : Framing). length (opened q c.state.paths (statuses f c.state.lines))) fits.0
+  pub lines_are : opens query_of (setup_of session) session.store.state (query_line text) ≡ length (opened q session.store.state.paths (statuses_in session.store))
+  lines_are = ap (opened_by (setup_of session) session.store.state) is
 
   pub rows_answered : {W A F : Type 0} (contents : W → Option (List ℕ)) (before after : Device W) (result : Result A F) (rows : List Found) (old new : ℕ)
-      → map found_row rows ≡ model.rows q (statuses_in c) → All (IsOfItsLine c.state.lines) rows → new ≡ old + length (opened q c.state.paths (statuses_in c))
-      → Writes contents before after result (flat_map (found_text setup.framing) rows ++ count_line (count_by is_found_node rows)) → AnswersOne query_of contents before after result setup (query_line text) (at c.state old) (at c.state new)
+      → map found_row rows ≡ model.rows q (statuses_in session.store) → All (IsOfItsLine session.store.state.lines) rows → new ≡ old + length (opened q session.store.state.paths (statuses_in session.store))
+      → Writes contents before after result (flat_map (found_text session.store.framing) rows ++ count_line (count_by is_found_node rows)) → AnswersOne query_of contents before after result (setup_of session) (query_line text) (at session.store.state old) (at session.store.state new)
   rows_answered contents before after result rows old new are on n w =
-      stepped query_of setup (query_line text) contents before after result (at c.state old) (at c.state new) _ (answer_told rows are on) refl (n ∙ ap (λ k. old + k) (sym lines_are)) w
+      stepped query_of (setup_of session) (query_line text) contents before after result (at session.store.state old) (at session.store.state new) _ (answer_told rows are on) refl (n ∙ ap (λ k. old + k) (sym lines_are)) w

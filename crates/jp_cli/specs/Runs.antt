@@ -10,13 +10,9 @@ use Rattle.jp_model.specs.Query.Status.{QueryStatus, refused_query, query}
 use Rattle.jp_model.specs.Script.Commands.{Command, query_line, MayWantMemory}
 use Rattle.jp_model.specs.Script.Headline.{BeginsLines, Answered, AnsweredInPart, AnsweredFirst}
 use Rattle.jp_model.specs.Script.Machine.{State, statuses, step, step_unless, run_commands, OnlyForMemory}
-use Rattle.jp_store.specs.Collections.{Collection}
+use Rattle.jp_cli.specs.declared.session.Session.{Session}
 use Rattle.jp_cli.specs.Replies.{reply_text}
 use Rattle.jp_cli.specs.declared.reply.Reply.{Reply}
-
--- the framing and the greatest size of a run are those of its collection, whose meter was had: so no other one is
-abbrev pub FitsSetup : Setup → Collection → Type 0
-FitsSetup setup c = (setup.framing ≡ c.framing) × (setup.most ≡ c.most) × (c.is_metered ≡ true)
 
 -- where a run stands: the state of its collection, and how many lines it opened so far
 pub record Progress : Type 0 where
@@ -25,6 +21,14 @@ pub record Progress : Type 0 where
 
 abbrev pub at : State → ℕ → Progress
 at state opened = record { state = state; opened = opened }
+
+-- the setup of the commands of a session: the framing and the greatest size of its collection, and the greatest size of a script
+abbrev pub setup_of : Session → Setup
+setup_of session = record { framing = session.store.framing; most = session.store.most; script_most = session.script_most }
+
+-- where a session stands
+abbrev pub progress_of : Session → Progress
+progress_of session = at session.store.state session.opened
 
 -- how many lines a query opens, which `explain` tells
 abbrev pub opened_by : Setup → State → QueryStatus → ℕ

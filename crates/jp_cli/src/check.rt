@@ -5,7 +5,7 @@ ghost use Rattle.jp_model.specs.Devices.{Writes};
 ghost use Rattle.jp_model.specs.Script.Machine.{check_answer, refusals_from};
 ghost use Rattle.jp_store.specs.Collections.{line_status, statuses_in};
 
-use jp_model::{Framing, Watched};
+use jp_model::Watched;
 use jp_rows::{WriteFault, write_refusal, write_summary};
 use jp_store::{Status, Store};
 use std::io::Write;
@@ -13,37 +13,32 @@ use std::io::Write;
 /// Writes the row of line `number` where it is refused, and nothing for any other.
 fn write_if_refused<W: Write>(
     store: &Store,
-    framing: Framing,
     number: u32,
     out: &mut Watched<W>,
 ) -> Result<(), WriteFault>
     requires working { out.old.failed ≡ false }
     requires first { 1 ≤ number }
     requires last { number ≤ length store.now.state.lines }
-    ensures text { Writes W.contents out.old out.new result (refusals_from framing number (line_status number store.now ∷ [])) }
+    ensures text { Writes W.contents out.old out.new result (refusals_from store.now.framing number (line_status number store.now ∷ [])) }
     ensures fault { out.new.failed ≡ is_err result }
     ensures after { out.new.after ≡ out.old.after }
 {
     match store.line_status(number) {
-        Status::Refused(fault) => write_refusal(number, fault, framing, out),
+        Status::Refused(fault) => write_refusal(number, fault, store.framing(), out),
         Status::Blank => Ok(()),
         Status::Tree => Ok(()),
     }
 }
 
 /// Writes a row for each refused line.
-fn write_refusals<W: Write>(
-    store: &Store,
-    framing: Framing,
-    out: &mut Watched<W>,
-) -> Result<(), WriteFault>
+fn write_refusals<W: Write>(store: &Store, out: &mut Watched<W>) -> Result<(), WriteFault>
     requires working { out.old.failed ≡ false }
-    ensures text { Writes W.contents out.old out.new result (refusals_from framing 1 (statuses_in store.now)) }
+    ensures text { Writes W.contents out.old out.new result (refusals_from store.now.framing 1 (statuses_in store.now)) }
     ensures fault { out.new.failed ≡ is_err result }
     ensures after { out.new.after ≡ out.old.after }
 {
     for index in 0..store.line_count() {
-        if let Err(fault) = write_if_refused(store, framing, index + 1, out) {
+        if let Err(fault) = write_if_refused(store, index + 1, out) {
             return Err(fault);
         }
     }
@@ -51,18 +46,13 @@ fn write_refusals<W: Write>(
 }
 
 /// Writes the refused lines, and then how many lines there are, how many of them are refused and how many are blank.
-pub(crate) fn write_check<W: Write>(
-    store: &Store,
-    framing: Framing,
-    out: &mut Watched<W>,
-) -> Result<(), WriteFault>
+pub(crate) fn write_check<W: Write>(store: &Store, out: &mut Watched<W>) -> Result<(), WriteFault>
     requires working { out.old.failed ≡ false }
-    requires framing { framing ≡ store.now.framing }
-    ensures text { Writes W.contents out.old out.new result (check_answer framing store.now.state) }
+    ensures text { Writes W.contents out.old out.new result (check_answer store.now.framing store.now.state) }
     ensures fault { out.new.failed ≡ is_err result }
     ensures after { out.new.after ≡ out.old.after }
 {
-    match write_refusals(store, framing, out) {
+    match write_refusals(store, out) {
         Ok(()) => {
             let lines = store.line_count() as usize;
             let refused = store.refused_count();

@@ -7,7 +7,7 @@ ghost use Rattle.jp_model.specs.Script.Commands.{command_of};
 ghost use Rattle.jp_query.specs.Status.{query_of};
 ghost use Rattle.jp_cli.specs.Passed.{given_since};
 
-use crate::script::run_script;
+use crate::session::Session;
 use jp_model::{RunFault, Setup, Watched};
 use jp_store::{LoadFault, Store};
 use std::alloc::Global;
@@ -66,13 +66,13 @@ pub fn run<C: Read, R: Read, W: Write>(
     // No read of the script comes while the writer has bytes unflushed.
     ensures script_early { script.new.early ≡ script.old.early }
 {
-    let mut store = match Store::load(alloc, setup.framing, setup.most, collection) {
+    let store = match Store::load(alloc, setup.framing, setup.most, collection) {
         Ok(store) => store,
         Err(LoadFault::Read) => return Err(RunFault::ReadCollection),
         Err(LoadFault::Size) => return Err(RunFault::Size),
         Err(LoadFault::Framing) => return Err(RunFault::Framing),
         Err(LoadFault::Memory) => return Err(RunFault::Memory),
     };
-    let mut opened = store.meter();
-    run_script(&mut store, &mut opened, alloc, setup, script, out)
+    let mut session = Session::new(alloc, setup.script_most, store);
+    session.run(script, out)
 }

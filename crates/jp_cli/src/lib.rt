@@ -21,6 +21,7 @@ mod query;
 mod reply;
 mod rows;
 mod script;
+mod session;
 mod sources;
 mod words;
 

@@ -1,6 +1,6 @@
 //! What `query` answers: the rows of the selected nodes and of the refused lines, and how many nodes there are.
 
-ghost use Rattle.std.specs.Prelude.{◌≡◌, ◌+◌, ◌^◌, ◌<◌, ◌≤◌, ◌++◌, length, false, is_err, All, IfOk, flat_map, count_by};
+ghost use Rattle.std.specs.Prelude.{◌≡◌, ◌+◌, ◌^◌, ◌<◌, ◌≤◌, ◌++◌, ℕ, List, length, false, is_err, All, IfOk, flat_map, count_by};
 ghost use Rattle.jp_model.specs.Devices.{Writes};
 ghost use Rattle.jp_model.specs.Plans.{opened as opened_lines};
 ghost use Rattle.jp_model.specs.Rows.{rows as rows_of};
@@ -12,11 +12,12 @@ ghost use Rattle.jp_types.specs.Checks.{checked_view};
 ghost use Rattle.jp_store.specs.Collections.{statuses_in};
 ghost use Rattle.jp_plan.specs.ByLine.{found_in, found_rows, IsInTurn, IsPlaceIn, AreOfTheirLines};
 ghost use Rattle.jp_cli.specs.Found.{place_text, found_text, is_found_node};
-ghost use Rattle.jp_cli.specs.Runs.{FitsSetup, AnswersOne, Adds, at, most_lines};
+ghost use Rattle.jp_cli.specs.Runs.{AnswersOne, Adds, most_lines, progress_of, setup_of};
 
 use crate::query::read_query;
 use crate::reply::{refuse_query, write_refused_growth, write_reply};
-use jp_model::{Framing, Setup, Watched};
+use crate::session::Session;
+use jp_model::{Framing, Watched};
 use jp_plan::{LineRows, Plan, Rows, laws};
 use jp_rows::{WriteFault, write_count, write_node, write_refusal};
 use jp_store::{LineView, Opened, Store};
@@ -109,50 +110,47 @@ fn find_rows<'s>(
     plan.rows(opened)
 }
 
-/// Answers a query, whose rows are whole before the first byte is written.
-fn answer_checked<W: Write>(
-    store: &Store,
-    opened: &mut Opened,
-    alloc: Global,
-    setup: Setup,
-    text: &[u8],
-    checked: &Checked,
-    out: &mut Watched<W>,
-) -> Result<(), WriteFault>
-    requires fits { FitsSetup setup store.now }
-    requires query { query_of text.now ≡ query (checked_view checked.now) }
-    requires working { out.old.failed ≡ false }
-    requires room { opened.old + most_lines < 2 ^ 64 }
-    ensures ran { AnswersOne query_of W.contents out.old out.new result setup (query_line text.now) (at store.now.state opened.old) (at store.now.state opened.new) }
-    ensures few { opened.new ≤ opened.old + most_lines }
-    ensures fault { out.new.failed ≡ is_err result }
-    ensures after { out.new.after ≡ out.old.after }
-{
-    match find_rows(alloc, checked, store, opened) {
-        Ok(rows) => write_rows_and_count(&rows, setup.framing, out),
-        Err(_) => write_refused_growth(out),
+impl Session {
+    /// Answers a query, whose rows are whole before the first byte is written.
+    fn answer_checked<W: Write>(
+        &mut self,
+        checked: &Checked,
+        out: &mut Watched<W>,
+    ) -> Result<(), WriteFault>
+        requires working { out.old.failed ≡ false }
+        requires room { self.old.opened + most_lines < 2 ^ 64 }
+        ensures ran { (text : List ℕ) → query_of text ≡ query (checked_view checked.now)
+            → AnswersOne query_of W.contents out.old out.new result (setup_of self.old) (query_line text)
+            (progress_of self.old) (progress_of self.new) }
+        ensures few { self.new.opened ≤ self.old.opened + most_lines }
+        ensures setup { setup_of self.new ≡ setup_of self.old }
+        ensures fault { out.new.failed ≡ is_err result }
+        ensures after { out.new.after ≡ out.old.after }
+    {
+        match find_rows(self.alloc, checked, &self.store, &mut self.opened) {
+            Ok(rows) => write_rows_and_count(&rows, self.store.framing(), out),
+            Err(_) => write_refused_growth(out),
+        }
     }
-}
 
-/// Answers the query that a text spells, or says why it is refused.
-pub(crate) fn answer_query<W: Write>(
-    store: &Store,
-    opened: &mut Opened,
-    alloc: Global,
-    setup: Setup,
-    text: &[u8],
-    out: &mut Watched<W>,
-) -> Result<(), WriteFault>
-    requires fits { FitsSetup setup store.now }
-    requires working { out.old.failed ≡ false }
-    requires room { opened.old + most_lines < 2 ^ 64 }
-    ensures ran { AnswersOne query_of W.contents out.old out.new result setup (query_line text.now) (at store.now.state opened.old) (at store.now.state opened.new) }
-    ensures few { opened.new ≤ opened.old + most_lines }
-    ensures fault { out.new.failed ≡ is_err result }
-    ensures after { out.new.after ≡ out.old.after }
-{
-    match read_query(alloc, text) {
-        Ok(checked) => answer_checked(store, opened, alloc, setup, text, &checked, out),
-        Err(refusal) => write_reply(&refuse_query(refusal), out),
+    /// Answers the query that a text spells, or says why it is refused.
+    pub(crate) fn answer_query<W: Write>(
+        &mut self,
+        text: &[u8],
+        out: &mut Watched<W>,
+    ) -> Result<(), WriteFault>
+        requires working { out.old.failed ≡ false }
+        requires room { self.old.opened + most_lines < 2 ^ 64 }
+        ensures ran { AnswersOne query_of W.contents out.old out.new result (setup_of self.old) (query_line text.now)
+            (progress_of self.old) (progress_of self.new) }
+        ensures few { self.new.opened ≤ self.old.opened + most_lines }
+        ensures setup { setup_of self.new ≡ setup_of self.old }
+        ensures fault { out.new.failed ≡ is_err result }
+        ensures after { out.new.after ≡ out.old.after }
+    {
+        match read_query(self.alloc, text) {
+            Ok(checked) => self.answer_checked(&checked, out),
+            Err(refusal) => write_reply(&refuse_query(refusal), out),
+        }
     }
 }

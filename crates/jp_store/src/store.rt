@@ -115,6 +115,13 @@ impl Store {
         })
     }
 
+    /// How the collection is cut into lines.
+    pub fn framing(&self) -> Framing
+        ensures { result ≡ self.now.framing }
+    {
+        self.framing
+    }
+
     /// The number of lines.
     pub fn line_count(&self) -> u32
         ensures { result ≡ length self.now.state.lines }

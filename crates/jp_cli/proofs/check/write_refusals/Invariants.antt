@@ -9,5 +9,5 @@ abbrev pub invariant-loop-index : goal.invariant-loop-index
 invariant-loop-index g l = record {
   working : l.out.failed ≡ false;
   early : l.out.after ≡ l.initial.out.after;
-  written : Received g.W.Write.contents l.initial.out l.out (refusals_from l.framing 1 (take l.index (statuses_in l.store)));
+  written : Received g.W.Write.contents l.initial.out l.out (refusals_from l.store.framing 1 (take l.index (statuses_in l.store)));
 }

@@ -1,8 +1,12 @@
 -- Where the collection was not loaded, no byte of the script came and none was written; else the run ends as the script does.
-use Rattle.std.proofs.Common.{◌∙◌, ◌||◌, sym, ap, inl}
+use Rattle.std.proofs.Common.{◌∙◌, ◌||◌, ◌≡◌, ◌≤◌, ℕ, length, take, true, sym, ap, ap₂, subst, inl}
 use Rattle.jp_model.specs.Script.Headline.{GivenToRun, RunEnded, WasStarved}
 use Rattle.jp_model.proofs.Devices.{nothing_came, or_true, received_none}
-use Rattle.jp_cli.specs.Runs.{at}
+use Rattle.std.specs.Prelude.{MatchResult}
+use Rattle.jp_model.specs.declared.Setup.{Setup}
+use Rattle.jp_model.specs.Lines.{lines_so_far, text_lines}
+use Rattle.jp_cli.specs.Commands.{asked_in}
+use Rattle.jp_cli.specs.Runs.{Ran, RanFirst, ScriptStopped, progress_of, setup_of}
 use Rattle.jp_store.specs.Collections.{Collection, metered}
 use Rattle.jp_model.specs.Script.Commands.{command_of}
 use Rattle.jp_query.specs.Status.{query_of}
@@ -34,41 +38,43 @@ returns-in-Err-Memory-clause-output g c =
     let starved : WasStarved c.args.setup came.0 = record { within = why.0; framed = why.1 } in
     (only_collection came.0, came.1, nothing_came g.R.Read.remaining c.args.script.now c.requires.script, inl (starved, received_none g.W.Write.contents c.args.out.now))
 
-pub run_script-requires-clause-fits : goal.run_script-requires-clause-fits
-run_script-requires-clause-fits g c =
-    let is = c.meter-opened.ensures.had ∙ ap metered c.in-Ok.ensures.came.2.3 in
-    (sym (ap (λ (s : Collection). s.framing) is), sym (ap (λ (s : Collection). s.most) is), ap (λ (s : Collection). s.is_metered) is)
-
 pub returns-clause-output : goal.returns-clause-output
 returns-clause-output g c =
     let came = c.in-Ok.ensures.came in
-    let given = c.run_script.ensures.output in
-    let all : GivenToRun = record { collection = came.0; script = given.0 } in (
+    let given = c.run.ensures.output in
+    let all : GivenToRun = record { collection = came.0; script = given.0 } in
+    let store_is = c.new-session.ensures.store ∙ ap metered came.2.3 in
+    let setup_is : setup_of c.new-session.result ≡ c.args.setup =
+    ap₂ (λ (s : Collection) (n : ℕ). let setup : Setup = record { framing = s.framing; most = s.most; script_most = n } in setup) store_is c.new-session.ensures.script_most in (
       all,
       came.1,
       given.1,
-      ends query_of c.args.setup g.W.Write.contents c.args.out.now c.run_script.new.out c.run_script.result (at c.meter-opened.new.self.state c.meter-opened.result) (at c.run_script.new.store.state c.run_script.new.opened) all
-          (came.2.0, (came.2.1, came.2.2)) (ap (λ (s : Collection). s.state) (c.meter-opened.ensures.had ∙ ap metered came.2.3)) given.2,
+      ends query_of c.args.setup g.W.Write.contents c.args.out.now c.run.new.out c.run.result (progress_of c.new-session.result) (progress_of c.run.new.self) all
+          (came.2.0, (came.2.1, came.2.2)) (ap (λ (s : Collection). s.state) store_is)
+          (subst (λ (s : Setup). MatchResult c.run.result
+          (λ _. (given.0.ended ≡ true) × (length given.0.bytes ≤ s.script_most) × Ran query_of asked_in g.W.Write.contents c.args.out.now c.run.new.out s (progress_of c.new-session.result) (text_lines given.0.bytes) (progress_of c.run.new.self))
+          (λ fault. ScriptStopped query_of asked_in g.W.Write.contents c.args.out.now c.run.new.out fault s c.new-session.result.store.state given.0
+          × RanFirst query_of asked_in s (progress_of c.new-session.result) (lines_so_far given.0.ended (take s.script_most given.0.bytes)) (progress_of c.run.new.self))) setup_is given.2),
     )
 
 pub returns-clause-told : goal.returns-clause-told
 returns-clause-told g c =
     let came = c.in-Ok.ensures.came in
     let out = returns-clause-output g c in
-    told_of_all c.run_script.result _ _ _ _ _ out.0.collection.bytes out.0.script.bytes (RunEnded query_of command_of g.W.Write.contents c.args.out.now c.run_script.new.out c.args.setup) out.1.0.left out.2.0.left
-    (both_ended c.run_script.result _ _ (came.1.3 came.2.0) c.run_script.ensures.ended) out.3
+    told_of_all c.run.result _ _ _ _ _ out.0.collection.bytes out.0.script.bytes (RunEnded query_of command_of g.W.Write.contents c.args.out.now c.run.new.out c.args.setup) out.1.0.left out.2.0.left
+    (both_ended c.run.result _ _ (came.1.3 came.2.0) c.run.ensures.ended) out.3
 
 pub returns-clause-ended : goal.returns-clause-ended
 returns-clause-ended g c =
-    let came = c.in-Ok.ensures.came in both_ended c.run_script.result _ _ (came.1.3 came.2.0) c.run_script.ensures.ended
+    let came = c.in-Ok.ensures.came in both_ended c.run.result _ _ (came.1.3 came.2.0) c.run.ensures.ended
 
 pub returns-clause-ends : goal.returns-clause-ends
 returns-clause-ends g c =
     let came = c.in-Ok.ensures.came in
-    both_ended c.run_script.result _ _ (came.1.1 ∙ (ap (λ b. c.args.collection.now.ended || b) came.2.0 ∙ sym (or_true c.args.collection.now.ended))) c.run_script.ensures.end
+    both_ended c.run.result _ _ (came.1.1 ∙ (ap (λ b. c.args.collection.now.ended || b) came.2.0 ∙ sym (or_true c.args.collection.now.ended))) c.run.ensures.end
 
 pub returns-clause-passed : goal.returns-clause-passed
 returns-clause-passed g c =
     let out = returns-clause-output g c in
-    passed_by_all c.run_script.result _ g.C.Read.remaining g.R.Read.remaining _ _ _ _ out.0.collection.bytes out.0.script.bytes
-    (RunEnded query_of command_of g.W.Write.contents c.args.out.now c.run_script.new.out c.args.setup) out.1.0 out.2.0 out.3
+    passed_by_all c.run.result _ g.C.Read.remaining g.R.Read.remaining _ _ _ _ out.0.collection.bytes out.0.script.bytes
+    (RunEnded query_of command_of g.W.Write.contents c.args.out.now c.run.new.out c.args.setup) out.1.0 out.2.0 out.3

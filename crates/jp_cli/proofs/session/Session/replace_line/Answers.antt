@@ -1,0 +1,14 @@
+-- A refused text is told by its fault.
+use Rattle.std.proofs.Common.{sym, subst}
+use Rattle.jp_query.specs.Status.{query_of}
+use Rattle.jp_model.specs.Script.Commands.{replace_line}
+use Rattle.jp_store.specs.Collections.{Collection}
+use Rattle.jp_cli.specs.Runs.{RepliesTo, setup_of}
+use Rattle.jp_cli.proofs.Edited.{replace_refused}
+use Rattle.jp_cli.proofs.session.Session.replace_line.Goals as goal
+
+pub returns-in-Err-clause-replies : goal.returns-in-Err-clause-replies
+returns-in-Err-clause-replies c =
+    let old = c.args.self.now.store in
+    subst (λ (s : Collection). RepliesTo query_of (setup_of c.args.self.now) (replace_line c.args.number c.args.text.now) old.state s.state c.refuse_edit-in-Err.result) (sym c.in-Err.ensures.1)
+    (replace_refused query_of c.args.self.now c.args.text.now c.args.number c.in-Err.fault c.refuse_edit-in-Err.result c.in-Err.ensures.0 c.refuse_edit-in-Err.ensures)
