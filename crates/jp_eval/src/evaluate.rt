@@ -1,10 +1,10 @@
-//! What queries select, and when an expression holds of a node (RFC 9535, sections 2.1 to 2.5).
+//! What queries select (RFC 9535, sections 2.1 to 2.5).
 
 ghost use Rattle.std.specs.Prelude.{◌≡◌, ◌++◌, [], ◌∷◌, true, map, IfOk, OnOk, OnErr};
-ghost use Rattle.jp_model.specs.Meaning.Selecting.{nodes, truth as truth_of};
-ghost use Rattle.jp_model.specs.Query.Typing.{logical_typed, segments_typed};
-ghost use Rattle.jp_query.specs.Sound.{has_sound_literals, logical_has_sound_literals};
-ghost use Rattle.jp_query.specs.View.{segments_view, logical_view};
+ghost use Rattle.jp_model.specs.Meaning.Selecting.{nodes};
+ghost use Rattle.jp_model.specs.Query.Typing.{segments_typed};
+ghost use Rattle.jp_query.specs.Sound.{has_sound_literals};
+ghost use Rattle.jp_query.specs.View.{segments_view};
 ghost use Rattle.jp_tape.specs.Cursors.{line_of, place_of, node_of};
 ghost use Rattle.jp_eval.specs.Compiled.{program_view};
 ghost use Rattle.jp_eval.specs.Found.{Adds, AreOf, found_in};
@@ -12,7 +12,7 @@ ghost use Rattle.jp_eval.specs.Found.{Adds, AreOf, found_in};
 use crate::compile::Compiler;
 use crate::frame::{ALL, Frame, Run, Walk};
 use crate::program::{Slot, Step};
-use jp_query::{Logical, Origin, Segment};
+use jp_query::Segment;
 use jp_tape::Cursor;
 use std::alloc::{AllocError, Global};
 
@@ -138,37 +138,4 @@ pub fn eval_from<'a>(
 {
     let program = Program::compile(alloc, segments)?;
     program.run(alloc, start, root, out)
-}
-
-/// Whether the expression holds of a node (RFC 9535, section 2.3.5.2): `@` is the node, and `$` is `root`, the root of the
-/// same line. It stops at the first part that decides, and at the first node of a query that is asked for one.
-///
-/// If memory is refused, the answer is `AllocError`.
-pub fn truth<'a>(
-    alloc: Global,
-    expression: &Logical,
-    node: Cursor<'a>,
-    root: Cursor<'a>,
-) -> Result<bool, AllocError>
-    requires line { line_of node ≡ line_of root }
-    requires root { place_of root ≡ 0 }
-    requires literals { logical_has_sound_literals (logical_view expression.now) ≡ true }
-    requires typed { logical_typed (logical_view expression.now) ≡ true }
-    ensures { IfOk result (λ answer. answer ≡ truth_of (logical_view expression.now) (node_of node.entry) (node_of root.entry).tree) }
-{
-    let mut compiler = Compiler::new(alloc);
-    let condition = compiler.compile_logical(Origin::Current, expression)?;
-    let slots = compiler.slots;
-    let mut frame = Frame::new(alloc);
-    let run = Run {
-        alloc,
-        slots: &slots,
-        root: &root,
-    };
-    run.prepare(&mut frame)?;
-    let walk = Walk {
-        run: &run,
-        most: ALL,
-    };
-    walk.holds(node, &condition, &mut frame)
 }

@@ -4,6 +4,7 @@
 //!
 //! - `Program::compile`, `Program::run`, `Program::run_in`: a query, compiled once and run for each line
 //! - `Frame`: what lends its room from line to line
+//! - `Predicate::compile`, `Predicate::holds_in`: a logical expression, compiled once and asked of nodes
 //! - `eval_from`, `truth`: the nodelist of segments; whether an expression holds of a node
 //! - `follow`: the node of a singular path, without memory
 #![tactic(auto)]
@@ -19,6 +20,7 @@ mod evaluate;
 mod frame;
 mod functions;
 mod leaves;
+mod predicate;
 mod program;
 mod question;
 mod roots;
@@ -29,6 +31,7 @@ mod values;
 /// What a call gives that may be refused memory.
 type Result<T> = std::result::Result<T, std::alloc::AllocError>;
 
-pub use evaluate::{Program, eval_from, truth};
+pub use evaluate::{Program, eval_from};
 pub use frame::Frame;
+pub use predicate::{Predicate, truth};
 pub use steps::follow;

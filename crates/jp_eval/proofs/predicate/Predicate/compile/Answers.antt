@@ -1,0 +1,6 @@
+-- No slot comes behind those that are there.
+use Rattle.jp_eval.proofs.Meanings.{whole}
+use Rattle.jp_eval.proofs.predicate.Predicate.compile.Goals as goal
+
+pub returns : goal.returns
+returns c = whole _ _ c.in_ok-condition.ensures
