@@ -14,7 +14,7 @@ use Rattle.jp_masks.specs.Found.{lines_in}
 
 -- ---- behind a line feed
 
-lines_parted : (front rest : List ℕ) → open_line front ≡ [] → text_lines (front ++ rest) ≡ text_lines front ++ text_lines rest
+pub lines_parted : (front rest : List ℕ) → open_line front ≡ [] → text_lines (front ++ rest) ≡ text_lines front ++ text_lines rest
 lines_parted front rest e =
     ap₂ (λ (ls : List (List ℕ)) (l : List ℕ). ls ++ line_unless_empty l)
     (closed-append 10 front rest ∙ ap (λ l. closed_lines front ++ closed_lines (l ++ rest)) e)
@@ -29,13 +29,13 @@ whole first [] = refl
 whole first (next ∷ rest) = ap (λ l. first ∷ l) (whole next rest)
 
 -- all pieces but the last, and the last
-pieces_are : (separator : ℕ) (text : List ℕ) → closed_pieces separator text ++ open_piece separator text ∷ [] ≡ pieces separator text
+pub pieces_are : (separator : ℕ) (text : List ℕ) → closed_pieces separator text ++ open_piece separator text ∷ [] ≡ pieces separator text
 pieces_are separator text =
     let some = pieces_some separator text in
     subst (λ ps. before_last_piece ps ++ last_piece ps ∷ [] ≡ ps) (sym some.2) (whole some.0 some.1)
 
 -- a separator ends the last piece of what stands before it
-pieces_parted : (separator : ℕ) (front rest : List ℕ) → pieces separator (front ++ separator ∷ rest) ≡ pieces separator front ++ pieces separator rest
+pub pieces_parted : (separator : ℕ) (front rest : List ℕ) → pieces separator (front ++ separator ∷ rest) ≡ pieces separator front ++ pieces separator rest
 pieces_parted separator front rest =
     pieces-append separator front (separator ∷ rest)
     ∙ ap (λ ps. closed_pieces separator front ++ ps) (slice_split_at (is_separator separator) (open_piece separator front) separator rest (pieces_clear separator front) (eq-eqb separator separator refl))
@@ -49,7 +49,7 @@ without_empty-append (p ∷ ps) qs = ap (λ ls. line_unless_empty p ++ ls) (with
 behind_first : (first : List ℕ) (rest more : List (List ℕ)) → drop 1 ((first ∷ rest) ++ more) ≡ drop 1 (first ∷ rest) ++ more
 behind_first first rest more = refl
 
-sequence_parted : (front rest : List ℕ) → sequence_texts (front ++ 30 ∷ rest) ≡ sequence_texts front ++ sequence_texts (30 ∷ rest)
+pub sequence_parted : (front rest : List ℕ) → sequence_texts (front ++ 30 ∷ rest) ≡ sequence_texts front ++ sequence_texts (30 ∷ rest)
 sequence_parted front rest =
     let some = pieces_some 30 front in
     ap (λ ps. without_empty (drop 1 ps)) (pieces_parted 30 front rest)
@@ -83,7 +83,7 @@ module _ (text : List ℕ) (least position separator : ℕ) (within : least ≤ 
       ∙ sequence_parted front (drop (least + position + 1) text)
       ∙ ap (λ l. sequence_texts front ++ sequence_texts l) (sym rest)
 
-no_lines : (framing : Framing) → lines_in framing [] ≡ []
+pub no_lines : (framing : Framing) → lines_in framing [] ≡ []
 no_lines framings.Lines = refl
 no_lines framings.Sequence = refl
 

@@ -9,3 +9,4 @@ pub mod Numbered
 pub mod Stored
 pub mod Edits
 pub mod Collected
+pub mod Batches

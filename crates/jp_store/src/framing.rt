@@ -7,7 +7,7 @@ use jp_model::{Framing, is_blank, without_byte_order_mark};
 use memchr::memchr;
 
 /// The byte that separates lines: the line feed, or RS in a sequence (RFC 7464, section 2.2).
-pub(crate) fn separator(framing: Framing) -> u8
+pub fn separator(framing: Framing) -> u8
     ensures { result ≡ separator_of framing }
 {
     match framing {
@@ -16,8 +16,9 @@ pub(crate) fn separator(framing: Framing) -> u8
     }
 }
 
-/// Whether only white space comes before the first record separator of a sequence.
-pub(crate) fn is_framed_text(framing: Framing, bytes: &[u8]) -> bool
+/// Whether only white space comes before the first record separator of a sequence (RFC 7464, section 2.1), behind a byte order
+/// mark in front (RFC 8259, section 8.1).
+pub fn is_framed_text(framing: Framing, bytes: &[u8]) -> bool
     ensures { result ≡ is_framed framing bytes.now }
 {
     match framing {

@@ -9,9 +9,12 @@
 //!   adds one to the count
 //! - `add_index`, `IndexFault`, `drop_index`, `Missing`, `index_count`, `index`, `path_at`: the indexes and their paths, in the
 //!   order in which they were made
+//! - `BatchRoom::read`, `Batch`, `BatchLine`, `LineState`: the lines of a piece of a stream, each read, where no collection is held
+//! - `separator`, `is_framed_text`: the byte that separates lines; what may stand before the first separator
 //! - `append`, `replace`, `EditFault`: a line added at the end, or put in the place of line n, in the text and in every index
 #![tactic(auto)]
 
+mod batch;
 mod collection;
 mod counts;
 mod edits;
@@ -26,6 +29,8 @@ mod store;
 mod text;
 mod view;
 
+pub use batch::{Batch, BatchLine, BatchRoom, LineState};
+pub use framing::{is_framed_text, separator};
 pub use jp_model::Framing;
 use jp_model::LineFault;
 pub use store::Store;

@@ -98,7 +98,7 @@ fn read_line<'a>(
 }
 
 /// Appends the lines of a piece of the bytes, each read, to others, and their tapes to those of others. `marks` lends its memory.
-fn read_piece(
+pub(crate) fn read_piece(
     alloc: Global,
     framing: Framing,
     bytes: &[u8],
