@@ -22,6 +22,7 @@ mod machine;
 mod names;
 mod nesting;
 mod node;
+mod numbers;
 mod scan;
 mod tokens;
 mod values;

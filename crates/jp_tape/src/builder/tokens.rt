@@ -1,23 +1,20 @@
-//! The tokens of a line: strings, numbers, words and names.
+//! The tokens of a line: strings, words and names.
 
-ghost use Rattle.std.specs.Prelude.{◌≡◌, ℕ, ◌+◌, ◌-◌, ◌^◌, ◌<◌, ◌≤◌, Bool, true, false, length, drop, List, Some, None, IfSome, IfNone, IsTrue, IsUtf8, ℤ};
+ghost use Rattle.std.specs.Prelude.{◌≡◌, ℕ, ◌+◌, ◌-◌, ◌^◌, ◌<◌, ◌≤◌, true, false, length, drop, List, Some, None, IfSome, IfNone, IsTrue, IsUtf8};
 ghost use Rattle.std.specs.List.{list_all};
-ghost use Rattle.jp_model.specs.Json.Places.{Has, Reads, byte_at, bytes_between};
-ghost use Rattle.jp_model.specs.Json.Numbers.{AreDigits, IsInt, SpellsNumber, minus_bytes, fraction_bytes, numeral_of, is_long_exponent};
+ghost use Rattle.jp_model.specs.Json.Places.{Has, Reads, byte_at};
 ghost use Rattle.jp_model.specs.Json.Strings.{SpellsBody, has_lone_surrogate};
 ghost use Rattle.jp_model.specs.Json.Spelling.{SpellsString};
 ghost use Rattle.jp_model.specs.Json.Tree.{array, object};
 ghost use Rattle.jp_model.specs.Json.Marks.{may_begin};
-ghost use Rattle.jp_tape.specs.Places.{Ended, Stops, IsUnescaped, IsUnquoted};
-ghost use Rattle.jp_tape.specs.Ahead.{IsAhead, IsNext, IsPassed, IsSolid, first_or, in_token, name_marks};
+ghost use Rattle.jp_tape.specs.Places.{Stops, IsUnescaped, IsUnquoted};
+ghost use Rattle.jp_tape.specs.Ahead.{IsAhead, IsNext, IsPassed, first_or, in_token, name_marks};
 ghost use Rattle.jp_tape.specs.Reading.{IsReadable, FoundScalar, NoValue, FoundLabel, NoLabel, IsPlainLabel};
 ghost use Rattle.jp_strings.specs.Plain.{ArePlain};
 
-use super::scan::{
-    digits_end, is_at, is_number_at, marks_behind, next_token, number_bytes_end, word_end,
-};
+use super::numbers::number_end;
+use super::scan::{is_at, marks_behind, next_token, word_end};
 use crate::Kind;
-use jp_decimal::{Decimal, NumberFault};
 use jp_lanes::first_special;
 use jp_model::Span;
 use jp_strings::{StringFault, test_utf8_body};
@@ -29,13 +26,6 @@ pub(super) struct StringEnd {
     is_lone: bool,
     /// Each byte between its quotes stands for itself.
     is_plain: bool,
-}
-
-/// The end of a number, and whether its exponent is too long.
-#[derive(Clone, Copy)]
-pub(super) struct NumberEnd {
-    end: usize,
-    is_long: bool,
 }
 
 /// A value that is neither an array nor an object.
@@ -140,108 +130,6 @@ fn string_end(line: &[u8], escape: usize, marks: &[u32], from: usize) -> Option<
             is_plain: false,
         }),
         None => None,
-    }
-}
-
-/// The place after a minus sign at `from`, or `from` if there is none.
-#[inline(always)]
-fn behind_minus(line: &[u8], from: usize) -> usize
-    requires inside { from < length line.now }
-    ensures { (negative : Bool) × Reads line.now from result (minus_bytes negative) }
-{
-    if line[from] == b'-' { from + 1 } else { from }
-}
-
-/// The end of the int at `from`, which has no sign.
-#[inline(always)]
-fn int_end(line: &[u8], from: usize) -> Option<usize>
-    requires within { from ≤ length line.now }
-    ensures some { IfSome result (λ to. from < to) }
-    ensures found { IfSome result (λ to. (digits : List ℕ) × IsInt digits × Reads line.now from to digits) }
-{
-    let end = digits_end(line, from);
-    if end == from {
-        return None;
-    }
-    if line[from] == b'0' && end > from + 1 {
-        return None;
-    }
-    Some(end)
-}
-
-/// The end of the fraction part at `from`, or `from` if there is no point.
-#[inline(always)]
-fn fraction_end(line: &[u8], from: usize) -> Option<usize>
-    requires within { from ≤ length line.now }
-    ensures { IfSome result (λ to. (digits : List ℕ) × AreDigits digits × Reads line.now from to (fraction_bytes digits)) }
-{
-    if !is_at(line, from, b'.') {
-        return Some(from);
-    }
-    let end = digits_end(line, from + 1);
-    if end == from + 1 {
-        return None;
-    }
-    Some(end)
-}
-
-/// The end of the number at `from`, where it has no exponent, and no byte of a number follows it.
-#[inline(always)]
-fn plain_number_end(line: &[u8], from: usize) -> Option<usize>
-    requires inside { from < length line.now }
-    ensures within { IfSome result (λ to. (from < to) × (to ≤ length line.now)) }
-    ensures solid { IfSome result (λ to. IsSolid line.now from to) }
-    ensures found { IfSome result (λ to. (m e : ℤ) × SpellsNumber line.now from to m e × Ended line.now to × (is_long_exponent (numeral_of (bytes_between line.now from to)) ≡ false)) }
-{
-    let start = behind_minus(line, from);
-    let Some(point) = int_end(line, start) else {
-        return None;
-    };
-    let Some(end) = fraction_end(line, point) else {
-        return None;
-    };
-    if is_number_at(line, end) {
-        return None;
-    }
-    Some(end)
-}
-
-/// The end of the number at `from`, where no byte of a number follows it. Few have an exponent.
-#[inline(always)]
-fn number_end(line: &[u8], from: usize) -> Option<NumberEnd>
-    requires inside { from < length line.now }
-    requires room { length line.now < 2 ^ 32 }
-    ensures within { IfSome result (λ r. (from < r.end) × (r.end ≤ length line.now)) }
-    ensures solid { IfSome result (λ r. IsSolid line.now from r.end) }
-    ensures found { IfSome result (λ r. (m e : ℤ) × SpellsNumber line.now from r.end m e × Ended line.now r.end × (is_long_exponent (numeral_of (bytes_between line.now from r.end)) ≡ r.is_long)) }
-    ensures none { IfNone result ((to : ℕ) (m e : ℤ) → SpellsNumber line.now from to m e → Ended line.now to → ⊥) }
-{
-    if let Some(end) = plain_number_end(line, from) {
-        return Some(NumberEnd {
-            end,
-            is_long: false,
-        });
-    }
-    any_number_end(line, from)
-}
-
-/// Where a number ends, however it is spelled, as `number_end` finds it.
-fn any_number_end(line: &[u8], from: usize) -> Option<NumberEnd>
-    requires inside { from < length line.now }
-    requires room { length line.now < 2 ^ 32 }
-    ensures within { IfSome result (λ r. (from < r.end) × (r.end ≤ length line.now)) }
-    ensures solid { IfSome result (λ r. IsSolid line.now from r.end) }
-    ensures found { IfSome result (λ r. (m e : ℤ) × SpellsNumber line.now from r.end m e × Ended line.now r.end × (is_long_exponent (numeral_of (bytes_between line.now from r.end)) ≡ r.is_long)) }
-    ensures none { IfNone result ((to : ℕ) (m e : ℤ) → SpellsNumber line.now from to m e → Ended line.now to → ⊥) }
-{
-    let end = number_bytes_end(line, from);
-    match Decimal::read(&line[from..end]) {
-        Ok(_) => Some(NumberEnd {
-            end,
-            is_long: false,
-        }),
-        Err(NumberFault::Exponent) => Some(NumberEnd { end, is_long: true }),
-        Err(NumberFault::Shape) => None,
     }
 }
 

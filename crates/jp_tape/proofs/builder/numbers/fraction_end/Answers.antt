@@ -1,7 +1,7 @@
 use Rattle.std.proofs.Common.{◌<◌, ◌+◌, arith}
 use Rattle.jp_model.specs.Json.Places.{Has}
 use Rattle.jp_tape.proofs.PlainNumbers.{fraction_read}
-use Rattle.jp_tape.proofs.builder.tokens.fraction_end.Goals as goal
+use Rattle.jp_tape.proofs.builder.numbers.fraction_end.Goals as goal
 
 pub returns : goal.returns
 returns c =

@@ -1,8 +1,8 @@
 use Rattle.std.proofs.Common.{◌≡◌, ◌<◌, ◌+◌, arith}
 use Rattle.jp_model.specs.Json.Places.{byte_at}
 use Rattle.jp_tape.proofs.PlainNumbers.{int_read}
-use Rattle.jp_tape.proofs.builder.tokens.int_end.Goals as goal
-use Rattle.jp_tape.proofs.builder.tokens.int_end.Goals.{else-line-from-eq48-via-then-line-from-eq48+else-end-from-2, else-line-from-eq48-via-else-line-from-eq48}
+use Rattle.jp_tape.proofs.builder.numbers.int_end.Goals as goal
+use Rattle.jp_tape.proofs.builder.numbers.int_end.Goals.{else-line-from-eq48-via-then-line-from-eq48+else-end-from-2, else-line-from-eq48-via-else-line-from-eq48}
 
 pub returns-clause-found : goal.returns-clause-found
 returns-clause-found c =

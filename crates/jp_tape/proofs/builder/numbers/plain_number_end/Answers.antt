@@ -2,7 +2,7 @@ use Rattle.std.proofs.Common.{◌∙◌, sym}
 use Rattle.jp_tape.proofs.Ahead.{number_solid}
 use Rattle.jp_tape.proofs.NumberEnds.{inside}
 use Rattle.jp_tape.proofs.PlainNumbers.{parts_there}
-use Rattle.jp_tape.proofs.builder.tokens.plain_number_end.Goals as goal
+use Rattle.jp_tape.proofs.builder.numbers.plain_number_end.Goals as goal
 
 pub returns-clause-found : goal.returns-clause-found
 returns-clause-found c =

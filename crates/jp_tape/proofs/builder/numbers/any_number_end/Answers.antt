@@ -3,7 +3,7 @@ use Rattle.jp_tape.proofs.Ahead.{number_solid}
 use Rattle.jp_tape.proofs.NumberEnds.{number_ends, number_there}
 use Rattle.jp_model.specs.Json.Places.{Reads}
 use Rattle.jp_model.specs.Json.Numbers.{numeral_bytes}
-use Rattle.jp_tape.proofs.builder.tokens.any_number_end.Goals as goal
+use Rattle.jp_tape.proofs.builder.numbers.any_number_end.Goals as goal
 
 pub returns-in-Ok-clause-solid : goal.returns-in-Ok-clause-solid
 returns-in-Ok-clause-solid c = number_solid c.args.line.now c.args.from c.number_bytes_end-end.result c.number_bytes_end-end.ensures.inside
