@@ -1,0 +1,82 @@
+-- Lines that are answered one after another.
+use Rattle.std.proofs.Common.{◌≡◌, ◌∙◌, ◌<◌, ◌≤◌, ℕ, ◌+◌, ◌-◌, List, [], ◌∷◌, ◌++◌, length, refl, sym, ap, append_assoc, append-nil, subst, arith, Bool, true, false, if◌then◌else◌}
+use Rattle.std.specs.Prelude.{zero, suc, count_by, cond}
+use Rattle.std.proofs.lemmas.List.Sums.{sum_by-append, sum_by-cons}
+use Rattle.jp_grep.specs.Rows.{line_message, line_rows, messages_from, output_from}
+use Rattle.jp_grep.specs.Streams.{up_to}
+use Rattle.jp_grep.specs.declared.form.Form.{Form}
+use Rattle.jp_grep.specs.declared.question.Question.{Question}
+
+module _ (test : List ℕ → Bool) where
+  count-cons : (x : List ℕ) (xs : List (List ℕ)) → count_by test (x ∷ xs) ≡ cond (test x) 1 0 + count_by test xs
+  count-cons x xs = sum_by-cons (λ y. cond (test y) 1 0) x xs
+
+  less : (b : Bool) (most count : ℕ) → (if b then most else suc most) - count ≡ suc most - (cond b 1 0 + count)
+  less true most count = omega arith
+  less false most count = omega arith
+
+  -- the line that comes next is among them, where some are wanted
+  pub next_up_to : (most : ℕ) (line : List ℕ) (rest : List (List ℕ)) → 0 < most → up_to test most (line ∷ rest) ≡ line ∷ up_to test (most - cond (test line) 1 0) rest
+  next_up_to zero line rest l = absurd (omega arith)
+  next_up_to (suc most) line rest l = ap (λ n. line ∷ up_to test n rest) (by (test line))
+    where
+      by : (b : Bool) → (if b then most else suc most) ≡ suc most - cond b 1 0
+      by true = omega arith
+      by false = omega arith
+
+  pub none_up_to : (most : ℕ) → up_to test most [] ≡ []
+  none_up_to zero = refl
+  none_up_to (suc most) = refl
+
+  -- of more lines, those behind the first are taken as far as they are wanted then
+  pub up_to-append : (most : ℕ) (xs ys : List (List ℕ)) → up_to test most (xs ++ ys) ≡ up_to test most xs ++ up_to test (most - count_by test (up_to test most xs)) ys
+  up_to-append zero xs ys = ap (λ n. up_to test n ys) (none_less (count_by test (up_to test zero xs)))
+    where
+      none_less : (n : ℕ) → zero ≡ zero - n
+      none_less n = omega arith
+  up_to-append (suc most) [] ys = ap (λ n. up_to test n ys) (all_left (suc most))
+    where
+      all_left : (n : ℕ) → n ≡ n - 0
+      all_left n = omega arith
+  up_to-append (suc most) (x ∷ xs) ys =
+      let k : ℕ = if test x then most else suc most in
+      let taken = up_to test k xs in
+      ap (λ l. x ∷ l) (up_to-append k xs ys)
+      ∙ ap (λ n. x ∷ (taken ++ up_to test n ys)) (less (test x) most (count_by test taken) ∙ ap (λ n. suc most - n) (sym (count-cons x taken)))
+
+  pub count_within : (most : ℕ) (xs : List (List ℕ)) → count_by test (up_to test most xs) ≤ most
+  count_within zero xs = omega arith
+  count_within (suc most) [] = omega arith
+  count_within (suc most) (x ∷ xs) =
+      let taken = up_to test (if test x then most else suc most) xs in
+      subst (λ n. n ≤ suc most) (sym (count-cons x taken)) (by (test x) (count_by test taken) (count_within (if test x then most else suc most) xs))
+    where
+      by : (b : Bool) (c : ℕ) → c ≤ (if b then most else suc most) → cond b 1 0 + c ≤ suc most
+      by true c l = omega (arith, l)
+      by false c l = omega (arith, l)
+
+  pub count-append : (xs ys : List (List ℕ)) → count_by test (xs ++ ys) ≡ count_by test xs + count_by test ys
+  count-append xs ys = sum_by-append (λ y. cond (test y) 1 0) xs ys
+
+  pub count_one : (x : List ℕ) → count_by test (x ∷ []) ≡ cond (test x) 1 0
+  count_one x = omega (arith, count-cons x [])
+
+module _ (question : Question) (form : Form) where
+  pub output-append : (n : ℕ) (xs ys : List (List ℕ)) → output_from question form n (xs ++ ys) ≡ output_from question form n xs ++ output_from question form (n + length xs) ys
+  output-append n [] ys = ap (λ k. output_from question form k ys) (omega arith)
+  output-append n (x ∷ xs) ys =
+      ap (λ l. line_rows question form n x ++ l) (output-append (n + 1) xs ys ∙ ap (λ k. output_from question form (n + 1) xs ++ output_from question form k ys) (omega arith))
+      ∙ sym (append_assoc (line_rows question form n x) (output_from question form (n + 1) xs) (output_from question form (n + length (x ∷ xs)) ys))
+
+  pub messages-append : (n : ℕ) (xs ys : List (List ℕ)) → messages_from form n (xs ++ ys) ≡ messages_from form n xs ++ messages_from form (n + length xs) ys
+  messages-append n [] ys = ap (λ k. messages_from form k ys) (omega arith)
+  messages-append n (x ∷ xs) ys =
+      ap (λ l. line_message form n x ++ l) (messages-append (n + 1) xs ys ∙ ap (λ k. messages_from form (n + 1) xs ++ messages_from form k ys) (omega arith))
+      ∙ sym (append_assoc (line_message form n x) (messages_from form (n + 1) xs) (messages_from form (n + length (x ∷ xs)) ys))
+
+  -- one more line
+  pub output_one : (n : ℕ) (line : List ℕ) → output_from question form n (line ∷ []) ≡ line_rows question form n line
+  output_one n line = append-nil (line_rows question form n line)
+
+  pub messages_one : (n : ℕ) (line : List ℕ) → messages_from form n (line ∷ []) ≡ line_message form n line
+  messages_one n line = append-nil (line_message form n line)

@@ -1,0 +1,10 @@
+-- Lemmas of jpgrep.
+pub mod Marked
+pub mod Cut
+pub mod Position
+pub mod Counted
+pub mod Written
+pub mod Batched
+pub mod Ends
+pub mod Advancing
+pub mod SoFar

@@ -1,0 +1,269 @@
+-- What is answered of a stream so far, and what a step makes of it.
+use Rattle.std.proofs.Common.{◌≡◌, ◌∙◌, ◌+◌, ◌-◌, ◌<◌, ◌^◌, ℕ, List, [], ◌++◌, length, refl, sym, ap, ap₂, subst, append_assoc, append-nil, length-append, arith, Bool, true, false, ◌||◌, ◌&&◌, eqb, ltb, Option, Result, Ok, Err, inl, inr}
+use Rattle.std.specs.Prelude.{IsErrAnd, MatchResult, not}
+use Rattle.std.proofs.lemmas.Bool.{eq-eqb, lt-ltb, ne_eqb}
+use Rattle.jp_model.specs.Devices.{Came, Device, HasEnded, Received, has_no_room, one_more_where}
+use Rattle.jp_model.specs.Lines.{is_framed, lines}
+use Rattle.jp_model.proofs.Devices.{CameToEnd, came_so, was_ended}
+use Rattle.jp_masks.specs.Found.{lines_in}
+use Rattle.jp_rows.proofs.Chains.{Part, both_received, part_more}
+use Rattle.jp_grep.specs.Cuts.{text_of}
+use Rattle.jp_grep.specs.Faults.{is_framing_fault, is_input_fault, is_read_fault}
+use Rattle.jp_grep.specs.Positions.{IsAt}
+use Rattle.jp_grep.specs.Rows.{messages_from, output_from, refused_count, refused_line, selected_count, selected_line, summary_of}
+use Rattle.jp_grep.specs.Searching.{Answers, GoesOnBy, HasAnswered}
+use Rattle.jp_grep.specs.Streams.{lines_come, up_to}
+use Rattle.jp_grep.specs.Watching.{Answered, AnsweredInPart, SearchStopped, SearchedLines, answered, answered_of}
+use Rattle.jp_grep.specs.declared.fault.SearchFault.{SearchFault}
+use Rattle.jp_grep.specs.declared.fault.SearchFault.TheVariants as faults
+use Rattle.jp_grep.specs.declared.form.Form.{Form}
+use Rattle.jp_grep.specs.declared.progress.Progress.{Progress}
+use Rattle.jp_grep.specs.declared.question.Question.{Question}
+use Rattle.jp_grep.specs.declared.stream.Stream.{Stream}
+use Rattle.jp_grep.proofs.Counted.{count-append, messages-append, none_up_to, output-append, up_to-append}
+use Rattle.jp_grep.proofs.Position.{all_answered, all_framed, at_front, closed_now}
+use Rattle.jp_grep.proofs.Written.{none_received, part_next, part_so_far}
+
+-- an error that is handed on
+pub handed : {A E : Type 0} (P : A → Type 0) (Q : E → Type 0) (r : Result A E) (e : E) → IsErrAnd r (λ y. y ≡ e) → Q e → MatchResult r P Q
+handed P Q (Ok x) e h q = absurd h
+handed P Q (Err y) e h q = subst Q (sym h) q
+
+-- a read into some room that gave nothing came to the end
+pub came_to_end : {R : Type 0} (remaining : R → Option (List ℕ)) (s0 s1 s2 : Device R) (count : ℕ) (room : List ℕ) → s0.failed ≡ false → s1.ended ≡ s0.ended → s2.ended ≡ (s1.ended || (eqb count 0 && ltb 0 (length room)))
+    → (count ≡ 0 → 0 < length room → HasEnded remaining s2) → count ≡ 0 → 0 < length room → CameToEnd remaining s0 s2
+came_to_end remaining s0 s1 s2 count room worked same ended left none some =
+    was_ended remaining s0 s2 worked
+    (ended ∙ ap₂ (λ (a b : Bool). a || b) same (ap₂ (λ (a b : Bool). a && b) (eq-eqb count 0 none) (lt-ltb 0 (length room) some)))
+    (left none some)
+
+-- one that gave something goes on
+pub goes_further : (s1 s2 : Bool) (count : ℕ) (room : List ℕ) → s2 ≡ (s1 || (eqb count 0 && ltb 0 (length room))) → (count ≡ 0 → ⊥) → s1 ≡ false → s2 ≡ false
+goes_further s1 s2 count room e some going = e ∙ ap₂ (λ (a b : Bool). a || b) going (ap (λ b. b && ltb 0 (length room)) (ne_eqb count 0 some))
+
+-- a call that was not made in vain
+pub kept_after : (failed ended : Bool) (room : List ℕ) (old new : ℕ) → new ≡ one_more_where ((failed || ended) || has_no_room room) old → failed ≡ false → ended ≡ false → 0 < length room → new ≡ old
+kept_after failed ended room old new e f g some =
+    e ∙ ap (λ b. one_more_where b old) (ap₂ (λ (a b : Bool). a || b) (ap₂ (λ (a b : Bool). a || b) f g) (ap not (lt-ltb 0 (length room) some)))
+
+module _ (question : Question) (form : Form) where
+  none_taken : (selected : ℕ) → answered_of question form selected [] ≡ []
+  none_taken selected = none_up_to (selected_line question form.framing) (form.most - selected)
+
+  -- of more lines so many are taken as are wanted behind the others
+  taken_more : (before more : List (List ℕ)) (selected : ℕ) → selected ≡ selected_count question form.framing (answered_of question form 0 before)
+      → answered_of question form 0 (before ++ more) ≡ answered_of question form 0 before ++ answered_of question form selected more
+  taken_more before more selected e =
+      up_to-append (selected_line question form.framing) (form.most - 0) before more
+      ∙ ap (λ n. answered_of question form 0 before ++ up_to (selected_line question form.framing) n more) (left form.most selected (selected_count question form.framing (answered_of question form 0 before)) e)
+    where
+      left : (most selected count : ℕ) → selected ≡ count → (most - 0) - count ≡ most - selected
+      left most selected count e = omega (arith, e)
+
+  module _ (before more : List (List ℕ)) (progress : Progress) (number_is : progress.number ≡ 1 + length (answered_of question form 0 before)) (selected_is : progress.counts.selected ≡ selected_count question form.framing (answered_of question form 0 before)) where
+    sum : answered_of question form 0 (before ++ more) ≡ answered_of question form 0 before ++ answered_of question form progress.counts.selected more
+    sum = taken_more before more progress.counts.selected selected_is
+
+    pub rows_sum : output_from question form 1 (answered_of question form 0 (before ++ more))
+        ≡ output_from question form 1 (answered_of question form 0 before) ++ output_from question form progress.number (answered_of question form progress.counts.selected more)
+    rows_sum =
+        ap (output_from question form 1) sum
+        ∙ output-append question form 1 (answered_of question form 0 before) (answered_of question form progress.counts.selected more)
+        ∙ ap (λ k. output_from question form 1 (answered_of question form 0 before) ++ output_from question form k (answered_of question form progress.counts.selected more)) (sym number_is)
+
+    pub messages_sum : messages_from form 1 (answered_of question form 0 (before ++ more))
+        ≡ messages_from form 1 (answered_of question form 0 before) ++ messages_from form progress.number (answered_of question form progress.counts.selected more)
+    messages_sum =
+        ap (messages_from form 1) sum
+        ∙ messages-append question form 1 (answered_of question form 0 before) (answered_of question form progress.counts.selected more)
+        ∙ ap (λ k. messages_from form 1 (answered_of question form 0 before) ++ messages_from form k (answered_of question form progress.counts.selected more)) (sym number_is)
+
+    pub number_sum : (after : Progress) → GoesOnBy question form progress after (answered_of question form progress.counts.selected more) → after.number ≡ 1 + length (answered_of question form 0 (before ++ more))
+    number_sum after by = by.number ∙ ap (λ k. k + length (answered_of question form progress.counts.selected more)) number_is
+        ∙ lengths (length (answered_of question form 0 before)) (length (answered_of question form progress.counts.selected more)) (length (answered_of question form 0 (before ++ more)))
+        (ap length sum ∙ length-append (answered_of question form 0 before) (answered_of question form progress.counts.selected more))
+      where
+        lengths : (a b c : ℕ) → c ≡ a + b → (1 + a) + b ≡ 1 + c
+        lengths a b c e = omega (arith, e)
+
+    pub selected_sum : (after : Progress) → GoesOnBy question form progress after (answered_of question form progress.counts.selected more) → after.counts.selected ≡ selected_count question form.framing (answered_of question form 0 (before ++ more))
+    selected_sum after by = by.selected ∙ ap (λ k. k + selected_count question form.framing (answered_of question form progress.counts.selected more)) selected_is
+        ∙ sym (ap (selected_count question form.framing) sum ∙ count-append (selected_line question form.framing) (answered_of question form 0 before) (answered_of question form progress.counts.selected more))
+
+    pub refused_sum : (after : Progress) → progress.counts.refused ≡ refused_count form.framing (answered_of question form 0 before) → GoesOnBy question form progress after (answered_of question form progress.counts.selected more)
+        → after.counts.refused ≡ refused_count form.framing (answered_of question form 0 (before ++ more))
+    refused_sum after refused_is by = by.refused ∙ ap (λ k. k + refused_count form.framing (answered_of question form progress.counts.selected more)) refused_is
+        ∙ sym (ap (refused_count form.framing) sum ∙ count-append (refused_line form.framing) (answered_of question form 0 before) (answered_of question form progress.counts.selected more))
+
+  module _ {W E : Type 0} (rows_in : W → Option (List ℕ)) (messages_in : E → Option (List ℕ)) where
+    abbrev pub SoFar : Stream → Progress → Device W → Device W → Device E → Device E → List ℕ → List (List ℕ) → Type 0
+    SoFar stream progress out0 out1 told0 told1 came lines = HasAnswered rows_in messages_in question form stream progress out0 out1 told0 told1 came lines
+
+    -- at the front
+    pub at_start : (stream : Stream) (progress : Progress) (out : Device W) (told : Device E) → stream.framing ≡ form.framing → stream.held.items ≡ [] → stream.is_first ≡ true
+        → progress.number ≡ 1 → progress.counts.selected ≡ 0 → progress.counts.refused ≡ 0 → SoFar stream progress out out told told [] []
+    at_start stream progress out told framing held first number selected refused = record {
+      position = subst (λ (b : Bool). IsAt form.framing [] stream.held.items [] b) (sym first) (subst (λ (l : List ℕ). IsAt form.framing [] l [] true) (sym held) (at_front form.framing));
+      framing = framing;
+      few = omega (arith, ap length held);
+      rows = subst (λ ls. Received rows_in out out (output_from question form 1 ls)) (sym (none_taken 0)) (none_received out);
+      messages = subst (λ ls. Received messages_in told told (messages_from form 1 ls)) (sym (none_taken 0)) (none_received told);
+      number = number ∙ ap (λ (ls : List (List ℕ)). 1 + length ls) (sym (none_taken 0));
+      selected = selected ∙ ap (selected_count question form.framing) (sym (none_taken 0));
+      refused = refused ∙ ap (refused_count form.framing) (sym (none_taken 0));
+      under_way = record { wanted = omega (arith, selected); fewer_selected = omega (arith, selected, number); fewer_refused = omega (arith, refused, number) };
+    }
+
+    -- both writers are flushed
+    pub flushed : (stream : Stream) (progress : Progress) (out0 out1 out2 : Device W) (told0 told1 told2 : Device E) (came : List ℕ) (lines : List (List ℕ)) → SoFar stream progress out0 out1 told0 told1 came lines
+        → Received rows_in out1 out2 [] → Received messages_in told1 told2 [] → SoFar stream progress out0 out2 told0 told2 came lines
+    flushed stream progress out0 out1 out2 told0 told1 told2 came lines so rows messages = record {
+      position = so.position;
+      framing = so.framing;
+      few = so.few;
+      rows = subst (λ t. Received rows_in out0 out2 t) (append-nil (output_from question form 1 (answered_of question form 0 lines))) (both_received out0 out1 out2 _ [] so.rows rows);
+      messages = subst (λ t. Received messages_in told0 told2 t) (append-nil (messages_from form 1 (answered_of question form 0 lines))) (both_received told0 told1 told2 _ [] so.messages messages);
+      number = so.number;
+      selected = so.selected;
+      refused = so.refused;
+      under_way = so.under_way;
+    }
+
+    -- the lines that came are those that are answered
+    pub come : (stream : Stream) (progress : Progress) (out0 out1 : Device W) (told0 told1 : Device E) (came : List ℕ) (lines : List (List ℕ)) → SoFar stream progress out0 out1 told0 told1 came lines → lines_come form.framing false came ≡ lines
+    come stream progress out0 out1 told0 told1 came lines so = closed_now form.framing came stream.held.items lines stream.is_first so.position
+
+    pub all_so_far : (stream : Stream) (progress : Progress) (out0 out1 : Device W) (told0 told1 : Device E) (came : List ℕ) (lines : List (List ℕ)) (failed : Bool) → SoFar stream progress out0 out1 told0 told1 came lines
+        → Answered rows_in messages_in question form out0 out1 told0 told1 (answered question form (came_so came false failed))
+    all_so_far stream progress out0 out1 told0 told1 came lines failed so =
+        subst (λ ls. Answered rows_in messages_in question form out0 out1 told0 told1 (answered_of question form 0 ls)) (sym (come stream progress out0 out1 told0 told1 came lines so)) (record { rows = so.rows; messages = so.messages })
+
+    -- as many as are wanted were selected
+    pub enough_selected : (stream : Stream) (progress : Progress) (out0 out1 : Device W) (told0 told1 : Device E) (came : List ℕ) (lines : List (List ℕ)) (failed : Bool) → SoFar stream progress out0 out1 told0 told1 came lines → progress.counts.selected ≡ form.most
+        → SearchedLines rows_in messages_in question form out0 out1 told0 told1 (came_so came false failed) progress.counts
+    enough_selected stream progress out0 out1 told0 told1 came lines failed so e =
+        let is = ap (answered_of question form 0) (sym (come stream progress out0 out1 told0 told1 came lines so)) in
+        record {
+          all = all_so_far stream progress out0 out1 told0 told1 came lines failed so;
+          selected = so.selected ∙ ap (selected_count question form.framing) is;
+          refused = so.refused ∙ ap (refused_count form.framing) is;
+          end = inr e;
+        }
+
+    -- a beginning of the answer of these lines, and of others behind them
+    pub in_part : (progress : Progress) (out0 out1 out2 : Device W) (told0 told1 told2 : Device E) (before more others all : List (List ℕ))
+        → progress.number ≡ 1 + length (answered_of question form 0 before) → progress.counts.selected ≡ selected_count question form.framing (answered_of question form 0 before)
+        → Received rows_in out0 out1 (output_from question form 1 (answered_of question form 0 before)) → Received messages_in told0 told1 (messages_from form 1 (answered_of question form 0 before))
+        → Part rows_in out1 out2 (output_from question form progress.number (answered_of question form progress.counts.selected more)) → Part messages_in told1 told2 (messages_from form progress.number (answered_of question form progress.counts.selected more))
+        → all ≡ (before ++ more) ++ others
+        → AnsweredInPart rows_in messages_in question form out0 out2 told0 told2 (answered_of question form 0 all)
+    in_part progress out0 out1 out2 told0 told1 told2 before more others all number selected rows messages rows_part messages_part e =
+        let both = before ++ more in
+        let count = selected_count question form.framing (answered_of question form 0 both) in
+        let rest = answered_of question form count others in
+        let k = 1 + length (answered_of question form 0 both) in
+        let taken_all = ap (answered_of question form 0) e ∙ taken_more both others count refl in
+        let front = output_from question form 1 (answered_of question form 0 before) in
+        let one = output_from question form progress.number (answered_of question form progress.counts.selected more) in
+        let summary = summary_of form.summary form (selected_count question form.framing (answered_of question form 0 all)) in
+        let told_front = messages_from form 1 (answered_of question form 0 before) in
+        let told_one = messages_from form progress.number (answered_of question form progress.counts.selected more) in
+        record {
+          rows = part_next out0 out1 out2 front one (output_from question form k rest ++ summary) _
+              (ap (λ ls. output_from question form 1 ls ++ summary) taken_all
+              ∙ ap (λ l. l ++ summary) (output-append question form 1 (answered_of question form 0 both) rest ∙ ap (λ l. l ++ output_from question form k rest) (rows_sum before more progress number selected))
+              ∙ append_assoc (front ++ one) (output_from question form k rest) summary)
+              rows rows_part;
+          messages = part_next told0 told1 told2 told_front told_one (messages_from form k rest) _
+              (ap (messages_from form 1) taken_all ∙ messages-append question form 1 (answered_of question form 0 both) rest ∙ ap (λ l. l ++ messages_from form k rest) (messages_sum before more progress number selected))
+              messages messages_part;
+        }
+
+    -- nothing more was written
+    pub stopped_here : (stream : Stream) (progress : Progress) (out0 out1 : Device W) (told0 told1 : Device E) (came : List ℕ) (lines : List (List ℕ)) (failed : Bool) → SoFar stream progress out0 out1 told0 told1 came lines
+        → AnsweredInPart rows_in messages_in question form out0 out1 told0 told1 (answered question form (came_so came false failed))
+    stopped_here stream progress out0 out1 told0 told1 came lines failed so =
+        let is = come stream progress out0 out1 told0 told1 came lines so in
+        let all = answered_of question form 0 lines in
+        subst (λ ls. AnsweredInPart rows_in messages_in question form out0 out1 told0 told1 (answered_of question form 0 ls)) (sym is)
+        (record {
+          rows = part_more out0 out1 (output_from question form 1 all) (summary_of form.summary form (selected_count question form.framing all)) (part_so_far out0 out1 _ so.rows);
+          messages = part_so_far told0 told1 _ so.messages;
+        })
+
+    -- a fault of neither the framing nor a read
+    pub stopped_in_part : (out0 out1 : Device W) (told0 told1 : Device E) (fault : SearchFault) (came : Came) → is_input_fault fault ≡ false
+        → AnsweredInPart rows_in messages_in question form out0 out1 told0 told1 (answered question form came) → SearchStopped rows_in messages_in question form out0 out1 told0 told1 fault came
+    stopped_in_part out0 out1 told0 told1 faults.Read came e h = absurd (cc)
+    stopped_in_part out0 out1 told0 told1 faults.Framing came e h = absurd (cc)
+    stopped_in_part out0 out1 told0 told1 faults.Size came e h = h
+    stopped_in_part out0 out1 told0 told1 faults.Write came e h = h
+    stopped_in_part out0 out1 told0 told1 faults.Report came e h = h
+    stopped_in_part out0 out1 told0 told1 faults.Memory came e h = h
+
+    -- a fault of the framing, before which nothing was written, or another one
+    pub stopped_by : (out0 out1 : Device W) (told0 told1 : Device E) (fault : SearchFault) (came : Came) → false ≡ is_read_fault fault
+        → (is_framing_fault fault ≡ true → (is_framed form.framing came.bytes ≡ false) × Answered rows_in messages_in question form out0 out1 told0 told1 [])
+        → AnsweredInPart rows_in messages_in question form out0 out1 told0 told1 (answered question form came) → SearchStopped rows_in messages_in question form out0 out1 told0 told1 fault came
+    stopped_by out0 out1 told0 told1 faults.Read came e framing h = absurd (cc)
+    stopped_by out0 out1 told0 told1 faults.Framing came e framing h = framing refl
+    stopped_by out0 out1 told0 told1 faults.Size came e framing h = h
+    stopped_by out0 out1 told0 told1 faults.Write came e framing h = h
+    stopped_by out0 out1 told0 told1 faults.Report came e framing h = h
+    stopped_by out0 out1 told0 told1 faults.Memory came e framing h = h
+
+    -- nothing at all was written
+    pub none_so_far : (stream : Stream) (progress : Progress) (out0 out1 out2 : Device W) (told0 told1 told2 : Device E) (came : List ℕ) (lines : List (List ℕ)) → SoFar stream progress out0 out1 told0 told1 came lines → lines ≡ [] → out2 ≡ out1 → told2 ≡ told1
+        → Answered rows_in messages_in question form out0 out2 told0 told2 []
+    none_so_far stream progress out0 out1 out2 told0 told1 told2 came lines so none out told =
+        let is = ap (answered_of question form 0) none ∙ none_taken 0 in
+        record {
+          rows = subst (λ (o : Device W). Received rows_in out0 o []) (sym out) (subst (λ ls. Received rows_in out0 out1 (output_from question form 1 ls)) is so.rows);
+          messages = subst (λ (o : Device E). Received messages_in told0 o []) (sym told) (subst (λ ls. Received messages_in told0 told1 (messages_from form 1 ls)) is so.messages);
+        }
+
+    -- these lines were answered, too
+    pub goes_on_by : (stream0 stream1 : Stream) (before after : Progress) (out0 out1 out2 : Device W) (told0 told1 told2 : Device E) (came piece : List ℕ) (lines more : List (List ℕ)) → SoFar stream0 before out0 out1 told0 told1 came lines
+        → Received rows_in out1 out2 (output_from question form before.number (answered_of question form before.counts.selected more)) → Received messages_in told1 told2 (messages_from form before.number (answered_of question form before.counts.selected more))
+        → GoesOnBy question form before after (answered_of question form before.counts.selected more)
+        → IsAt form.framing (came ++ piece) stream1.held.items (lines ++ more) stream1.is_first → stream1.framing ≡ form.framing → length stream1.held.items < 2 ^ 32
+        → SoFar stream1 after out0 out2 told0 told2 (came ++ piece) (lines ++ more)
+    goes_on_by stream0 stream1 before after out0 out1 out2 told0 told1 told2 came piece lines more so rows messages by position framing few = record {
+      position = position;
+      framing = framing;
+      few = few;
+      rows = subst (λ t. Received rows_in out0 out2 t) (sym (rows_sum lines more before so.number so.selected)) (both_received out0 out1 out2 _ _ so.rows rows);
+      messages = subst (λ t. Received messages_in told0 told2 t) (sym (messages_sum lines more before so.number so.selected)) (both_received told0 told1 told2 _ _ so.messages messages);
+      number = number_sum lines more before so.number so.selected after by;
+      selected = selected_sum lines more before so.number so.selected after by;
+      refused = refused_sum lines more before so.number so.selected after so.refused by;
+      under_way = by.under_way;
+    }
+
+    -- the stream ended, and the lines of what was held are answered
+    pub searched_all : (stream : Stream) (before after : Progress) (out0 out1 out2 : Device W) (told0 told1 told2 : Device E) (came : List ℕ) (lines : List (List ℕ)) (failed : Bool) → SoFar stream before out0 out1 told0 told1 came lines
+        → Answers rows_in messages_in question form before after out1 out2 told1 told2 (Ok tt) (lines_in form.framing (text_of stream.is_first stream.held.items))
+        → (stream.is_first ≡ true → is_framed form.framing stream.held.items ≡ true)
+        → SearchedLines rows_in messages_in question form out0 out2 told0 told2 (came_so came true failed) after.counts
+    searched_all stream before after out0 out1 out2 told0 told1 told2 came lines failed so answers framed =
+        let more = lines_in form.framing (text_of stream.is_first stream.held.items) in
+        let all = all_answered form.framing came stream.held.items lines stream.is_first so.position in
+        let is = ap (answered_of question form 0) (sym all) in
+        record {
+          all = subst (λ ls. Answered rows_in messages_in question form out0 out2 told0 told2 ls) is (record {
+            rows = subst (λ t. Received rows_in out0 out2 t) (sym (rows_sum lines more before so.number so.selected)) (both_received out0 out1 out2 _ _ so.rows answers.rows);
+            messages = subst (λ t. Received messages_in told0 told2 t) (sym (messages_sum lines more before so.number so.selected)) (both_received told0 told1 told2 _ _ so.messages answers.messages);
+          });
+          selected = selected_sum lines more before so.number so.selected after answers.progress ∙ ap (selected_count question form.framing) is;
+          refused = refused_sum lines more before so.number so.selected after so.refused answers.progress ∙ ap (refused_count form.framing) is;
+          end = inl (refl, all_framed form.framing came stream.held.items lines stream.is_first so.position framed);
+        }
+
+    -- the stream ended, and the lines of what was held were not all answered
+    pub ended_in_part : (stream : Stream) (before after : Progress) (out0 out1 out2 : Device W) (told0 told1 told2 : Device E) (came : List ℕ) (lines : List (List ℕ)) (failed : Bool) (e : SearchFault) → SoFar stream before out0 out1 told0 told1 came lines
+        → Answers rows_in messages_in question form before after out1 out2 told1 told2 (Err e) (lines_in form.framing (text_of stream.is_first stream.held.items))
+        → AnsweredInPart rows_in messages_in question form out0 out2 told0 told2 (answered question form (came_so came true failed))
+    ended_in_part stream before after out0 out1 out2 told0 told1 told2 came lines failed e so answers =
+        let more = lines_in form.framing (text_of stream.is_first stream.held.items) in
+        in_part before out0 out1 out2 told0 told1 told2 lines more [] _ so.number so.selected so.rows so.messages answers.rows answers.messages
+        (all_answered form.framing came stream.held.items lines stream.is_first so.position ∙ sym (append-nil (lines ++ more)))

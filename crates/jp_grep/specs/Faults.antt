@@ -1,0 +1,40 @@
+-- What a fault of a search says.
+use Rattle.std.specs.Prelude.{◌≡◌, Bool, true, false, Result, MatchResult}
+use Rattle.jp_grep.specs.declared.fault.SearchFault.{SearchFault}
+use Rattle.jp_grep.specs.declared.fault.SearchFault.TheVariants as faults
+
+-- the fault that says that rows were not written
+abbrev pub is_write_fault : SearchFault → Bool
+is_write_fault faults.Write = true
+is_write_fault _ = false
+
+-- the fault that says that a message was not written
+abbrev pub is_report_fault : SearchFault → Bool
+is_report_fault faults.Report = true
+is_report_fault _ = false
+
+-- the fault that says that a read failed
+abbrev pub is_read_fault : SearchFault → Bool
+is_read_fault faults.Read = true
+is_read_fault _ = false
+
+-- a fault of what is read, and not of what is written
+abbrev pub is_input_fault : SearchFault → Bool
+is_input_fault faults.Read = true
+is_input_fault faults.Framing = true
+is_input_fault _ = false
+
+-- the fault is of this kind exactly where so much is said: never at Ok
+abbrev pub IsToldOf : {A : Type 0} → (SearchFault → Bool) → Result A SearchFault → Bool → Type 0
+IsToldOf is result told = MatchResult result (λ _. told ≡ false) (λ fault. told ≡ is fault)
+
+-- a fault of the search itself: a size or a growth
+abbrev pub is_inner_fault : SearchFault → Bool
+is_inner_fault faults.Size = true
+is_inner_fault faults.Memory = true
+is_inner_fault _ = false
+
+-- the fault that says that a sequence is not framed
+abbrev pub is_framing_fault : SearchFault → Bool
+is_framing_fault faults.Framing = true
+is_framing_fault _ = false

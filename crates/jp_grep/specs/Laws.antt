@@ -1,0 +1,39 @@
+-- What the rows of a filter have to do with those of a query.
+use Rattle.std.specs.Prelude.{◌≡◌, ℕ, List, [], ◌∷◌, ◌++◌, flat_map, codes, decimal, Bool, true, false}
+use denote.Ref.{Bor}
+use Rattle.jp_model.specs.declared.Framing.TheVariants as framings
+use Rattle.jp_model.specs.Json.Reader.{status_of}
+use Rattle.jp_model.specs.Meaning.Nodes.{Node}
+use Rattle.jp_model.specs.Meaning.Paths.{path_text}
+use Rattle.jp_model.specs.Query.Syntax.{Segments}
+use Rattle.jp_model.specs.Rows.{Row, node_row, refusal_row, line_feed, source, tab, status_rows as query_rows}
+use Rattle.jp_grep.specs.Matching.{conditions_of, queries_of}
+use Rattle.jp_grep.specs.Rows.{line_rows}
+use Rattle.jp_grep.specs.declared.form.Form.{Form}
+use Rattle.jp_grep.specs.declared.form.Shown.TheVariants as shown
+use Rattle.jp_grep.specs.declared.form.Summary.{Summary}
+use Rattle.jp_grep.specs.declared.question.Question.{Question}
+
+-- values with their paths and the numbers of their lines, as `-onp` prints them
+abbrev pub numbered_values : Summary → Bor (List ℕ) → Bool → ℕ → Form
+numbered_values summary name silent most = record {
+  framing = framings.Lines;
+  shown = shown.Values true;
+  summary = summary;
+  name = name;
+  named = false;
+  numbered = true;
+  silent = silent;
+  most = most;
+}
+
+-- a row of a query's answer with a colon behind its number; that of a refused line is none
+abbrev pub row_with_colon : List ℕ → Row → List ℕ
+row_with_colon line (node_row n node) = (decimal n ++ codes ":") ++ ((path_text node.location ++ tab ++ source line node.tree) ++ line_feed)
+row_with_colon line (refusal_row n fault) = []
+
+-- Asked one query and no condition, the rows of each line are those that the query answers, node by node.
+abbrev pub RowsAreThoseOfAQuery : Type 0
+RowsAreThoseOfAQuery = (question : Question) (query : Segments) → queries_of question ≡ query ∷ [] → conditions_of question ≡ [] → question.inverted ≡ false
+    → (summary : Summary) (name : Bor (List ℕ)) (silent : Bool) (most n : ℕ) (line : List ℕ)
+    → line_rows question (numbered_values summary name silent most) n line ≡ flat_map (row_with_colon line) (query_rows query n (status_of framings.Lines line))

@@ -1,0 +1,12 @@
+-- What jpgrep answers.
+pub mod Matching
+pub mod Rows
+pub mod Streams
+pub mod Watching
+pub mod Cuts
+pub mod Progress
+pub mod Faults
+pub mod Positions
+pub mod Searching
+pub mod Words
+pub mod Laws

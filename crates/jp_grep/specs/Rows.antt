@@ -1,0 +1,112 @@
+-- What is written of a line, and what is told of it.
+use Rattle.std.specs.Prelude.{ℕ, ◌+◌, List, [], ◌∷◌, ◌++◌, flat_map, codes, decimal, count_by, Bool, true, false, ◌==◌, if◌then◌else◌}
+use Rattle.jp_model.specs.declared.Framing.{Framing}
+use Rattle.jp_model.specs.declared.Framing.TheVariants as framings
+use Rattle.jp_model.specs.declared.LineFault.{LineFault}
+use Rattle.jp_model.specs.Json.Status.{LineStatus, blank, refused, parsed}
+use Rattle.jp_model.specs.Json.Reader.{status_of}
+use Rattle.jp_model.specs.Json.Tree.{Tree}
+use Rattle.jp_model.specs.Meaning.Nodes.{Node}
+use Rattle.jp_model.specs.Meaning.Paths.{path_text}
+use Rattle.jp_model.specs.Script.Machine.{is_refused_status}
+use Rattle.jp_model.specs.Rows.{row_start, line_fault_word, line_feed, source, tab}
+use Rattle.jp_grep.specs.Matching.{is_selected, nodes_of, queries_of}
+use Rattle.jp_grep.specs.declared.form.Form.{Form}
+use Rattle.jp_grep.specs.declared.form.Shown.{Shown}
+use Rattle.jp_grep.specs.declared.form.Shown.TheVariants as shown
+use Rattle.jp_grep.specs.declared.form.Summary.{Summary}
+use Rattle.jp_grep.specs.declared.form.Summary.TheVariants as summaries
+use Rattle.jp_grep.specs.declared.question.Question.{Question}
+
+-- the name of the stream in front of a row
+abbrev pub name_front : Bool → List ℕ → List ℕ
+name_front false name = []
+name_front true name = name ++ codes ":"
+
+-- the number of the line in front of a row
+abbrev pub number_front : Bool → ℕ → List ℕ
+number_front false n = []
+number_front true n = decimal n ++ codes ":"
+
+-- all that stands in front of a row of line n: in a sequence RS first, as in front of each text there (RFC 7464, section 2.2)
+abbrev pub front : Form → ℕ → List ℕ
+front form n = row_start form.framing ++ name_front form.named form.name.now ++ number_front form.numbered n
+
+-- a row of line n
+abbrev pub row : Form → ℕ → List ℕ → List ℕ
+row form n body = front form n ++ (body ++ line_feed)
+
+-- a line as it is printed: its bytes, and in a sequence those from the first of its value to the last
+abbrev pub whole : Framing → List ℕ → Tree → List ℕ
+whole framings.Lines line t = line
+whole framings.Sequence line t = source line t
+
+-- the path in front of a value
+abbrev pub path_front : Bool → Node → List ℕ
+path_front false node = []
+path_front true node = path_text node.location ++ tab
+
+-- a row for each of some nodes of line n
+abbrev pub node_rows : Form → Bool → ℕ → List ℕ → List Node → List ℕ
+node_rows form paths n line nodes = flat_map (λ node. row form n (path_front paths node ++ source line node.tree)) nodes
+
+-- what is written of a selected line with this value
+abbrev pub shown_rows : Shown → Question → Form → ℕ → List ℕ → Tree → List ℕ
+shown_rows shown.Nothing question form n line t = []
+shown_rows shown.Line question form n line t = row form n (whole form.framing line t)
+shown_rows (shown.Values paths) question form n line t = node_rows form paths n line (nodes_of (queries_of question) t)
+
+-- what is written of a line
+abbrev pub status_rows : Question → Form → ℕ → List ℕ → LineStatus → List ℕ
+status_rows question form n line blank = []
+status_rows question form n line (refused fault) = []
+status_rows question form n line (parsed t) = if is_selected question (parsed t) then shown_rows form.shown question form n line t else []
+
+-- the message on a refused line, where messages are wanted
+abbrev pub refusal : Bool → List ℕ → ℕ → LineFault → List ℕ
+refusal true name n fault = []
+refusal false name n fault = codes "jpgrep: " ++ name_front true name ++ number_front true n ++ codes " " ++ (line_fault_word fault ++ line_feed)
+
+-- what is told of a line
+abbrev pub status_message : Form → ℕ → LineStatus → List ℕ
+status_message form n blank = []
+status_message form n (refused fault) = refusal form.silent form.name.now n fault
+status_message form n (parsed t) = []
+
+-- the same of a line by its bytes
+abbrev pub selected_line : Question → Framing → List ℕ → Bool
+selected_line question framing line = is_selected question (status_of framing line)
+
+abbrev pub line_rows : Question → Form → ℕ → List ℕ → List ℕ
+line_rows question form n line = status_rows question form n line (status_of form.framing line)
+
+abbrev pub line_message : Form → ℕ → List ℕ → List ℕ
+line_message form n line = status_message form n (status_of form.framing line)
+
+-- the output of some lines, of which the first has number n
+abbrev pub output_from : Question → Form → ℕ → List (List ℕ) → List ℕ
+output_from question form n [] = []
+output_from question form n (line ∷ rest) = line_rows question form n line ++ output_from question form (n + 1) rest
+
+-- the messages on them
+abbrev pub messages_from : Form → ℕ → List (List ℕ) → List ℕ
+messages_from form n [] = []
+messages_from form n (line ∷ rest) = line_message form n line ++ messages_from form (n + 1) rest
+
+-- how many of them are refused
+abbrev pub refused_line : Framing → List ℕ → Bool
+refused_line framing line = is_refused_status (status_of framing line)
+
+abbrev pub refused_count : Framing → List (List ℕ) → ℕ
+refused_count framing lines = count_by (refused_line framing) lines
+
+-- how many of them are selected
+abbrev pub selected_count : Question → Framing → List (List ℕ) → ℕ
+selected_count question framing lines = count_by (selected_line question framing) lines
+
+-- what is written behind the rows of a stream, of which so many lines were selected
+abbrev pub summary_of : Summary → Form → ℕ → List ℕ
+summary_of summaries.Nothing form count = []
+summary_of summaries.Count form count = name_front form.named form.name.now ++ (decimal count ++ line_feed)
+summary_of summaries.NameWith form count = if count == 0 then [] else form.name.now ++ line_feed
+summary_of summaries.NameWithout form count = if count == 0 then form.name.now ++ line_feed else []

@@ -1,0 +1,216 @@
+//! The answer of lines: rows of those that are selected, messages on those that are refused.
+
+ghost use Rattle.std.specs.Prelude.{◌≡◌, ◌+◌, ◌<◌, ◌≤◌, false, length, IfOk, OnOk};
+ghost use Rattle.jp_model.specs.Devices.{Writes};
+ghost use Rattle.jp_model.specs.Json.Status.{parsed};
+ghost use Rattle.jp_store.specs.Batches.{IsBatch, IsBatchLine, texts_of};
+ghost use Rattle.jp_store.specs.Views.{text_of_view, tree_of_view};
+ghost use Rattle.jp_grep.specs.Matching.{is_selected, nodes_of, queries_of};
+ghost use Rattle.jp_grep.specs.Progress.{says_refused, says_selected};
+ghost use Rattle.jp_grep.specs.Rows.{line_message, line_rows, messages_from, node_rows, output_from, refused_count, refused_line, selected_count, selected_line, shown_rows, status_rows, whole};
+ghost use Rattle.jp_grep.specs.Faults.{IsToldOf, is_input_fault, is_report_fault, is_write_fault};
+ghost use Rattle.jp_grep.specs.Watching.{answered_of};
+
+use crate::fault::SearchFault;
+use crate::form::{Form, Shown};
+use crate::progress::{Progress, Verdict};
+use crate::question::Question;
+use crate::rows::{write_refusal, write_row, write_values};
+use jp_eval::Frame;
+use jp_model::{Framing, Watched};
+use jp_store::{Batch, BatchLine, LineState, LineView};
+use std::alloc::Global;
+use std::io::Write;
+
+/// What answers lines.
+#[derive(Clone, Copy)]
+pub(crate) struct Answerer<'q> {
+    pub(crate) alloc: Global,
+    pub(crate) question: &'q Question,
+    pub(crate) form: &'q Form<'q>,
+}
+
+impl<'q> Answerer<'q> {
+    /// The bytes of a line as it is printed: all, and in a sequence those from the first of its value to the last.
+    fn printed<'r>(self, line: LineView<'r>, text: &'r [u8]) -> &'r [u8]
+        requires { text_of_view line ≡ text.now }
+        ensures { result.now ≡ whole self.entry.form.now.framing text.now (tree_of_view line.entry) }
+    {
+        match self.form.framing {
+            Framing::Lines => text,
+            Framing::Sequence => line.root().source(),
+        }
+    }
+
+    /// Writes a row for each node that the queries select, query by query.
+    fn write_nodes<'r, W: Write>(
+        self,
+        paths: bool,
+        number: u64,
+        line: LineView<'r>,
+        text: &[u8],
+        frame: &mut Frame<'r>,
+        out: &mut Watched<W>,
+    ) -> Result<(), SearchFault>
+        requires text { text_of_view line ≡ text.now }
+        requires working { out.old.failed ≡ false }
+        ensures rows { Writes W.contents out.old out.new result (node_rows self.entry.form.now paths number text.now (nodes_of (queries_of self.entry.question.now) (tree_of_view line.entry))) }
+        ensures fault { IsToldOf is_write_fault result out.new.failed }
+        ensures others { IsToldOf is_report_fault result false }
+        ensures inner { IsToldOf is_input_fault result false }
+        ensures after { out.new.after ≡ out.old.after }
+    {
+        for query in &self.question.queries {
+            if query
+                .run_in(self.alloc, line.root(), line.root(), frame)
+                .is_err()
+            {
+                return Err(SearchFault::Memory);
+            }
+            if write_values(self.form, paths, number, text, frame.found(), out).is_err() {
+                return Err(SearchFault::Write);
+            }
+        }
+        Ok(())
+    }
+
+    /// Writes what is shown of a selected line.
+    fn write_shown<'r, W: Write>(
+        self,
+        number: u64,
+        line: LineView<'r>,
+        text: &'r [u8],
+        frame: &mut Frame<'r>,
+        out: &mut Watched<W>,
+    ) -> Result<(), SearchFault>
+        requires text { text_of_view line ≡ text.now }
+        requires working { out.old.failed ≡ false }
+        ensures rows { Writes W.contents out.old out.new result (shown_rows self.entry.form.now.shown self.entry.question.now self.entry.form.now number text.now (tree_of_view line.entry)) }
+        ensures fault { IsToldOf is_write_fault result out.new.failed }
+        ensures others { IsToldOf is_report_fault result false }
+        ensures inner { IsToldOf is_input_fault result false }
+        ensures after { out.new.after ≡ out.old.after }
+    {
+        match self.form.shown {
+            Shown::Nothing => Ok(()),
+            Shown::Line => match write_row(self.form, number, self.printed(line, text), out) {
+                Ok(()) => Ok(()),
+                Err(_) => Err(SearchFault::Write),
+            },
+            Shown::Values { paths } => self.write_nodes(paths, number, line, text, frame, out),
+        }
+    }
+
+    /// Answers a line that has a value.
+    fn answer_value<'r, W: Write>(
+        self,
+        number: u64,
+        line: LineView<'r>,
+        text: &'r [u8],
+        frame: &mut Frame<'r>,
+        out: &mut Watched<W>,
+    ) -> Result<Verdict, SearchFault>
+        requires text { text_of_view line ≡ text.now }
+        requires working { out.old.failed ≡ false }
+        ensures refused { IfOk result (λ verdict. says_refused verdict ≡ false) }
+        ensures selected { IfOk result (λ verdict. says_selected verdict ≡ is_selected self.entry.question.now (parsed (tree_of_view line.entry))) }
+        ensures rows { Writes W.contents out.old out.new result (status_rows self.entry.question.now self.entry.form.now number text.now (parsed (tree_of_view line.entry))) }
+        ensures fault { IsToldOf is_write_fault result out.new.failed }
+        ensures others { IsToldOf is_report_fault result false }
+        ensures inner { IsToldOf is_input_fault result false }
+        ensures after { out.new.after ≡ out.old.after }
+    {
+        let Ok(matches) = self.question.matches(self.alloc, line, frame) else {
+            return Err(SearchFault::Memory);
+        };
+        if matches == self.question.inverted {
+            return Ok(Verdict::Passed);
+        }
+        match self.write_shown(number, line, text, frame, out) {
+            Ok(()) => Ok(Verdict::Selected),
+            Err(fault) => Err(fault),
+        }
+    }
+
+    /// Answers a line.
+    fn answer_line<'r, W: Write, E: Write>(
+        self,
+        number: u64,
+        line: BatchLine<'r>,
+        frame: &mut Frame<'r>,
+        out: &mut Watched<W>,
+        messages: &mut Watched<E>,
+    ) -> Result<Verdict, SearchFault>
+        requires line { IsBatchLine self.form.now.framing line }
+        requires writes { out.old.failed ≡ false }
+        requires reports { messages.old.failed ≡ false }
+        ensures selected { IfOk result (λ verdict. says_selected verdict ≡ selected_line self.entry.question.now self.entry.form.now.framing line.entry.text.now) }
+        ensures refused { IfOk result (λ verdict. says_refused verdict ≡ refused_line self.entry.form.now.framing line.entry.text.now) }
+        ensures rows { Writes W.contents out.old out.new result (line_rows self.entry.question.now self.entry.form.now number line.entry.text.now) }
+        ensures messages { Writes E.contents messages.old messages.new result (line_message self.entry.form.now number line.entry.text.now) }
+        ensures write_fault { IsToldOf is_write_fault result out.new.failed }
+        ensures report_fault { IsToldOf is_report_fault result messages.new.failed }
+        ensures inner { IsToldOf is_input_fault result false }
+        ensures after { out.new.after ≡ out.old.after }
+        ensures messages_after { messages.new.after ≡ messages.old.after }
+    {
+        match line.state {
+            LineState::Blank => Ok(Verdict::Passed),
+            LineState::Refused(fault) => {
+                match write_refusal(self.form, number, fault, messages) {
+                    Ok(()) => Ok(Verdict::Refused),
+                    Err(_) => Err(SearchFault::Report),
+                }
+            }
+            LineState::Tree(view) => self.answer_value(number, view, line.text, frame, out),
+        }
+    }
+
+    /// Answers the lines of a piece in turn, up to the last one that is wanted.
+    pub(crate) fn answer_batch<W: Write, E: Write>(
+        self,
+        batch: Batch<'_>,
+        progress: &mut Progress,
+        out: &mut Watched<W>,
+        messages: &mut Watched<E>,
+    ) -> Result<(), SearchFault>
+        requires read { IsBatch batch }
+        requires framing { batch.framing ≡ self.form.now.framing }
+        requires wanted { progress.old.counts.selected ≤ self.form.now.most }
+        requires fewer_selected { progress.old.counts.selected < progress.old.number }
+        requires fewer_refused { progress.old.counts.refused < progress.old.number }
+        requires writes { out.old.failed ≡ false }
+        requires reports { messages.old.failed ≡ false }
+        ensures rows { Writes W.contents out.old out.new result (output_from self.entry.question.now self.entry.form.now progress.old.number (answered_of self.entry.question.now self.entry.form.now progress.old.counts.selected (texts_of batch.entry))) }
+        ensures messages { Writes E.contents messages.old messages.new result (messages_from self.entry.form.now progress.old.number (answered_of self.entry.question.now self.entry.form.now progress.old.counts.selected (texts_of batch.entry))) }
+        ensures number { OnOk result (progress.new.number ≡ progress.old.number + length (answered_of self.entry.question.now self.entry.form.now progress.old.counts.selected (texts_of batch.entry))) }
+        ensures selected { OnOk result (progress.new.counts.selected ≡ progress.old.counts.selected + selected_count self.entry.question.now self.entry.form.now.framing (answered_of self.entry.question.now self.entry.form.now progress.old.counts.selected (texts_of batch.entry))) }
+        ensures refused { OnOk result (progress.new.counts.refused ≡ progress.old.counts.refused + refused_count self.entry.form.now.framing (answered_of self.entry.question.now self.entry.form.now progress.old.counts.selected (texts_of batch.entry))) }
+        ensures fewer_selected { OnOk result (progress.new.counts.selected < progress.new.number) }
+        ensures fewer_refused { OnOk result (progress.new.counts.refused < progress.new.number) }
+        ensures wanted { OnOk result (progress.new.counts.selected ≤ self.entry.form.now.most) }
+        ensures write_fault { IsToldOf is_write_fault result out.new.failed }
+        ensures report_fault { IsToldOf is_report_fault result messages.new.failed }
+        ensures others { IsToldOf is_input_fault result false }
+        ensures after { out.new.after ≡ out.old.after }
+        ensures messages_after { messages.new.after ≡ messages.old.after }
+    {
+        let mut frame = Frame::new(self.alloc);
+        for index in 0..batch.line_count() {
+            if progress.counts.selected == self.form.most {
+                return Ok(());
+            }
+            match self.answer_line(
+                progress.number,
+                batch.line(index),
+                &mut frame,
+                out,
+                messages,
+            ) {
+                Ok(verdict) => progress.pass(verdict)?,
+                Err(fault) => return Err(fault),
+            }
+        }
+        Ok(())
+    }
+}

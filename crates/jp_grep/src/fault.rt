@@ -1,0 +1,18 @@
+//! Why a search stopped.
+
+/// Why a search stopped before the end of its stream.
+#[derive(Clone, Copy, Debug, PartialEq, Eq)]
+pub enum SearchFault {
+    /// A read failed.
+    Read,
+    /// Bytes other than white space come before the first separator of a sequence.
+    Framing,
+    /// A line is longer than 4,294,967,294 bytes, or there are more lines or reads than a number of 64 bits counts.
+    Size,
+    /// A row was not written: a write failed or took no byte, or a flush failed.
+    Write,
+    /// A message was not written, in the same way.
+    Report,
+    /// A growth was refused.
+    Memory,
+}

@@ -1,0 +1,30 @@
+//! A filter of streams: which lines of JSON answer a question, and what is written of each.
+//!
+//! Public calls:
+//!
+//! - `Question`: the queries and the conditions that a line is asked
+//! - `Form`, `Shown`, `Summary`: what is written of a stream
+//! - `search`, `SearchFault`: the lines of a stream, each answered as it comes
+//! - `read_words`, `Options`: the program's words
+#![tactic(auto)]
+
+mod answer;
+mod fault;
+mod form;
+pub mod laws;
+mod options;
+mod progress;
+mod question;
+mod rows;
+mod searching;
+mod stream;
+mod words;
+
+pub use fault::SearchFault;
+pub use form::{Form, Shown, Summary};
+pub use jp_model::Framing;
+pub use options::Options;
+pub use progress::Counts;
+pub use question::Question;
+pub use searching::search;
+pub use words::read_words;

@@ -1,0 +1,189 @@
+//! What the program's words ask for, once they are read.
+
+ghost use Rattle.std.specs.Prelude.{◌≡◌, ◌≤◌, map, true};
+ghost use Rattle.jp_grep.specs.Words.{asked_files, asked_queries, asked_rows, asked_summary, asks_names, begins_with_query, first_decides};
+
+use crate::form::{Form, Shown, Summary};
+use clap::error::ErrorKind;
+use jp_model::Framing;
+
+/// What the program's words ask for.
+#[derive(Drop)]
+pub struct Options<'a> {
+    /// The words that belong to no option: the files, and before them the query where neither `-e` nor `-w` is given.
+    pub words: Vec<&'a str>,
+    /// The queries of `-e`, in their order.
+    pub queries: Vec<&'a str>,
+    /// The conditions of `-w`, in their order.
+    pub conditions: Vec<&'a str>,
+    /// `-m`: how many selected lines of each file are wanted.
+    pub most: Option<&'a str>,
+    /// `-v`: the lines that do not match are selected.
+    pub inverted: bool,
+    /// `-o`: the values are printed, and not the lines.
+    pub only_matching: bool,
+    /// `-p`: the path of each value is printed in front of it.
+    pub paths: bool,
+    /// `-n`: the number of each line is printed in front.
+    pub numbered: bool,
+    /// `-c`: how many lines are selected is printed.
+    pub counted: bool,
+    /// `-q`: nothing is printed.
+    pub quiet: bool,
+    /// `-l`: the names of the files with a selected line are printed.
+    pub with_matches: bool,
+    /// `-L`: the names of the files without one are printed.
+    pub without_matches: bool,
+    /// `-H`: the name of the file is printed in front.
+    pub named: bool,
+    /// `-h`: it is not.
+    pub unnamed: bool,
+    /// `-s`: no message tells of a line or a file.
+    pub silent: bool,
+    /// `--seq`: the files are text sequences (RFC 7464).
+    pub framing: Framing,
+}
+
+impl<'a> Options<'a> {
+    /// Why the words do not go together, if they do not.
+    pub(crate) fn fault(&self) -> Option<(ErrorKind, &'static str)> {
+        if self.with_matches && self.without_matches {
+            return Some((ErrorKind::ArgumentConflict, BOTH_NAMES));
+        }
+        if self.named && self.unnamed {
+            return Some((ErrorKind::ArgumentConflict, BOTH_FRONTS));
+        }
+        if self.inverted && (self.only_matching || self.paths) {
+            return Some((ErrorKind::ArgumentConflict, NO_VALUES));
+        }
+        if self.words.is_empty() && self.queries.is_empty() && self.conditions.is_empty() {
+            return Some((ErrorKind::MissingRequiredArgument, NO_QUERY));
+        }
+        match self.most {
+            Some(number) if number.parse::<u64>().is_err() => Some((
+                ErrorKind::InvalidValue,
+                NO_NUMBER,
+            )),
+            _ => None,
+        }
+    }
+}
+
+impl<'a> Options<'a> {
+    /// Whether the first word is the query.
+    fn begins_with_query(&self) -> bool
+        ensures { result ≡ begins_with_query self.now }
+    {
+        self.queries.is_empty() && self.conditions.is_empty()
+    }
+
+    /// The queries that the words name: those of `-e`, or the first word where there is neither `-e` nor `-w`. With `-w` alone it is
+    /// `$`.
+    pub fn queries(&self) -> &[&'a str]
+        ensures { map (λ s. s.now) result.now ≡ asked_queries self.now }
+    {
+        if self.begins_with_query() {
+            &self.words[..self.words.len().min(1)]
+        } else if self.queries.is_empty() {
+            &["$"]
+        } else {
+            &self.queries
+        }
+    }
+
+    /// The files that the words name.
+    pub fn files(&self) -> &[&'a str]
+        ensures { map (λ s. s.now) result.now ≡ asked_files self.now }
+    {
+        if self.begins_with_query() {
+            &self.words[self.words.len().min(1)..]
+        } else {
+            &self.words
+        }
+    }
+
+    /// How many selected lines of each file are wanted. Where the first decides, it is no more than one.
+    pub fn most(&self) -> u64
+        ensures { first_decides self.now ≡ true → result ≤ 1 }
+    {
+        let most = match self.most {
+            Some(number) => number.parse().unwrap_or(u64::MAX),
+            None => u64::MAX,
+        };
+        if self.quiet || self.with_matches || self.without_matches {
+            most.min(1)
+        } else {
+            most
+        }
+    }
+
+    /// What a row shows: nothing where something else is printed.
+    fn shown(&self) -> Shown
+        ensures { result ≡ asked_rows self.now }
+    {
+        if self.quiet || self.with_matches || self.without_matches || self.counted {
+            Shown::Nothing
+        } else if self.only_matching || self.paths {
+            Shown::Values { paths: self.paths }
+        } else {
+            Shown::Line
+        }
+    }
+
+    /// What is printed of a file in place of rows.
+    fn summary(&self) -> Summary
+        ensures { result ≡ asked_summary self.now }
+    {
+        if self.quiet {
+            Summary::Nothing
+        } else if self.with_matches {
+            Summary::NameWith
+        } else if self.without_matches {
+            Summary::NameWithout
+        } else if self.counted {
+            Summary::Count
+        } else {
+            Summary::Nothing
+        }
+    }
+
+    /// What is written of the file with this name.
+    pub fn form<'f>(&self, name: &'f str) -> Form<'f>
+        ensures shown { result.shown ≡ asked_rows self.now }
+        ensures summary { result.summary ≡ asked_summary self.now }
+        ensures name { result.name ≡ name.entry }
+        ensures named { result.named ≡ asks_names self.now }
+        ensures numbered { result.numbered ≡ self.now.numbered }
+        ensures silent { result.silent ≡ self.now.silent }
+        ensures framing { result.framing ≡ self.now.framing }
+    {
+        Form {
+            framing: self.framing,
+            shown: self.shown(),
+            summary: self.summary(),
+            name,
+            named: self.named || (!self.unnamed && self.files().len() > 1),
+            numbered: self.numbered,
+            silent: self.silent,
+            most: self.most(),
+        }
+    }
+}
+
+/// What is said if `-l` is used with `-L`.
+const BOTH_NAMES: &str =
+    "the argument '--files-with-matches' cannot be used with '--files-without-match'";
+
+/// What is said if `-H` is used with `-h`.
+const BOTH_FRONTS: &str = "the argument '--with-filename' cannot be used with '--no-filename'";
+
+/// What is said if `-v` is used with `-o` or `-p`.
+const NO_VALUES: &str =
+    "the argument '--invert-match' cannot be used with '--only-matching' or '--path'";
+
+/// What is said if no word is a query.
+const NO_QUERY: &str = "no QUERY was given, nor '--query <QUERY>' or '--where <CONDITION>'";
+
+/// What is said if the value of `-m` is none.
+const NO_NUMBER: &str =
+    "the value of '--max-count <NUMBER>' is no number from 0 to 18446744073709551615";

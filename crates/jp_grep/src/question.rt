@@ -1,0 +1,114 @@
+//! What a line is asked.
+
+ghost use Rattle.std.specs.Prelude.{◌≡◌, [], ◌∷◌, ◌++◌, IfOk, OnErr, OnOk};
+ghost use Rattle.jp_types.specs.Checks.{checked_view};
+ghost use Rattle.jp_types.specs.CheckedConditions.{checked_condition_view};
+ghost use Rattle.jp_store.specs.Views.{tree_of_view};
+ghost use Rattle.jp_grep.specs.Matching.{all_hold, conditions_of, matches, queries_of, selects};
+
+use jp_eval::{Frame, Predicate, Program};
+use jp_store::LineView;
+use jp_types::{Checked, CheckedCondition};
+use std::alloc::{AllocError, Global};
+
+/// What a line is asked: it matches where each condition holds of its value, and some query selects a node of it.
+#[derive(Drop)]
+pub struct Question {
+    pub(crate) queries: Vec<Program>,
+    pub(crate) conditions: Vec<Predicate>,
+    pub(crate) inverted: bool,
+}
+
+impl Question {
+    /// With no query and no condition yet. An inverted one selects the lines that do not match.
+    pub fn new(alloc: Global, inverted: bool) -> Question
+        ensures queries { queries_of result ≡ [] }
+        ensures conditions { conditions_of result ≡ [] }
+        ensures inverted { result.inverted ≡ inverted }
+    {
+        Question {
+            queries: Vec::new(alloc),
+            conditions: Vec::new(alloc),
+            inverted,
+        }
+    }
+
+    /// Adds a query behind the others.
+    ///
+    /// If memory is refused, the answer is `AllocError`, and the question is as before.
+    pub fn add_query(&mut self, alloc: Global, query: &Checked) -> Result<(), AllocError>
+        ensures added { OnOk result (queries_of self.new ≡ queries_of self.old ++ checked_view query.now ∷ []) }
+        ensures refused { OnErr result (queries_of self.new ≡ queries_of self.old) }
+        ensures conditions { conditions_of self.new ≡ conditions_of self.old }
+        ensures inverted { self.new.inverted ≡ self.old.inverted }
+    {
+        let program = Program::compile(alloc, query.segments())?;
+        self.queries.push(program)?;
+        Ok(())
+    }
+
+    /// Adds a condition behind the others. Both `@` and `$` are the value of the line in it.
+    ///
+    /// If memory is refused, the answer is `AllocError`, and the question is as before.
+    pub fn add_condition(
+        &mut self,
+        alloc: Global,
+        condition: &CheckedCondition,
+    ) -> Result<(), AllocError>
+        ensures added { OnOk result (conditions_of self.new ≡ conditions_of self.old ++ checked_condition_view condition.now ∷ []) }
+        ensures refused { OnErr result (conditions_of self.new ≡ conditions_of self.old) }
+        ensures queries { queries_of self.new ≡ queries_of self.old }
+        ensures inverted { self.new.inverted ≡ self.old.inverted }
+    {
+        let predicate = Predicate::compile(alloc, condition.expression())?;
+        self.conditions.push(predicate)?;
+        Ok(())
+    }
+
+    /// Whether each condition holds of a line's value. It stops at the first that does not.
+    fn all_hold<'a>(
+        &self,
+        alloc: Global,
+        line: LineView<'a>,
+        frame: &mut Frame<'a>,
+    ) -> Result<bool, AllocError>
+        ensures { IfOk result (λ answer. answer ≡ all_hold (conditions_of self.now) (tree_of_view line.entry)) }
+    {
+        for condition in &self.conditions {
+            if !condition.holds_in(alloc, line.root(), line.root(), frame)? {
+                return Ok(false);
+            }
+        }
+        Ok(true)
+    }
+
+    /// Whether a query selects a node of a line. It stops at the first that does.
+    fn selects<'a>(
+        &self,
+        alloc: Global,
+        line: LineView<'a>,
+        frame: &mut Frame<'a>,
+    ) -> Result<bool, AllocError>
+        ensures { IfOk result (λ answer. answer ≡ selects (queries_of self.now) (tree_of_view line.entry)) }
+    {
+        for query in &self.queries {
+            query.run_in(alloc, line.root(), line.root(), frame)?;
+            if !frame.found().is_empty() {
+                return Ok(true);
+            }
+        }
+        Ok(false)
+    }
+
+    /// Whether the value of a line matches.
+    pub(crate) fn matches<'a>(
+        &self,
+        alloc: Global,
+        line: LineView<'a>,
+        frame: &mut Frame<'a>,
+    ) -> Result<bool, AllocError>
+        ensures { IfOk result (λ answer. answer ≡ matches self.now (tree_of_view line.entry)) }
+    {
+        Ok(self.all_hold(alloc, line, frame)? && self.selects(alloc, line, frame)?)
+    }
+}

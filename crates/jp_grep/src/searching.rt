@@ -1,0 +1,241 @@
+//! A search: the lines of a stream, each answered as it comes.
+
+ghost use Rattle.std.specs.Prelude.{◌≡◌, ◌+◌, ◌<◌, ◌≤◌, ◌^◌, ◌||◌, [], length, take, false, is_err, IfErr, MatchResult, OnOk, true};
+ghost use Rattle.std.specs.Io.KnownBytes.{Keeps};
+ghost use Rattle.jp_model.specs.Devices.{Came, GaveUpTo, Received};
+ghost use Rattle.jp_model.specs.Lines.{is_framed};
+ghost use Rattle.jp_masks.specs.Found.{lines_in};
+ghost use Rattle.jp_grep.specs.Cuts.{text_of};
+ghost use Rattle.jp_grep.specs.Faults.{IsToldOf, is_framing_fault, is_input_fault, is_read_fault, is_report_fault, is_write_fault};
+ghost use Rattle.jp_grep.specs.Searching.{Advances, Answers, IsUnderWay};
+ghost use Rattle.jp_grep.specs.Watching.{SearchStopped, Searched, SearchedLines};
+
+use crate::answer::Answerer;
+use crate::fault::SearchFault;
+use crate::form::Form;
+use crate::progress::{Counts, Progress};
+use crate::question::Question;
+use crate::rows::write_summary;
+use crate::stream::{Stream, find_end};
+use jp_model::Watched;
+use jp_store::BatchRoom;
+use std::alloc::Global;
+use std::io;
+use std::io::{Read, Write};
+
+/// The bytes that one read asks for.
+const PIECE: usize = 65_536;
+
+/// Flushes a writer where it took bytes that are unflushed.
+fn flush_written<W: Write>(out: &mut Watched<W>) -> io::Result<()>
+    requires working { out.old.failed ≡ false }
+    ensures bytes { Keeps (W.contents out.old.device) (W.contents out.new.device) }
+    ensures taken { out.new.taken ≡ out.old.taken }
+    ensures flushed { OnOk result (out.new.unflushed ≡ false) }
+    ensures fault { out.new.failed ≡ is_err result }
+    ensures after { out.new.after ≡ out.old.after }
+{
+    if out.unflushed() {
+        return out.flush();
+    }
+    Ok(())
+}
+
+/// Flushes the rows and the messages, so that whoever waits for them has them before more is read.
+fn flush_all<W: Write, E: Write>(
+    out: &mut Watched<W>,
+    messages: &mut Watched<E>,
+) -> Result<(), SearchFault>
+    requires writes { out.old.failed ≡ false }
+    requires reports { messages.old.failed ≡ false }
+    ensures rows { Received W.contents out.old out.new [] }
+    ensures messages { Received E.contents messages.old messages.new [] }
+    ensures flushed { OnOk result ((out.new.unflushed ≡ false) × (messages.new.unflushed ≡ false)) }
+    ensures write_fault { IsToldOf is_write_fault result out.new.failed }
+    ensures report_fault { IsToldOf is_report_fault result messages.new.failed }
+    ensures others { IsToldOf is_input_fault result false }
+    ensures after { out.new.after ≡ out.old.after }
+    ensures messages_after { messages.new.after ≡ messages.old.after }
+{
+    if flush_written(out).is_err() {
+        return Err(SearchFault::Write);
+    }
+    if flush_written(messages).is_err() {
+        return Err(SearchFault::Report);
+    }
+    Ok(())
+}
+
+/// What goes through a stream.
+#[derive(Drop)]
+struct Searcher {
+    stream: Stream,
+    room: BatchRoom,
+    progress: Progress,
+}
+
+impl Searcher {
+    /// Answers the lines of the bytes that are held up to an end of a line, or up to the end of the stream.
+    fn answer_until<W: Write, E: Write>(
+        &mut self,
+        answerer: Answerer<'_>,
+        end: usize,
+        out: &mut Watched<W>,
+        messages: &mut Watched<E>,
+    ) -> Result<(), SearchFault>
+        requires end { end ≤ length self.old.stream.held.items }
+        requires few { length self.old.stream.held.items < 2 ^ 32 }
+        requires framing { self.old.stream.framing ≡ answerer.form.now.framing }
+        requires under_way { IsUnderWay answerer.form.now self.old.progress }
+        requires writes { out.old.failed ≡ false }
+        requires reports { messages.old.failed ≡ false }
+        ensures answers { Answers W.contents E.contents answerer.entry.question.now answerer.entry.form.now self.old.progress self.new.progress out.old out.new messages.old messages.new result
+            (lines_in answerer.entry.form.now.framing (text_of self.old.stream.is_first (take end self.old.stream.held.items))) }
+        ensures framed { OnOk result (self.old.stream.is_first ≡ true → is_framed answerer.entry.form.now.framing (take end self.old.stream.held.items) ≡ true) }
+        ensures unframed { IfErr result (λ fault. is_framing_fault fault ≡ true → (out.new ≡ out.old) × (messages.new ≡ messages.old) × (self.old.stream.is_first ≡ true)
+            × (is_framed answerer.entry.form.now.framing (take end self.old.stream.held.items) ≡ false)) }
+        ensures stream { self.new.stream ≡ self.old.stream }
+        ensures write_fault { IsToldOf is_write_fault result out.new.failed }
+        ensures report_fault { IsToldOf is_report_fault result messages.new.failed }
+        ensures others { IsToldOf is_read_fault result false }
+        ensures after { out.new.after ≡ out.old.after }
+        ensures messages_after { messages.new.after ≡ messages.old.after }
+    {
+        let framing = self.stream.framing;
+        let text = self.stream.text_until(end)?;
+        let Ok(batch) = self.room.read(framing, text) else {
+            return Err(SearchFault::Memory);
+        };
+        answerer.answer_batch(batch, &mut self.progress, out, messages)
+    }
+
+    /// Holds the bytes that came, and answers the lines that end among them.
+    fn answer_piece<W: Write, E: Write>(
+        &mut self,
+        answerer: Answerer<'_>,
+        piece: &[u8],
+        out: &mut Watched<W>,
+        messages: &mut Watched<E>,
+    ) -> Result<(), SearchFault>
+        requires few { length self.old.stream.held.items < 2 ^ 32 }
+        requires framing { self.old.stream.framing ≡ answerer.form.now.framing }
+        requires under_way { IsUnderWay answerer.form.now self.old.progress }
+        requires writes { out.old.failed ≡ false }
+        requires reports { messages.old.failed ≡ false }
+        ensures advances { Advances W.contents E.contents answerer.entry.question.now answerer.entry.form.now self.old.stream self.new.stream self.old.progress self.new.progress out.old out.new messages.old messages.new result piece.now }
+        ensures few { OnOk result (length self.new.stream.held.items < 2 ^ 32) }
+        ensures framing { OnOk result (self.new.stream.framing ≡ answerer.entry.form.now.framing) }
+        ensures write_fault { IsToldOf is_write_fault result out.new.failed }
+        ensures report_fault { IsToldOf is_report_fault result messages.new.failed }
+        ensures others { IsToldOf is_read_fault result false }
+        ensures after { out.new.after ≡ out.old.after }
+        ensures messages_after { messages.new.after ≡ messages.old.after }
+    {
+        let from = self.stream.held.len();
+        let end = find_end(self.stream.framing, piece);
+        self.stream.hold(piece)?;
+        match end {
+            None => Ok(()),
+            Some(end) => {
+                self.answer_until(answerer, from + end, out, messages)?;
+                self.stream.let_go(from + end)
+            }
+        }
+    }
+}
+
+/// Answers the lines of a stream, piece by piece, up to its end or to the last line that is wanted.
+fn search_lines<R: Read, W: Write, E: Write>(
+    answerer: Answerer<'_>,
+    input: &mut Watched<R>,
+    out: &mut Watched<W>,
+    messages: &mut Watched<E>,
+) -> Result<Counts, SearchFault>
+    requires reads { input.old.failed ≡ false }
+    requires unended { input.old.ended ≡ false }
+    requires writes { out.old.failed ≡ false }
+    requires reports { messages.old.failed ≡ false }
+    ensures output { (came : Came) × GaveUpTo R.remaining input.old input.new came × MatchResult result
+        (λ counts. SearchedLines W.contents E.contents answerer.entry.question.now answerer.entry.form.now out.old out.new messages.old messages.new came counts)
+        (λ fault. SearchStopped W.contents E.contents answerer.entry.question.now answerer.entry.form.now out.old out.new messages.old messages.new fault came) }
+    ensures read_fault { IsToldOf is_read_fault result input.new.failed }
+    ensures write_fault { IsToldOf is_write_fault result out.new.failed }
+    ensures report_fault { IsToldOf is_report_fault result messages.new.failed }
+    ensures after { input.new.after ≡ input.old.after }
+    ensures out_after { out.new.after ≡ out.old.after }
+    ensures messages_after { messages.new.after ≡ messages.old.after }
+    ensures early { input.new.early ≡ input.old.early }
+{
+    let mut searcher = Searcher {
+        stream: Stream::new(answerer.alloc, answerer.form.framing),
+        room: BatchRoom::new(answerer.alloc),
+        progress: Progress::new(),
+    };
+    let mut buffer = [0; PIECE];
+    for _read in 0..u64::MAX {
+        if searcher.progress.counts.selected == answerer.form.most {
+            return Ok(searcher.progress.counts);
+        }
+        flush_all(out, messages)?;
+        let Ok(count) = input.read_after(out, &mut buffer) else {
+            return Err(SearchFault::Read);
+        };
+        if count == 0 {
+            let end = searcher.stream.held.len();
+            searcher.answer_until(answerer, end, out, messages)?;
+            return Ok(searcher.progress.counts);
+        }
+        searcher.answer_piece(answerer, &buffer[..count], out, messages)?;
+    }
+    Err(SearchFault::Size)
+}
+
+/// Searches a stream: reads it piece by piece, and answers each line as it comes. A row is written for each selected line, and a
+/// message for each refused one; behind the rows what the form asks for. A byte order mark at the front is dropped.
+///
+/// Before each read both writers are flushed where they took bytes since, and each line that ended is answered. No read follows one
+/// that answered 0, one that failed, or the last line that is wanted, and no write follows one that failed or took no byte.
+///
+/// # Errors
+///
+/// `Read` if a read failed: each line that ended before is answered. `Framing` if bytes other than white space come before the first
+/// separator of a sequence: nothing is written then. `Size` if a line is longer than 4,294,967,294 bytes, `Memory` if a growth was
+/// refused, `Write` and `Report` if a row or a message was not written: then a beginning of the answer was.
+pub fn search<R: Read, W: Write, E: Write>(
+    alloc: Global,
+    question: &Question,
+    form: &Form<'_>,
+    input: &mut Watched<R>,
+    out: &mut Watched<W>,
+    messages: &mut Watched<E>,
+) -> Result<Counts, SearchFault>
+    requires reads { input.old.failed ≡ false }
+    requires unended { input.old.ended ≡ false }
+    requires writes { out.old.failed ≡ false }
+    requires reports { messages.old.failed ≡ false }
+    // The reader gave some bytes. At Ok all lines up to the last one that is wanted are answered; else what `SearchStopped` says.
+    ensures output { (came : Came) × GaveUpTo R.remaining input.old input.new came × MatchResult result
+        (λ counts. Searched W.contents E.contents question.now form.now out.old out.new messages.old messages.new came counts)
+        (λ fault. SearchStopped W.contents E.contents question.now form.now out.old out.new messages.old messages.new fault came) }
+    // Each device's fault is answered exactly where that device failed.
+    ensures read_fault { IsToldOf is_read_fault result input.new.failed }
+    ensures write_fault { IsToldOf is_write_fault result out.new.failed }
+    ensures report_fault { IsToldOf is_report_fault result messages.new.failed }
+    // No call follows one that failed, and no read one that answered 0.
+    ensures after { input.new.after ≡ input.old.after }
+    ensures out_after { out.new.after ≡ out.old.after }
+    ensures messages_after { messages.new.after ≡ messages.old.after }
+    // No read comes while rows are unflushed.
+    ensures early { input.new.early ≡ input.old.early }
+{
+    let answerer = Answerer {
+        alloc,
+        question,
+        form,
+    };
+    let counts = search_lines(answerer, input, out, messages)?;
+    if write_summary(form, counts.selected, out).is_err() {
+        return Err(SearchFault::Write);
+    }
+    Ok(counts)
+}
