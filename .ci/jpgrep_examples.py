@@ -1,0 +1,199 @@
+"""Runs jpgrep on each example of `jpgrep.examples` in a fresh folder, and tries what data cannot say: devices, pipes, memory, and
+jpq on the same collections.
+
+    jpgrep_examples.py PROGRAM JPQ
+
+How an example is written stands at the head of the examples. Without an executable JPQ the comparison with it is left out.
+"""
+import json
+import os
+import pathlib
+import random
+import re
+import shlex
+import subprocess
+import sys
+import tempfile
+import threading
+import time
+
+PROGRAM, JPQ = (os.path.abspath(word) for word in sys.argv[1:])
+EXAMPLES = pathlib.Path(__file__).with_name("jpgrep.examples")
+SECONDS = 60
+counts = [0, 0]  # failed and passed
+
+
+def check(name, got, stated):
+    """Compares what a run gave with what is stated of it."""
+    counts[got == stated] += 1
+    if got != stated:
+        print(f"jpgrep, {name}: NOT AS STATED\n  got    {str(got)[:600]}\n  stated {str(stated)[:600]}")
+
+
+def ended(words, room, text=b"", out=subprocess.PIPE):
+    """What a run with these words writes and says, and its status. The text is its standard input."""
+    run = subprocess.run([PROGRAM, *words], cwd=room, input=text, stdout=out, stderr=subprocess.PIPE, timeout=SECONDS)
+    return run.stdout, run.stderr, run.returncode
+
+
+def line_of(text):
+    """The bytes of a line and, unless it is left out, its line feed. Some stand in hexadecimal between guillemets, where `*`
+    tells how many times they come."""
+    parts = re.split("«([0-9A-F ]+)(?:[*]([0-9]+))?»", text.removesuffix("«no line feed»"))
+    whole = parts[0].encode()
+    for spelled, times, behind in zip(parts[1::3], parts[2::3], parts[3::3]):
+        whole += bytes.fromhex(spelled) * int(times or 1) + behind.encode()
+    return whole if text.endswith("«no line feed»") else whole + b"\n"
+
+
+class Example:
+    """An example; `texts` are its standard input, output and error, by the signs of their lines."""
+
+    def __init__(self, name):
+        self.name, self.words, self.status = name, None, 0
+        self.texts, self.first_alone = {"|": b"", "<": b"", "!": b""}, set()
+
+    def add(self, line):
+        if line.startswith("$ jpgrep"):
+            self.words = shlex.split(os.fsdecode(line_of(line)))[2:]
+        elif line.startswith("status "):
+            self.status = int(line[7:])
+        elif line[1:4] == ".. ":
+            self.first_alone.add(line[0])
+            self.texts[line[0]] = line_of(line[4:])
+        else:
+            self.texts[line[0]] += line_of(line[2:])
+
+    def run(self, files):
+        with tempfile.TemporaryDirectory() as room:
+            for name, text in files.items():
+                path = pathlib.Path(room, name)
+                path.mkdir() if text is None else path.write_bytes(text)
+            got = list(ended(self.words, room, self.texts["|"]))
+        for place, sign in enumerate("<!"):
+            if sign in self.first_alone:
+                got[place] = got[place].partition(b"\n")[0] + b"\n"
+        check(self.name, got, [self.texts["<"], self.texts["!"], self.status])
+
+
+def read_examples():
+    """The files by name, where a folder is None, and the examples."""
+    files, examples, name = {}, [], None
+    for line in EXAMPLES.read_text("utf-8").split("\n"):
+        if line.startswith("== "):
+            examples.append(Example(line[3:]))
+        elif line == "" or line[0] == "#":
+            continue
+        elif examples:
+            examples[-1].add(line)
+        elif line[0] == "|":
+            files[name] += line_of(line[2:])
+        else:
+            kind, name = line.split(" ", 1)
+            files[name] = {"file": b"", "folder": None}[kind]
+    return files, examples
+
+
+def devices(room):
+    pathlib.Path(room, "one").write_bytes(b'{"a":1}\n')
+    pathlib.Path(room, "many").write_bytes(b'{"a":1}\n' * 100_000)
+    for words in (["$.a", "one"], ["$.a", "many"], ["-c", "$.a", "one"]):
+        with open("/dev/full", "wb") as full:
+            check(f"{words} to a full device", ended(words, room, out=full)[1:], (b"jpgrep: cannot write\n", 2))
+    for words, stated in (([], b""), (["one", "-", "one"], b'one:{"a":1}\n' * 2)):
+        run = subprocess.run(["bash", "-c", '"$0" "$@" <&-', PROGRAM, "$.a", *words], cwd=room, capture_output=True, timeout=SECONDS)
+        check(f"a closed standard input {words}", (run.stdout, run.stderr, run.returncode), (stated, b"jpgrep: (standard input): cannot read\n", 2))
+    endless = subprocess.Popen(["yes", '{"a":1}'], stdout=subprocess.PIPE)
+    run = subprocess.run(["bash", "-c", '"$0" "$@" | head -1', PROGRAM, "$.a"], stdin=endless.stdout, capture_output=True, timeout=SECONDS)
+    endless.kill()
+    check("endless lines and head -1", (run.stdout, run.stderr), (b'{"a":1}\n', b""))
+    # Lines that end about the ends of the pieces of 65,536 bytes that are read at once, and lines that are longer.
+    lines = [b'"' + b"x" * (length - 2) + b'"\n' for length in (65_534, 65_535, 65_536, 3, 65_530, 200_000, 2, 131_072, 9)]
+    check("lines about the ends of pieces", ended(["-n", "$"], room, b"".join(lines)),
+          (b"".join(b"%d:%s" % numbered for numbered in enumerate(lines, 1)), b"", 0))
+
+
+def follows(name, words, steps, room):
+    """Through a fifo the rows and messages of what ends in a step come before the next step is written. A step is what is
+    written, and the row and the message that come for it."""
+    fifo = os.path.join(room, "fifo")
+    os.mkfifo(fifo)
+    run = subprocess.Popen([PROGRAM, *words, "fifo"], cwd=room, stdout=subprocess.PIPE, stderr=subprocess.PIPE, bufsize=0)
+    too_long = threading.Timer(20, run.kill)
+    too_long.start()
+    # Opened for reading too, so that no write fails or waits if the program is gone.
+    with open(fifo, "r+b", buffering=0) as lines:
+        for number, (text, row, message) in enumerate(steps, 1):
+            lines.write(text)
+            time.sleep(0.05)
+            for pipe, stated in ((run.stdout, row), (run.stderr, message)):
+                if stated:
+                    check(f"{name}, step {number}", pipe.readline(), stated)
+    check(f"the end of {name}", (run.wait(), run.stdout.read(), run.stderr.read()), (2, b"", b""))
+    too_long.cancel()
+    os.remove(fifo)
+
+
+LINES = ((b"\xef\xbb", b"", b""), (b'\xbf{"a":1}\r', b"", b""), (b"\n", b'1:{"a":1}\r\n', b""), (b"x\n", b"", b"jpgrep: fifo:2: grammar\n"),
+         (b'{"b":1}\n{"a', b"", b""), (b'":2}\n{\n{"a":3', b'4:{"a":2}\n', b"jpgrep: fifo:5: grammar\n"), (b"}\n", b'6:{"a":3}\n', b""))
+TEXTS = ((b' \x1e{"a":1}\n', b"", b""), (b"\x1e", b'\x1e1:{"a":1}\n', b""), (b"12\x1e", b"", b"jpgrep: fifo:2: truncated\n"),
+         (b'{"a":2}', b"", b""), (b"\x1e", b'\x1e3:{"a":2}\n', b""))
+
+
+def memory():
+    """The peak of the process is asked before its standard input ends."""
+    lines = b'{"level":"info","ms":12,"path":["a","b"]}\n' * 25_000  # somewhat more than 1 MB
+    run = subprocess.Popen([PROGRAM, "-c", "$[?@ == 12]"], stdin=subprocess.PIPE, stdout=subprocess.PIPE)
+    for _ in range(200):
+        run.stdin.write(lines)
+    kilobytes = int(re.search(r"VmHWM:\s*(\d+) kB", pathlib.Path(f"/proc/{run.pid}/status").read_text("ascii"))[1])
+    check("the count of 200 MB", run.communicate(timeout=SECONDS)[0], b"5000000\n")
+    check("200 MB in less than 20 MB", kilobytes if kilobytes >= 20_000 else "less", "less")
+
+
+def random_value(dice, depth):
+    if depth == 0 or dice.random() < 0.4:
+        return dice.choice((0, 1, -1, 2.5, "a", "b", "é", "x\ty", "", None, True, False))
+    if dice.random() < 0.4:
+        return [random_value(dice, depth - 1) for _ in range(dice.randrange(4))]
+    return {name: random_value(dice, depth - 1) for name in dice.sample(("a", "b", "c", "d e", "'"), dice.randrange(4))}
+
+
+SEGMENTS = (".a", ".b", "['d e']", "[\"'\"]", "[*]", "..a", "..*", "..[0]", "[0]", "[-1]", "[0,1]", "[1:]", "[::-1]", "['a','b']", "[?@.a]",
+            "[?@ == 1]", "[?@.a == $.a]", "[?@ > 0 || @ == 'a']", "[?length(@) == 1]", "[?count(@.*) > 1]", "[?!@.b]")
+
+
+def beside_jpq(room):
+    """Row by row `-onp` says what the command `query` of jpq says, with a colon in the place of the first tab."""
+    dice = random.Random(9535)
+    for number in range(300):
+        lines = [json.dumps(random_value(dice, 4), ensure_ascii=dice.random() < 0.5) for _ in range(dice.randrange(1, 7))]
+        lines += dice.sample(("", " ", "{", "[1,]", '{"a":1,"a":2}'), dice.randrange(3))
+        dice.shuffle(lines)
+        pathlib.Path(room, "lines").write_bytes("".join(line + "\n" for line in lines).encode())
+        query = "$" + "".join(dice.choice(SEGMENTS) for _ in range(dice.choice((0, 1, 1, 1, 2, 2, 3))))
+        answer = subprocess.run([JPQ, "lines", "-c", "query " + query], cwd=room, stdout=subprocess.PIPE, check=True, timeout=SECONDS)
+        rows = [row.split(b"\t", 1) for row in answer.stdout.splitlines() if not row.startswith(b"= ")]
+        stated = b"".join(b"%s:%s\n" % (line, rest) for line, rest in rows if rest[:1] != b"!")
+        refused = b"".join(b"jpgrep: lines:%s: %s\n" % (line, rest[1:]) for line, rest in rows if rest[:1] == b"!")
+        check(f"collection {number} with {query}", ended(["-onp", query, "lines"], room), (stated, refused, 2 if refused else 0 if stated else 1))
+
+
+def main():
+    files, examples = read_examples()
+    for example in examples:
+        example.run(files)
+    with tempfile.TemporaryDirectory() as room:
+        devices(room)
+        follows("lines of a fifo", ["-n", "$.a"], LINES, room)
+        follows("texts of a fifo", ["-n", "--seq", "$.a"], TEXTS, room)
+        memory()
+        if os.access(JPQ, os.X_OK):
+            beside_jpq(room)
+        else:
+            print(f"left out: the comparison with jpq, as there is none at {JPQ}")
+    print(f"{counts[1]} passed, {counts[0]} failed")
+    return 1 if counts[0] else 0
+
+
+sys.exit(main())
