@@ -104,8 +104,10 @@ def devices(room):
         run = subprocess.run(["bash", "-c", '"$0" "$@" <&-', PROGRAM, "$.a", *words], cwd=room, capture_output=True, timeout=SECONDS)
         check(f"a closed standard input {words}", (run.stdout, run.stderr, run.returncode), (stated, b"jpgrep: (standard input): cannot read\n", 2))
     endless = subprocess.Popen(["yes", '{"a":1}'], stdout=subprocess.PIPE)
-    run = subprocess.run(["bash", "-c", '"$0" "$@" | head -1', PROGRAM, "$.a"], stdin=endless.stdout, capture_output=True, timeout=SECONDS)
-    endless.kill()
+    try:
+        run = subprocess.run(["bash", "-c", '"$0" "$@" | head -1', PROGRAM, "$.a"], stdin=endless.stdout, capture_output=True, timeout=SECONDS)
+    finally:
+        endless.kill()
     check("endless lines and head -1", (run.stdout, run.stderr), (b'{"a":1}\n', b""))
     # Lines that end about the ends of the pieces of 65,536 bytes that are read at once, and lines that are longer.
     lines = [b'"' + b"x" * (length - 2) + b'"\n' for length in (65_534, 65_535, 65_536, 3, 65_530, 200_000, 2, 131_072, 9)]
