@@ -1,5 +1,5 @@
-# Completes the command line of jpq in bash: the options, as `jpq --help` tells them, files, and the commands of a script behind
-# -c and --command. A package has it as usr/share/bash-completion/completions/jpq; else it is read by `. completion.bash`.
+# Completes the command lines of jpq and jpgrep in bash. Of jpq: the options, as `jpq --help` tells them, files, and the commands of a script behind
+# -c and --command. A package has it as usr/share/bash-completion/completions/jpq and jpgrep; else it is read by `. completion.bash`.
 
 # Puts the commands of a script that begin with a word into COMPREPLY. One that takes an argument opens a quote, in which the
 # argument is typed, unless a quote is open already.
@@ -36,4 +36,14 @@ _jpq() {
             fi ;;
     esac
 }
+
+# Completes that of jpgrep: its options, and files.
+_jpgrep() {
+    local word=$2 help
+    COMPREPLY=()
+    [[ $word == -* ]] || return 0
+    help=$("$1" --help 2> /dev/null | sed -n '/^Options/,/^$/s/^  *\(-[^<]*\).*/\1/p' | grep -o -E -- '(^|[ ,])--?[a-zA-Z-]+')
+    mapfile -t COMPREPLY < <(compgen -W "${help//,/ }" -- "$word")
+}
 complete -o default -F _jpq jpq
+complete -o default -F _jpgrep jpgrep
