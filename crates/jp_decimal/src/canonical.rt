@@ -1,3 +1,5 @@
+//! The one key of all spellings of a number (RFC 9535, section 2.3.5.2.2: numbers are equal by their value).
+
 ghost use Rattle.std.specs.Prelude.{◌≡◌, ◌<◌, ◌≤◌, length, slice_range, IfOk};
 ghost use Rattle.jp_decimal.specs.Decimals.{number_of};
 ghost use Rattle.jp_decimal.specs.Magnitudes.{digits, unsigned_mantissa, exponent_behind};

@@ -1,3 +1,5 @@
+//! A number as its bytes spell it (RFC 8259, section 6), and its order and equality by exact value.
+
 ghost use Rattle.std.specs.Prelude.{◌≡◌};
 ghost use Rattle.std.specs.Ordering.{is_eq};
 ghost use Rattle.jp_decimal.specs.Values.{order};

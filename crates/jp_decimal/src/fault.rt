@@ -1,3 +1,5 @@
+//! Why bytes are refused as a number.
+
 /// Why bytes are refused as a number.
 #[derive(Clone, Copy, Debug, PartialEq, Eq)]
 pub enum NumberFault {

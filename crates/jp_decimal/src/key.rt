@@ -1,3 +1,5 @@
+//! What a key of a number is: its sign, its power of ten and its digits without zeros at either end.
+
 ghost use Rattle.std.specs.Prelude.{◌≡◌, true, ◌≢◌, ◌-◌, length, slice_index_or};
 ghost use Rattle.std.specs.List.{list_all};
 ghost use Rattle.jp_model.specs.Characters.{is_digit};

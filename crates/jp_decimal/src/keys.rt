@@ -1,3 +1,5 @@
+//! Keys of numbers compared and copied.
+
 ghost use Rattle.std.specs.Prelude.{◌≡◌, refl, IfOk, Some};
 ghost use Rattle.std.specs.Cmp.{eq_by_cmp_equiv, partial_equiv_from_equiv, po};
 ghost use Rattle.std.specs.Ordering.{is_eq};

@@ -1,3 +1,5 @@
+//! A number without its sign, beside the place of its first and of its last digit that is not zero.
+
 ghost use Rattle.std.specs.Prelude.{◌≢◌, ◌-◌, ◌<◌, ◌≤◌, length, slice_index_or};
 ghost use Rattle.jp_decimal.specs.Magnitudes.{digits, BeginsWithZeros, EndsWithZeros};
 

@@ -1,3 +1,5 @@
+//! A number that owns its digits, as it is kept.
+
 ghost use Rattle.std.specs.Prelude.{◌≡◌, ◌≢◌, true, ◌+◌, ◌-◌, ◌^◌, ◌<◌, ◌≤◌, ◌≤ℤ◌, ◌++◌, pos, negsuc, length, slice_index_or};
 ghost use Rattle.std.specs.List.{list_all};
 ghost use Rattle.jp_model.specs.Characters.{is_digit};

@@ -1,3 +1,5 @@
+//! Numbers without their signs, compared by exact value digit by digit.
+
 ghost use Rattle.std.specs.Prelude.{◌≡◌, ◌≢◌, ◌+◌, ◌-◌, ◌<◌, ◌≤◌, ◌↔◌, length, IsTrue, slice_index_or};
 ghost use Rattle.jp_decimal.specs.Values.{size_order};
 ghost use Rattle.jp_decimal.specs.Magnitudes.{digits, unsigned_mantissa, exponent_behind, power_above, BeginsWithZeros, EndsWithZeros};

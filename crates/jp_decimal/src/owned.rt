@@ -1,3 +1,5 @@
+//! A number copied into digits of its own, and seen as a `Decimal` again.
+
 ghost use Rattle.std.specs.Prelude.{◌≡◌, IfOk};
 ghost use Rattle.jp_decimal.specs.Decimals.{number_of, numeral_number};
 

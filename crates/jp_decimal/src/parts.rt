@@ -1,3 +1,5 @@
+//! A number without its sign, in the parts that its bytes spell.
+
 ghost use Rattle.std.specs.Prelude.{◌≡◌, true, ◌+◌, ◌^◌, ◌<◌, ◌≤ℤ◌, pos, negsuc, length};
 ghost use Rattle.std.specs.List.{list_all};
 ghost use Rattle.jp_model.specs.Characters.{is_digit};

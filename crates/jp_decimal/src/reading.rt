@@ -1,3 +1,5 @@
+//! Bytes read as a number of RFC 8259, section 6.
+
 ghost use Rattle.std.specs.Prelude.{◌≡◌, ◌≢◌, ℕ, ◌+◌, ◌*◌, ◌^◌, ◌<◌, ◌≤◌, ◌++◌, ◌↔◌, Bool, true, false, pos, negsuc, ◌≤ℤ◌, List, ◌∷◌, length, slice_index_or, IsTrue, IfOk, MatchOption, MatchResult};
 ghost use Rattle.jp_model.specs.Characters.{is_digit, digits_value};
 ghost use Rattle.jp_model.specs.Json.Numbers.{AreDigits, AreSomeDigits, IsInt, without_leading_zeros, Sign, is_minus, sign_bytes};

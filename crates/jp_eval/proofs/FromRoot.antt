@@ -2,7 +2,7 @@
 use Rattle.std.proofs.Common.{◌≡◌, ◌+◌, ◌∷◌, ◌&&◌, ◌||◌, ◌==◌, Bool, true, List, length, not, refl, sym, ◌∙◌, ap, ap₂}
 use Rattle.jp_model.specs.Json.Tree.{Tree}
 use Rattle.jp_model.specs.Meaning.Compare.{compared}
-use Rattle.jp_model.specs.Meaning.Functions.{Given, given_value, logical_function, single_value, value_function}
+use Rattle.jp_model.specs.Meaning.Functions.{ArgumentResult, given_value, logical_function, single_value, value_function}
 use Rattle.jp_model.specs.Meaning.Nodes.{Node, root_node}
 use Rattle.jp_model.specs.Meaning.Selecting.{call_truth, call_value, compared_value, each_true, given, given_by, path_nodes, some_true, truth}
 use Rattle.jp_model.specs.Query.Syntax.{root, current, Logical, or_all, and_all, negated, compare, exists, test, Logicals, no_logicals, logical, Comparable, constant, single, result, Argument, constant_argument, nodes_argument, condition, result_argument, Arguments, no_arguments, argument, Path, path, Call, call}
@@ -51,7 +51,7 @@ mutual
 abbrev truth_of_found : List Node → Bool
 truth_of_found found = not (length found == 0)
 
-abbrev nodes_given : List Node → Given
+abbrev nodes_given : List Node → ArgumentResult
 nodes_given found = record { value = single_value found; nodes = found }
 
 pub path_told : (p : Path) (n : Node) (t : Tree) → path_nodes (path_from_root p) n t ≡ path_nodes p (root_node t) t
@@ -88,7 +88,7 @@ mutual
 
   given_told : (args : Arguments) (n : Node) (t : Tree) → given (arguments_from_root args) n t ≡ given args (root_node t) t
   given_told no_arguments n t = refl
-  given_told (argument a args) n t = ap₂ (λ (x : Given) (xs : List Given). x ∷ xs) (argument_told a n t) (given_told args n t)
+  given_told (argument a args) n t = ap₂ (λ (x : ArgumentResult) (xs : List ArgumentResult). x ∷ xs) (argument_told a n t) (given_told args n t)
 
   argument_told : (a : Argument) (n : Node) (t : Tree) → given_by (argument_from_root a) n t ≡ given_by a (root_node t) t
   argument_told (constant_argument c) n t = refl

@@ -31,7 +31,7 @@ abbrev pub AreKept : Run → List (Option Answer) → Type 0
 AreKept run answers = (position : ℕ) (answer : Answer) → slice_get answers position ≡ Some (Some answer) → IsAnswer run position answer
 
 -- a node of the line, and a frame whose answers are right
-pub record Stands (walk : Walk) (node : Cursor) (frame : Frame) : Type 0 where
+pub record IsFrameFor (walk : Walk) (node : Cursor) (frame : Frame) : Type 0 where
   pub line : line_of node ≡ line_of walk.run.now.root.now
   pub kept : AreKept walk.run.now frame.answers.items
 

@@ -8,7 +8,7 @@ ghost use Rattle.jp_model.specs.Query.Syntax.{current, path};
 ghost use Rattle.jp_query.specs.View.{op_view};
 ghost use Rattle.jp_tape.specs.Cursors.{node_of};
 ghost use Rattle.jp_eval.specs.Expressions.{all_are};
-ghost use Rattle.jp_eval.specs.Frames.{table_at, tree_at, reached, Stands, Lends};
+ghost use Rattle.jp_eval.specs.Frames.{table_at, tree_at, reached, IsFrameFor, Lends};
 ghost use Rattle.jp_eval.specs.Functions.{passing};
 ghost use Rattle.jp_eval.specs.Keys.{keys_view};
 ghost use Rattle.jp_eval.specs.Programs.{conditions_view, condition_view, test_view, operand_view, spelled_view};
@@ -41,7 +41,7 @@ impl<'r, 'a> Walk<'r, 'a> {
         condition: &Condition,
         frame: &mut Frame<'a>,
     ) -> Result<bool>
-        requires { Stands self node frame.old }
+        requires { IsFrameFor self node frame.old }
         ensures lends { Lends self.entry frame.old frame.new result }
         ensures value { IfOk result (λ b. b ≡ truth_of (condition_view (table_at self.entry) condition.now) (node_of node.entry) (tree_at self.entry)) }
     {
@@ -55,7 +55,7 @@ impl<'r, 'a> Walk<'r, 'a> {
     #[cycle(eval)]
     #[inline(always)]
     pub(crate) fn passes(self, node: Cursor<'a>, test: &Test, frame: &mut Frame<'a>) -> Result<bool>
-        requires { Stands self node frame.old }
+        requires { IsFrameFor self node frame.old }
         ensures lends { Lends self.entry frame.old frame.new result }
         ensures value { IfOk result (λ b. b ≡ truth_of (test_view (table_at self.entry) test.now) (node_of node.entry) (tree_at self.entry)) }
     {
@@ -74,7 +74,7 @@ impl<'r, 'a> Walk<'r, 'a> {
         test: &Test,
         frame: &mut Frame<'a>,
     ) -> Result<bool>
-        requires { Stands self node frame.old }
+        requires { IsFrameFor self node frame.old }
         ensures lends { Lends self.entry frame.old frame.new result }
         ensures value { IfOk result (λ b. b ≡ truth_of (test_view (table_at self.entry) test.now) (node_of node.entry) (tree_at self.entry)) }
     {
@@ -104,7 +104,7 @@ impl<'r, 'a> Walk<'r, 'a> {
         answer: bool,
         frame: &mut Frame<'a>,
     ) -> Result<bool>
-        requires { Stands self node frame.old }
+        requires { IsFrameFor self node frame.old }
         ensures lends { Lends self.entry frame.old frame.new result }
         ensures value { IfOk result (λ b. b ≡ all_are answer (conditions_view (table_at self.entry) parts.now) (node_of node.entry) (tree_at self.entry)) }
     {
@@ -120,7 +120,7 @@ impl<'r, 'a> Walk<'r, 'a> {
     #[cycle(eval)]
     #[inline(never)]
     fn has_node(self, node: Cursor<'a>, steps: &[Step], frame: &mut Frame<'a>) -> Result<bool>
-        requires { Stands self node frame.old }
+        requires { IsFrameFor self node frame.old }
         ensures lends { Lends self.entry frame.old frame.new result }
         ensures value { IfOk result (λ b. b ≡ not (length (reached self.entry.run.now steps.now (node_of node.entry ∷ [])) == 0)) }
     {
@@ -143,7 +143,7 @@ impl<'r, 'a> Walk<'r, 'a> {
         right: &Operand,
         frame: &mut Frame<'a>,
     ) -> Result<bool>
-        requires { Stands self node frame.old }
+        requires { IsFrameFor self node frame.old }
         ensures lends { Lends self.entry frame.old frame.new result }
         ensures value { IfOk result (λ b. b ≡ compared (op_view op) (compared_value (operand_view (table_at self.entry) left.now) (node_of node.entry) (tree_at self.entry)) (compared_value (operand_view (table_at self.entry) right.now) (node_of node.entry) (tree_at self.entry))) }
     {
@@ -163,7 +163,7 @@ impl<'r, 'a> Walk<'r, 'a> {
         pattern: &Spelled,
         frame: &mut Frame<'a>,
     ) -> Result<bool>
-        requires { Stands self node frame.old }
+        requires { IsFrameFor self node frame.old }
         ensures lends { Lends self.entry frame.old frame.new result }
         ensures value { IfOk result (λ b. b ≡ in_pattern (passing whole) (compared_value (operand_view (table_at self.entry) text.now) (node_of node.entry) (tree_at self.entry)) (given_by (spelled_view (table_at self.entry) pattern.now) (node_of node.entry) (tree_at self.entry)).value) }
     {

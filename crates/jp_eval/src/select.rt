@@ -9,7 +9,7 @@ ghost use Rattle.jp_model.specs.Meaning.Selecting.{segment_nodes, selected, sele
 ghost use Rattle.jp_model.specs.Meaning.Slices.{is_index, sliced};
 ghost use Rattle.jp_tape.specs.Cursors.{line_of, node_of};
 ghost use Rattle.jp_eval.specs.Found.{AreOf};
-ghost use Rattle.jp_eval.specs.Frames.{table_at, tree_at, reached, AreKept, Stands, Pushes};
+ghost use Rattle.jp_eval.specs.Frames.{table_at, tree_at, reached, AreKept, IsFrameFor, Pushes};
 ghost use Rattle.jp_eval.specs.Programs.{step_view, choices_view, choice_view, condition_view, test_view};
 ghost use Rattle.jp_eval.specs.Walks.{rises};
 
@@ -29,7 +29,7 @@ impl<'r, 'a> Walk<'r, 'a> {
         steps: &[Step],
         frame: &mut Frame<'a>,
     ) -> Result<()>
-        requires { Stands self node frame.old }
+        requires { IsFrameFor self node frame.old }
         ensures { Pushes self.entry frame.old frame.new result (reached self.entry.run.now steps.now (node_of node.entry ∷ [])) }
     {
         if let Some((step, rest)) = steps.split_first() {
@@ -48,7 +48,7 @@ impl<'r, 'a> Walk<'r, 'a> {
         rest: &[Step],
         frame: &mut Frame<'a>,
     ) -> Result<()>
-        requires { Stands self node frame.old }
+        requires { IsFrameFor self node frame.old }
         ensures { Pushes self.entry frame.old frame.new result (reached self.entry.run.now rest.now (segment_nodes (step_view (table_at self.entry) step.now) (node_of node.entry) (tree_at self.entry))) }
     {
         match step {
@@ -71,7 +71,7 @@ impl<'r, 'a> Walk<'r, 'a> {
         rest: &[Step],
         frame: &mut Frame<'a>,
     ) -> Result<()>
-        requires { Stands self node frame.old }
+        requires { IsFrameFor self node frame.old }
         ensures { Pushes self.entry frame.old frame.new result (reached self.entry.run.now rest.now (flat_map (λ d. selected (choices_view (table_at self.entry) choices.now) d (tree_at self.entry)) (subtree (node_of node.entry)))) }
     {
         for place in node.place()..node.after() {
@@ -93,7 +93,7 @@ impl<'r, 'a> Walk<'r, 'a> {
         rest: &[Step],
         frame: &mut Frame<'a>,
     ) -> Result<()>
-        requires { Stands self node frame.old }
+        requires { IsFrameFor self node frame.old }
         ensures { Pushes self.entry frame.old frame.new result (reached self.entry.run.now rest.now (selected (choices_view (table_at self.entry) choices.now) (node_of node.entry) (tree_at self.entry))) }
     {
         // Most nodes below a node have no children, and nothing is selected from them.
@@ -116,7 +116,7 @@ impl<'r, 'a> Walk<'r, 'a> {
         rest: &[Step],
         frame: &mut Frame<'a>,
     ) -> Result<()>
-        requires { Stands self node frame.old }
+        requires { IsFrameFor self node frame.old }
         ensures { Pushes self.entry frame.old frame.new result (reached self.entry.run.now rest.now (select (choice_view (table_at self.entry) choice.now) (node_of node.entry) (tree_at self.entry))) }
     {
         match choice {
@@ -140,7 +140,7 @@ impl<'r, 'a> Walk<'r, 'a> {
     /// Adds what the steps select from each child.
     #[cycle(eval)]
     fn push_children(self, node: Cursor<'a>, rest: &[Step], frame: &mut Frame<'a>) -> Result<()>
-        requires { Stands self node frame.old }
+        requires { IsFrameFor self node frame.old }
         ensures { Pushes self.entry frame.old frame.new result (reached self.entry.run.now rest.now (children (node_of node.entry))) }
     {
         let mut next = node.first_child();
@@ -164,7 +164,7 @@ impl<'r, 'a> Walk<'r, 'a> {
         rest: &[Step],
         frame: &mut Frame<'a>,
     ) -> Result<()>
-        requires { Stands self node frame.old }
+        requires { IsFrameFor self node frame.old }
         ensures { Pushes self.entry frame.old frame.new result (reached self.entry.run.now rest.now (sliced slice.first slice.last slice.step (node_of node.entry))) }
     {
         if slice.step > 0 {
@@ -183,7 +183,7 @@ impl<'r, 'a> Walk<'r, 'a> {
         rest: &[Step],
         frame: &mut Frame<'a>,
     ) -> Result<()>
-        requires { Stands self node frame.old }
+        requires { IsFrameFor self node frame.old }
         ensures { Pushes self.entry frame.old frame.new result (reached self.entry.run.now rest.now (children_where (is_index (rises slice.low slice.high slice.step)) (node_of node.entry))) }
     {
         let mut next = node.first_child();
@@ -224,7 +224,7 @@ impl<'r, 'a> Walk<'r, 'a> {
         rest: &[Step],
         frame: &mut Frame<'a>,
     ) -> Result<()>
-        requires { Stands self node frame.old }
+        requires { IsFrameFor self node frame.old }
         ensures { Pushes self.entry frame.old frame.new result (reached self.entry.run.now rest.now (filter (λ c. truth_of (condition_view (table_at self.entry) condition.now) c (tree_at self.entry)) (children (node_of node.entry)))) }
     {
         match condition {
@@ -249,7 +249,7 @@ impl<'r, 'a> Walk<'r, 'a> {
         rest: &[Step],
         frame: &mut Frame<'a>,
     ) -> Result<()>
-        requires { Stands self node frame.old }
+        requires { IsFrameFor self node frame.old }
         ensures { Pushes self.entry frame.old frame.new result (reached self.entry.run.now rest.now (filter (λ c. truth_of (test_view (table_at self.entry) test.now) c (tree_at self.entry)) (children (node_of node.entry)))) }
     {
         self.run.prepare(frame)?;

@@ -6,7 +6,7 @@ ghost use Rattle.jp_model.specs.Meaning.Selecting.{compared_value};
 ghost use Rattle.jp_tape.specs.Cursors.{node_of};
 ghost use Rattle.jp_eval.specs.Answers.{IsValue};
 ghost use Rattle.jp_eval.specs.Found.{node_list};
-ghost use Rattle.jp_eval.specs.Frames.{table_at, tree_at, reached, Stands, Lends};
+ghost use Rattle.jp_eval.specs.Frames.{table_at, tree_at, reached, IsFrameFor, Lends};
 ghost use Rattle.jp_eval.specs.Programs.{operand_view, sought_view, found_view};
 
 use crate::Result;
@@ -38,7 +38,7 @@ impl<'r, 'a> Walk<'r, 'a> {
         operand: &'r Operand,
         frame: &mut Frame<'a>,
     ) -> Result<Value<'r>>
-        requires { Stands self node frame.old }
+        requires { IsFrameFor self node frame.old }
         ensures lends { Lends self.entry frame.old frame.new result }
         ensures value { IfOk result (λ v. IsValue v (compared_value (operand_view (table_at self.entry) operand.now) (node_of node.entry) (tree_at self.entry))) }
     {
@@ -57,7 +57,7 @@ impl<'r, 'a> Walk<'r, 'a> {
         sought: &Sought,
         frame: &mut Frame<'a>,
     ) -> Result<Value<'a>>
-        requires { Stands self node frame.old }
+        requires { IsFrameFor self node frame.old }
         ensures lends { Lends self.entry frame.old frame.new result }
         ensures value { IfOk result (λ v. IsValue v (compared_value (sought_view (table_at self.entry) sought.now) (node_of node.entry) (tree_at self.entry))) }
     {
@@ -75,7 +75,7 @@ impl<'r, 'a> Walk<'r, 'a> {
         found: &Found,
         frame: &mut Frame<'a>,
     ) -> Result<Value<'a>>
-        requires { Stands self node frame.old }
+        requires { IsFrameFor self node frame.old }
         ensures lends { Lends self.entry frame.old frame.new result }
         ensures value { IfOk result (λ v. IsValue v (compared_value (found_view (table_at self.entry) found.now) (node_of node.entry) (tree_at self.entry))) }
     {
@@ -96,7 +96,7 @@ impl<'r, 'a> Walk<'r, 'a> {
         steps: &[Step],
         frame: &mut Frame<'a>,
     ) -> Result<Value<'a>>
-        requires { Stands self node frame.old }
+        requires { IsFrameFor self node frame.old }
         ensures lends { Lends self.entry frame.old frame.new result }
         ensures value { IfOk result (λ v. IsValue v (single_value_of (reached self.entry.run.now steps.now (node_of node.entry ∷ [])))) }
     {
@@ -115,7 +115,7 @@ impl<'r, 'a> Walk<'r, 'a> {
     /// How many nodes the steps select. No list is made of them.
     #[cycle(eval)]
     fn count_nodes(self, node: Cursor<'a>, steps: &[Step], frame: &mut Frame<'a>) -> Result<u64>
-        requires { Stands self node frame.old }
+        requires { IsFrameFor self node frame.old }
         ensures lends { Lends self.entry frame.old frame.new result }
         ensures value { IfOk result (λ count. count ≡ length (reached self.entry.run.now steps.now (node_of node.entry ∷ []))) }
     {

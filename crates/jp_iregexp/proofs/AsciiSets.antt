@@ -7,7 +7,7 @@ use Rattle.std.proofs.lemmas.Bool.{le-leb, leb-true, and_parts, and_from, eqb-tr
 use Rattle.std.specs.List.{list_any}
 use Rattle.jp_model.specs.Pattern.Tree.{Item, CharClass, dot, members}
 use Rattle.jp_model.specs.Pattern.Classes.{in_item, in_class}
-use Rattle.jp_iregexp.specs.States.{Holds, AreCodes}
+use Rattle.jp_iregexp.specs.States.{HasState, AreCodes}
 use Rattle.jp_iregexp.proofs.Sums.{holds_either, holds_left, holds_right}
 use Rattle.jp_iregexp.proofs.Masks.{IsMaskBelow, below_or_past, both, both_left, both_right}
 
@@ -63,7 +63,7 @@ other_codes test codes small a = λ c few.
     let is : bit_at (bit_not w128 codes) c ≡ 1 - bit_at codes c = bit_at_not w128 codes c small few in
     let low = bit_at-lt codes c in (
       (λ h. not_passed (test c) (λ t. let one = (a c few).1 t in omega (arith, is, one, h))),
-      (λ h. let none : Holds codes c → ⊥ = (λ i. passed_not (test c) h ((a c few).0 i)) in no_one (bit_at codes c) (bit_at (bit_not w128 codes) c) is low none),
+      (λ h. let none : HasState codes c → ⊥ = (λ i. passed_not (test c) h ((a c few).0 i)) in no_one (bit_at codes c) (bit_at (bit_not w128 codes) c) is low none),
     )
   where
     no_one : (m n : ℕ) → n ≡ 1 - m → m < 2 → (m ≡ 1 → ⊥) → n ≡ 1
@@ -111,14 +111,14 @@ tested_codes test n codes l m = λ c few. (m.sound c, λ h. m.complete c (omega 
 
 -- the scalars of the items before, where these are left
 pub record IsPartCodes (whole rest : List Item) (codes : ℕ) : Type 0 where
-  pub sound : (c : ℕ) → c < 128 → Holds codes c → list_any (in_item c) whole ≡ true
+  pub sound : (c : ℕ) → c < 128 → HasState codes c → list_any (in_item c) whole ≡ true
   pub left : (c : ℕ) → list_any (in_item c) rest ≡ true → list_any (in_item c) whole ≡ true
-  pub complete : (c : ℕ) → c < 128 → list_any (in_item c) whole ≡ true → Holds codes c ⊎ (list_any (in_item c) rest ≡ true)
+  pub complete : (c : ℕ) → c < 128 → list_any (in_item c) whole ≡ true → HasState codes c ⊎ (list_any (in_item c) rest ≡ true)
 
 pub no_items : (whole : List Item) → IsPartCodes whole whole 0
 no_items whole = record { sound = λ c few h. absurd (none c h); left = λ c h. h; complete = λ c few h. inr h }
   where
-    none : (c : ℕ) → Holds 0 c → ⊥
+    none : (c : ℕ) → HasState 0 c → ⊥
     none c h = let z = bit_at-zero c in omega (arith, z, h)
 
 pub one_item : (whole rest : List Item) (item : Item) (codes new : ℕ) → IsPartCodes whole (item ∷ rest) codes → AreCodes (λ c. in_item c item) new → IsPartCodes whole rest (bit_or codes new)

@@ -6,7 +6,7 @@ use Rattle.std.proofs.lemmas.Str.{chars-append, chars-IsAscii, IsUtf8-from_ascii
 use Rattle.std.specs.Str.{chars, IsAscii}
 use Rattle.jp_iregexp.specs.declared.automaton.Automaton.{Automaton}
 use Rattle.jp_iregexp.specs.Layouts.{state_of}
-use Rattle.jp_iregexp.specs.States.{State, Holds, IsStep, Leads, WaitsBehind}
+use Rattle.jp_iregexp.specs.States.{State, HasState, IsStep, Leads, WaitsBehind}
 use Rattle.jp_iregexp.proofs.Leading.{stepped}
 use Rattle.jp_iregexp.proofs.Masks.{masked_step}
 
@@ -29,12 +29,12 @@ ascii_cut text bytes i same inside few = subst (λ (l : List ℕ). chars (drop i
 
 -- the states that wait behind those that are ready
 pub ready_step : (a : Automaton) (waiting byte ready next : ℕ) → byte < 128 → ready ≡ bit_and waiting (get_or a.ascii.items byte 0)
-    → ((q : ℕ) → Holds next q ↔ WaitsBehind a.after.items ready q) → IsStep (map state_of a.states.items) waiting byte next
+    → ((q : ℕ) → HasState next q ↔ WaitsBehind a.after.items ready q) → IsStep (map state_of a.states.items) waiting byte next
 ready_step a waiting byte ready next few is behind =
     masked_step a.states.items a.after.items a.ascii.items waiting byte next a.behind a.masks (omega (arith, few, a.all))
-    (subst (λ n. (q : ℕ) → Holds next q ↔ WaitsBehind a.after.items n q) is behind)
+    (subst (λ n. (q : ℕ) → HasState next q ↔ WaitsBehind a.after.items n q) is behind)
 
-none_waits : (after : List ℕ) (q : ℕ) → Holds 0 q ↔ WaitsBehind after 0 q
+none_waits : (after : List ℕ) (q : ℕ) → HasState 0 q ↔ WaitsBehind after 0 q
 none_waits after q = ((λ h. let z = bit_at-zero q in absurd (omega (arith, z, h))), (λ w. let z = bit_at-zero w.number in let h = w.is_ready in absurd (omega (arith, z, h))))
 
 -- where no state is ready nothing waits behind the scalar

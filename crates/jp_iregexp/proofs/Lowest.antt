@@ -5,25 +5,25 @@ use lib.Bits.{bit_and}
 use Rattle.std.proofs.lemmas.Nat.Bits.{bit_at-zero}
 use Rattle.jp_model.proofs.LowestBit.{lowest, is_kept}
 use Rattle.jp_model.specs.Pattern.Classes.{in_class}
-use Rattle.jp_iregexp.specs.States.{State, Holds, state_at, Passes, IsStep, IsPassed}
+use Rattle.jp_iregexp.specs.States.{State, HasState, state_at, Passes, IsStep, IsPassed}
 use Rattle.jp_iregexp.proofs.Sums.{same_or_not, holds_either, holds_left, holds_right, some_same}
 
 module _ (word : ℕ) (some : 0 < word) (small : word < 2 ^ 64) where
-  pub lowest_in : Holds word (trailing_zeros w64 word)
+  pub lowest_in : HasState word (trailing_zeros w64 word)
   lowest_in = (lowest word some small).1
 
-  pub was_there : (i : ℕ) → Holds (bit_and word (word - 1)) i → Holds word i
+  pub was_there : (i : ℕ) → HasState (bit_and word (word - 1)) i → HasState word i
   was_there i h =
       elim (same_or_not i (trailing_zeros w64 word)) [
-        | inl e ↦ subst (Holds word) (sym e) lowest_in
+        | inl e ↦ subst (HasState word) (sym e) lowest_in
         | inr d ↦ sym (is_kept word some small i d) ∙ h
       ]
 
 -- what was found so far, and what is left to ask
 pub record IsPartStep (states : List State) (set scalar rest next : ℕ) : Type 0 where
-  pub sound : (q : ℕ) → Holds next q → Passes states set scalar (λ behind. Holds behind q)
-  pub left : (p : ℕ) → Holds rest p → Holds set p
-  pub complete : (q : ℕ) → Passes states set scalar (λ behind. Holds behind q) → Holds next q ⊎ Passes states rest scalar (λ behind. Holds behind q)
+  pub sound : (q : ℕ) → HasState next q → Passes states set scalar (λ behind. HasState behind q)
+  pub left : (p : ℕ) → HasState rest p → HasState set p
+  pub complete : (q : ℕ) → Passes states set scalar (λ behind. HasState behind q) → HasState next q ⊎ Passes states rest scalar (λ behind. HasState behind q)
 
 pub start_step : (states : List State) (set scalar : ℕ) → IsPartStep states set scalar set 0
 start_step states set scalar = record { sound = λ q h. absurd (let z = bit_at-zero q in omega (arith, z, h)); left = λ p h. h; complete = λ q h. inr h }
@@ -32,7 +32,7 @@ pub end_step : (states : List State) (set scalar next : ℕ) → IsPartStep stat
 end_step states set scalar next s = λ q. (s.sound q, λ h. elim (s.complete q h) [ inl i ↦ i | inr r ↦ absurd (let z = bit_at-zero r.number in let w = r.waits in omega (arith, z, w)) ])
 
 module _ (states : List State) (set scalar rest next : ℕ) (some : 0 < rest) (small : rest < 2 ^ 64) (s : IsPartStep states set scalar rest next) where
-  moved : (q : ℕ) (r : Passes states rest scalar (λ behind. Holds behind q)) → (r.number ≡ trailing_zeros w64 rest → ⊥) → Passes states (bit_and rest (rest - 1)) scalar (λ behind. Holds behind q)
+  moved : (q : ℕ) (r : Passes states rest scalar (λ behind. HasState behind q)) → (r.number ≡ trailing_zeros w64 rest → ⊥) → Passes states (bit_and rest (rest - 1)) scalar (λ behind. HasState behind q)
   moved q r other = record { number = r.number; state = r.state; is = r.is; waits = is_kept rest some small r.number other ∙ r.waits; has = r.has; rest = r.rest }
 
   -- the lowest state does not pass
@@ -57,7 +57,7 @@ module _ (states : List State) (set scalar rest next : ℕ) (some : 0 < rest) (s
     complete = λ q h. elim (s.complete q h) [
       | inl i ↦ inl (holds_left next w.behind q i)
       | inr r ↦ elim (same_or_not r.number (trailing_zeros w64 rest)) [
-        | inl e ↦ inl (holds_right next w.behind q (subst (λ (v : State). Holds v.behind q) (some_same (sym (subst (λ n. state_at states n ≡ Some r.state) e r.is) ∙ is)) r.rest))
+        | inl e ↦ inl (holds_right next w.behind q (subst (λ (v : State). HasState v.behind q) (some_same (sym (subst (λ n. state_at states n ≡ Some r.state) e r.is) ∙ is)) r.rest))
         | inr d ↦ inr (moved q r d)
       ]
     ];

@@ -6,7 +6,7 @@ use Rattle.std.proofs.lemmas.Nat.Bits.{bit_at_and, bit_at-lt, bit_at-zero, bit_a
 use Rattle.jp_model.proofs.LowestBit.{is_kept}
 use Rattle.jp_model.specs.Pattern.Classes.{in_class}
 use Rattle.jp_iregexp.specs.declared.automaton.State.{State as ProgramState}
-use Rattle.jp_iregexp.specs.States.{State, Holds, state_at, IsStep, waits_for, AreMasks, AreCodes, WaitsBehind}
+use Rattle.jp_iregexp.specs.States.{State, HasState, state_at, IsStep, waits_for, AreMasks, AreCodes, WaitsBehind}
 use Rattle.jp_iregexp.specs.Layouts.{state_of}
 use Rattle.jp_iregexp.proofs.Sums.{same_or_not, holds_either, holds_left, holds_right}
 use Rattle.jp_iregexp.proofs.Lowest.{lowest_in, was_there}
@@ -15,30 +15,30 @@ use Rattle.jp_iregexp.proofs.Lowest.{lowest_in, was_there}
 
 -- what was found so far, and what is left
 pub record IsPartBehind (after : List ℕ) (ready rest next : ℕ) : Type 0 where
-  pub sound : (q : ℕ) → Holds next q → WaitsBehind after ready q
-  pub left : (p : ℕ) → Holds rest p → Holds ready p
-  pub complete : (q : ℕ) → WaitsBehind after ready q → Holds next q ⊎ WaitsBehind after rest q
+  pub sound : (q : ℕ) → HasState next q → WaitsBehind after ready q
+  pub left : (p : ℕ) → HasState rest p → HasState ready p
+  pub complete : (q : ℕ) → WaitsBehind after ready q → HasState next q ⊎ WaitsBehind after rest q
 
-no_bit : (p : ℕ) → Holds 0 p → ⊥
+no_bit : (p : ℕ) → HasState 0 p → ⊥
 no_bit p h = (let z = bit_at-zero p in omega (arith, z, h))
 
 pub start_behind : (after : List ℕ) (ready : ℕ) → IsPartBehind after ready ready 0
 start_behind after ready = record { sound = λ q h. absurd (no_bit q h); left = λ p h. h; complete = λ q h. inr h }
 
-pub end_behind : (after : List ℕ) (ready next : ℕ) → IsPartBehind after ready 0 next → (q : ℕ) → Holds next q ↔ WaitsBehind after ready q
+pub end_behind : (after : List ℕ) (ready next : ℕ) → IsPartBehind after ready 0 next → (q : ℕ) → HasState next q ↔ WaitsBehind after ready q
 end_behind after ready next s q = (s.sound q, λ h. elim (s.complete q h) [ inl i ↦ i | inr r ↦ absurd (no_bit r.number r.is_ready) ])
 
 pub take_behind : (after : List ℕ) (ready rest next word : ℕ) → 0 < rest → rest < 2 ^ 64 → IsPartBehind after ready rest next → word ≡ get_or after (trailing_zeros w64 rest) 0 → IsPartBehind after ready (bit_and rest (rest - 1)) (bit_or next word)
 take_behind after ready rest next word some small s is = record {
   sound = λ q h. elim (holds_either next word q h) [
     | inl i ↦ s.sound q i
-    | inr i ↦ record { number = trailing_zeros w64 rest; is_ready = s.left (trailing_zeros w64 rest) (lowest_in rest some small); waits = subst (λ n. Holds n q) is i }
+    | inr i ↦ record { number = trailing_zeros w64 rest; is_ready = s.left (trailing_zeros w64 rest) (lowest_in rest some small); waits = subst (λ n. HasState n q) is i }
   ];
   left = λ p h. s.left p (was_there rest some small p h);
   complete = λ q h. elim (s.complete q h) [
     | inl i ↦ inl (holds_left next word q i)
     | inr r ↦ elim (same_or_not r.number (trailing_zeros w64 rest)) [
-      | inl e ↦ inl (holds_right next word q (subst (λ n. Holds n q) (ap (λ p. get_or after p 0) e ∙ sym is) r.waits))
+      | inl e ↦ inl (holds_right next word q (subst (λ n. HasState n q) (ap (λ p. get_or after p 0) e ∙ sym is) r.waits))
       | inr d ↦ inr (record { number = r.number; is_ready = is_kept rest some small r.number d ∙ r.is_ready; waits = r.waits })
     ]
   ];
@@ -67,18 +67,18 @@ here_waiting [] number scalar w is h = absurd (cc)
 here_waiting (x ∷ states) zero scalar w is h = (let e : x ≡ w = cc in subst (λ (v : State). IsTrue (in_class v.class scalar)) (sym e) h)
 here_waiting (x ∷ states) (suc number) scalar w is h = here_waiting states number scalar w is h
 
-pub both_left : (a b p : ℕ) → Holds (bit_and a b) p → Holds a p
+pub both_left : (a b p : ℕ) → HasState (bit_and a b) p → HasState a p
 both_left a b p h = omega (arith, h, bit_at_and a b p, bit_at-lt a p, bit_at-lt b p)
 
-pub both_right : (a b p : ℕ) → Holds (bit_and a b) p → Holds b p
+pub both_right : (a b p : ℕ) → HasState (bit_and a b) p → HasState b p
 both_right a b p h = omega (arith, h, bit_at_and a b p, bit_at-lt a p, bit_at-lt b p)
 
-pub both : (a b p : ℕ) → Holds a p → Holds b p → Holds (bit_and a b) p
+pub both : (a b p : ℕ) → HasState a p → HasState b p → HasState (bit_and a b) p
 both a b p h i = omega (arith, h, i, bit_at_and a b p)
 
 -- behind the states that wait, and whose class has the scalar
 pub masked_step : (ps : List ProgramState) (after masks : List ℕ) (set scalar next : ℕ) → after ≡ map (λ (p : ProgramState). p.after) ps → AreMasks (map state_of ps) masks → scalar < length masks
-    → ((q : ℕ) → Holds next q ↔ WaitsBehind after (bit_and set (get_or masks scalar 0)) q) → IsStep (map state_of ps) set scalar next
+    → ((q : ℕ) → HasState next q ↔ WaitsBehind after (bit_and set (get_or masks scalar 0)) q) → IsStep (map state_of ps) set scalar next
 masked_step ps after masks set scalar next is masked inside step = λ q. (
   (λ h. let b = (step q).0 h in
       let r = waiting_here (map state_of ps) b.number scalar ((masked scalar b.number inside).0 (both_right set (get_or masks scalar 0) b.number b.is_ready)) in
@@ -88,12 +88,12 @@ masked_step ps after masks set scalar next is masked inside step = λ q. (
         is = r.is;
         waits = both_left set (get_or masks scalar 0) b.number b.is_ready;
         has = r.has;
-        rest = subst (λ n. Holds n q) (ap (λ (l : List ℕ). get_or l b.number 0) is ∙ after_at ps b.number r.state r.is) b.waits;
+        rest = subst (λ n. HasState n q) (ap (λ (l : List ℕ). get_or l b.number 0) is ∙ after_at ps b.number r.state r.is) b.waits;
       }),
   (λ h. (step q).1 (record {
     number = h.number;
     is_ready = both set (get_or masks scalar 0) h.number h.waits ((masked scalar h.number inside).1 (here_waiting (map state_of ps) h.number scalar h.state h.is h.has));
-    waits = subst (λ n. Holds n q) (sym (ap (λ (l : List ℕ). get_or l h.number 0) is ∙ after_at ps h.number h.state h.is)) h.rest;
+    waits = subst (λ n. HasState n q) (sym (ap (λ (l : List ℕ). get_or l h.number 0) is ∙ after_at ps h.number h.state h.is)) h.rest;
   })),
 )
 
@@ -101,8 +101,8 @@ masked_step ps after masks set scalar next is masked inside step = λ q. (
 
 -- the word has the numbers below this one that pass the test, and no others
 pub record IsMaskBelow (test : ℕ → Bool) (below mask : ℕ) : Type 0 where
-  pub sound : (p : ℕ) → Holds mask p → IsTrue (test p)
-  pub complete : (p : ℕ) → p < below → IsTrue (test p) → Holds mask p
+  pub sound : (p : ℕ) → HasState mask p → IsTrue (test p)
+  pub complete : (p : ℕ) → p < below → IsTrue (test p) → HasState mask p
 
 pub no_mask : (test : ℕ → Bool) → IsMaskBelow test 0 0
 no_mask test = record { sound = λ p h. absurd (no_bit p h); complete = λ p l h. absurd (omega arith) }
@@ -117,7 +117,7 @@ take_mask w test n mask few m passes = record {
     | inr d ↦ m.sound p (sym (bit_at_set_other w mask n few p d) ∙ h)
   ];
   complete = λ p l h. elim (same_or_not p n) [
-    | inl e ↦ subst (λ k. Holds (bit_or mask (1 * 2 ^ n % 2 ^ bits w)) k) (sym e) (bit_at_set_same w mask n few)
+    | inl e ↦ subst (λ k. HasState (bit_or mask (1 * 2 ^ n % 2 ^ bits w)) k) (sym e) (bit_at_set_same w mask n few)
     | inr d ↦ bit_at_set_other w mask n few p d ∙ m.complete p (let f : p ≢ n = d in omega (arith, f)) h
   ];
 }
@@ -138,7 +138,7 @@ below_or_past p zero = inr (omega arith)
 below_or_past zero (suc n) = inl (omega arith)
 below_or_past (suc p) (suc n) = elim (below_or_past p n) [ inl i ↦ inl (omega arith) | inr i ↦ inr (omega arith) ]
 
-pub whole_mask : (states : List State) (scalar n mask : ℕ) → length states ≤ n → IsMaskBelow (λ p. waits_for states p scalar) n mask → (p : ℕ) → Holds mask p ↔ IsTrue (waits_for states p scalar)
+pub whole_mask : (states : List State) (scalar n mask : ℕ) → length states ≤ n → IsMaskBelow (λ p. waits_for states p scalar) n mask → (p : ℕ) → HasState mask p ↔ IsTrue (waits_for states p scalar)
 whole_mask states scalar n mask l m p = (m.sound p, λ h. elim (below_or_past p n) [ inl i ↦ m.complete p i h | inr i ↦ absurd (past_all states p scalar (omega arith) h) ])
 
 pub waits_at : (ps : List ProgramState) (k scalar : ℕ) (p : ProgramState) → k < length ps → p ≡ get_or ps k p → waits_for (map state_of ps) k scalar ≡ in_class (state_of p).class scalar
@@ -170,8 +170,8 @@ set_more states sets more set n is at s all = subst (λ ws. (k : ℕ) → k < le
 ])
 
 -- one mask more
-pub mask_more : (states : List State) (masks more : List ℕ) (mask scalar : ℕ) → more ≡ masks ++ mask ∷ [] → scalar ≡ length masks → ((p : ℕ) → Holds mask p ↔ IsTrue (waits_for states p scalar)) → AreMasks states masks → AreMasks states more
+pub mask_more : (states : List State) (masks more : List ℕ) (mask scalar : ℕ) → more ≡ masks ++ mask ∷ [] → scalar ≡ length masks → ((p : ℕ) → HasState mask p ↔ IsTrue (waits_for states p scalar)) → AreMasks states masks → AreMasks states more
 mask_more states masks more mask scalar is at m all = subst (AreMasks states) (sym is) (λ c p l. elim (same_or_not c scalar) [
-  | inl e ↦ subst (λ w. Holds w p ↔ IsTrue (waits_for states p c)) (sym (last_mask masks mask c (e ∙ at))) (subst (λ k. Holds mask p ↔ IsTrue (waits_for states p k)) (sym e) (m p))
-  | inr d ↦ (let f : c ≢ scalar = d in let less : c < length masks = (let s = size masks mask in omega (arith, s, f)) in subst (λ w. Holds w p ↔ IsTrue (waits_for states p c)) (sym (earlier_mask masks mask c less)) (all c p less))
+  | inl e ↦ subst (λ w. HasState w p ↔ IsTrue (waits_for states p c)) (sym (last_mask masks mask c (e ∙ at))) (subst (λ k. HasState mask p ↔ IsTrue (waits_for states p k)) (sym e) (m p))
+  | inr d ↦ (let f : c ≢ scalar = d in let less : c < length masks = (let s = size masks mask in omega (arith, s, f)) in subst (λ w. HasState w p ↔ IsTrue (waits_for states p c)) (sym (earlier_mask masks mask c less)) (all c p less))
 ])

@@ -5,7 +5,7 @@ use Rattle.std.proofs.lemmas.Nat.Bits.{bit_at_or, bit_at-lt, bit_at-zero, bit_at
 use Rattle.jp_model.specs.Pattern.Tree.{CharClass}
 use Rattle.jp_model.specs.Pattern.Classes.{in_class}
 use Rattle.jp_model.specs.Pattern.Language.{IsOne, Splits, Repeats, RepeatsWithin}
-use Rattle.jp_iregexp.specs.States.{State, Holds, state_at, Leads, SplitsBehind, entry, IsLaidOut}
+use Rattle.jp_iregexp.specs.States.{State, HasState, state_at, Leads, SplitsBehind, entry, IsLaidOut}
 
 -- ---- sets
 
@@ -14,17 +14,17 @@ bit_or_not zero l = inr refl
 bit_or_not (suc zero) l = inl refl
 bit_or_not (suc (suc m)) l = absurd (omega arith)
 
-pub holds_either : (a b p : ℕ) → Holds (bit_or a b) p → Holds a p ⊎ Holds b p
+pub holds_either : (a b p : ℕ) → HasState (bit_or a b) p → HasState a p ⊎ HasState b p
 holds_either a b p h =
     elim (bit_or_not (bit_at a p) (bit_at-lt a p)) [
       | inl i ↦ inl i
       | inr i ↦ inr (omega (arith, i, h, bit_at_or a b p, bit_at-lt b p))
     ]
 
-pub holds_left : (a b p : ℕ) → Holds a p → Holds (bit_or a b) p
+pub holds_left : (a b p : ℕ) → HasState a p → HasState (bit_or a b) p
 holds_left a b p h = omega (arith, h, bit_at_or a b p, bit_at-lt b p)
 
-pub holds_right : (a b p : ℕ) → Holds b p → Holds (bit_or a b) p
+pub holds_right : (a b p : ℕ) → HasState b p → HasState (bit_or a b) p
 holds_right a b p h = omega (arith, h, bit_at_or a b p, bit_at-lt a p)
 
 pub leads_left : (states : List State) (a b : ℕ) (text : List ℕ) → Leads states a text → Leads states (bit_or a b) text
@@ -101,7 +101,7 @@ same_or_not zero (suc n) = inr (λ e. cc)
 same_or_not (suc m) zero = inr (λ e. cc)
 same_or_not (suc m) (suc n) = elim (same_or_not m n) [ inl e ↦ inl (ap suc e) | inr d ↦ inr (λ e. d (cc)) ]
 
-pub only_one : (k p : ℕ) → Holds (2 ^ k) p → p ≡ k
+pub only_one : (k p : ℕ) → HasState (2 ^ k) p → p ≡ k
 only_one k p h = elim (same_or_not p k) [ inl e ↦ e | inr d ↦ absurd (let z = bit_at-pow_other k p d in omega (arith, z, h)) ]
 
 pub some_same : {A : Type 0} {x y : A} → Some x ≡ Some y → x ≡ y
@@ -268,7 +268,7 @@ module _ (states : List State) (First Second : List ℕ → Type 0) (behind f g 
   pub then_complete : (c : ℕ) (text : List ℕ) → SplitsBehind (Splits First Second) Behind c text → Leads (states ++ more) (entry d f g) (c ∷ text)
   then_complete c text s = split c text s.front s.rest s.first.front s.first.rest s.is s.first.is s.first.first s.first.second s.second
 
-entry_no_end : (k : Bool) (f g : ℕ) → (Holds f 63 → ⊥) → (Holds g 63 → ⊥) → Holds (entry k f g) 63 → ⊥
+entry_no_end : (k : Bool) (f g : ℕ) → (HasState f 63 → ⊥) → (HasState g 63 → ⊥) → HasState (entry k f g) 63 → ⊥
 entry_no_end false f g a b h = a h
 entry_no_end true f g a b h = elim (holds_either f g 63 h) [ inl i ↦ a i | inr i ↦ b i ]
 

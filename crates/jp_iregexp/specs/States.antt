@@ -13,8 +13,8 @@ pub record State : Type 0 where
   pub behind : ℕ
 
 -- the state is in the set
-abbrev pub Holds : ℕ → ℕ → Type 0
-Holds set p = bit_at set p ≡ 1
+abbrev pub HasState : ℕ → ℕ → Type 0
+HasState set p = bit_at set p ≡ 1
 
 -- the state of that number
 abbrev pub state_at : List State → ℕ → Option State
@@ -27,13 +27,13 @@ pub record Passes (states : List State) (set scalar : ℕ) (Rest : ℕ → Type 
   pub number : ℕ
   pub state : State
   pub is : state_at states number ≡ Some state
-  pub waits : Holds set number
+  pub waits : HasState set number
   pub has : IsTrue (in_class state.class scalar)
   pub rest : Rest state.behind
 
 -- a run over a text: from the set the text leads to its end
 abbrev pub Leads : List State → ℕ → List ℕ → Type 0
-Leads states set [] = Holds set 63
+Leads states set [] = HasState set 63
 Leads states set (c ∷ text) = Passes states set c (λ behind. Leads states behind text)
 
 -- the text, which begins with this scalar, is a member that is not empty, followed by one of the second set
@@ -53,13 +53,13 @@ entry has_empty first behind = if has_empty then bit_or first behind else first
 pub record IsLaidOut (states : List State) (Member : List ℕ → Type 0) (behind first : ℕ) (has_empty : Bool) : Type 0 where
   pub sound : (more : List State) (c : ℕ) (text : List ℕ) → Leads (states ++ more) first (c ∷ text) → SplitsBehind Member (Leads (states ++ more) behind) c text
   pub complete : (more : List State) (c : ℕ) (text : List ℕ) → SplitsBehind Member (Leads (states ++ more) behind) c text → Leads (states ++ more) first (c ∷ text)
-  pub no_end : Holds first 63 → ⊥
+  pub no_end : HasState first 63 → ⊥
   pub empty : has_empty ≡ true → Member []
   pub nonempty : Member [] → has_empty ≡ true
 
 -- what waits behind the scalar, of what waits before it
 abbrev pub IsStep : List State → ℕ → ℕ → ℕ → Type 0
-IsStep states set scalar next = (q : ℕ) → Holds next q ↔ Passes states set scalar (λ behind. Holds behind q)
+IsStep states set scalar next = (q : ℕ) → HasState next q ↔ Passes states set scalar (λ behind. HasState behind q)
 
 -- the state with this number waits for the scalar, and has this behind it
 pub record IsPassed (states : List State) (number scalar behind : ℕ) : Type 0 where
@@ -76,13 +76,13 @@ waits_for (w ∷ states) (suc number) scalar = waits_for states number scalar
 
 -- word c of the masks has the states that wait for the scalar c
 abbrev pub AreMasks : List State → List ℕ → Type 0
-AreMasks states masks = (scalar number : ℕ) → scalar < length masks → Holds (get_or masks scalar 0) number ↔ IsTrue (waits_for states number scalar)
+AreMasks states masks = (scalar number : ℕ) → scalar < length masks → HasState (get_or masks scalar 0) number ↔ IsTrue (waits_for states number scalar)
 
 -- state q waits behind one of the states that are ready
 pub record WaitsBehind (after : List ℕ) (ready q : ℕ) : Type 0 where
   pub number : ℕ
-  pub is_ready : Holds ready number
-  pub waits : Holds (get_or after number 0) q
+  pub is_ready : HasState ready number
+  pub waits : HasState (get_or after number 0) q
 
 -- the set has the state before this one, and nothing else
 abbrev pub is_link : (set number : ℕ) → Bool
@@ -99,7 +99,7 @@ Accepts states starts pattern = (text : List ℕ) → Leads states starts text �
 
 -- the bits of a word are the ASCII scalars that pass the test
 abbrev pub AreCodes : (ℕ → Bool) → ℕ → Type 0
-AreCodes test codes = (scalar : ℕ) → scalar < 128 → Holds codes scalar ↔ IsTrue (test scalar)
+AreCodes test codes = (scalar : ℕ) → scalar < 128 → HasState codes scalar ↔ IsTrue (test scalar)
 
 -- by state the ASCII scalars that it waits for
 pub record AreSets (states : List State) (sets : List ℕ) : Type 0 where

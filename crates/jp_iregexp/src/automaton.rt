@@ -5,7 +5,7 @@ ghost use Rattle.std.specs.Prelude.{◌≡◌, ◌↔◌, ◌<◌, ◌≤◌, �
 ghost use Rattle.std.specs.Option.{IfSome};
 ghost use Rattle.std.specs.Str.{chars};
 ghost use Rattle.jp_model.specs.Pattern.Language.{Occurs};
-ghost use Rattle.jp_iregexp.specs.States.{AreMasks, AreSets, Holds, IsPassed, IsStep, Leads, WaitsBehind, is_chained, is_link, waits_for};
+ghost use Rattle.jp_iregexp.specs.States.{AreMasks, AreSets, HasState, IsPassed, IsStep, Leads, WaitsBehind, is_chained, is_link, waits_for};
 ghost use Rattle.jp_iregexp.specs.Layouts.{state_of};
 
 use crate::class::Class;
@@ -37,7 +37,7 @@ pub(crate) struct Automaton {
     /// By ASCII scalar the states whose class has it.
     ascii: Vec<u64>,
     ghost behind: { after.items ≡ map (λ p. p.after) states.items },
-    ghost links: { (p : ℕ) → Holds chained p ↔ IsTrue (is_chained after.items p) },
+    ghost links: { (p : ℕ) → HasState chained p ↔ IsTrue (is_chained after.items p) },
     ghost masks: { AreMasks (map state_of states.items) ascii.items },
     ghost all: { length ascii.items ≡ 128 },
 }
@@ -88,7 +88,7 @@ impl Automaton {
     /// What waits after any of the states that are ready. Those that are chained move on at once.
     #[inline(always)]
     fn behind(&self, ready: u64) -> u64
-        ensures { (q : ℕ) → Holds result q ↔ WaitsBehind self.now.after.items ready q }
+        ensures { (q : ℕ) → HasState result q ↔ WaitsBehind self.now.after.items ready q }
     {
         let moved = (ready & self.chained) >> 1;
         moved | behind_each(self.after.as_slice(), ready & !self.chained)
@@ -183,7 +183,7 @@ impl Automaton {
 /// Whether the end of the text is in the set.
 #[inline(always)]
 fn has_end(set: u64) -> bool
-    ensures { IsTrue result ↔ Holds set 63 }
+    ensures { IsTrue result ↔ HasState set 63 }
 {
     (set >> 63) & 1 == 1
 }
@@ -203,7 +203,7 @@ fn words_after(alloc: Global, states: &[State]) -> Result<Vec<u64>, AllocError>
 // most are.
 fn chained(after: &[u64]) -> u64
     requires { length after.now ≤ 63 }
-    ensures { (p : ℕ) → Holds result p ↔ IsTrue (is_chained after.now p) }
+    ensures { (p : ℕ) → HasState result p ↔ IsTrue (is_chained after.now p) }
 {
     let mut all = 0;
     for (number, word) in after.iter().enumerate() {
@@ -253,7 +253,7 @@ fn having(_states: &[State], sets: &[u128], code: u8) -> u64
     requires few { length sets.now ≤ 63 }
     requires sets { AreSets (map state_of _states.now) sets.now }
     requires ascii { code < 128 }
-    ensures { (number : ℕ) → Holds result number ↔ IsTrue (waits_for (map state_of _states.now) number code) }
+    ensures { (number : ℕ) → HasState result number ↔ IsTrue (waits_for (map state_of _states.now) number code) }
 {
     let mut all = 0;
     for (number, codes) in sets.iter().enumerate() {
@@ -267,7 +267,7 @@ fn having(_states: &[State], sets: &[u128], code: u8) -> u64
 // What waits after any of the states that are ready: each of them is asked.
 #[inline(always)]
 fn behind_each(after: &[u64], ready: u64) -> u64
-    ensures { (q : ℕ) → Holds result q ↔ WaitsBehind after.now ready q }
+    ensures { (q : ℕ) → HasState result q ↔ WaitsBehind after.now ready q }
 {
     let mut next = 0;
     let mut rest = ready;

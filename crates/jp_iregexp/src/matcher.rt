@@ -1,4 +1,4 @@
-// Which positions a part of a pattern reaches.
+//! Which positions a part of a pattern reaches.
 
 ghost use Rattle.std.specs.Prelude.{Some, None, IfOk};
 ghost use Rattle.jp_iregexp.specs.Positions.{AreEnds, AreStarts};

@@ -1,4 +1,4 @@
-// Sets of positions of a text, as bits of 64-bit words.
+//! Sets of positions of a text, as bits of 64-bit words.
 
 ghost use Rattle.std.specs.Prelude.{◌≡◌, ◌^◌, ℕ, ◌+◌, ◌<◌, ◌≤◌, ◌↔◌, ◌⊎◌, IsTrue, IfOk, OnOk};
 ghost use Rattle.std.specs.Int.{bit_at};

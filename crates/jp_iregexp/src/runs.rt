@@ -1,4 +1,4 @@
-// So many scalars of a class, any number of them, or up to a number.
+//! So many scalars of a class, any number of them, or up to a number.
 
 ghost use Rattle.std.specs.Prelude.{◌≡◌, ◌^◌, ◌<◌, ◌+◌, ◌-◌, true, false, Some, None, IfOk};
 ghost use Rattle.jp_iregexp.specs.Positions.{Has, AreEnds, AreStarts};

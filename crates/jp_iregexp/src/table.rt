@@ -1,4 +1,4 @@
-// The ends of a part from each position of a text, kept for turns that come again.
+//! The ends of a part from each position of a text, kept for turns that come again.
 
 ghost use Rattle.std.specs.Prelude.{◌^◌, ◌<◌, IfOk, length};
 ghost use Rattle.jp_iregexp.specs.Positions.{AreEnds, AreStarts};

@@ -1,4 +1,4 @@
-// The words of a set of bits, from the first one on. The others are 0, and take no memory.
+//! The words of a set of bits, from the first one on. The others are 0, and take no memory.
 
 ghost use Rattle.std.specs.Prelude.{◌≡◌, ◌^◌, ℕ, ◌+◌, ◌*◌, ◌<◌, ◌≤◌, ◌≢◌, IsTrue, IfOk, OnOk, bit_or, vec_len, []};
 ghost use Rattle.jp_iregexp.specs.Words.{word_of};

@@ -3,7 +3,7 @@ use Rattle.std.proofs.Common.{◌≡◌, ℕ, ℤ, pos, List, [], ◌∷◌, ◌
 use Rattle.std.specs.Prelude.{unwrap_or}
 use Rattle.jp_model.specs.Json.Tree.{Tree, Value}
 use Rattle.jp_model.specs.Meaning.Compare.{compared}
-use Rattle.jp_model.specs.Meaning.Functions.{single_value, Given, counted, length_of, in_pattern, literal_value, value_function, logical_function}
+use Rattle.jp_model.specs.Meaning.Functions.{single_value, ArgumentResult, counted, length_of, in_pattern, literal_value, value_function, logical_function}
 use Rattle.jp_model.specs.Meaning.Nodes.{Node, root_node, child_count, children, children_where, subtree}
 use Rattle.jp_model.specs.Meaning.Selecting.{nodes, segment_nodes, selected, select, truth, some_true, each_true, compared_value, path_nodes, call_value, call_truth, given, given_by}
 use Rattle.jp_model.specs.Meaning.Slices.{is_name, is_index, normal, sliced}
@@ -37,10 +37,10 @@ pub record Agreement (t u : Tree) (Near : Node → Node → Type 0) (Lists : Lis
   pub comparisons : (op : CompareOp) (x y v w : Option Value) → Sides x y → Sides v w → compared op x v ≡ compared op y w
 
 module _ (t u : Tree) (Near : Node → Node → Type 0) (Lists : List Node → List Node → Type 0) (Sides : Option Value → Option Value → Type 0) (agree : Agreement t u Near Lists Sides) where
-  abbrev NearGiven : Given → Given → Type 0
+  abbrev NearGiven : ArgumentResult → ArgumentResult → Type 0
   NearGiven a b = Sides a.value b.value × Lists a.nodes b.nodes
 
-  values_by : (f : List ℕ) (gs hs : List Given) → Pairwise NearGiven gs hs → Sides (value_function f gs) (value_function f hs)
+  values_by : (f : List ℕ) (gs hs : List ArgumentResult) → Pairwise NearGiven gs hs → Sides (value_function f gs) (value_function f hs)
   values_by f [] [] a = agree.nothing
   values_by f (g ∷ []) (h ∷ []) a = pick (bytes_eq f (codes "length")) (bytes_eq f (codes "count")) (bytes_eq f (codes "value"))
     where
@@ -57,7 +57,7 @@ module _ (t u : Tree) (Near : Node → Node → Type 0) (Lists : List Node → L
   values_by f (g ∷ []) (h ∷ j ∷ hs) a = absurd a.1
   values_by f (g ∷ i ∷ gs) (h ∷ []) a = absurd a.1
 
-  truths_by : (f : List ℕ) (gs hs : List Given) → Pairwise NearGiven gs hs → logical_function f gs ≡ logical_function f hs
+  truths_by : (f : List ℕ) (gs hs : List ArgumentResult) → Pairwise NearGiven gs hs → logical_function f gs ≡ logical_function f hs
   truths_by f [] [] a = refl
   truths_by f (g ∷ []) (h ∷ []) a = refl
   truths_by f (g ∷ i ∷ []) (h ∷ j ∷ []) a =

@@ -12,7 +12,7 @@ use Rattle.jp_model.specs.Query.Syntax.{Segment, child_segment, descendant_segme
 use Rattle.jp_model.specs.Query.Typing.{Kind, value_kind, nodes_kind, logical_kind, Signature, signature_of, is_singular_path, result_serves, call_serves, takes, segments_typed, segment_typed, selectors_typed, selector_typed, logical_typed, logicals_typed, comparable_typed, path_typed, call_typed, arguments_typed, argument_typed}
 use Rattle.jp_model.specs.Meaning.Nodes.{Node, root_node, children, subtree}
 use Rattle.jp_model.specs.Meaning.Compare.{compared}
-use Rattle.jp_model.specs.Meaning.Functions.{single_value, Given, given_value, counted, length_of, in_pattern, value_function, logical_function}
+use Rattle.jp_model.specs.Meaning.Functions.{single_value, ArgumentResult, given_value, counted, length_of, in_pattern, value_function, logical_function}
 use Rattle.jp_model.specs.Meaning.Selecting.{start, nodes, segment_nodes, selected, select, truth, some_true, each_true, compared_value, path_nodes, call_value, call_truth, given, given_by}
 use Rattle.jp_model.specs.Rows.{Row, node_row, status_rows, rows_from, rows}
 use Rattle.jp_model.specs.Script.Machine.{statuses, row_text}
@@ -23,12 +23,12 @@ flat_map_same f g h [] = refl
 flat_map_same f g h (x ∷ xs) = ap₂ (λ a b. a ++ b) (h x) (flat_map_same f g h xs)
 
 -- the arguments of a call agree, as the parameters read them
-abbrev Agree : Kind → Given → Given → Type 0
+abbrev Agree : Kind → ArgumentResult → ArgumentResult → Type 0
 Agree value_kind a b = a.value ≡ b.value
 Agree nodes_kind a b = a.nodes ≡ b.nodes
 Agree logical_kind a b = Unit {0}
 
-abbrev AllAgree : List Kind → List Given → List Given → Type 0
+abbrev AllAgree : List Kind → List ArgumentResult → List ArgumentResult → Type 0
 AllAgree [] [] [] = Unit {0}
 AllAgree [] [] (b ∷ hs) = ⊥
 AllAgree [] (a ∷ gs) hs = ⊥
@@ -36,14 +36,14 @@ AllAgree (k ∷ ks) [] hs = ⊥
 AllAgree (k ∷ ks) (a ∷ gs) [] = ⊥
 AllAgree (k ∷ ks) (a ∷ gs) (b ∷ hs) = Agree k a b × AllAgree ks gs hs
 
-by_one : (k : Kind) (P : List Given → List Given → Type 0) → ((a b : Given) → Agree k a b → P (a ∷ []) (b ∷ [])) → (gs hs : List Given) → AllAgree (k ∷ []) gs hs → P gs hs
+by_one : (k : Kind) (P : List ArgumentResult → List ArgumentResult → Type 0) → ((a b : ArgumentResult) → Agree k a b → P (a ∷ []) (b ∷ [])) → (gs hs : List ArgumentResult) → AllAgree (k ∷ []) gs hs → P gs hs
 by_one k P f [] hs g = absurd g
 by_one k P f (a ∷ gs) [] g = absurd g
 by_one k P f (a ∷ []) (b ∷ []) g = f a b g.0
 by_one k P f (a ∷ []) (b ∷ c ∷ hs) g = absurd g.1
 by_one k P f (a ∷ c ∷ gs) (b ∷ hs) g = absurd g.1
 
-by_two : (k l : Kind) (P : List Given → List Given → Type 0) → ((a b c d : Given) → Agree k a b → Agree l c d → P (a ∷ c ∷ []) (b ∷ d ∷ [])) → (gs hs : List Given) → AllAgree (k ∷ l ∷ []) gs hs → P gs hs
+by_two : (k l : Kind) (P : List ArgumentResult → List ArgumentResult → Type 0) → ((a b c d : ArgumentResult) → Agree k a b → Agree l c d → P (a ∷ c ∷ []) (b ∷ d ∷ [])) → (gs hs : List ArgumentResult) → AllAgree (k ∷ l ∷ []) gs hs → P gs hs
 by_two k l P f [] hs g = absurd g
 by_two k l P f (a ∷ gs) [] g = absurd g
 by_two k l P f (a ∷ gs) (b ∷ hs) g = by_one l (λ x y. P (a ∷ x) (b ∷ y)) (λ c d e. f a b c d g.0 e) gs hs g.1
@@ -71,7 +71,7 @@ no_nodes : (f : List ℕ) → result_serves nodes_kind (signature_of f) ≡ true
 no_nodes f = no_nodes_by (bytes_eq f (codes "length")) (bytes_eq f (codes "count")) (bytes_eq f (codes "value")) (bytes_eq f (codes "match")) (bytes_eq f (codes "search"))
 
 module _ (d : Fallbacks) where
-  value_agrees : (f : List ℕ) (l c v m s : Bool) → bytes_eq f (codes "length") ≡ l → bytes_eq f (codes "count") ≡ c → bytes_eq f (codes "value") ≡ v → (gs hs : List Given)
+  value_agrees : (f : List ℕ) (l c v m s : Bool) → bytes_eq f (codes "length") ≡ l → bytes_eq f (codes "count") ≡ c → bytes_eq f (codes "value") ≡ v → (gs hs : List ArgumentResult)
       → result_serves value_kind (signature_by l c v m s) ≡ true → AllAgree (takes [] (signature_by l c v m s)) gs hs → value_function_by d f gs ≡ value_function f hs
   value_agrees f true c v m s p q r gs hs h g = by_one value_kind (λ x y. value_function_by d f x ≡ value_function f y) (λ a b e. rw p (ap length_of e)) gs hs g
   value_agrees f false true v m s p q r gs hs h g = by_one nodes_kind (λ x y. value_function_by d f x ≡ value_function f y) (λ a b e. rw (p, q) (ap (λ ns. Some (counted (length ns))) e)) gs hs g
@@ -80,7 +80,7 @@ module _ (d : Fallbacks) where
   value_agrees f false false false false true p q r gs hs h g = absurd (cc)
   value_agrees f false false false false false p q r gs hs h g = absurd (cc)
 
-  truth_agrees : (f : List ℕ) (l c v m s : Bool) → bytes_eq f (codes "match") ≡ m → bytes_eq f (codes "search") ≡ s → (gs hs : List Given)
+  truth_agrees : (f : List ℕ) (l c v m s : Bool) → bytes_eq f (codes "match") ≡ m → bytes_eq f (codes "search") ≡ s → (gs hs : List ArgumentResult)
       → result_serves logical_kind (signature_by l c v m s) ≡ true → AllAgree (takes [] (signature_by l c v m s)) gs hs → logical_function_by d f gs ≡ logical_function f hs
   truth_agrees f true c v m s p q gs hs h g = absurd (cc)
   truth_agrees f false true v m s p q gs hs h g = absurd (cc)
@@ -169,12 +169,12 @@ module _ (d : Fallbacks) where
 
 -- ---- with the defaults of the definitions, it is the definitions
 
-value_own : (f : List ℕ) (gs : List Given) → value_function_by defaults f gs ≡ value_function f gs
+value_own : (f : List ℕ) (gs : List ArgumentResult) → value_function_by defaults f gs ≡ value_function f gs
 value_own f [] = refl
 value_own f (g ∷ []) = refl
 value_own f (g ∷ h ∷ gs) = refl
 
-truth_own : (f : List ℕ) (gs : List Given) → logical_function_by defaults f gs ≡ logical_function f gs
+truth_own : (f : List ℕ) (gs : List ArgumentResult) → logical_function_by defaults f gs ≡ logical_function f gs
 truth_own f [] = refl
 truth_own f (g ∷ []) = refl
 truth_own f (g ∷ h ∷ []) = refl

@@ -65,14 +65,14 @@ abbrev kids : Node → ℕ → Children → List Node
 kids n p cs = map (child_of n) (steps_from p cs)
 
 -- the children of each container below a node stand between its brackets, in order
-abbrev Stands : Node → Type 0
-Stands r = (n : Node) (s : Span) (kind : Container) (cs : Children) → IsWithin r n → n.tree ≡ node s (container kind cs) → StandInOrder (s.start + 1) (s.end - 1) cs
+abbrev ChildrenInOrder : Node → Type 0
+ChildrenInOrder r = (n : Node) (s : Span) (kind : Container) (cs : Children) → IsWithin r n → n.tree ≡ node s (container kind cs) → StandInOrder (s.start + 1) (s.end - 1) cs
 
 abbrev Turns : ℕ → ℕ → List Node → Type 0
 Turns i j ns = BeginsInTurn ns × Each (Begins i j) ns
 
 mutual
-  tree_turns : (l : List Step) (t : Tree) → Stands (record { location = l; tree = t }) → (span t).start < (span t).end → Turns (span t).start (span t).end (subtree_at l t)
+  tree_turns : (l : List Step) (t : Tree) → ChildrenInOrder (record { location = l; tree = t }) → (span t).start < (span t).end → Turns (span t).start (span t).end (subtree_at l t)
   tree_turns l (node s v) h o =
       let r : Node = record { location = l; tree = node s v } in
       let b = value_turns l s v o h in (
@@ -80,7 +80,7 @@ mutual
         ((omega arith, o), each_weaker (Begins (s.start + 1) s.end) (Begins s.start s.end) (λ n k. let a = k.0 in (omega arith, k.1)) (below l v) b.1),
       )
 
-  value_turns : (l : List Step) (s : Span) (v : Value) → s.start < s.end → Stands (record { location = l; tree = node s v }) → Turns (s.start + 1) s.end (below l v)
+  value_turns : (l : List Step) (s : Span) (v : Value) → s.start < s.end → ChildrenInOrder (record { location = l; tree = node s v }) → Turns (s.start + 1) s.end (below l v)
   value_turns l s null o h = (tt, tt)
   value_turns l s (boolean b) o h = (tt, tt)
   value_turns l s (number m x) o h = (tt, tt)
@@ -90,7 +90,7 @@ mutual
       let b = children_turns r (s.start + 1) (s.end - 1) 0 cs (h r s kind cs itself refl) (λ c i n q k ds w f. h n q k ds (within_within r c (child_of_one itself i) w) f) in
       (b.0, each_weaker (Begins (s.start + 1) (s.end - 1)) (Begins (s.start + 1) s.end) (λ n k. let a = k.1 in (k.0, omega arith)) (below_from l 0 cs) b.1)
 
-  children_turns : (r : Node) (i j p : ℕ) (cs : Children) → StandInOrder i j cs → ((c : Node) → IsAmong c (kids r p cs) → Stands c) → Turns i j (below_from r.location p cs)
+  children_turns : (r : Node) (i j p : ℕ) (cs : Children) → StandInOrder i j cs → ((c : Node) → IsAmong c (kids r p cs) → ChildrenInOrder c) → Turns i j (below_from r.location p cs)
   children_turns r i j p no_child o h = (tt, tt)
   children_turns r i j p (child name t more) o h =
       let l : List Step = r.location ++ step_to p name ∷ [] in

@@ -20,7 +20,7 @@ use Rattle.jp_model.specs.Json.Tree.{Tree, node, Value, null, boolean, number, s
 use Rattle.jp_laws.specs.Digits.{digits_of}
 use Rattle.jp_laws.specs.JsonTexts.{number_text, label_text, tree_text, value_text, first_text, more_text, CanBeLabel, CanBeSaid, CanBeValue, CanBeChildren, HasShortExponents, IsShortValue, AreShortChildren, unplaced, unplaced_name, unplaced_value, unplaced_children}
 use Rattle.jp_laws.proofs.DigitTexts.{short_digits}
-use Rattle.jp_laws.proofs.JsonTexts.{Stands, parts_of, parts_correct, parts_bytes, placed, placed_name, placed_value, placed_first, placed_more, reads_front, white_none, go_on, step_on, regroup, tree_spelled}
+use Rattle.jp_laws.proofs.JsonTexts.{IsTextFrom, parts_of, parts_correct, parts_bytes, placed, placed_name, placed_value, placed_first, placed_more, reads_front, white_none, go_on, step_on, regroup, tree_spelled}
 use Rattle.jp_laws.proofs.Utf8Lines.{text_utf8}
 
 -- ---- it is the tree
@@ -150,22 +150,22 @@ parts_short : (m e : ℤ) → nat_abs e < 10 ^ 15 → is_long_exponent (parts_of
 parts_short m e h = le-ltb 15 _ (let a = without_shorter (digits_of (nat_abs e)) in let b = short_digits (nat_abs e) h in omega arith)
 
 module _ (line : List ℕ) where
-  number_short : (m e : ℤ) (i : ℕ) (rest : List ℕ) → nat_abs e < 10 ^ 15 → Stands line i (number_text m e ++ rest) → is_long_exponent (numeral_of (bytes_between line i (i + length (number_text m e)))) ≡ false
+  number_short : (m e : ℤ) (i : ℕ) (rest : List ℕ) → nat_abs e < 10 ^ 15 → IsTextFrom line i (number_text m e ++ rest) → is_long_exponent (numeral_of (bytes_between line i (i + length (number_text m e)))) ≡ false
   number_short m e i rest h at =
       ap is_long_exponent (ap numeral_of ((reads_front line i (number_text m e) rest at).are ∙ sym (parts_bytes m e)) ∙ parts_read (parts_of m e) (parts_correct m e)) ∙ parts_short m e h
 
   mutual
-    tree_short : (t : Tree) → HasShortExponents t → (i : ℕ) (rest : List ℕ) → Stands line i (tree_text t ++ rest) → has_long_exponent line (placed i t) ≡ false
+    tree_short : (t : Tree) → HasShortExponents t → (i : ℕ) (rest : List ℕ) → IsTextFrom line i (tree_text t ++ rest) → has_long_exponent line (placed i t) ≡ false
     tree_short (node s v) h i rest at = value_short v h i rest at
 
-    value_short : (v : Value) → IsShortValue v → (i : ℕ) (rest : List ℕ) → Stands line i (value_text v ++ rest) → value_has_long_exponent line (record { start = i; end = i + length (value_text v) }) (placed_value i v) ≡ false
+    value_short : (v : Value) → IsShortValue v → (i : ℕ) (rest : List ℕ) → IsTextFrom line i (value_text v ++ rest) → value_has_long_exponent line (record { start = i; end = i + length (value_text v) }) (placed_value i v) ≡ false
     value_short null h i rest at = refl
     value_short (boolean b) h i rest at = refl
     value_short (number m e) h i rest at = number_short m e i rest h at
     value_short (string x) h i rest at = refl
     value_short (container kind cs) h i rest at = first_short cs h (i + 1) (closing kind ∷ rest) (regroup line (i + 1) (first_text cs) (closing kind ∷ []) rest (step_on line i _ _ at))
 
-    first_short : (cs : Children) → AreShortChildren cs → (i : ℕ) (rest : List ℕ) → Stands line i (first_text cs ++ rest) → children_have_long_exponent line (placed_first i cs) ≡ false
+    first_short : (cs : Children) → AreShortChildren cs → (i : ℕ) (rest : List ℕ) → IsTextFrom line i (first_text cs ++ rest) → children_have_long_exponent line (placed_first i cs) ≡ false
     first_short no_child h i rest at = refl
     first_short (child name t more) h i rest at =
         let k : ℕ = i + length (label_text name) in
@@ -173,7 +173,7 @@ module _ (line : List ℕ) where
         let c = regroup line k (tree_text t) (more_text more) rest b in
         or_from _ _ (tree_short t h.0 k _ c) (more_short more h.1 (k + length (tree_text t)) rest (go_on line k (tree_text t) _ c))
 
-    more_short : (cs : Children) → AreShortChildren cs → (i : ℕ) (rest : List ℕ) → Stands line i (more_text cs ++ rest) → children_have_long_exponent line (placed_more i cs) ≡ false
+    more_short : (cs : Children) → AreShortChildren cs → (i : ℕ) (rest : List ℕ) → IsTextFrom line i (more_text cs ++ rest) → children_have_long_exponent line (placed_more i cs) ≡ false
     more_short no_child h i rest at = refl
     more_short (child name t more) h i rest at =
         let k : ℕ = i + 1 + length (label_text name) in

@@ -83,15 +83,15 @@ abbrev mutual
 
 -- ---- what stands in a line from a position on
 
-pub record Stands (line : List ℕ) (i : ℕ) (rest : List ℕ) : Type 0 where
+pub record IsTextFrom (line : List ℕ) (i : ℕ) (rest : List ℕ) : Type 0 where
   pub place : i ≤ length line
   pub is : drop i line ≡ rest
 
 module _ (line : List ℕ) where
-  rest_length : (i : ℕ) (rest : List ℕ) → Stands line i rest → length line ≡ i + length rest
+  rest_length : (i : ℕ) (rest : List ℕ) → IsTextFrom line i rest → length line ≡ i + length rest
   rest_length i rest s = let p = s.place in let d = length-drop i line in let e : length (drop i line) ≡ length rest = ap length s.is in omega (arith, d, e)
 
-  pub reads_front : (i : ℕ) (bytes rest : List ℕ) → Stands line i (bytes ++ rest) → Reads line i (i + length bytes) bytes
+  pub reads_front : (i : ℕ) (bytes rest : List ℕ) → IsTextFrom line i (bytes ++ rest) → Reads line i (i + length bytes) bytes
   reads_front i bytes rest s =
       let l = rest_length i (bytes ++ rest) s in
       let a = length-append bytes rest in
@@ -101,25 +101,25 @@ module _ (line : List ℕ) where
         are = ap (λ n. take n (drop i line)) (let e : i + length bytes - i ≡ length bytes = omega arith in e) ∙ (ap (take (length bytes)) s.is ∙ take_at bytes rest (length bytes) refl);
       }
 
-  pub go_on : (i : ℕ) (bytes rest : List ℕ) → Stands line i (bytes ++ rest) → Stands line (i + length bytes) rest
+  pub go_on : (i : ℕ) (bytes rest : List ℕ) → IsTextFrom line i (bytes ++ rest) → IsTextFrom line (i + length bytes) rest
   go_on i bytes rest s =
       let l = rest_length i (bytes ++ rest) s in
       let a = length-append bytes rest in
       record { place = omega (arith, l, a); is = sym (drop-drop (length bytes) i line) ∙ (ap (drop (length bytes)) s.is ∙ drop_at bytes rest (length bytes) refl) }
 
-  pub step_on : (i b : ℕ) (rest : List ℕ) → Stands line i (b ∷ rest) → Stands line (i + 1) rest
+  pub step_on : (i b : ℕ) (rest : List ℕ) → IsTextFrom line i (b ∷ rest) → IsTextFrom line (i + 1) rest
   step_on i b rest s = go_on i (b ∷ []) rest s
 
-  pub regroup : (i : ℕ) (a b c : List ℕ) → Stands line i ((a ++ b) ++ c) → Stands line i (a ++ (b ++ c))
-  regroup i a b c s = subst (Stands line i) (append_assoc a b c) s
+  pub regroup : (i : ℕ) (a b c : List ℕ) → IsTextFrom line i ((a ++ b) ++ c) → IsTextFrom line i (a ++ (b ++ c))
+  regroup i a b c s = subst (IsTextFrom line i) (append_assoc a b c) s
 
-  nth : (i k : ℕ) (rest : List ℕ) → Stands line i rest → byte_at line (i + k) ≡ get_or rest k 0
+  nth : (i k : ℕ) (rest : List ℕ) → IsTextFrom line i rest → byte_at line (i + k) ≡ get_or rest k 0
   nth i k rest s = sym (get_or-drop i line k 0) ∙ ap (λ l. get_or l k 0) s.is
 
-  has_front : (i b : ℕ) (rest : List ℕ) → Stands line i (b ∷ rest) → Has line i b
+  has_front : (i b : ℕ) (rest : List ℕ) → IsTextFrom line i (b ∷ rest) → Has line i b
   has_front i b rest s = record { inside = let l = rest_length i (b ∷ rest) s in omega arith; is = sym (first_of_rest line i) ∙ ap (λ l. get_or l 0 0) s.is }
 
-  has_second : (i a b : ℕ) (rest : List ℕ) → Stands line i (a ∷ b ∷ rest) → Has line (i + 1) b
+  has_second : (i a b : ℕ) (rest : List ℕ) → IsTextFrom line i (a ∷ b ∷ rest) → Has line (i + 1) b
   has_second i a b rest s = has_front (i + 1) b rest (step_on i a (b ∷ rest) s)
 
   pub white_none : (i j : ℕ) → i ≡ j → i ≤ length line → White line i j
@@ -133,18 +133,18 @@ module _ (line : List ℕ) where
   four : {p q r s w x y z u : ℕ} → p ≡ w → q ≡ x → r ≡ y → s ≡ z → four_digits w x y z ≡ Some u → four_digits p q r s ≡ Some u
   four c d g o t = rw (c, d, g, o) t
 
-  character_spelled : (i c : ℕ) (rest : List ℕ) → IsScalar c → Stands line i (character_text c ++ rest) → SpellsCharacter line i (i + length (character_text c)) c
+  character_spelled : (i c : ℕ) (rest : List ℕ) → IsScalar c → IsTextFrom line i (character_text c ++ rest) → SpellsCharacter line i (i + length (character_text c)) c
   character_spelled i c rest sound =
-      cond_both ((c == 0x22) || (c == 0x5C)) _ _ (λ text. Stands line i (text ++ rest) → SpellsCharacter line i (i + length text) c)
+      cond_both ((c == 0x22) || (c == 0x5C)) _ _ (λ text. IsTextFrom line i (text ++ rest) → SpellsCharacter line i (i + length text) c)
       (λ h s. inr (inl (record { letter = c; backslash = has_front i 0x5C _ s; has_letter = has_second i 0x5C c _ s; spells = escape_spells c h; end = refl })))
       (λ plain.
-      cond_both (nat_lt c 0x20) _ _ (λ text. Stands line i (text ++ rest) → SpellsCharacter line i (i + length text) c)
+      cond_both (nat_lt c 0x20) _ _ (λ text. IsTextFrom line i (text ++ rest) → SpellsCharacter line i (i + length text) c)
       (λ h s. inr (inr (record { backslash = has_front i 0x5C _ s; letter = has_second i 0x5C 0x75 _ s; spells = four (nth i 2 _ s) (nth i 3 _ s) (nth i 4 _ s) (nth i 5 _ s) (low_is c (ltb-true c 32 h)); end = refl })))
       (λ h s.
       let p = or_parts (c == 0x22) (c == 0x5C) plain in
       inl (record { scalar = sound; no_control = ltb-false c 0x20 h; no_quote = eqb-false c 0x22 p.0; no_backslash = eqb-false c 0x5C p.1; bytes = reads_front i (encode_utf8 c) rest s })))
 
-  characters_spelled : (points : List ℕ) (i j : ℕ) (rest : List ℕ) → all_scalars points ≡ true → j ≡ i + length (flat_map character_text points) → Stands line i (flat_map character_text points ++ rest) → SpellsCharacters line i j points
+  characters_spelled : (points : List ℕ) (i j : ℕ) (rest : List ℕ) → all_scalars points ≡ true → j ≡ i + length (flat_map character_text points) → IsTextFrom line i (flat_map character_text points ++ rest) → SpellsCharacters line i j points
   characters_spelled [] i j rest sound e s = let h : i ≡ j = omega arith in h
   characters_spelled (c ∷ points) i j rest sound e s =
       let p = and_parts _ (all_scalars points) sound in
@@ -163,10 +163,10 @@ module _ (line : List ℕ) where
       let p = and_parts _ (all_scalars (v ∷ us)) h in
       cond-false _ _ _ (and_left (is_high_surrogate u) _ (not_high u p.0)) ∙ ap (λ l. u ∷ l) (paired_itself (v ∷ us) p.1)
 
-  body_spelled : (points : List ℕ) (i j : ℕ) (rest : List ℕ) → all_scalars points ≡ true → j ≡ i + length (flat_map character_text points) → Stands line i (flat_map character_text points ++ rest) → SpellsBody line i j points
+  body_spelled : (points : List ℕ) (i j : ℕ) (rest : List ℕ) → all_scalars points ≡ true → j ≡ i + length (flat_map character_text points) → IsTextFrom line i (flat_map character_text points ++ rest) → SpellsBody line i j points
   body_spelled points i j rest sound e s = record { order = omega arith; units = points; characters = characters_spelled points i j rest sound e s; are = paired_itself points sound }
 
-  string_spelled : (points : List ℕ) (i : ℕ) (rest : List ℕ) → all_scalars points ≡ true → Stands line i (string_text points ++ rest) → SpellsString line i (i + length (string_text points)) points
+  string_spelled : (points : List ℕ) (i : ℕ) (rest : List ℕ) → all_scalars points ≡ true → IsTextFrom line i (string_text points ++ rest) → SpellsString line i (i + length (string_text points)) points
   string_spelled points i rest sound s =
       let body : List ℕ = flat_map character_text points in
       let inside = regroup (i + 1) body (0x22 ∷ []) rest (step_on i 0x22 _ s) in
@@ -181,7 +181,7 @@ module _ (line : List ℕ) where
 
   -- ---- labels
 
-  name_spelled : (name : Name) (i j : ℕ) (rest : List ℕ) → all_scalars name.points ≡ true → j ≡ i + length (label_text (Some name)) → Stands line i (label_text (Some name) ++ rest)
+  name_spelled : (name : Name) (i j : ℕ) (rest : List ℕ) → all_scalars name.points ≡ true → j ≡ i + length (label_text (Some name)) → IsTextFrom line i (label_text (Some name) ++ rest)
       → SpellsName line i j (record { body = record { start = i + 1; end = i + 1 + length (flat_map character_text name.points) }; points = name.points })
   name_spelled name i j rest sound e s =
       let body : List ℕ = flat_map character_text name.points in
@@ -205,7 +205,7 @@ module _ (line : List ℕ) where
         };
       }
 
-  label_spelled : (kind : Container) (name : Option Name) (i : ℕ) (rest : List ℕ) → CanBeLabel kind name → Stands line i (label_text name ++ rest) → SpellsLabel line kind i (i + length (label_text name)) (placed_name i name)
+  label_spelled : (kind : Container) (name : Option Name) (i : ℕ) (rest : List ℕ) → CanBeLabel kind name → IsTextFrom line i (label_text name ++ rest) → SpellsLabel line kind i (i + length (label_text name)) (placed_name i name)
   label_spelled array None i rest h s = let e : i ≡ i + 0 = omega arith in e
   label_spelled array (Some name) i rest h s = absurd h
   label_spelled object None i rest h s = absurd h
@@ -214,10 +214,10 @@ module _ (line : List ℕ) where
   -- ---- trees
 
   mutual
-    pub tree_spelled : (t : Tree) → CanBeSaid t → (i : ℕ) (rest : List ℕ) → Stands line i (tree_text t ++ rest) → Spells line (placed i t)
+    pub tree_spelled : (t : Tree) → CanBeSaid t → (i : ℕ) (rest : List ℕ) → IsTextFrom line i (tree_text t ++ rest) → Spells line (placed i t)
     tree_spelled (node s v) h i rest at = value_spelled v h i rest at
 
-    value_spelled : (v : Value) → CanBeValue v → (i : ℕ) (rest : List ℕ) → Stands line i (value_text v ++ rest) → SpellsValue line (record { start = i; end = i + length (value_text v) }) (placed_value i v)
+    value_spelled : (v : Value) → CanBeValue v → (i : ℕ) (rest : List ℕ) → IsTextFrom line i (value_text v ++ rest) → SpellsValue line (record { start = i; end = i + length (value_text v) }) (placed_value i v)
     value_spelled null h i rest at = reads_front i null_word rest at
     value_spelled (boolean b) h i rest at = reads_front i (word_of b) rest at
     value_spelled (number m e) h i rest at =
@@ -227,7 +227,7 @@ module _ (line : List ℕ) where
         let l = length-append (first_text cs) (closing kind ∷ []) in
         (has_front i (opening kind) _ at, first_spelled kind cs h (i + 1) _ rest (omega (arith, l)) (regroup (i + 1) (first_text cs) (closing kind ∷ []) rest (step_on i (opening kind) _ at)))
 
-    first_spelled : (kind : Container) (cs : Children) → CanBeChildren kind cs → (i j : ℕ) (rest : List ℕ) → j ≡ i + length (first_text cs) + 1 → Stands line i (first_text cs ++ closing kind ∷ rest) → SpellsFirst line kind i j (placed_first i cs)
+    first_spelled : (kind : Container) (cs : Children) → CanBeChildren kind cs → (i j : ℕ) (rest : List ℕ) → j ≡ i + length (first_text cs) + 1 → IsTextFrom line i (first_text cs ++ closing kind ∷ rest) → SpellsFirst line kind i j (placed_first i cs)
     first_spelled kind no_child h i j rest e at = record { place = i; white = white_none i i refl at.place; bracket = has_front i (closing kind) rest at; end = omega arith }
     first_spelled kind (child name (node s v) more) h i j rest e at =
         let a = regroup i (label_text name) (value_text v ++ more_text more) (closing kind ∷ rest) at in
@@ -238,7 +238,7 @@ module _ (line : List ℕ) where
         let m = length-append (value_text v) (more_text more) in
         (i, white_none i i refl at.place, label_spelled kind name i _ h.0 a, tree_spelled (node s v) h.1 k _ c, more_spelled kind more h.2 (k + length (value_text v)) j rest (omega (arith, e, l, m)) (go_on k (value_text v) _ c))
 
-    more_spelled : (kind : Container) (cs : Children) → CanBeChildren kind cs → (i j : ℕ) (rest : List ℕ) → j ≡ i + length (more_text cs) + 1 → Stands line i (more_text cs ++ closing kind ∷ rest) → SpellsMore line kind i j (placed_more i cs)
+    more_spelled : (kind : Container) (cs : Children) → CanBeChildren kind cs → (i j : ℕ) (rest : List ℕ) → j ≡ i + length (more_text cs) + 1 → IsTextFrom line i (more_text cs ++ closing kind ∷ rest) → SpellsMore line kind i j (placed_more i cs)
     more_spelled kind no_child h i j rest e at = record { place = i; white = white_none i i refl at.place; bracket = has_front i (closing kind) rest at; end = omega arith }
     more_spelled kind (child name (node s v) more) h i j rest e at =
         let z = step_on i 0x2C _ at in

@@ -5,7 +5,7 @@ use Rattle.jp_model.specs.declared.Framing.{Framing}
 use Rattle.jp_model.specs.Json.Faults.{names, has_repeated, has_duplicate, value_has_duplicate, children_have_duplicate}
 use Rattle.jp_model.specs.Json.Status.{parsed, HasStatus}
 use Rattle.jp_model.specs.Json.Tree.{Tree, node, Value, null, boolean, number, string, container, array, object, Children, no_child, child, value_of}
-use Rattle.jp_model.specs.Meaning.Functions.{single_value, literal_value, Given, counted, length_of, value_function}
+use Rattle.jp_model.specs.Meaning.Functions.{single_value, literal_value, ArgumentResult, counted, length_of, value_function}
 use Rattle.jp_model.specs.Meaning.Nodes.{Node, root_node, child_of, children, steps_from, steps_in, subtree}
 use Rattle.jp_model.specs.Meaning.Selecting.{compared_value, path_nodes, given, given_by}
 use Rattle.jp_model.specs.Query.Syntax.{Literal, null_literal, false_literal, true_literal, number_literal, string_literal, Comparable, constant, single, result, Argument, constant_argument, nodes_argument, condition, result_argument, Arguments, no_arguments, argument, Path, path, root, current, call}
@@ -61,10 +61,10 @@ length_plain (Some (string x)) = refl
 length_plain (Some (container kind cs)) = refl
 
 -- the nodes of an argument are plain
-abbrev GivenPlain : Given → Type 0
+abbrev GivenPlain : ArgumentResult → Type 0
 GivenPlain g = Each IsPlain g.nodes
 
-function_plain : (f : List ℕ) (gs : List Given) → Each GivenPlain gs → is_plain (value_function f gs) ≡ true
+function_plain : (f : List ℕ) (gs : List ArgumentResult) → Each GivenPlain gs → is_plain (value_function f gs) ≡ true
 function_plain f [] a = refl
 function_plain f (g ∷ []) a = pick (bytes_eq f (codes "length")) (bytes_eq f (codes "count")) (bytes_eq f (codes "value"))
   where

@@ -45,10 +45,10 @@ none_before k p no_child h = refl
 none_before k p (child None t more) h = rw (same_apart k p h) (none_before k (p + 1) more (omega arith))
 none_before k p (child (Some name) t more) h = none_before k (p + 1) more (omega arith)
 
-abbrev Steps : Type 0
-Steps = List (Step × Tree)
+abbrev StepList : Type 0
+StepList = List (Step × Tree)
 
-onwards : (P : ℤ → Bool) (q n p : ℕ) (t : Tree) (L : Steps) → p < q
+onwards : (P : ℤ → Bool) (q n p : ℕ) (t : Tree) (L : StepList) → p < q
     → flat_map (λ i. filter (hit i) ((index_step (pos p), t) ∷ L)) (select_up P q n) ≡ flat_map (λ i. filter (hit i) L) (select_up P q n)
 onwards P q zero p t L h = refl
 onwards P q (suc n) p t L h = step (P (pos q)) (onwards P (q + 1) n p t L (omega arith))
@@ -62,7 +62,7 @@ by_indexes : (P : ℤ → Bool) (p : ℕ) (cs : Children) → filter (passing P)
 by_indexes P p no_child = refl
 by_indexes P p (child None t more) = step (P (pos p)) refl (by_indexes P (p + 1) more)
   where
-    L : Steps
+    L : StepList
     L = steps_from (p + 1) more
 
     S : List ℤ
@@ -75,7 +75,7 @@ by_indexes P p (child None t more) = step (P (pos p)) refl (by_indexes P (p + 1)
     step false e again = again ∙ sym (onwards P (p + 1) (length L) p t L (omega arith))
 by_indexes P p (child (Some name) t more) = step (P (pos p)) (by_indexes P (p + 1) more)
   where
-    L : Steps
+    L : StepList
     L = steps_from (p + 1) more
 
     S : List ℤ
@@ -85,7 +85,7 @@ by_indexes P p (child (Some name) t more) = step (P (pos p)) (by_indexes P (p + 
     step true again = rw (none_before p (p + 1) more (omega arith)) again
     step false again = again
 
-mapped : (n : Node) (L : Steps) (is : List ℤ) → map (child_of n) (flat_map (λ i. filter (hit i) L) is) ≡ flat_map (λ i. map (child_of n) (filter (hit i) L)) is
+mapped : (n : Node) (L : StepList) (is : List ℤ) → map (child_of n) (flat_map (λ i. filter (hit i) L) is) ≡ flat_map (λ i. map (child_of n) (filter (hit i) L)) is
 mapped n L [] = refl
 mapped n L (i ∷ is) = map-append (child_of n) (filter (hit i) L) (flat_map (λ j. filter (hit j) L) is) ∙ ap (λ l. map (child_of n) (filter (hit i) L) ++ l) (mapped n L is)
 

@@ -144,11 +144,11 @@ matched_within (child (Some name) (node s x) xs) ys d m =
     and_from _ _ (found_passes name.points (λ y. values_equal x y) ys first.0 first.1 first.2) (matched_within xs ys p.1 rest)
 
 -- what holds of each value of some children
-abbrev Each : (Value → Type 0) → Children → Type 0
-Each P no_child = Unit {0}
-Each P (child name (node s v) more) = P v × Each P more
+abbrev OfEachChild : (Value → Type 0) → Children → Type 0
+OfEachChild P no_child = Unit {0}
+OfEachChild P (child name (node s v) more) = P v × OfEachChild P more
 
-each_found : (P : Value → Type 0) (k : List ℕ) (cs : Children) (v : Value) → Each P cs → found k cs ≡ Some v → P v
+each_found : (P : Value → Type 0) (k : List ℕ) (cs : Children) (v : Value) → OfEachChild P cs → found k cs ≡ Some v → P v
 each_found P k no_child v a f = absurd (cc)
 each_found P k (child None (node s w) more) v a f = each_found P k more v a.1 f
 each_found P k (child (Some name) (node s w) more) v a f = step (bytes_eq k name.points) f (each_found P k more v a.1)
@@ -162,15 +162,15 @@ each_found P k (child (Some name) (node s w) more) v a f = step (bytes_eq k name
 abbrev Itself : Value → Type 0
 Itself v = value_has_duplicate v ≡ false → values_equal v v ≡ true
 
-elements_itself : (cs : Children) → Each Itself cs → children_have_duplicate cs ≡ false → elements_equal cs cs ≡ true
+elements_itself : (cs : Children) → OfEachChild Itself cs → children_have_duplicate cs ≡ false → elements_equal cs cs ≡ true
 elements_itself no_child a d = refl
 elements_itself (child name (node s v) more) a d = let p = or_parts (value_has_duplicate v) (children_have_duplicate more) d in and_from _ _ (a.0 p.0) (elements_itself more a.1 p.1)
 
-distinct_each : (cs : Children) → children_have_duplicate cs ≡ false → Each (λ v. value_has_duplicate v ≡ false) cs
+distinct_each : (cs : Children) → children_have_duplicate cs ≡ false → OfEachChild (λ v. value_has_duplicate v ≡ false) cs
 distinct_each no_child d = tt
 distinct_each (child name (node s v) more) d = let p = or_parts (value_has_duplicate v) (children_have_duplicate more) d in (p.0, distinct_each more p.1)
 
-members_itself : (cs : Children) → Each Itself cs → has_repeated (names cs) ≡ false → children_have_duplicate cs ≡ false → members_within cs cs ≡ true
+members_itself : (cs : Children) → OfEachChild Itself cs → has_repeated (names cs) ≡ false → children_have_duplicate cs ≡ false → members_within cs cs ≡ true
 members_itself cs a r d = matched_within cs cs r (λ k v f. (v, f, each_found Itself k cs v a f (each_found (λ w. value_has_duplicate w ≡ false) k cs v (distinct_each cs d) f)))
 
 pub boolean_itself : (b : Bool) → boolean_equal b b ≡ true
@@ -181,7 +181,7 @@ pub record Plain (v : Value) : Type 0 where
   pub distinct : value_has_duplicate v ≡ false
   pub members : has_members v ≡ true
 
-plain_each : (cs : Children) → children_have_duplicate cs ≡ false → each_has_members cs ≡ true → Each Plain cs
+plain_each : (cs : Children) → children_have_duplicate cs ≡ false → each_has_members cs ≡ true → OfEachChild Plain cs
 plain_each no_child d m = tt
 plain_each (child name (node s v) more) d m =
     let p = or_parts (value_has_duplicate v) (children_have_duplicate more) d in
@@ -213,7 +213,7 @@ module _ (order_total : IsTotalOrder order) where
         let p = or_parts (has_repeated (names cs)) (children_have_duplicate cs) d in
         and_from _ _ (eq-eqb (count_children cs) (count_children cs) refl) (members_itself cs (each_itself cs) p.0 p.1)
 
-    each_itself : (cs : Children) → Each Itself cs
+    each_itself : (cs : Children) → OfEachChild Itself cs
     each_itself no_child = tt
     each_itself (child name (node s v) more) = (itself v, each_itself more)
 
@@ -227,7 +227,7 @@ module _ (order_total : IsTotalOrder order) where
   boolean_same false true h = absurd (cc)
   boolean_same false false h = refl
 
-  elements_back : (xs ys : Children) → Each Back xs → Each Plain xs → Each Plain ys → elements_equal xs ys ≡ true → elements_equal ys xs ≡ true
+  elements_back : (xs ys : Children) → OfEachChild Back xs → OfEachChild Plain xs → OfEachChild Plain ys → elements_equal xs ys ≡ true → elements_equal ys xs ≡ true
   elements_back no_child no_child a p q h = refl
   elements_back no_child (child b (node t y) ys) a p q h = absurd (cc)
   elements_back (child n (node s x) xs) no_child a p q h = absurd (cc)
@@ -245,7 +245,7 @@ module _ (order_total : IsTotalOrder order) where
   members_counted (child None t more) m = absurd (cc)
   members_counted (child (Some name) t more) m = ap suc (members_counted more m)
 
-  members_back : (xs ys : Children) → Each Back xs → Each Plain xs → Each Plain ys → has_repeated (names xs) ≡ false → has_repeated (names ys) ≡ false → are_members xs ≡ true → count_children xs ≡ count_children ys
+  members_back : (xs ys : Children) → OfEachChild Back xs → OfEachChild Plain xs → OfEachChild Plain ys → has_repeated (names xs) ≡ false → has_repeated (names ys) ≡ false → are_members xs ≡ true → count_children xs ≡ count_children ys
       → members_within xs ys ≡ true → members_within ys xs ≡ true
   members_back xs ys a p q r u m c h =
       let there : Matched xs ys = within_matched xs ys h in
@@ -282,7 +282,7 @@ module _ (order_total : IsTotalOrder order) where
         and_from _ _ (eq-eqb (count_children ys) (count_children xs) (sym c)) (members_back xs ys (each_back xs) (plain_each xs d.1 m.1) (plain_each ys e.1 n.1) d.0 e.0 m.0 c g.1)
     back (container object xs) w p q h = absurd (cc)
 
-    each_back : (cs : Children) → Each Back cs
+    each_back : (cs : Children) → OfEachChild Back cs
     each_back no_child = tt
     each_back (child name (node s v) more) = (back v, each_back more)
 
@@ -291,7 +291,7 @@ module _ (order_total : IsTotalOrder order) where
   abbrev On : Value → Type 0
   On v = (w u : Value) → values_equal v w ≡ true → values_equal w u ≡ true → values_equal v u ≡ true
 
-  elements_on : (xs ys zs : Children) → Each On xs → elements_equal xs ys ≡ true → elements_equal ys zs ≡ true → elements_equal xs zs ≡ true
+  elements_on : (xs ys zs : Children) → OfEachChild On xs → elements_equal xs ys ≡ true → elements_equal ys zs ≡ true → elements_equal xs zs ≡ true
   elements_on no_child no_child zs a h g = g
   elements_on no_child (child b (node t y) ys) zs a h g = absurd (cc)
   elements_on (child n (node s x) xs) no_child zs a h g = absurd (cc)
@@ -301,7 +301,7 @@ module _ (order_total : IsTotalOrder order) where
       let q = and_parts (values_equal y z) (elements_equal ys zs) g in
       and_from _ _ (a.0 y z p.0 q.0) (elements_on xs ys zs a.1 p.1 q.1)
 
-  members_on : (xs ys zs : Children) → Each On xs → members_within xs ys ≡ true → Matched ys zs → members_within xs zs ≡ true
+  members_on : (xs ys zs : Children) → OfEachChild On xs → members_within xs ys ≡ true → Matched ys zs → members_within xs zs ≡ true
   members_on no_child ys zs a h g = refl
   members_on (child None (node s x) xs) ys zs a h g = members_on xs ys zs a.1 h g
   members_on (child (Some name) (node s x) xs) ys zs a h g =
@@ -331,7 +331,7 @@ module _ (order_total : IsTotalOrder order) where
     on (container object xs) (container object ys) u h g = absurd (cc)
     on (container object xs) w u h g = absurd (cc)
 
-    each_on : (cs : Children) → Each On cs
+    each_on : (cs : Children) → OfEachChild On cs
     each_on no_child = tt
     each_on (child name (node s v) more) = (on v, each_on more)
 

@@ -10,14 +10,14 @@ use Rattle.jp_model.specs.Query.Typing.{is_singular_path}
 use Rattle.jp_model.specs.Meaning.Nodes.{Node, children, subtree}
 use Rattle.jp_model.specs.Meaning.Slices.{named, indexed, sliced}
 use Rattle.jp_model.specs.Meaning.Compare.{compared}
-use Rattle.jp_model.specs.Meaning.Functions.{single_value, literal_value, Given, counted, length_of, in_pattern}
+use Rattle.jp_model.specs.Meaning.Functions.{single_value, literal_value, ArgumentResult, counted, length_of, in_pattern}
 use Rattle.jp_model.specs.Meaning.Selecting.{start}
 use Rattle.jp_model.specs.Rows.{Row, node_row, refusal_row, node_text, refusal_text}
 
 -- what is answered where a definition has a case that no well-typed query needs
 pub record Fallbacks : Type 0 where
-  pub value : List ℕ → List Given → Option Value
-  pub truth : List ℕ → List Given → Bool
+  pub value : List ℕ → List ArgumentResult → Option Value
+  pub truth : List ℕ → List ArgumentResult → Bool
   pub argument_value : Argument → List Node → Option Value
   pub argument_nodes : Argument → List Node
 
@@ -26,7 +26,7 @@ abbrev pub defaults : Fallbacks
 defaults = record { value = λ f args. None; truth = λ f args. false; argument_value = λ a ns. single_value ns; argument_nodes = λ a. [] }
 
 -- value_function, where a call has the arguments of its function, and anything else
-abbrev pub value_function_by : Fallbacks → List ℕ → List Given → Option Value
+abbrev pub value_function_by : Fallbacks → List ℕ → List ArgumentResult → Option Value
 value_function_by d f (a ∷ []) =
     if text_equal f (codes "length") then length_of a.value
     else if text_equal f (codes "count") then Some (counted (length a.nodes))
@@ -35,7 +35,7 @@ value_function_by d f (a ∷ []) =
 value_function_by d f args = d.value f args
 
 -- logical_function, where a call has the arguments of its function, and anything else
-abbrev pub logical_function_by : Fallbacks → List ℕ → List Given → Bool
+abbrev pub logical_function_by : Fallbacks → List ℕ → List ArgumentResult → Bool
 logical_function_by d f (a ∷ b ∷ []) =
     if text_equal f (codes "match") then in_pattern is_in a.value b.value
     else if text_equal f (codes "search") then in_pattern occurs_in a.value b.value
@@ -93,12 +93,12 @@ abbrev mutual
   pub call_truth_by : Fallbacks → Call → Node → Tree → Bool
   call_truth_by d (call f args) n t = logical_function_by d f (given_by_all d args n t)
 
-  pub given_by_all : Fallbacks → Arguments → Node → Tree → List Given
+  pub given_by_all : Fallbacks → Arguments → Node → Tree → List ArgumentResult
   given_by_all d no_arguments n t = []
   given_by_all d (argument a args) n t = argument_by d a n t ∷ given_by_all d args n t
 
   -- a literal and a call's result give no nodes, a condition neither value nor nodes, and a query that is not singular no value
-  pub argument_by : Fallbacks → Argument → Node → Tree → Given
+  pub argument_by : Fallbacks → Argument → Node → Tree → ArgumentResult
   argument_by d (constant_argument c) n t = record { value = Some (literal_value c); nodes = d.argument_nodes (constant_argument c) }
   argument_by d (nodes_argument p) n t = record {
     value = if is_singular_path p then single_value (path_nodes_by d p n t) else d.argument_value (nodes_argument p) (path_nodes_by d p n t);

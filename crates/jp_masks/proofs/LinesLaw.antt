@@ -22,9 +22,9 @@ with_tail separator [] tail = tail
 with_tail separator (piece ∷ rest) tail = piece ++ separator ∷ with_tail separator rest tail
 
 -- what holds of each piece
-unfoldable pub Each : (List ℕ → Type 0) → List (List ℕ) → Type 0
-Each Q [] = Unit {0}
-Each Q (piece ∷ rest) = Q piece × Each Q rest
+unfoldable pub OfEachPiece : (List ℕ → Type 0) → List (List ℕ) → Type 0
+OfEachPiece Q [] = Unit {0}
+OfEachPiece Q (piece ∷ rest) = Q piece × OfEachPiece Q rest
 
 module _ (separator : ℕ) where
   with_tail-push : (pieces : List (List ℕ)) (piece tail : List ℕ) → with_tail separator (pieces ++ piece ∷ []) tail ≡ with_tail separator pieces (piece ++ separator ∷ tail)
@@ -70,25 +70,25 @@ module _ (separator : ℕ) where
         subst IsUtf8 seam (IsUtf8-drop all (length piece + 1) u (IsCharBoundary-after_ascii all (length piece) u room low)),
       )
 
-  pub pieces_utf8 : separator < 128 → (pieces : List (List ℕ)) (tail : List ℕ) → IsUtf8 (with_tail separator pieces tail) → Each IsUtf8 pieces × IsUtf8 tail
-  unfolding with_tail Each
+  pub pieces_utf8 : separator < 128 → (pieces : List (List ℕ)) (tail : List ℕ) → IsUtf8 (with_tail separator pieces tail) → OfEachPiece IsUtf8 pieces × IsUtf8 tail
+  unfolding with_tail OfEachPiece
   pieces_utf8 small [] tail u = (tt, u)
   pieces_utf8 small (piece ∷ rest) tail u =
       let parts = cut_utf8 small piece (with_tail separator rest tail) u in
       let later = pieces_utf8 small rest tail parts.1 in ((parts.0, later.0), later.1)
 
 -- a line stands in the text, and this holds of its bytes
-pub record Stands (Q : List ℕ → Type 0) (text : List ℕ) (line : LineAt) : Type 0 where
+pub record IsLineWith (Q : List ℕ → Type 0) (text : List ℕ) (line : LineAt) : Type 0 where
   pub order : line.start ≤ line.end
   pub within : line.end ≤ length text
   pub holds : Q (slice_range text line.start line.end)
 
 module _ (framing : Framing) (Q : List ℕ → Type 0) (text : List ℕ) where
-  all_one_if : (is : Bool) (line : LineAt) → Stands Q text line → All (Stands Q text) (one_if is line)
-  all_one_if true line s = All-cons (Stands Q text) line [] s (λ k d l. absurd (omega arith))
+  all_one_if : (is : Bool) (line : LineAt) → IsLineWith Q text line → All (IsLineWith Q text) (one_if is line)
+  all_one_if true line s = All-cons (IsLineWith Q text) line [] s (λ k d l. absurd (omega arith))
   all_one_if false line s = λ k d l. absurd (omega arith)
 
-  piece_stands : (front piece rest : List ℕ) (start : ℕ) → text ≡ front ++ (piece ++ rest) → length front ≡ start → Q piece → Stands Q text (record { start = start; end = start + length piece; positions = marks piece })
+  piece_stands : (front piece rest : List ℕ) (start : ℕ) → text ≡ front ++ (piece ++ rest) → length front ≡ start → Q piece → IsLineWith Q text (record { start = start; end = start + length piece; positions = marks piece })
   piece_stands front piece rest start e l q =
       let bytes : slice_range text start (start + length piece) ≡ piece =
       (λ t. slice_range (e t) (sym l t) (sym l t + length piece)) ∙ middle front piece rest in
@@ -98,19 +98,19 @@ module _ (framing : Framing) (Q : List ℕ → Type 0) (text : List ℕ) where
         holds = subst Q (sym bytes) q;
       }
 
-  each_line : (front tail : List ℕ) (start : ℕ) (pieces : List (List ℕ)) → text ≡ front ++ with_tail (separator_of framing) pieces tail → length front ≡ start → Each Q pieces → All (Stands Q text) (lines_at framing start pieces)
-  unfolding with_tail Each
+  each_line : (front tail : List ℕ) (start : ℕ) (pieces : List (List ℕ)) → text ≡ front ++ with_tail (separator_of framing) pieces tail → length front ≡ start → OfEachPiece Q pieces → All (IsLineWith Q text) (lines_at framing start pieces)
+  unfolding with_tail OfEachPiece
   each_line front tail start [] e l q = λ k d w. absurd (omega arith)
   each_line front tail start (piece ∷ rest) e l q =
       let sep = separator_of framing in
       let later : text ≡ (front ++ (piece ++ sep ∷ [])) ++ with_tail sep rest tail =
       e ∙ ap (λ l. front ++ l) (sym (append_assoc piece (sep ∷ []) (with_tail sep rest tail))) ∙ sym (append_assoc front (piece ++ sep ∷ []) (with_tail sep rest tail)) in
-      All-append (Stands Q text) (one_if (is_line framing start (start + length piece)) _) (lines_at framing (start + length piece + 1) rest)
+      All-append (IsLineWith Q text) (one_if (is_line framing start (start + length piece)) _) (lines_at framing (start + length piece + 1) rest)
       (all_one_if (is_line framing start (start + length piece)) _ (piece_stands front piece (sep ∷ with_tail sep rest tail) start e l q.0))
       (each_line (front ++ (piece ++ sep ∷ [])) tail (start + length piece + 1) rest later (omega (arith, l, length-append front (piece ++ sep ∷ []), length-append piece (sep ∷ []))) q.1)
 
   -- all lines stand in the text, and what holds of each piece holds of their bytes
-  pub all_stand : Each Q (closed_pieces (separator_of framing) text) → Q (open_piece (separator_of framing) text) → All (Stands Q text) (all_at framing text)
+  pub all_stand : OfEachPiece Q (closed_pieces (separator_of framing) text) → Q (open_piece (separator_of framing) text) → All (IsLineWith Q text) (all_at framing text)
   unfolding all_at closed_at with_tail
   all_stand each last =
       let sep = separator_of framing in
@@ -118,18 +118,18 @@ module _ (framing : Framing) (Q : List ℕ → Type 0) (text : List ℕ) where
       let open_text = open_piece sep text in
       let whole : text ≡ [] ++ with_tail sep closed open_text = sym (pieces_all sep text) in
       let parts : text ≡ with_tail sep closed [] ++ (open_text ++ []) = sym (pieces_all sep text) ∙ with_tail-more sep closed [] open_text ∙ ap (λ l. with_tail sep closed [] ++ l) (sym (append-nil open_text)) in
-      All-append (Stands Q text) (lines_at framing 0 closed) (last_at framing (bytes_of closed) open_text)
+      All-append (IsLineWith Q text) (lines_at framing 0 closed) (last_at framing (bytes_of closed) open_text)
       (each_line [] open_text 0 closed whole refl each)
       (all_one_if (is_last_line framing (bytes_of closed) (bytes_of closed + length open_text)) _ (piece_stands (with_tail sep closed []) open_text [] (bytes_of closed) parts (length-with_tail sep closed [] ∙ omega arith) last))
 
 -- one of them
-pub line_stands : (Q : List ℕ → Type 0) (text : List ℕ) (lines : List LineAt) (k : ℕ) (line : LineAt) → All (Stands Q text) lines → slice_get lines k ≡ Some line → Stands Q text line
+pub line_stands : (Q : List ℕ → Type 0) (text : List ℕ) (lines : List LineAt) (k : ℕ) (line : LineAt) → All (IsLineWith Q text) lines → slice_get lines k ≡ Some line → IsLineWith Q text line
 line_stands Q text lines k line all e =
-    subst (Stands Q text) (get_or_from_slice_get lines k line line e) (all k line (slice_get_within lines k line e))
+    subst (IsLineWith Q text) (get_or_from_slice_get lines k line line e) (all k line (slice_get_within lines k line e))
 
 -- every list of pieces
-pub each_any : (pieces : List (List ℕ)) → Each (λ piece. Unit {0}) pieces
-unfolding Each
+pub each_any : (pieces : List (List ℕ)) → OfEachPiece (λ piece. Unit {0}) pieces
+unfolding OfEachPiece
 each_any [] = tt
 each_any (piece ∷ rest) = (tt, each_any rest)
 
@@ -137,10 +137,10 @@ pub separator_small : (framing : Framing) → separator_of framing < 128
 separator_small Lines = omega arith
 separator_small Sequence = omega arith
 
-pub lines_stand : (framing : Framing) (text : List ℕ) → All (Stands (λ bytes. Unit {0}) text) (all_at framing text)
+pub lines_stand : (framing : Framing) (text : List ℕ) → All (IsLineWith (λ bytes. Unit {0}) text) (all_at framing text)
 lines_stand framing text = all_stand framing (λ bytes. Unit {0}) text (each_any (closed_pieces (separator_of framing) text)) tt
 
-pub lines_utf8 : (framing : Framing) (text : List ℕ) → IsUtf8 text → All (Stands IsUtf8 text) (all_at framing text)
+pub lines_utf8 : (framing : Framing) (text : List ℕ) → IsUtf8 text → All (IsLineWith IsUtf8 text) (all_at framing text)
 lines_utf8 framing text u =
     let sep = separator_of framing in
     let parts = pieces_utf8 sep (separator_small framing) (closed_pieces sep text) (open_piece sep text) (subst IsUtf8 (sym (pieces_all sep text)) u) in

@@ -1,3 +1,5 @@
+//! Tests of lines, faults and watched devices.
+
 use super::*;
 use std::alloc::{AllocError, Global};
 use std::io;

@@ -21,8 +21,8 @@ ascii_at (c ∷ s) zero d lt a = a.0
 ascii_at (c ∷ s) (suc i) d lt a = ascii_at s i d (omega arith) a.1
 
 -- some scalars of ASCII stand there, and then the rest
-abbrev pub Stands : List ℕ → List ℕ × List ℕ → Type 0
-Stands x r = (r.0 ++ r.1 ≡ x) × AreAscii r.0
+abbrev pub BeginsInAscii : List ℕ → List ℕ × List ℕ → Type 0
+BeginsInAscii x r = (r.0 ++ r.1 ≡ x) × AreAscii r.0
 
 bind_some : {A B : Type 0} (o : Option A) (f : A → Option B) (b : B) → (o >>= f) ≡ Some b → (a : A) × (o ≡ Some a) × (f a ≡ Some b)
 bind_some None f b h = absurd (cc)
@@ -52,18 +52,18 @@ run_ascii (c ∷ x) = step (is_digit c) refl (run_ascii x)
     step false e a = tt
 
 -- digits whose first is of a class of digits
-named_stands : (first : ℕ → Bool) → ((c : ℕ) → first c ≡ true → is_digit c ≡ true) → (x : List ℕ) (r : List ℕ × List ℕ) → first_and_run first is_digit x ≡ Some r → Stands x r
+named_stands : (first : ℕ → Bool) → ((c : ℕ) → first c ≡ true → is_digit c ≡ true) → (x : List ℕ) (r : List ℕ × List ℕ) → first_and_run first is_digit x ≡ Some r → BeginsInAscii x r
 named_stands first digits [] r h = absurd (cc)
 named_stands first digits (c ∷ x) r h =
     let p = cond_some (first c) (c ∷ (run is_digit x).0, (run is_digit x).1) r h in
-    let all : Stands (c ∷ x) (c ∷ (run is_digit x).0, (run is_digit x).1) = (ap (λ (y : List ℕ). c ∷ y) (run_joins is_digit x), (digit_ascii c (digits c p.0), run_ascii x)) in
+    let all : BeginsInAscii (c ∷ x) (c ∷ (run is_digit x).0, (run is_digit x).1) = (ap (λ (y : List ℕ). c ∷ y) (run_joins is_digit x), (digit_ascii c (digits c p.0), run_ascii x)) in
     rw (← p.1) all
 
-positive_stands : (x : List ℕ) (r : List ℕ × List ℕ) → positive x ≡ Some r → Stands x r
+positive_stands : (x : List ℕ) (r : List ℕ × List ℕ) → positive x ≡ Some r → BeginsInAscii x r
 unfolding positive
 positive_stands x r h = named_stands is_positive_digit (λ c e. (and_parts _ _ e).0) x r h
 
-digits_stand : (x : List ℕ) (r : List ℕ × List ℕ) → some_digits x ≡ Some r → Stands x r
+digits_stand : (x : List ℕ) (r : List ℕ × List ℕ) → some_digits x ≡ Some r → BeginsInAscii x r
 unfolding some_digits
 digits_stand x r h = named_stands is_digit (λ c e. e) x r h
 
@@ -71,31 +71,31 @@ some_is : {A : Type 0} (a b : A) → Some a ≡ Some b → a ≡ b
 some_is a b h = cc
 
 -- one scalar
-one_stands : (c : ℕ) (x y : List ℕ) (r : List ℕ × List ℕ) → c < 128 → after c x ≡ Some y → (c ∷ [], y) ≡ r → Stands x r
-one_stands c x y r lt h e = let all : Stands x (c ∷ [], y) = (after_is c x y h, (lt, tt)) in rw (← e) all
+one_stands : (c : ℕ) (x y : List ℕ) (r : List ℕ × List ℕ) → c < 128 → after c x ≡ Some y → (c ∷ [], y) ≡ r → BeginsInAscii x r
+one_stands c x y r lt h e = let all : BeginsInAscii x (c ∷ [], y) = (after_is c x y h, (lt, tt)) in rw (← e) all
 
-none_stands : (x : List ℕ) (r : List ℕ × List ℕ) → ([], x) ≡ r → Stands x r
-none_stands x r e = let all : Stands x ([], x) = (refl, tt) in rw (← e) all
+none_stands : (x : List ℕ) (r : List ℕ × List ℕ) → ([], x) ≡ r → BeginsInAscii x r
+none_stands x r e = let all : BeginsInAscii x ([], x) = (refl, tt) in rw (← e) all
 
 -- one reading behind another
-then_stands : (x : List ℕ) (s t y z : List ℕ) → Stands x (s, y) → Stands y (t, z) → Stands x (s ++ t, z)
+then_stands : (x : List ℕ) (s t y z : List ℕ) → BeginsInAscii x (s, y) → BeginsInAscii y (t, z) → BeginsInAscii x (s ++ t, z)
 then_stands x s t y z a b = let e : s ++ t ++ z ≡ s ++ (t ++ z) = simp append_assoc in (e ∙ (ap (λ (u : List ℕ). s ++ u) b.0 ∙ a.0), ascii_append s t a.1 b.1)
 
-int_stands : (x : List ℕ) (r : List ℕ × List ℕ) → int_digits x ≡ Some r → Stands x r
+int_stands : (x : List ℕ) (r : List ℕ × List ℕ) → int_digits x ≡ Some r → BeginsInAscii x r
 unfolding int_digits
 int_stands x r h = elim (chosen (after 48 x) (λ y. Some (48 ∷ [], y)) (positive x) (Some r) h) [
   | inl p ↦ one_stands 48 x p.0 r (omega arith) p.1 (some_is _ _ p.2)
   | inr p ↦ positive_stands x r p.1
 ]
 
-minus_stands : (x : List ℕ) → Stands x (minus x)
+minus_stands : (x : List ℕ) → BeginsInAscii x (minus x)
 unfolding minus
 minus_stands x = elim (chosen (after 45 x) (λ y. (45 ∷ [], y)) ([], x) (minus x) refl) [
   | inl p ↦ one_stands 45 x p.0 (minus x) (omega arith) p.1 p.2
   | inr p ↦ none_stands x (minus x) p.1
 ]
 
-sign_stands : (x : List ℕ) → Stands x (sign x)
+sign_stands : (x : List ℕ) → BeginsInAscii x (sign x)
 unfolding sign
 sign_stands x = elim (chosen (after 43 x) (λ y. (43 ∷ [], y)) (choose (after 45 x) (λ y. (45 ∷ [], y)) ([], x)) (sign x) refl) [
   | inl p ↦ one_stands 43 x p.0 (sign x) (omega arith) p.1 p.2
@@ -105,25 +105,25 @@ sign_stands x = elim (chosen (after 43 x) (λ y. (43 ∷ [], y)) (choose (after 
   ]
 ]
 
-fraction_stands : (x : List ℕ) (r : List ℕ × List ℕ) → fraction x ≡ Some r → Stands x r
+fraction_stands : (x : List ℕ) (r : List ℕ × List ℕ) → fraction x ≡ Some r → BeginsInAscii x r
 unfolding fraction
 fraction_stands x r h = elim (chosen (after 46 x) (λ y. some_digits y >>= λ s. Some (46 ∷ s.0, s.1)) (Some ([], x)) (Some r) h) [
   | inl p ↦
       let q = bind_some (some_digits p.0) (λ s. Some (46 ∷ s.0, s.1)) r p.2 in
-      let all : Stands x (46 ∷ q.0.0, q.0.1) = then_stands x (46 ∷ []) q.0.0 p.0 q.0.1 (one_stands 46 x p.0 (46 ∷ [], p.0) (omega arith) p.1 refl) (digits_stand p.0 q.0 q.1) in
+      let all : BeginsInAscii x (46 ∷ q.0.0, q.0.1) = then_stands x (46 ∷ []) q.0.0 p.0 q.0.1 (one_stands 46 x p.0 (46 ∷ [], p.0) (omega arith) p.1 refl) (digits_stand p.0 q.0 q.1) in
       rw (← some_is _ _ q.2) all
   | inr p ↦ none_stands x r (some_is _ _ p.1)
 ]
 
-behind_stands : (letter : ℕ) (x y : List ℕ) (r : List ℕ × List ℕ) → letter < 128 → after letter x ≡ Some y → exponent_behind letter y ≡ Some r → Stands x r
+behind_stands : (letter : ℕ) (x y : List ℕ) (r : List ℕ × List ℕ) → letter < 128 → after letter x ≡ Some y → exponent_behind letter y ≡ Some r → BeginsInAscii x r
 unfolding exponent_behind
 behind_stands letter x y r lt at h =
     let q = bind_some (some_digits (sign y).1) (λ s. Some (letter ∷ ((sign y).0 ++ s.0), s.1)) r h in
-    let inner : Stands y ((sign y).0 ++ q.0.0, q.0.1) = then_stands y (sign y).0 q.0.0 (sign y).1 q.0.1 (sign_stands y) (digits_stand (sign y).1 q.0 q.1) in
-    let all : Stands x (letter ∷ ((sign y).0 ++ q.0.0), q.0.1) = then_stands x (letter ∷ []) ((sign y).0 ++ q.0.0) y q.0.1 (one_stands letter x y (letter ∷ [], y) lt at refl) inner in
+    let inner : BeginsInAscii y ((sign y).0 ++ q.0.0, q.0.1) = then_stands y (sign y).0 q.0.0 (sign y).1 q.0.1 (sign_stands y) (digits_stand (sign y).1 q.0 q.1) in
+    let all : BeginsInAscii x (letter ∷ ((sign y).0 ++ q.0.0), q.0.1) = then_stands x (letter ∷ []) ((sign y).0 ++ q.0.0) y q.0.1 (one_stands letter x y (letter ∷ [], y) lt at refl) inner in
     rw (← some_is _ _ q.2) all
 
-exponent_stands : (x : List ℕ) (r : List ℕ × List ℕ) → exponent x ≡ Some r → Stands x r
+exponent_stands : (x : List ℕ) (r : List ℕ × List ℕ) → exponent x ≡ Some r → BeginsInAscii x r
 unfolding exponent
 exponent_stands x r h = elim (chosen (after 101 x) (exponent_behind 101) (choose (after 69 x) (exponent_behind 69) (Some ([], x))) (Some r) h) [
   | inl p ↦ behind_stands 101 x p.0 r (omega arith) p.1 p.2
@@ -133,15 +133,15 @@ exponent_stands x r h = elim (chosen (after 101 x) (exponent_behind 101) (choose
   ]
 ]
 
-pub number_stands : (x : List ℕ) (r : List ℕ × List ℕ) → number_at x ≡ Some r → Stands x r
+pub number_stands : (x : List ℕ) (r : List ℕ × List ℕ) → number_at x ≡ Some r → BeginsInAscii x r
 unfolding number_at
 number_stands x r h =
     let i = bind_some (int_digits (minus x).1) (λ i. fraction i.1 >>= λ f. exponent f.1 >>= λ e. Some ((minus x).0 ++ (i.0 ++ (f.0 ++ e.0)), e.1)) r h in
     let f = bind_some (fraction i.0.1) (λ f. exponent f.1 >>= λ e. Some ((minus x).0 ++ (i.0.0 ++ (f.0 ++ e.0)), e.1)) r i.2 in
     let e = bind_some (exponent f.0.1) (λ e. Some ((minus x).0 ++ (i.0.0 ++ (f.0.0 ++ e.0)), e.1)) r f.2 in
-    let behind_fraction : Stands i.0.1 (f.0.0 ++ e.0.0, e.0.1) = then_stands i.0.1 f.0.0 e.0.0 f.0.1 e.0.1 (fraction_stands i.0.1 f.0 f.1) (exponent_stands f.0.1 e.0 e.1) in
-    let behind_minus : Stands (minus x).1 (i.0.0 ++ (f.0.0 ++ e.0.0), e.0.1) = then_stands (minus x).1 i.0.0 (f.0.0 ++ e.0.0) i.0.1 e.0.1 (int_stands (minus x).1 i.0 i.1) behind_fraction in
-    let all : Stands x ((minus x).0 ++ (i.0.0 ++ (f.0.0 ++ e.0.0)), e.0.1) = then_stands x (minus x).0 (i.0.0 ++ (f.0.0 ++ e.0.0)) (minus x).1 e.0.1 (minus_stands x) behind_minus in
+    let behind_fraction : BeginsInAscii i.0.1 (f.0.0 ++ e.0.0, e.0.1) = then_stands i.0.1 f.0.0 e.0.0 f.0.1 e.0.1 (fraction_stands i.0.1 f.0 f.1) (exponent_stands f.0.1 e.0 e.1) in
+    let behind_minus : BeginsInAscii (minus x).1 (i.0.0 ++ (f.0.0 ++ e.0.0), e.0.1) = then_stands (minus x).1 i.0.0 (f.0.0 ++ e.0.0) i.0.1 e.0.1 (int_stands (minus x).1 i.0 i.1) behind_fraction in
+    let all : BeginsInAscii x ((minus x).0 ++ (i.0.0 ++ (f.0.0 ++ e.0.0)), e.0.1) = then_stands x (minus x).0 (i.0.0 ++ (f.0.0 ++ e.0.0)) (minus x).1 e.0.1 (minus_stands x) behind_minus in
     rw (← some_is _ _ e.2) all
 
 second_is : (o : Read (List ℕ)) (y : List ℕ) → Some y ≡ option_map (λ r. r.1) o → (s : List ℕ) × (o ≡ Some (s, y))

@@ -1,3 +1,5 @@
+//! Tests of bodies of strings, on texts of each length beside a lane.
+
 use super::*;
 use std::alloc::{AllocError, Global};
 use std::cmp::Ordering;

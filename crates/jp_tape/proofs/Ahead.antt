@@ -151,13 +151,13 @@ record Blank (b : ℕ) : Type 0 where
 blank : (b : ℕ) → is_white b ≡ true → Blank b
 blank b h = record { no_structural = grind (arith, nat_tests, h); no_quote = grind (arith, nat_tests, h); no_backslash = grind (arith, nat_tests, h) }
 
-record Steps (line : List ℕ) (i : ℕ) : Type 0 where
+record PassesOver (line : List ℕ) (i : ℕ) : Type 0 where
   clear : marks_from line i ≡ marks_from line (i + 1)
   unescaped : is_escaped line (i + 1) ≡ false
   outside : is_inside line (i + 1) ≡ false
   begins : may_begin line (i + 1) ≡ true
 
-white_step : (line : List ℕ) (i : ℕ) → i < length line → is_white (byte_at line i) ≡ true → is_escaped line i ≡ false → is_inside line i ≡ false → Steps line i
+white_step : (line : List ℕ) (i : ℕ) → i < length line → is_white (byte_at line i) ≡ true → is_escaped line i ≡ false → is_inside line i ≡ false → PassesOver line i
 white_step line i l w e s =
     let b = blank (byte_at line i) w in
     let u = no_quote_unescaped line i b.no_quote in

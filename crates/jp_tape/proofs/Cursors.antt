@@ -20,7 +20,7 @@ use Rattle.jp_tape.proofs.Places as places
 use Rattle.jp_tape.proofs.Parents.{HasParent, has_parent}
 use Rattle.jp_tape.proofs.Parents as parents
 use Rattle.jp_tape.proofs.Bounds.{room}
-use Rattle.jp_tape.proofs.Stands.{Stands, stands, NameStands, last-push}
+use Rattle.jp_tape.proofs.Stands.{SpotStands, stands, NameStands, last-push}
 use Rattle.jp_tape.proofs.Sound.{Sound, sound_at}
 use Rattle.jp_tape.proofs.Trees.{spelled_text, count_short}
 
@@ -90,8 +90,8 @@ subtree-range c =
     let whole : List Node = subtree (root_node (root_of c)) in
     subst (λ (s : Spot). slice_range whole (place_of c) (place_of c + length (subtree s.node)) ≡ subtree s.node) (sym (spot-is c)) (places.subtree-range (root_of c) (place_of c) (inside c))
 
-pub standing : (c : Cursor) → Stands (line_of c) (spot_of c)
-standing c = subst (λ (s : Spot). Stands (line_of c) s) (sym (spot-is c)) (stands (line_of c) (root_of c) (place_of c) (text c) (inside c))
+pub standing : (c : Cursor) → SpotStands (line_of c) (spot_of c)
+standing c = subst (λ (s : Spot). SpotStands (line_of c) s) (sym (spot-is c)) (stands (line_of c) (root_of c) (place_of c) (text c) (inside c))
 
 pub sound : (c : Cursor) → Sound (line_of c) (spot_of c)
 sound c = subst (λ (s : Spot). Sound (line_of c) s) (sym (spot-is c)) (sound_at (line_of c) (root_of c) (place_of c) (whole c) (exponents c) (distinct c) (inside c))

@@ -19,15 +19,15 @@ pub record HasParent (t : Tree) (place : ℕ) (s : Spot) : Type 0 where
   pub siblings : length (children (spot_at t s.up).node) ≡ s.index + suc (length (nodes_behind s))
 
 -- the same of each of some spots, the first of which is at this place
-abbrev Each : Tree → ℕ → List Spot → Type 0
-Each t place [] = Unit {0}
-Each t place (s ∷ ss) = HasParent t place s × Each t (place + 1) ss
+abbrev HaveParents : Tree → ℕ → List Spot → Type 0
+HaveParents t place [] = Unit {0}
+HaveParents t place (s ∷ ss) = HasParent t place s × HaveParents t (place + 1) ss
 
-each-append : (t : Tree) (place : ℕ) (xs ys : List Spot) → Each t place xs → Each t (place + length xs) ys → Each t place (xs ++ ys)
-each-append t place [] ys p q = subst (λ n. Each t n ys) (add-zero place) q
-each-append t place (x ∷ xs) ys p q = (p.0, each-append t (place + 1) xs ys p.1 (subst (λ n. Each t n ys) (let e : place + suc (length xs) ≡ place + 1 + length xs = omega arith in e) q))
+each-append : (t : Tree) (place : ℕ) (xs ys : List Spot) → HaveParents t place xs → HaveParents t (place + length xs) ys → HaveParents t place (xs ++ ys)
+each-append t place [] ys p q = subst (λ n. HaveParents t n ys) (add-zero place) q
+each-append t place (x ∷ xs) ys p q = (p.0, each-append t (place + 1) xs ys p.1 (subst (λ n. HaveParents t n ys) (let e : place + suc (length xs) ≡ place + 1 + length xs = omega arith in e) q))
 
-each-at : (t : Tree) (place : ℕ) (xs : List Spot) (i : ℕ) (d : Spot) → i < length xs → Each t place xs → HasParent t (place + i) (get_or xs i d)
+each-at : (t : Tree) (place : ℕ) (xs : List Spot) (i : ℕ) (d : Spot) → i < length xs → HaveParents t place xs → HasParent t (place + i) (get_or xs i d)
 each-at t place [] i d h p = absurd (omega arith)
 each-at t place (x ∷ xs) zero d h p = subst (λ n. HasParent t n x) (sym (add-zero place)) p.0
 each-at t place (x ∷ xs) (suc i) d h p =
@@ -57,7 +57,7 @@ siblings_of n index name u more e =
 mutual
   -- below a node that stands at this place of the tree
   below_parents : (t u : Tree) (location : List Step) (place : ℕ) (rest : List Spot) → (spot_at t place).node ≡ record { location = location; tree = u } → drop (place + 1) (spots t) ≡ spots_below location place u ++ rest →
-      Each t (place + 1) (spots_below location place u)
+      HaveParents t (place + 1) (spots_below location place u)
   below_parents t (node s null) location place rest n e = tt
   below_parents t (node s (boolean b)) location place rest n e = tt
   below_parents t (node s (number m f)) location place rest n e = tt
@@ -67,7 +67,7 @@ mutual
 
   -- children of it from an index on
   from_parents : (t : Tree) (children : Children) (parent : Node) (up index place : ℕ) (rest : List Spot) → (spot_at t up).node ≡ parent → drop index (steps_in (value_of parent.tree)) ≡ steps_from index children →
-      drop place (spots t) ≡ spots_from parent.location up index place children ++ rest → up < place → Each t place (spots_from parent.location up index place children)
+      drop place (spots t) ≡ spots_from parent.location up index place children ++ rest → up < place → HaveParents t place (spots_from parent.location up index place children)
   from_parents t no_child parent up index place rest n d e l = tt
   from_parents t (child name u more) parent up index place rest n d e l =
       let s : Spot = child_spot parent.location up index name u more in
@@ -88,7 +88,7 @@ mutual
           siblings = ap (λ (x : Node). length (children x)) n ∙ siblings_of parent index name u more d;
         },
         each-append t (place + 1) inside others (below_parents t u s.node.location place (others ++ rest) (ap (λ (x : Spot). x.node) at) behind)
-            (subst (λ k. Each t k others) (sym next) (from_parents t more parent up (index + 1) (place + node_count u) rest n steps later (omega (arith, l, counted)))),
+            (subst (λ k. HaveParents t k others) (sym next) (from_parents t more parent up (index + 1) (place + node_count u) rest n steps later (omega (arith, l, counted)))),
       )
 
 pub has_parent : (t : Tree) (place : ℕ) → 0 < place → place < node_count t → HasParent t place (spot_at t place)

@@ -17,21 +17,21 @@ pub record Sound (line : List ℕ) (s : Spot) : Type 0 where
   pub distinct : has_duplicate s.node.tree ≡ false
 
 -- all of some spots are
-abbrev Each : List ℕ → List Spot → Type 0
-Each line [] = Unit {0}
-Each line (s ∷ ss) = Sound line s × Each line ss
+abbrev AreSound : List ℕ → List Spot → Type 0
+AreSound line [] = Unit {0}
+AreSound line (s ∷ ss) = Sound line s × AreSound line ss
 
-each-append : (line : List ℕ) (xs ys : List Spot) → Each line xs → Each line ys → Each line (xs ++ ys)
+each-append : (line : List ℕ) (xs ys : List Spot) → AreSound line xs → AreSound line ys → AreSound line (xs ++ ys)
 each-append line [] ys p q = q
 each-append line (x ∷ xs) ys p q = (p.0, each-append line xs ys p.1 q)
 
-each-at : (line : List ℕ) (xs : List Spot) (i : ℕ) (d : Spot) → i < length xs → Each line xs → Sound line (get_or xs i d)
+each-at : (line : List ℕ) (xs : List Spot) (i : ℕ) (d : Spot) → i < length xs → AreSound line xs → Sound line (get_or xs i d)
 each-at line [] i d h p = absurd (omega arith)
 each-at line (x ∷ xs) zero d h p = p.0
 each-at line (x ∷ xs) (suc i) d h p = each-at line xs i d (omega arith) p.1
 
 mutual
-  below_sound : (line : List ℕ) (t : Tree) (location : List Step) (place : ℕ) → has_surrogate t ≡ false → has_long_exponent line t ≡ false → has_duplicate t ≡ false → Each line (spots_below location place t)
+  below_sound : (line : List ℕ) (t : Tree) (location : List Step) (place : ℕ) → has_surrogate t ≡ false → has_long_exponent line t ≡ false → has_duplicate t ≡ false → AreSound line (spots_below location place t)
   below_sound line (node s null) location place w e d = tt
   below_sound line (node s (boolean b)) location place w e d = tt
   below_sound line (node s (number m f)) location place w e d = tt
@@ -41,7 +41,7 @@ mutual
       from_sound line children location place 0 (place + 1) w e p.1
 
   from_sound : (line : List ℕ) (children : Children) (parent : List Step) (up index place : ℕ) → children_have_surrogate children ≡ false → children_have_long_exponent line children ≡ false → children_have_duplicate children ≡ false →
-      Each line (spots_from parent up index place children)
+      AreSound line (spots_from parent up index place children)
   from_sound line no_child parent up index place w e d = tt
   from_sound line (child name t more) parent up index place w e d =
       let a = or_parts (name_has_lone_surrogate name || has_surrogate t) (children_have_surrogate more) w in

@@ -4,7 +4,7 @@ use Rattle.std.proofs.lemmas.Str.{chars-nil}
 use Rattle.std.specs.Int.Bits.{or_zero_l}
 use Rattle.std.specs.Str.{chars}
 use Rattle.jp_iregexp.specs.Layouts.{state_of}
-use Rattle.jp_iregexp.specs.States.{Holds}
+use Rattle.jp_iregexp.specs.States.{HasState}
 use Rattle.jp_iregexp.proofs.AsciiSteps.{ready_step, none_behind}
 use Rattle.jp_iregexp.proofs.Finding.{IsFinding, start_finding, is_found, find_byte, not_found}
 use Rattle.jp_iregexp.proofs.automaton.Automaton.finds.Goals as goal
@@ -13,7 +13,7 @@ use Rattle.jp_iregexp.proofs.automaton.Automaton.finds.Goals.{then-ready-eq0, el
 pub loop-byte-init : goal.loop-byte-init
 loop-byte-init c =
     let it = c.args.self.now in
-    let not_yet : Holds it.starts 63 → ⊥ = λ h. absurd (let yes = c.has_end.ensures.1 h in let no = c.if-has_end.false in cc) in
+    let not_yet : HasState it.starts 63 → ⊥ = λ h. absurd (let yes = c.has_end.ensures.1 h in let no = c.if-has_end.false in cc) in
     (start_finding (map state_of it.states.items) it.starts (chars c.args.text.now), not_yet, not_yet)
 
 pub loop-byte-preserved : goal.loop-byte-preserved
@@ -21,7 +21,7 @@ loop-byte-preserved c =
     let l = c.loop-byte in
     let it = c.args.self.now in
     let text = c.args.text.now in
-    let kept = λ (waiting : ℕ). IsFinding (map state_of it.states.items) it.starts waiting (chars (drop (l.byte-index + 1) text)) (chars text) × (Holds it.starts 63 → ⊥) × (Holds waiting 63 → ⊥) in
+    let kept = λ (waiting : ℕ). IsFinding (map state_of it.states.items) it.starts waiting (chars (drop (l.byte-index + 1) text)) (chars text) × (HasState it.starts 63 → ⊥) × (HasState waiting 63 → ⊥) in
     let on = λ (next : ℕ). find_byte (map state_of it.states.items) it.starts l.waiting next text c.as_bytes-byte-items.result.now l.byte-index c.as_bytes-byte-items.ensures.value c.loop-byte-test.true c.in-Some.ensures.ascii l.invariant.0 l.invariant.2 in
     elim c.if-ready-eq0.branch [
       | then-ready-eq0 w ↦
