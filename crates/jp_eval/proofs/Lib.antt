@@ -19,7 +19,7 @@ pub mod FromRoot
 pub mod Patterns
 pub mod Answered
 pub mod Entered
-pub mod ArgumentResult
+pub mod Given
 pub mod Origins
 pub mod Following
 pub mod Asked
