@@ -36,7 +36,7 @@ module _ {A : Type 0} (item : Item A) (front : List A) (count i : ℕ) (x : List
 
   pub fails : (e : Failure) → i < count → Fails e (item x) → with_front front (many item (count - i) x) ≡ total → Fails e total
   fails failures.Memory lt h so_far = tt
-  fails failures.Syntax lt h so_far = refused lt h so_far
+  fails (failures.Syntax stop) lt h so_far = refused lt h so_far
 
   pub stops : i < count → item x ≡ Some None → with_front front (many item (count - i) x) ≡ total → total ≡ Some (front, x)
   unfolding many

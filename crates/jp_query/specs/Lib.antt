@@ -3,6 +3,7 @@ pub mod Answers
 pub mod Integers
 pub mod Limits
 pub mod Outcome
+pub mod Places
 pub mod Conditions
 pub mod ConditionOutcome
 pub mod Connectives

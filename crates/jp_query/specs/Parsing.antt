@@ -18,7 +18,7 @@ use Rattle.jp_query.specs.declared.parser.parsed.Parsed.{Parsed}
 -- a function that stopped so was right to do it: what it read is refused, or memory ran out
 abbrev pub Fails : {Y : Type 0} → Failure → Option Y → Type 0
 Fails failures.Memory read = Unit {0}
-Fails failures.Syntax read = read ≡ None
+Fails (failures.Syntax stop) read = read ≡ None
 
 -- what a function returned, seen by view, is what the reader gives, unless memory ran out
 abbrev pub Gives : {X Y : Type 0} → (X → Y) → Result X Failure → Option Y → Type 0

@@ -4,6 +4,8 @@
 //!
 //! - `parse`, `ParseFault`, `Query`: the syntax tree of a text, or its first fault
 //! - `parse_condition`, `Condition`: a logical expression that stands alone, or the first fault of its text
+//! - `place_of_fault`, `place_of_condition_fault`, `FaultPlace`, `Expected`: where a text goes wrong that is refused;
+//!   `character_at`, `place_of_function`: places of characters and of functions
 //! - `Segment`, `Selector`, `Logical`, `Comparable`, `Argument`, `Path`, `Call`, `Origin`, `Literal`, `CompareOp`: the syntax
 //!   tree
 //! - `singular`, `is_singular`, `SingularPath`, `Step`: the steps of a singular query, if it is one; `singular_selector` of a
@@ -11,6 +13,7 @@
 #![tactic(auto)]
 
 mod condition;
+mod expected;
 mod fault;
 pub mod laws;
 mod limit;
@@ -21,8 +24,12 @@ mod query;
 mod tree;
 
 pub use condition::Condition;
+pub use expected::Expected;
 pub use fault::ParseFault;
-pub use parser::{parse, parse_condition};
+pub use parser::{
+    FaultPlace, character_at, parse, parse_condition, place_of_condition_fault, place_of_fault,
+    place_of_function,
+};
 pub use paths::{SingularPath, Step, is_singular, singular, singular_selector};
 pub use query::Query;
 pub use tree::{

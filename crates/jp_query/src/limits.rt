@@ -89,7 +89,7 @@ fn begins_with_long_exponent(text: &[u8]) -> bool
 }
 
 /// Whether the exponent of a number has too many digits after its leading zeros.
-fn is_long_exponent(number: &[u8]) -> bool
+pub(crate) fn is_long_exponent(number: &[u8]) -> bool
     ensures { result ≡ is_long_exponent (numeral_of number.now) }
 {
     begins_with_long_exponent(behind_fraction(behind_digits(behind_minus(number))))
@@ -106,7 +106,7 @@ fn literal_passes(literal: &Literal, limit: Limit) -> bool
 }
 
 /// Whether an integer keeps the limit.
-fn integer_passes(value: i64, limit: Limit) -> bool
+pub(crate) fn integer_passes(value: i64, limit: Limit) -> bool
     ensures { result ≡ (limit_tests limit).integer value }
 {
     match limit {

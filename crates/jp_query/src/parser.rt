@@ -7,10 +7,13 @@ mod failure;
 mod literals;
 mod numbers;
 mod parsed;
+mod places;
 mod queries;
 mod scalars;
 mod selectors;
+mod stops;
 mod strings;
+mod tokens;
 
 ghost use Rattle.std.specs.Prelude.{◌≡◌, true, IsFalse, IfOk, IfErr, chars};
 ghost use Rattle.jp_model.specs.Query.Limits.{is_oversized, has_exact_integers, has_small_exponents};
@@ -25,16 +28,20 @@ ghost use Rattle.jp_query.specs.Outcome.{IsRead, Meant};
 ghost use Rattle.jp_query.specs.Status.{read_text};
 ghost use Rattle.jp_query.specs.View.{segments_view};
 
+use crate::expected::Expected;
 use crate::fault::ParseFault;
 use crate::limit::Limit;
 use crate::limits::segments_pass;
 use crate::query::Query;
 use crate::tree::Segment;
 pub use conditions::parse_condition;
-use failure::Failure;
+use failure::{Failure, Stop};
 use jp_model::QueryFault;
+pub use places::{
+    FaultPlace, character_at, place_of_condition_fault, place_of_fault, place_of_function,
+};
 use queries::segments;
-use scalars::after;
+use scalars::{after, skip_blanks};
 use std::alloc::{AllocError, Global};
 
 /// How deep brackets and parentheses nest at most.
@@ -72,11 +79,11 @@ fn query_segments(alloc: Global, text: &[char]) -> Result<Vec<Segment>, Failure>
     ensures { Gives (λ v. segments_view v.items) result (query_at clamp 512 text.now) }
 {
     let Some(rest) = after(text, '$') else {
-        return Err(Failure::Syntax);
+        return Err(Failure::Syntax(Stop::at(text, Expected::Root)));
     };
     let (segments, rest) = segments(alloc, rest, MAX_DEPTH)?;
     if !rest.is_empty() {
-        return Err(Failure::Syntax);
+        return Err(Failure::Syntax(Stop::at(skip_blanks(rest), Expected::Segment)));
     }
     Ok(segments)
 }
@@ -88,7 +95,7 @@ fn read(alloc: Global, text: &[u8]) -> Result<Vec<Segment>, Failure>
     ensures { Gives (λ v. segments_view v.items) result (read_text clamp text.now) }
 {
     let Ok(text) = simdutf8::basic::from_utf8(text) else {
-        return Err(Failure::Syntax);
+        return Err(Failure::Syntax(Stop::at_end(Expected::Utf8)));
     };
     let scalars = to_scalars(alloc, text)?;
     query_segments(alloc, scalars.as_slice())
@@ -117,7 +124,7 @@ fn answer(alloc: Global, text: &[u8]) -> Result<Query, ParseFault>
     }
     match read(alloc, text) {
         Ok(segments) => limited(text, segments),
-        Err(Failure::Syntax) => Err(ParseFault::Refused(QueryFault::Syntax)),
+        Err(Failure::Syntax(_)) => Err(ParseFault::Refused(QueryFault::Syntax)),
         Err(Failure::Memory) => Err(ParseFault::Memory),
     }
 }

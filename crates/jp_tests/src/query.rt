@@ -8,6 +8,7 @@ use std::test::Fail;
 mod conditions;
 mod examples;
 mod paths;
+mod places;
 
 // What the parser says of a text: nothing where it is a query.
 fn fault_of(alloc: Global, text: &[u8]) -> Option<ParseFault> {

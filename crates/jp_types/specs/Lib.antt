@@ -1,4 +1,5 @@
 -- What the contracts of typing speak of.
 pub mod CheckedConditions
 pub mod Checks
+pub mod Reading
 pub mod Signatures

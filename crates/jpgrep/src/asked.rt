@@ -1,38 +1,15 @@
 //! The question that the program's words ask.
 
+use crate::refusal::{Refusal, Text};
 use jp_grep::{Options, Question};
-use jp_model::QueryFault;
-use jp_query::{ParseFault, parse, parse_condition};
-use jp_types::{check, check_condition};
-use std::alloc::{AllocError, Global};
-
-/// Why no question was read.
-#[derive(Debug, Drop)]
-pub(crate) enum Refusal<'a> {
-    /// This query is refused.
-    Query(&'a str, QueryFault),
-    /// This condition is refused.
-    Condition(&'a str, QueryFault),
-    /// A growth was refused.
-    Memory,
-}
-
-impl<'a> From<AllocError> for Refusal<'a> {
-    fn from(_error: AllocError) -> Refusal<'a> {
-        Refusal::Memory
-    }
-}
+use jp_types::{read_condition, read_query};
+use std::alloc::Global;
 
 /// Adds a query.
 fn add_query<'a>(alloc: Global, question: &mut Question, text: &'a str) -> Result<(), Refusal<'a>> {
-    let query = match parse(alloc, text.as_bytes()) {
-        Ok(query) => query,
-        Err(ParseFault::Refused(fault)) => return Err(Refusal::Query(text, fault)),
-        Err(ParseFault::Memory) => return Err(Refusal::Memory),
-    };
-    match check(query) {
-        Ok(checked) => Ok(question.add_query(alloc, &checked)?),
-        Err((fault, _)) => Err(Refusal::Query(text, fault)),
+    match read_query(alloc, text.as_bytes()) {
+        Ok(query) => Ok(question.add_query(alloc, &query)?),
+        Err(refusal) => Err(Refusal::of(Text::Query(text), refusal)),
     }
 }
 
@@ -42,14 +19,9 @@ fn add_condition<'a>(
     question: &mut Question,
     text: &'a str,
 ) -> Result<(), Refusal<'a>> {
-    let condition = match parse_condition(alloc, text.as_bytes()) {
-        Ok(condition) => condition,
-        Err(ParseFault::Refused(fault)) => return Err(Refusal::Condition(text, fault)),
-        Err(ParseFault::Memory) => return Err(Refusal::Memory),
-    };
-    match check_condition(condition) {
-        Ok(checked) => Ok(question.add_condition(alloc, &checked)?),
-        Err((fault, _)) => Err(Refusal::Condition(text, fault)),
+    match read_condition(alloc, text.as_bytes()) {
+        Ok(condition) => Ok(question.add_condition(alloc, &condition)?),
+        Err(refusal) => Err(Refusal::of(Text::Condition(text), refusal)),
     }
 }
 

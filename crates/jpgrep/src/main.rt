@@ -2,12 +2,15 @@
 #![tactic(auto)]
 
 mod asked;
+mod excerpt;
 mod files;
 mod input;
+mod refusal;
 mod refused;
 
-use crate::asked::{Refusal, read_question};
+use crate::asked::read_question;
 use crate::files::search_files;
+use crate::refusal::Refusal;
 use crate::refused::refuse_word;
 use clap::error::ErrorKind;
 use jp_grep::{Options, read_words};
@@ -19,25 +22,12 @@ const SELECTED: u8 = 0;
 
 const FAULT: u8 = 2;
 
-/// Says why a query or a condition is refused.
-fn tell_refusal(rt: &HostRuntime, refusal: Refusal<'_>) {
-    let _ = match refusal {
-        Refusal::Query(text, fault) => {
-            eprintln!(rt; "jpgrep: query: {}\n  {text}", fault.word())
-        }
-        Refusal::Condition(text, fault) => {
-            eprintln!(rt; "jpgrep: condition: {}\n  {text}", fault.word())
-        }
-        Refusal::Memory => eprintln!(rt; "jpgrep: out of memory"),
-    };
-}
-
 /// Does what the words ask for, and gives the exit status.
 fn run_options(rt: &HostRuntime, options: &Options<'_>) -> u8 {
     match read_question(rt.alloc(), options) {
         Ok(question) => search_files(rt, options, &question),
         Err(refusal) => {
-            tell_refusal(rt, refusal);
+            refusal.tell(rt);
             FAULT
         }
     }
@@ -48,7 +38,7 @@ fn run_words(rt: &HostRuntime, words: &[&str]) -> u8 {
     match read_words(rt.alloc(), words) {
         Ok(options) => run_options(rt, &options),
         Err(error) if error.kind() == ErrorKind::OutOfMemory => {
-            tell_refusal(rt, Refusal::Memory);
+            Refusal::Memory.tell(rt);
             FAULT
         }
         Err(error) => {
@@ -67,7 +57,7 @@ fn run_arguments(rt: &HostRuntime) -> u8 {
     let words = match env::args(rt) {
         Ok(words) => words,
         Err(error) if error.kind() == io::ErrorKind::OutOfMemory => {
-            tell_refusal(rt, Refusal::Memory);
+            Refusal::Memory.tell(rt);
             return FAULT;
         }
         Err(_) => {
@@ -76,13 +66,13 @@ fn run_arguments(rt: &HostRuntime) -> u8 {
         }
     };
     let Ok(words) = words.collect::<Vec<String>>(rt.alloc()) else {
-        tell_refusal(rt, Refusal::Memory);
+        Refusal::Memory.tell(rt);
         return FAULT;
     };
     let mut texts = Vec::new(rt.alloc());
     for word in &words {
         if texts.push(word.as_str()).is_err() {
-            tell_refusal(rt, Refusal::Memory);
+            Refusal::Memory.tell(rt);
             return FAULT;
         }
     }

@@ -89,7 +89,7 @@ fn answer(alloc: Global, whole: &[u8]) -> Result<Condition, ParseFault>
     }
     match read(alloc, whole) {
         Ok(segments) => limited(whole, segments),
-        Err(Failure::Syntax) => Err(ParseFault::Refused(QueryFault::Syntax)),
+        Err(Failure::Syntax(_)) => Err(ParseFault::Refused(QueryFault::Syntax)),
         Err(Failure::Memory) => Err(ParseFault::Memory),
     }
 }

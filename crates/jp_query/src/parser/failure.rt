@@ -1,15 +1,40 @@
-//! Why the parser stopped.
+//! Why the parser stopped, and where.
 
 ghost use Rattle.std.specs.Prelude.{◌≡◌};
 ghost use Rattle.jp_query.specs.declared.parser.failure.Failure.TheVariants.{Memory};
 
+use crate::expected::Expected;
 use std::alloc::{AllocError, AllocFailed};
+
+/// Where a text cannot go on as it does.
+#[derive(Clone, Copy, Debug)]
+pub(crate) struct Stop {
+    /// How many scalars of the text are left there.
+    pub(crate) left: usize,
+    /// What the grammar has there.
+    pub(crate) expected: Expected,
+}
+
+impl Stop {
+    /// At the front of what is left of the text.
+    pub(crate) fn at(rest: &[char], expected: Expected) -> Stop {
+        Stop {
+            left: rest.len(),
+            expected,
+        }
+    }
+
+    /// At the end of the text, which is too short.
+    pub(crate) fn at_end(expected: Expected) -> Stop {
+        Stop { left: 0, expected }
+    }
+}
 
 /// Why the parser stopped.
 #[derive(Clone, Copy, Debug)]
 pub(crate) enum Failure {
     /// The grammar does not derive what is there.
-    Syntax,
+    Syntax(Stop),
     /// Memory ran out.
     Memory,
 }

@@ -9,7 +9,9 @@ ghost use Rattle.jp_query.specs.View.{literal_view, op_view, origin_view};
 use super::failure::Failure;
 use super::numbers::{begins_number, number_bytes};
 use super::scalars::{after, after_all, call_start};
+use super::stops::at_word;
 use super::strings::string;
+use crate::expected::Expected;
 use crate::tree::{CompareOp, Literal, Origin};
 use std::alloc::Global;
 
@@ -29,7 +31,7 @@ fn word(text: &[char]) -> Option<(Literal, &[char])>
 }
 
 /// Whether a string literal begins there.
-fn begins_string(text: &[char]) -> bool
+pub(crate) fn begins_string(text: &[char]) -> bool
     ensures { result ≡ begins is_any_quote text.now }
 {
     after(text, '"').is_some() || after(text, '\'').is_some()
@@ -41,7 +43,7 @@ pub(crate) fn literal(alloc: Global, text: &[char]) -> Result<(Literal, &[char])
     ensures { Gives (λ x. (literal_view x.0, x.1.now)) result (literal_at text.now) }
 {
     if begins_string(text) {
-        let (spelled, rest) = string(alloc, text)?;
+        let (spelled, rest) = string(alloc, text, Expected::Operand)?;
         return Ok((Literal::Text(spelled), rest));
     }
     if begins_number(text) {
@@ -50,7 +52,7 @@ pub(crate) fn literal(alloc: Global, text: &[char]) -> Result<(Literal, &[char])
     }
     match word(text) {
         Some(found) => Ok(found),
-        None => Err(Failure::Syntax),
+        None => Err(Failure::Syntax(at_word(text, Expected::Operand))),
     }
 }
 

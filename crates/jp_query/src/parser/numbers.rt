@@ -1,15 +1,16 @@
 //! Integers, and numbers as they are spelled.
 
 ghost use Rattle.std.specs.Prelude.{◌≡◌, pos, option_map};
-ghost use Rattle.jp_model.specs.Characters.{digits_value};
+ghost use Rattle.jp_model.specs.Characters.{digits_value, is_digit};
 ghost use Rattle.jp_query.specs.Integers.{clamp};
-ghost use Rattle.jp_query.specs.Parsing.{Gives};
+ghost use Rattle.jp_query.specs.Parsing.{Gives, is_member};
 ghost use Rattle.jp_query.specs.Reading.Numbers.{is_int_first, int_at, int_digits, minus, fraction, sign, exponent_behind, exponent, number_at};
-ghost use Rattle.jp_query.specs.Reading.Scalars.{begins};
+ghost use Rattle.jp_query.specs.Reading.Scalars.{begins, first_and_run};
 
 use super::class::Class;
-use super::failure::Failure;
+use super::failure::{Failure, Stop};
 use super::scalars::{after, begins_with, first_and_run};
+use crate::expected::Expected;
 use std::alloc::Global;
 
 /// The first integer above the exact ones (RFC 9535, section 2.1).
@@ -20,6 +21,16 @@ pub(crate) fn begins_number(text: &[char]) -> bool
     ensures { result ≡ begins is_int_first text.now }
 {
     begins_with(text, Class::Digit) || after(text, '-').is_some()
+}
+
+/// Digits, the first of which is of a class, and what is left.
+fn digits(text: &[char], first: Class) -> Result<(&[char], &[char]), Failure>
+    ensures { Gives (λ x. (x.0.now, x.1.now)) result (first_and_run (is_member first) is_digit text.now) }
+{
+    match first_and_run(text, first, Class::Digit) {
+        Some(found) => Ok(found),
+        None => Err(Failure::Syntax(Stop::at(text, Expected::Digit))),
+    }
 }
 
 /// The value of some digits, or the first integer above the exact ones where it is greater.
@@ -41,42 +52,42 @@ fn clamped(digits: &[char]) -> i64
 /// An integer, brought to one step outside the exact ones where it is farther from them, and what is left (RFC 9535,
 /// section 2.3.3.1).
 #[tactic(auto, unfolding(crate::specs::Reading::Numbers::int_at, crate::specs::Reading::Numbers::positive))]
-pub(crate) fn int(text: &[char]) -> Option<(i64, &[char])>
-    ensures { option_map (λ x. (x.0, x.1.now)) result ≡ int_at clamp text.now }
+pub(crate) fn int(text: &[char]) -> Result<(i64, &[char]), Failure>
+    ensures { Gives (λ x. (x.0, x.1.now)) result (int_at clamp text.now) }
 {
     if let Some(rest) = after(text, '0') {
-        return Some((0, rest));
+        return Ok((0, rest));
     }
     if let Some(rest) = after(text, '-') {
-        let (digits, rest) = first_and_run(rest, Class::PositiveDigit, Class::Digit)?;
-        return Some((-clamped(digits), rest));
+        let (digits, rest) = digits(rest, Class::PositiveDigit)?;
+        return Ok((-clamped(digits), rest));
     }
-    let (digits, rest) = first_and_run(text, Class::PositiveDigit, Class::Digit)?;
-    Some((clamped(digits), rest))
+    let (digits, rest) = digits(text, Class::PositiveDigit)?;
+    Ok((clamped(digits), rest))
 }
 
 /// After the digits of an integer.
 #[tactic(auto, unfolding(crate::specs::Reading::Numbers::int_digits, crate::specs::Reading::Numbers::positive))]
-fn behind_int(text: &[char]) -> Option<&[char]>
-    ensures { option_map (λ r. r.now) result ≡ option_map (λ r. r.1) (int_digits text.now) }
+fn behind_int(text: &[char]) -> Result<&[char], Failure>
+    ensures { Gives (λ r. r.now) result (option_map (λ r. r.1) (int_digits text.now)) }
 {
     if let Some(rest) = after(text, '0') {
-        return Some(rest);
+        return Ok(rest);
     }
-    let (_, rest) = first_and_run(text, Class::PositiveDigit, Class::Digit)?;
-    Some(rest)
+    let (_, rest) = digits(text, Class::PositiveDigit)?;
+    Ok(rest)
 }
 
 /// After a point and its digits, if there is a point.
 #[tactic(auto, unfolding(crate::specs::Reading::Numbers::fraction, crate::specs::Reading::Numbers::some_digits))]
-fn behind_fraction(text: &[char]) -> Option<&[char]>
-    ensures { option_map (λ r. r.now) result ≡ option_map (λ r. r.1) (fraction text.now) }
+fn behind_fraction(text: &[char]) -> Result<&[char], Failure>
+    ensures { Gives (λ r. r.now) result (option_map (λ r. r.1) (fraction text.now)) }
 {
     let Some(rest) = after(text, '.') else {
-        return Some(text);
+        return Ok(text);
     };
-    let (_, rest) = first_and_run(rest, Class::Digit, Class::Digit)?;
-    Some(rest)
+    let (_, rest) = digits(rest, Class::Digit)?;
+    Ok(rest)
 }
 
 /// After a sign, if there is one.
@@ -95,18 +106,18 @@ fn behind_sign(text: &[char]) -> &[char]
 
 /// After an exponent, where one begins there.
 #[tactic(auto, unfolding(crate::specs::Reading::Numbers::exponent, crate::specs::Reading::Numbers::exponent_behind, crate::specs::Reading::Numbers::some_digits))]
-fn behind_exponent(text: &[char]) -> Option<&[char]>
-    ensures { option_map (λ r. r.now) result ≡ option_map (λ r. r.1) (exponent text.now) }
+fn behind_exponent(text: &[char]) -> Result<&[char], Failure>
+    ensures { Gives (λ r. r.now) result (option_map (λ r. r.1) (exponent text.now)) }
 {
     if let Some(rest) = after(text, 'e') {
-        let (_, rest) = first_and_run(behind_sign(rest), Class::Digit, Class::Digit)?;
-        return Some(rest);
+        let (_, rest) = digits(behind_sign(rest), Class::Digit)?;
+        return Ok(rest);
     }
     if let Some(rest) = after(text, 'E') {
-        let (_, rest) = first_and_run(behind_sign(rest), Class::Digit, Class::Digit)?;
-        return Some(rest);
+        let (_, rest) = digits(behind_sign(rest), Class::Digit)?;
+        return Ok(rest);
     }
-    Some(text)
+    Ok(text)
 }
 
 /// After a minus, if there is one.
@@ -122,8 +133,8 @@ fn behind_minus(text: &[char]) -> &[char]
 
 /// After a number.
 #[tactic(auto, unfolding(crate::specs::Reading::Numbers::number_at))]
-fn behind_number(text: &[char]) -> Option<&[char]>
-    ensures { option_map (λ r. r.now) result ≡ option_map (λ r. r.1) (number_at text.now) }
+fn behind_number(text: &[char]) -> Result<&[char], Failure>
+    ensures { Gives (λ r. r.now) result (option_map (λ r. r.1) (number_at text.now)) }
 {
     let rest = behind_int(behind_minus(text))?;
     let rest = behind_fraction(rest)?;
@@ -131,20 +142,18 @@ fn behind_number(text: &[char]) -> Option<&[char]>
 }
 
 /// The spelling of a number, and what is left (RFC 9535, section 2.3.5.1).
-fn number(text: &[char]) -> Option<(&[char], &[char])>
-    ensures { option_map (λ x. (x.0.now, x.1.now)) result ≡ number_at text.now }
+fn number(text: &[char]) -> Result<(&[char], &[char]), Failure>
+    ensures { Gives (λ x. (x.0.now, x.1.now)) result (number_at text.now) }
 {
     let rest = behind_number(text)?;
-    Some(text.split_at(text.len() - rest.len()))
+    Ok(text.split_at(text.len() - rest.len()))
 }
 
 /// A number as the bytes that spell it, and what is left (RFC 9535, section 2.3.5.1).
 pub(crate) fn number_bytes(alloc: Global, text: &[char]) -> Result<(Vec<u8>, &[char]), Failure>
     ensures { Gives (λ x. (x.0.items, x.1.now)) result (number_at text.now) }
 {
-    let Some((spelling, rest)) = number(text) else {
-        return Err(Failure::Syntax);
-    };
+    let (spelling, rest) = number(text)?;
     let mut bytes = Vec::with_capacity(alloc, spelling.len())?;
     for c in spelling {
         bytes.push(*c as u8)?;

@@ -13,11 +13,13 @@ ghost use Rattle.jp_query.specs.View.{selector_view, segment_view, logical_view,
 use super::expression::{
     Connective, argument_of, call_of, exists_of, joined, not_of, side_of, single_of, test_of,
 };
-use super::failure::Failure;
+use super::failure::{Failure, Stop};
 use super::literals::{begins_without_literal, literal, operator, origin};
 use super::parsed::Parsed;
 use super::scalars::{after, after_blanks, call_start, skip_blanks, to_text};
 use super::selectors::{dotted, one, simple_selector, singular};
+use super::stops::{at_operator, at_word, behind_condition, behind_selectors};
+use crate::expected::Expected;
 use crate::tree::{Argument, Call, Comparable, CompareOp, Logical, Origin, Segment, Selector};
 use std::alloc::Global;
 
@@ -82,13 +84,13 @@ fn brackets(alloc: Global, text: &[char], depth: u32) -> Result<(Vec<Selector>, 
     ensures { Gives (λ x. (map selector_view x.0.items, x.1.now)) result (brackets_at clamp (logical_at clamp depth) text.now) }
 {
     let Some(rest) = after(text, '[') else {
-        return Err(Failure::Syntax);
+        return Err(Failure::Syntax(Stop::at(text, Expected::Segment)));
     };
     let (first, rest) = selector(alloc, skip_blanks(rest), depth)?;
     let (selectors, rest) = more_selectors(one(alloc, first)?, alloc, rest, depth)?;
     match after_blanks(rest, ']') {
         Some(rest) => Ok((selectors, rest)),
-        None => Err(Failure::Syntax),
+        None => Err(Failure::Syntax(behind_selectors(alloc, &selectors, skip_blanks(rest)))),
     }
 }
 
@@ -176,7 +178,13 @@ fn closed(alloc: Global, text: &[char], depth: u32) -> Result<(Logical, &[char])
     let (inner, rest) = logical(alloc, skip_blanks(text), depth)?;
     match after_blanks(rest, ')') {
         Some(rest) => Ok((inner.logical, rest)),
-        None => Err(Failure::Syntax),
+        None => Err(Failure::Syntax(behind_condition(
+            alloc,
+            &inner.logical,
+            skip_blanks(rest),
+            Expected::ComparisonOrParenthesis,
+            Expected::Parenthesis,
+        ))),
     }
 }
 
@@ -244,7 +252,7 @@ fn arguments(alloc: Global, text: &[char], depth: u32) -> Result<(Vec<Argument>,
     let (arguments, rest) = more_arguments(one(alloc, first)?, alloc, rest, depth)?;
     match after_blanks(rest, ')') {
         Some(rest) => Ok((arguments, rest)),
-        None => Err(Failure::Syntax),
+        None => Err(Failure::Syntax(Stop::at(skip_blanks(rest), Expected::Argument))),
     }
 }
 
@@ -369,7 +377,7 @@ fn literal_comparison(
 {
     let (value, rest) = literal(alloc, text)?;
     let Some((op, rest)) = operator(skip_blanks(rest)) else {
-        return Err(Failure::Syntax);
+        return Err(Failure::Syntax(at_operator(skip_blanks(rest), Expected::Comparison)));
     };
     comparison(Comparable::Constant(value), op, alloc, rest, depth)
 }
@@ -385,7 +393,7 @@ fn test(alloc: Global, text: &[char], depth: u32) -> Result<(Logical, &[char]), 
         return Ok((exists_of(origin, segments), rest));
     }
     let Some((name, rest)) = call_start(text) else {
-        return Err(Failure::Syntax);
+        return Err(Failure::Syntax(at_word(text, Expected::Test)));
     };
     let (call, rest) = call(alloc, name, rest, depth)?;
     Ok((test_of(call), rest))
@@ -462,7 +470,7 @@ fn next_basic(
         return Ok(None);
     };
     let Some(rest) = after(rest, '&') else {
-        return Err(Failure::Syntax);
+        return Err(Failure::Syntax(Stop::at(rest, Expected::And)));
     };
     let (part, rest) = basic(alloc, skip_blanks(rest), depth)?;
     Ok(Some((part.logical, rest)))
@@ -510,7 +518,7 @@ fn next_conjunction(
         return Ok(None);
     };
     let Some(rest) = after(rest, '|') else {
-        return Err(Failure::Syntax);
+        return Err(Failure::Syntax(Stop::at(rest, Expected::Or)));
     };
     let (part, rest) = conjunction(alloc, skip_blanks(rest), depth)?;
     Ok(Some((part.logical, rest)))
@@ -540,11 +548,15 @@ fn more_conjunctions(
 /// An expression (RFC 9535, section 2.3.5.1).
 #[cycle(query)]
 #[tactic(auto, unfolding(crate::specs::Reading::Queries::logical_at, crate::specs::Reading::Queries::or_at))]
-fn logical(alloc: Global, text: &[char], depth: u32) -> Result<(Parsed, &[char]), Failure>
+pub(crate) fn logical(
+    alloc: Global,
+    text: &[char],
+    depth: u32,
+) -> Result<(Parsed, &[char]), Failure>
     ensures { Gives (λ x. (parsed_view x.0, x.1.now)) result (logical_at clamp depth text.now) }
 {
     if depth == 0 {
-        return Err(Failure::Syntax);
+        return Err(Failure::Syntax(Stop::at(text, Expected::Operand)));
     }
     let (first, rest) = conjunction(alloc, text, depth - 1)?;
     let (others, rest) = more_conjunctions(alloc, rest, depth - 1)?;

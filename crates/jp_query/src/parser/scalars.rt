@@ -5,7 +5,8 @@ ghost use Rattle.jp_query.specs.Parsing.{Gives, is_member};
 ghost use Rattle.jp_query.specs.Reading.Scalars.{after, after_all, run, skip_blanks, after_blanks, begins, first_and_run, shorthand, call_start};
 
 use super::class::Class;
-use super::failure::Failure;
+use super::failure::{Failure, Stop};
+use crate::expected::Expected;
 use std::alloc::{AllocError, Global};
 
 /// After a scalar, if it is at the front.
@@ -104,7 +105,7 @@ pub(crate) fn shorthand(alloc: Global, text: &[char]) -> Result<(String, &[char]
     ensures { Gives (λ x. (chars (string_bytes x.0), x.1.now)) result (shorthand text.now) }
 {
     let Some((name, rest)) = first_and_run(text, Class::NameFirst, Class::NameScalar) else {
-        return Err(Failure::Syntax);
+        return Err(Failure::Syntax(Stop::at(text, Expected::Name)));
     };
     Ok((to_text(alloc, name)?, rest))
 }

@@ -7,55 +7,56 @@ ghost use Rattle.jp_query.specs.Reading.Queries.{bound_at, step_at, slice_behind
 ghost use Rattle.jp_query.specs.Reading.Scalars.{all_of};
 ghost use Rattle.jp_query.specs.View.{selector_view, segment_view, segments_view};
 
-use super::failure::Failure;
+use super::failure::{Failure, Stop};
 use super::numbers::{begins_number, int};
 use super::scalars::{after, after_blanks, shorthand, skip_blanks};
 use super::strings::string;
+use crate::expected::Expected;
 use crate::tree::{Segment, Selector};
 use std::alloc::{AllocError, Global};
 
 /// Blanks and an integer, if there is an integer, and what is left.
 #[tactic(auto, unfolding(crate::specs::Reading::Queries::bound_at))]
-fn bound(text: &[char]) -> Option<(Option<i64>, &[char])>
-    ensures { option_map (λ x. (x.0, x.1.now)) result ≡ bound_at clamp text.now }
+fn bound(text: &[char]) -> Result<(Option<i64>, &[char]), Failure>
+    ensures { Gives (λ x. (x.0, x.1.now)) result (bound_at clamp text.now) }
 {
     if !begins_number(skip_blanks(text)) {
-        return Some((None, text));
+        return Ok((None, text));
     }
     let (value, rest) = int(skip_blanks(text))?;
-    Some((Some(value), rest))
+    Ok((Some(value), rest))
 }
 
 /// After blanks and a colon, if there is a colon, the step of a slice, and what is left.
 #[tactic(auto, unfolding(crate::specs::Reading::Queries::step_at))]
-fn step(text: &[char]) -> Option<(Option<i64>, &[char])>
-    ensures { option_map (λ x. (x.0, x.1.now)) result ≡ step_at clamp text.now }
+fn step(text: &[char]) -> Result<(Option<i64>, &[char]), Failure>
+    ensures { Gives (λ x. (x.0, x.1.now)) result (step_at clamp text.now) }
 {
     match after_blanks(text, ':') {
         Some(rest) => bound(rest),
-        None => Some((None, text)),
+        None => Ok((None, text)),
     }
 }
 
 /// A slice after its first colon, and what is left (RFC 9535, section 2.3.4.1).
 #[tactic(auto, unfolding(crate::specs::Reading::Queries::slice_behind))]
-fn slice_behind(first: Option<i64>, text: &[char]) -> Option<(Selector, &[char])>
-    ensures { option_map (λ x. (selector_view x.0, x.1.now)) result ≡ slice_behind clamp first text.now }
+fn slice_behind(first: Option<i64>, text: &[char]) -> Result<(Selector, &[char]), Failure>
+    ensures { Gives (λ x. (selector_view x.0, x.1.now)) result (slice_behind clamp first text.now) }
 {
     let (last, rest) = bound(text)?;
     let (step, rest) = step(rest)?;
-    Some((Selector::Slice { first, last, step }, rest))
+    Ok((Selector::Slice { first, last, step }, rest))
 }
 
 /// An index, or a slice that begins with an integer, and what is left.
 #[tactic(auto, unfolding(crate::specs::Reading::Queries::index_or_slice))]
-fn index_or_slice(text: &[char]) -> Option<(Selector, &[char])>
-    ensures { option_map (λ x. (selector_view x.0, x.1.now)) result ≡ index_or_slice clamp text.now }
+fn index_or_slice(text: &[char]) -> Result<(Selector, &[char]), Failure>
+    ensures { Gives (λ x. (selector_view x.0, x.1.now)) result (index_or_slice clamp text.now) }
 {
     let (value, rest) = int(text)?;
     match after_blanks(rest, ':') {
         Some(rest) => slice_behind(Some(value), rest),
-        None => Some((Selector::Index(value), rest)),
+        None => Ok((Selector::Index(value), rest)),
     }
 }
 
@@ -63,18 +64,14 @@ fn index_or_slice(text: &[char]) -> Option<(Selector, &[char])>
 pub(crate) fn simple_selector(alloc: Global, text: &[char]) -> Result<(Selector, &[char]), Failure>
     ensures { Gives (λ x. (selector_view x.0, x.1.now)) result (simple_selector text.now) }
 {
-    let read = if let Some(rest) = after(text, ':') {
-        slice_behind(None, rest)
-    } else if begins_number(text) {
-        index_or_slice(text)
-    } else {
-        let (name, rest) = string(alloc, text)?;
-        return Ok((Selector::Name(name), rest));
-    };
-    match read {
-        Some(found) => Ok(found),
-        None => Err(Failure::Syntax),
+    if let Some(rest) = after(text, ':') {
+        return slice_behind(None, rest);
     }
+    if begins_number(text) {
+        return index_or_slice(text);
+    }
+    let (name, rest) = string(alloc, text, Expected::Selector)?;
+    Ok((Selector::Name(name), rest))
 }
 
 /// A list of one.
@@ -104,30 +101,28 @@ fn singular_behind(alloc: Global, text: &[char]) -> Result<(Segment, &[char]), F
     ensures { Gives (λ x. (segment_view x.0, x.1.now)) result (singular_behind clamp text.now) }
 {
     let (selector, rest) = if begins_number(text) {
-        let Some((value, rest)) = int(text) else {
-            return Err(Failure::Syntax);
-        };
+        let (value, rest) = int(text)?;
         (Selector::Index(value), rest)
     } else {
-        let (name, rest) = string(alloc, text)?;
+        let (name, rest) = string(alloc, text, Expected::Selector)?;
         (Selector::Name(name), rest)
     };
     let Some(rest) = after(rest, ']') else {
-        return Err(Failure::Syntax);
+        return Err(Failure::Syntax(Stop::at(rest, Expected::Bracket)));
     };
     Ok((Segment::Child(one(alloc, selector)?), rest))
 }
 
 /// A segment of a singular query, and what is left (RFC 9535, section 2.3.5.1).
 #[tactic(auto, unfolding(crate::specs::Reading::Queries::singular_segment))]
-fn singular_segment(alloc: Global, text: &[char]) -> Result<(Segment, &[char]), Failure>
+pub(super) fn singular_segment(alloc: Global, text: &[char]) -> Result<(Segment, &[char]), Failure>
     ensures { Gives (λ x. (segment_view x.0, x.1.now)) result (singular_segment clamp text.now) }
 {
     if let Some(rest) = after(text, '[') {
         return singular_behind(alloc, rest);
     }
     let Some(rest) = after(text, '.') else {
-        return Err(Failure::Syntax);
+        return Err(Failure::Syntax(Stop::at(text, Expected::Segment)));
     };
     let (name, rest) = shorthand(alloc, rest)?;
     Ok((Segment::Child(one(alloc, Selector::Name(name))?), rest))
@@ -140,7 +135,7 @@ fn next_singular(alloc: Global, text: &[char]) -> Result<Option<(Segment, &[char
 {
     match singular_segment(alloc, skip_blanks(text)) {
         Ok(found) => Ok(Some(found)),
-        Err(Failure::Syntax) => Ok(None),
+        Err(Failure::Syntax(_)) => Ok(None),
         Err(Failure::Memory) => Err(Failure::Memory),
     }
 }

@@ -6,8 +6,10 @@ ghost use Rattle.jp_model.specs.Characters.{four_digits, pair_value, is_surrogat
 ghost use Rattle.jp_query.specs.Parsing.{Gives};
 ghost use Rattle.jp_query.specs.Reading.Strings.{hex4, low_half, hex_scalar, escaped_letter, escape_at, next_scalar, between_quotes, string_at};
 
-use super::failure::Failure;
+use super::failure::{Failure, Stop};
 use super::scalars::{after, push_scalar};
+use super::stops::within_quotes;
+use crate::expected::Expected;
 use std::alloc::Global;
 
 /// The value of a hexadecimal digit.
@@ -116,7 +118,7 @@ fn escaped_letter(letter: char) -> Option<char>
 
 /// The scalar that is spelled after a backslash, between two quotes of a kind, and what is left.
 #[tactic(auto, unfolding(crate::specs::Reading::Strings::escape_at))]
-fn escape(text: &[char], quote: char) -> Option<(char, &[char])>
+pub(super) fn escape(text: &[char], quote: char) -> Option<(char, &[char])>
     ensures { option_map (λ x. (x.0, x.1.now)) result ≡ escape_at quote text.now }
 {
     let [letter, rest @ ..] = text else {
@@ -162,7 +164,7 @@ fn between_quotes(alloc: Global, text: &[char], quote: char) -> Result<(String, 
     let mut rest = text;
     for _ in 0..text.len() {
         let Some(next) = next_scalar(rest, quote) else {
-            return Err(Failure::Syntax);
+            return Err(Failure::Syntax(within_quotes(rest, quote)));
         };
         let Some((scalar, others)) = next else {
             break;
@@ -172,13 +174,17 @@ fn between_quotes(alloc: Global, text: &[char], quote: char) -> Result<(String, 
     }
     match after(rest, quote) {
         Some(rest) => Ok((spelled, rest)),
-        None => Err(Failure::Syntax),
+        None => Err(Failure::Syntax(Stop::at(rest, Expected::Quote))),
     }
 }
 
-/// What a string literal spells, and what is left.
+/// What a string literal spells, and what is left. Where none begins, this was expected.
 #[tactic(auto, unfolding(crate::specs::Reading::Strings::string_at))]
-pub(crate) fn string(alloc: Global, text: &[char]) -> Result<(String, &[char]), Failure>
+pub(crate) fn string(
+    alloc: Global,
+    text: &[char],
+    expected: Expected,
+) -> Result<(String, &[char]), Failure>
     ensures { Gives (λ x. (chars (string_bytes x.0), x.1.now)) result (string_at text.now) }
 {
     if let Some(rest) = after(text, '"') {
@@ -186,6 +192,6 @@ pub(crate) fn string(alloc: Global, text: &[char]) -> Result<(String, &[char]), 
     }
     match after(text, '\'') {
         Some(rest) => between_quotes(alloc, rest, '\''),
-        None => Err(Failure::Syntax),
+        None => Err(Failure::Syntax(Stop::at(text, expected))),
     }
 }

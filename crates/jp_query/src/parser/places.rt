@@ -1,0 +1,201 @@
+//! Where a text goes wrong.
+
+ghost use Rattle.std.specs.Prelude.{◌≡◌, ◌≤◌, IfOk};
+ghost use Rattle.jp_query.specs.Places.{IsPlace};
+
+use super::failure::{Failure, Stop};
+use super::queries::logical;
+use super::scalars::skip_blanks;
+use super::tokens::Tokens;
+use super::{MAX_BYTES, MAX_DEPTH, MAX_OPENED, query_segments, to_scalars};
+use crate::expected::Expected;
+use crate::limit::Limit;
+use jp_model::QueryFault;
+use std::alloc::{AllocError, Global};
+
+/// A fault of a text, and where it is.
+#[derive(Clone, Copy, Debug, PartialEq, Eq)]
+pub struct FaultPlace {
+    /// The fault.
+    pub fault: QueryFault,
+    /// Where it is, in bytes from 0: at most the text's length.
+    pub place: usize,
+    /// For [`QueryFault::Syntax`]: what the grammar has there.
+    pub expected: Option<Expected>,
+}
+
+/// The last place at or before `at` at which a character of the text begins, or its end; in bytes that are not UTF-8, where
+/// their UTF-8 ends.
+pub fn character_at(text: &[u8], at: usize) -> usize
+    ensures { IsPlace text.now result }
+{
+    match simdutf8::compat::from_utf8(text) {
+        Ok(text) => text.floor_char_boundary(at),
+        Err(error) => error.valid_up_to(),
+    }
+}
+
+/// The byte at which so many scalars of a text are left.
+fn byte_of(text: &str, left: usize) -> usize {
+    let mut place = text.len();
+    for scalar in text.chars().rev().take(left) {
+        place = place.saturating_sub(scalar.len_utf8());
+    }
+    place
+}
+
+/// The byte past which a text is too large: the bracket past the limit, if so many are opened before it, or the last one allowed.
+fn past_size(text: &[u8], before: usize) -> usize {
+    let mut room = MAX_OPENED.saturating_sub(before);
+    for (at, byte) in text.iter().enumerate() {
+        if *byte == b'(' || *byte == b'[' {
+            if room == 0 {
+                return at.min(MAX_BYTES);
+            }
+            room -= 1;
+        }
+    }
+    MAX_BYTES
+}
+
+/// What the parser reads of a text, up to where it stops: a query, or a condition that stands alone.
+#[derive(Clone, Copy)]
+enum Grammar {
+    Query,
+    Condition,
+}
+
+impl Grammar {
+    /// How many bytes of the query stand before the text: `$[?` before a condition.
+    fn bytes_before(self) -> usize
+        ensures { result ≤ 3 }
+    {
+        match self {
+            Grammar::Query => 0,
+            Grammar::Condition => 3,
+        }
+    }
+
+    /// How many brackets are open before the text.
+    fn opened_before(self) -> usize {
+        match self {
+            Grammar::Query => 0,
+            Grammar::Condition => 1,
+        }
+    }
+
+    /// Where the parser stops in a text, which may be its end.
+    fn stop(self, alloc: Global, text: &[char]) -> Result<Stop, Failure> {
+        match self {
+            Grammar::Query => {
+                query_segments(alloc, text)?;
+                Ok(Stop::at_end(Expected::Segment))
+            }
+            Grammar::Condition => {
+                let (_, rest) = logical(alloc, skip_blanks(text), MAX_DEPTH)?;
+                Ok(Stop::at(skip_blanks(rest), Expected::EndOfCondition))
+            }
+        }
+    }
+
+    /// Where a fault other than the size is in a text.
+    fn fault_stop(self, alloc: Global, text: &[char], fault: QueryFault) -> Result<Stop, Failure> {
+        match fault {
+            QueryFault::Integer => Tokens::new(alloc, text).find_number(Limit::Integers),
+            QueryFault::Number => Tokens::new(alloc, text).find_number(Limit::Exponents),
+            _ => self.stop(alloc, text),
+        }
+    }
+
+    /// Where a fault is, and what the grammar has there.
+    fn find(self, alloc: Global, text: &[u8], fault: QueryFault) -> Result<FaultPlace, AllocError>
+        ensures fault { IfOk result (λ found. found.fault ≡ fault) }
+        ensures place { IfOk result (λ found. IsPlace text.now found.place) }
+    {
+        if fault == QueryFault::Size {
+            let at = past_size(text, self.opened_before());
+            let place = character_at(text, at.min(MAX_BYTES - self.bytes_before()));
+            return Ok(FaultPlace {
+                fault,
+                place,
+                expected: None,
+            });
+        }
+        let Ok(spelled) = simdutf8::basic::from_utf8(text) else {
+            let place = character_at(text, 0);
+            return Ok(FaultPlace {
+                fault,
+                place,
+                expected: Some(Expected::Utf8),
+            });
+        };
+        let scalars = to_scalars(alloc, spelled)?;
+        let stop = match self.fault_stop(alloc, &scalars, fault) {
+            Ok(stop) | Err(Failure::Syntax(stop)) => stop,
+            Err(Failure::Memory) => return Err(AllocError),
+        };
+        Ok(FaultPlace {
+            fault,
+            place: character_at(text, byte_of(spelled, stop.left)),
+            expected: (fault == QueryFault::Syntax).then_some(stop.expected),
+        })
+    }
+}
+
+/// Where the fault is for which `parse` refuses a text.
+///
+/// For `Syntax` it is the first byte of the token at which the text cannot go on, the length where the text is too short, or
+/// the first byte that is no UTF-8; for `Integer` and `Number` the first byte of the number; for `Size` the bracket past the
+/// limit, or the last character that begins at or before byte 65,535.
+///
+/// # Errors
+///
+/// Memory ran out.
+pub fn place_of_fault(
+    alloc: Global,
+    text: &[u8],
+    fault: QueryFault,
+) -> Result<FaultPlace, AllocError>
+    ensures fault { IfOk result (λ found. found.fault ≡ fault) }
+    ensures place { IfOk result (λ found. IsPlace text.now found.place) }
+{
+    Grammar::Query.find(alloc, text, fault)
+}
+
+/// Where the fault is for which `parse_condition` refuses a text, as [`place_of_fault`] tells it of a query.
+///
+/// # Errors
+///
+/// Memory ran out.
+pub fn place_of_condition_fault(
+    alloc: Global,
+    text: &[u8],
+    fault: QueryFault,
+) -> Result<FaultPlace, AllocError>
+    ensures fault { IfOk result (λ found. found.fault ≡ fault) }
+    ensures place { IfOk result (λ found. IsPlace text.now found.place) }
+{
+    Grammar::Condition.find(alloc, text, fault)
+}
+
+/// The byte at which the name of the function begins that is number `number`, from 0, in a text that is a query or a condition: the
+/// text's length where there are fewer.
+///
+/// # Errors
+///
+/// Memory ran out.
+pub fn place_of_function(alloc: Global, text: &[u8], number: usize) -> Result<usize, AllocError>
+    ensures { IfOk result (λ place. IsPlace text.now place) }
+{
+    let Ok(spelled) = simdutf8::basic::from_utf8(text) else {
+        return Ok(character_at(text, 0));
+    };
+    let scalars = to_scalars(alloc, spelled)?;
+    match Tokens::new(alloc, &scalars).find_function(number) {
+        Ok(stop) | Err(Failure::Syntax(stop)) => Ok(character_at(
+            text,
+            byte_of(spelled, stop.left),
+        )),
+        Err(Failure::Memory) => Err(AllocError),
+    }
+}

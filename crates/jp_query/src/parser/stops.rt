@@ -1,0 +1,126 @@
+//! Where a text cannot go on as it does, looked at once the parser has stopped.
+//!
+//! A text that some more characters would make a query has its place at the end.
+
+use super::class::Class;
+use super::failure::{Failure, Stop};
+use super::scalars::{begins_with, run};
+use super::selectors::singular_segment;
+use super::strings::escape;
+use crate::expected::Expected;
+use crate::paths::is_singular;
+use crate::tree::{Comparable, Logical, Selector};
+use std::alloc::Global;
+
+/// Where no literal and no function begins. A word that goes on to the end may become one.
+pub(super) fn at_word(text: &[char], expected: Expected) -> Stop {
+    let (_, rest) = run(text, Class::FunctionScalar);
+    if begins_with(text, Class::Lower) && rest.is_empty() {
+        return Stop::at_end(expected);
+    }
+    Stop::at(text, expected)
+}
+
+/// Where no operator stands. The first character of one may be the last of the text.
+pub(super) fn at_operator(text: &[char], expected: Expected) -> Stop {
+    match text {
+        ['=' | '!'] => Stop::at_end(expected),
+        _ => Stop::at(text, expected),
+    }
+}
+
+/// The last part of an expression of several parts.
+fn last_part(condition: &Logical) -> &Logical {
+    match condition {
+        Logical::Or(parts) | Logical::And(parts) => match parts.last() {
+            Some(part) => part,
+            None => condition,
+        },
+        _ => condition,
+    }
+}
+
+/// What may stand behind a condition.
+enum Behind {
+    /// A comparison, since its last part is a query of one node at most or a function.
+    Comparison,
+    /// One more segment, since its last part is a comparison with a query.
+    Segment,
+    /// Neither.
+    Nothing,
+}
+
+/// What may stand behind a condition, by its last part.
+fn what_may_follow(condition: &Logical) -> Behind {
+    match last_part(last_part(condition)) {
+        Logical::Exists(path) if is_singular(&path.segments) => Behind::Comparison,
+        Logical::Test(_) => Behind::Comparison,
+        Logical::Compare {
+            right: Comparable::Single(_),
+            ..
+        } => Behind::Segment,
+        _ => Behind::Nothing,
+    }
+}
+
+/// Where no segment of a singular query stands, if the text only is too short for one.
+fn at_segment(alloc: Global, text: &[char], expected: Expected) -> Stop {
+    match singular_segment(alloc, text) {
+        Err(Failure::Syntax(stop)) if stop.left == 0 && !text.is_empty() => stop,
+        _ => Stop::at(text, expected),
+    }
+}
+
+/// Behind a condition, where neither an operator nor what closes it stands.
+pub(super) fn behind_condition(
+    alloc: Global,
+    condition: &Logical,
+    text: &[char],
+    compared: Expected,
+    closed: Expected,
+) -> Stop {
+    match what_may_follow(condition) {
+        Behind::Comparison => at_operator(text, compared),
+        Behind::Segment => at_segment(alloc, text, closed),
+        Behind::Nothing => Stop::at(text, closed),
+    }
+}
+
+/// Behind the selectors of a segment, where no bracket stands.
+pub(super) fn behind_selectors(alloc: Global, selectors: &[Selector], text: &[char]) -> Stop {
+    if let Some(Selector::Filter(condition)) = selectors.last() {
+        return behind_condition(
+            alloc,
+            condition,
+            text,
+            Expected::ComparisonOrBracket,
+            Expected::Bracket,
+        );
+    }
+    Stop::at(text, Expected::Bracket)
+}
+
+/// An escape with all that it may have, whatever stands in it first.
+const LONGEST_ESCAPE: [char; 11] = ['u', 'D', '8', '0', '0', '\\', 'u', 'D', 'C', '0', '0'];
+
+/// Whether a text behind a backslash is the beginning of an escape.
+fn begins_escape(text: &[char], quote: char) -> bool {
+    let mut whole = LONGEST_ESCAPE;
+    if text.len() >= whole.len() {
+        return false;
+    }
+    for (place, scalar) in text.iter().enumerate() {
+        whole[place] = *scalar;
+    }
+    escape(&whole, quote).is_some()
+}
+
+/// Between two quotes, where no character stands.
+pub(super) fn within_quotes(text: &[char], quote: char) -> Stop {
+    match text {
+        [] => Stop::at_end(Expected::Quote),
+        ['\\', rest @ ..] if begins_escape(rest, quote) => Stop::at_end(Expected::Escape),
+        ['\\', ..] => Stop::at(text, Expected::Escape),
+        _ => Stop::at(text, Expected::EscapedControl),
+    }
+}
