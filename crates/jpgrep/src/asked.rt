@@ -1,41 +1,57 @@
 //! The question that the program's words ask.
 
+use crate::patterns::{warn_of_condition, warn_of_segments};
 use crate::refusal::{Refusal, Text};
 use jp_grep::{Options, Question};
 use jp_types::{read_condition, read_query};
-use std::alloc::Global;
 
-/// Adds a query.
-fn add_query<'a>(alloc: Global, question: &mut Question, text: &'a str) -> Result<(), Refusal<'a>> {
-    match read_query(alloc, text.as_bytes()) {
-        Ok(query) => Ok(question.add_query(alloc, &query)?),
+/// Adds a query, and warns of its patterns that are none unless all messages are silent.
+fn add_query<'a>(
+    rt: &HostRuntime,
+    question: &mut Question,
+    text: &'a str,
+    silent: bool,
+) -> Result<(), Refusal<'a>> {
+    match read_query(rt.alloc(), text.as_bytes()) {
+        Ok(query) => {
+            if !silent {
+                warn_of_segments(rt, query.segments())?;
+            }
+            Ok(question.add_query(rt.alloc(), &query)?)
+        }
         Err(refusal) => Err(Refusal::of(Text::Query(text), refusal)),
     }
 }
 
-/// Adds a condition.
+/// Adds a condition, likewise.
 fn add_condition<'a>(
-    alloc: Global,
+    rt: &HostRuntime,
     question: &mut Question,
     text: &'a str,
+    silent: bool,
 ) -> Result<(), Refusal<'a>> {
-    match read_condition(alloc, text.as_bytes()) {
-        Ok(condition) => Ok(question.add_condition(alloc, &condition)?),
+    match read_condition(rt.alloc(), text.as_bytes()) {
+        Ok(condition) => {
+            if !silent {
+                warn_of_condition(rt, condition.expression())?;
+            }
+            Ok(question.add_condition(rt.alloc(), &condition)?)
+        }
         Err(refusal) => Err(Refusal::of(Text::Condition(text), refusal)),
     }
 }
 
 /// The question of the words: their queries and conditions. Without a query it is `$`.
 pub(crate) fn read_question<'a>(
-    alloc: Global,
+    rt: &HostRuntime,
     options: &Options<'a>,
 ) -> Result<Question, Refusal<'a>> {
-    let mut question = Question::new(alloc, options.inverted);
+    let mut question = Question::new(rt.alloc(), options.inverted);
     for text in options.queries() {
-        add_query(alloc, &mut question, text)?;
+        add_query(rt, &mut question, text, options.silent)?;
     }
     for text in &options.conditions {
-        add_condition(alloc, &mut question, text)?;
+        add_condition(rt, &mut question, text, options.silent)?;
     }
     Ok(question)
 }

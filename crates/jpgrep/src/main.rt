@@ -5,6 +5,7 @@ mod asked;
 mod excerpt;
 mod files;
 mod input;
+mod patterns;
 mod refusal;
 mod refused;
 
@@ -24,7 +25,7 @@ const FAULT: u8 = 2;
 
 /// Does what the words ask for, and gives the exit status.
 fn run_options(rt: &HostRuntime, options: &Options<'_>) -> u8 {
-    match read_question(rt.alloc(), options) {
+    match read_question(rt, options) {
         Ok(question) => search_files(rt, options, &question),
         Err(refusal) => {
             refusal.tell(rt);
