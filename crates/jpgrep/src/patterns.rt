@@ -59,7 +59,7 @@ fn warn_of_call(rt: &HostRuntime, call: &Call) -> Result<(), AllocError> {
             Argument::Result(inner) => warn_of_call(rt, inner)?,
         }
     }
-    let takes_pattern = call.name == "match" || call.name == "search";
+    let takes_pattern = matches!(call.name.as_str(), "match" | "search");
     match call.arguments.as_slice() {
         [_, Argument::Constant(Literal::Text(pattern))] if takes_pattern => {
             warn_of_pattern(rt, pattern.as_str())
