@@ -100,6 +100,9 @@ def devices(room):
     for words in (["$.a", "one"], ["$.a", "many"], ["-c", "$.a", "one"]):
         with open("/dev/full", "wb") as full:
             check(f"{words} to a full device", ended(words, room, out=full)[1:], (b"jpgrep: cannot write\n", 2))
+    for words in (["--help"], ["--version"]):
+        with open("/dev/full", "wb") as full:
+            check(f"{words} to a full device", ended(words, room, out=full)[1:], (b"jpgrep: cannot write\n", 2))
     for words, stated in (([], b""), (["one", "-", "one"], b'one:{"a":1}\n' * 2)):
         run = subprocess.run(["bash", "-c", '"$0" "$@" <&-', PROGRAM, "$.a", *words], cwd=room, capture_output=True, timeout=SECONDS)
         check(f"a closed standard input {words}", (run.stdout, run.stderr, run.returncode), (stated, b"jpgrep: (standard input): cannot read\n", 2))
@@ -113,6 +116,38 @@ def devices(room):
     lines = [b'"' + b"x" * (length - 2) + b'"\n' for length in (65_534, 65_535, 65_536, 3, 65_530, 200_000, 2, 131_072, 9)]
     check("lines about the ends of pieces", ended(["-n", "$"], room, b"".join(lines)),
           (b"".join(b"%d:%s" % numbered for numbered in enumerate(lines, 1)), b"", 0))
+
+
+def own_output(room):
+    """A file that the rows are added to is not read, since it would have no end, unless nothing or one row is written."""
+    lines = b'{"a":1}\n{"a":2}\n'
+    path = pathlib.Path(room, "own")
+    cases = [(["$.a", "own"], "", b"own", b""), (["$.a"], "< own", b"(standard input)", b""), (["-c", "$.a", "own"], "", None, b"2\n"),
+             (["-m1", "$.a", "own"], "", None, b'{"a":1}\n')]
+    for words, given, refused, added in cases:
+        path.write_bytes(lines)
+        run = subprocess.run(["bash", "-c", f'"$0" "$@" {given} >> own', PROGRAM, *words], cwd=room, stdin=subprocess.DEVNULL,
+                             stderr=subprocess.PIPE, timeout=SECONDS)
+        said = b"jpgrep: %s: input file is also the output\n" % refused if refused else b""
+        check(f"{words} {given} added to its own file", (run.stderr, run.returncode, path.read_bytes()), (said, 2 if refused else 0, lines + added))
+
+
+def first_bytes(room):
+    """A sequence whose first bytes are none is refused as they come. A byte order mark in two pieces is none the less one."""
+    words = [PROGRAM, "--seq", "$"]
+    with subprocess.Popen(words, cwd=room, stdin=subprocess.PIPE, stdout=subprocess.PIPE, stderr=subprocess.PIPE) as run:
+        watch = threading.Timer(SECONDS, run.kill)
+        watch.start()
+        run.stdin.write(b'{"a":1}\n')
+        run.stdin.flush()
+        check("no sequence, by its first bytes", run.stderr.readline(), b"jpgrep: (standard input): bytes before first separator\n")
+        watch.cancel()
+    with subprocess.Popen(words, cwd=room, stdin=subprocess.PIPE, stdout=subprocess.PIPE, stderr=subprocess.PIPE) as run:
+        for piece in (b"\xef", b"\xbb\xbf \x1e", b'{"a":1}\n'):
+            run.stdin.write(piece)
+            run.stdin.flush()
+            time.sleep(0.05)
+        check("a byte order mark in two pieces", run.communicate(timeout=SECONDS), (b'\x1e{"a":1}\n', b""))
 
 
 def follows(name, words, steps, room):
@@ -187,6 +222,8 @@ def main():
         example.run(files)
     with tempfile.TemporaryDirectory() as room:
         devices(room)
+        own_output(room)
+        first_bytes(room)
         follows("lines of a fifo", ["-n", "$.a"], LINES, room)
         follows("texts of a fifo", ["-n", "--seq", "$.a"], TEXTS, room)
         memory()

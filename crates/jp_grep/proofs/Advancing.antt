@@ -99,6 +99,12 @@ pub front_unframed : (framing : Framing) (came held piece front rest : List ℕ)
 front_unframed framing came held piece front rest answered true e h f u at = (at.none, ap (λ l. is_framed framing (came ++ l)) e ∙ unframed framing came held front rest answered h at u)
 front_unframed framing came held piece front rest answered false e h f u at = absurd (cc)
 
+-- where the front of a stream is held, it is no sequence if what is held and a piece are none
+pub held_unframed : (framing : Framing) (came held piece : List ℕ) (answered : List (List ℕ)) (first : Bool) → first ≡ true → is_framed framing (held ++ piece) ≡ false
+    → IsAt framing came held answered first → (answered ≡ []) × (is_framed framing (came ++ piece) ≡ false)
+held_unframed framing came held piece answered true e unframed at = (at.none, ap (λ l. is_framed framing (l ++ piece)) (sym at.same) ∙ unframed)
+held_unframed framing came held piece answered false e unframed at = absurd (cc)
+
 -- the lines are answered all the same, where a later step failed or the fault was handed on
 module _ (question : Question) (form : Form) {W E : Type 0} {rows_in : W → Option (List ℕ)} {messages_in : E → Option (List ℕ)} where
   pub answers_later : (before after : Progress) (out0 out1 : Device W) (told0 told1 : Device E) (lines : List (List ℕ)) (x : Unit {0}) (r : Result Unit SearchFault)

@@ -8,3 +8,4 @@ pub mod Batched
 pub mod Ends
 pub mod Advancing
 pub mod SoFar
+pub mod Program

@@ -10,3 +10,5 @@ pub mod Positions
 pub mod Searching
 pub mod Words
 pub mod Laws
+pub mod Command
+pub mod Ends

@@ -1,5 +1,5 @@
 -- What the program's words ask for, once they are read.
-use Rattle.std.specs.Prelude.{ℕ, List, [], ◌∷◌, length, take, drop, map, codes, Bool, ◌&&◌, ◌||◌, not, ltb, if◌then◌else◌}
+use Rattle.std.specs.Prelude.{ℕ, List, [], ◌∷◌, length, take, drop, map, codes, Bool, ◌&&◌, ◌||◌, not, ltb, if◌then◌else◌, min, unwrap_or}
 use Rattle.jp_grep.specs.declared.form.Shown.{Shown}
 use Rattle.jp_grep.specs.declared.form.Shown.TheVariants as shown
 use Rattle.jp_grep.specs.declared.form.Summary.{Summary}
@@ -28,6 +28,12 @@ asked_files o = if begins_with_query o then drop 1 (words_of o) else words_of o
 -- the first selected line of a file decides: nothing but that there is one is asked for
 abbrev pub first_decides : Options → Bool
 first_decides o = o.quiet || o.with_matches || o.without_matches
+
+-- how many selected lines of a file are wanted: what `-m` says, or else what 64 bits count, and no more than one where the first decides
+abbrev pub asked_most : Options → ℕ
+asked_most o =
+    let most = unwrap_or o.most 18446744073709551615 in
+    if first_decides o then min most 1 else most
 
 -- what a row shows: nothing where something else is printed, and values where `-o` or `-p` asks for them
 abbrev pub asked_rows : Options → Shown

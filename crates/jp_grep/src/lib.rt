@@ -5,6 +5,7 @@
 //! - `Question`: the queries and the conditions that a line is asked
 //! - `Form`, `Shown`, `Summary`: what is written of a stream
 //! - `search`, `SearchFault`: the lines of a stream, each answered as it comes
+//! - `Run`, `Finished`: the streams in turn, through two buffers that are written out at the end
 //! - `read_words`, `Options`: the program's words
 #![tactic(auto)]
 
@@ -16,6 +17,7 @@ mod options;
 mod progress;
 mod question;
 mod rows;
+mod run;
 mod searching;
 mod stream;
 mod words;
@@ -26,5 +28,6 @@ pub use jp_model::Framing;
 pub use options::Options;
 pub use progress::Counts;
 pub use question::Question;
+pub use run::{Finished, Run};
 pub use searching::search;
 pub use words::read_words;

@@ -1,7 +1,10 @@
 //! What the program's words ask for, once they are read.
 
-ghost use Rattle.std.specs.Prelude.{◌≡◌, ◌≤◌, map, true};
-ghost use Rattle.jp_grep.specs.Words.{asked_files, asked_queries, asked_rows, asked_summary, asks_names, begins_with_query, first_decides};
+ghost use Rattle.std.specs.Prelude.{◌≡◌, ◌∷◌, [], List, map};
+ghost use Rattle.std.specs.Option.{option_map_or};
+ghost use Rattle.clap.specs.Words.{Row};
+ghost use Rattle.jp_grep.specs.Command.{IsAskedBy, conflicts_in};
+ghost use Rattle.jp_grep.specs.Words.{asked_files, asked_most, asked_queries, asked_rows, asked_summary, asks_names, begins_with_query};
 
 use crate::form::{Form, Shown, Summary};
 use clap::error::ErrorKind;
@@ -17,7 +20,7 @@ pub struct Options<'a> {
     /// The conditions of `-w`, in their order.
     pub conditions: Vec<&'a str>,
     /// `-m`: how many selected lines of each file are wanted.
-    pub most: Option<&'a str>,
+    pub most: Option<u64>,
     /// `-v`: the lines that do not match are selected.
     pub inverted: bool,
     /// `-o`: the values are printed, and not the lines.
@@ -40,13 +43,18 @@ pub struct Options<'a> {
     pub unnamed: bool,
     /// `-s`: no message tells of a line or a file.
     pub silent: bool,
+    /// `--check`: no file is read, and queries and conditions are looked at alone.
+    pub checks: bool,
     /// `--seq`: the files are text sequences (RFC 7464).
     pub framing: Framing,
 }
 
 impl<'a> Options<'a> {
     /// Why the words do not go together, if they do not.
-    pub(crate) fn fault(&self) -> Option<(ErrorKind, &'static str)> {
+    pub(crate) fn conflict(&self) -> Option<(ErrorKind, &'static str)>
+        ensures { (found : List Row) → IsAskedBy found self.now
+            → option_map_or (λ conflict. conflict.0 ∷ []) result [] ≡ conflicts_in found }
+    {
         if self.with_matches && self.without_matches {
             return Some((ErrorKind::ArgumentConflict, BOTH_NAMES));
         }
@@ -59,13 +67,7 @@ impl<'a> Options<'a> {
         if self.words.is_empty() && self.queries.is_empty() && self.conditions.is_empty() {
             return Some((ErrorKind::MissingRequiredArgument, NO_QUERY));
         }
-        match self.most {
-            Some(number) if number.parse::<u64>().is_err() => Some((
-                ErrorKind::InvalidValue,
-                NO_NUMBER,
-            )),
-            _ => None,
-        }
+        None
     }
 }
 
@@ -102,14 +104,12 @@ impl<'a> Options<'a> {
         }
     }
 
-    /// How many selected lines of each file are wanted. Where the first decides, it is no more than one.
+    /// How many selected lines of each file are wanted: as many as `-m` says, or else as 64 bits count. Where the first decides, it
+    /// is no more than one.
     pub fn most(&self) -> u64
-        ensures { first_decides self.now ≡ true → result ≤ 1 }
+        ensures { result ≡ asked_most self.now }
     {
-        let most = match self.most {
-            Some(number) => number.parse().unwrap_or(u64::MAX),
-            None => u64::MAX,
-        };
+        let most = self.most.unwrap_or(u64::MAX);
         if self.quiet || self.with_matches || self.without_matches {
             most.min(1)
         } else {
@@ -156,6 +156,7 @@ impl<'a> Options<'a> {
         ensures numbered { result.numbered ≡ self.now.numbered }
         ensures silent { result.silent ≡ self.now.silent }
         ensures framing { result.framing ≡ self.now.framing }
+        ensures most { result.most ≡ asked_most self.now }
     {
         Form {
             framing: self.framing,
@@ -183,7 +184,3 @@ const NO_VALUES: &str =
 
 /// What is said if no word is a query.
 const NO_QUERY: &str = "no QUERY was given, nor '--query <QUERY>' or '--where <CONDITION>'";
-
-/// What is said if the value of `-m` is none.
-const NO_NUMBER: &str =
-    "the value of '--max-count <NUMBER>' is no number from 0 to 18446744073709551615";

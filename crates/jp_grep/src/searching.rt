@@ -1,7 +1,6 @@
 //! A search: the lines of a stream, each answered as it comes.
 
-ghost use Rattle.std.specs.Prelude.{◌≡◌, ◌+◌, ◌<◌, ◌≤◌, ◌^◌, ◌||◌, [], length, take, false, is_err, IfErr, MatchResult, OnOk, true};
-ghost use Rattle.std.specs.Io.KnownBytes.{Keeps};
+ghost use Rattle.std.specs.Prelude.{◌≡◌, ◌+◌, ◌<◌, ◌≤◌, ◌^◌, ◌||◌, [], length, take, false, IfErr, MatchResult, OnOk, true};
 ghost use Rattle.jp_model.specs.Devices.{Came, GaveUpTo, Received};
 ghost use Rattle.jp_model.specs.Lines.{is_framed};
 ghost use Rattle.jp_masks.specs.Found.{lines_in};
@@ -17,29 +16,14 @@ use crate::progress::{Counts, Progress};
 use crate::question::Question;
 use crate::rows::write_summary;
 use crate::stream::{Stream, find_end};
+use jp_devices::flush_written;
 use jp_model::Watched;
 use jp_store::BatchRoom;
 use std::alloc::Global;
-use std::io;
 use std::io::{Read, Write};
 
 /// The bytes that one read asks for.
 const PIECE: usize = 65_536;
-
-/// Flushes a writer where it took bytes that are unflushed.
-fn flush_written<W: Write>(out: &mut Watched<W>) -> io::Result<()>
-    requires working { out.old.failed ≡ false }
-    ensures bytes { Keeps (W.contents out.old.device) (W.contents out.new.device) }
-    ensures taken { out.new.taken ≡ out.old.taken }
-    ensures flushed { OnOk result (out.new.unflushed ≡ false) }
-    ensures fault { out.new.failed ≡ is_err result }
-    ensures after { out.new.after ≡ out.old.after }
-{
-    if out.unflushed() {
-        return out.flush();
-    }
-    Ok(())
-}
 
 /// Flushes the rows and the messages, so that whoever waits for them has them before more is read.
 fn flush_all<W: Write, E: Write>(
@@ -135,6 +119,7 @@ impl Searcher {
         let end = find_end(self.stream.framing, piece);
         self.stream.hold(piece)?;
         match end {
+            None if from == 0 => self.stream.check_front(),
             None => Ok(()),
             Some(end) => {
                 self.answer_until(answerer, from + end, out, messages)?;
@@ -199,8 +184,9 @@ fn search_lines<R: Read, W: Write, E: Write>(
 /// # Errors
 ///
 /// `Read` if a read failed: each line that ended before is answered. `Framing` if bytes other than white space come before the first
-/// separator of a sequence: nothing is written then. `Size` if a line is longer than 4,294,967,294 bytes, `Memory` if a growth was
-/// refused, `Write` and `Report` if a row or a message was not written: then a beginning of the answer was.
+/// separator of a sequence: nothing is written then. The first read tells it, where it brings three bytes or more. `Size` if a line is
+/// longer than 4,294,967,294 bytes, `Memory` if a growth was refused, `Write` and `Report` if a row or a message was not written: then
+/// a beginning of the answer was.
 pub fn search<R: Read, W: Write, E: Write>(
     alloc: Global,
     question: &Question,

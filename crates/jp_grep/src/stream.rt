@@ -26,6 +26,9 @@ pub(crate) fn find_end(framing: Framing, piece: &[u8]) -> Option<usize>
     }
 }
 
+/// The bytes of a byte order mark in UTF-8.
+const BYTE_ORDER_MARK: usize = 3;
+
 /// The bytes of a stream that came, and are not answered yet.
 #[derive(Drop)]
 pub(crate) struct Stream {
@@ -93,6 +96,20 @@ impl Stream {
             return Err(SearchFault::Framing);
         }
         Ok(without_byte_order_mark(text))
+    }
+
+    /// Refuses a sequence by its first bytes, if these are enough to tell a byte order mark.
+    ///
+    /// # Errors
+    ///
+    /// `Framing` where bytes other than white space stand before the first separator of a sequence.
+    pub(crate) fn check_front(&self) -> Result<(), SearchFault>
+        ensures { IfErr result (λ fault. (is_framing_fault fault ≡ true) × (self.now.is_first ≡ true) × (is_framed self.now.framing self.now.held.items ≡ false)) }
+    {
+        if self.held.len() >= BYTE_ORDER_MARK {
+            self.text_until(self.held.len())?;
+        }
+        Ok(())
     }
 
     /// Lets go what is answered, up to an end of a line.

@@ -1,23 +1,22 @@
 //! The files in turn.
 
-use crate::input::StandardInput;
-use jp_grep::{Options, Question, SearchFault, search};
+use crate::NOT_SELECTED;
+use crate::output::{Output, RegularFile};
+use jp_devices::StandardInput;
+use jp_grep::{Options, Question, Run, SearchFault, Shown};
 use jp_model::Watched;
-use std::io::{BufWriter, Read, Stderr, Stdout, Write};
-use std::{fs, io};
+use std::alloc::AllocError;
+use std::fs;
+use std::io::{Read, Stderr};
 
 /// What goes through the files.
 #[derive(Drop)]
 struct Searcher<'q> {
     rt: &'q HostRuntime,
-    question: &'q Question,
     options: &'q Options<'q>,
-    rows: Watched<BufWriter<Stdout>>,
-    messages: Watched<BufWriter<Stderr>>,
-    /// A line was selected.
-    selected: bool,
-    /// Something was refused or failed.
-    failed: bool,
+    run: Run<'q, Output, Stderr>,
+    /// The file that more than one row may be added to.
+    output: Option<RegularFile>,
 }
 
 /// Whether the files that follow are to be searched.
@@ -33,10 +32,13 @@ fn message_of(fault: SearchFault) -> &'static str {
         SearchFault::Read => "cannot read",
         SearchFault::Framing => "bytes before first separator",
         SearchFault::Size => "line too long",
-        SearchFault::Write | SearchFault::Report => "cannot write",
+        SearchFault::Write | SearchFault::Report => CANNOT_WRITE,
         SearchFault::Memory => "out of memory",
     }
 }
+
+/// What is said of rows or messages that were not written.
+pub(crate) const CANNOT_WRITE: &str = "cannot write";
 
 /// What is said of a word whose file cannot be opened.
 fn unopened_message(word: &str) -> &'static str {
@@ -47,67 +49,34 @@ fn unopened_message(word: &str) -> &'static str {
     }
 }
 
+/// What is said of the file that the rows go to: it would be read without end.
+const IS_OUTPUT: &str = "input file is also the output";
+
 /// How the standard input is named.
 const STANDARD_INPUT: &str = "(standard input)";
 
 impl<'q> Searcher<'q> {
     /// Tells of a file, where messages are wanted.
     fn tell(&mut self, name: &str, message: &str) {
-        self.failed = true;
-        if self.options.silent {
-            return;
+        self.run.refuse();
+        if !self.options.silent {
+            let _ = eprintln!(self.rt; "jpgrep: {name}: {message}");
         }
-        let _ = self.messages.flush();
-        let _ = eprintln!(self.rt; "jpgrep: {name}: {message}");
-    }
-
-    /// Tells of rows that were not written. A pipe that nobody reads any more is no news.
-    fn tell_unwritten(&mut self) {
-        self.failed = true;
-        match self.rows.flush() {
-            Err(error) if error.kind() == io::ErrorKind::BrokenPipe => {}
-            _ => {
-                let _ = eprintln!(self.rt; "jpgrep: {}", message_of(SearchFault::Write));
-            }
-        }
-    }
-
-    /// Tells of a want of memory.
-    fn tell_memory(&mut self) {
-        self.failed = true;
-        let _ = eprintln!(self.rt; "jpgrep: {}", message_of(SearchFault::Memory));
     }
 
     /// Searches an open file.
     fn search<R: Read + Drop>(&mut self, name: &str, input: R) -> Next {
-        if self.rows.failed() || self.messages.failed() {
+        if !self.run.is_open() {
             return Next::Stop;
         }
         let form = self.options.form(name);
-        let mut input = Watched::new(input);
-        let found = search(
-            self.rt.alloc(),
-            self.question,
-            &form,
-            &mut input,
-            &mut self.rows,
-            &mut self.messages,
-        );
-        match found {
-            Ok(counts) => {
-                self.selected |= counts.selected > 0;
-                self.failed |= counts.refused > 0;
-                if self.options.quiet && self.selected {
-                    return Next::Stop;
-                }
-                Next::GoOn
-            }
-            Err(SearchFault::Write | SearchFault::Report) => {
-                self.tell_unwritten();
-                Next::Stop
-            }
+        match self.run.search(&form, &mut Watched::new(input)) {
+            Ok(_) if self.run.is_decided() => Next::Stop,
+            Ok(_) => Next::GoOn,
+            Err(SearchFault::Write | SearchFault::Report) => Next::Stop,
             Err(SearchFault::Memory) => {
-                self.tell_memory();
+                self.run.refuse();
+                tell_memory(self.rt);
                 Next::Stop
             }
             Err(SearchFault::Size) => {
@@ -121,13 +90,30 @@ impl<'q> Searcher<'q> {
         }
     }
 
+    /// Searches an open file, unless the rows go to it.
+    fn search_other<R: Read + Drop>(
+        &mut self,
+        name: &str,
+        input: R,
+        file: Option<RegularFile>,
+    ) -> Next {
+        if file.is_some() && file == self.output {
+            self.tell(name, IS_OUTPUT);
+            return Next::GoOn;
+        }
+        self.search(name, input)
+    }
+
     /// Searches the file of a word.
     fn search_word(&mut self, word: &str, stdin: StandardInput) -> Next {
         if word == "-" {
-            return self.search(STANDARD_INPUT, stdin);
+            return self.search_other(STANDARD_INPUT, stdin, RegularFile::of_input(self.rt));
         }
         match fs::open(self.rt, word) {
-            Ok(file) => self.search(word, file),
+            Ok(file) => {
+                let metadata = file.metadata();
+                self.search_other(word, file, RegularFile::of(metadata))
+            }
             Err(_) => {
                 self.tell(word, unopened_message(word));
                 Next::GoOn
@@ -135,49 +121,53 @@ impl<'q> Searcher<'q> {
         }
     }
 
-    /// Writes what is still held, and gives the exit status.
-    fn end(mut self) -> u8 {
-        if self.options.quiet && self.selected {
-            return 0;
+    /// Ends the run, tells of rows or messages that were not written, and gives the exit status. A pipe that nobody reads any more is
+    /// no news.
+    fn end(self) -> u8 {
+        let finished = self.run.finish();
+        let unwritten = finished.rows.failed() || finished.messages.failed();
+        if unwritten && !finished.rows.into_inner().is_unread() {
+            let _ = eprintln!(self.rt; "jpgrep: {CANNOT_WRITE}");
         }
-        if self.rows.failed() {
-            self.failed = true;
-        } else if self.rows.flush().is_err() {
-            self.tell_unwritten();
-        }
-        if self.messages.flush().is_err() {
-            self.failed = true;
-        }
-        match self {
-            Searcher { failed: true, .. } => 2,
-            Searcher { selected: true, .. } => 0,
-            _ => 1,
-        }
+        finished.status
     }
+}
+
+/// Tells of a want of memory.
+pub(crate) fn tell_memory(rt: &HostRuntime) {
+    let _ = eprintln!(rt; "jpgrep: {}", message_of(SearchFault::Memory));
 }
 
 /// Searches the files of the words in turn, and gives the exit status: 0 if a line was selected, 1 if none was, 2 if something was
 /// refused or failed.
-pub(crate) fn search_files(rt: &HostRuntime, options: &Options<'_>, question: &Question) -> u8 {
+///
+/// # Errors
+///
+/// There is no memory for what the outputs hold.
+pub(crate) fn search_files(
+    rt: &HostRuntime,
+    options: &Options<'_>,
+    question: &Question,
+) -> Result<u8, AllocError> {
     if options.most() == 0 {
-        return 1;
+        return Ok(NOT_SELECTED);
     }
     let files = options.files();
     let stdin = StandardInput::find(rt, files.is_empty() || files.contains(&"-"));
-    let Ok(rows) = BufWriter::new(rt.alloc(), rt.stdout()) else {
-        return 2
-    };
-    let Ok(messages) = BufWriter::new(rt.alloc(), rt.stderr()) else {
-        return 2
+    let rows = Watched::new(Output::new(rt));
+    let messages = Watched::new(rt.stderr());
+    let run = Run::new(rt.alloc(), question, options, rows, messages)?;
+    let form = options.form(STANDARD_INPUT);
+    let output = if form.shown != Shown::Nothing && form.most > 1 {
+        RegularFile::of_output(rt)
+    } else {
+        None
     };
     let mut searcher = Searcher {
         rt,
-        question,
         options,
-        rows: Watched::new(rows),
-        messages: Watched::new(messages),
-        selected: false,
-        failed: false,
+        run,
+        output,
     };
     if files.is_empty() {
         searcher.search_word("-", stdin);
@@ -187,5 +177,5 @@ pub(crate) fn search_files(rt: &HostRuntime, options: &Options<'_>, question: &Q
             break;
         }
     }
-    searcher.end()
+    Ok(searcher.end())
 }

@@ -4,29 +4,54 @@
 mod asked;
 mod excerpt;
 mod files;
-mod input;
+mod output;
 mod patterns;
 mod refusal;
-mod refused;
 
 use crate::asked::read_question;
-use crate::files::search_files;
+use crate::files::{CANNOT_WRITE, search_files};
 use crate::refusal::Refusal;
-use crate::refused::refuse_word;
+use clap::Error;
 use clap::error::ErrorKind;
+use jp_devices::refuse_word;
 use jp_grep::{Options, read_words};
 use std::process::ExitCode;
 use std::{env, io};
 
-/// The exit status of an outcome.
-const SELECTED: u8 = 0;
+/// The exit status where help, the version, or a check of good queries was asked for.
+const TOLD: u8 = 0;
 
+/// The exit status where no line was selected.
+const NOT_SELECTED: u8 = 1;
+
+/// The exit status where something was refused or failed.
 const FAULT: u8 = 2;
+
+/// Prints the help or the version, or says why the words are refused, and gives the exit status.
+fn tell_words(rt: &HostRuntime, error: &Error) -> u8 {
+    match error.print(rt) {
+        Ok(()) if error.exit_code() == 0 => TOLD,
+        Err(fault) if fault.kind() != io::ErrorKind::BrokenPipe => {
+            let _ = eprintln!(rt; "jpgrep: {CANNOT_WRITE}");
+            FAULT
+        }
+        _ => FAULT,
+    }
+}
+
+/// Reads the question, searches the files, and gives the exit status.
+fn answer<'a>(rt: &HostRuntime, options: &Options<'a>) -> Result<u8, Refusal<'a>> {
+    let question = read_question(rt, options)?;
+    if options.checks {
+        return Ok(TOLD);
+    }
+    Ok(search_files(rt, options, &question)?)
+}
 
 /// Does what the words ask for, and gives the exit status.
 fn run_options(rt: &HostRuntime, options: &Options<'_>) -> u8 {
-    match read_question(rt, options) {
-        Ok(question) => search_files(rt, options, &question),
+    match answer(rt, options) {
+        Ok(status) => status,
         Err(refusal) => {
             refusal.tell(rt);
             FAULT
@@ -42,14 +67,7 @@ fn run_words(rt: &HostRuntime, words: &[&str]) -> u8 {
             Refusal::Memory.tell(rt);
             FAULT
         }
-        Err(error) => {
-            let _ = error.print(rt);
-            if error.exit_code() == 0 {
-                SELECTED
-            } else {
-                FAULT
-            }
-        }
+        Err(error) => tell_words(rt, &error),
     }
 }
 
@@ -62,7 +80,7 @@ fn run_arguments(rt: &HostRuntime) -> u8 {
             return FAULT;
         }
         Err(_) => {
-            refuse_word(rt);
+            refuse_word(rt, "jpgrep");
             return FAULT;
         }
     };

@@ -1,6 +1,7 @@
 //! What is said of a query or a condition that is refused.
 
 use crate::excerpt::Excerpt;
+use crate::files::tell_memory;
 use jp_model::QueryFault;
 use jp_query::FaultPlace;
 use std::alloc::AllocError;
@@ -101,7 +102,7 @@ impl<'a> Refusal<'a> {
             Refusal::Memory => Err(AllocError),
         };
         if told.is_err() {
-            let _ = eprintln!(rt; "jpgrep: out of memory");
+            tell_memory(rt);
         }
     }
 }

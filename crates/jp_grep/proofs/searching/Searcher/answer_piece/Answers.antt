@@ -1,12 +1,13 @@
 -- No line ends among the bytes, or those in front of the cut are answered.
-use Rattle.std.proofs.Common.{◌≡◌, ◌∙◌, ◌+◌, ◌<◌, ℕ, List, [], ◌++◌, ap, arith, drop, length, subst, sym, take, take-append-drop, append-nil, length-drop, false, true, Bool, Ok, Err}
+use Rattle.std.proofs.Common.{◌≡◌, ◌∙◌, ◌+◌, ◌<◌, ℕ, List, [], ◌++◌, refl, ap, ap₂, arith, drop, length, subst, sym, take, take-append-drop, append-nil, length-drop, false, true, Bool, Ok, Err}
 use Rattle.std.proofs.Math.Seq.{take-append-add, drop-append-add}
+use Rattle.std.proofs.lemmas.Result.{IfErr-weaker}
 use Rattle.jp_model.specs.Lines.{is_framed}
 use Rattle.jp_masks.specs.Found.{lines_in}
 use Rattle.jp_grep.specs.Cuts.{EndsBetween, HasNoEnd, text_of}
 use Rattle.jp_grep.specs.Positions.{IsAt}
 use Rattle.jp_grep.specs.Searching.{Answers}
-use Rattle.jp_grep.proofs.Advancing.{all_first, answers_in_part, answers_later, answers_none, both_at_ok, front_unframed, handed_on, holds_at_ok, inner_of_framing, none_first, not_of_framing, says_nothing}
+use Rattle.jp_grep.proofs.Advancing.{all_first, answers_in_part, answers_later, answers_none, both_at_ok, front_unframed, handed_on, held_unframed, holds_at_ok, inner_of_framing, none_first, not_of_framing, says_nothing}
 use Rattle.jp_grep.proofs.Position.{cut_off, held_more}
 use Rattle.jp_grep.proofs.searching.Searcher.answer_piece.Goals as goal
 
@@ -25,6 +26,33 @@ returns-in_err-hold-clause-advances g c =
 
 pub returns-in-None-clause-advances : goal.returns-in-None-clause-advances
 returns-in-None-clause-advances g c =
+    let f = c.args.answerer.form.now in
+    let stream = c.args.self.now.stream in
+    let now = c.hold.new.self in
+    let piece = c.args.piece.now in
+    let held = c.in_ok-hold.ensures.held in
+    let first = c.in_ok-hold.ensures.first in
+    let none = subst (λ framing. HasNoEnd framing piece) c.requires.framing c.in-None.ensures in
+    let r = c.check_front.result in
+    record {
+      lines = [];
+      answers = answers_none c.args.answerer.question.now f g.W.Write.contents g.E.Write.contents c.args.self.now.progress c.args.out.now c.args.messages.now r c.requires.under_way;
+      position = holds_at_ok r (λ came answered at.
+          subst (λ (ls : List (List ℕ)). IsAt f.framing (came ++ piece) now.held.items ls now.is_first) (sym (append-nil answered))
+          (subst (λ (b : Bool). IsAt f.framing (came ++ piece) now.held.items answered b) (sym first)
+          (subst (λ (l : List ℕ). IsAt f.framing (came ++ piece) l answered stream.is_first) (sym held) (held_more f.framing came stream.held.items piece answered stream.is_first none at))));
+      first = λ came answered at. none_first f.framing came stream.held.items piece answered stream.is_first at;
+      unframed = IfErr-weaker r _ _ (λ fault said framing. (
+        refl,
+        refl,
+        λ came answered at.
+            held_unframed f.framing came stream.held.items piece answered stream.is_first (sym first ∙ said.1)
+            (ap₂ is_framed (sym (c.in_ok-hold.ensures.framing ∙ c.requires.framing)) (sym held) ∙ said.2) at,
+      )) c.check_front.ensures;
+    }
+
+pub returns-in-None-2-clause-advances : goal.returns-in-None-2-clause-advances
+returns-in-None-2-clause-advances g c =
     let f = c.args.answerer.form.now in
     let stream = c.args.self.now.stream in
     let now = c.hold.new.self in

@@ -4,14 +4,14 @@ use std::io::{self, Read, Stdin};
 
 /// Standard input. A read of one that was closed fails, whatever file got its place since.
 #[derive(Clone, Copy)]
-pub(crate) struct StandardInput {
+pub struct StandardInput {
     stdin: Stdin,
     is_there: bool,
 }
 
 impl StandardInput {
     /// Looks whether standard input is there, by a read into no room, where it is to be read.
-    pub(crate) fn find(rt: &HostRuntime, is_read: bool) -> StandardInput {
+    pub fn find(rt: &HostRuntime, is_read: bool) -> StandardInput {
         let mut stdin = rt.stdin();
         StandardInput {
             stdin,

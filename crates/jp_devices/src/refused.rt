@@ -1,6 +1,5 @@
 //! Words of the command line that are not UTF-8.
 
-use jp_cli::End;
 use std::alloc::{AllocError, Global};
 use std::env::{Env, FillError};
 
@@ -16,9 +15,9 @@ fn shown(alloc: Global, bytes: &[u8]) -> Result<String, AllocError> {
     Ok(text)
 }
 
-/// Reports the first word that is not UTF-8, as far as it can be shown. Of a word of more than 4096 bytes it says only that
-/// there is one.
-pub(crate) fn refuse_word(rt: &HostRuntime) -> End {
+/// Says in the name of a program which word is the first that is not UTF-8, as far as it can be shown. Of a word of more than 4096
+/// bytes it says only that there is one.
+pub fn refuse_word(rt: &HostRuntime, program: &str) {
     let mut room = [0; 4096];
     for number in 0..usize::MAX {
         let bytes = match rt.arg(number, &mut room) {
@@ -28,11 +27,10 @@ pub(crate) fn refuse_word(rt: &HostRuntime) -> End {
         };
         if str::from_utf8(bytes).is_err() {
             if let Ok(word) = shown(rt.alloc(), bytes) {
-                let _ = eprintln!(rt; "jpq: word {number} is not UTF-8: {word:?}");
-                return End::Words;
+                let _ = eprintln!(rt; "{program}: word {number} is not UTF-8: {word:?}");
+                return;
             }
         }
     }
-    let _ = eprintln!(rt; "jpq: a word is not UTF-8");
-    End::Words
+    let _ = eprintln!(rt; "{program}: a word is not UTF-8");
 }

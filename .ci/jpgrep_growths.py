@@ -1,0 +1,124 @@
+"""Runs jpgrep with each growth refused in turn, and tells whether every run ended as stated.
+
+    jpgrep_growths.py PROGRAM FOLDER LIBRARY
+
+FOLDER is for files. LIBRARY is `refuse.c` as it was built; where it is empty no growth can be refused, and nothing is tried.
+
+A run in which a growth was refused has to end with status 2, to say `jpgrep: out of memory` last, and to write a beginning of what
+it writes without the refusal, and to say a beginning of what it says. A growth that the library asks for again at once, since it
+may have been asked for with too high a hint, may leave the run as it is without a refusal; it is then refused both times.
+"""
+import os
+import subprocess
+import sys
+import time
+
+PROGRAM, FOLDER, LIBRARY = sys.argv[1:]
+NO_MEMORY = b"jpgrep: out of memory\n"
+ASKED_AGAIN = "refused\nasked again\n"
+END = time.monotonic() + 60
+MOST_TOLD = 20
+
+LINES = b"""{"level":"error","ms":340,"tags":["a","b"]}
+{"level":"info","ms":12}
+
+{"level":"error" "ms":1}
+{"a":1,"b":2,"c":3,"d":4,"e":5,"f":6,"g":7,"h":8,"i":9,"deep":[[[[[[[[[[0]]]]]]]]]]}
+{"level":"\\u0065rror","ms":1.50e2}
+""" + b'{"level":"error","long":"' + b"x" * 70_000 + b'"}\n' + b'{"a":"\xff"}\n{"level":"error"}'
+SEQUENCE = b'\x1e{"level":"error"}\n\x1e[1,\n\x1e{"level":\n"info"}\n'
+
+# The words of each run, and the text of its standard input.
+RUNS = [
+    (["$"], LINES),
+    (["-n", "-H", '$[?@=="error"]', "lines", "-", "absent", "lines"], LINES),
+    (["-o", "-p", "-e", "$..*", "-e", "$.tags[::-1]", "-w", "@.ms > 100 || match(@.level, 'e(r|x)+o.')", "lines"], b""),
+    (["-v", "-c", "-w", "length(@.level) == 5", "lines", "sequence"], b""),
+    (["--seq", "-n", "$.level", "-", "sequence"], SEQUENCE),
+    (["-q", "$.absent", "lines"], b""),
+    (["-l", "-m", "1", "-s", "$", "lines", "sequence"], b""),
+    (["--help"], b""),
+    (["-l", "-L", "$"], b""),
+    (["$[?unknown(@)]"], b""),
+]
+
+
+class Run:
+    """How one run ended: status, standard output and error, and what the library told."""
+
+    def __init__(self, words, text, refused, next_too=False):
+        told, to = os.pipe()
+        loaded = {"LD_PRELOAD": LIBRARY, "REFUSE": str(refused), "TOLD": str(to)}
+        if next_too:
+            loaded["NEXT"] = "1"
+        # A file, since a pipe gives pieces of other lengths each time.
+        given = os.path.join(FOLDER, "given")
+        with open(given, "wb") as file:
+            file.write(text)
+        with open(given, "rb") as stdin:
+            try:
+                ended = subprocess.run([PROGRAM, *words], cwd=FOLDER, stdin=stdin, capture_output=True,
+                                       env={**os.environ, **loaded}, pass_fds=[to], timeout=5)
+                self.result = ended.returncode, ended.stdout, ended.stderr
+            except subprocess.TimeoutExpired:
+                self.result = "none: it did not end", b"", b""
+        os.close(to)
+        with open(told) as line:
+            self.told = line.read()
+
+    def growths(self):
+        """How many growths a run had in which none was refused; -1 where the library did not tell."""
+        return int(self.told) if self.told.strip().isdigit() else -1
+
+
+def refused_fault(got, whole):
+    """What is wrong with a run in which a growth was refused, or None."""
+    (status, out, said), (_, whole_out, whole_said) = got, whole
+    if status != 2:
+        return f"status {status} for 2, said {said[-200:]!r}"
+    if not said.endswith(NO_MEMORY) or not whole_said.startswith(said.removesuffix(NO_MEMORY)):
+        return f"said {said[-200:]!r}"
+    if not whole_out.startswith(out):
+        return f"wrote {out[-200:]!r}, which is no beginning of what it writes without that"
+    return None
+
+
+def each_refused(words, text, counts):
+    """Refuses each growth of a run in turn, until one meets no refusal."""
+    whole = Run(words, text, 0)
+    number = again = 0
+    while time.monotonic() < END:
+        run = Run(words, text, number + 1)
+        if not run.told.startswith("refused\n"):
+            break
+        number += 1
+        if run.told == ASKED_AGAIN and run.result == whole.result:
+            again += 1
+            run = Run(words, text, number, next_too=True)
+        fault = refused_fault(run.result, whole.result)
+        counts[fault is None] += 1
+        if fault and counts[False] <= MOST_TOLD:
+            print(f"jpgrep {words}, growth {number} refused: NOT AS STATED: {fault}")
+    complete = 0 < number == whole.growths() and run.result == whole.result
+    counts[complete] += 1
+    if not complete:
+        print(f"jpgrep {words}: {number} growths were refused in time, and {whole.growths()} counted")
+    return number, again
+
+
+def main():
+    if not LIBRARY:
+        print("left out: every refusal, as there is no `cc` to build what refuses")
+        return 0
+    for name, text in (("lines", LINES), ("sequence", SEQUENCE)):
+        with open(os.path.join(FOLDER, name), "wb") as file:
+            file.write(text)
+    counts = {False: 0, True: 0}
+    refused = [each_refused(words, text, counts) for words, text in RUNS]
+    print(f"jpgrep: {sum(number for number, _ in refused)} growths refused in {len(RUNS)} runs; "
+          f"{sum(again for _, again in refused)} asked for again at once, and refused again")
+    print(f"{counts[True]} passed, {counts[False]} failed")
+    return 1 if counts[False] else 0
+
+
+sys.exit(main())

@@ -1,0 +1,2 @@
+-- What contracts say of writers behind buffers.
+pub mod Buffered

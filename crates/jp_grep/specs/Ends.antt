@@ -1,0 +1,15 @@
+-- How a run ends (profile).
+use Rattle.std.specs.Prelude.{◌≡◌, ◌&&◌, ◌||◌, ℕ, Bool, true, if◌then◌else◌, ltb, Result, MatchResult}
+use Rattle.jp_grep.specs.declared.fault.SearchFault.{SearchFault}
+use Rattle.jp_grep.specs.declared.progress.Counts.{Counts}
+
+-- The exit status: 0 where a line was selected, 1 where none was, 2 where something was refused or failed; under `-q` 0 where a
+-- line was selected, whatever else there was.
+abbrev pub status_of : Bool → Bool → Bool → ℕ
+status_of quiet selected failed = if quiet && selected then 0 else if failed then 2 else if selected then 0 else 1
+
+-- what is known behind a search: whether a line was selected so far, and whether anything was refused or failed
+abbrev pub NotesSearch : Result Counts SearchFault → Bool → Bool → Bool → Bool → Type 0
+NotesSearch result selected0 failed0 selected1 failed1 = MatchResult result
+    (λ counts. (selected1 ≡ (selected0 || ltb 0 counts.selected)) × (failed1 ≡ (failed0 || ltb 0 counts.refused)))
+    (λ fault. (selected1 ≡ selected0) × (failed1 ≡ true))

@@ -1,0 +1,187 @@
+//! A run: the files in turn, and the two writers, each behind a buffer that is written out at the end.
+
+ghost use Rattle.std.specs.Prelude.{◌≡◌, ◌&&◌, ◌||◌, false, true, not, IfOk, MatchResult};
+ghost use Rattle.jp_model.specs.Devices.{Came, GaveUpTo};
+ghost use Rattle.jp_devices.specs.Buffered.{Took, filled, untold};
+ghost use Rattle.jp_grep.specs.Ends.{NotesSearch, status_of};
+ghost use Rattle.jp_grep.specs.Faults.{IsToldOf, is_read_fault, is_report_fault, is_write_fault};
+ghost use Rattle.jp_grep.specs.Watching.{SearchStopped, Searched};
+
+use crate::fault::SearchFault;
+use crate::form::Form;
+use crate::options::Options;
+use crate::progress::Counts;
+use crate::question::Question;
+use crate::searching::search;
+use jp_devices::{flush_written, write_out};
+use jp_model::Watched;
+use std::alloc::{AllocError, Global};
+use std::io::{BufWriter, Read, Write};
+
+/// The exit status where a line was selected.
+const SELECTED: u8 = 0;
+
+/// The exit status where none was.
+const NOT_SELECTED: u8 = 1;
+
+/// The exit status where something was refused or failed.
+const FAULT: u8 = 2;
+
+/// A run over files: what they are asked, the writers of the rows and of the messages, each behind a buffer of 8192 bytes, and what
+/// came of the files so far.
+#[derive(Drop)]
+pub struct Run<'q, W: Write + Drop, E: Write + Drop> {
+    alloc: Global,
+    question: &'q Question,
+    pub(crate) quiet: bool,
+    pub(crate) rows: Watched<BufWriter<Watched<W>>>,
+    pub(crate) messages: Watched<BufWriter<Watched<E>>>,
+    /// A line was selected.
+    pub(crate) selected: bool,
+    /// Something was refused or failed.
+    pub(crate) failed: bool,
+}
+
+/// How a run ended.
+#[derive(Drop)]
+pub struct Finished<W, E> {
+    /// The exit status.
+    pub status: u8,
+    /// The writer of the rows, as its last call left it.
+    pub rows: Watched<W>,
+    /// The writer of the messages, as its last call left it.
+    pub messages: Watched<E>,
+}
+
+impl<'q, W: Write + Drop, E: Write + Drop> Run<'q, W, E> {
+    /// A run in which no file was searched yet.
+    ///
+    /// # Errors
+    ///
+    /// There is no memory for the buffers.
+    pub fn new(
+        alloc: Global,
+        question: &'q Question,
+        options: &Options<'_>,
+        rows: Watched<W>,
+        messages: Watched<E>,
+    ) -> Result<Run<'q, W, E>, AllocError>
+        ensures rows { IfOk result (λ run. (filled run.rows.device ≡ rows) × (run.rows.failed ≡ false)) }
+        ensures messages { IfOk result (λ run. (filled run.messages.device ≡ messages) × (run.messages.failed ≡ false)) }
+        ensures question { IfOk result (λ run. run.question.now ≡ question.now) }
+        ensures notes { IfOk result (λ run. (run.quiet ≡ options.now.quiet) × (run.selected ≡ false) × (run.failed ≡ false)) }
+    {
+        let (Ok(rows), Ok(messages)) = (
+            BufWriter::new(alloc, rows),
+            BufWriter::new(alloc, messages),
+        ) else {
+            return Err(AllocError);
+        };
+        Ok(Run {
+            alloc,
+            question,
+            quiet: options.quiet,
+            rows: Watched::new(rows),
+            messages: Watched::new(messages),
+            selected: false,
+            failed: false,
+        })
+    }
+
+    /// Whether rows and messages can still be written.
+    pub fn is_open(&self) -> bool
+        ensures { result ≡ (not self.now.rows.failed && not self.now.messages.failed) }
+    {
+        !self.rows.failed() && !self.messages.failed()
+    }
+
+    /// Whether no further file matters, since a selected line ends the run under `-q`.
+    pub fn is_decided(&self) -> bool
+        ensures { result ≡ (self.now.quiet && self.now.selected) }
+    {
+        self.quiet && self.selected
+    }
+
+    /// Searches a stream, as `search` does. What is said of the two writers is said of those behind the buffers, as they are once they
+    /// took what the buffers hold.
+    ///
+    /// # Errors
+    ///
+    /// Those of `search`.
+    pub fn search<R: Read>(
+        &mut self,
+        form: &Form<'_>,
+        input: &mut Watched<R>,
+    ) -> Result<Counts, SearchFault>
+        requires reads { input.old.failed ≡ false }
+        requires unended { input.old.ended ≡ false }
+        requires writes { self.old.rows.failed ≡ false }
+        requires reports { self.old.messages.failed ≡ false }
+        ensures output { (came : Came) × GaveUpTo R.remaining input.old input.new came × MatchResult result
+            (λ counts. Searched untold untold self.old.question.now form.now (filled self.old.rows.device) (filled self.new.rows.device)
+            (filled self.old.messages.device) (filled self.new.messages.device) came counts)
+            (λ fault. SearchStopped untold untold self.old.question.now form.now (filled self.old.rows.device) (filled self.new.rows.device)
+            (filled self.old.messages.device) (filled self.new.messages.device) fault came) }
+        ensures read_fault { IsToldOf is_read_fault result input.new.failed }
+        ensures write_fault { IsToldOf is_write_fault result self.new.rows.failed }
+        ensures report_fault { IsToldOf is_report_fault result self.new.messages.failed }
+        ensures after { input.new.after ≡ input.old.after }
+        ensures early { input.new.early ≡ input.old.early }
+        ensures notes { NotesSearch result self.old.selected self.old.failed self.new.selected self.new.failed }
+        ensures same { (self.new.question ≡ self.old.question) × (self.new.quiet ≡ self.old.quiet) }
+    {
+        let found = search(
+            self.alloc,
+            self.question,
+            form,
+            input,
+            &mut self.rows,
+            &mut self.messages,
+        );
+        match found {
+            Ok(counts) => {
+                self.selected |= counts.selected > 0;
+                self.failed |= counts.refused > 0;
+            }
+            Err(_) => self.failed = true,
+        }
+        found
+    }
+
+    /// Notes that something was refused or failed, of which the caller tells behind the messages so far: they are flushed.
+    pub fn refuse(&mut self)
+        ensures messages { (filled self.new.messages.device).taken ≡ (filled self.old.messages.device).taken }
+        ensures noted { self.new.failed ≡ true }
+        ensures same { (self.new.rows ≡ self.old.rows) × (self.new.question ≡ self.old.question) × (self.new.quiet ≡ self.old.quiet)
+            × (self.new.selected ≡ self.old.selected) }
+    {
+        self.failed = true;
+        if !self.messages.failed() {
+            let _ = flush_written(&mut self.messages);
+        }
+    }
+
+    /// Ends the run: what the buffers hold is written, and both writers are flushed. One of which a call failed is not called again.
+    /// A write or a flush that fails is told by the status, as all that was refused or failed before.
+    pub fn finish(self) -> Finished<W, E>
+        ensures rows { Took result.rows (filled self.entry.rows.device) }
+        ensures messages { Took result.messages (filled self.entry.messages.device) }
+        ensures flushed { (result.rows.failed ≡ false → result.rows.unflushed ≡ false) × (result.messages.failed ≡ false → result.messages.unflushed ≡ false) }
+        ensures status { result.status ≡ status_of self.entry.quiet self.entry.selected (self.entry.failed || result.rows.failed || result.messages.failed) }
+    {
+        let rows = write_out(self.rows.into_inner());
+        let messages = write_out(self.messages.into_inner());
+        let failed = self.failed || rows.failed() || messages.failed();
+        let status = match (self.selected, failed) {
+            (true, false) => SELECTED,
+            (true, true) if self.quiet => SELECTED,
+            (false, false) => NOT_SELECTED,
+            _ => FAULT,
+        };
+        Finished {
+            status,
+            rows,
+            messages,
+        }
+    }
+}
