@@ -11,12 +11,13 @@ use crate::text::{tape_of, text_of};
 use crate::view::LineView;
 use jp_masks::Marks;
 use jp_model::{Framing, LineFault, Span};
+use jp_tape::Builder;
 use std::alloc::{AllocError, Global};
 
 /// What lends its room from piece to piece.
 #[derive(Drop)]
 pub struct BatchRoom {
-    alloc: Global,
+    builder: Builder,
     marks: Marks,
     lines: Vec<Line>,
     tapes: Vec<u64>,
@@ -26,7 +27,7 @@ impl BatchRoom {
     /// With no room yet.
     pub fn new(alloc: Global) -> BatchRoom {
         BatchRoom {
-            alloc,
+            builder: Builder::new(alloc),
             marks: Marks::new(alloc),
             lines: Vec::new(alloc),
             tapes: Vec::new(alloc),
@@ -53,7 +54,7 @@ impl BatchRoom {
             end: bytes.len() as u32,
         };
         read_piece(
-            self.alloc,
+            &mut self.builder,
             framing,
             bytes,
             piece,

@@ -60,12 +60,12 @@ fn scan(framing: Framing, text: &[u8], marks: &mut Marks) -> Result<(), AllocErr
 
 /// The line that is at an index, from 0, of a piece of the bytes. Its tape is appended to those of other lines. The builder
 /// lends its memory.
-fn read_line<'a>(
-    builder: &mut Builder<'a>,
+fn read_line(
+    builder: &mut Builder,
     framing: Framing,
-    bytes: &'a [u8],
+    bytes: &[u8],
     piece: Span,
-    marks: &'a Marks,
+    marks: &Marks,
     index: usize,
     tapes: &mut Vec<u64>,
 ) -> Result<Line, AllocError>
@@ -97,9 +97,10 @@ fn read_line<'a>(
     })
 }
 
-/// Appends the lines of a piece of the bytes, each read, to others, and their tapes to those of others. `marks` lends its memory.
+/// Appends the lines of a piece of the bytes, each read, to others, and their tapes to those of others. The builder and `marks`
+/// lend their memory.
 pub(crate) fn read_piece(
-    alloc: Global,
+    builder: &mut Builder,
     framing: Framing,
     bytes: &[u8],
     piece: Span,
@@ -121,9 +122,8 @@ pub(crate) fn read_piece(
     tapes_are_kept();
     let count = marks.line_count();
     lines.reserve(count)?;
-    let mut builder = Builder::new(alloc);
     for index in 0..count {
-        let line = read_line(&mut builder, framing, bytes, piece, marks, index, tapes)?;
+        let line = read_line(builder, framing, bytes, piece, marks, index, tapes)?;
         lines.push(line)?;
     }
     Ok(())
@@ -140,6 +140,7 @@ pub(crate) fn read_lines(
     ensures read { IfOk result (λ read. All (IsRead framing bytes.now read.1.items) read.0.items) }
 {
     let mut start = lines_start(bytes);
+    let mut builder = Builder::new(alloc);
     let mut marks = Marks::new(alloc);
     let mut all = Vec::new(alloc);
     let mut tapes = Vec::new(alloc);
@@ -150,7 +151,13 @@ pub(crate) fn read_lines(
             end: end as u32,
         };
         read_piece(
-            alloc, framing, bytes, piece, &mut marks, &mut all, &mut tapes,
+            &mut builder,
+            framing,
+            bytes,
+            piece,
+            &mut marks,
+            &mut all,
+            &mut tapes,
         )?;
         start = end;
     }

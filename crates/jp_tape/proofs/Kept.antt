@@ -1,6 +1,7 @@
 -- The names that are kept.
 use Rattle.std.proofs.Common.{◌≡◌, ℕ, ◌+◌, ◌*◌, ◌<◌, ◌≤◌, ◌||◌, Bool, true, false, List, [], ◌∷◌, ◌++◌, length, sym, ◌∙◌, ap, subst, refl, arith, Option, Some, None, length-append, add-zero, append-nil}
 use Rattle.std.proofs.lemmas.List.{map-append}
+use Rattle.std.proofs.lemmas.List.Elements.{All-append, All-cons}
 use Rattle.std.proofs.lemmas.Option.{same_Some, none-some}
 use Rattle.jp_model.specs.declared.Span.{Span}
 use Rattle.jp_model.specs.Json.Places.{Has, bytes_between}
@@ -8,15 +9,17 @@ use Rattle.jp_model.specs.Json.Strings.{SpellsBody, has_lone_surrogate}
 use Rattle.jp_model.specs.Json.Tree.{Name, Container, array, object}
 use Rattle.jp_model.specs.Json.Faults.{name_points, name_has_lone_surrogate}
 use Rattle.jp_model.specs.Json.Spelling.{SpellsLabel}
-use Rattle.jp_tape.specs.declared.builder.body.Body.{Body}
+use Rattle.jp_tape.specs.declared.builder.kept.KeptName.{KeptName}
 use Rattle.jp_tape.specs.declared.builder.machine.Builder.{Builder}
 use Rattle.jp_tape.specs.declared.builder.machine.Turn.{Turn}
 use Rattle.jp_tape.specs.declared.builder.machine.Turn.TheVariants as turns
 use Rattle.jp_tape.specs.declared.builder.tokens.Label.{Label}
 use Rattle.jp_tape.specs.Machine.{Labelled, IsBehind, first_fault, held}
-use Rattle.jp_tape.specs.Names.{points, all_points}
+use Rattle.jp_tape.specs.Names.{spelled_name, spelled_names, IsKept, AreKept}
 use Rattle.jp_tape.specs.Reading.{body_of, body_word, FoundLabel}
+use Rattle.jp_strings.specs.Plain.{ArePlain}
 use Rattle.jp_strings.specs.Points.{is_text_from, points_of}
+use Rattle.jp_tape.proofs.Bodies.{plain_between}
 use Rattle.jp_strings.proofs.Slices.{text_of_slice, points_of_slice}
 use Rattle.jp_strings.proofs.Texts.{text_of_body}
 
@@ -57,11 +60,18 @@ kept_span line kind from r f s e =
     let i = q.3.inside in
     (o, omega (arith, i))
 
-pub labelled_named : (line : List ℕ) (kind : Container) (from : ℕ) (r : Label) (f : FoundLabel line kind from r) (old new : Builder) (s : Span) (b : Body) (word : ℕ) → word ≡ body_word old.innermost.children r.name → r.name ≡ Some s → from ≤ r.value → r.value ≤ length line →
-    (r.is_lone ≡ false → points b ≡ points_of (bytes_between line s.start s.end)) → new.names.items ≡ old.names.items ++ b ∷ [] → new.words.items ≡ old.words.items → held new ≡ held old →
+-- what is kept of it
+kept_name : (line : List ℕ) (kind : Container) (from : ℕ) (r : Label) (f : FoundLabel line kind from r) (s : Span) (plain : Bool) → r.name ≡ Some s → r.is_lone ≡ false → (plain ≡ true → ArePlain line s.start s.end) → IsKept line (record { body = s; is_plain = plain })
+kept_name line kind from r f s plain e l p =
+    let span = kept_span line kind from r f s e in
+    record { order = span.0; within = span.1; text = (kept_text line kind from r f s e l).0; plain = λ t. plain_between line s.start s.end span.0 span.1 (p t) }
+
+pub labelled_named : (line : List ℕ) (kind : Container) (from : ℕ) (r : Label) (f : FoundLabel line kind from r) (old new : Builder) (s : Span) (plain : Bool) (word : ℕ) → word ≡ body_word old.innermost.children r.name → r.name ≡ Some s → from ≤ r.value → r.value ≤ length line →
+    (plain ≡ true → ArePlain line s.start s.end) → new.names.items ≡ old.names.items ++ record { body = s; is_plain = plain } ∷ [] → new.words.items ≡ old.words.items → held new ≡ held old →
     ((lone too_long repeated : Bool) → old.later ≡ first_fault lone too_long repeated → new.later ≡ first_fault (lone || r.is_lone) too_long repeated) → Labelled line kind from (turns.Value word r.value) old new
-labelled_named line kind from r f old new s b word m e o i p n w q u =
+labelled_named line kind from r f old new s plain word m e o i p n w q u =
     let named = label_named line kind from r f s e in
+    let b : KeptName = record { body = s; is_plain = plain } in
     record {
       label = r;
       found = f;
@@ -73,8 +83,9 @@ labelled_named line kind from r f old new s b word m e o i p n w q u =
       later = u;
       count = ap length n ∙ (length-append old.names.items (b ∷ []) ∙ ap (λ (x : Option Name). length old.names.items + length (name_points x [])) (sym named.1));
       names = λ z.
-          ap all_points n
-          ∙ (map-append points old.names.items (b ∷ []) ∙ ap (λ (xs : List (List ℕ)). all_points old.names.items ++ xs) (ap (λ (x : List ℕ). x ∷ []) (p z) ∙ sym (kept_text line kind from r f s e z).1));
+          ap (spelled_names line) n
+          ∙ (map-append (spelled_name line) old.names.items (b ∷ []) ∙ ap (λ (xs : List (List ℕ)). spelled_names line old.names.items ++ xs) (sym (kept_text line kind from r f s e z).1));
+      kept = λ z all. subst (AreKept line) (sym n) (All-append (IsKept line) old.names.items (b ∷ []) all (All-cons (IsKept line) b [] (kept_name line kind from r f s plain e z p) (λ k d l. absurd (omega arith))));
     }
 
 pub labelled_bare : (line : List ℕ) (kind : Container) (from : ℕ) (r : Label) (f : FoundLabel line kind from r) (old new : Builder) (word : ℕ) → word ≡ body_word old.innermost.children r.name → r.name ≡ None → from ≤ r.value → r.value ≤ length line →
@@ -92,7 +103,8 @@ labelled_bare line kind from r f old new word m e o i n w q u =
       opened = q;
       later = u;
       count = ap length n ∙ (sym (add-zero _) ∙ ap (λ (x : Option Name). length old.names.items + length (name_points x [])) (sym bare));
-      names = λ z. ap all_points n ∙ (sym (append-nil _) ∙ ap (λ (x : Option Name). all_points old.names.items ++ name_points x []) (sym bare));
+      names = λ z. ap (spelled_names line) n ∙ (sym (append-nil _) ∙ ap (λ (x : Option Name). spelled_names line old.names.items ++ name_points x []) (sym bare));
+      kept = λ z all. subst (AreKept line) (sym n) all;
     }
 
 -- the turn is behind where the label was read

@@ -1,5 +1,5 @@
 -- Sorted texts are repeated only at neighbours, and sorting repeats none.
-use Rattle.std.proofs.Common.{◌≡◌, ℕ, zero, suc, ◌+◌, ◌<◌, ◌≤◌, inl, inr, ◌↔◌, Bool, true, false, cond, ◌||◌, List, [], ◌∷◌, length, get_or, take, drop, ◌-◌, sym, ◌∙◌, ap, subst, refl, arith, ap₂}
+use Rattle.std.proofs.Common.{◌≡◌, ℕ, zero, suc, ◌+◌, ◌<◌, ◌≤◌, inl, inr, ◌↔◌, Bool, true, false, cond, ◌||◌, List, [], ◌∷◌, length, get_or, sym, ◌∙◌, ap, subst, refl, arith, ap₂}
 use Rattle.std.specs.List.{list_any, sum_by, AllByRecursion}
 use Rattle.std.specs.List.Sorted.{IsPermutation, IsSorted, IsStrictlySortedBy}
 use Rattle.std.specs.Ordering.{nat_cmp, is_eq, is_lt, ordering_reverse}
@@ -7,7 +7,7 @@ use Rattle.std.specs.declared.cmp.Ordering.{Ordering}
 use Rattle.std.specs.declared.cmp.Ordering.TheVariants.{Less, Equal, Greater}
 use Rattle.std.specs.Cmp.Lexicographic.{slice_cmp, nat_list_cmp_total}
 use Rattle.std.proofs.lemmas.Bool.{cases_Bool, or_right}
-use Rattle.std.proofs.lemmas.List.{get_or-map, length-map, drop_more, take_rest}
+use Rattle.std.proofs.lemmas.List.{get_or-map, length-map}
 use Rattle.jp_tape.specs.declared.builder.body.Body.{Body}
 use Rattle.jp_tape.specs.Names.{points, all_points}
 use Rattle.std.proofs.lemmas.List.Sorted.{sum_by-IsPermutation}
@@ -160,33 +160,6 @@ pub few_distinct : (ps : List (List ℕ)) → length ps < 2 → has_repeated ps 
 few_distinct [] l = refl
 few_distinct (x ∷ []) l = refl
 few_distinct (x ∷ y ∷ ys) l = absurd (omega (arith, l))
-
--- ---- one text and those behind it
-equal_turned : (x y : List ℕ) → text_equal x y ≡ text_equal y x
-equal_turned x y =
-    elim (cases_Bool (text_equal x y)) [
-      | inl t ↦ t ∙ sym (same_text y x (sym ((bytes_eq-Decides x y).0 t)))
-      | inr f ↦
-          elim (cases_Bool (text_equal y x)) [
-            | inl t ↦ absurd (clash (text_equal x y) (same_text x y (sym ((bytes_eq-Decides y x).0 t))) f)
-            | inr g ↦ f ∙ sym g
-          ]
-    ]
-
-stands_in : (b : Body) (xs : List Body) → list_any (λ (y : Body). text_equal (points y) (points b)) xs ≡ list_any (text_equal (points b)) (all_points xs)
-stands_in b [] = refl
-stands_in b (x ∷ xs) = ap₂ (λ p q. p || q) (equal_turned (points x) (points b)) (stands_in b xs)
-
--- the first of some bodies, and those behind it
-repeated_at_first : (b : Body) (behind xs : List Body) (r : Bool) → xs ≡ b ∷ behind → r ≡ list_any (λ (y : Body). text_equal (points y) (points b)) behind → has_repeated (all_points xs) ≡ r || has_repeated (all_points behind)
-repeated_at_first b behind xs r e h = ap (λ (zs : List Body). has_repeated (all_points zs)) e ∙ ap (λ p. p || has_repeated (all_points behind)) (sym (h ∙ stands_in b behind))
-
--- the body at a place, and those from the next place on
-pub repeated_from : (xs : List Body) (k j : ℕ) (b : Body) (r : Bool) → j ≡ k + 1 → b ≡ get_or xs k b → k < length xs → r ≡ list_any (λ (y : Body). text_equal (points y) (points b)) (take (length xs - j) (drop j xs)) →
-    has_repeated (all_points (drop k xs)) ≡ r || has_repeated (all_points (drop j xs))
-repeated_from xs k j b r n e l h =
-    let split : drop k xs ≡ b ∷ drop j xs = drop_more xs k b l ∙ ap₂ (λ (x : Body) m. x ∷ drop m xs) (sym e) (sym n) in
-    repeated_at_first b (drop j xs) (drop k xs) r split (h ∙ ap (λ (ys : List Body). list_any (λ (y : Body). text_equal (points y) (points b)) ys) (take_rest xs j))
 
 -- ---- bodies
 pub text_is : (body : List ℕ) → is_text_from body 0 ≡ true → IsText body

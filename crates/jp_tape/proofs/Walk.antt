@@ -2,6 +2,8 @@
 use Rattle.std.proofs.Common.{◌≡◌, ℕ, ◌+◌, ◌-◌, ◌*◌, ◌/◌, ◌<◌, ◌≤◌, max, Bool, true, false, ◌||◌, List, [], ◌∷◌, ◌++◌, length, set, take, drop, sym, ◌∙◌, ap, ap₂, subst, refl, arith, Option, Some, None, append_assoc, append-nil, add-zero, length-append}
 use Rattle.std.specs.List.{take-map, drop-map}
 use Rattle.std.proofs.lemmas.List.{length-take-le}
+use Rattle.std.proofs.lemmas.List.Elements.{All-take, All-drop}
+use Rattle.std.proofs.lemmas.Option.{none-some}
 use Rattle.std.proofs.Math.Seq.{set-append_seam, take-append_seam, drop-append_seam}
 use Rattle.jp_model.specs.declared.Span.{Span}
 use Rattle.jp_model.specs.Json.Places.{White, Has}
@@ -14,8 +16,8 @@ use Rattle.jp_tape.specs.declared.builder.machine.Turn.{Turn}
 use Rattle.jp_tape.specs.declared.builder.machine.Turn.TheVariants as turns
 use Rattle.jp_tape.specs.declared.builder.tokens.Scalar.{Scalar}
 use Rattle.jp_model.proofs.Reader.Leads.{starts_inside}
-use Rattle.jp_tape.specs.Names.{points, all_points}
-use Rattle.jp_tape.specs.declared.builder.body.Body.{Body}
+use Rattle.jp_tape.specs.Names.{spelled_name, spelled_names, IsKept, AreKept}
+use Rattle.jp_tape.specs.declared.builder.kept.KeptName.{KeptName}
 use Rattle.jp_tape.specs.Places.{Stops}
 use Rattle.jp_tape.specs.Reading.{body_of, body_word, code_of, container_if, FoundScalar, NoValue, NoLabel, OnFault}
 use Rattle.jp_model.specs.declared.LineFault.TheVariants as line_faults
@@ -33,11 +35,11 @@ word_of_body index (Some name) = refl
 -- a builder that keeps what is behind the names of open containers, in a state before a value
 abbrev KeepsBefore : List ℕ → Builder → List Frame → Option Name → Type 0
 KeepsBefore line b frames own =
-    Keeps b (open_words frames) (opens frames) (open_depth frames) (open_surrogate frames || name_has_lone_surrogate own) (open_long line frames) (open_names frames ++ name_points own []) (open_duplicate frames)
+    Keeps line b (open_words frames) (opens frames) (open_depth frames) (open_surrogate frames || name_has_lone_surrogate own) (open_long line frames) (open_names frames ++ name_points own []) (open_duplicate frames)
 
 abbrev KeepsBehind : List ℕ → Builder → List Frame → Option Name → Tree → Type 0
 KeepsBehind line b frames own t =
-    Keeps b (open_words frames ++ next_words frames own t) (opens frames) (max (open_depth frames) (length frames + depth t)) ((open_surrogate frames || name_has_lone_surrogate own) || has_surrogate t) (open_long line frames || has_long_exponent line t)
+    Keeps line b (open_words frames ++ next_words frames own t) (opens frames) (max (open_depth frames) (length frames + depth t)) ((open_surrogate frames || name_has_lone_surrogate own) || has_surrogate t) (open_long line frames || has_long_exponent line t)
     (open_names frames ++ name_points own []) (open_duplicate frames || has_duplicate t)
 
 -- the node of a value is written
@@ -65,7 +67,8 @@ keeps_value line frames own t b new ws lone long k w e f g h i = record {
       w.later _ _ _ k.later
       ∙ same_first _ _ _ _ _ _ (ap (λ x. (open_surrogate frames || name_has_lone_surrogate own) || x) g) (ap (λ x. open_long line frames || x) h) (sym (or_false _) ∙ ap (λ x. open_duplicate frames || x) (sym i));
   count = ap length w.names ∙ k.count;
-  names = λ z. ap all_points w.names ∙ k.names (left_false _ _ z);
+  names = λ z. ap (spelled_names line) w.names ∙ k.names (left_false _ _ z);
+  kept = λ z. subst (AreKept line) (sym w.names) (k.kept (left_false _ _ z));
 }
 
 place_is : (line : List ℕ) (frames : List Frame) (own : Option Name) (b : Builder) → KeepsBefore line b frames own → length b.words.items / 3 ≡ open_count frames
@@ -122,7 +125,7 @@ label_is frames b body own e n = ap₂ (λ (i : ℕ) (o : Option Span). body_wor
 
 -- what a label adds
 label_keeps : (line : List ℕ) (kind : Container) (from : ℕ) (turn : Turn) (old new : Builder) (l : Labelled line kind from turn old new) (ws : List ℕ) (os : List Open) (d : ℕ) (lone long : Bool) (ps : List (List ℕ)) (dup : Bool) →
-    Keeps old ws os d lone long ps dup → Keeps new ws os d (lone || name_has_lone_surrogate l.found.name) long (ps ++ name_points l.found.name []) dup
+    Keeps line old ws os d lone long ps dup → Keeps line new ws os d (lone || name_has_lone_surrogate l.found.name) long (ps ++ name_points l.found.name []) dup
 label_keeps line kind from turn old new l ws os d lone long ps dup k = record {
   words = l.words ∙ k.words;
   opened = l.opened ∙ k.opened;
@@ -130,6 +133,7 @@ label_keeps line kind from turn old new l ws os d lone long ps dup k = record {
   later = l.later lone long dup k.later ∙ ap (λ x. first_fault (lone || x) long dup) l.found.surrogate;
   count = l.count ∙ (ap (λ n. n + length (name_points l.found.name [])) k.count ∙ sym (length-append ps (name_points l.found.name [])));
   names = λ z. l.names (l.found.surrogate ∙ right_false _ _ z) ∙ ap (λ x. x ++ name_points l.found.name []) (k.names (left_false _ _ z));
+  kept = λ z. l.kept (l.found.surrogate ∙ right_false _ _ z) (k.kept (left_false _ _ z));
 }
 
 -- a container that would nest too deep is left to another walk
@@ -148,7 +152,7 @@ pub record Entered (b mid : Builder) (at label : ℕ) (kind : Container) : Type 
   pub later : mid.later ≡ b.later
 
 keeps_entered : (line : List ℕ) (frames : List Frame) (own : Option Name) (b mid : Builder) (at label : ℕ) (kind : Container) → KeepsBefore line b frames own → length b.opened.items < 512 → label ≡ label_word (next_index frames) own → Entered b mid at label kind →
-    Keeps mid (open_words (entered kind at own ∷ frames)) (opens (entered kind at own ∷ frames)) (open_depth (entered kind at own ∷ frames)) (open_surrogate (entered kind at own ∷ frames)) (open_long line (entered kind at own ∷ frames)) (open_names (entered kind at own ∷ frames))
+    Keeps line mid (open_words (entered kind at own ∷ frames)) (opens (entered kind at own ∷ frames)) (open_depth (entered kind at own ∷ frames)) (open_surrogate (entered kind at own ∷ frames)) (open_long line (entered kind at own ∷ frames)) (open_names (entered kind at own ∷ frames))
     (open_duplicate (entered kind at own ∷ frames))
 keeps_entered line frames own b mid at label kind k few n e =
     let one : record { place = length b.words.items / 3; start = at; children = 0; names = length b.names.items; is_object = is_object kind } ≡ open_of (entered kind at own) frames =
@@ -159,7 +163,8 @@ keeps_entered line frames own b mid at label kind k few n e =
       shallow = subst (λ x. max (open_depth frames) x ≤ 512) (sym (add-zero (length frames + 1))) (not_too_deep frames _ k.shallow few (outer_count frames b.opened.items b.innermost k.opened));
       later = e.later ∙ (k.later ∙ same_first _ _ _ _ _ _ (sym (or_false _)) (sym (or_false _)) (sym (or_false _)));
       count = ap length e.names ∙ (k.count ∙ ap (λ (x : List (List ℕ)). length x) (sym (append-nil (open_names frames ++ name_points own []))));
-      names = λ z. ap all_points e.names ∙ (k.names (left_false _ _ z) ∙ sym (append-nil (open_names frames ++ name_points own [])));
+      names = λ z. ap (spelled_names line) e.names ∙ (k.names (left_false _ _ z) ∙ sym (append-nil (open_names frames ++ name_points own [])));
+      kept = λ z. subst (AreKept line) (sym e.names) (k.kept (left_false _ _ z));
     }
 
 pub enter_goes_on : (line : List ℕ) (at place label : ℕ) (b mid new : Builder) (turn : Turn) (kind : Container) → Has line at (opening kind) → White line (at + 1) place → Stops line place → (Has line place (closing kind) → ⊥) → length b.opened.items < 512 →
@@ -217,6 +222,16 @@ innermost_names line at b o (After_value (f ∷ frames) own t from) h i =
     let l = length-append (outer_names f frames) (names (with_child f own t)) in
     omega (arith, p, n, l)
 
+-- where no fault is noted, its names are known
+first_lone : (lone too_long repeated : Bool) → None ≡ first_fault lone too_long repeated → lone ≡ false
+first_lone true too_long repeated e = absurd (none-some _ e)
+first_lone false too_long repeated e = refl
+
+pub innermost_kept : (line : List ℕ) (at : ℕ) (b : Builder) (n : ℕ) (x : State) → BuilderStands line (turns.After at) b x → b.later ≡ None → AreKept line (drop n b.names.items)
+innermost_kept line at b n (Value_at frames own from) h e = absurd h
+innermost_kept line at b n (Finished t) h e = absurd h
+innermost_kept line at b n (After_value frames own t from) h e = All-drop (IsKept line) n b.names.items (h.2.kept (first_lone _ _ _ (sym e ∙ h.2.later)))
+
 -- how many children it has
 pub innermost_children : (line : List ℕ) (at : ℕ) (b : Builder) (o : Open) (x : State) → BuilderStands line (turns.After at) b x → IsInnermost o x → 3 * (o.children + 1) ≤ length b.words.items
 innermost_children line at b o (Value_at frames own from) h i = absurd h
@@ -238,14 +253,15 @@ counted_open f frames own t b mid k c =
     ap₂ (λ (xs : List Open) (x : Open). xs ++ x ∷ []) (c.opened ∙ outer) counted
 
 keeps_grown : (line : List ℕ) (f : Frame) (frames : List Frame) (own : Option Name) (t : Tree) (b mid : Builder) → KeepsBehind line b (f ∷ frames) own t → IsCounted b mid →
-    Keeps mid (open_words (grown f own t ∷ frames)) (opens (grown f own t ∷ frames)) (open_depth (grown f own t ∷ frames)) (open_surrogate (grown f own t ∷ frames)) (open_long line (grown f own t ∷ frames)) (open_names (grown f own t ∷ frames)) (open_duplicate (grown f own t ∷ frames))
+    Keeps line mid (open_words (grown f own t ∷ frames)) (opens (grown f own t ∷ frames)) (open_depth (grown f own t ∷ frames)) (open_surrogate (grown f own t ∷ frames)) (open_long line (grown f own t ∷ frames)) (open_names (grown f own t ∷ frames)) (open_duplicate (grown f own t ∷ frames))
 keeps_grown line f frames own t b mid k c = record {
   words = c.words ∙ (k.words ∙ grown_tail f frames own t);
   opened = counted_open f frames own t b mid k.opened c;
   shallow = subst (λ d. d ≤ 512) (grown_depth f frames own t) k.shallow;
   later = c.later ∙ (k.later ∙ same_first _ _ _ _ _ _ (grown_surrogate f frames own t) (grown_long line f frames own t) (grown_duplicate f frames own t));
   count = ap length c.names ∙ (k.count ∙ ap (λ (ps : List (List ℕ)). length ps) (grown_names f frames own t));
-  names = λ z. ap all_points c.names ∙ (k.names (grown_surrogate f frames own t ∙ z) ∙ grown_names f frames own t);
+  names = λ z. ap (spelled_names line) c.names ∙ (k.names (grown_surrogate f frames own t ∙ z) ∙ grown_names f frames own t);
+  kept = λ z. subst (AreKept line) (sym c.names) (k.kept (grown_surrogate f frames own t ∙ z));
 }
 
 pub comma_goes_on : (line : List ℕ) (at next from : ℕ) (b mid new : Builder) (turn : Turn) (o : Open) → White line at next → Has line next 0x2C → White line (next + 1) from → Stops line from → IsCounted b mid →
@@ -312,13 +328,13 @@ closed_words f frames own t o end old new parent e i p n =
     (head_word (container_code f.kind) (children_node_count (with_child f own t)) (next_parent frames)) (span_word (record { start = f.start; end = end })) 0 0)
 
 -- the names of the container go, and those outside stay
-names_stay : (outer inner : List (List ℕ)) (bodies : List Body) (n : ℕ) → n ≡ length outer → all_points bodies ≡ outer ++ inner → all_points (take n bodies) ≡ outer
-names_stay outer inner bodies n e h = sym (take-map points n bodies) ∙ (ap₂ (λ m (xs : List (List ℕ)). take m xs) e h ∙ take-append_seam outer inner)
+names_stay : (line : List ℕ) (outer inner : List (List ℕ)) (bodies : List KeptName) (n : ℕ) → n ≡ length outer → spelled_names line bodies ≡ outer ++ inner → spelled_names line (take n bodies) ≡ outer
+names_stay line outer inner bodies n e h = sym (take-map (spelled_name line) n bodies) ∙ (ap₂ (λ m (xs : List (List ℕ)). take m xs) e h ∙ take-append_seam outer inner)
 
-names_go : (outer inner : List (List ℕ)) (bodies : List Body) (n : ℕ) → n ≡ length outer → all_points bodies ≡ outer ++ inner → all_points (drop n bodies) ≡ inner
-names_go outer inner bodies n e h = sym (drop-map points n bodies) ∙ (ap₂ (λ m (xs : List (List ℕ)). drop m xs) e h ∙ drop-append_seam outer inner)
+names_go : (line : List ℕ) (outer inner : List (List ℕ)) (bodies : List KeptName) (n : ℕ) → n ≡ length outer → spelled_names line bodies ≡ outer ++ inner → spelled_names line (drop n bodies) ≡ inner
+names_go line outer inner bodies n e h = sym (drop-map (spelled_name line) n bodies) ∙ (ap₂ (λ m (xs : List (List ℕ)). drop m xs) e h ∙ drop-append_seam outer inner)
 
-pub close_goes_on : (line : List ℕ) (at next : ℕ) (b new : Builder) (o : Open) → White line at next → Has line next (closing (container_if o.is_object)) → IsClosed o (next + 1) b new →
+pub close_goes_on : (line : List ℕ) (at next : ℕ) (b new : Builder) (o : Open) → White line at next → Has line next (closing (container_if o.is_object)) → IsClosed line o (next + 1) b new →
     (x : State) → BuilderStands line (turns.After at) b x → IsInnermost o x → GoesOn line x (turns.After (next + 1)) new
 close_goes_on line at next b new o w c r (Value_at frames own y) h i = absurd h
 close_goes_on line at next b new o w c r (Finished t) h i = absurd h
@@ -346,10 +362,11 @@ close_goes_on line at next b new o w c r (After_value (f ∷ frames) own t y) h 
           later =
               r.later _ _ _ (k.later ∙ same_first _ _ _ _ _ _ lone (grown_long line f frames own t) (grown_duplicate f frames own t))
               ∙ lone_first _ _ _ _ (λ z.
-              ap (λ (ps : List (List ℕ)). (open_duplicate frames || children_have_duplicate all) || has_repeated ps) (names_go outer (names all) b.names.items o.names base (k_names z))
+              ap (λ (ps : List (List ℕ)). (open_duplicate frames || children_have_duplicate all) || has_repeated ps) (names_go line outer (names all) b.names.items o.names base (k_names z))
               ∙ or_swap (open_duplicate frames) (children_have_duplicate all) (has_repeated (names all)));
           count = ap length r.names ∙ (length-take-le o.names b.names.items (innermost_names line at b o (After_value (f ∷ frames) own t y) h i) ∙ base);
-          names = λ z. ap all_points r.names ∙ names_stay outer (names all) b.names.items o.names base (k_names z);
+          names = λ z. ap (spelled_names line) r.names ∙ names_stay line outer (names all) b.names.items o.names base (k_names z);
+          kept = λ z. subst (AreKept line) (sym r.names) (All-take (IsKept line) o.names b.names.items (k.kept (lone ∙ z)));
         },
       );
       alike = subst (λ z. Alike line (After_value (f ∷ frames) own t z) (After_value frames f.name closed (next + 1))) h.0
@@ -367,7 +384,7 @@ end_goes_on line at b w z (After_value [] own t y) h =
     let k : KeepsBehind line b [] None t = subst (λ o. KeepsBehind line b [] o t) h.1 h.2 in
     record {
       next = Finished t;
-      stands = record { words = k.words; opened = k.opened; shallow = subst (λ d. d ≤ 512) (root_depth (depth t)) k.shallow; later = k.later; count = k.count; names = k.names };
+      stands = record { words = k.words; opened = k.opened; shallow = subst (λ d. d ≤ 512) (root_depth (depth t)) k.shallow; later = k.later; count = k.count; names = k.names; kept = k.kept };
       alike = subst (λ z. Alike line (After_value [] own t z) (Finished t)) h.0 (end_step line own t at w);
     }
 

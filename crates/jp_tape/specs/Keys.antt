@@ -2,7 +2,8 @@
 use Rattle.std.specs.Prelude.{◌≡◌, ◌<◌, ◌+◌, ◌-◌, ◌*◌, ◌^◌, ◌/◌, ◌%◌, ◌++◌, ◌∷◌, [], ℕ, List, length, map, get_or, take, drop, replicate, cond, nat_lt, Bool, false, ◌==◌}
 use Rattle.std.specs.Int.{w64, from_le_bytes}
 use Rattle.jp_model.specs.Json.Faults.{has_repeated}
-use Rattle.jp_tape.specs.declared.builder.body.Body.{Body}
+use Rattle.jp_tape.specs.declared.builder.kept.KeptName.{KeptName}
+use Rattle.jp_tape.specs.Names.{bytes_of}
 
 -- the eight bytes at a place as a number
 unfoldable pub word_at : List ℕ → ℕ → ℕ
@@ -20,9 +21,9 @@ place_of bytes = (length bytes % 64 + get_or bytes 0 0) % 64
 unfoldable pub other_place_of : List ℕ → ℕ
 other_place_of bytes = (length bytes % 64 * 4 + 3 * get_or bytes (length bytes - 1) 0 + get_or bytes (length bytes / 2) 0) % 64
 
--- the keys of bodies
-abbrev pub keys_of : List Body → List ℕ
-keys_of bodies = map (λ (b : Body). key_of b.bytes.now) bodies
+-- the keys of a line's names
+abbrev pub keys_of : List ℕ → List KeptName → List ℕ
+keys_of line names = map (λ (n : KeptName). key_of (bytes_of line n)) names
 
 -- one of 2^16 slots for a key
 unfoldable pub slot_of : ℕ → ℕ

@@ -13,7 +13,7 @@ use Rattle.jp_tape.specs.declared.builder.machine.Turn.TheVariants as turns
 use Rattle.jp_tape.specs.Words.{children_node_count, label_word, words_from, children_words, tape_words, head_word, container_code, span_word}
 use Rattle.jp_tape.specs.declared.builder.tokens.Label.{Label}
 use Rattle.jp_tape.specs.Reading.{body_word, container_if, FoundLabel}
-use Rattle.jp_tape.specs.Names.{all_points}
+use Rattle.jp_tape.specs.Names.{spelled_names, AreKept}
 
 -- a container that is open: where it begins, its own name, and its children so far
 pub record Frame : Type 0 where
@@ -127,13 +127,14 @@ abbrev pub first_fault : (lone too_long repeated : Bool) → Option LineFault
 first_fault lone too_long repeated = cond lone (Some line_faults.Surrogate) (cond too_long (Some line_faults.Number) (cond repeated (Some line_faults.Duplicate) None))
 
 -- what the builder holds. The names are known, and compared, only as long as no surrogate stands alone.
-pub record Keeps (b : Builder) (ws : List ℕ) (os : List Open) (d : ℕ) (lone too_long : Bool) (ps : List (List ℕ)) (repeated : Bool) : Type 0 where
+pub record Keeps (line : List ℕ) (b : Builder) (ws : List ℕ) (os : List Open) (d : ℕ) (lone too_long : Bool) (ps : List (List ℕ)) (repeated : Bool) : Type 0 where
   pub words : b.words.items ≡ ws
   pub opened : held b ≡ no_container ∷ os
   pub shallow : d ≤ 512
   pub later : b.later ≡ first_fault lone too_long repeated
   pub count : length b.names.items ≡ length ps
-  pub names : lone ≡ false → all_points b.names.items ≡ ps
+  pub names : lone ≡ false → spelled_names line b.names.items ≡ ps
+  pub kept : lone ≡ false → AreKept line b.names.items
 
 -- the builder has read nothing of a line
 pub record IsFresh (b : Builder) : Type 0 where
@@ -144,16 +145,16 @@ pub record IsFresh (b : Builder) : Type 0 where
 
 -- the builder holds a whole tree
 abbrev pub IsFinished : List ℕ → Builder → Tree → Type 0
-IsFinished line b t = Keeps b (tape_words t) [] (depth t) (has_surrogate t) (has_long_exponent line t) [] (has_duplicate t)
+IsFinished line b t = Keeps line b (tape_words t) [] (depth t) (has_surrogate t) (has_long_exponent line t) [] (has_duplicate t)
 
 -- what the builder holds stands for the state
 abbrev pub BuilderStands : List ℕ → Turn → Builder → State → Type 0
 BuilderStands line (turns.Value label at) b (Value_at frames own from) =
     (label ≡ label_word (next_index frames) own) × (at ≡ from) × NoRootName frames own
-    × Keeps b (open_words frames) (opens frames) (open_depth frames) (open_surrogate frames || name_has_lone_surrogate own) (open_long line frames) (open_names frames ++ name_points own []) (open_duplicate frames)
+    × Keeps line b (open_words frames) (opens frames) (open_depth frames) (open_surrogate frames || name_has_lone_surrogate own) (open_long line frames) (open_names frames ++ name_points own []) (open_duplicate frames)
 BuilderStands line (turns.After at) b (After_value frames own t from) =
     (at ≡ from) × NoRootName frames own
-    × Keeps b (open_words frames ++ words_from (open_count frames) (next_parent frames) (next_index frames) own t) (opens frames) (max (open_depth frames) (length frames + depth t)) ((open_surrogate frames || name_has_lone_surrogate own) || has_surrogate t) (open_long line frames || has_long_exponent line t)
+    × Keeps line b (open_words frames ++ words_from (open_count frames) (next_parent frames) (next_index frames) own t) (opens frames) (max (open_depth frames) (length frames + depth t)) ((open_surrogate frames || name_has_lone_surrogate own) || has_surrogate t) (open_long line frames || has_long_exponent line t)
     (open_names frames ++ name_points own []) (open_duplicate frames || has_duplicate t)
 BuilderStands line (turns.TooDeep at flag) b (Value_at frames own from) =
     (at ≡ from) × Has line at (opening (container_if flag)) × (512 ≤ length frames) × (held b ≡ no_container ∷ opens frames)
@@ -229,7 +230,8 @@ pub record Labelled (line : List ℕ) (kind : Container) (from : ℕ) (turn : Tu
   pub opened : held new ≡ held old
   pub later : (lone too_long repeated : Bool) → old.later ≡ first_fault lone too_long repeated → new.later ≡ first_fault (lone || label.is_lone) too_long repeated
   pub count : length new.names.items ≡ length old.names.items + length (name_points found.name [])
-  pub names : label.is_lone ≡ false → all_points new.names.items ≡ all_points old.names.items ++ name_points found.name []
+  pub names : label.is_lone ≡ false → spelled_names line new.names.items ≡ spelled_names line old.names.items ++ name_points found.name []
+  pub kept : label.is_lone ≡ false → AreKept line old.names.items → AreKept line new.names.items
 
 -- one more child of the innermost container was read
 pub record IsCounted (old new : Builder) : Type 0 where
@@ -250,8 +252,8 @@ abbrev pub BuilderHolds : List ℕ → Turn → Builder → Type 0
 BuilderHolds line turn b = (x : State) × BuilderStands line turn b x
 
 -- the innermost container is closed
-pub record IsClosed (container : Open) (end : ℕ) (old new : Builder) : Type 0 where
+pub record IsClosed (line : List ℕ) (container : Open) (end : ℕ) (old new : Builder) : Type 0 where
   pub words : new.words.items ≡ slice_set (slice_set old.words.items (3 * container.place) (head_word (container_code (container_if container.is_object)) (length old.words.items / 3 - container.place - 1) new.innermost.place)) (3 * container.place + 1) (span_word (record { start = container.start; end = end }))
   pub opened : held new ≡ old.opened.items
-  pub later : (lone too_long repeated : Bool) → old.later ≡ first_fault lone too_long repeated → new.later ≡ first_fault lone too_long (repeated || has_repeated (all_points (drop container.names old.names.items)))
+  pub later : (lone too_long repeated : Bool) → old.later ≡ first_fault lone too_long repeated → new.later ≡ first_fault lone too_long (repeated || has_repeated (spelled_names line (drop container.names old.names.items)))
   pub names : new.names.items ≡ take container.names old.names.items

@@ -60,7 +60,7 @@ fn is_truncated(words: &[u64], line: &[u8], framing: Framing) -> bool
 }
 
 /// The first fault of a line that was read.
-fn fault_of(builder: &Builder<'_>, line: &[u8], framing: Framing) -> Option<LineFault>
+fn fault_of(builder: &Builder, line: &[u8], framing: Framing) -> Option<LineFault>
     requires room { length line.now < 2 ^ 32 }
     requires text { (t : Tree) × Text line.now t × IsFinished line.now builder.now t }
     ensures { (t : Tree) → Text line.now t → IsFinished line.now builder.now t → result ≡ fault_of_tree framing line.now t }
@@ -135,7 +135,7 @@ fn append_wide(words: &mut Vec<u64>, tapes: &mut Vec<u64>) -> Result<(), AllocEr
     tapes.extend_from_slice(words)
 }
 
-impl<'a> Builder<'a> {
+impl Builder {
     /// Appends the words of the line that was read, with so many bits to a half.
     fn append_words(&mut self, bits: u32, tapes: &mut Vec<u64>) -> Result<(), AllocError>
         ensures added { OnOk result (tapes.new.items ≡ tapes.old.items ++ packed bits self.old.words.items) }
@@ -153,8 +153,8 @@ impl<'a> Builder<'a> {
     /// Reads a line, or finds its first fault. The words are then those of the line's tape.
     fn read(
         &mut self,
-        line: &'a [u8],
-        marks: &'a [u32],
+        line: &[u8],
+        marks: &[u32],
         is_utf8: bool,
         framing: Framing,
     ) -> Result<(), BuildFault>
@@ -184,8 +184,8 @@ impl<'a> Builder<'a> {
     /// The line's first fault, as the function `build` gives it, or out of memory. Then nothing is appended.
     pub fn append(
         &mut self,
-        line: &'a [u8],
-        marks: &'a [u32],
+        line: &[u8],
+        marks: &[u32],
         is_utf8: bool,
         framing: Framing,
         tapes: &mut Vec<u64>,

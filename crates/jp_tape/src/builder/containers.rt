@@ -8,12 +8,13 @@ ghost use Rattle.jp_model.specs.Json.Status.{IsNoText};
 ghost use Rattle.jp_tape.specs.Places.{Stops};
 ghost use Rattle.jp_tape.specs.Ahead.{HasRoom, IsAhead, IsAheadOf, IsNext, IsPassed, first_or, name_marks};
 ghost use Rattle.jp_tape.specs.Reading.{IsReadable, container_if, FoundLabel, IsPlainLabel, NoLabel, OnFault};
+ghost use Rattle.jp_tape.specs.Names.{AreKept};
 ghost use Rattle.jp_tape.specs.Machine.{BuilderSteps, NoBuilderStep, WalkReached, IsWithin, IsBehind, IsSettled, Labelled, IsCounted, IsClosed, BuilderHolds};
 ghost use Rattle.jp_tape.specs.declared.builder.machine.Open.{Open};
 ghost use Rattle.jp_tape.specs.declared.builder.machine.Turn.TheVariants as turns;
 
 use super::BuildFault;
-use super::kept::kept_body;
+use super::kept::KeptName;
 use super::machine::{Builder, GRAMMAR, MOST_DEPTH, Open, Turn, closing_of, note};
 use super::names::has_equal;
 use super::node::{container_kind, head, label_to_word, span_to_word, write_node};
@@ -32,26 +33,26 @@ fn leave(opened: &mut Vec<Open>, innermost: &mut Open)
     }
 }
 
-impl<'a> Builder<'a> {
+impl Builder {
     /// Keeps the name that comes before a child's value.
     #[inline(always)]
-    fn keep_label(&mut self, line: &'a [u8], label: Label) -> Turn
+    fn keep_label(&mut self, line: &[u8], marks: &mut &[u32], label: Label) -> Turn
         requires within { label.value ≤ length line.now }
         requires room { length line.now < 2 ^ 32 }
         requires found { (kind : Container) × (from : ℕ) × FoundLabel line.now kind from label }
         requires plain { IsPlainLabel line.now label }
-        requires ahead { IsPassed line.now self.old.marks.now (name_marks label.name) label.value }
-        requires first { label.value ≡ first_or (drop (name_marks label.name) self.old.marks.now) (length line.now) }
+        requires ahead { IsPassed line.now marks.old.now (name_marks label.name) label.value }
+        requires first { label.value ≡ first_or (drop (name_marks label.name) marks.old.now) (length line.now) }
         requires spare { HasRoom self.old 0 1 }
         ensures found { (kind : Container) (from : ℕ) → FoundLabel line.now kind from label → from ≤ label.value → Labelled line.now kind from result self.old self.new }
-        ensures ahead { (n : ℕ) → HasRoom self.old n (suc n) → IsAheadOf line.now n result self.new }
+        ensures ahead { (n : ℕ) → HasRoom self.old n (suc n) → IsAheadOf line.now n result marks.new.now self.new }
     {
         let word = label_to_word(label.name, self.innermost.children);
         note(&mut self.later, label.is_lone, false);
-        if let Some(span) = label.name {
-            self.marks = marks_behind(self.marks, 3);
-            let body = kept_body(line, span, label.is_lone, label.is_plain);
-            self.names.push_reserved(body);
+        if let Some(body) = label.name {
+            *marks = marks_behind(*marks, 3);
+            let is_plain = label.is_plain;
+            self.names.push_reserved(KeptName { body, is_plain });
         }
         Turn::Value(word, label.value)
     }
@@ -60,25 +61,26 @@ impl<'a> Builder<'a> {
     #[inline(always)]
     fn child_begin(
         &mut self,
-        line: &'a [u8],
+        line: &[u8],
         escape: usize,
+        marks: &mut &[u32],
         is_object: bool,
         from: usize,
     ) -> Result<Turn, BuildFault>
         requires line { IsReadable line.now escape }
         requires within { from ≤ length line.now }
         requires stops { Stops line.now from }
-        requires ahead { IsNext line.now from self.old.marks.now }
+        requires ahead { IsNext line.now from marks.old.now }
         requires spare { HasRoom self.old 0 1 }
         ensures found { IfOk result (λ turn. Labelled line.now (container_if is_object) from turn self.old self.new) }
-        ensures ahead { (n : ℕ) → HasRoom self.old n (suc n) → IfOk result (λ turn. IsAheadOf line.now n turn self.new) }
+        ensures ahead { (n : ℕ) → HasRoom self.old n (suc n) → IfOk result (λ turn. IsAheadOf line.now n turn marks.new.now self.new) }
         ensures stuck { IfErr result (λ fault. OnFault fault (NoLabel line.now (container_if is_object) from)) }
     {
         if !is_object {
-            return Ok(self.keep_label(line, no_name(from)));
+            return Ok(self.keep_label(line, marks, no_name(from)));
         }
-        match name_at(line, escape, self.marks, from) {
-            Some(label) => Ok(self.keep_label(line, label)),
+        match name_at(line, escape, *marks, from) {
+            Some(label) => Ok(self.keep_label(line, marks, label)),
             None => Err(GRAMMAR),
         }
     }
@@ -87,8 +89,9 @@ impl<'a> Builder<'a> {
     #[inline(always)]
     pub(super) fn container_begin(
         &mut self,
-        line: &'a [u8],
+        line: &[u8],
         escape: usize,
+        marks: &mut &[u32],
         at: usize,
         is_object: bool,
         label: u64,
@@ -96,20 +99,20 @@ impl<'a> Builder<'a> {
         requires line { IsReadable line.now escape }
         requires opens { Has line.now at (opening (container_if is_object)) }
         requires few { length self.old.words.items ≤ 3 * at }
-        requires ahead { IsAheadOf line.now 1 (turns.Value label at) self.old }
+        requires ahead { IsAheadOf line.now 1 (turns.Value label at) marks.old.now self.old }
         ensures goes_on { IfOk result (λ turn. BuilderSteps line.now (turns.Value label at) self.old turn self.new) }
         ensures behind { IfOk result (λ turn. IsBehind line.now at turn self.new) }
-        ensures ahead { (n : ℕ) → HasRoom self.old (suc n) (suc n) → IfOk result (λ turn. IsAheadOf line.now n turn self.new) }
+        ensures ahead { (n : ℕ) → HasRoom self.old (suc n) (suc n) → IfOk result (λ turn. IsAheadOf line.now n turn marks.new.now self.new) }
         ensures stuck { IfErr result (λ fault. OnFault fault (NoBuilderStep line.now (turns.Value label at) self.old)) }
     {
         if self.opened.len() >= MOST_DEPTH {
             return Ok(Turn::TooDeep(at, is_object));
         }
-        self.marks = marks_behind(self.marks, 1);
-        let inside = next_token(line, self.marks, at + 1);
+        *marks = marks_behind(*marks, 1);
+        let inside = next_token(line, *marks, at + 1);
         let place = self.words.len() / 3;
         if is_at(line, inside, closing_of(is_object)) {
-            self.marks = marks_behind(self.marks, 1);
+            *marks = marks_behind(*marks, 1);
             let span = span_to_word(at as u32, (inside + 1) as u32);
             let head = head(container_kind(is_object), 0, self.innermost.place);
             write_node(&mut self.words, head, span, label);
@@ -128,26 +131,26 @@ impl<'a> Builder<'a> {
         }
         self.opened.push_reserved(self.innermost);
         self.innermost = container;
-        self.child_begin(line, escape, is_object, inside)
+        self.child_begin(line, escape, marks, is_object, inside)
     }
 
     /// Closes the innermost container, which ends before `end`.
     #[inline(always)]
-    fn close(&mut self, end: usize) -> Result<(), BuildFault>
+    fn close(&mut self, line: &[u8], end: usize) -> Result<(), BuildFault>
         requires place { 3 * self.old.innermost.place + 2 < length self.old.words.items }
         requires last { 0 < length self.old.opened.items }
         requires names { self.old.innermost.names ≤ length self.old.names.items }
+        requires kept { self.old.later ≡ None → AreKept line.now (drop self.old.innermost.names self.old.names.items) }
         requires few { length self.old.words.items < 3 * end }
         requires room { end < 2 ^ 32 }
-        ensures closed { IfOk result (λ _. IsClosed self.old.innermost end self.old self.new) }
-        ensures marks { IfOk result (λ _. self.new.marks.now ≡ self.old.marks.now) }
+        ensures closed { IfOk result (λ _. IsClosed line.now self.old.innermost end self.old self.new) }
         ensures spare { IfOk result (λ _. (node_count name_count : ℕ) → HasRoom self.old node_count name_count → HasRoom self.new node_count name_count) }
         ensures memory { IfErr result (λ fault. OnFault fault ⊥) }
     {
         let container = self.innermost;
         if self.later.is_none() {
-            let Ok(is_repeated) = has_equal(&mut self.names[container.names..], &mut self.keys)
-            else {
+            let names = &self.names[container.names..];
+            let Ok(is_repeated) = has_equal(line, names, &mut self.keys, self.alloc) else {
                 return Err(BuildFault::Memory);
             };
             if is_repeated {
@@ -169,7 +172,6 @@ impl<'a> Builder<'a> {
         requires room { self.old.innermost.children + 1 < 2 ^ 32 }
         ensures counted { IsCounted self.old self.new }
         ensures spare { (node_count name_count : ℕ) → HasRoom self.old node_count name_count → HasRoom self.new node_count name_count }
-        ensures marks { self.new.marks.now ≡ self.old.marks.now }
     {
         self.innermost.children += 1;
     }
@@ -178,8 +180,9 @@ impl<'a> Builder<'a> {
     #[inline(always)]
     pub(super) fn container_continue(
         &mut self,
-        line: &'a [u8],
+        line: &[u8],
         escape: usize,
+        marks: &mut &[u32],
         at: usize,
         next: usize,
     ) -> Result<Turn, BuildFault>
@@ -187,12 +190,12 @@ impl<'a> Builder<'a> {
         requires white { White line.now at next }
         requires stops { Stops line.now next }
         requires few { length self.old.words.items ≤ 3 * at }
-        requires ahead { IsAhead line.now next self.old.marks.now }
+        requires ahead { IsAhead line.now next marks.old.now }
         requires spare { HasRoom self.old 0 1 }
         requires holds { BuilderHolds line.now (turns.After at) self.old }
         ensures goes_on { IfOk result (λ turn. BuilderSteps line.now (turns.After at) self.old turn self.new) }
         ensures behind { IfOk result (λ turn. IsBehind line.now at turn self.new) }
-        ensures ahead { (n : ℕ) → HasRoom self.old n (suc n) → IfOk result (λ turn. IsAheadOf line.now n turn self.new) }
+        ensures ahead { (n : ℕ) → HasRoom self.old n (suc n) → IfOk result (λ turn. IsAheadOf line.now n turn marks.new.now self.new) }
         ensures stuck { IfErr result (λ fault. OnFault fault (NoBuilderStep line.now (turns.After at) self.old)) }
     {
         if self.opened.is_empty() {
@@ -204,16 +207,16 @@ impl<'a> Builder<'a> {
         }
         let is_object = self.innermost.is_object;
         if is_at(line, next, b',') {
-            self.marks = marks_behind(self.marks, 1);
+            *marks = marks_behind(*marks, 1);
             self.count_child();
-            let child = next_token(line, self.marks, next + 1);
-            return self.child_begin(line, escape, is_object, child);
+            let child = next_token(line, *marks, next + 1);
+            return self.child_begin(line, escape, marks, is_object, child);
         }
         if !is_at(line, next, closing_of(is_object)) {
             return Err(GRAMMAR);
         }
-        self.marks = marks_behind(self.marks, 1);
-        match self.close(next + 1) {
+        *marks = marks_behind(*marks, 1);
+        match self.close(line, next + 1) {
             Ok(()) => Ok(Turn::After(next + 1)),
             Err(fault) => Err(fault),
         }
@@ -223,24 +226,25 @@ impl<'a> Builder<'a> {
     #[inline(always)]
     pub(super) fn until_value(
         &mut self,
-        line: &'a [u8],
+        line: &[u8],
         escape: usize,
+        marks: &mut &[u32],
         from: Turn,
     ) -> Result<Turn, BuildFault>
         requires line { IsReadable line.now escape }
         requires reached { WalkReached line.now from self.old }
         requires within { IsWithin line.now from self.old }
-        requires ahead { IsAheadOf line.now 0 from self.old }
+        requires ahead { IsAheadOf line.now 0 from marks.old.now self.old }
         ensures reached { IfOk result (λ turn. WalkReached line.now turn self.new) }
         ensures behind { IfOk result (λ turn. (k : ℕ) → IsBehind line.now k from self.old → IsBehind line.now k turn self.new) }
-        ensures ahead { (n : ℕ) → IsAheadOf line.now n from self.old → IfOk result (λ turn. IsAheadOf line.now n turn self.new) }
+        ensures ahead { (n : ℕ) → IsAheadOf line.now n from marks.old.now self.old → IfOk result (λ turn. IsAheadOf line.now n turn marks.new.now self.new) }
         ensures settled { IfOk result IsSettled }
         ensures refused { IfErr result (λ fault. OnFault fault (IsNoText line.now)) }
     {
         let mut turn = from;
         while let Turn::After(at) = turn {
-            let next = next_token(line, self.marks, at);
-            turn = self.container_continue(line, escape, at, next)?;
+            let next = next_token(line, *marks, at);
+            turn = self.container_continue(line, escape, marks, at, next)?;
         }
         Ok(turn)
     }

@@ -2,11 +2,11 @@
 
 ghost use Rattle.std.specs.Prelude.{◌≡◌, ◌<◌, ◌≤◌, ◌+◌, ◌-◌, ◌++◌, [], length, replicate, IsTrue, IfOk, false, All};
 ghost use Rattle.jp_model.specs.Json.Faults.{has_repeated};
-ghost use Rattle.jp_tape.specs.declared.builder.body.Body.{Body};
-ghost use Rattle.jp_tape.specs.Names.{all_points};
+ghost use Rattle.jp_tape.specs.declared.builder.kept.KeptName.{KeptName};
+ghost use Rattle.jp_tape.specs.Names.{spelled_names, AreKept};
 ghost use Rattle.jp_tape.specs.Keys.{word_at as the_word, key_of, keys_of, place_of, other_place_of, slot_of, hit_again, shares_slot, AreApart, AreHit};
 
-use super::body::Body;
+use super::kept::KeptName;
 use std::alloc::{AllocError, Global};
 
 /// The eight bytes at a place.
@@ -68,17 +68,18 @@ fn place(bytes: &[u8]) -> usize
     (bytes.len() % 64 + first) % 64
 }
 
-/// Whether each body has a place of its own, so that they differ. Where it says no, they may differ still.
-pub(super) fn have_own_places(bodies: &[Body<'_>]) -> bool
-    ensures { IsTrue result → has_repeated (all_points bodies.now) ≡ false }
+/// Whether each name has a place of its own, so that they differ. Where it says no, they may differ still.
+pub(super) fn have_own_places(line: &[u8], names: &[KeptName]) -> bool
+    requires { AreKept line.now names.now }
+    ensures { IsTrue result → has_repeated (spelled_names line.now names.now) ≡ false }
 {
     let mut taken = [false; 64];
-    let mut left = bodies.len();
+    let mut left = names.len();
     while left > 0 {
         left -= 1;
-        let body = &bodies[left];
-        let place = place(body.bytes);
-        if !body.is_plain || taken[place] {
+        let name = names[left];
+        let place = place(name.bytes(line));
+        if !name.is_plain || taken[place] {
             return false;
         }
         taken[place] = true;
@@ -101,19 +102,21 @@ fn other_place(bytes: &[u8]) -> usize
     (bytes.len() % 64 * 4 + 3 * last + middle) % 64
 }
 
-/// Whether each body has one of two places of its own, so that they differ. Where it says no, they may differ still.
-pub(super) fn have_one_of_two_places(bodies: &[Body<'_>]) -> bool
-    ensures { IsTrue result → has_repeated (all_points bodies.now) ≡ false }
+/// Whether each name has one of two places of its own, so that they differ. Where it says no, they may differ still.
+pub(super) fn have_one_of_two_places(line: &[u8], names: &[KeptName]) -> bool
+    requires { AreKept line.now names.now }
+    ensures { IsTrue result → has_repeated (spelled_names line.now names.now) ≡ false }
 {
     let mut taken = [false; 64];
     let mut others_taken = [false; 64];
-    let mut left = bodies.len();
+    let mut left = names.len();
     while left > 0 {
         left -= 1;
-        let body = &bodies[left];
-        let place = place(body.bytes);
-        let other = other_place(body.bytes);
-        if !body.is_plain || taken[place] && others_taken[other] {
+        let name = names[left];
+        let bytes = name.bytes(line);
+        let place = place(bytes);
+        let other = other_place(bytes);
+        if !name.is_plain || taken[place] && others_taken[other] {
             return false;
         }
         taken[place] = true;
@@ -135,18 +138,19 @@ fn are_apart(keys: &mut [u64]) -> bool
     true
 }
 
-/// Puts the keys of bodies in a list, and returns whether each character stands for itself in all of them.
-fn push_keys(bodies: &[Body<'_>], keys: &mut Vec<u64>) -> Result<bool, AllocError>
-    requires { keys.old.items ≡ [] }
-    ensures keys { IfOk result (λ are_plain. IsTrue are_plain → keys.new.items ≡ keys_of bodies.now) }
-    ensures plain { IfOk result (λ are_plain. IsTrue are_plain → All (λ (b : Body). IsTrue b.is_plain) bodies.now) }
+/// Puts the keys of names in a list, and returns whether each character stands for itself in all of them.
+fn push_keys(line: &[u8], names: &[KeptName], keys: &mut Vec<u64>) -> Result<bool, AllocError>
+    requires kept { AreKept line.now names.now }
+    requires none { keys.old.items ≡ [] }
+    ensures keys { IfOk result (λ are_plain. IsTrue are_plain → keys.new.items ≡ keys_of line.now names.now) }
+    ensures plain { IfOk result (λ are_plain. IsTrue are_plain → All (λ (n : KeptName). IsTrue n.is_plain) names.now) }
 {
-    keys.reserve(bodies.len())?;
-    for body in bodies {
-        if !body.is_plain {
+    keys.reserve(names.len())?;
+    for name in names {
+        if !name.is_plain {
             return Ok(false);
         }
-        keys.push(key(body.bytes))?;
+        keys.push(key(name.bytes(line)))?;
     }
     Ok(true)
 }
@@ -230,15 +234,20 @@ fn list_doubtful(keys: &[u64], hits: &[u8], doubtful: &mut Vec<u64>) -> Result<(
     Ok(())
 }
 
-/// Whether the bodies differ, judged by their keys. Where it says no, they may differ still. `memory` is lent.
-pub(super) fn are_distinct(bodies: &[Body<'_>], memory: &mut Keys) -> Result<bool, AllocError>
-    ensures { IfOk result (λ are_apart. IsTrue are_apart → has_repeated (all_points bodies.now) ≡ false) }
+/// Whether the names differ, judged by their keys. Where it says no, they may differ still. `memory` is lent.
+pub(super) fn are_distinct(
+    line: &[u8],
+    names: &[KeptName],
+    memory: &mut Keys,
+) -> Result<bool, AllocError>
+    requires { AreKept line.now names.now }
+    ensures { IfOk result (λ are_apart. IsTrue are_apart → has_repeated (spelled_names line.now names.now) ≡ false) }
 {
     memory.keys.clear();
-    if !push_keys(bodies, &mut memory.keys)? {
+    if !push_keys(line, names, &mut memory.keys)? {
         return Ok(false);
     }
-    if bodies.len() <= MOST_SORTED || bodies.len() > SLOTS {
+    if names.len() <= MOST_SORTED || names.len() > SLOTS {
         return Ok(are_apart(&mut memory.keys));
     }
     count_hits(&memory.keys, &mut memory.hits)?;

@@ -12,8 +12,8 @@ ghost use Rattle.jp_tape.specs.declared.builder.machine.Open.{Open};
 ghost use Rattle.jp_tape.specs.declared.builder.machine.Turn.TheVariants as turns;
 
 use super::BuildFault;
-use super::body::Body;
 use super::escapes::first_escape;
+use super::kept::KeptName;
 use super::keys::Keys;
 use super::nesting::Nesting;
 use super::scan::next_token;
@@ -55,22 +55,20 @@ pub(super) enum Turn {
     End,
 }
 
-/// What has been read of a line, in lists that are lent from line to line: `Builder::build` forgets the line before.
+/// What has been read of a line, in lists whose memory is lent from line to line. It borrows nothing of any line.
 #[derive(Drop)]
-pub struct Builder<'a> {
+pub struct Builder {
     /// Where memory comes from.
-    alloc: Global,
+    pub(super) alloc: Global,
     /// Three words to a node. The first two of an open container are not known yet.
     pub(super) words: Vec<u64>,
     /// The containers that are open around the innermost one, after `NO_CONTAINER`.
     pub(super) opened: Vec<Open>,
     pub(super) innermost: Open,
-    /// The bodies of the names in them.
-    pub(super) names: Vec<Body<'a>>,
+    /// The names in them.
+    pub(super) names: Vec<KeptName>,
     /// Memory for their keys.
     pub(super) keys: Keys,
-    /// The marks that are to come.
-    pub(super) marks: &'a [u32],
     /// The first of the faults that count only where the line is JSON: a lone surrogate, a long exponent, equal names.
     pub(super) later: Option<LineFault>,
 }
@@ -115,9 +113,9 @@ fn are_objects(opened: &[Open], innermost: Open, alloc: Global) -> Result<Vec<bo
     Ok(flags)
 }
 
-impl<'a> Builder<'a> {
+impl Builder {
     /// A builder that has read nothing. Its lists get memory as they grow, and keep it from line to line.
-    pub fn new(alloc: Global) -> Builder<'a>
+    pub fn new(alloc: Global) -> Builder
         ensures { IsFresh result }
     {
         Builder {
@@ -127,21 +125,18 @@ impl<'a> Builder<'a> {
             innermost: NO_CONTAINER,
             names: Vec::new(alloc),
             keys: Keys::new(alloc),
-            marks: &[],
             later: None,
         }
     }
 
     /// Forgets the line before.
-    fn start(&mut self, marks: &'a [u32])
-        ensures fresh { IsFresh self.new }
-        ensures marks { self.new.marks.now ≡ marks.now }
+    fn start(&mut self)
+        ensures { IsFresh self.new }
     {
         self.words.clear();
         self.opened.clear();
         self.innermost = NO_CONTAINER;
         self.names.clear();
-        self.marks = marks;
         self.later = None;
     }
 
@@ -156,15 +151,16 @@ impl<'a> Builder<'a> {
         nodes.min(names)
     }
 
-    /// Makes room for the next turns, and tells for how many there is room then. Each passes a mark, except one that finds none.
+    /// Makes room for the next turns, and tells for how many there is room then. Each passes one of so many marks, except one that
+    /// finds none.
     #[inline(never)]
-    fn make_room(&mut self) -> Result<usize, BuildFault>
+    fn make_room(&mut self, mark_count: usize) -> Result<usize, BuildFault>
         ensures some { IfOk result (λ turns. 0 < turns) }
         ensures room { IfOk result (λ turns. HasRoom self.new turns turns) }
         ensures same { IsRoomier self.old self.new }
         ensures memory { IfErr result (λ fault. OnFault fault ⊥) }
     {
-        let turns = self.marks.len().clamp(1, STRETCH);
+        let turns = mark_count.clamp(1, STRETCH);
         if self.words.reserve(3 * turns).is_err() || self.names.reserve(turns).is_err() {
             return Err(BuildFault::Memory);
         }
@@ -173,20 +169,24 @@ impl<'a> Builder<'a> {
 
     /// The fault of the line in which the array or the object at `at` nests too deep: that it does, if the line is JSON.
     #[inline(never)]
-    fn fault_of_deep(&self, line: &'a [u8], escape: usize, at: usize, is_object: bool) -> BuildFault
+    fn fault_of_deep(
+        &self,
+        line: &[u8],
+        escape: usize,
+        marks: &[u32],
+        at: usize,
+        is_object: bool,
+    ) -> BuildFault
         requires line { IsReadable line.now escape }
         requires reached { WalkReached line.now (turns.TooDeep at is_object) self.now }
         requires some { 0 < length self.now.opened.items }
-        requires ahead { IsNext line.now at self.now.marks.now }
+        requires ahead { IsNext line.now at marks.now }
         ensures { IsFaultOf line.now result }
     {
         let Ok(are_objects) = are_objects(&self.opened[1..], self.innermost, self.alloc) else {
             return BuildFault::Memory;
         };
-        let mut nesting = Nesting {
-            marks: self.marks,
-            are_objects,
-        };
+        let mut nesting = Nesting { marks, are_objects };
         match nesting.read(line, escape, is_object, at) {
             Ok(()) => BuildFault::Line(LineFault::Depth),
             Err(fault) => fault,
@@ -195,31 +195,28 @@ impl<'a> Builder<'a> {
 }
 
 /// Reads the whole line, and forgets the line before.
-pub(super) fn walk<'a>(
-    builder: &mut Builder<'a>,
-    line: &'a [u8],
-    marks: &'a [u32],
-) -> Result<(), BuildFault>
+pub(super) fn walk(builder: &mut Builder, line: &[u8], marks: &[u32]) -> Result<(), BuildFault>
     requires room { length line.now < 2 ^ 32 }
     requires utf8 { IsUtf8 line.now }
     requires marks { marks.now ≡ marks_of line.now }
     ensures found { IfOk result (λ _. (t : Tree) × Text line.now t × IsFinished line.now builder.new t) }
     ensures refused { IfErr result (λ fault. IsFaultOf line.now fault) }
 {
-    builder.start(marks);
+    builder.start();
     let escape = first_escape(line);
-    let mut turn = Turn::Value(0, next_token(line, marks, 0));
+    let mut ahead = marks;
+    let mut turn = Turn::Value(0, next_token(line, ahead, 0));
     let mut turns = builder.room();
     while let Turn::Value(label, at) = turn {
         if turns == 0 {
-            turns = builder.make_room()?;
+            turns = builder.make_room(ahead.len())?;
         }
         turns -= 1;
-        let read = builder.read_value(line, escape, at, label)?;
-        turn = builder.until_value(line, escape, read)?;
+        let read = builder.read_value(line, escape, &mut ahead, at, label)?;
+        turn = builder.until_value(line, escape, &mut ahead, read)?;
     }
     if let Turn::TooDeep(at, is_object) = turn {
-        return Err(builder.fault_of_deep(line, escape, at, is_object));
+        return Err(builder.fault_of_deep(line, escape, ahead, at, is_object));
     }
     Ok(())
 }

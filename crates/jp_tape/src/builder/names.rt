@@ -4,23 +4,26 @@ ghost use Rattle.std.specs.Prelude.{◌≡◌, ◌<◌, Some, nat_eq, refl, IfOk
 ghost use Rattle.std.specs.Ordering.{nat_cmp};
 ghost use Rattle.std.specs.Cmp.Lexicographic.{slice_cmp, pointwise, nat_list_eq_equiv, nat_list_cmp_total, texts_po, texts_ties};
 ghost use Rattle.std.specs.Cmp.{on_equiv, on_per, on_po, on_total, partial_equiv_from_equiv};
+ghost use Rattle.std.specs.List.{list_any};
+ghost use Rattle.jp_model.specs.Characters.{text_equal};
 ghost use Rattle.jp_model.specs.Json.Faults.{has_repeated};
-ghost use Rattle.jp_tape.specs.Names.{points, all_points};
+ghost use Rattle.jp_tape.specs.Names.{points, all_points, spelled_names, AreKept};
 
 use super::body::Body;
+use super::kept::KeptName;
 use super::keys::{Keys, are_distinct, have_one_of_two_places, have_own_places};
 use jp_lanes::equal_bytes;
 use jp_strings::{compare, equal};
-use std::alloc::AllocError;
+use std::alloc::{AllocError, Global};
 use std::cmp::Ordering;
 
-/// So many bodies are compared by pairs, where two share a place.
+/// So many names are compared by pairs, where two share a place.
 const MOST_PAIRED: usize = 5;
 
-/// So many bodies seldom share both of their places, and more are sorted.
+/// So many names seldom share both of their places, and of more the keys are sorted.
 const MOST_PLACED: usize = 32;
 
-/// Fewer bodies than these have no equal ones.
+/// Fewer names than these have no equal ones.
 const PAIR: usize = 2;
 
 impl PartialEq for Body<'_> {
@@ -80,43 +83,87 @@ fn has_equal_neighbours(bodies: &[Body<'_>]) -> bool
     false
 }
 
-/// Whether two bodies are equal, by comparing each with all after it.
-fn has_equal_pair(bodies: &[Body<'_>]) -> bool
-    ensures { result ≡ has_repeated (all_points bodies.now) }
+/// Whether a body is equal to that of one of these names.
+fn is_among(line: &[u8], names: &[KeptName], body: Body<'_>) -> bool
+    requires { AreKept line.now names.now }
+    ensures { result ≡ list_any (text_equal (points body.entry)) (spelled_names line.now names.now) }
 {
-    for behind in 1..bodies.len() {
-        if bodies[behind..].contains(&bodies[behind - 1]) {
+    for name in names {
+        if body == name.body_in(line) {
             return true;
         }
     }
     false
 }
 
-/// Whether two of several bodies are equal, as `has_equal` finds it.
-#[inline(never)]
-fn has_equal_of_some(bodies: &mut [Body<'_>], keys: &mut Keys) -> Result<bool, AllocError>
-    ensures { IfOk result (λ is_repeated. is_repeated ≡ has_repeated (all_points bodies.old)) }
+/// Whether two names are equal, by comparing each with all after it.
+fn has_equal_pair(line: &[u8], names: &[KeptName]) -> bool
+    requires { AreKept line.now names.now }
+    ensures { result ≡ has_repeated (spelled_names line.now names.now) }
 {
-    if bodies.len() <= MOST_PAIRED {
-        return Ok(!have_own_places(bodies) && has_equal_pair(bodies));
+    for behind in 1..names.len() {
+        if is_among(line, &names[behind..], names[behind - 1].body_in(line)) {
+            return true;
+        }
     }
-    if bodies.len() <= MOST_PLACED && have_one_of_two_places(bodies) {
-        return Ok(false);
-    }
-    if are_distinct(bodies, keys)? {
-        return Ok(false);
-    }
-    bodies.sort_unstable();
-    Ok(has_equal_neighbours(bodies))
+    false
 }
 
-/// Whether two bodies are equal. It changes their order. `keys` lends its memory. Arrays and many objects have fewer than two.
-#[inline(always)]
-pub(super) fn has_equal(bodies: &mut [Body<'_>], keys: &mut Keys) -> Result<bool, AllocError>
-    ensures { IfOk result (λ is_repeated. is_repeated ≡ has_repeated (all_points bodies.old)) }
+/// The bodies of names.
+fn bodies<'a>(
+    line: &'a [u8],
+    names: &[KeptName],
+    alloc: Global,
+) -> Result<Vec<Body<'a>>, AllocError>
+    requires { AreKept line.now names.now }
+    ensures { IfOk result (λ bodies. all_points bodies.items ≡ spelled_names line.now names.now) }
 {
-    if bodies.len() < PAIR {
+    let mut bodies = Vec::new(alloc);
+    bodies.reserve(names.len())?;
+    for name in names {
+        bodies.push(name.body_in(line))?;
+    }
+    Ok(bodies)
+}
+
+/// Whether two of several names are equal, as `has_equal` finds it. Their bodies are listed only where bytes leave it open.
+#[inline(never)]
+fn has_equal_of_some(
+    line: &[u8],
+    names: &[KeptName],
+    keys: &mut Keys,
+    alloc: Global,
+) -> Result<bool, AllocError>
+    requires { AreKept line.now names.now }
+    ensures { IfOk result (λ is_repeated. is_repeated ≡ has_repeated (spelled_names line.now names.now)) }
+{
+    if names.len() <= MOST_PAIRED {
+        return Ok(!have_own_places(line, names) && has_equal_pair(line, names));
+    }
+    if names.len() <= MOST_PLACED && have_one_of_two_places(line, names) {
         return Ok(false);
     }
-    has_equal_of_some(bodies, keys)
+    if are_distinct(line, names, keys)? {
+        return Ok(false);
+    }
+    let mut bodies = bodies(line, names, alloc)?;
+    bodies.sort_unstable();
+    Ok(has_equal_neighbours(&bodies))
+}
+
+/// Whether two names are equal. `keys` lends its memory. Arrays and many objects have fewer than two.
+#[inline(always)]
+pub(super) fn has_equal(
+    line: &[u8],
+    names: &[KeptName],
+    keys: &mut Keys,
+    alloc: Global,
+) -> Result<bool, AllocError>
+    requires { AreKept line.now names.now }
+    ensures { IfOk result (λ is_repeated. is_repeated ≡ has_repeated (spelled_names line.now names.now)) }
+{
+    if names.len() < PAIR {
+        return Ok(false);
+    }
+    has_equal_of_some(line, names, keys, alloc)
 }

@@ -14,20 +14,20 @@ use super::node::{head, span_to_word, write_node};
 use super::scan::{is_at, marks_behind, next_token, skip_white};
 use super::tokens::{Scalar, scalar_at, text_at};
 
-impl<'a> Builder<'a> {
+impl Builder {
     /// Writes the node of a value that has no children.
     #[inline(always)]
-    fn keep_scalar(&mut self, at: usize, label: u64, scalar: Scalar)
+    fn keep_scalar(&mut self, marks: &mut &[u32], at: usize, label: u64, scalar: Scalar)
         requires order { at < scalar.end }
         requires room { scalar.end < 2 ^ 32 }
-        requires marks { scalar.marks ≤ length self.old.marks.now }
+        requires marks { scalar.marks ≤ length marks.old.now }
         requires spare { HasRoom self.old 1 0 }
         ensures goes_on { (line : List ℕ) → FoundScalar line at scalar → BuilderSteps line (turns.Value label at) self.old (turns.After scalar.end) self.new }
-        ensures marks { self.new.marks.now ≡ drop scalar.marks self.old.marks.now }
+        ensures marks { marks.new.now ≡ drop scalar.marks marks.old.now }
         ensures few { length self.new.words.items ≡ length self.old.words.items + 3 }
         ensures spare { (node_count name_count : ℕ) → HasRoom self.old (suc node_count) name_count → HasRoom self.new node_count name_count }
     {
-        self.marks = marks_behind(self.marks, scalar.marks);
+        *marks = marks_behind(*marks, scalar.marks);
         let head = head(scalar.kind, 0, self.innermost.place);
         let span = span_to_word(at as u32, scalar.end as u32);
         write_node(&mut self.words, head, span, label);
@@ -36,55 +36,63 @@ impl<'a> Builder<'a> {
 
     /// Reads what follows a number or a word.
     #[inline(always)]
-    fn scalar_end(&mut self, line: &'a [u8], escape: usize, at: usize) -> Result<Turn, BuildFault>
+    fn scalar_end(
+        &mut self,
+        line: &[u8],
+        escape: usize,
+        marks: &mut &[u32],
+        at: usize,
+    ) -> Result<Turn, BuildFault>
         requires line { IsReadable line.now escape }
         requires within { at ≤ length line.now }
         requires few { length self.old.words.items ≤ 3 * at }
-        requires ahead { IsAhead line.now at self.old.marks.now }
+        requires ahead { IsAhead line.now at marks.old.now }
         requires spare { HasRoom self.old 0 1 }
         requires holds { BuilderHolds line.now (turns.After at) self.old }
         ensures goes_on { IfOk result (λ turn. BuilderSteps line.now (turns.After at) self.old turn self.new) }
         ensures behind { IfOk result (λ turn. IsBehind line.now at turn self.new) }
-        ensures ahead { (n : ℕ) → HasRoom self.old n (suc n) → IfOk result (λ turn. IsAheadOf line.now n turn self.new) }
+        ensures ahead { (n : ℕ) → HasRoom self.old n (suc n) → IfOk result (λ turn. IsAheadOf line.now n turn marks.new.now self.new) }
         ensures stuck { IfErr result (λ fault. OnFault fault (NoBuilderStep line.now (turns.After at) self.old)) }
     {
-        let next = skip_white(line, self.marks, at);
-        self.container_continue(line, escape, at, next)
+        let next = skip_white(line, *marks, at);
+        self.container_continue(line, escape, marks, at, next)
     }
 
     /// Reads the string at `at`, and what follows it.
     #[inline(always)]
     fn read_text(
         &mut self,
-        line: &'a [u8],
+        line: &[u8],
         escape: usize,
+        marks: &mut &[u32],
         at: usize,
         label: u64,
     ) -> Result<Turn, BuildFault>
         requires line { IsReadable line.now escape }
         requires opens { Has line.now at 0x22 }
         requires few { length self.old.words.items ≤ 3 * at }
-        requires ahead { IsAheadOf line.now 1 (turns.Value label at) self.old }
+        requires ahead { IsAheadOf line.now 1 (turns.Value label at) marks.old.now self.old }
         requires holds { BuilderHolds line.now (turns.Value label at) self.old }
         ensures goes_on { IfOk result (λ turn. BuilderSteps line.now (turns.Value label at) self.old turn self.new) }
         ensures behind { IfOk result (λ turn. IsBehind line.now at turn self.new) }
-        ensures ahead { (n : ℕ) → HasRoom self.old (suc n) (suc n) → IfOk result (λ turn. IsAheadOf line.now n turn self.new) }
+        ensures ahead { (n : ℕ) → HasRoom self.old (suc n) (suc n) → IfOk result (λ turn. IsAheadOf line.now n turn marks.new.now self.new) }
         ensures stuck { IfErr result (λ fault. OnFault fault (NoBuilderStep line.now (turns.Value label at) self.old)) }
     {
-        let Some(text) = text_at(line, escape, self.marks, at) else {
+        let Some(text) = text_at(line, escape, *marks, at) else {
             return Err(GRAMMAR);
         };
-        let next = next_token(line, marks_behind(self.marks, text.marks), text.end);
-        self.keep_scalar(at, label, text);
-        self.container_continue(line, escape, text.end, next)
+        let next = next_token(line, marks_behind(*marks, text.marks), text.end);
+        self.keep_scalar(marks, at, label, text);
+        self.container_continue(line, escape, marks, text.end, next)
     }
 
     /// Reads the value at `at`, which is neither a text nor an array nor an object, and what follows it.
     #[inline(always)]
     fn read_scalar(
         &mut self,
-        line: &'a [u8],
+        line: &[u8],
         escape: usize,
+        marks: &mut &[u32],
         at: usize,
         label: u64,
     ) -> Result<Turn, BuildFault>
@@ -94,49 +102,50 @@ impl<'a> Builder<'a> {
         requires no_array { byte_at line.now at ≡ 0x5B → ⊥ }
         requires no_object { byte_at line.now at ≡ 0x7B → ⊥ }
         requires few { length self.old.words.items ≤ 3 * at }
-        requires ahead { IsAheadOf line.now 1 (turns.Value label at) self.old }
+        requires ahead { IsAheadOf line.now 1 (turns.Value label at) marks.old.now self.old }
         requires holds { BuilderHolds line.now (turns.Value label at) self.old }
         ensures goes_on { IfOk result (λ turn. BuilderSteps line.now (turns.Value label at) self.old turn self.new) }
         ensures behind { IfOk result (λ turn. IsBehind line.now at turn self.new) }
-        ensures ahead { (n : ℕ) → HasRoom self.old (suc n) (suc n) → IfOk result (λ turn. IsAheadOf line.now n turn self.new) }
+        ensures ahead { (n : ℕ) → HasRoom self.old (suc n) (suc n) → IfOk result (λ turn. IsAheadOf line.now n turn marks.new.now self.new) }
         ensures stuck { IfErr result (λ fault. OnFault fault (NoBuilderStep line.now (turns.Value label at) self.old)) }
     {
-        let Some(scalar) = scalar_at(line, self.marks, at) else {
+        let Some(scalar) = scalar_at(line, *marks, at) else {
             return Err(GRAMMAR);
         };
-        self.keep_scalar(at, label, scalar);
-        self.scalar_end(line, escape, scalar.end)
+        self.keep_scalar(marks, at, label, scalar);
+        self.scalar_end(line, escape, marks, scalar.end)
     }
 
     /// Reads the value at `at`, and after a value that has no children what follows it.
     #[inline(always)]
     pub(super) fn read_value(
         &mut self,
-        line: &'a [u8],
+        line: &[u8],
         escape: usize,
+        marks: &mut &[u32],
         at: usize,
         label: u64,
     ) -> Result<Turn, BuildFault>
         requires line { IsReadable line.now escape }
         requires within { at ≤ length line.now }
         requires few { length self.old.words.items ≤ 3 * at }
-        requires ahead { IsAheadOf line.now 1 (turns.Value label at) self.old }
+        requires ahead { IsAheadOf line.now 1 (turns.Value label at) marks.old.now self.old }
         requires holds { BuilderHolds line.now (turns.Value label at) self.old }
         ensures goes_on { IfOk result (λ turn. BuilderSteps line.now (turns.Value label at) self.old turn self.new) }
         ensures behind { IfOk result (λ turn. IsBehind line.now at turn self.new) }
-        ensures ahead { (n : ℕ) → HasRoom self.old (suc n) (suc n) → IfOk result (λ turn. IsAheadOf line.now n turn self.new) }
+        ensures ahead { (n : ℕ) → HasRoom self.old (suc n) (suc n) → IfOk result (λ turn. IsAheadOf line.now n turn marks.new.now self.new) }
         ensures stuck { IfErr result (λ fault. OnFault fault (NoBuilderStep line.now (turns.Value label at) self.old)) }
     {
         if at >= line.len() {
             return Err(GRAMMAR);
         }
         if is_at(line, at, b'"') {
-            return self.read_text(line, escape, at, label);
+            return self.read_text(line, escape, marks, at, label);
         }
         let is_object = is_at(line, at, b'{');
         if is_object || is_at(line, at, b'[') {
-            return self.container_begin(line, escape, at, is_object, label);
+            return self.container_begin(line, escape, marks, at, is_object, label);
         }
-        self.read_scalar(line, escape, at, label)
+        self.read_scalar(line, escape, marks, at, label)
     }
 }

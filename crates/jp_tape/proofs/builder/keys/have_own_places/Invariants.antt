@@ -4,7 +4,7 @@ use Rattle.jp_tape.proofs.Apart.{HaveOwn, Differ}
 use Rattle.jp_tape.proofs.builder.keys.have_own_places.Given as goal
 
 abbrev pub invariant-loop-left : goal.invariant-loop-left
-invariant-loop-left l = record { own : HaveOwn place_of l.bodies l.left l.taken; differ : Differ l.bodies l.left; within : l.left ≤ length l.bodies }
+invariant-loop-left l = record { own : HaveOwn place_of l.line l.names l.left l.taken; differ : Differ l.line l.names l.left; within : l.left ≤ length l.names }
 
 abbrev pub decreases-loop-left : goal.decreases-loop-left
 decreases-loop-left l = l.left

@@ -1,12 +1,12 @@
-use Rattle.std.proofs.Common.{List, ℕ, sym, subst, length, [], refl, None, ap, arith}
+use Rattle.std.proofs.Common.{sym, subst, length, [], refl, None, ap, arith}
 use Rattle.jp_tape.specs.declared.builder.machine.Builder.{Builder}
 use Rattle.jp_tape.specs.declared.builder.machine.Turn.{Turn}
 use Rattle.jp_tape.specs.declared.builder.machine.Turn.TheVariants as turns
 use Rattle.jp_tape.specs.Machine.{Value_at, WalkReached}
-use Rattle.jp_tape.specs.Ahead.{IsNext, IsAheadOf}
+use Rattle.jp_tape.specs.Ahead.{IsAheadOf}
 use Rattle.jp_tape.proofs.Nesting.{deep_opens}
 use Rattle.jp_tape.proofs.Ahead.{all_ahead, begins_first}
-use Rattle.jp_tape.specs.Names.{all_points}
+use Rattle.jp_tape.specs.Names.{spelled_names, AreKept}
 use Rattle.jp_tape.proofs.Room.{reached_roomier, reached_then}
 use Rattle.jp_tape.proofs.Steps.{start_forth, start_back}
 use Rattle.jp_tape.proofs.builder.machine.walk.Goals as goal
@@ -16,7 +16,7 @@ pub loop-turn-init : goal.loop-turn-init
 loop-turn-init c =
     let line = c.args.line.now in
     let w = c.next_token.ensures in
-    let e = c.start.ensures.fresh in
+    let e = c.start.ensures in
     let n = ap length e.words in
     record {
       reached = record {
@@ -25,13 +25,13 @@ loop-turn-init c =
           refl,
           refl,
           refl,
-          record { words = e.words; opened = e.opened; shallow = omega arith; later = e.later; count = ap length e.names; names = λ z. ap all_points e.names },
+          record { words = e.words; opened = e.opened; shallow = omega arith; later = e.later; count = ap length e.names; names = λ z. ap (spelled_names line) e.names; kept = λ z. subst (AreKept line) (sym e.names) (λ k d l. absurd (omega (arith, l))) },
         );
         forth = start_forth line c.next_token.result w.white w.stops;
         back = start_back line c.next_token.result w.white;
       };
       within = (w.white.within, omega (arith, n));
-      ahead = (subst (λ (ms : List ℕ). IsNext line c.next_token.result ms) (sym c.start.ensures.marks) w.next, c.room-turns.ensures.enough);
+      ahead = (w.next, c.room-turns.ensures.enough);
       settled = tt;
     }
 
@@ -62,5 +62,5 @@ fault_of_deep-requires c =
       line = record { utf8 = c.requires.utf8; room = c.requires.room; unescaped = c.first_escape-escape.ensures.before };
       reached = here;
       some = (deep_opens line c.in-TooDeep.at c.in-TooDeep.is_object b here).1;
-      ahead = subst (λ (t : Turn). IsAheadOf line c.loop-turn.turns t b) c.in-TooDeep.is c.loop-turn.invariant.ahead;
+      ahead = subst (λ (t : Turn). IsAheadOf line c.loop-turn.turns t c.loop-turn.ahead.now b) c.in-TooDeep.is c.loop-turn.invariant.ahead;
     }

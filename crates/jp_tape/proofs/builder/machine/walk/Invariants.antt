@@ -6,7 +6,7 @@ abbrev pub invariant-loop-turn : goal.invariant-loop-turn
 invariant-loop-turn l = record {
   reached : WalkReached l.line l.turn l.builder;
   within : IsWithin l.line l.turn l.builder;
-  ahead : IsAheadOf l.line l.turns l.turn l.builder;
+  ahead : IsAheadOf l.line l.turns l.turn l.ahead l.builder;
   settled : IsSettled l.turn;
 }
 

@@ -40,7 +40,7 @@ returns-clause-goes_on c =
     let b = c.args.self.now in
     let kind = container_if c.args.is_object in
     let w = c.next_token-inside.ensures in
-    let mid : Builder = record { alloc = b.alloc; words = c.write_node-2.new.words; opened = c.push_reserved.new.self; innermost = record { place = _; start = c.args.at; children = 0; names = _; is_object = c.args.is_object }; names = b.names; keys = b.keys; marks = c.marks_behind-self.result; later = b.later } in
+    let mid : Builder = record { alloc = b.alloc; words = c.write_node-2.new.words; opened = c.push_reserved.new.self; innermost = record { place = _; start = c.args.at; children = 0; names = _; is_object = c.args.is_object }; names = b.names; keys = b.keys; later = b.later } in
     IfOk-weaker c.child_begin.result _ _
     (λ turn l. enter_goes_on c.args.line.now c.args.at c.next_token-inside.result c.args.label b mid c.child_begin.new.self turn kind c.requires.opens w.white w.stops
     (λ h. c.is_at.ensures.no c.if-is_at.false (subst (λ x. Has c.args.line.now c.next_token-inside.result x) (sym c.closing_of.ensures) h))
@@ -63,27 +63,27 @@ returns-clause-stuck c =
     (λ h. c.is_at.ensures.no c.if-is_at.false (subst (λ x. Has c.args.line.now c.next_token-inside.result x) (sym c.closing_of.ensures) h)) l))
     c.child_begin.ensures.stuck
 
-pub marks_behind-self-requires : goal.marks_behind-self-requires
-marks_behind-self-requires c = (passes_structural c.args.line.now c.args.self.now.marks.now c.args.at c.requires.opens.inside (bracket_structural (container_if c.args.is_object) (byte_at c.args.line.now c.args.at) c.requires.opens.is) c.requires.ahead.0.ahead).within
+pub marks_behind-requires : goal.marks_behind-requires
+marks_behind-requires c = (passes_structural c.args.line.now c.args.marks.now.now c.args.at c.requires.opens.inside (bracket_structural (container_if c.args.is_object) (byte_at c.args.line.now c.args.at) c.requires.opens.is) c.requires.ahead.0.ahead).within
 
 pub next_token-inside-requires-clause-begins : goal.next_token-inside-requires-clause-begins
 next_token-inside-requires-clause-begins c = structural_begins c.args.line.now c.args.at (bracket_structural (container_if c.args.is_object) (byte_at c.args.line.now c.args.at) c.requires.opens.is)
 
 pub next_token-inside-requires-clause-ahead : goal.next_token-inside-requires-clause-ahead
 next_token-inside-requires-clause-ahead c =
-    let p = passes_structural c.args.line.now c.args.self.now.marks.now c.args.at c.requires.opens.inside (bracket_structural (container_if c.args.is_object) (byte_at c.args.line.now c.args.at) c.requires.opens.is) c.requires.ahead.0.ahead in
-    subst (λ (ms : List ℕ). IsAhead c.args.line.now (c.args.at + 1) ms) (sym c.marks_behind-self.ensures) p.ahead
+    let p = passes_structural c.args.line.now c.args.marks.now.now c.args.at c.requires.opens.inside (bracket_structural (container_if c.args.is_object) (byte_at c.args.line.now c.args.at) c.requires.opens.is) c.requires.ahead.0.ahead in
+    subst (λ (ms : List ℕ). IsAhead c.args.line.now (c.args.at + 1) ms) (sym c.marks_behind.ensures) p.ahead
 
-pub marks_behind-self-requires-then-is_at : goal.marks_behind-self-requires-then-is_at
-marks_behind-self-requires-then-is_at c =
+pub marks_behind-requires-then-is_at : goal.marks_behind-requires-then-is_at
+marks_behind-requires-then-is_at c =
     let h = subst (λ x. Has c.args.line.now c.next_token-inside.result x) c.closing_of.ensures (c.is_at.ensures.yes c.if-is_at.true) in
-    (passes_structural c.args.line.now c.marks_behind-self.result.now c.next_token-inside.result h.inside (closing_structural (container_if c.args.is_object) (byte_at c.args.line.now c.next_token-inside.result) h.is) c.next_token-inside.ensures.ahead).within
+    (passes_structural c.args.line.now c.marks_behind.result.now c.next_token-inside.result h.inside (closing_structural (container_if c.args.is_object) (byte_at c.args.line.now c.next_token-inside.result) h.is) c.next_token-inside.ensures.ahead).within
 
 pub returns-then-is_at-clause-ahead : goal.returns-then-is_at-clause-ahead
 returns-then-is_at-clause-ahead c n r =
     let h = subst (λ x. Has c.args.line.now c.next_token-inside.result x) c.closing_of.ensures (c.is_at.ensures.yes c.if-is_at.true) in
-    let p = passes_structural c.args.line.now c.marks_behind-self.result.now c.next_token-inside.result h.inside (closing_structural (container_if c.args.is_object) (byte_at c.args.line.now c.next_token-inside.result) h.is) c.next_token-inside.ensures.ahead in (
-      subst (λ (ms : List ℕ). IsAhead c.args.line.now (c.next_token-inside.result + 1) ms) (sym c.marks_behind-self-then-is_at.ensures) p.ahead,
+    let p = passes_structural c.args.line.now c.marks_behind.result.now c.next_token-inside.result h.inside (closing_structural (container_if c.args.is_object) (byte_at c.args.line.now c.next_token-inside.result) h.is) c.next_token-inside.ensures.ahead in (
+      subst (λ (ms : List ℕ). IsAhead c.args.line.now (c.next_token-inside.result + 1) ms) (sym c.marks_behind-then-is_at.ensures) p.ahead,
       room_behind_node c.args.self.now _ n (suc n) _ _ _ r c.write_node.ensures.written c.write_node.ensures.capacity refl,
       structural_begins c.args.line.now c.next_token-inside.result (closing_structural (container_if c.args.is_object) (byte_at c.args.line.now c.next_token-inside.result) h.is),
     )

@@ -3,15 +3,11 @@ use Rattle.std.proofs.lemmas.Bool.{eqb-true, eqb-false}
 use Rattle.std.proofs.lemmas.Result.{IfOk-weaker, IfErr-weaker}
 use Rattle.jp_model.specs.Characters.{is_structural}
 use Rattle.jp_model.specs.Json.Places.{White, Has, byte_at}
-use Rattle.std.proofs.Common.{Bor}
-use Rattle.jp_tape.specs.declared.builder.machine.Builder.{Builder}
-use Rattle.jp_tape.specs.declared.builder.machine.Open.{Open}
-use Rattle.jp_tape.specs.Machine.{IsCounted, IsClosed}
 use Rattle.jp_tape.specs.Ahead.{IsAhead}
 use Rattle.jp_tape.specs.Reading.{container_if}
 use Rattle.jp_tape.proofs.Ahead.{passes_structural, structural_begins, closing_structural}
 use Rattle.jp_tape.proofs.Walk.{on_fault}
-use Rattle.jp_tape.proofs.Walk.{is_innermost, innermost_children, innermost_place, innermost_names, comma_goes_on, no_comma, no_neither, close_goes_on, end_goes_on, no_end}
+use Rattle.jp_tape.proofs.Walk.{is_innermost, innermost_children, innermost_place, innermost_names, innermost_kept, comma_goes_on, no_comma, no_neither, close_goes_on, end_goes_on, no_end}
 use Rattle.jp_tape.proofs.builder.machine.Builder.container_continue.Goals as goal
 
 pub returns-then-next-line-clause-goes_on : goal.returns-then-next-line-clause-goes_on
@@ -25,13 +21,6 @@ returns-else-next-line-clause-stuck c =
 
 some_open : (n m : ℕ) → n ≡ m → false ≡ (n == 0) → 0 < m
 some_open n m e h = let z : n ≡ 0 → ⊥ = eqb-false n 0 (sym h) in omega (arith, z, e)
-
--- what is counted and closed are no marks
-counted_from : (b : Builder) (marks : Bor (List ℕ)) (new : Builder) → IsCounted (record b { marks = marks }) new → IsCounted b new
-counted_from b marks new i = record { opened = i.opened; innermost = i.innermost; words = i.words; later = i.later; names = i.names }
-
-closed_from : (b : Builder) (marks : Bor (List ℕ)) (new : Builder) (o : Open) (end : ℕ) → IsClosed o end (record b { marks = marks }) new → IsClosed o end b new
-closed_from b marks new o end i = record { words = i.words; opened = i.opened; later = i.later; names = i.names }
 
 pub count_child-requires : goal.count_child-requires
 count_child-requires c =
@@ -54,7 +43,7 @@ returns-then-is_at-clause-goes_on c =
     let o = c.args.self.now.innermost in
     let some = some_open _ _ b.opened.ok.0 c.if-is_empty.ensures in
     IfOk-weaker c.child_begin.result _ _
-    (λ turn l x h. comma_goes_on c.args.line.now c.args.at c.args.next c.next_token-child.result b c.count_child.new.self c.child_begin.new.self turn o w.white (c.is_at.ensures.yes c.if-is_at.true) v.white v.stops (counted_from b c.marks_behind-self.result c.count_child.new.self c.count_child.ensures.counted) l x h
+    (λ turn l x h. comma_goes_on c.args.line.now c.args.at c.args.next c.next_token-child.result b c.count_child.new.self c.child_begin.new.self turn o w.white (c.is_at.ensures.yes c.if-is_at.true) v.white v.stops c.count_child.ensures.counted l x h
     (is_innermost c.args.line.now c.args.at b some x h))
     c.child_begin.ensures.found
 
@@ -97,17 +86,22 @@ close-requires-clause-names c =
     let h = c.requires.holds.1 in
     innermost_names c.args.line.now c.args.at b o x h (is_innermost c.args.line.now c.args.at b some x h)
 
+pub close-requires-clause-kept : goal.close-requires-clause-kept
+close-requires-clause-kept c e =
+    let b = c.args.self.now in
+    innermost_kept c.args.line.now c.args.at b b.innermost.names c.requires.holds.0 c.requires.holds.1 e
+
 pub returns-in-Ok-clause-goes_on : goal.returns-in-Ok-clause-goes_on
 returns-in-Ok-clause-goes_on c x h =
     let w = c.requires in
     let b = c.args.self.now in
     let o = c.args.self.now.innermost in
     let some = some_open _ _ b.opened.ok.0 c.if-is_empty.ensures in
-    close_goes_on c.args.line.now c.args.at c.args.next b c.close.new.self o w.white (subst (λ y. Has c.args.line.now c.args.next y) c.closing_of.ensures (c.is_at-2.ensures.yes c.if-not-is_at.false)) (closed_from b c.marks_behind-self-2.result c.close.new.self o (c.args.next + 1) c.in-Ok.ensures.closed) x h
+    close_goes_on c.args.line.now c.args.at c.args.next b c.close.new.self o w.white (subst (λ y. Has c.args.line.now c.args.next y) c.closing_of.ensures (c.is_at-2.ensures.yes c.if-not-is_at.false)) c.in-Ok.ensures.closed x h
     (is_innermost c.args.line.now c.args.at b some x h)
 
-pub marks_behind-self-requires : goal.marks_behind-self-requires
-marks_behind-self-requires c = let h = c.is_at.ensures.yes c.if-is_at.true in (passes_structural c.args.line.now c.args.self.now.marks.now c.args.next h.inside (ap is_structural h.is) c.requires.ahead).within
+pub marks_behind-requires : goal.marks_behind-requires
+marks_behind-requires c = let h = c.is_at.ensures.yes c.if-is_at.true in (passes_structural c.args.line.now c.args.marks.now.now c.args.next h.inside (ap is_structural h.is) c.requires.ahead).within
 
 pub next_token-child-requires-clause-begins : goal.next_token-child-requires-clause-begins
 next_token-child-requires-clause-begins c = let h = c.is_at.ensures.yes c.if-is_at.true in structural_begins c.args.line.now c.args.next (ap is_structural h.is)
@@ -115,21 +109,21 @@ next_token-child-requires-clause-begins c = let h = c.is_at.ensures.yes c.if-is_
 pub next_token-child-requires-clause-ahead : goal.next_token-child-requires-clause-ahead
 next_token-child-requires-clause-ahead c =
     let h = c.is_at.ensures.yes c.if-is_at.true in
-    let p = passes_structural c.args.line.now c.args.self.now.marks.now c.args.next h.inside (ap is_structural h.is) c.requires.ahead in
-    subst (λ (ms : List ℕ). IsAhead c.args.line.now (c.args.next + 1) ms) (sym (c.count_child.ensures.marks ∙ c.marks_behind-self.ensures)) p.ahead
+    let p = passes_structural c.args.line.now c.args.marks.now.now c.args.next h.inside (ap is_structural h.is) c.requires.ahead in
+    subst (λ (ms : List ℕ). IsAhead c.args.line.now (c.args.next + 1) ms) (sym c.marks_behind.ensures) p.ahead
 
-pub marks_behind-self-requires-2 : goal.marks_behind-self-requires-2
-marks_behind-self-requires-2 c =
+pub marks_behind-requires-2 : goal.marks_behind-requires-2
+marks_behind-requires-2 c =
     let o = c.args.self.now.innermost in
     let h = subst (λ y. Has c.args.line.now c.args.next y) c.closing_of.ensures (c.is_at-2.ensures.yes c.if-not-is_at.false) in
-    (passes_structural c.args.line.now c.args.self.now.marks.now c.args.next h.inside (closing_structural (container_if o.is_object) (byte_at c.args.line.now c.args.next) h.is) c.requires.ahead).within
+    (passes_structural c.args.line.now c.args.marks.now.now c.args.next h.inside (closing_structural (container_if o.is_object) (byte_at c.args.line.now c.args.next) h.is) c.requires.ahead).within
 
 pub returns-in-Ok-clause-ahead : goal.returns-in-Ok-clause-ahead
 returns-in-Ok-clause-ahead c n r =
     let o = c.args.self.now.innermost in
     let h = subst (λ y. Has c.args.line.now c.args.next y) c.closing_of.ensures (c.is_at-2.ensures.yes c.if-not-is_at.false) in
-    let p = passes_structural c.args.line.now c.args.self.now.marks.now c.args.next h.inside (closing_structural (container_if o.is_object) (byte_at c.args.line.now c.args.next) h.is) c.requires.ahead in (
-      subst (λ (ms : List ℕ). IsAhead c.args.line.now (c.args.next + 1) ms) (sym (c.in-Ok.ensures.marks ∙ c.marks_behind-self-2.ensures)) p.ahead,
+    let p = passes_structural c.args.line.now c.args.marks.now.now c.args.next h.inside (closing_structural (container_if o.is_object) (byte_at c.args.line.now c.args.next) h.is) c.requires.ahead in (
+      subst (λ (ms : List ℕ). IsAhead c.args.line.now (c.args.next + 1) ms) (sym c.marks_behind-2.ensures) p.ahead,
       c.in-Ok.ensures.spare n (suc n) (record { words = r.words; names = r.names }),
       structural_begins c.args.line.now c.args.next (closing_structural (container_if o.is_object) (byte_at c.args.line.now c.args.next) h.is),
     )

@@ -5,5 +5,4 @@ pub returns : goal.returns
 returns c = record {
   counted = record { opened = refl; innermost = refl; words = refl; later = refl; names = refl };
   spare = λ nodes names h. record { words = h.words; names = h.names };
-  marks = refl;
 }

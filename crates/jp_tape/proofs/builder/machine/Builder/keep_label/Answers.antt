@@ -2,7 +2,7 @@ use Rattle.std.proofs.Common.{◌≡◌, ◌||◌, Bool, false, Option, refl, ap
 use Rattle.jp_model.specs.declared.LineFault.{LineFault}
 use Rattle.jp_tape.specs.Machine.{first_fault}
 use Rattle.jp_tape.proofs.Held.{or_false}
-use Rattle.jp_tape.proofs.Kept.{kept_text, labelled_named, labelled_bare}
+use Rattle.jp_tape.proofs.Kept.{labelled_named, labelled_bare}
 use Rattle.jp_tape.proofs.builder.machine.Builder.keep_label.Goals as goal
 
 -- a name has no exponent
@@ -10,14 +10,9 @@ noted : (is_lone : Bool) (old new : Option LineFault) → ((lone too_long repeat
     (lone too_long repeated : Bool) → old ≡ first_fault lone too_long repeated → new ≡ first_fault (lone || is_lone) too_long repeated
 noted is_lone old new n lone too_long repeated h = n lone too_long repeated h ∙ ap (λ x. first_fault (lone || is_lone) x repeated) (or_false too_long)
 
-pub kept_body-body-requires-clause-text : goal.kept_body-body-requires-clause-text
-kept_body-body-requires-clause-text c l =
-    let f = c.requires.found in
-    (kept_text c.args.line.now f.0 f.1 c.args.label f.2 c.in-Some.span c.in-Some.is l).0
-
 pub returns-in-Some-clause-found : goal.returns-in-Some-clause-found
 returns-in-Some-clause-found c kind from found order =
-    labelled_named c.args.line.now kind from c.args.label found c.args.self.now _ c.in-Some.span c.kept_body-body.result _ c.label_to_word-word.ensures c.in-Some.is order c.requires.within c.kept_body-body.ensures c.push_reserved.ensures.items refl refl (noted c.args.label.is_lone _ _ c.note.ensures)
+    labelled_named c.args.line.now kind from c.args.label found c.args.self.now _ c.in-Some.body c.args.label.is_plain _ c.label_to_word-word.ensures c.in-Some.is order c.requires.within (c.requires.plain c.in-Some.body c.in-Some.is) c.push_reserved.ensures.items refl refl (noted c.args.label.is_lone _ _ c.note.ensures)
 
 pub returns-in_default-clause-found : goal.returns-in_default-clause-found
 returns-in_default-clause-found c kind from found order =
