@@ -1,26 +1,24 @@
 //! A walk over the nodes of a tape.
 
 ghost use Rattle.std.specs.Prelude.{◌≡◌, ◌<◌, ◌≤◌, ◌+◌, ◌*◌, ◌^◌, ◌++◌, ◌∷◌, [], true, false, length, Some, None, IfSome, IfNone, option_map, slice_get, slice_range};
-ghost use Rattle.jp_decimal.specs.Decimals.{number_of};
 ghost use Rattle.jp_model.specs.Json.Tree.{span as span_of, value_of, count_children};
 ghost use Rattle.jp_model.specs.Json.Strings.{SpellsBody, has_lone_surrogate};
 ghost use Rattle.jp_model.specs.Json.Faults.{has_surrogate, has_long_exponent, has_duplicate};
 ghost use Rattle.jp_model.specs.Json.Spelling.{Text, Spells};
 ghost use Rattle.jp_model.specs.Meaning.Nodes.{root_node, step_to, children, subtree, child_count as count_of};
 ghost use Rattle.jp_model.specs.Rows.{source as source_of};
-ghost use Rattle.jp_strings.specs.Points.{IsText, points_of};
 ghost use Rattle.jp_tape.specs.Kinds.{kind_of};
-ghost use Rattle.jp_tape.specs.Contents.{text_in, number_in};
 ghost use Rattle.jp_tape.specs.Forms.{joined, words_in, IsPackedTapeOf};
 ghost use Rattle.jp_tape.specs.Spots.{children_in, last_step, name_points};
 ghost use Rattle.jp_tape.specs.Tapes.{is_spelled, spelled, IsTapeOf};
 ghost use Rattle.jp_model.specs.declared.Span.{Span};
 ghost use Rattle.jp_tape.specs.Words.{node_count, tape_words, nodes_below, head_word, span_word, label_word, kind_code};
 
+mod contents;
+
 use crate::Kind;
 use crate::tape::{Tape, half_bits, has_node, word_at};
 use crate::word::{Word, kind_of_head};
-use jp_decimal::Decimal;
 use jp_model::Span;
 
 /// A node of a line (RFC 9535, section 1.1): a place in the line's tape. It is copied freely and owns nothing.
@@ -255,41 +253,6 @@ impl<'a> Cursor<'a> {
         }
         let members = self.go_to(self.up()).child_count();
         members - Cursor::count_from(Some(self))
-    }
-
-    /// The body of a member's name, without its quotes. The root and elements have none (RFC 8259, section 4).
-    pub fn name(self) -> Option<&'a [u8]>
-        ensures points { option_map (λ body. points_of body.now) result ≡ option_map (λ n. n.points) (name_of self.entry) }
-        ensures text { IfSome result (λ body. IsText body.now) }
-        ensures short { IfSome result (λ body. length body.now < 2 ^ 32) }
-    {
-        let span = self.name_span()?;
-        Some(&self.line()[span.start as usize..span.end as usize])
-    }
-
-    /// The body of a string, without its quotes (RFC 8259, section 7).
-    #[inline(always)]
-    pub fn text(self) -> Option<&'a [u8]>
-        ensures points { option_map (λ body. points_of body.now) result ≡ text_in (value_of (node_of self.entry).tree) }
-        ensures text { IfSome result (λ body. IsText body.now) }
-        ensures short { IfSome result (λ body. length body.now < 2 ^ 32) }
-    {
-        if self.kind() != Kind::Text {
-            return None;
-        }
-        let (line, span) = (self.line(), self.span());
-        Some(&line[span.start as usize + 1..span.end as usize - 1])
-    }
-
-    /// The exact value of a number (RFC 8259, section 6).
-    #[inline(always)]
-    pub fn number(self) -> Option<Decimal<'a>>
-        ensures { option_map number_of result ≡ number_in (value_of (node_of self.entry).tree) }
-    {
-        if self.kind() != Kind::Number {
-            return None;
-        }
-        Decimal::read(self.source()).ok()
     }
 
     /// How many elements or members the node has. It walks over them.

@@ -3,10 +3,11 @@
 ghost use Rattle.std.specs.Prelude.{IfOk};
 ghost use Rattle.jp_tape.specs.Tapes.{IsTapeOf};
 
+mod cursors;
+mod limits;
 mod names;
 
 use crate::{BuildFault, Builder, Cursor, Kind, Tape, build, packed_words};
-use jp_decimal::Decimal;
 use jp_masks::line_marks;
 use jp_model::{Framing, LineFault, Span, is_blank};
 use std::alloc::{AllocError, Global};
@@ -223,93 +224,6 @@ fn ends_of_texts_are_seen(rt: HostRuntime) {
     assert!(rt; read(alloc, b"12", Framing::Lines).is_ok());
 }
 
-fn nested(alloc: Global, opened: usize, closed: usize) -> Result<Vec<u8>, AllocError> {
-    let mut line = Vec::new(alloc);
-    for _ in 0..opened {
-        line.push(b'[')?;
-    }
-    for _ in 0..closed {
-        line.push(b']')?;
-    }
-    Ok(line)
-}
-
-#[test]
-fn depth_is_bounded_and_not_recursive(rt: HostRuntime) -> Result<(), Fail> {
-    let alloc = rt.alloc();
-    let most = nested(alloc, 512, 512)?;
-    assert!(rt; has_tape(alloc, &most));
-    let more = nested(alloc, 513, 513)?;
-    assert!(rt; is_refused(alloc, &more, LineFault::Depth));
-    let many = nested(alloc, 1000000, 1000000)?;
-    assert!(rt; is_refused(alloc, &many, LineFault::Depth));
-    let open = nested(alloc, 1000000, 0)?;
-    assert!(rt; is_refused(alloc, &open, LineFault::Grammar));
-    Ok(())
-}
-
-/// So many blanks, and an object of one member.
-fn behind_blanks(alloc: Global, blanks: u32) -> Result<Vec<u8>, AllocError> {
-    let mut line = Vec::new(alloc);
-    for _ in 0..blanks {
-        line.push(b' ')?;
-    }
-    for byte in b"{\"a\":1}" {
-        line.push(*byte)?;
-    }
-    Ok(line)
-}
-
-#[test]
-fn words_are_kept_at_each_limit(rt: HostRuntime) -> Result<(), Fail> {
-    let alloc = rt.alloc();
-    // The lines have 1,023 and 1,024 bytes, and 2,097,151 and 2,097,152.
-    for blanks in [1016_u32, 1017, 2097144, 2097145] {
-        let line = behind_blanks(alloc, blanks)?;
-        let tape = read(alloc, &line, Framing::Lines)?;
-        let object = Seen {
-            kind: Kind::Object,
-            span: Span {
-                start: blanks,
-                end: blanks + 7,
-            },
-            name: None,
-            index: 0,
-            after: 2,
-        };
-        let member = Seen {
-            kind: Kind::Number,
-            span: Span {
-                start: blanks + 5,
-                end: blanks + 6,
-            },
-            name: Some(Span {
-                start: blanks + 2,
-                end: blanks + 3,
-            }),
-            index: 0,
-            after: 2,
-        };
-        assert!(rt;
-            nodes_of(alloc, Cursor::root(&tape, &line))?.as_slice() == [object, member].as_slice()
-        );
-    }
-    Ok(())
-}
-
-#[test]
-fn blanks_behind_a_text_change_no_word(rt: HostRuntime) -> Result<(), Fail> {
-    let alloc = rt.alloc();
-    let mut line = nested(alloc, 511, 511)?;
-    let tape = read(alloc, &line, Framing::Lines)?;
-    let short = nodes_of(alloc, Cursor::root(&tape, &line))?;
-    line.extend_from_slice(b"  ")?;
-    let tape = read(alloc, &line, Framing::Lines)?;
-    let long = nodes_of(alloc, Cursor::root(&tape, &line))?;
-    assert!(rt; short == long);
-    Ok(())
-}
-
 const WHOLE: [u8; 29] = *b"{\"a\":[{\"b\":1},{\"b\":2}],\"b\":3}";
 
 #[test]
@@ -354,135 +268,5 @@ fn backslashes_are_counted(rt: HostRuntime) -> Result<(), Fail> {
     assert!(rt; has_tape(alloc, &slashed(alloc, 5, b"\"\"]")?));
     assert!(rt; is_refused(alloc, &slashed(alloc, 5, b"\"]")?, LineFault::Grammar));
     assert!(rt; is_refused(alloc, &slashed(alloc, 4, b"\"\"]")?, LineFault::Grammar));
-    Ok(())
-}
-
-const LINE: [u8; 25] = *b"{\"a\":[1,\"x\",{}],\"b\":null}";
-
-#[test]
-fn a_root_is_described(rt: HostRuntime) -> Result<(), Fail> {
-    let line = LINE;
-    let tape = read(rt.alloc(), &line, Framing::Lines)?;
-    let root = Cursor::root(&tape, &line);
-    assert_eq!(rt; root.place(), 0);
-    assert_eq!(rt; root.kind(), Kind::Object);
-    assert_eq!(rt; root.span(), Span { start: 0, end: 25 });
-    assert_eq!(rt; root.child_count(), 2);
-    assert_eq!(rt; root.after(), 6);
-    assert_eq!(rt; root.name_span(), None);
-    assert!(rt; root.line() == line.as_slice() && root.source() == line.as_slice());
-    assert!(rt; root.next_sibling().is_none());
-    Ok(())
-}
-
-/// Of each child of a node, in order: its kind, its place, the place after it, and how many children it has.
-fn described_children(
-    alloc: Global,
-    parent: Cursor<'_>,
-) -> Result<Vec<(Kind, u32, u32, u32)>, AllocError> {
-    let mut children = Vec::new(alloc);
-    let mut next = parent.first_child();
-    while let Some(child) = next {
-        children.push((
-            child.kind(),
-            child.place(),
-            child.after(),
-            child.child_count(),
-        ))?;
-        next = child.next_sibling();
-    }
-    Ok(children)
-}
-
-#[test]
-fn children_are_walked(rt: HostRuntime) -> Result<(), Fail> {
-    let line = LINE;
-    let tape = read(rt.alloc(), &line, Framing::Lines)?;
-    let root = Cursor::root(&tape, &line);
-    let children = described_children(rt.alloc(), root)?;
-    assert_eq!(rt;
-        children.as_slice(),
-        [(Kind::Array, 1, 5, 3), (Kind::Null, 5, 6, 0)].as_slice()
-    );
-    Ok(())
-}
-
-/// The place of a node's parent, where it has one, and its index.
-fn stands_at(node: Cursor<'_>) -> (Option<u32>, u32) {
-    match node.parent() {
-        Some(parent) => (Some(parent.place()), node.index()),
-        None => (None, node.index()),
-    }
-}
-
-#[test]
-fn parents_are_known(rt: HostRuntime) -> Result<(), Fail> {
-    let line = *b"[[],{\"a\":[1,2]},[[3],4]]";
-    let tape = read(rt.alloc(), &line, Framing::Lines)?;
-    let root = Cursor::root(&tape, &line);
-    let wanted: [(Option<u32>, u32); 10] = [
-        (None, 0),
-        (Some(0), 0),
-        (Some(0), 1),
-        (Some(2), 0),
-        (Some(3), 0),
-        (Some(3), 1),
-        (Some(0), 2),
-        (Some(6), 0),
-        (Some(7), 0),
-        (Some(6), 1),
-    ];
-    assert_eq!(rt; root.after(), 10);
-    for (place, parent) in wanted.iter().enumerate() {
-        if (place as u32) < root.after() {
-            assert_eq!(rt; stands_at(root.go_to(place as u32)), *parent);
-        }
-    }
-    Ok(())
-}
-
-#[test]
-fn a_place_is_found(rt: HostRuntime) -> Result<(), Fail> {
-    let line = LINE;
-    let tape = read(rt.alloc(), &line, Framing::Lines)?;
-    assert!(rt; 5 < Cursor::root(&tape, &line).after());
-    let text = Cursor::at(&tape, &line, 3);
-    assert_eq!(rt; text.kind(), Kind::Text);
-    assert_eq!(rt; text.span(), Span { start: 8, end: 11 });
-    assert_eq!(rt; text.source(), b"\"x\"".as_slice());
-    assert_eq!(rt; text.name_span(), None);
-    assert!(rt; text.first_child().is_none());
-    let empty = text.go_to(4);
-    assert_eq!(rt; empty.kind(), Kind::Object);
-    assert!(rt; empty.first_child().is_none() && empty.next_sibling().is_none());
-    let member = empty.go_to(5);
-    assert_eq!(rt; member.name_span(), Some(Span { start: 17, end: 18 }));
-    assert_eq!(rt; member.index(), 1);
-    assert_eq!(rt; member.source(), b"null".as_slice());
-    assert_eq!(rt; member.top().place(), 0);
-    Ok(())
-}
-
-#[test]
-fn contents_are_read(rt: HostRuntime) -> Result<(), Fail> {
-    let line = b"{\"\\u0061\":\"x\\n\",\"\":-25e-1}".as_slice();
-    let tape = read(rt.alloc(), line, Framing::Lines)?;
-    let root = Cursor::root(&tape, line);
-    assert!(rt; root.name().is_none() && root.text().is_none() && root.number().is_none());
-    assert!(rt; 2 < root.after());
-    let text = root.go_to(1);
-    assert_eq!(rt; text.name(), Some(b"\\u0061".as_slice()));
-    assert_eq!(rt; text.text(), Some(b"x\\n".as_slice()));
-    assert!(rt; text.number().is_none());
-    let number = root.go_to(2);
-    assert_eq!(rt; number.name(), Some(b"".as_slice()));
-    assert!(rt; number.text().is_none());
-    let same = Decimal::read(b"-2.5");
-    assert!(rt;
-        match (number.number(), same) {
-            (Some(value), Ok(other)) => value.equal(&other),
-            _ => false,
-        }
-    );
     Ok(())
 }

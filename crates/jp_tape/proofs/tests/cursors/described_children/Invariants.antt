@@ -1,6 +1,6 @@
 use Rattle.std.proofs.Common.{length}
 use Rattle.jp_tape.specs.Cursors.{nodes_from}
-use Rattle.jp_tape.proofs.tests.described_children.Given as goal
+use Rattle.jp_tape.proofs.tests.cursors.described_children.Given as goal
 
 abbrev pub decreases-loop-next : goal.decreases-loop-next
 decreases-loop-next l = length (nodes_from l.next)
