@@ -4,7 +4,7 @@ use Rattle.std.specs.List.{filter, range_with_len, list_all}
 use Rattle.std.proofs.lemmas.List.{length-drop, drop-drop}
 use Rattle.std.proofs.lemmas.List.Folds.{list_all_at}
 use Rattle.std.proofs.lemmas.List.Edits.{get_or-between, length-between}
-use Rattle.std.proofs.lemmas.Bool.{cases_Bool, eq-eqb, eqb-true, eqb-false, true≢false}
+use Rattle.std.proofs.lemmas.Bool.{cases_lt, cases_Bool, eq-eqb, eqb-true, eqb-false, true≢false}
 use Rattle.std.proofs.lemmas.Bool.Decides.{nat_tests}
 use Rattle.jp_model.specs.Characters.{is_white, is_structural, is_quote, is_backslash}
 use Rattle.jp_model.specs.Json.Places.{byte_at, White, Has, Reads}
@@ -236,6 +236,17 @@ pub first_inside : (line ms : List ℕ) (from d : ℕ) → IsAhead line from ms 
 first_inside line [] from d a l = absurd (omega (arith, l))
 first_inside line (m ∷ ms) from d a l = mark_inside line from m ms (sym a.are)
 
+-- a list that is not empty has some length
+pub not_empty : (n : ℕ) → false ≡ (n == 0) → 0 < n
+not_empty n h = let z : n ≡ 0 → ⊥ = eqb-false n 0 (sym h) in omega (arith, z)
+
+-- where marks are ahead, the line goes on
+pub goes_on : (line ms : List ℕ) (at : ℕ) → IsAhead line at ms → 0 < length ms → at < length line
+goes_on line ms at a some = elim (cases_lt at (length line)) [
+  | inl inside ↦ inside
+  | inr end ↦ (let none = ap length (a.are ∙ none_at_end line at end) in absurd (omega (arith, none, some)))
+]
+
 pub skips_none : (line ms : List ℕ) (from : ℕ) → from ≤ length line → Stops line from → IsAhead line from ms → Skips line ms from from
 skips_none line ms from l s a = stays_here line ms from l s a
 
@@ -268,6 +279,10 @@ or_middle true c = refl
 or_middle false c = refl
 
 -- a token may begin behind a structural byte
+-- where no mark is ahead, no structural character is there
+pub no_mark_there : (line : List ℕ) (at byte : ℕ) (ms : List ℕ) → IsAhead line at ms → length ms ≡ 0 → is_structural byte ≡ true → Has line at byte → ⊥
+no_mark_there line at byte ms a none s h = let p = (passes_structural line ms at h.inside (ap is_structural h.is ∙ s) a).within in omega (arith, p, none)
+
 pub structural_begins : (line : List ℕ) (i : ℕ) → is_structural (byte_at line i) ≡ true → may_begin line (i + 1) ≡ true
 structural_begins line i h = begins_is line i ∙ (ap (λ x. is_white (byte_at line i) || x || is_unescaped_quote line i) h ∙ or_middle (is_white (byte_at line i)) (is_unescaped_quote line i))
 

@@ -66,7 +66,7 @@ kept_name line kind from r f s plain e l p =
     let span = kept_span line kind from r f s e in
     record { order = span.0; within = span.1; text = (kept_text line kind from r f s e l).0; plain = λ t. plain_between line s.start s.end span.0 span.1 (p t) }
 
-pub labelled_named : (line : List ℕ) (kind : Container) (from : ℕ) (r : Label) (f : FoundLabel line kind from r) (old new : Builder) (s : Span) (plain : Bool) (word : ℕ) → word ≡ body_word old.innermost.children r.name → r.name ≡ Some s → from ≤ r.value → r.value ≤ length line →
+pub labelled_named : (line : List ℕ) (kind : Container) (from : ℕ) (r : Label) (f : FoundLabel line kind from r) (old new : Builder) (s : Span) (plain : Bool) (word : ℕ) → word ≡ body_word old.innermost.children r.name → r.name ≡ Some s → from ≤ r.value → r.value < length line →
     (plain ≡ true → ArePlain line s.start s.end) → new.names.items ≡ old.names.items ++ record { body = s; is_plain = plain } ∷ [] → new.words.items ≡ old.words.items → held new ≡ held old →
     ((lone too_long repeated : Bool) → old.later ≡ first_fault lone too_long repeated → new.later ≡ first_fault (lone || r.is_lone) too_long repeated) → Labelled line kind from (turns.Value word r.value) old new
 labelled_named line kind from r f old new s plain word m e o i p n w q u =
@@ -88,7 +88,7 @@ labelled_named line kind from r f old new s plain word m e o i p n w q u =
       kept = λ z all. subst (AreKept line) (sym n) (All-append (IsKept line) old.names.items (b ∷ []) all (All-cons (IsKept line) b [] (kept_name line kind from r f s plain e z p) (λ k d l. absurd (omega arith))));
     }
 
-pub labelled_bare : (line : List ℕ) (kind : Container) (from : ℕ) (r : Label) (f : FoundLabel line kind from r) (old new : Builder) (word : ℕ) → word ≡ body_word old.innermost.children r.name → r.name ≡ None → from ≤ r.value → r.value ≤ length line →
+pub labelled_bare : (line : List ℕ) (kind : Container) (from : ℕ) (r : Label) (f : FoundLabel line kind from r) (old new : Builder) (word : ℕ) → word ≡ body_word old.innermost.children r.name → r.name ≡ None → from ≤ r.value → r.value < length line →
     new.names.items ≡ old.names.items → new.words.items ≡ old.words.items → held new ≡ held old →
     ((lone too_long repeated : Bool) → old.later ≡ first_fault lone too_long repeated → new.later ≡ first_fault (lone || r.is_lone) too_long repeated) → Labelled line kind from (turns.Value word r.value) old new
 labelled_bare line kind from r f old new word m e o i n w q u =

@@ -1,5 +1,5 @@
 -- What stands before a child's value is one thing.
-use Rattle.std.proofs.Common.{◌≡◌, ℕ, ◌+◌, ◌<◌, inl, inr, Bool, true, false, List, length, drop, get_or, Option, Some, None, arith, sym, ◌∙◌, refl, ap, ap₂, subst}
+use Rattle.std.proofs.Common.{◌≡◌, ℕ, ◌+◌, ◌<◌, ◌≤◌, inl, inr, Bool, true, false, List, length, drop, get_or, Option, Some, None, arith, sym, ◌∙◌, refl, ap, ap₂, subst}
 use Rattle.std.proofs.lemmas.Bool.{cases_lt}
 use Rattle.std.proofs.lemmas.List.{length-drop}
 use Rattle.std.proofs.lemmas.Option.{same_Some}
@@ -84,6 +84,13 @@ found_none line from = record { name = None; is_body = refl; surrogate = refl; s
 pub no_quote_no_name : (line : List ℕ) (from : ℕ) → (Has line from 0x22 → ⊥) → NoLabel line object from
 no_quote_no_name line from none None place l s i = absurd l
 no_quote_no_name line from none (Some n) place l s i = none l.opens
+
+-- at the end of the line nothing stands
+pub end_no_label : (line : List ℕ) (kind : Container) (from : ℕ) → length line ≤ from → NoLabel line kind from
+end_no_label line array from end None place l s i = omega (arith, l, end, i)
+end_no_label line array from end (Some n) place l s i = absurd l
+end_no_label line object from end None place l s i = absurd l
+end_no_label line object from end (Some n) place l s i = let o = l.opens.inside in omega (arith, o, end)
 
 -- a string with no colon behind it is none
 pub no_colon_no_name : (line : List ℕ) (from end colon : ℕ) (points : List ℕ) → SpellsString line from end points → White line end colon → Stops line colon → (Has line colon 0x3A → ⊥) → NoLabel line object from

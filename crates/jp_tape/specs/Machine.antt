@@ -193,9 +193,9 @@ turn_left line (turns.After at) = suc (length line - at)
 turn_left line (turns.TooDeep at flag) = 0
 turn_left line turns.End = 0
 
--- the turn is at a place of the line, and three words at most are written for a byte that was read
+-- a value begins in the line, or the turn is at a place of it or at its end, and three words at most are written for a byte that was read
 abbrev pub IsWithin : List ℕ → Turn → Builder → Type 0
-IsWithin line (turns.Value label at) b = (at ≤ length line) × (length b.words.items ≤ 3 * at)
+IsWithin line (turns.Value label at) b = (at < length line) × (length b.words.items ≤ 3 * at)
 IsWithin line (turns.After at) b = (at ≤ length line) × (length b.words.items ≤ 3 * at)
 IsWithin line (turns.TooDeep at flag) b = Unit {0}
 IsWithin line turns.End b = Unit {0}
@@ -225,7 +225,7 @@ pub record Labelled (line : List ℕ) (kind : Container) (from : ℕ) (turn : Tu
   pub found : FoundLabel line kind from label
   pub is_turn : turn ≡ turns.Value (body_word old.innermost.children label.name) label.value
   pub order : from ≤ label.value
-  pub within : label.value ≤ length line
+  pub within : label.value < length line
   pub words : new.words.items ≡ old.words.items
   pub opened : held new ≡ held old
   pub later : (lone too_long repeated : Bool) → old.later ≡ first_fault lone too_long repeated → new.later ≡ first_fault (lone || label.is_lone) too_long repeated

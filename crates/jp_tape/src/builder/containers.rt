@@ -1,6 +1,6 @@
 //! Arrays and objects: their brackets, the names of members, and what follows a value in them.
 
-ghost use Rattle.std.specs.Prelude.{◌≡◌, ◌+◌, ◌*◌, ◌^◌, ◌<◌, ◌≤◌, ◌++◌, ◌∷◌, [], ℕ, suc, length, drop, None, false, IfOk, IfErr};
+ghost use Rattle.std.specs.Prelude.{◌≡◌, ◌+◌, ◌*◌, ◌^◌, ◌<◌, ◌≤◌, ◌++◌, ◌∷◌, [], ℕ, List, suc, length, drop, None, false, IfOk, IfErr};
 ghost use Rattle.jp_model.specs.Json.Places.{Has, White};
 ghost use Rattle.jp_model.specs.Json.Tree.{Container};
 ghost use Rattle.jp_model.specs.Json.Spelling.{opening};
@@ -18,7 +18,7 @@ use super::kept::KeptName;
 use super::machine::{Builder, GRAMMAR, MOST_DEPTH, Open, Turn, closing_of, note};
 use super::names::has_equal;
 use super::node::{container_kind, head, label_to_word, span_to_word, write_node};
-use super::scan::{is_at, marks_behind, next_token};
+use super::scan::{is_at, is_byte, marks_behind, next_token};
 use super::tokens::{Label, name_at, no_name};
 use jp_model::LineFault;
 
@@ -36,16 +36,11 @@ fn leave(opened: &mut Vec<Open>, innermost: &mut Open)
 impl Builder {
     /// Keeps the name that comes before a child's value.
     #[inline(always)]
-    fn keep_label(&mut self, line: &[u8], marks: &mut &[u32], label: Label) -> Turn
-        requires within { label.value ≤ length line.now }
-        requires room { length line.now < 2 ^ 32 }
-        requires found { (kind : Container) × (from : ℕ) × FoundLabel line.now kind from label }
-        requires plain { IsPlainLabel line.now label }
-        requires ahead { IsPassed line.now marks.old.now (name_marks label.name) label.value }
-        requires first { label.value ≡ first_or (drop (name_marks label.name) marks.old.now) (length line.now) }
+    fn keep_label(&mut self, marks: &mut &[u32], label: Label) -> Turn
+        requires marks { name_marks label.name ≤ length marks.old.now }
         requires spare { HasRoom self.old 0 1 }
-        ensures found { (kind : Container) (from : ℕ) → FoundLabel line.now kind from label → from ≤ label.value → Labelled line.now kind from result self.old self.new }
-        ensures ahead { (n : ℕ) → HasRoom self.old n (suc n) → IsAheadOf line.now n result marks.new.now self.new }
+        ensures found { (line : List ℕ) (kind : Container) (from : ℕ) → FoundLabel line kind from label → IsPlainLabel line label → from ≤ label.value → label.value < length line → Labelled line kind from result self.old self.new }
+        ensures ahead { (line : List ℕ) (n : ℕ) → IsPassed line marks.old.now (name_marks label.name) label.value → label.value ≡ first_or (drop (name_marks label.name) marks.old.now) (length line) → HasRoom self.old n (suc n) → IsAheadOf line n result marks.new.now self.new }
     {
         let word = label_to_word(label.name, self.innermost.children);
         note(&mut self.later, label.is_lone, false);
@@ -76,11 +71,14 @@ impl Builder {
         ensures ahead { (n : ℕ) → HasRoom self.old n (suc n) → IfOk result (λ turn. IsAheadOf line.now n turn marks.new.now self.new) }
         ensures stuck { IfErr result (λ fault. OnFault fault (NoLabel line.now (container_if is_object) from)) }
     {
+        if marks.is_empty() {
+            return Err(GRAMMAR);
+        }
         if !is_object {
-            return Ok(self.keep_label(line, marks, no_name(from)));
+            return Ok(self.keep_label(marks, no_name(from)));
         }
         match name_at(line, escape, *marks, from) {
-            Some(label) => Ok(self.keep_label(line, marks, label)),
+            Some(label) => Ok(self.keep_label(marks, label)),
             None => Err(GRAMMAR),
         }
     }
@@ -205,14 +203,17 @@ impl Builder {
                 Err(GRAMMAR)
             };
         }
+        if marks.is_empty() {
+            return Err(GRAMMAR);
+        }
         let is_object = self.innermost.is_object;
-        if is_at(line, next, b',') {
+        if is_byte(line, next, b',') {
             *marks = marks_behind(*marks, 1);
             self.count_child();
             let child = next_token(line, *marks, next + 1);
             return self.child_begin(line, escape, marks, is_object, child);
         }
-        if !is_at(line, next, closing_of(is_object)) {
+        if !is_byte(line, next, closing_of(is_object)) {
             return Err(GRAMMAR);
         }
         *marks = marks_behind(*marks, 1);

@@ -205,7 +205,11 @@ pub(super) fn walk(builder: &mut Builder, line: &[u8], marks: &[u32]) -> Result<
     builder.start();
     let escape = first_escape(line);
     let mut ahead = marks;
-    let mut turn = Turn::Value(0, next_token(line, ahead, 0));
+    let first = next_token(line, ahead, 0);
+    if ahead.is_empty() {
+        return Err(GRAMMAR);
+    }
+    let mut turn = Turn::Value(0, first);
     let mut turns = builder.room();
     while let Turn::Value(label, at) = turn {
         if turns == 0 {

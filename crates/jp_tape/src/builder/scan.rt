@@ -140,6 +140,16 @@ pub(super) fn word_end(line: &[u8], from: usize, word: &[u8]) -> Option<usize>
     }
 }
 
+/// Whether this byte is at a place of the line.
+#[inline(always)]
+pub(super) fn is_byte(line: &[u8], at: usize, byte: u8) -> bool
+    requires { at < length line.now }
+    ensures yes { result ≡ true → Has line.now at byte }
+    ensures no { result ≡ false → Has line.now at byte → ⊥ }
+{
+    line[at] == byte
+}
+
 /// Whether this byte is there.
 #[inline(always)]
 pub(super) fn is_at(line: &[u8], at: usize, byte: u8) -> bool

@@ -13,7 +13,7 @@ ghost use Rattle.jp_tape.specs.Reading.{IsReadable, FoundScalar, NoValue, FoundL
 ghost use Rattle.jp_strings.specs.Plain.{ArePlain};
 
 use super::numbers::number_end;
-use super::scan::{is_at, marks_behind, next_token, word_end};
+use super::scan::{is_byte, marks_behind, next_token, word_end};
 use crate::Kind;
 use jp_lanes::first_special;
 use jp_model::Span;
@@ -141,8 +141,8 @@ const NAME_AND_MORE: usize = 4;
 pub(super) fn name_at(line: &[u8], escape: usize, marks: &[u32], from: usize) -> Option<Label>
     requires line { IsReadable line.now escape }
     requires within { from ≤ length line.now }
-    requires ahead { IsAhead line.now from marks.now }
-    ensures within { IfSome result (λ r. (from ≤ r.value) × (r.value ≤ length line.now)) }
+    requires ahead { IsNext line.now from marks.now }
+    ensures within { IfSome result (λ r. (from ≤ r.value) × (r.value < length line.now)) }
     ensures stops { IfSome result (λ r. Stops line.now r.value) }
     ensures ahead { IfSome result (λ r. IsPassed line.now marks.now (name_marks r.name) r.value) }
     ensures first { IfSome result (λ r. r.value ≡ first_or (drop (name_marks r.name) marks.now) (length line.now)) }
@@ -150,7 +150,7 @@ pub(super) fn name_at(line: &[u8], escape: usize, marks: &[u32], from: usize) ->
     ensures found { IfSome result (λ r. FoundLabel line.now object from r) }
     ensures none { IfNone result (NoLabel line.now object from) }
 {
-    if marks.len() < NAME_AND_MORE || !is_at(line, from, b'"') {
+    if marks.len() < NAME_AND_MORE || !is_byte(line, from, b'"') {
         return None;
     }
     let Some(name) = string_end(line, escape, marks, from) else {

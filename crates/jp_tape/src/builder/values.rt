@@ -11,7 +11,7 @@ ghost use Rattle.jp_tape.specs.declared.builder.machine.Turn.TheVariants as turn
 use super::BuildFault;
 use super::machine::{Builder, GRAMMAR, Turn, note};
 use super::node::{head, span_to_word, write_node};
-use super::scan::{is_at, marks_behind, next_token, skip_white};
+use super::scan::{is_byte, marks_behind, next_token, skip_white};
 use super::tokens::{Scalar, scalar_at, text_at};
 
 impl Builder {
@@ -127,7 +127,7 @@ impl Builder {
         label: u64,
     ) -> Result<Turn, BuildFault>
         requires line { IsReadable line.now escape }
-        requires within { at ≤ length line.now }
+        requires inside { at < length line.now }
         requires few { length self.old.words.items ≤ 3 * at }
         requires ahead { IsAheadOf line.now 1 (turns.Value label at) marks.old.now self.old }
         requires holds { BuilderHolds line.now (turns.Value label at) self.old }
@@ -136,14 +136,11 @@ impl Builder {
         ensures ahead { (n : ℕ) → HasRoom self.old (suc n) (suc n) → IfOk result (λ turn. IsAheadOf line.now n turn marks.new.now self.new) }
         ensures stuck { IfErr result (λ fault. OnFault fault (NoBuilderStep line.now (turns.Value label at) self.old)) }
     {
-        if at >= line.len() {
-            return Err(GRAMMAR);
-        }
-        if is_at(line, at, b'"') {
+        if is_byte(line, at, b'"') {
             return self.read_text(line, escape, marks, at, label);
         }
-        let is_object = is_at(line, at, b'{');
-        if is_object || is_at(line, at, b'[') {
+        let is_object = is_byte(line, at, b'{');
+        if is_object || is_byte(line, at, b'[') {
             return self.container_begin(line, escape, marks, at, is_object, label);
         }
         self.read_scalar(line, escape, marks, at, label)

@@ -5,41 +5,55 @@ use Rattle.jp_tape.specs.declared.builder.machine.Turn.TheVariants as turns
 use Rattle.jp_tape.specs.Machine.{Value_at, WalkReached}
 use Rattle.jp_tape.specs.Ahead.{IsAheadOf}
 use Rattle.jp_tape.proofs.Nesting.{deep_opens}
-use Rattle.jp_tape.proofs.Ahead.{all_ahead, begins_first}
+use Rattle.std.proofs.lemmas.Bool.{eqb-true}
+use Rattle.jp_model.proofs.Reader.Leads.{starts_inside}
+use Rattle.jp_tape.proofs.Ahead.{all_ahead, begins_first, none_is_end, not_empty}
 use Rattle.jp_tape.specs.Names.{spelled_names, AreKept}
 use Rattle.jp_tape.proofs.Room.{reached_roomier, reached_then}
 use Rattle.jp_tape.proofs.Steps.{start_forth, start_back}
 use Rattle.jp_tape.proofs.builder.machine.walk.Goals as goal
 use Rattle.jp_tape.proofs.builder.machine.walk.Goals.{then-turns-eq0+in_ok-turns, else-turns-eq0}
 
+-- without a mark no value begins
+pub returns-then-is_empty-clause-refused : goal.returns-then-is_empty-clause-refused
+returns-then-is_empty-clause-refused c whole text =
+    let line = c.args.line.now in
+    let w = c.next_token-first.ensures in
+    let first = w.next.first in
+    let end = none_is_end c.args.marks.now (length line) (eqb-true _ _ (sym c.if-is_empty.ensures)) in
+    let x = start_forth line c.next_token-first.result w.white w.stops whole text in
+    let start = x.1 in
+    let inside = starts_inside line x.0 x.2 in
+    omega (arith, first, end, start, inside)
+
 pub loop-turn-init : goal.loop-turn-init
 loop-turn-init c =
     let line = c.args.line.now in
-    let w = c.next_token.ensures in
+    let w = c.next_token-first.ensures in
     let e = c.start.ensures in
     let n = ap length e.words in
     record {
       reached = record {
-        state = Value_at [] None c.next_token.result;
+        state = Value_at [] None c.next_token-first.result;
         stands = (
           refl,
           refl,
           refl,
           record { words = e.words; opened = e.opened; shallow = omega arith; later = e.later; count = ap length e.names; names = λ z. ap (spelled_names line) e.names; kept = λ z. subst (AreKept line) (sym e.names) (λ k d l. absurd (omega (arith, l))) },
         );
-        forth = start_forth line c.next_token.result w.white w.stops;
-        back = start_back line c.next_token.result w.white;
+        forth = start_forth line c.next_token-first.result w.white w.stops;
+        back = start_back line c.next_token-first.result w.white;
       };
-      within = (w.white.within, omega (arith, n));
+      within = (w.inside (not_empty _ c.if-is_empty.ensures), omega (arith, n));
       ahead = (w.next, c.room-turns.ensures.enough);
       settled = tt;
     }
 
-pub next_token-requires-clause-ahead : goal.next_token-requires-clause-ahead
-next_token-requires-clause-ahead c = all_ahead c.args.line.now c.args.marks.now c.requires.marks
+pub next_token-first-requires-clause-ahead : goal.next_token-first-requires-clause-ahead
+next_token-first-requires-clause-ahead c = all_ahead c.args.line.now c.args.marks.now c.requires.marks
 
-pub next_token-requires-clause-begins : goal.next_token-requires-clause-begins
-next_token-requires-clause-begins c = begins_first c.args.line.now
+pub next_token-first-requires-clause-begins : goal.next_token-first-requires-clause-begins
+next_token-first-requires-clause-begins c = begins_first c.args.line.now
 
 pub until_value-requires-clause-reached : goal.until_value-requires-clause-reached
 until_value-requires-clause-reached c =

@@ -3,14 +3,17 @@ use Rattle.std.proofs.lemmas.List.{length-drop}
 use Rattle.jp_model.specs.Characters.{is_structural}
 use Rattle.jp_model.specs.Json.Places.{byte_at, Has}
 use Rattle.jp_tape.specs.Ahead.{IsAhead, first_or}
-use Rattle.jp_tape.proofs.Ahead.{passes_colon, structural_begins}
+use Rattle.jp_tape.proofs.Ahead.{goes_on, passes_colon, structural_begins}
 use Rattle.jp_tape.proofs.Labels.{found_name, no_string_no_name, no_quote_no_name, no_colon_no_name, few_marks_no_name}
 use Rattle.jp_tape.proofs.builder.tokens.name_at.Goals as goal
-use Rattle.jp_tape.proofs.builder.tokens.name_at.Goals.{then-marks-lt-NAME_AND_MORE-via-then-marks-lt-NAME_AND_MORE, then-marks-lt-NAME_AND_MORE-via-else-marks-lt-NAME_AND_MORE+then-not-is_at}
+use Rattle.jp_tape.proofs.builder.tokens.name_at.Goals.{then-marks-lt-NAME_AND_MORE-via-then-marks-lt-NAME_AND_MORE, then-marks-lt-NAME_AND_MORE-via-else-marks-lt-NAME_AND_MORE+then-not-is_byte}
 
 -- a token is there, and it is a colon
 colon_at : (line ms rest : List ℕ) (colon : ℕ) → rest ≡ drop 2 ms → 4 ≤ length ms → (0 < length rest → colon < length line) → byte_at line colon ≡ 0x3A → Has line colon 0x3A
 colon_at line ms rest colon e l inside is = let d = length-drop 2 ms in let n = ap length e in record { inside = inside (omega (arith, d, n, l)); is = is }
+
+pub is_byte-requires : goal.is_byte-requires
+is_byte-requires c = let many = c.if-marks-lt-NAME_AND_MORE.false in goes_on c.args.line.now c.args.marks.now c.args.from c.requires.ahead.ahead (omega (arith, many))
 
 pub next_token-requires-clause-begins : goal.next_token-requires-clause-begins
 next_token-requires-clause-begins c = structural_begins c.args.line.now c.next_token-colon.result (ap is_structural c.if-line-colon-ne58.false)
@@ -44,8 +47,8 @@ returns-clause-first c = c.next_token.ensures.next.first ∙ ap (λ (xs : List �
 pub returns-then-marks-lt-NAME_AND_MORE-clause-none : goal.returns-then-marks-lt-NAME_AND_MORE-clause-none
 returns-then-marks-lt-NAME_AND_MORE-clause-none c =
     elim c.then-marks-lt-NAME_AND_MORE.branch [
-      | then-marks-lt-NAME_AND_MORE-via-then-marks-lt-NAME_AND_MORE w ↦ few_marks_no_name c.args.line.now c.args.marks.now c.args.from c.requires.ahead w.if-marks-lt-NAME_AND_MORE.true
-      | then-marks-lt-NAME_AND_MORE-via-else-marks-lt-NAME_AND_MORE+then-not-is_at w ↦ no_quote_no_name c.args.line.now c.args.from (w.is_at.ensures.no w.if-not-is_at.true)
+      | then-marks-lt-NAME_AND_MORE-via-then-marks-lt-NAME_AND_MORE w ↦ few_marks_no_name c.args.line.now c.args.marks.now c.args.from c.requires.ahead.ahead w.if-marks-lt-NAME_AND_MORE.true
+      | then-marks-lt-NAME_AND_MORE-via-else-marks-lt-NAME_AND_MORE+then-not-is_byte w ↦ no_quote_no_name c.args.line.now c.args.from (w.is_byte.ensures.no w.if-not-is_byte.true)
     ]
 
 pub returns-in_default-clause-none : goal.returns-in_default-clause-none

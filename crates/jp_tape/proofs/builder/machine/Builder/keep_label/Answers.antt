@@ -11,9 +11,9 @@ noted : (is_lone : Bool) (old new : Option LineFault) → ((lone too_long repeat
 noted is_lone old new n lone too_long repeated h = n lone too_long repeated h ∙ ap (λ x. first_fault (lone || is_lone) x repeated) (or_false too_long)
 
 pub returns-in-Some-clause-found : goal.returns-in-Some-clause-found
-returns-in-Some-clause-found c kind from found order =
-    labelled_named c.args.line.now kind from c.args.label found c.args.self.now _ c.in-Some.body c.args.label.is_plain _ c.label_to_word-word.ensures c.in-Some.is order c.requires.within (c.requires.plain c.in-Some.body c.in-Some.is) c.push_reserved.ensures.items refl refl (noted c.args.label.is_lone _ _ c.note.ensures)
+returns-in-Some-clause-found c line kind from found plain order inside =
+    labelled_named line kind from c.args.label found c.args.self.now _ c.in-Some.body c.args.label.is_plain _ c.label_to_word-word.ensures c.in-Some.is order inside (plain c.in-Some.body c.in-Some.is) c.push_reserved.ensures.items refl refl (noted c.args.label.is_lone _ _ c.note.ensures)
 
 pub returns-in_default-clause-found : goal.returns-in_default-clause-found
-returns-in_default-clause-found c kind from found order =
-    labelled_bare c.args.line.now kind from c.args.label found c.args.self.now _ _ c.label_to_word-word.ensures c.in_default.is order c.requires.within refl refl refl (noted c.args.label.is_lone _ _ c.note.ensures)
+returns-in_default-clause-found c line kind from found plain order inside =
+    labelled_bare line kind from c.args.label found c.args.self.now _ _ c.label_to_word-word.ensures c.in_default.is order inside refl refl refl (noted c.args.label.is_lone _ _ c.note.ensures)
