@@ -349,11 +349,27 @@ def texts_from_the_root(checks):
 
 
 def counts_of_many_nodes(checks):
-    """`count` keeps none of the millions of nodes that it counts, so it needs little memory."""
-    lines, script = file_of("lines", "[" * 145 + "]" * 145 + "\n"), file_of("script", "query $[?count(@..*..*..*..*)==0]\n")
-    limit = lambda: resource.setrlimit(resource.RLIMIT_AS, (64 * 2**20, 64 * 2**20))
-    run = subprocess.run([PROGRAM, lines, "--script", script], capture_output=True, timeout=SECONDS, preexec_fn=limit)
-    checks.check("a count of many nodes in 64 MB", (run.returncode, run.stdout), (0, b"= 0\n"))
+    """`count` keeps none of the millions of nodes that it counts, so it needs little memory and the time of going over them."""
+    def counted(line, query):
+        lines, script = file_of("lines", line + "\n"), file_of("script", f"query {query}\n")
+        limit = lambda: resource.setrlimit(resource.RLIMIT_AS, (64 * 2**20, 64 * 2**20))
+        run = subprocess.run([PROGRAM, lines, "--script", script], capture_output=True, timeout=SECONDS, preexec_fn=limit)
+        return (run.returncode, run.stdout), (0, b"= 0\n")
+
+    def of_elements(count):
+        return counted(f"[[{','.join('1' * count)}]]", f"$[?count(@[{','.join('*' * 8)}])!={8 * count}]")
+
+    checks.check("a count of many nodes in 64 MB", *counted("[" * 145 + "]" * 145, "$[?count(@..*..*..*..*)==0]"))
+    grows_with_its_input(checks, "counts in 64 MB", of_elements, 100_000)
+
+
+def queries_of_one_line(checks):
+    """An index knows the lines that have its path, so as many queries as lines, of a path that one has, take little more than rows."""
+    def asked(count):
+        lines = "".join('{"b":1}\n' if number == count // 2 else '{"a":1}\n' for number in range(count))
+        return answered(lines, "index $.b\n" + "query $.b\n" * count), (0, "indexed 1\n" + rows([(count // 2 + 1, "$['b']")], "1") * count)
+
+    grows_with_its_input(checks, "queries of one line", asked, 20_000)
 
 
 def devices(checks):
@@ -404,7 +420,7 @@ def main():
     for part in (texts_of_brackets, memory_of_deep_lines, texts_cut_short, texts_of_backslashes, texts_of_each_form_of_tape,
                  lines_behind_long_ones, objects_of_many_members, many_lines, lines_of_one_key, edits_of_many_lines, texts_of_numbers,
                  texts_of_names, queries, patterns, long_texts, long_numbers, objects_turned, large_objects, filters_from_the_root,
-                 conditions_of_the_root, texts_from_the_root, counts_of_many_nodes, devices, sizes):
+                 conditions_of_the_root, texts_from_the_root, counts_of_many_nodes, queries_of_one_line, devices, sizes):
         part(checks)
     print(f"{checks.passed} passed, {checks.failed} failed")
     return 1 if checks.failed else 0

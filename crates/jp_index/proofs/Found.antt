@@ -1,19 +1,17 @@
 -- The lines that an index finds, and those that it has.
 use Rattle.std.proofs.Common.{◌≡◌, ◌∙◌, ◌↔◌, ℕ, zero, suc, ◌+◌, ◌-◌, ◌^◌, ◌<◌, ◌≤◌, ◌==◌, Bool, true, false, cond, List, [], ◌∷◌, ◌++◌, length, map, get_or, set, drop, Option, Some, None, refl, sym, ap, ap₂, subst, arith, length-append, inl, inr, Equal, if◌then◌else◌}
-use Rattle.std.specs.Prelude.{All, Contains, count_by, filter}
+use Rattle.std.specs.Prelude.{All, Contains, filter}
 use Rattle.std.specs.List.{AllPairs}
 use Rattle.std.specs.List.Sorted.{IsPermutation, IsSorted, IsStrictlyIncreasing}
 use Rattle.std.specs.Cmp.Lexicographic.{options_total}
 use Rattle.std.specs.Option.{is_some, option_cmp}
 use Rattle.std.specs.Ordering.{nat_cmp}
-use Rattle.std.proofs.Math.ListN.{length-set}
 use Rattle.std.proofs.lemmas.Bool.{cases_lt}
 use Rattle.std.proofs.lemmas.Cmp.{tied_itself}
-use Rattle.std.proofs.lemmas.List.{drop_more, drop_all, map-append, get_or-set_other, get_or-set_same, get_or_append_left, get_or_default, get_or_past}
+use Rattle.std.proofs.lemmas.List.{length-map, map-append, get_or-set_other, get_or-set_same, get_or_append_left, get_or_default, get_or_past}
 use Rattle.std.proofs.lemmas.List.Elements.{All-nil, All-cons, All-head, All-tail, All-map}
 use Rattle.std.proofs.lemmas.List.Kept.{AllPairs-cons, AllPairs-filter}
 use Rattle.std.proofs.lemmas.List.Sorted.{Contains-permutation, IsPermutation-sym}
-use Rattle.std.proofs.lemmas.List.Sums.{sum_by-cons, sum_by-set, count_by-le-length}
 use Rattle.jp_model.specs.Json.Tree.{Value}
 use Rattle.jp_model.specs.Meaning.Compare.{compared}
 use Rattle.jp_model.specs.Query.Syntax.{CompareOp, not_equal}
@@ -32,6 +30,7 @@ use Rattle.jp_index.proofs.Ascending.{Below, first_of_pairs, rest_of_pairs, same
 use Rattle.jp_index.proofs.ByKey.{same_or_not}
 use Rattle.jp_index.proofs.Cells.{cell_at, none_below, none_above}
 use Rattle.jp_index.proofs.Edges.{between_is}
+use Rattle.jp_index.proofs.Numbered.{numbers_few}
 use Rattle.jp_index.proofs.Numbers.{numbers_rise, keyed_passes, passes_keyed, sorted_rise}
 use Rattle.jp_index.proofs.Taken.{where-append, where_passes, where_fails, none_fails}
 
@@ -81,12 +80,9 @@ module _ (path : List Step) where
   cell_count n None here h = ap length h
   cell_count n (Some slot) here h = ap length h.1
 
-  pub count_is : (n : ℕ) (cs : List (Option Slot)) (es : List Entry) → CellsAre path n cs es → count_by is_some cs ≡ length es
-  unfolding CellsAre
-  count_is n [] es h = sym (ap length h)
-  count_is n (c ∷ cs) es h =
-      sum_by-cons (λ (d : Option Slot). cond (is_some d) 1 0) c cs
-      ∙ (ap₂ (λ (a b : ℕ). a + b) (sym (cell_count n c h.0 h.3)) (count_is (n + 1) cs h.1 h.4) ∙ (sym (length-append h.0 h.1) ∙ sym (ap length h.2)))
+  -- how many they are, by their numbers
+  pub count_is : (cs : List (Option Slot)) (es : List Entry) (lines : List ℕ) (count : ℕ) → CellsAre path 1 cs es → lines ≡ numbers_where is_some 1 cs → count ≡ length lines → count ≡ length es
+  count_is cs es lines count h e c = c ∙ (ap length (e ∙ sym (lines_are 1 cs es h)) ∙ length-map es (λ (e : Entry). e.line))
 
   -- a line has one entry at most
   cell_one : (m : ℕ) (c : Option Slot) (here : List Entry) → CellIs path m c here → length here ≤ 1
@@ -176,9 +172,6 @@ but_set cs line i c e (suc j) = elim (cases_lt j i) [
   ]
 ]
 
-pub count_set : (cs : List (Option Slot)) (i : ℕ) (c d : Option Slot) → i < length cs → d ≡ get_or cs i d → count_by is_some (set cs i c) + cond (is_some d) 1 0 ≡ count_by is_some cs + cond (is_some c) 1 0
-count_set cs i c d l e = ap (λ x. count_by is_some (set cs i c) + cond (is_some x) 1 0) e ∙ sum_by-set (λ (x : Option Slot). cond (is_some x) 1 0) cs i c d l
-
 -- a cell with the same key
 pub same_set : (cs : List (Option Slot)) (i : ℕ) (c d : Option Slot) → i < length cs → d ≡ get_or cs i d → option_cmp key_order (cell_key d) (cell_key c) ≡ Equal
     → (a : ℕ) → option_cmp key_order (key_at cs a) (key_at (set cs i c) a) ≡ Equal
@@ -190,23 +183,9 @@ same_set cs i c d l e same (suc j) = elim (same_or_not j i) [
   | inr other ↦ ap (λ x. option_cmp key_order (key_at cs (suc j)) (cell_key x)) (get_or-set_other cs i j c None other) ∙ tied_itself (options_total keys_total) (key_at cs (suc j))
 ]
 
--- the next cell
-pub numbers_next : (test : Option Slot → Bool) (n : ℕ) (cs : List (Option Slot)) (i : ℕ) (c : Option Slot) → i < length cs → c ≡ get_or cs i c
-    → numbers_where test n (drop i cs) ≡ (if test c then n ∷ numbers_where test (n + 1) (drop (i + 1) cs) else numbers_where test (n + 1) (drop (i + 1) cs))
-numbers_next test n cs i c l e = ap (numbers_where test n) (drop_more cs i c l ∙ ap (λ d. d ∷ drop (i + 1) cs) (sym e))
-
-pub numbers_end : (test : Option Slot → Bool) (n : ℕ) (cs : List (Option Slot)) (i : ℕ) → length cs ≤ i → numbers_where test n (drop i cs) ≡ []
-numbers_end test n cs i l = ap (numbers_where test n) (drop_all i cs l)
-
--- the number of cells that keep something, after one is another
-pub set_count : (cs : List (Option Slot)) (i : ℕ) (c d : Option Slot) (count h k : ℕ) → i < length cs → d ≡ get_or cs i d → length cs < 2 ^ 32 → count ≡ count_by is_some cs → h ≡ cond (is_some d) 1 0 → k ≡ cond (is_some c) 1 0
-    → (count - h + k ≡ count_by is_some (set cs i c)) × (count - h + k < 2 ^ 32)
-set_count cs i c d count h k l e few counted is_h is_k =
-    let all = count_set cs i c d l e in
-    let none : count_by is_some (set cs i None) + cond (is_some d) 1 0 ≡ count_by is_some cs + 0 = count_set cs i None d l e in
-    let most : count_by is_some (set cs i c) ≤ length (set cs i c) = count_by-le-length is_some (set cs i c) in
-    let same : length (set cs i c) ≡ length cs = length-set cs i c in
-    (omega arith, omega arith)
+-- the number of lines that are kept is that of so many cells at most
+pub count_few : (cs : List (Option Slot)) (lines : List ℕ) (count : ℕ) → length cs < 2 ^ 32 → lines ≡ numbers_where is_some 1 cs → count ≡ length lines → count < 2 ^ 32
+count_few cs lines count few e c = let all = numbers_few is_some 1 cs in let same : count ≡ length (numbers_where is_some 1 cs) = c ∙ ap length e in omega arith
 
 no_keys : (a : ℕ) → is_some (key_at [] a) ≡ true → ⊥
 no_keys zero e = absurd (cc)

@@ -1,15 +1,19 @@
 //! An index made of all lines at once.
 
 ghost use Rattle.std.specs.Prelude.{◌≡◌, ℕ, ◌+◌, ◌<◌, ◌≤◌, ◌^◌, List, [], ◌++◌, length, option_map, IfOk, OnOk, OnErr};
+ghost use Rattle.std.specs.Option.{is_some};
 ghost use Rattle.std.specs.Vec.{vec_capacity, vec_len};
+ghost use Rattle.jp_model.specs.Numbered.{numbers_where};
 ghost use Rattle.jp_model.specs.Steps.{Step};
 ghost use Rattle.jp_query.specs.SingularPaths.{path_steps};
 ghost use Rattle.jp_tape.specs.Cursors.{root_of};
 ghost use Rattle.jp_index.specs.Entries.{Entry, entry_in};
+ghost use Rattle.jp_index.specs.LineSetViews.{numbers_of};
 
 use crate::chunks::Order;
 use crate::comparing::has_key;
 use crate::index::ValueIndex;
+use crate::line_set::LineSet;
 use crate::order::sort_by_key;
 use crate::reading::read_root;
 use crate::slot::Slot;
@@ -26,6 +30,21 @@ pub struct IndexBuilder {
     /// The lines that have a key, in order of line.
     pub(crate) by_key: Vec<u32>,
     ghost few: { length cells.items < 2 ^ 32 },
+}
+
+/// The lines of which something is kept.
+fn lines_kept(alloc: Global, cells: &[Option<Slot>]) -> Result<LineSet, AllocError>
+    requires { length cells.now < 2 ^ 32 }
+    ensures { IfOk result (λ lines. numbers_of lines ≡ numbers_where is_some 1 cells.now) }
+{
+    let mut lines = LineSet::new(alloc);
+    lines.reserve(cells.len() as u32)?;
+    let mut line = 0;
+    for cell in cells {
+        line += 1;
+        lines.set(line, cell.is_some());
+    }
+    Ok(lines)
 }
 
 impl IndexBuilder {
@@ -76,7 +95,8 @@ impl IndexBuilder {
         Ok(())
     }
 
-    /// The index of the lines that were added. It allocates while it sorts, if there are more than 20 keys.
+    /// The index of the lines that were added. It allocates a bit for each line, and while it sorts, if there are
+    /// more than 20 keys.
     pub fn finish(self) -> Result<ValueIndex, AllocError>
         ensures { (path : List Step) (lines : ℕ) (entries : List Entry) → IsBuildOf self path lines entries → IfOk result (λ index. IsIndexOf index path entries) }
     {
@@ -86,13 +106,13 @@ impl IndexBuilder {
             mut by_key,
         } = self;
         sort_by_key(&cells, &mut by_key)?;
-        let count = cells.iter().filter(|cell| cell.is_some()).count() as u32;
+        let kept = lines_kept(*by_key.allocator(), &cells)?;
         let order = Order::from_sorted(*by_key.allocator(), &by_key)?;
         Ok(ValueIndex {
             path,
             cells,
             order,
-            count,
+            kept,
         })
     }
 }

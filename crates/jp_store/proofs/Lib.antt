@@ -6,8 +6,6 @@ pub mod Built
 pub mod Positions
 pub mod Counted
 pub mod Edited
-pub mod Numbered
-pub mod SetBits
 pub mod Commits
 pub mod Replaced
 pub mod Parts

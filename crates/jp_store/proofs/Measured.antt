@@ -11,9 +11,9 @@ use Rattle.jp_store.specs.declared.line.Line.{Line}
 use Rattle.jp_store.specs.declared.counts.Counts.{Counts}
 use Rattle.jp_model.specs.Numbered.{numbers_where}
 use Rattle.jp_store.specs.Stored.{told_of, AreCounted, IsRead, stored_text, is_tree_status, is_fault_status}
-use Rattle.jp_store.specs.Numbered.{with_number}
+use Rattle.jp_index.specs.Numbered.{with_number}
 use Rattle.jp_store.proofs.Kept.{told_is_fault, told_is_tree}
-use Rattle.jp_store.proofs.Numbered.{lines_more}
+use Rattle.jp_index.proofs.Numbered.{lines_more}
 
 module _ (bytes : List ℕ) (lines : List Line) (i : ℕ) (line : Line) (within : i < length lines) (here : line ≡ get_or lines i line) where
   abbrev texts : ℕ → List (List ℕ)

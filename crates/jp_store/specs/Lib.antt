@@ -1,11 +1,8 @@
 -- What the contracts of the store speak of.
 pub mod Collections
 pub mod Faults
-pub mod LineSets
-pub mod LineSetViews
 pub mod Loads
 pub mod Views
-pub mod Numbered
 pub mod Stored
 pub mod Edits
 pub mod Collected

@@ -15,7 +15,7 @@ use Rattle.jp_index.specs.Entries.{entries_of}
 use Rattle.jp_index.specs.Indexes.{IsIndexOf}
 use Rattle.jp_index.specs.declared.index.ValueIndex.{ValueIndex}
 use Rattle.jp_model.specs.Numbered.{numbers_where}
-use Rattle.jp_store.specs.LineSetViews.{numbers_of}
+use Rattle.jp_index.specs.LineSetViews.{numbers_of}
 use Rattle.jp_store.specs.declared.counts.Counts.{Counts}
 use Rattle.jp_store.specs.declared.line.Line.{Line}
 use Rattle.jp_store.specs.declared.line.Line.TheVariants as lines

@@ -1,10 +1,10 @@
 //! What is counted of all lines.
 
 ghost use Rattle.std.specs.Prelude.{◌≡◌, ◌+◌, ◌<◌, ◌≤◌, ◌^◌, OnOk, cond};
-ghost use Rattle.jp_store.specs.Numbered.{with_number};
+ghost use Rattle.jp_index.specs.Numbered.{with_number};
 
 use crate::line::Line;
-use crate::line_set::LineSet;
+use jp_index::LineSet;
 use std::alloc::AllocError;
 
 /// What is counted of all lines, so that an edit reads no line but its own.
@@ -19,7 +19,7 @@ pub(crate) struct Counts {
 }
 
 impl Counts {
-    ghost use Rattle.jp_store.specs.LineSetViews.{numbers_of, room_in};
+    ghost use Rattle.jp_index.specs.LineSetViews.{numbers_of, room_in};
     ghost use Rattle.jp_store.specs.Stored.{told_of, is_fault_status, is_tree_status};
 
     /// Makes room for the lines up to one. The counts stay, also after an `Err`.

@@ -7,8 +7,8 @@ ghost use Rattle.jp_store.specs.Stored.{AreCounted, IsRead, stored_text};
 
 use crate::counts::Counts;
 use crate::line::Line;
-use crate::line_set::LineSet;
 use crate::text::text_of;
+use jp_index::LineSet;
 use std::alloc::{AllocError, Global};
 
 /// What is counted of all lines, by one pass over them.

@@ -15,6 +15,7 @@ ghost use Rattle.jp_store.specs.Faults.{RefusesIndex, index_fault, RefusesEdit, 
 ghost use Rattle.jp_store.specs.Views.{status_kind, text_of_view, tree_of_view};
 ghost use Rattle.jp_index.specs.Entries.{entries_of};
 ghost use Rattle.jp_index.specs.Indexes.{IsIndexOf};
+ghost use Rattle.jp_index.specs.Numbered.{IsFirstBehind};
 
 use crate::collection::{CollectionFault, read_collection};
 use crate::counts::Counts;
@@ -152,6 +153,13 @@ impl Store {
         ensures { IfOk result (λ lines. lines.items ≡ numbers_where is_refused_status 1 (statuses_in self.now)) }
     {
         self.counts.refused.numbers(self.alloc)
+    }
+
+    /// The first refused line behind line `n`. Lines count from 1. Between them a bit is looked at for each line.
+    pub fn refused_behind(&self, n: u32) -> Option<u32>
+        ensures { IsFirstBehind n (numbers_where is_refused_status 1 (statuses_in self.now)) result }
+    {
+        self.counts.refused.first_behind(n)
     }
 
     /// What line `n` is. Lines count from 1.

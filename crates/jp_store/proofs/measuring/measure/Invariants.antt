@@ -1,7 +1,7 @@
 -- The counts so far are those of the lines so far.
 use Rattle.std.proofs.Common.{◌≡◌, ◌<◌, ℕ, List, length, map, take, All}
 use Rattle.jp_model.specs.declared.Framing.{Framing}
-use Rattle.jp_store.specs.LineSetViews.{room_in}
+use Rattle.jp_index.specs.LineSetViews.{room_in}
 use Rattle.jp_store.specs.Stored.{AreCounted, IsRead, stored_text}
 use Rattle.jp_store.proofs.measuring.measure.Given as goal
 

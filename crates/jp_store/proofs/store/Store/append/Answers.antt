@@ -7,7 +7,7 @@ use Rattle.jp_model.specs.Steps.{Step}
 use Rattle.jp_store.specs.Collections.{Collection, appended, with_lines}
 use Rattle.jp_store.specs.Edits.{AreEdited}
 use Rattle.jp_store.specs.Faults.{append_fault}
-use Rattle.jp_store.specs.Numbered.{with_number}
+use Rattle.jp_index.specs.Numbered.{with_number}
 use Rattle.jp_store.specs.Stored.{told_of, IsKept, IsRead, is_fault_status, told_tree, stored_text, path_of}
 use Rattle.jp_store.specs.declared.line.Line.{Line}
 use Rattle.jp_store.proofs.Commits.{few_trees, kept_same, kept_more}

@@ -5,7 +5,7 @@ use Rattle.std.proofs.lemmas.List.{map-set}
 use Rattle.jp_store.specs.Collections.{replaced, with_lines}
 use Rattle.jp_store.specs.Edits.{AreEdited}
 use Rattle.jp_store.specs.Faults.{RefusesEdit, replace_fault}
-use Rattle.jp_store.specs.Numbered.{with_number}
+use Rattle.jp_index.specs.Numbered.{with_number}
 use Rattle.jp_store.specs.Stored.{told_of, IsRead, is_fault_status, is_tree_status, told_tree, stored_text, path_of}
 use Rattle.jp_store.specs.declared.line.Line.{Line}
 use Rattle.jp_store.proofs.Commits.{bit, kept_same, kept_set, trees_least, trees_most}

@@ -1,18 +1,19 @@
 -- The bits of a set of lines, and the numbers of those that are set.
-use Rattle.std.proofs.Common.{◌≡◌, ◌≢◌, ◌∙◌, ℕ, zero, suc, ◌+◌, ◌-◌, ◌*◌, ◌/◌, ◌%◌, ◌^◌, ◌<◌, ◌≤◌, ◌==◌, Bool, true, false, cond, List, [], ◌∷◌, ◌++◌, length, get_or, set, take, refl, sym, ap, ap₂, arith, inl, inr, if◌then◌else◌}
+use Rattle.std.proofs.Common.{◌≡◌, ◌≢◌, ◌∙◌, ℕ, zero, suc, ◌+◌, ◌-◌, ◌*◌, ◌/◌, ◌%◌, ◌^◌, ◌<◌, ◌≤◌, ◌==◌, Bool, true, false, cond, List, [], ◌∷◌, ◌++◌, length, get_or, set, take, drop, refl, sym, ap, ap₂, arith, inl, inr, if◌then◌else◌}
 use Rattle.std.specs.Int.{bit_at}
 use lib.Pow.{shr-shr}
 use mir.Val.{bool_byte}
 use Rattle.std.proofs.lemmas.Bool.{cases_lt, cases_eq}
-use Rattle.std.proofs.lemmas.List.{ext_get_or, length-set, get_or-set_other, get_or_append_left, get_or-append-add, get_or-take, length-take, length_push, take_more}
+use Rattle.std.proofs.lemmas.List.{ext_get_or, length-set, get_or-set_other, get_or_append_left, get_or-append-add, get_or-take, length-take, length_push, take_more, drop_more, drop_all}
 use Rattle.std.proofs.lemmas.Grind.{get_or-set_at}
 use Rattle.std.proofs.lemmas.List.FromFn.{length-map-range_with_len, get_or-map-range_with_len}
 use Rattle.std.proofs.lemmas.Nat.Bits.{bit_at-zero, bit_at_above}
 use Rattle.jp_model.specs.Numbered.{numbers_where}
 use Rattle.jp_model.proofs.Numbered.{numbers_where-append}
-use Rattle.jp_store.specs.LineSets.{bit_of, bits_of, numbers_in}
-use Rattle.jp_store.specs.Numbered.{with_number}
-use Rattle.jp_store.proofs.Numbered.{lines_set}
+use Rattle.jp_index.specs.LineSets.{bit_of, bits_of, numbers_in}
+use Rattle.std.specs.Prelude.{nat_lt}
+use Rattle.jp_index.specs.Numbered.{numbers_behind, with_number}
+use Rattle.jp_index.proofs.Numbered.{behind_are, lines_set, none_stay, passed_over}
 
 pub shifted : (w s j : ℕ) → bit_at (w / 2 ^ s) j ≡ bit_at w (s + j)
 shifted w s j = ap (λ n. n % 2) (shr-shr w s j)
@@ -103,10 +104,6 @@ counted_set n (x ∷ xs) (suc i) b l =
     let g = counted_set (n + 1) xs i b (omega arith) in
     omega arith
 
-pub numbers_few : (n : ℕ) (xs : List ℕ) → length (numbers_where is_set n xs) ≤ length xs
-numbers_few n [] = omega arith
-numbers_few n (x ∷ xs) = let e = one_more (is_set x) n (numbers_where is_set (n + 1) xs) in let f = numbers_few (n + 1) xs in let g = at_most_one (is_set x) in omega arith
-
 pub numbers_push : (ws : List ℕ) → numbers_in (ws ++ 0 ∷ []) ≡ numbers_in ws
 numbers_push ws =
     let more : List ℕ = ws ++ 0 ∷ [] in
@@ -169,3 +166,31 @@ byte_is false = refl
 
 pub was_set : (n : ℕ) (b : Bool) (seen ws : List ℕ) (line : ℕ) → n ≡ bool_byte b → b ≡ (bit_of seen line == 1) → seen ≡ ws → n ≡ cond (is_set (bit_of ws line)) 1 0
 was_set n b seen ws line e f g = e ∙ (byte_is b ∙ ap (λ c. cond c 1 0) (f ∙ ap (λ vs. is_set (bit_of vs line)) g))
+
+-- ---- the numbers behind a line
+
+pub numbers_past : (ws : List ℕ) (n : ℕ) → 64 * length ws ≤ n + 1 → numbers_behind n (numbers_in ws) ≡ []
+numbers_past ws n past =
+    let l = length_bits ws in
+    none_stay is_set (λ k. nat_lt n k) 0 (bits_of ws) (λ k low high. let before : k ≤ n = omega arith in search (arith, before))
+
+module _ (ws : List ℕ) (n position : ℕ) (within : position ≤ 64 * length ws) (from : n + 1 ≤ position) (between : (k : ℕ) → n + 1 ≤ k → k < position → bit_of ws k ≡ 0) where
+  from_there : numbers_behind n (numbers_in ws) ≡ numbers_where is_set position (drop position (bits_of ws))
+  from_there =
+      let l = length_bits ws in
+      let end : n + 1 + (position - (n + 1)) ≡ position = omega arith in
+      behind_are is_set 0 (n + 1) n (bits_of ws) (omega arith)
+      ∙ (passed_over is_set (position - (n + 1)) (n + 1) (n + 1) (bits_of ws) 0 (omega arith) (λ k low high. ap is_set (bit_is ws k 0 (omega arith) ∙ between k low (omega arith)))
+      ∙ ap (λ k. numbers_where is_set k (drop k (bits_of ws))) end)
+
+  pub first_there : position < 64 * length ws → bit_of ws position ≡ 1 → numbers_behind n (numbers_in ws) ≡ position ∷ numbers_behind position (numbers_in ws)
+  first_there there one =
+      let l = length_bits ws in
+      let rest = numbers_where is_set (position + 1) (drop (position + 1) (bits_of ws)) in
+      from_there
+      ∙ (ap (numbers_where is_set position) (drop_more (bits_of ws) position 0 (omega arith))
+      ∙ (ap (λ b. if b then position ∷ rest else rest) (ap is_set (bit_is ws position 0 there ∙ one))
+      ∙ ap (λ ns. position ∷ ns) (sym (behind_are is_set 0 (position + 1) position (bits_of ws) (omega arith)))))
+
+  pub none_there : 64 * length ws ≤ position → numbers_behind n (numbers_in ws) ≡ []
+  none_there past = let l = length_bits ws in from_there ∙ ap (numbers_where is_set position) (drop_all position (bits_of ws) (omega arith))

@@ -4,9 +4,9 @@ use Rattle.std.specs.Int.{trailing_zeros}
 use Rattle.std.proofs.lemmas.Bool.{cases_lt}
 use Rattle.std.proofs.Math.Nat.{div-le_self}
 use Rattle.std.proofs.lemmas.Nat.Bits.{bit_at-trailing_zeros}
-use Rattle.jp_store.specs.LineSets.{bit_of}
-use Rattle.jp_store.proofs.SetBits.{found_in_word, none_in_word, within_word}
-use Rattle.jp_store.proofs.line_set.next_position.Goals as goal
+use Rattle.jp_index.specs.LineSets.{bit_of}
+use Rattle.jp_index.proofs.SetBits.{found_in_word, none_in_word, within_word}
+use Rattle.jp_index.proofs.line_set.next_position.Goals as goal
 
 -- the lowest bit that is set
 lowest : (ws : List ℕ) (position : ℕ) → ((i : ℕ) → get_or ws i 0 < 2 ^ 64) → (get_or ws (position / 64) 0 / 2 ^ (position % 64) ≡ 0 → ⊥)

@@ -3,9 +3,9 @@ use Rattle.std.proofs.Common.{◌≡◌, ◌∙◌, ◌*◌, ◌/◌, ◌%◌, �
 use Rattle.std.specs.Int.{bit_not}
 use Rattle.std.proofs.lemmas.List.{get_or_default}
 use Rattle.std.proofs.lemmas.Nat.Bits.{bit_at_set_same, bit_at_set_other, bit_at_clear_same, bit_at_clear_other}
-use Rattle.jp_store.specs.LineSets.{bits_of}
-use Rattle.jp_store.proofs.SetBits.{bits_set}
-use Rattle.jp_store.proofs.line_set.set_bit.Goals as goal
+use Rattle.jp_index.specs.LineSets.{bits_of}
+use Rattle.jp_index.proofs.SetBits.{bits_set}
+use Rattle.jp_index.proofs.line_set.set_bit.Goals as goal
 
 pub returns-then-is_set-clause-bits : goal.returns-then-is_set-clause-bits
 returns-then-is_set-clause-bits c =

@@ -1,7 +1,7 @@
 -- No bit is set so far.
 use Rattle.std.proofs.Common.{◌≡◌, ℕ, ◌-◌, ◌*◌, ◌<◌, ◌≤◌, length}
-use Rattle.jp_store.specs.LineSets.{bit_of}
-use Rattle.jp_store.proofs.line_set.next_position.Given as goal
+use Rattle.jp_index.specs.LineSets.{bit_of}
+use Rattle.jp_index.proofs.line_set.next_position.Given as goal
 
 abbrev pub invariant-loop-position : goal.invariant-loop-position
 invariant-loop-position l = record {

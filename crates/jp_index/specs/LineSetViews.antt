@@ -1,7 +1,7 @@
 -- Sets of lines as the program keeps them.
 use Rattle.std.specs.Prelude.{ℕ, ◌*◌, List, length}
-use Rattle.jp_store.specs.LineSets.{numbers_in}
-use Rattle.jp_store.specs.declared.line_set.LineSet.{LineSet}
+use Rattle.jp_index.specs.LineSets.{numbers_in}
+use Rattle.jp_index.specs.declared.line_set.LineSet.{LineSet}
 
 -- the numbers of its lines
 abbrev pub numbers_of : LineSet → List ℕ

@@ -1,14 +1,14 @@
 //! A set of lines.
 
-ghost use Rattle.std.specs.Prelude.{◌≡◌, ℕ, ◌+◌, ◌*◌, ◌<◌, ◌≤◌, ◌^◌, ◌==◌, [], IfOk, OnOk, cond, get_or, length, set};
-ghost use Rattle.jp_store.specs.LineSets.{bit_of, bits_of, numbers_in};
-ghost use Rattle.jp_store.specs.Numbered.{with_number};
+ghost use Rattle.std.specs.Prelude.{◌≡◌, ℕ, ◌+◌, ◌*◌, ◌<◌, ◌≤◌, ◌^◌, ◌==◌, [], IfOk, OnOk, cond, get_or, length, max, set};
+ghost use Rattle.jp_index.specs.LineSets.{bit_of, bits_of, numbers_in};
+ghost use Rattle.jp_index.specs.Numbered.{IsFirstBehind, with_number};
 
 use std::alloc::{AllocError, Global};
 
 /// Some lines of a collection, a bit for each line.
 #[derive(Drop)]
-pub(crate) struct LineSet {
+pub struct LineSet {
     /// Bit i of word k is that of line 64 k + i.
     words: Vec<u64>,
     /// The number of lines that are in it.
@@ -60,10 +60,10 @@ fn next_position(words: &[u64], from: usize) -> usize
 }
 
 impl LineSet {
-    ghost use Rattle.jp_store.specs.LineSetViews.{room_in, numbers_of};
+    ghost use Rattle.jp_index.specs.LineSetViews.{room_in, numbers_of};
 
     /// No line. It allocates nothing.
-    pub(crate) fn new(alloc: Global) -> LineSet
+    pub fn new(alloc: Global) -> LineSet
         ensures { numbers_of result ≡ [] }
     {
         LineSet {
@@ -73,16 +73,17 @@ impl LineSet {
     }
 
     /// The number of lines that are in it.
-    pub(crate) fn count(&self) -> usize
+    pub fn count(&self) -> usize
         ensures { result ≡ length (numbers_of self.now) }
     {
         self.count
     }
 
-    /// Makes room for the lines up to one. The set stays, also after an `Err`.
-    pub(crate) fn reserve(&mut self, line: u32) -> Result<(), AllocError>
+    /// Makes room for the lines up to one, and for no more than 64 behind it. The set stays, also after an `Err`.
+    pub fn reserve(&mut self, line: u32) -> Result<(), AllocError>
         ensures same { numbers_of self.new ≡ numbers_of self.old }
         ensures room { OnOk result (line < room_in self.new) }
+        ensures little { room_in self.new ≤ max (room_in self.old) (line + 64) }
     {
         while 64 * self.words.len() <= line as usize {
             self.words.push(0)?;
@@ -91,7 +92,7 @@ impl LineSet {
     }
 
     /// Puts a line in, or takes it out. It allocates nothing.
-    pub(crate) fn set(&mut self, line: u32, is_in: bool)
+    pub fn set(&mut self, line: u32, is_in: bool)
         requires { line < room_in self.old }
         ensures lines { numbers_of self.new ≡ with_number line is_in (numbers_of self.old) }
         ensures room { room_in self.new ≡ room_in self.old }
@@ -102,8 +103,21 @@ impl LineSet {
         self.count = count;
     }
 
+    /// The first of its lines behind line `n`. Between them a bit is looked at for each line.
+    pub fn first_behind(&self, n: u32) -> Option<u32>
+        ensures { IsFirstBehind n (numbers_of self.now) result }
+    {
+        let end = 64 * self.words.len();
+        let position = next_position(&self.words, end.min(n as usize + 1));
+        if position < end {
+            Some(position as u32)
+        } else {
+            None
+        }
+    }
+
     /// The numbers of its lines, ascending, in the time of their count and of a bit for each line.
-    pub(crate) fn numbers(&self, alloc: Global) -> Result<Vec<u32>, AllocError>
+    pub fn numbers(&self, alloc: Global) -> Result<Vec<u32>, AllocError>
         ensures { IfOk result (λ numbers. numbers.items ≡ numbers_of self.now) }
     {
         let mut numbers = Vec::new(alloc);

@@ -2,9 +2,9 @@
 use Rattle.std.proofs.Common.{◌≡◌, ◌∙◌, ◌+◌, ◌*◌, ◌<◌, ◌≤◌, ◌++◌, ◌∷◌, [], ℕ, ap, arith, length, subst, sym}
 use Rattle.std.proofs.lemmas.List.{take_all}
 use Rattle.jp_model.specs.Numbered.{numbers_where}
-use Rattle.jp_store.specs.LineSets.{bit_of, bits_of}
-use Rattle.jp_store.proofs.SetBits.{is_set, length_bits, number_more, numbers_skip}
-use Rattle.jp_store.proofs.line_set.LineSet.numbers.Goals as goal
+use Rattle.jp_index.specs.LineSets.{bit_of, bits_of}
+use Rattle.jp_index.proofs.SetBits.{is_set, length_bits, number_more, numbers_skip}
+use Rattle.jp_index.proofs.line_set.LineSet.numbers.Goals as goal
 
 pub loop-position-init : goal.loop-position-init
 loop-position-init c =

@@ -1,9 +1,9 @@
 -- The numbers in front of a position whose bit is set, or of all.
 use Rattle.std.proofs.Common.{◌≡◌, ◌-◌, ◌<◌, ◌≤◌, take}
 use Rattle.jp_model.specs.Numbered.{numbers_where}
-use Rattle.jp_store.specs.LineSets.{bit_of, bits_of}
-use Rattle.jp_store.proofs.SetBits.{is_set}
-use Rattle.jp_store.proofs.line_set.LineSet.numbers.Given as goal
+use Rattle.jp_index.specs.LineSets.{bit_of, bits_of}
+use Rattle.jp_index.proofs.SetBits.{is_set}
+use Rattle.jp_index.proofs.line_set.LineSet.numbers.Given as goal
 
 abbrev pub invariant-loop-position : goal.invariant-loop-position
 invariant-loop-position l = record {

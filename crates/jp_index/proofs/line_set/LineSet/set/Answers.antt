@@ -1,9 +1,10 @@
 -- One bit is another.
 use Rattle.std.proofs.Common.{◌≡◌, ◌∙◌, ◌+◌, ◌-◌, ap, arith, cond, false, length, set}
 use Rattle.jp_model.specs.Numbered.{numbers_where}
-use Rattle.jp_store.specs.LineSets.{bits_of, numbers_in}
-use Rattle.jp_store.proofs.SetBits.{at_most_one, byte_is, count_set, is_set, length_bits, number_set, numbers_few, was_set}
-use Rattle.jp_store.proofs.line_set.LineSet.set.Goals as goal
+use Rattle.jp_index.specs.LineSets.{bits_of, numbers_in}
+use Rattle.jp_index.proofs.SetBits.{at_most_one, byte_is, count_set, is_set, length_bits, number_set, was_set}
+use Rattle.jp_index.proofs.Numbered.{numbers_few}
+use Rattle.jp_index.proofs.line_set.LineSet.set.Goals as goal
 
 pub overflow_sub-count : goal.overflow_sub-count
 overflow_sub-count c =
@@ -14,7 +15,7 @@ overflow_sub-count c =
 
 pub overflow_add-count : goal.overflow_add-count
 overflow_add-count c =
-    let few = numbers_few 0 (bits_of c.args.self.now.words.items) in
+    let few = numbers_few is_set 0 (bits_of c.args.self.now.words.items) in
     let all = length_bits c.args.self.now.words.items in
     let one = at_most_one c.args.is_in in
     let is : c.from-2.result ≡ cond c.args.is_in 1 0 = c.from-2.ensures ∙ byte_is c.args.is_in in
