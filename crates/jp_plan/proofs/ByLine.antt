@@ -4,7 +4,7 @@ use Rattle.std.specs.Prelude.{All}
 use Rattle.std.proofs.Math.ListN.{get_or-map}
 use Rattle.std.proofs.Math.Seq.{take-suc, drop-cons, take-append_seam, drop-append_seam}
 use Rattle.std.proofs.lemmas.List.{take_all, drop_all, take-append-le, drop-append-le, map-append, length-append, length-map}
-use Rattle.std.proofs.lemmas.List.Elements.{All-append, All-map, All-nil, All-same, All-take, All-drop}
+use Rattle.std.proofs.lemmas.List.Elements.{All-append, All-map, All-same, All-take, All-drop}
 use Rattle.jp_model.specs.declared.LineFault.{LineFault}
 use Rattle.jp_model.specs.Json.Status.{LineStatus, blank, refused, parsed}
 use Rattle.jp_model.specs.Json.Tree.{Tree}
@@ -130,11 +130,8 @@ pub is_there : (c : Collection) (n : ℕ) (text : List ℕ) → IsLineOf c n →
 is_there c n text is e = text_at c n is ∙ ap Some (sym e)
 
 -- nodes that were found from the root of a line are of it
-pub of_view : (view : LineView) (root : Cursor) (cleared out slice : List Cursor) → line_of root ≡ text_of_view view → cleared ≡ []
-    → (AreOf (line_of root) cleared → AreOf (line_of root) out) → slice ≡ out → All (λ d. line_of d ≡ text_of_view view) slice
-of_view view root cleared out slice e none found is =
-    let all = All-same (λ d. line_of d ≡ line_of root) slice out is (found (All-same (λ d. line_of d ≡ line_of root) cleared [] none (All-nil (λ d. line_of d ≡ line_of root)))) in
-    λ k d l. all k d l ∙ e
+pub of_view : (view : LineView) (root : Cursor) (cursors slice : List Cursor) → line_of root ≡ text_of_view view → AreOf (line_of root) cursors → slice ≡ cursors → All (λ d. line_of d ≡ text_of_view view) slice
+of_view view root cursors slice e all is = let same = All-same (λ d. line_of d ≡ line_of root) slice cursors is all in λ k d l. same k d l ∙ e
 
 -- ---- the places of some nodes, one more
 

@@ -25,7 +25,7 @@ use crate::plan::Plan;
 use crate::route::{Route, find_route};
 use crate::rows::Rows;
 use crate::turn::{Turn, behind_first, next_turn};
-use jp_eval::Program;
+use jp_eval::{Frame, Program};
 use jp_model::LineFault;
 use jp_store::{LineView, Opened, Status};
 use jp_tape::Cursor;
@@ -80,14 +80,14 @@ impl<'s> Plan<'s> {
         }
     }
 
-    /// Opens a line, and appends the rows of its nodes to others. `found` lends its memory.
+    /// Opens a line, and appends the rows of its nodes to others. The frame lends its room.
     fn push_nodes(
         &self,
         route: Route<'s>,
         program: &Program,
         line: u32,
         opened: &mut Opened,
-        found: &mut Vec<Cursor<'s>>,
+        frame: &mut Frame<'s>,
         rows: &mut Rows<'s>,
     ) -> Result<(), AllocError>
         requires route { IsRouteOf route (plan_of self.now).query (plan_of self.now).over }
@@ -105,9 +105,8 @@ impl<'s> Plan<'s> {
             return Ok(());
         };
         let start = self.start(route.seek, line, view);
-        found.clear();
-        program.run(self.alloc, start, view.root(), found)?;
-        rows.push_nodes(line, view, found.as_slice())
+        program.run_in(self.alloc, start, view.root(), frame)?;
+        rows.push_nodes(line, view, frame.found())
     }
 
     /// The rows of the lines to be opened, and of the refused lines, in the order of their lines.
@@ -130,7 +129,7 @@ impl<'s> Plan<'s> {
         ensures most { opened.new ≤ opened.old + length lines.now }
     {
         let mut rows = Rows::new(self.alloc);
-        let mut found = Vec::new(self.alloc);
+        let mut frame = Frame::new(self.alloc);
         let mut to_open = lines;
         let refused = self.store.refused_lines()?;
         let mut to_refuse = refused.as_slice();
@@ -138,7 +137,7 @@ impl<'s> Plan<'s> {
             match turn {
                 Turn::Open(line) => {
                     to_open = behind_first(to_open);
-                    self.push_nodes(route, program, line, opened, &mut found, &mut rows)?;
+                    self.push_nodes(route, program, line, opened, &mut frame, &mut rows)?;
                 }
                 Turn::Refuse(line) => {
                     to_refuse = behind_first(to_refuse);
