@@ -363,6 +363,15 @@ def counts_of_many_nodes(checks):
     grows_with_its_input(checks, "counts in 64 MB", of_elements, 100_000)
 
 
+def checks_of_many_lines(checks):
+    """`check` looks at the refused lines alone, so as many checks as lines take little more than their rows."""
+    def checked(count):
+        lines = "".join("[1\n" if number == count // 2 else "[1]\n" for number in range(count))
+        return answered(lines, "check\n" * count), (0, f"{count // 2 + 1}\t!grammar\n{CHECKED.format(count, 1)}" * count)
+
+    grows_with_its_input(checks, "checks", checked, 20_000)
+
+
 def queries_of_one_line(checks):
     """An index knows the lines that have its path, so as many queries as lines, of a path that one has, take little more than rows."""
     def asked(count):
@@ -420,7 +429,7 @@ def main():
     for part in (texts_of_brackets, memory_of_deep_lines, texts_cut_short, texts_of_backslashes, texts_of_each_form_of_tape,
                  lines_behind_long_ones, objects_of_many_members, many_lines, lines_of_one_key, edits_of_many_lines, texts_of_numbers,
                  texts_of_names, queries, patterns, long_texts, long_numbers, objects_turned, large_objects, filters_from_the_root,
-                 conditions_of_the_root, texts_from_the_root, counts_of_many_nodes, queries_of_one_line, devices, sizes):
+                 conditions_of_the_root, texts_from_the_root, counts_of_many_nodes, checks_of_many_lines, queries_of_one_line, devices, sizes):
         part(checks)
     print(f"{checks.passed} passed, {checks.failed} failed")
     return 1 if checks.failed else 0

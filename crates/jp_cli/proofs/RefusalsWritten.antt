@@ -1,8 +1,9 @@
 -- The rows of refused lines that are written one after another, and how many such lines there are.
-use Rattle.std.proofs.Common.{◌≡◌, ◌∙◌, ◌+◌, ◌-◌, ◌<◌, ◌≤◌, ℕ, List, [], ◌∷◌, ◌++◌, length, take, drop, sym, ap, ap₂, subst, refl, arith, append_assoc, take-append-drop, decimal, codes}
-use Rattle.std.specs.Prelude.{Option, count_by, cond, suc, if◌then◌else◌, Bool, true, false}
+use Rattle.std.proofs.Common.{◌≡◌, ◌∙◌, ◌+◌, ◌-◌, ◌<◌, ◌≤◌, ℕ, List, [], ◌∷◌, ◌++◌, length, take, drop, get_or, append-nil, length-drop, sym, ap, ap₂, subst, refl, arith, append_assoc, take-append-drop, decimal, codes}
+use Rattle.std.specs.Prelude.{Option, Some, None, count_by, cond, suc, if◌then◌else◌, Bool, true, false}
 use Rattle.std.proofs.lemmas.List.{take_more, length-take-le, length-map}
 use Rattle.std.proofs.lemmas.List.Sums.{sum_by-cons}
+use Rattle.std.proofs.Math.Seq.{take-add}
 use Rattle.jp_rows.proofs.Chains.{Part, both_received, part_more, part_behind}
 use Rattle.jp_model.specs.Devices.{Device, Received}
 use Rattle.jp_model.specs.declared.Framing.{Framing}
@@ -13,6 +14,8 @@ use Rattle.jp_model.specs.Rows.{refusal_text}
 use Rattle.jp_model.specs.Script.Machine.{said, check_answer, refusals_from, is_refused_status, is_blank_status}
 use Rattle.jp_store.specs.Collections.{Collection, line_status, statuses_in}
 use Rattle.jp_model.specs.Numbered.{numbers_where}
+use Rattle.jp_index.specs.Numbered.{IsFirstBehind, numbers_behind}
+use Rattle.jp_index.proofs.Numbered.{behind_are}
 use Rattle.jp_cli.proofs.Statuses.{status_at}
 
 module _ (f : Framing) where
@@ -48,17 +51,97 @@ module _ (f : Framing) (c : Collection) (i : ℕ) (within : i < length c.state.l
       ap (refusals_from f 1) (sym (take-append-drop (i + 1) ss))
       ∙ (refusals_append f 1 (take (i + 1) ss) (drop (i + 1) ss) ∙ ap (λ t. t ++ refusals_from f (1 + length (take (i + 1) ss)) (drop (i + 1) ss)) one_more)
 
-  pub line_written : {W : Type 0} {contents : W → Option (List ℕ)} (old mid new : Device W) → Received contents old mid (refusals_from f 1 (take i ss)) → Received contents mid new (refusals_from f (i + 1) (line_status (i + 1) c ∷ []))
+  line_written : {W : Type 0} {contents : W → Option (List ℕ)} (old mid new : Device W) → Received contents old mid (refusals_from f 1 (take i ss)) → Received contents mid new (refusals_from f (i + 1) (line_status (i + 1) c ∷ []))
       → Received contents old new (refusals_from f 1 (take (i + 1) ss))
   line_written {contents = contents} old mid new a b =
       subst (Received contents old new) (sym one_more) (both_received old mid new (refusals_from f 1 (take i ss)) (refusals_from f (i + 1) (line_status (i + 1) c ∷ [])) a b)
 
-  pub line_in_part : {W : Type 0} {contents : W → Option (List ℕ)} (old mid new : Device W) → Received contents old mid (refusals_from f 1 (take i ss)) → Part contents mid new (refusals_from f (i + 1) (line_status (i + 1) c ∷ []))
+  line_in_part : {W : Type 0} {contents : W → Option (List ℕ)} (old mid new : Device W) → Received contents old mid (refusals_from f 1 (take i ss)) → Part contents mid new (refusals_from f (i + 1) (line_status (i + 1) c ∷ []))
       → Part contents old new (refusals_from f 1 ss)
   line_in_part {contents = contents} old mid new a p =
       let here = refusals_from f (i + 1) (line_status (i + 1) c ∷ []) in
       let rest = refusals_from f (1 + length (take (i + 1) ss)) (drop (i + 1) ss) in
       subst (Part contents old new) (sym whole_is) (part_more old new (refusals_from f 1 (take i ss) ++ here) rest (part_behind old mid new (refusals_from f 1 (take i ss)) here a p))
+
+-- ---- from one refused line to the next
+
+module _ (f : Framing) where
+  -- up to the first refused line there are no rows
+  abbrev FirstIs : ℕ → List LineStatus → ℕ → Type 0
+  FirstIs n ss number = (n ≤ number) × (number < n + length ss) × (refusals_from f n (take (number - n) ss) ≡ [])
+
+  later : (n : ℕ) (s : LineStatus) (ss : List LineStatus) (number : ℕ) → ((xs : List LineStatus) → refusals_from f n (s ∷ xs) ≡ refusals_from f (n + 1) xs) → FirstIs (n + 1) ss number → FirstIs n (s ∷ ss) number
+  later n s ss number none h =
+      let size : number - n ≡ suc (number - (n + 1)) = omega (arith, h.0) in
+      (omega (arith, h.0), omega (arith, h.1), ap (λ k. refusals_from f n (take k (s ∷ ss))) size ∙ (none (take (number - (n + 1)) ss) ∙ h.2))
+
+  until_first : (n : ℕ) (ss : List LineStatus) (number : ℕ) (more : List ℕ) → numbers_where is_refused_status n ss ≡ number ∷ more → FirstIs n ss number
+  until_first n [] number more e = absurd (cc)
+  until_first n (refused fault ∷ ss) number more e =
+      let same : n ≡ number = ap (λ (l : List ℕ). get_or l 0 0) e in
+      let none : number - n ≡ 0 = omega arith in
+      (omega arith, omega arith, ap (λ k. refusals_from f n (take k (refused fault ∷ ss))) none)
+  until_first n (blank ∷ ss) number more e = later n blank ss number (λ xs. refl) (until_first (n + 1) ss number more e)
+  until_first n (parsed t ∷ ss) number more e = later n (parsed t) ss number (λ xs. refl) (until_first (n + 1) ss number more e)
+
+  none_left : (n : ℕ) (ss : List LineStatus) → numbers_where is_refused_status n ss ≡ [] → refusals_from f n ss ≡ []
+  none_left n [] e = refl
+  none_left n (refused fault ∷ ss) e = absurd (cc)
+  none_left n (blank ∷ ss) e = none_left (n + 1) ss e
+  none_left n (parsed t ∷ ss) e = none_left (n + 1) ss e
+
+module _ (f : Framing) (c : Collection) (last : ℕ) (within : last ≤ length c.state.lines) where
+  abbrev all_of : List LineStatus
+  all_of = statuses_in c
+
+  behind_last : numbers_behind last (numbers_where is_refused_status 1 all_of) ≡ numbers_where is_refused_status (last + 1) (drop last all_of)
+  behind_last = behind_are is_refused_status 1 last last all_of (omega arith)
+
+  long : length all_of ≡ length c.state.lines
+  long = length-map c.state.lines (status_of c.framing)
+
+  -- the rows of the lines up to one, and those of some behind them
+  rows_on : (some : List LineStatus) → refusals_from f 1 (take last all_of ++ some) ≡ refusals_from f 1 (take last all_of) ++ refusals_from f (last + 1) some
+  rows_on some =
+      let number : 1 + length (take last all_of) ≡ last + 1 = omega (arith, length-take-le last all_of (omega (arith, long, within))) in
+      refusals_append f 1 (take last all_of) some ∙ ap (λ n. refusals_from f 1 (take last all_of) ++ refusals_from f n some) number
+
+  -- no line behind it is refused
+  pub all_written : {W : Type 0} {contents : W → Option (List ℕ)} (old new : Device W) → IsFirstBehind last (numbers_where is_refused_status 1 all_of) None
+      → Received contents old new (refusals_from f 1 (take last all_of)) → Received contents old new (refusals_from f 1 all_of)
+  all_written {contents = contents} old new none =
+      subst (Received contents old new)
+      (sym (ap (refusals_from f 1) (sym (take-append-drop last all_of)) ∙ (rows_on (drop last all_of) ∙ (ap (λ t. refusals_from f 1 (take last all_of) ++ t) (none_left f (last + 1) (drop last all_of) (sym behind_last ∙ none)) ∙ append-nil (refusals_from f 1 (take last all_of))))))
+
+  module _ (number : ℕ) (next : IsFirstBehind last (numbers_where is_refused_status 1 all_of) (Some number)) where
+    first : FirstIs f (last + 1) (drop last all_of) number
+    first = until_first f (last + 1) (drop last all_of) number (numbers_behind number (numbers_where is_refused_status 1 all_of)) (sym behind_last ∙ next)
+
+    pub first_within : (last < number) × (number ≤ length c.state.lines)
+    first_within = (omega (arith, first.0), omega (arith, first.1, length-drop last all_of, long, within))
+
+    rows_same : refusals_from f 1 (take (number - 1) all_of) ≡ refusals_from f 1 (take last all_of)
+    rows_same =
+        let split : last + (number - (last + 1)) ≡ number - 1 = omega (arith, first.0) in
+        ap (λ k. refusals_from f 1 (take k all_of)) (sym split)
+        ∙ (ap (refusals_from f 1) (take-add last (number - (last + 1)) all_of) ∙ (rows_on (take (number - (last + 1)) (drop last all_of)) ∙ (ap (λ t. refusals_from f 1 (take last all_of) ++ t) first.2 ∙ append-nil (refusals_from f 1 (take last all_of)))))
+
+    number_is : number - 1 + 1 ≡ number
+    number_is = omega (arith, first.0)
+
+    before : number - 1 < length c.state.lines
+    before = omega (arith, first.0, first_within.1)
+
+    pub refusal_written : {W : Type 0} {contents : W → Option (List ℕ)} (old mid new : Device W) → Received contents old mid (refusals_from f 1 (take last all_of)) → Received contents mid new (refusals_from f number (line_status number c ∷ []))
+        → Received contents old new (refusals_from f 1 (take number all_of))
+    refusal_written {contents = contents} old mid new a b =
+        subst (λ k. Received contents old new (refusals_from f 1 (take k all_of))) number_is
+        (line_written f c (number - 1) before old mid new (subst (Received contents old mid) (sym rows_same) a) (subst (λ k. Received contents mid new (refusals_from f k (line_status k c ∷ []))) (sym number_is) b))
+
+    pub refusal_in_part : {W : Type 0} {contents : W → Option (List ℕ)} (old mid new : Device W) → Received contents old mid (refusals_from f 1 (take last all_of)) → Part contents mid new (refusals_from f number (line_status number c ∷ []))
+        → Part contents old new (refusals_from f 1 all_of)
+    refusal_in_part {contents = contents} old mid new a p =
+        line_in_part f c (number - 1) before old mid new (subst (Received contents old mid) (sym rows_same) a) (subst (λ k. Part contents mid new (refusals_from f k (line_status k c ∷ []))) (sym number_is) p)
 
 -- each line is blank, refused, or has a tree
 each_is_one : (s : LineStatus) → cond (is_blank_status s) 1 0 + cond (is_refused_status s) 1 0 + cond (is_tree s) 1 0 ≡ 1

@@ -30,17 +30,19 @@ fn write_if_refused<W: Write>(
     }
 }
 
-/// Writes a row for each refused line.
+/// Writes a row for each refused line. No other line is asked.
 fn write_refusals<W: Write>(store: &Store, out: &mut Watched<W>) -> Result<(), WriteFault>
     requires working { out.old.failed ≡ false }
     ensures text { Writes W.contents out.old out.new result (refusals_from store.now.framing 1 (statuses_in store.now)) }
     ensures fault { out.new.failed ≡ is_err result }
     ensures after { out.new.after ≡ out.old.after }
 {
-    for index in 0..store.line_count() {
-        if let Err(fault) = write_if_refused(store, index + 1, out) {
+    let mut last = 0;
+    while let Some(number) = store.refused_behind(last) {
+        if let Err(fault) = write_if_refused(store, number, out) {
             return Err(fault);
         }
+        last = number;
     }
     Ok(())
 }
