@@ -3,7 +3,7 @@
 use crate::NOT_SELECTED;
 use crate::output::{Output, RegularFile};
 use jp_devices::StandardInput;
-use jp_grep::{Options, Question, Run, SearchFault, Shown};
+use jp_grep::{Finished, Options, Question, Run, SearchFault, Shown};
 use jp_model::Watched;
 use std::alloc::AllocError;
 use std::fs;
@@ -124,12 +124,15 @@ impl<'q> Searcher<'q> {
     /// Ends the run, tells of rows or messages that were not written, and gives the exit status. A pipe that nobody reads any more is
     /// no news.
     fn end(self) -> u8 {
+        let rt = self.rt;
         let finished = self.run.finish();
         let unwritten = finished.rows.failed() || finished.messages.failed();
-        if unwritten && !finished.rows.into_inner().is_unread() {
-            let _ = eprintln!(self.rt; "jpgrep: {CANNOT_WRITE}");
+        let Finished { status, rows, .. } = finished;
+        let output = rows.into_inner();
+        if unwritten && !output.is_unread() {
+            let _ = eprintln!(rt; "jpgrep: {CANNOT_WRITE}");
         }
-        finished.status
+        status
     }
 }
 
