@@ -4,8 +4,6 @@ use Rattle.std.proofs.Common.{Bool, true, false, Option, Some, Result, Ok, Err, 
 use Rattle.std.specs.Prelude.{OnOk}
 use Rattle.std.specs.Io.Buffered.{writer_buffer, writer_contents, writer_inner}
 use Rattle.std.specs.declared.io.buffered.BufWriter.{BufWriter}
-use Rattle.std.proofs.Math.Seq.{take-append-add}
-use Rattle.std.proofs.lemmas.List.{length-append}
 use Rattle.jp_model.specs.declared.Setup.{Setup}
 use Rattle.jp_model.specs.declared.RunFault.{RunFault}
 use Rattle.jp_model.specs.declared.RunFault.TheVariants as faults
@@ -16,7 +14,8 @@ use Rattle.jp_model.specs.Script.Headline.{GivenToRun, RunEnded, RunStopped, Ans
 use Rattle.jp_model.specs.Script.Machine.{run_commands}
 use Rattle.jp_model.proofs.Devices.{or_true}
 use Rattle.jp_cli.specs.declared.end.End.{End}
-use Rattle.jp_cli.specs.Buffered.{ProgramEnded, Took, end_told, untold}
+use Rattle.jp_devices.specs.Buffered.{Took, untold}
+use Rattle.jp_cli.specs.Buffered.{ProgramEnded, end_told}
 
 -- a reader that came to its end, told so
 abbrev pub came_to_end : Came → Came
@@ -40,20 +39,6 @@ carried out whole a b behind empty is bytes received =
     let began : put_into a.device ≡ out.taken =
     ap (λ l. (writer_inner a.device).taken ++ l) empty ∙ append-nil _ ∙ ap (λ w. w.taken) behind in
     record { taken = is ∙ received.held ∙ ap (λ l. l ++ bytes) began; held = tt }
-
--- a beginning of what the buffer holds makes a beginning of all
-begins_behind : (taken part text : List ℕ) → Begins part text → Begins (taken ++ part) (taken ++ text)
-begins_behind taken part text begins =
-    ap (λ n. take n (taken ++ text)) (length-append taken part) ∙ take-append-add taken text (length part) ∙ ap (λ l. taken ++ l) begins
-
--- so the writer took all, or a beginning
-pub took_all : {W : Type 0} (new whole : Device W) (taken held part : List ℕ)
-    → whole.taken ≡ taken ++ held → Begins part held → new.taken ≡ taken ++ part
-    → (new.failed ≡ false → new.taken ≡ taken ++ held) → Took new whole
-took_all new whole taken held part is begins e all = record {
-  begins = subst (λ t. Begins t whole.taken) (sym e) (subst (Begins (taken ++ part)) (sym is) (begins_behind taken part held begins));
-  all = λ fine. all fine ∙ sym is;
-}
 
 module _ (query_of : List ℕ → QueryStatus) (asked : List ℕ → Command) where
   -- what one writer received is what another one did, so they are told the same of

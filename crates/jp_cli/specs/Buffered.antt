@@ -1,10 +1,11 @@
 -- A run of the program: its limits, and what its writer took behind a buffer (profile).
-use Rattle.std.specs.Prelude.{◌≡◌, ℕ, List, Bool, true, false, Option, None, Result, Ok, Err}
+use Rattle.std.specs.Prelude.{◌≡◌, ℕ, List, Bool, true, false, Result, Ok, Err}
 use Rattle.jp_model.specs.declared.Framing.{Framing}
 use Rattle.jp_model.specs.declared.Setup.{Setup}
 use Rattle.jp_model.specs.declared.RunFault.{RunFault}
 use Rattle.jp_model.specs.declared.RunFault.TheVariants as faults
-use Rattle.jp_model.specs.Devices.{Device, Begins}
+use Rattle.jp_devices.specs.Buffered.{Took, untold}
+use Rattle.jp_model.specs.Devices.{Device}
 use Rattle.jp_model.specs.Query.Status.{QueryStatus}
 use Rattle.jp_model.specs.Script.Commands.{Command}
 use Rattle.jp_model.specs.Script.Headline.{GivenToRun, RunEnded, RunStopped, OnlyReadScript, is_read_collection}
@@ -14,10 +15,6 @@ use Rattle.jp_cli.specs.declared.end.End.TheVariants as ends
 -- the setup of the program: this framing, and at most 4,294,967,295 bytes of a collection and of a script
 abbrev pub program_setup : Framing → Setup
 program_setup framing = record { framing = framing; most = 4294967295; script_most = 4294967295 }
-
--- a writer that does not tell its bytes: what its writes took is known alone
-abbrev pub untold : {W : Type 0} → W → Option (List ℕ)
-untold writer = None
 
 -- How the program ends, by how its run ended and whether a call of its writer failed: after Ok that is the fault Write, and
 -- after a fault it is passed over.
@@ -35,11 +32,6 @@ is_collection_fault _ = false
 abbrev pub HasReadScript : End → Bool → Type 0
 HasReadScript (ends.Run fault) failed = OnlyReadScript fault failed
 HasReadScript _ failed = failed ≡ false
-
--- The writer took the bytes of the whole, or where a call of it failed a beginning of them.
-pub record Took {W : Type 0} (new whole : Device W) : Type 0 where
-  pub begins : Begins new.taken whole.taken
-  pub all : new.failed ≡ false → new.taken ≡ whole.taken
 
 module _ (query_of : List ℕ → QueryStatus) (asked : List ℕ → Command) where
   -- What the writer took, by how the program ended and by what the readers gave. Where the work is done no call of the writer

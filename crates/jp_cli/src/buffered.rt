@@ -1,19 +1,19 @@
 //! The run of the program: within its limits, through a buffer that is flushed at its end.
 
-ghost use Rattle.std.specs.Prelude.{◌≡◌, List, ℕ, ◌++◌, true, false, IfOk, OnErr};
-ghost use Rattle.std.specs.Io.Buffered.{writer_buffer, writer_inner};
-ghost use Rattle.jp_model.specs.Devices.{Begins, GaveUpTo};
+ghost use Rattle.std.specs.Prelude.{◌≡◌, true, false, IfOk, OnErr};
+ghost use Rattle.jp_devices.specs.Buffered.{untold};
+ghost use Rattle.jp_model.specs.Devices.{GaveUpTo};
 ghost use Rattle.jp_model.specs.Script.Commands.{command_of};
 ghost use Rattle.jp_model.specs.Script.Headline.{GivenToRun, RunEnded};
 ghost use Rattle.jp_query.specs.Status.{query_of};
-ghost use Rattle.jp_cli.specs.Buffered.{HasReadScript, ProgramEnded, end_told, is_collection_fault, program_setup, untold};
+ghost use Rattle.jp_cli.specs.Buffered.{HasReadScript, ProgramEnded, end_told, is_collection_fault, program_setup};
 ghost use Rattle.jp_cli.specs.Passed.{given_since};
 ghost use Rattle.jp_cli.specs.declared.end.End.TheVariants as ends;
 
 use crate::engine::run;
 use crate::{End, Options};
+use jp_devices::write_out;
 use jp_model::{RunFault, Setup, Watched};
-use jp_rows::write_whole;
 use std::alloc::{AllocError, Global};
 use std::io::{BufWriter, Read, Write};
 
@@ -24,20 +24,6 @@ pub struct Finished<W> {
     pub end: End,
     /// The writer behind the buffer, as its last call left it.
     pub out: Watched<W>,
-}
-
-/// Writes what the buffer holds, and flushes the writer. A writer of which a call failed is left as it is.
-fn write_out<W: Write + Drop>(out: BufWriter<Watched<W>>) -> Watched<W>
-    ensures part { (part : List ℕ) × Begins part (writer_buffer out) × (result.taken ≡ (writer_inner out).taken ++ part) }
-    ensures all { result.failed ≡ false → result.taken ≡ (writer_inner out).taken ++ writer_buffer out }
-    ensures flushed { result.failed ≡ false → result.unflushed ≡ false }
-    ensures after { result.after ≡ (writer_inner out).after }
-{
-    let (mut out, left) = out.into_parts();
-    if !out.failed() && write_whole(left.as_slice(), &mut out).is_ok() {
-        let _ = out.flush();
-    }
-    out
 }
 
 /// How the program ends, by how its run ended and whether a call of its writer failed.

@@ -2,7 +2,7 @@
 
 ghost use Rattle.std.specs.Prelude.{◌≡◌, ℕ, ◌+◌, ◌*◌, ◌^◌, ◌<◌, ◌≤◌, ◌++◌, ◌||◌, [], ◌∷◌, true, false, length, take, List, OnOk, IfErr, is_err, MatchResult};
 ghost use Rattle.std.specs.Io.{ReadsAtMost};
-ghost use Rattle.std.specs.Io.KnownBytes.{Keeps, ReadConsumes};
+ghost use Rattle.std.specs.Io.KnownBytes.{ReadConsumes};
 ghost use Rattle.jp_model.specs.Devices.{Came, GaveUpTo, Grew, HasEnded, Writes, one_more, read_failed, read_ended};
 ghost use Rattle.jp_model.specs.Lines.{HasNoSeparator, text_lines, closed_lines, lines_so_far, open_line};
 ghost use Rattle.jp_model.specs.Script.Headline.{is_write_fault, OnlyReadScript};
@@ -13,6 +13,7 @@ ghost use Rattle.jp_cli.specs.Runs.{MayAnswer, Ran, RanFirst, StoppedIn, ScriptS
 use crate::answer::without_final_cr;
 use crate::command::read_command;
 use crate::session::Session;
+use jp_devices::flush_written;
 use jp_model::{RunFault, Watched};
 use jp_rows::WriteFault;
 use std::io;
@@ -20,21 +21,6 @@ use std::io::{Read, Write};
 
 /// The bytes that one read asks for.
 const PIECE: usize = 4096;
-
-/// Flushes the writer where it took bytes that are unflushed.
-fn flush_answers<W: Write>(out: &mut Watched<W>) -> io::Result<()>
-    requires working { out.old.failed ≡ false }
-    ensures bytes { Keeps (W.contents out.old.device) (W.contents out.new.device) }
-    ensures taken { out.new.taken ≡ out.old.taken }
-    ensures flushed { OnOk result (out.new.unflushed ≡ false) }
-    ensures fault { out.new.failed ≡ is_err result }
-    ensures after { out.new.after ≡ out.old.after }
-{
-    if out.unflushed() {
-        return out.flush();
-    }
-    Ok(())
-}
 
 /// Reads the script into some room. Nothing that was answered is unflushed then.
 fn read_script<R: Read, W: Write>(
@@ -150,7 +136,7 @@ impl Session {
         let mut count = 0;
         loop {
             // Whoever waits for the answers has them before more is read.
-            if flush_answers(out).is_err() {
+            if flush_written(out).is_err() {
                 return Err(RunFault::Write);
             }
             let left = most - count;

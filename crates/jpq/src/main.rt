@@ -1,13 +1,9 @@
 //! jpq: JSONPath (RFC 9535) over JSON Lines, one JSON value per line.
 #![tactic(auto)]
 
-mod input;
-mod refused;
-
-use crate::input::StandardInput;
-use crate::refused::refuse_word;
 use clap::error::ErrorKind;
 use jp_cli::{CollectionSource, End, Options, ScriptSource, read_words};
+use jp_devices::{StandardInput, refuse_word};
 use jp_model::Watched;
 use std::alloc::AllocError;
 use std::io::Read;
@@ -84,7 +80,10 @@ fn run_arguments(rt: &HostRuntime) -> End {
     let words = match env::args(rt) {
         Ok(words) => words,
         Err(error) if error.kind() == io::ErrorKind::OutOfMemory => return End::Memory,
-        Err(_) => return refuse_word(rt),
+        Err(_) => {
+            refuse_word(rt, "jpq");
+            return End::Words;
+        }
     };
     let Ok(words) = words.collect::<Vec<String>>(rt.alloc()) else {
         return End::Memory;

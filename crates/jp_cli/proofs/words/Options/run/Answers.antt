@@ -5,7 +5,7 @@ use Rattle.jp_model.specs.Devices.{Device}
 use Rattle.jp_model.specs.Script.Commands.{command_of}
 use Rattle.jp_query.specs.Status.{query_of}
 use Rattle.jp_cli.specs.Buffered.{program_setup}
-use Rattle.jp_cli.proofs.ToldEnd.{carried, program_ended, put_into, took_all}
+use Rattle.jp_cli.proofs.ToldEnd.{carried, program_ended, put_into}
 use Rattle.jp_cli.proofs.words.Options.run.Goals as goal
 
 pub returns-clause-output : goal.returns-clause-output
@@ -19,7 +19,7 @@ returns-clause-output g c =
     (carried c.args.out whole c.new-out.result c.run-ended.new.out
     (ap (λ b. writer_inner b) c.new-out.ensures.device ∙ c.in-Ok.ensures.inner) (ap (λ b. writer_buffer b) c.new-out.ensures.device ∙ c.in-Ok.ensures.empty)
     (ap put_into c.into_inner.ensures))
-    (took_all out whole (writer_inner buffered).taken (writer_buffer buffered) rest.part.0 refl rest.part.1 rest.part.2 rest.all)
+    (record { begins = rest.took.begins; all = rest.took.all })
     rest.flushed c.failed.result (sym c.failed.ensures)
     c.run-ended.result c.end_told-end.result c.end_told-end.ensures
     _ _ _ _ _ _ output.0 output.1 output.2 c.run-ended.ensures.ends c.run-ended.ensures.ended output.3
