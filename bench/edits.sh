@@ -1,7 +1,8 @@
 #!/usr/bin/env bash
 # Times edits of a collection, as many as it has lines, the loading too, beside the same changes in `sqlite3` in one transaction: each
 # line replaced, or as many appended, under an index on one member and under indexes on sixteen, and each line refused and then whole
-# again, under none. Each has one thread, and the seconds are those of the processor. SIZES says how many lines (100,000 to 800,000).
+# again, under none. Each has one thread, and the seconds are those of the processor; in brackets stands the time of jpq as a multiple
+# of the other's. SIZES says how many lines (100,000 to 800,000).
 # It says its machine and makes no claim. Build the program first:
 # (cd crates/jpq && rt run -- /dev/null < /dev/null)
 set -euo pipefail
@@ -33,12 +34,12 @@ times() {
     if has sqlite3; then
         make "$2" "$5" > "$folder/changes"
         in_sqlite "$3" "$folder/changes" > "$folder/sql"
-        theirs=$(least_used sqlite3 :memory: ".read $folder/sql")
+        theirs=$(times_own "$ours" "$(least_used sqlite3 :memory: ".read $folder/sql")")
     fi
     echo "| $2 | $1 | $ours | $theirs |"
 }
 tell_machine
-printf '| lines | as many edits | jpq, s | sqlite3, s |\n|---|---|---|---|\n'
+printf '| lines | as many edits | jpq | sqlite3 |\n|---|---|---|---|\n'
 for size in $sizes; do
     make "$size" 'print text(n + 1, "k" n + 1)' > "$lines"
     for indexes in 1 16; do

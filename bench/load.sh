@@ -13,7 +13,6 @@ has_dom=
 if has g++ && g++ -O2 -o "$folder/dom" bench/load/dom.cpp -lsimdjson 2> /dev/null; then has_dom=1; fi
 # The memory at the peak in KB.
 peak_of() { /usr/bin/time -f '%M' "$@" 2>&1 > /dev/null | tail -1; }
-times_own() { awk -v own="$1" -v other="$2" 'BEGIN { printf "%.3f (%.1f)", other, own / other }'; }
 row() {
     local kind=$1 bytes own peak dom=- sqlite=- jq=-
     bench/load/lines.sh "$kind" $((megabytes * 1000000)) > "$lines" || return 0
@@ -24,9 +23,9 @@ row() {
     if has sqlite3; then
         # No line holds the bytes that separate columns here.
         printf '.mode ascii\n.separator "\\037" "\\n"\nCREATE TABLE lines (line TEXT);\n.import %s lines\nSELECT sum(json_valid(line)) FROM lines;\n' "$lines" > "$folder/sql"
-        sqlite=$(times_own "$own" "$(RUNS=1 least sqlite3 -init "$folder/sql" :memory: .quit)")
+        sqlite=$(times_own "$own" "$(least sqlite3 -init "$folder/sql" :memory: .quit)")
     fi
-    if has jq; then jq=$(times_own "$own" "$(RUNS=1 least jq empty "$lines")"); fi
+    if has jq; then jq=$(times_own "$own" "$(least jq empty "$lines")"); fi
     awk -v kind="$kind" -v what="$(tell_collection "$lines")" -v seconds="$own" -v bytes="$bytes" -v peak="$peak" -v others="$dom | $sqlite | $jq" 'BEGIN {
         printf "| %s: %s | %.3f | %.0f | %.1f | %s |\n", kind, what, seconds, bytes / 1e6 / seconds, peak * 1024 / bytes, others }'
 }

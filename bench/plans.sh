@@ -32,5 +32,5 @@ if has sqlite3; then
 fi
 if has jq; then
     { echo '{'; keys '"k%d":1,' | sed 's/,$//'; echo '} as $keys | select($keys[.key]) | .[]'; } > "$folder/filter"
-    RUNS=1 row 'jq: 1,000 look-ups in one pass' jq -c -f "$folder/filter" "$lines"
+    row 'jq: 1,000 look-ups in one pass' jq -c -f "$folder/filter" "$lines"
 fi

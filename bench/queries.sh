@@ -15,18 +15,18 @@ run_jpq() { "$program" "$lines" --script "$folder/script"; }
 run_sql() { sqlite3 :memory: ".read $folder/sql"; }
 tell_bases() {
     : > "$folder/script"; jpq_base=$(least run_jpq)
-    if has jq; then jq_base=$(RUNS=1 least jq empty "$lines"); fi
-    if has gojq; then gojq_base=$(RUNS=1 least gojq empty "$lines"); fi
-    if has sqlite3; then sql ''; sqlite_base=$(RUNS=1 least run_sql); fi
+    if has jq; then jq_base=$(least jq empty "$lines"); fi
+    if has gojq; then gojq_base=$(least gojq empty "$lines"); fi
+    if has sqlite3; then sql ''; sqlite_base=$(least run_sql); fi
     echo "| loading alone | $jpq_base | ${jq_base:--} | ${gojq_base:--} | ${sqlite_base:--} |"
 }
 row() {
     local query=$1 filter=$2 statement=$3 jpq jq=- gojq=- sqlite=-
     script "query $query"
     jpq=$(beside "$(least run_jpq)" "$jpq_base")
-    if has jq && [ "$filter" ]; then jq=$(beside "$(RUNS=1 least jq -c "$filter" "$lines")" "$jq_base"); fi
-    if has gojq && [ "$filter" ]; then gojq=$(beside "$(RUNS=1 least gojq -c "$filter" "$lines")" "$gojq_base"); fi
-    if has sqlite3 && [ "$statement" ]; then sql "$statement"; sqlite=$(beside "$(RUNS=1 least run_sql)" "$sqlite_base"); fi
+    if has jq && [ "$filter" ]; then jq=$(beside "$(least jq -c "$filter" "$lines")" "$jq_base"); fi
+    if has gojq && [ "$filter" ]; then gojq=$(beside "$(least gojq -c "$filter" "$lines")" "$gojq_base"); fi
+    if has sqlite3 && [ "$statement" ]; then sql "$statement"; sqlite=$(beside "$(least run_sql)" "$sqlite_base"); fi
     echo "| \`${query//|/\\|}\` | $jpq | $jq | $gojq | $sqlite |"
 }
 head_of_table() { printf '| %s | jpq | jq | gojq | sqlite3 |\n|---|---|---|---|---|\n' "$1"; }

@@ -1,7 +1,7 @@
 #!/usr/bin/env bash
 # Asks ten questions of a day with logs of about 50 MB (or as many as the first argument says), with jpgrep and beside it with jq,
 # sqlite3 and miller, where they are installed (Debian has them). A cell tells how many characters the command has and the seconds of the
-# processor that it takes. It says its machine and makes no claim. Build the program first: (cd crates/jpgrep && rt run -- --help)
+# processor that it takes, the least of as many runs as RUNS says (three). It says its machine and makes no claim. Build the program first: (cd crates/jpgrep && rt run -- --help)
 set -euo pipefail
 cd "$(dirname "${BASH_SOURCE[0]}")/.."
 JPQ=${JPGREP:-$PWD/crates/jpgrep/out/jpgrep}
@@ -18,14 +18,14 @@ table="-cmd '.mode ascii' -cmd '.separator \"\\037\" \"\\n\"' -cmd 'create table
 # A cell: the characters of a command, and its seconds.
 cell() {
     local program=${1%% *}
-    if [ -z "$1" ] || ! has "$program"; then echo -; else echo "${#1}, $(RUNS=${2:-1} least_used bash -o pipefail -c "$1")"; fi
+    if [ -z "$1" ] || ! has "$program"; then echo -; else echo "${#1}, $(least_used bash -o pipefail -c "$1")"; fi
 }
 # A row: the question, and the commands of jpgrep, jq, sqlite3 (behind the words that make the table) and miller.
 row() {
     local sql=
     if [ "$3" ]; then sql="sqlite3 $table $3"; fi
     if [ "$4" = files ]; then sql=; fi
-    printf '| %s | %s | %s | %s | %s |\n' "$1" "$(cell "jpgrep $2" 3)" "$(cell "$5")" "$(cell "$sql")" "$(cell "$6")"
+    printf '| %s | %s | %s | %s | %s |\n' "$1" "$(cell "jpgrep $2")" "$(cell "$5")" "$(cell "$sql")" "$(cell "$6")"
 }
 tell_machine
 echo "| log: $(tell_collection log.jsonl) | jpgrep | jq | sqlite3 | miller |"
