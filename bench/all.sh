@@ -1,5 +1,5 @@
 #!/usr/bin/env bash
-# Runs the benchmarks of jpq, one after another, and prints docs/BENCHMARKS.md. It wants a quiet machine, up to three quarters of an
+# Runs the benchmarks of both programs, one after another, and prints docs/BENCHMARKS.md. It wants a quiet machine, up to three quarters of an
 # hour and a built program: (cd crates/jpq && rt run -- /dev/null < /dev/null)
 #
 #     bench/all.sh > docs/BENCHMARKS.md
@@ -28,6 +28,8 @@ with equal names, lone surrogates and deep nesting; the program on simdjson keep
 lines many at once. jq and gojq write values without a line number or a path. Nothing here is proved, and no test asks for it.
 TEXT
 section Loading '`check`: every line is read and kept, and the refused ones are listed. In brackets: the time of jpq, as a multiple of the other'"'"'s.' load
+section Filters 'jpgrep reads a stream, answers each line and forgets it. In brackets: the time of jpgrep, as a multiple of the other'"'"'s.' filters
+section 'Ten questions of a day with logs' 'A cell has how many characters the command has, and the seconds of the processor that it takes; of sqlite3 with the words that make the table.' questions
 section Queries 'The seconds of the whole program, and in brackets those beyond its loading.' queries
 section 'Look-ups by an index' 'An index on a member, and 1,000 look-ups by it.' plans
 section 'Edits under an index' 'As many edits as there are lines, of some 200 bytes each: each line replaced by one that differs in one member, or as many
