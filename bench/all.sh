@@ -1,6 +1,7 @@
 #!/usr/bin/env bash
-# Runs the benchmarks of both programs, one after another, and prints docs/BENCHMARKS.md. It wants a quiet machine, up to three quarters of an
-# hour and a built program: (cd crates/jpq && rt run -- /dev/null < /dev/null)
+# Runs the benchmarks of both programs, one after another, and prints docs/BENCHMARKS.md. It wants a quiet machine, up to three
+# quarters of an hour and the built programs: (cd crates/jpq && rt run -- /dev/null < /dev/null);
+# (cd crates/jpgrep && rt run -- --version)
 #
 #     bench/all.sh > docs/BENCHMARKS.md
 set -euo pipefail
