@@ -1,0 +1,2 @@
+//! Canonical text.
+#![tactic(auto)]
