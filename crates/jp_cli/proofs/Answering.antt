@@ -103,11 +103,19 @@ module _ (query_of : List ℕ → QueryStatus) (asked : List ℕ → Command) (s
       )
 
   -- all command lines are some first ones
-  pub ran_first : (a b : Device W) (old new : Progress) (lines all : List (List ℕ)) → all ≡ lines → Ran query_of asked contents a b setup old lines new → RanFirst query_of asked setup old all new
-  ran_first a b old new lines all e p = (lines, ([], e ∙ sym (append-nil lines)), p.0, p.1)
+  pub ran_first : (a b : Device W) (old new : Progress) (lines all : List (List ℕ)) → all ≡ lines → Ran query_of asked contents a b setup old lines new → RanFirst query_of asked contents a b setup old all new
+  ran_first a b old new lines all e p =
+      (lines, ([], e ∙ sym (append-nil lines)), p.0, p.1, p.0, subst (Begins p.0) (append-nil p.0) (take-append_seam p.0 []), p.2)
 
   -- some, and then some first ones of more
-  pub first_more : (a b : Device W) (old mid new : Progress) (first more all : List (List ℕ)) → all ≡ first ++ more → Ran query_of asked contents a b setup old first mid → RanFirst query_of asked setup mid more new
-      → RanFirst query_of asked setup old all new
-  first_more a b old mid new first more all e p q =
-      (first ++ q.0, (q.1.0, e ∙ ap (λ l. first ++ l) q.1.1 ∙ sym (append_assoc first q.0 q.1.0)), p.0 ++ q.2, answer_more query_of asked setup old mid new first q.0 p.0 q.2 p.1 q.3)
+  pub first_more : (a b c : Device W) (old mid new : Progress) (first more all : List (List ℕ)) → all ≡ first ++ more → Ran query_of asked contents a b setup old first mid → RanFirst query_of asked contents b c setup mid more new
+      → RanFirst query_of asked contents a c setup old all new
+  first_more a b c old mid new first more all e p q = (
+    first ++ q.0,
+    (q.1.0, e ∙ ap (λ l. first ++ l) q.1.1 ∙ sym (append_assoc first q.0 q.1.0)),
+    p.0 ++ q.2,
+    answer_more query_of asked setup old mid new first q.0 p.0 q.2 p.1 q.3,
+    p.0 ++ q.4,
+    subst (Begins (p.0 ++ q.4)) (append-nil (p.0 ++ q.2)) (begins_within p.0 q.4 q.2 [] q.5),
+    received_more contents a b c p.0 q.4 p.2 q.6,
+  )

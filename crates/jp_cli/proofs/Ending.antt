@@ -1,4 +1,4 @@
--- How a run ends, by how its script ended.
+-- How a script ends by the commands that its lines ask for, and how a run ends by how its script ended.
 use Rattle.std.proofs.Common.{◌≡◌, ◌∙◌, ◌≤◌, ℕ, List, [], ◌∷◌, ◌++◌, length, take, drop, map, sym, ap, subst, refl, Bool, true, false, ◌||◌, Option, Some, None, Result, Ok, Err, MatchResult, append-nil, inr}
 use Rattle.std.specs.Prelude.{OnOk, IfSome}
 use Rattle.std.proofs.lemmas.List.{map-append}
@@ -17,7 +17,7 @@ use Rattle.jp_model.specs.Script.Machine.{State, Outcome, step, step_unless, run
 use Rattle.jp_model.specs.Script.Commands.{command_of}
 use Rattle.jp_cli.specs.Commands.{asked_in}
 use Rattle.jp_cli.specs.Runs.{Progress, Ran, RanFirst, ScriptStopped}
-use Rattle.jp_cli.proofs.Answering.{ran_answered}
+use Rattle.jp_cli.specs.Sessions.{HasRun, HasRunFirst, HasStopped}
 use Rattle.jp_model.proofs.Devices.{came_so, or_true}
 
 module _ (query_of : List ℕ → QueryStatus) (setup : Setup) where
@@ -53,52 +53,85 @@ module _ (query_of : List ℕ → QueryStatus) (setup : Setup) where
     first_as state raws h =
         (map without_final_cr h.0, (map without_final_cr h.1.0, ap (map without_final_cr) h.1.1 ∙ map-append without_final_cr h.0 h.1.0), answered_as state h.0 h.2)
 
-    -- what is known of the whole run
-    pub ends : (result : Result (Unit {0}) RunFault) (first last : Progress) (given : GivenToRun)
-        → WasLoaded setup given.collection → first.state ≡ loaded setup given.collection.bytes
+    ran_as : (first last : Progress) (raws : List (List ℕ)) → RanFirst query_of asked_in contents old new setup first raws last
+        → HasRunFirst query_of command_of contents old new setup first.state (map without_final_cr raws) last.state
+    ran_as first last raws h =
+        let may = h.3 in let is = run_as first.state h.0 may.flags in (
+          map without_final_cr h.0,
+          (map without_final_cr h.1.0, ap (map without_final_cr) h.1.1 ∙ map-append without_final_cr h.0 h.1.0),
+          may.flags,
+          h.4,
+          only_as h.0 may.flags may.only,
+          subst (λ (o : Outcome). Begins h.4 o.written) is (subst (Begins h.4) may.text_is h.5),
+          h.6,
+          may.new_is ∙ ap (λ (o : Outcome). o.after) is,
+        )
+
+    -- what is known of a script, by the commands that its lines ask for
+    pub script_ends : (result : Result (Unit {0}) RunFault) (first last : Progress) (came : Came)
         → MatchResult result
-        (λ _. (given.script.ended ≡ true) × (length given.script.bytes ≤ setup.script_most) × Ran query_of asked_in contents old new setup first (text_lines given.script.bytes) last)
-        (λ fault. ScriptStopped query_of asked_in contents old new fault setup first.state given.script
-        × RanFirst query_of asked_in setup first (lines_so_far given.script.ended (take setup.script_most given.script.bytes)) last)
+        (λ _. (came.ended ≡ true) × (length came.bytes ≤ setup.script_most) × Ran query_of asked_in contents old new setup first (text_lines came.bytes) last)
+        (λ fault. ScriptStopped query_of asked_in contents old new fault setup first.state came
+        × RanFirst query_of asked_in contents old new setup first (lines_so_far came.ended (take setup.script_most came.bytes)) last)
+        → MatchResult result
+        (λ _. (came.ended ≡ true) × HasRun query_of command_of contents old new setup first.state came.bytes last.state)
+        (λ fault. HasStopped query_of command_of contents old new setup first.state fault came
+        × HasRunFirst query_of command_of contents old new setup first.state (lines_within setup came) last.state)
+    script_ends (Ok x) first last came h =
+        let raws = text_lines came.bytes in let may = h.2.1 in
+        let is = run_as first.state raws may.flags in (
+          h.0,
+          (
+            h.1,
+            may.flags,
+            only_as raws may.flags may.only,
+            subst (λ (o : Outcome). Received contents old new o.written) is (subst (Received contents old new) may.text_is h.2.2),
+            may.new_is ∙ ap (λ (o : Outcome). o.after) is,
+          ),
+        )
+    script_ends (Err faults.ReadCollection) first last came h = absurd h.0
+    script_ends (Err faults.Size) first last came h = absurd h.0
+    script_ends (Err faults.Framing) first last came h = absurd h.0
+    script_ends (Err faults.ReadScript) first last came h =
+        ((h.0.0, answered_as first.state (closed_lines (take setup.script_most came.bytes)) h.0.1), ran_as first last (lines_so_far came.ended (take setup.script_most came.bytes)) h.1)
+    script_ends (Err faults.Write) first last came h =
+        ((h.0.0, part_as first.state (lines_so_far came.ended (take setup.script_most came.bytes)) h.0.1), ran_as first last (lines_so_far came.ended (take setup.script_most came.bytes)) h.1)
+    script_ends (Err faults.Memory) first last came h =
+        ((h.0.0, first_as first.state (lines_so_far came.ended (take setup.script_most came.bytes)) h.0.1), ran_as first last (lines_so_far came.ended (take setup.script_most came.bytes)) h.1)
+
+    -- what is known of the whole run
+    pub ends : (result : Result (Unit {0}) RunFault) (first last : State) (given : GivenToRun)
+        → WasLoaded setup given.collection → first ≡ loaded setup given.collection.bytes
+        → MatchResult result
+        (λ _. (given.script.ended ≡ true) × HasRun query_of command_of contents old new setup first given.script.bytes last)
+        (λ fault. HasStopped query_of command_of contents old new setup first fault given.script
+        × HasRunFirst query_of command_of contents old new setup first (lines_within setup given.script) last)
         → MatchResult result
         (λ _. RunEnded query_of command_of contents old new setup given.collection.bytes given.script.bytes)
         (λ fault. RunStopped query_of command_of contents old new fault setup given)
     ends (Ok x) first last given was is h =
-        (was.1, h.1, subst (λ s. Answered query_of command_of contents old new setup s (command_lines given.script.bytes)) is (answered_as first.state (text_lines given.script.bytes) (ran_answered query_of asked_in setup contents old new first last (text_lines given.script.bytes) h.2)))
+        (was.1, h.1.0, subst (λ s. Answered query_of command_of contents old new setup s (command_lines given.script.bytes)) is (h.1.1, h.1.2, h.1.3))
     ends (Err faults.ReadCollection) first last given was is h = absurd h.0
     ends (Err faults.Size) first last given was is h = absurd h.0
     ends (Err faults.Framing) first last given was is h = absurd h.0
-    ends (Err faults.ReadScript) first last given was is h = (
-      was,
-      h.0.0,
-      subst (λ s. Answered query_of command_of contents old new setup s (closed_command_lines (take setup.script_most given.script.bytes))) is
-          (answered_as first.state (closed_lines (take setup.script_most given.script.bytes)) h.0.1),
-    )
-    ends (Err faults.Write) first last given was is h = (
-      was,
-      h.0.0,
-      subst (λ s. AnsweredInPart query_of command_of contents old new setup s (lines_within setup given.script)) is
-          (part_as first.state (lines_so_far given.script.ended (take setup.script_most given.script.bytes)) h.0.1),
-    )
+    ends (Err faults.ReadScript) first last given was is h =
+        (was, h.0.0, subst (λ s. Answered query_of command_of contents old new setup s (closed_command_lines (take setup.script_most given.script.bytes))) is h.0.1)
+    ends (Err faults.Write) first last given was is h =
+        (was, h.0.0, subst (λ s. AnsweredInPart query_of command_of contents old new setup s (lines_within setup given.script)) is h.0.1)
     ends (Err faults.Memory) first last given was is h =
-        inr (
-          was,
-          h.0.0,
-          subst (λ s. AnsweredFirst query_of command_of contents old new setup s (lines_within setup given.script)) is
-              (first_as first.state (lines_so_far given.script.ended (take setup.script_most given.script.bytes)) h.0.1),
-        )
+        inr (was, h.0.0, subst (λ s. AnsweredFirst query_of command_of contents old new setup s (lines_within setup given.script)) is h.0.1)
 
 -- no byte of the script came, and the collection did not come to its end
 abbrev pub only_collection : Came → GivenToRun
 only_collection came = record { collection = came; script = came_so [] false false }
 
 -- the bytes that came are all, where the reader is at its end
-all_came : (old new : Option (List ℕ)) (bytes : List ℕ) → Consumes old new bytes → IsAtEnd new → IfSome old (λ all. bytes ≡ all)
+pub all_came : (old new : Option (List ℕ)) (bytes : List ℕ) → Consumes old new bytes → IsAtEnd new → IfSome old (λ all. bytes ≡ all)
 all_came None new bytes h e = tt
 all_came (Some all) None bytes h e = absurd h
 all_came (Some all) (Some left) bytes h e = sym (h ∙ ap (λ l. bytes ++ l) e ∙ append-nil bytes)
 
-if_some : {A : Type 0} (P Q : A → Type 0) (o : Option A) → IfSome o P → ((x : A) → P x → Q x) → IfSome o Q
+pub if_some : {A : Type 0} (P Q : A → Type 0) (o : Option A) → IfSome o P → ((x : A) → P x → Q x) → IfSome o Q
 if_some P Q None h f = tt
 if_some P Q (Some x) h f = f x h
 

@@ -1,19 +1,20 @@
 -- Lemmas on runs of command lines.
+mod Answering
 mod CommandWords
-mod LineNumbers
+mod Dropped
+mod Edited
 mod Ending
 mod FinalReturns
 mod JoinedCommands
+mod LineNumbers
 mod Program
-mod Statuses
-mod Dropped
-mod Edited
+mod RefusalsWritten
 mod Refused
 mod Replied
 mod RowsTold
 mod RowsWritten
-mod RefusalsWritten
 mod Runs
-mod Answering
 mod ScriptSoFar
+mod Statuses
+mod Told
 mod ToldEnd

@@ -98,7 +98,7 @@ module _ (query_of : List ℕ → QueryStatus) (asked : List ℕ → Command) (s
       → SoFar query_of asked setup remaining contents s0 s1 o0 o1 old new held count → (s2.given ≡ s1.given) × Keeps (remaining s1.device) (remaining s2.device) → count ≤ setup.script_most
       → s0.failed ≡ false → s2.ended ≡ s0.ended → s2.failed ≡ true
       → (came : Came) × GaveUpTo remaining s0 s2 came × ((CameShort setup.script_most came × Answered query_of asked contents o0 o1 setup old.state (closed_lines (take setup.script_most came.bytes)))
-      × RanFirst query_of asked setup old (lines_so_far came.ended (take setup.script_most came.bytes)) new)
+      × RanFirst query_of asked contents o0 o1 setup old (lines_so_far came.ended (take setup.script_most came.bytes)) new)
   stopped_read s0 s1 s2 o0 o1 old new held count so keeps within worked going failed = (
     came_so so.bytes false s2.failed,
     goes_on remaining s0 s2 so.bytes (gave_kept remaining s0 s1 s2 so.bytes so.came keeps.0 keeps.1) worked going,
@@ -126,7 +126,7 @@ module _ (query_of : List ℕ → QueryStatus) (asked : List ℕ → Command) (s
   -- a flush that failed
   pub stopped_flush : (s0 s1 : Device R) (o0 o1 : Device W) (old new : Progress) (held : List ℕ) (count : ℕ)
       → SoFar query_of asked setup remaining contents s0 s1 o0 o1 old new held count → count ≤ setup.script_most → s0.failed ≡ false → s1.ended ≡ s0.ended
-      → (came : Came) × GaveUpTo remaining s0 s1 came × (ScriptStopped query_of asked contents o0 o1 faults.Write setup old.state came × RanFirst query_of asked setup old (lines_so_far came.ended (take setup.script_most came.bytes)) new)
+      → (came : Came) × GaveUpTo remaining s0 s1 came × (ScriptStopped query_of asked contents o0 o1 faults.Write setup old.state came × RanFirst query_of asked contents o0 o1 setup old (lines_so_far came.ended (take setup.script_most came.bytes)) new)
   stopped_flush s0 s1 o0 o1 old new held count so within worked going = (
     came_so so.bytes false s1.failed,
     goes_on remaining s0 s1 so.bytes so.came worked going,
@@ -167,7 +167,7 @@ module _ (query_of : List ℕ → QueryStatus) (asked : List ℕ → Command) (s
       → SoFar query_of asked setup remaining contents s0 s1 o0 o1 old mid held count → count ≤ setup.script_most → Gave remaining s1 s2 got → s0.failed ≡ false → s2.failed ≡ false → s2.ended ≡ s0.ended
       → setup.script_most - count + 1 ≡ length got → Ran query_of asked contents o1 o2 setup mid (closed_lines (held ++ take (setup.script_most - count) got)) new
       → (came : Came) × GaveUpTo remaining s0 s2 came × ((CameShort setup.script_most came × Answered query_of asked contents o0 o2 setup old.state (closed_lines (take setup.script_most came.bytes)))
-      × RanFirst query_of asked setup old (lines_so_far came.ended (take setup.script_most came.bytes)) new)
+      × RanFirst query_of asked contents o0 o2 setup old (lines_so_far came.ended (take setup.script_most came.bytes)) new)
   too_long s0 s1 s2 o0 o1 o2 old mid new held count got so within gave worked works going long ran = (
     came_so (so.bytes ++ got) false s2.failed,
     goes_on remaining s0 s2 (so.bytes ++ got) (gave_more remaining s0 s1 s2 so.bytes got so.came gave) worked going,
@@ -186,7 +186,7 @@ module _ (query_of : List ℕ → QueryStatus) (asked : List ℕ → Command) (s
   pub stopped_piece : (s0 s1 s2 : Device R) (o0 o1 o2 : Device W) (old mid new : Progress) (held : List ℕ) (count : ℕ) (got : List ℕ) (fault : RunFault)
       → SoFar query_of asked setup remaining contents s0 s1 o0 o1 old mid held count → count ≤ setup.script_most → Gave remaining s1 s2 got → s0.failed ≡ false → s2.ended ≡ s0.ended
       → length got ≤ setup.script_most - count + 1 → StoppedIn query_of asked contents o1 o2 fault setup mid.state (closed_lines (held ++ take (setup.script_most - count) got))
-      → RanFirst query_of asked setup mid (closed_lines (held ++ take (setup.script_most - count) got)) new → (came : Came) × GaveUpTo remaining s0 s2 came × (ScriptStopped query_of asked contents o0 o2 fault setup old.state came × RanFirst query_of asked setup old (lines_so_far came.ended (take setup.script_most came.bytes)) new)
+      → RanFirst query_of asked contents o1 o2 setup mid (closed_lines (held ++ take (setup.script_most - count) got)) new → (came : Came) × GaveUpTo remaining s0 s2 came × (ScriptStopped query_of asked contents o0 o2 fault setup old.state came × RanFirst query_of asked contents o0 o2 setup old (lines_so_far came.ended (take setup.script_most came.bytes)) new)
   stopped_piece s0 s1 s2 o0 o1 o2 old mid new held count got faults.ReadCollection so within gave worked going little stop first_ones = absurd stop
   stopped_piece s0 s1 s2 o0 o1 o2 old mid new held count got faults.Size so within gave worked going little stop first_ones = absurd stop
   stopped_piece s0 s1 s2 o0 o1 o2 old mid new held count got faults.ReadScript so within gave worked going little stop first_ones = absurd stop
@@ -202,7 +202,7 @@ module _ (query_of : List ℕ → QueryStatus) (asked : List ℕ → Command) (s
             subst (AnsweredInPart query_of asked contents o0 o2 setup old.state) (sym (closed_within s0 s1 o0 o1 old mid held count got so within))
                 (part_more query_of asked setup contents o0 o1 o2 old mid first more so.ran stop),
           ),
-          first_more query_of asked setup contents o0 o1 old mid new (closed_lines so.bytes) (closed_lines (held ++ take (setup.script_most - count) got)) _ (closed_within s0 s1 o0 o1 old mid held count got so within) so.ran first_ones,
+          first_more query_of asked setup contents o0 o1 o2 old mid new (closed_lines so.bytes) (closed_lines (held ++ take (setup.script_most - count) got)) _ (closed_within s0 s1 o0 o1 old mid held count got so within) so.ran first_ones,
         ),
       )
   stopped_piece s0 s1 s2 o0 o1 o2 old mid new held count got faults.Memory so within gave worked going little stop first_ones =
@@ -216,7 +216,7 @@ module _ (query_of : List ℕ → QueryStatus) (asked : List ℕ → Command) (s
             record { bytes = omega (arith, so.counted, length-append so.bytes got); end = λ e. absurd (false≢true e) },
             (first ++ stop.0, (stop.1.0, split), answered_more query_of asked setup contents o0 o1 o2 old mid first stop.0 so.ran stop.2),
           ),
-          first_more query_of asked setup contents o0 o1 old mid new (closed_lines so.bytes) (closed_lines (held ++ take (setup.script_most - count) got)) _ (closed_within s0 s1 o0 o1 old mid held count got so within) so.ran first_ones,
+          first_more query_of asked setup contents o0 o1 o2 old mid new (closed_lines so.bytes) (closed_lines (held ++ take (setup.script_most - count) got)) _ (closed_within s0 s1 o0 o1 old mid held count got so within) so.ran first_ones,
         ),
       )
 
@@ -272,7 +272,7 @@ module _ (query_of : List ℕ → QueryStatus) (asked : List ℕ → Command) (s
   pub last_stopped : (s0 s1 : Device R) (o0 o1 o2 : Device W) (old mid new : Progress) (held line text part : List ℕ) (count : ℕ)
       → SoFar query_of asked setup remaining contents s0 s1 o0 o1 old mid held count → count ≤ setup.script_most → CameToEnd remaining s0 s1 → (length held ≡ 0 → ⊥) → line ≡ held
       → MayAnswer query_of asked setup mid (line ∷ []) text new → Begins part text → Received contents o1 o2 part
-      → (came : Came) × GaveUpTo remaining s0 s1 came × (ScriptStopped query_of asked contents o0 o2 faults.Write setup old.state came × RanFirst query_of asked setup old (lines_so_far came.ended (take setup.script_most came.bytes)) new)
+      → (came : Came) × GaveUpTo remaining s0 s1 came × (ScriptStopped query_of asked contents o0 o2 faults.Write setup old.state came × RanFirst query_of asked contents o0 o2 setup old (lines_so_far came.ended (take setup.script_most came.bytes)) new)
   last_stopped s0 s1 o0 o1 o2 old mid new held line text part count so within end some is_held answers begins received =
       let e : text_lines so.bytes ≡ closed_lines so.bytes ++ line ∷ [] =
       ap (λ h. closed_lines so.bytes ++ line_unless_empty h) (sym so.open_is) ∙ ap (λ l. closed_lines so.bytes ++ l) (something_held held some ∙ ap (λ h. h ∷ []) (sym is_held)) in (
@@ -285,7 +285,7 @@ module _ (query_of : List ℕ → QueryStatus) (asked : List ℕ → Command) (s
                 (subst (AnsweredInPart query_of asked contents o0 o2 setup old.state) (sym e)
                 (part_more query_of asked setup contents o0 o1 o2 old mid (closed_lines so.bytes) (line ∷ []) so.ran (part_of_line query_of asked setup contents o1 o2 mid new (line ∷ []) text part answers begins received))),
           ),
-          first_more query_of asked setup contents o0 o1 old mid new (closed_lines so.bytes) (line ∷ []) _ (ap text_lines (take_all setup.script_most so.bytes (omega (arith, so.counted))) ∙ e) so.ran
-              (line ∷ [], ([], refl), text, answers),
+          first_more query_of asked setup contents o0 o1 o2 old mid new (closed_lines so.bytes) (line ∷ []) _ (ap text_lines (take_all setup.script_most so.bytes (omega (arith, so.counted))) ∙ e) so.ran
+              (line ∷ [], ([], refl), text, answers, part, begins, received),
         ),
       )

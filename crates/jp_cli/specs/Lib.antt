@@ -5,9 +5,10 @@ pub mod Commands
 pub mod Ends
 pub mod Found
 pub mod Listed
+pub mod Passed
 pub mod Refusals
 pub mod Replies
 pub mod Runs
+pub mod Sessions
 pub mod Sources
 pub mod Words
-pub mod Passed

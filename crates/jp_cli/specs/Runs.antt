@@ -3,13 +3,14 @@ use Rattle.std.specs.Prelude.{◌≡◌, ℕ, ◌+◌, ◌≤◌, List, [], ◌�
 use Rattle.jp_model.specs.declared.Setup.{Setup}
 use Rattle.jp_model.specs.declared.RunFault.{RunFault}
 use Rattle.jp_model.specs.declared.RunFault.TheVariants as faults
-use Rattle.jp_model.specs.Devices.{Device, Came, CameUpTo, CameShort, Received, Writes}
+use Rattle.jp_model.specs.Devices.{Device, Begins, Came, CameUpTo, CameShort, Received, Writes}
 use Rattle.jp_model.specs.Lines.{closed_lines, lines_so_far}
 use Rattle.jp_model.specs.Plans.{opened}
 use Rattle.jp_model.specs.Query.Status.{QueryStatus, refused_query, query}
 use Rattle.jp_model.specs.Script.Commands.{Command, query_line, MayWantMemory}
 use Rattle.jp_model.specs.Script.Headline.{BeginsLines, Answered, AnsweredInPart, AnsweredFirst}
 use Rattle.jp_model.specs.Script.Machine.{State, statuses, step, step_unless, run_commands, OnlyForMemory}
+use Rattle.jp_store.specs.Collections.{Collection}
 use Rattle.jp_cli.specs.declared.session.Session.{Session}
 use Rattle.jp_cli.specs.Replies.{reply_text}
 use Rattle.jp_cli.specs.declared.reply.Reply.{Reply}
@@ -22,9 +23,17 @@ pub record Progress : Type 0 where
 abbrev pub at : State → ℕ → Progress
 at state opened = record { state = state; opened = opened }
 
--- the setup of the commands of a session: the framing and the greatest size of its collection, and the greatest size of a script
+-- the setup of commands over a collection: its framing, its greatest size, and the greatest size of a script
+abbrev pub setup_with : Collection → ℕ → Setup
+setup_with collection script_most = record { framing = collection.framing; most = collection.most; script_most = script_most }
+
+-- the setup of the commands of a session
 abbrev pub setup_of : Session → Setup
-setup_of session = record { framing = session.store.framing; most = session.store.most; script_most = session.script_most }
+setup_of session = setup_with session.store session.script_most
+
+-- the state of a session's collection
+abbrev pub state_of : Session → State
+state_of session = session.store.state
 
 -- where a session stands
 abbrev pub progress_of : Session → Progress
@@ -84,9 +93,10 @@ module _ (query_of : List ℕ → QueryStatus) (asked : List ℕ → Command) wh
   abbrev pub Ran : {W : Type 0} → (W → Option (List ℕ)) → Device W → Device W → Setup → Progress → List (List ℕ) → Progress → Type 0
   Ran contents out_old out_new setup old commands new = (text : List ℕ) × MayAnswer setup old commands text new × Received contents out_old out_new text
 
-  -- Some first ones of these command lines were run, whether their answers were received or not.
-  abbrev pub RanFirst : Setup → Progress → List (List ℕ) → Progress → Type 0
-  RanFirst setup old commands new = (before : List (List ℕ)) × BeginsLines before commands × (text : List ℕ) × MayAnswer setup old before text new
+  -- Some first ones of these command lines were run, and the writer received a beginning of their answers.
+  abbrev pub RanFirst : {W : Type 0} → (W → Option (List ℕ)) → Device W → Device W → Setup → Progress → List (List ℕ) → Progress → Type 0
+  RanFirst contents out_old out_new setup old commands new = (before : List (List ℕ)) × BeginsLines before commands
+      × (text : List ℕ) × MayAnswer setup old before text new × (part : List ℕ) × Begins part text × Received contents out_old out_new part
 
   -- A run of these command lines stopped: in the middle of an answer, or before one of them.
   abbrev pub StoppedIn : {W : Type 0} → (W → Option (List ℕ)) → Device W → Device W → RunFault → Setup → State → List (List ℕ) → Type 0

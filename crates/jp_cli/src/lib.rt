@@ -3,6 +3,7 @@
 //! Public calls:
 //!
 //! - `run`: a whole run
+//! - `Session`: a collection that is held, and the scripts over it, one after another
 //! - `read_words`, `Options`: the program's arguments; `CollectionSource`, `ScriptSource`: where they say to read
 //! - `Options::run`: the program's run, within its limits and through a buffer; `Finished`: what it came to
 //! - `End`: how a run ended, with its exit status and message
@@ -29,5 +30,6 @@ pub use buffered::Finished;
 pub use end::End;
 pub use engine::run;
 pub use jp_model::{Framing, RunFault, Setup};
+pub use session::Session;
 pub use sources::{CollectionSource, ScriptSource};
 pub use words::{Options, read_words};

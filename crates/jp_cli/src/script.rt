@@ -74,7 +74,7 @@ impl Session {
             × (held.new.items ≡ open_line (held.old.items ++ piece.now))) }
         ensures err { IfErr result (λ fault. StoppedIn query_of asked_in W.contents out.old out.new fault (setup_of self.old) self.old.store.state
             (closed_lines (held.old.items ++ piece.now))
-            × RanFirst query_of asked_in (setup_of self.old) (progress_of self.old)
+            × RanFirst query_of asked_in W.contents out.old out.new (setup_of self.old) (progress_of self.old)
             (closed_lines (held.old.items ++ piece.now)) (progress_of self.new)) }
         ensures few { self.new.opened ≤ self.old.opened + length piece.now * most_lines }
         ensures setup { setup_of self.new ≡ setup_of self.old }
@@ -96,10 +96,8 @@ impl Session {
         Ok(())
     }
 
-    /// Answers the lines of a script, each as its line feed comes. It makes at most one read for each byte of the script up to
-    /// the limit, and one more. No read follows one that answered 0, one that failed, or the byte past the limit, and none comes
-    /// while something that was written is unflushed.
-    pub(crate) fn run<R: Read, W: Write>(
+    /// What `Session::run` does, of a session whose count is at 0.
+    pub(crate) fn run_lines<R: Read, W: Write>(
         &mut self,
         script: &mut Watched<R>,
         out: &mut Watched<W>,
@@ -114,7 +112,7 @@ impl Session {
             × Ran query_of asked_in W.contents out.old out.new (setup_of self.old) (progress_of self.old)
             (text_lines came.bytes) (progress_of self.new))
             (λ fault. ScriptStopped query_of asked_in W.contents out.old out.new fault (setup_of self.old) self.old.store.state came
-            × RanFirst query_of asked_in (setup_of self.old) (progress_of self.old)
+            × RanFirst query_of asked_in W.contents out.old out.new (setup_of self.old) (progress_of self.old)
             (lines_so_far came.ended (take self.old.script_most came.bytes)) (progress_of self.new)) }
         ensures ended { OnOk result (HasEnded R.remaining script.new) }
         ensures end { OnOk result (script.new.ended ≡ true) }

@@ -1,13 +1,12 @@
 -- Where the collection was not loaded, no byte of the script came and none was written; else the run ends as the script does.
-use Rattle.std.proofs.Common.{◌∙◌, ◌||◌, ◌≡◌, ◌≤◌, ℕ, length, take, true, sym, ap, ap₂, subst, inl}
-use Rattle.jp_model.specs.Script.Headline.{GivenToRun, RunEnded, WasStarved}
+use Rattle.std.proofs.Common.{◌∙◌, ◌||◌, ◌≡◌, true, sym, ap, subst, inl}
+use Rattle.jp_model.specs.Script.Headline.{GivenToRun, RunEnded, WasStarved, lines_within}
 use Rattle.jp_model.proofs.Devices.{nothing_came, or_true, received_none}
 use Rattle.std.specs.Prelude.{MatchResult}
 use Rattle.jp_model.specs.declared.Setup.{Setup}
-use Rattle.jp_model.specs.Lines.{lines_so_far, text_lines}
-use Rattle.jp_cli.specs.Commands.{asked_in}
-use Rattle.jp_cli.specs.Runs.{Ran, RanFirst, ScriptStopped, progress_of, setup_of}
-use Rattle.jp_store.specs.Collections.{Collection, metered}
+use Rattle.jp_cli.specs.Runs.{setup_of, setup_with, state_of}
+use Rattle.jp_cli.specs.Sessions.{HasRun, HasRunFirst, HasStopped}
+use Rattle.jp_store.specs.Collections.{Collection}
 use Rattle.jp_model.specs.Script.Commands.{command_of}
 use Rattle.jp_query.specs.Status.{query_of}
 use Rattle.jp_cli.proofs.Ending.{only_collection, ends, told_of_all, both_ended, passed_by_all}
@@ -43,18 +42,18 @@ returns-clause-output g c =
     let came = c.in-Ok.ensures.came in
     let given = c.run.ensures.output in
     let all : GivenToRun = record { collection = came.0; script = given.0 } in
-    let store_is = c.new-session.ensures.store ∙ ap metered came.2.3 in
     let setup_is : setup_of c.new-session.result ≡ c.args.setup =
-    ap₂ (λ (s : Collection) (n : ℕ). let setup : Setup = record { framing = s.framing; most = s.most; script_most = n } in setup) store_is c.new-session.ensures.script_most in (
+    c.new-session.ensures.setup ∙ ap (λ (s : Collection). setup_with s c.args.setup.script_most) came.2.3 in
+    let state_is = c.new-session.ensures.state ∙ ap (λ (s : Collection). s.state) came.2.3 in (
       all,
       came.1,
       given.1,
-      ends query_of c.args.setup g.W.Write.contents c.args.out.now c.run.new.out c.run.result (progress_of c.new-session.result) (progress_of c.run.new.self) all
-          (came.2.0, (came.2.1, came.2.2)) (ap (λ (s : Collection). s.state) store_is)
+      ends query_of c.args.setup g.W.Write.contents c.args.out.now c.run.new.out c.run.result (state_of c.new-session.result) (state_of c.run.new.self) all
+          (came.2.0, (came.2.1, came.2.2)) state_is
           (subst (λ (s : Setup). MatchResult c.run.result
-          (λ _. (given.0.ended ≡ true) × (length given.0.bytes ≤ s.script_most) × Ran query_of asked_in g.W.Write.contents c.args.out.now c.run.new.out s (progress_of c.new-session.result) (text_lines given.0.bytes) (progress_of c.run.new.self))
-          (λ fault. ScriptStopped query_of asked_in g.W.Write.contents c.args.out.now c.run.new.out fault s c.new-session.result.store.state given.0
-          × RanFirst query_of asked_in s (progress_of c.new-session.result) (lines_so_far given.0.ended (take s.script_most given.0.bytes)) (progress_of c.run.new.self))) setup_is given.2),
+          (λ _. (given.0.ended ≡ true) × HasRun query_of command_of g.W.Write.contents c.args.out.now c.run.new.out s (state_of c.new-session.result) given.0.bytes (state_of c.run.new.self))
+          (λ fault. HasStopped query_of command_of g.W.Write.contents c.args.out.now c.run.new.out s (state_of c.new-session.result) fault given.0
+          × HasRunFirst query_of command_of g.W.Write.contents c.args.out.now c.run.new.out s (state_of c.new-session.result) (lines_within s given.0) (state_of c.run.new.self))) setup_is given.2),
     )
 
 pub returns-clause-told : goal.returns-clause-told

@@ -1,7 +1,10 @@
 -- Each byte closes the open line, which is then run, or goes on with it.
 use Rattle.std.proofs.Common.{◌≡◌, ◌+◌, ◌++◌, ◌∷◌, [], append-nil, take, get_or, arith, refl, sym, ap, ◌∙◌, subst, if◌then◌else◌}
 use Rattle.jp_model.specs.declared.Setup.{Setup}
-use Rattle.jp_cli.proofs.Answering.{ran_none, ran_more, ran_answered, stopped_within}
+use Rattle.std.proofs.Math.Seq.{take-append_seam}
+use Rattle.jp_model.proofs.Devices.{received_more}
+use Rattle.jp_model.specs.Devices.{Begins}
+use Rattle.jp_cli.proofs.Answering.{begins_within, ran_none, ran_more, ran_answered, stopped_within}
 use Rattle.jp_model.proofs.Pieces.{closed_clear, open_clear, later_lines, closed_later, closed_through, closed_at_separator, open_at_separator, closed_at_other, open_at_other}
 use Rattle.jp_cli.specs.Runs.{MayAnswer, Ran, progress_of, setup_of}
 use Rattle.jp_cli.proofs.Runs.{answer_more}
@@ -42,6 +45,9 @@ returns-in-Err-clause-err g c =
         (later_lines 0x0A before piece (i + 1), e),
         so_far.0 ++ ran.0,
         answer_more query_of asked_in (setup_of c.args.self.now) (progress_of c.args.self.now) (progress_of c.loop-byte.self) (progress_of c.answer_line.new.self) first (line ∷ []) so_far.0 ran.0 so_far.1 may,
+        so_far.0 ++ ran.2.0,
+        subst (Begins (so_far.0 ++ ran.2.0)) (append-nil (so_far.0 ++ ran.0)) (begins_within so_far.0 ran.2.0 ran.0 [] ran.2.1),
+        received_more g.W.Write.contents c.args.out.now c.loop-byte.out c.answer_line.new.out so_far.0 ran.2.0 so_far.2 ran.2.2,
       ),
     )
 
@@ -57,7 +63,7 @@ returns-then-is_err-clause-err g c =
         begins,
         ran_answered query_of asked_in (setup_of c.args.self.now) g.W.Write.contents c.args.out.now c.loop-byte.out (progress_of c.args.self.now) (progress_of c.loop-byte.self) (closed_lines (before ++ take i piece)) so_far,
       ),
-      (closed_lines (before ++ take i piece), begins, so_far.0, so_far.1),
+      (closed_lines (before ++ take i piece), begins, so_far.0, so_far.1, so_far.0, subst (Begins so_far.0) (append-nil so_far.0) (take-append_seam so_far.0 []), so_far.2),
     )
 
 pub loop-byte-preserved : goal.loop-byte-preserved

@@ -4,7 +4,7 @@ use Rattle.jp_cli.proofs.ScriptSoFar.{SoFar}
 use Rattle.jp_cli.specs.Runs.{most_lines, progress_of, setup_of}
 use Rattle.jp_cli.specs.Commands.{asked_in}
 use Rattle.jp_query.specs.Status.{query_of}
-use Rattle.jp_cli.proofs.session.Session.run.Given as goal
+use Rattle.jp_cli.proofs.session.Session.run_lines.Given as goal
 
 abbrev pub invariant-loop-buffer : goal.invariant-loop-buffer
 invariant-loop-buffer g l = record {
