@@ -1,20 +1,26 @@
-"""Tries examples/jpq.py with the program that is named, in the folder that is named: each answer, each kind of exception,
-answers larger than any pipe, commands asked before the last answer was read, and sequences.
+"""Tries python/jpq.py in the folder that is named, with the program that is named, and with the library, where one is named: each
+answer, each kind of exception, answers larger than any pipe, commands asked before the last answer was read, sequences, what can be
+opened, and threads.
 """
 import decimal
+import functools
 import gc
+import io
 import os
+import shutil
 import subprocess
 import sys
+import threading
 
-program, room = sys.argv[1:]
+program, room, *library = sys.argv[1:]
 sys.dont_write_bytecode = True
-sys.path.insert(0, os.path.join(os.path.dirname(os.path.abspath(__file__)), "..", "examples"))
+sys.path.insert(0, os.path.join(os.path.dirname(os.path.abspath(__file__)), "..", "python"))
 import jpq  # noqa: E402
 
-os.environ["JPQ"] = program
 os.chdir(room)
 passed = failed = 0
+way = ""  # the program or the library
+opened = None  # opens a file in this way
 
 
 def shows(name, wanted, found):
@@ -23,7 +29,7 @@ def shows(name, wanted, found):
         passed += 1
     else:
         failed += 1
-        print(f"jpq.py, {name}: NOT AS STATED: {str(found)[:300]} for {str(wanted)[:300]}")
+        print(f"jpq.py, {way}, {name}: NOT AS STATED: {str(found)[:300]} for {str(wanted)[:300]}")
 
 
 def raised(act):
@@ -47,15 +53,15 @@ SEQUENCE = written("sequence", b'\x1e{"a":[\n\n1,\n2\n]}\n\x1ex\x1e\x1e{"a": {\n
 
 
 def answers():
-    with jpq.open(LINES) as log:
+    with opened(LINES) as log:
         rows = log.query("$.a")
         shows("query", [(1, "$['a']", b"1.50"), (4, "$['a']", b'"\\u00e9"'), (5, "$['a']", b"9007199254740993")], list(rows))
         shows("refused", ([(3, "utf8")], 3), (rows.refused, rows.count))
         shows("blanks", [(1, "$['b']", b"[1,\t2]")], list(log.query("$\n .b")))
-        decoded = [value for _, _, value in log.query("$['a','b']", decode=True)]
+        decoded = [row.value for row in log.query("$['a','b']")]
         shows("decode", [decimal.Decimal("1.50"), [1, 2], "\u00e9", 9007199254740993], decoded)
         shows("exact", "1.50", str(decoded[0]))
-        shows("a long number", [decimal.Decimal("7" * 5000)], [row.value for row in log.query("$.c", decode=True)])
+        shows("a long number", [decimal.Decimal("7" * 5000)], [row.value for row in log.query("$.c")])
         shows("check", (5, 1, 1, ((3, "utf8"),)), log.check())
         shows("index", (3, 1), (log.index("$.a"), log.index("$['b']")))
         shows("indexes", ("$['a']", "$['b']"), log.indexes())
@@ -69,7 +75,7 @@ def answers():
 
 
 def refusals():
-    log = jpq.open(LINES)
+    log = opened(LINES)
     shows("query syntax", (jpq.QueryRefusal, "query syntax"), raised(lambda: log.query("$[")))
     shows("query function", (jpq.QueryRefusal, "query function"), raised(lambda: log.explain("$[?a(@)]")))
     shows("index path", (jpq.IndexRefusal, "index path"), raised(lambda: log.index("$..a")))
@@ -81,44 +87,93 @@ def refusals():
     log.close()
     log.close()
     shows("closed", (ValueError, None), raised(log.check))
-    with jpq.open(SEQUENCE, seq=True) as log:
+    with opened(SEQUENCE, seq=True) as log:
         shows("separator", (jpq.SeparatorRefusal, "separator"), raised(lambda: log.append("\x1e1")))
 
 
 def statuses():
-    shows("absent", (jpq.Ended, 3), raised(lambda: jpq.open("absent")))
-    shows("folder", (jpq.Ended, 11), raised(lambda: jpq.open(".")))
-    shows("no sequence", (jpq.Ended, 13), raised(lambda: jpq.open(LINES, seq=True)))
-    with jpq.open(written("--seq", b"")) as log:
+    if way == "program":
+        shows("absent", (jpq.Ended, 3), raised(lambda: opened("absent")))
+        shows("folder", (jpq.Ended, 11), raised(lambda: opened(".")))
+        shows("no program", (FileNotFoundError, None), raised(lambda: jpq.open(LINES, program="./absent")))
+        try:
+            opened("absent")
+        except jpq.Ended as ended:
+            shows("message", "jpq: cannot open collection", ended.message)
+        log = opened(LINES)
+        log._engine._process.kill()
+        shows("killed", (jpq.Ended, -9), raised(log.check))
+    else:
+        shows("absent", (FileNotFoundError, None), raised(lambda: opened("absent")))
+        shows("folder", (IsADirectoryError, None), raised(lambda: opened(".")))
+        shows("no library", (OSError, None), raised(lambda: jpq.open(LINES, library="./absent")))
+    shows("no sequence", (jpq.Ended, 13), raised(lambda: opened(LINES, seq=True)))
+    with opened(written("--seq", b"")) as log:
         shows("a name with a hyphen", 0, log.check().lines)
-    shows("no program", (FileNotFoundError, None), raised(lambda: jpq.open(LINES, program="./absent")))
+
+
+def places():
+    if not shutil.which("jpgrep"):
+        print("jpq.py: left out where a query goes wrong, since jpgrep is not here")
+        return
+    log = opened(LINES)
     try:
-        jpq.open("absent")
-    except jpq.Ended as ended:
-        shows("message", "jpq: cannot open collection", ended.message)
-    with subprocess.Popen(["cat", LINES], stdout=subprocess.PIPE) as cat, jpq.open(cat.stdout) as log:
+        log.query("$.items[?@.price = 90]")
+    except jpq.QueryRefusal as refusal:
+        shows("where a query goes wrong", (True, "                   ^"),
+              (refusal.place.startswith("jpgrep: query: syntax: "), refusal.place.splitlines()[-1]))
+    log.close()
+
+
+def files():
+    """What can be opened: names, bytes, and binary files from where they stand."""
+    whole = open(LINES, "rb").read()
+    with subprocess.Popen(["cat", LINES], stdout=subprocess.PIPE) as cat, opened(cat.stdout) as log:
         shows("a pipe", 5, log.check().lines)
-    log = jpq.open(LINES)
-    log._process.kill()
-    shows("killed", (jpq.Ended, -9), raised(log.check))
+    for kind, given in (("bytes", whole), ("a bytearray", bytearray(whole)), ("a view", memoryview(whole)), ("a buffer", io.BytesIO(whole))):
+        with opened(given) as log:
+            shows(kind, 5, log.check().lines)
+    for kind, given in (("no bytes", b""), ("an empty bytearray", bytearray()), ("an empty buffer", io.BytesIO())):
+        with opened(given) as log:
+            shows(kind, 0, log.check().lines)
+    with open(LINES, "rb") as file:
+        file.readline()
+        with opened(file) as log:
+            shows("a file from where it stands", (4, 3), (log.check().lines, next(log.query("$.a")).line))
+
+
+def threads():
+    """Several threads over one log: each row of each answer comes to the thread that asked."""
+    with opened(b"".join(b'{"n":%d}\n' % n for n in range(2000))) as log:
+        found = {}
+
+        def ask(name):
+            found[name] = [sum(int(row.bytes) for row in log.query("$.n")) for _ in range(3)]
+
+        several = [threading.Thread(target=ask, args=(name,)) for name in range(4)]
+        for thread in several:
+            thread.start()
+        for thread in several:
+            thread.join()
+        shows("threads", {name: [sum(range(2000))] * 3 for name in range(4)}, found)
 
 
 def sequences():
-    with jpq.open(SEQUENCE, seq=True) as log:
+    with opened(SEQUENCE, seq=True) as log:
         values = [(1, b"[\n\n1,\n2\n]"), (3, b'{\n"a":\nnull}'), (3, b"null")]
         rows = log.query("$..a")
-        shows("values with line feeds", values, [(row.line, row.value) for row in rows])
+        shows("values with line feeds", values, [(row.line, row.bytes) for row in rows])
         shows("refused texts", ([(2, "grammar"), (4, "truncated")], 3), (rows.refused, rows.count))
         shows("check of texts", (4, 2, 0), log.check()[:3])
         outer = log.query("$..a")
         shows("a row, and the rest behind a check", (values[0], 4, values[1:]),
-              ((lambda row: (row.line, row.value))(next(outer)), log.check().lines, [(row.line, row.value) for row in outer]))
+              ((lambda row: (row.line, row.bytes))(next(outer)), log.check().lines, [(row.line, row.bytes) for row in outer]))
 
 
 def pipes():
     """Answers and commands much larger than a pipe, in every order."""
     count = 40000
-    with jpq.open(written("many", b"".join(b'{"n":%d,"s":"%s"}\n' % (n, b"x" * 100) for n in range(count)))) as log:
+    with opened(written("many", b"".join(b'{"n":%d,"s":"%s"}\n' % (n, b"x" * 100) for n in range(count)))) as log:
         shows("a large answer", count, sum(1 for _ in log.query("$.s")))
         first = next(log.query("$.s"))
         gc.collect()
@@ -135,16 +190,21 @@ def pipes():
         text = '"' + "y" * 3_000_000 + '"'
         shows("a large command behind a large answer", count + 1, log.append(text))
         shows("the answer is that of before", (count, count), (sum(1 for _ in kept), kept.count))
-        shows("a large value", len(text), [len(row.value) for row in log.query("$")][-1])
+        shows("a large value", len(text), [len(row.bytes) for row in log.query("$")][-1])
         log.query("$.s")
         left = log.query("$.s")
     shows("closed before its end", (ValueError, None), raised(lambda: list(left)))
 
 
-answers()
-refusals()
-statuses()
-sequences()
-pipes()
+ways = [("program", {"program": program})] + [("library", {"library": name}) for name in library]
+for way, named in ways:
+    opened = functools.partial(jpq.open, **named)
+    for try_it in (answers, refusals, statuses, places, files, sequences, pipes, threads):
+        try_it()
+os.environ["JPQ"] = program
+os.environ["JPQ_LIBRARY"] = library[0] if library else "./absent"
+way = "either"
+with jpq.open(LINES) as log:
+    shows("what is found", "_Library" if library else "_Program", type(log._engine).__name__)
 print(f"jpq.py: {passed} passed, {failed} failed")
 sys.exit(failed > 0)

@@ -3,31 +3,51 @@
     import jpq
 
     with jpq.open("log.jsonl") as log:
-        for line, path, value in log.query("$..title"):
-            print(line, path, value)
+        for row in log.query("$..title"):
+            print(row.line, row.path, row.value)
         print(log.check())
 
-The program `jpq` runs next to Python for as long as the log is open, with the file in memory, and takes one command after
-another through two pipes. A value is its bytes as they are in the file; with `decode=True` it is what `loads` makes of them,
-numbers with a point or an exponent as `Decimal`, so that nothing is rounded. It needs only Python 3.8 and jpq.
+A row is (line, path, bytes): the bytes are as they stand in the file. `row.value` is what `loads` makes of them, numbers with a point
+or an exponent as `Decimal`, so that nothing is rounded.
 
-An answer is read as it is iterated. You may ask another command before its end: what is left is then kept in memory if you
-still hold the answer, and dropped otherwise. A log is for one thread at a time.
+Where the library libjpq.so.0 is found it answers within this process. Else the program `jpq` runs next to Python for as long as the
+log is open, and takes one command after another through two pipes. Either way the whole file is in memory, and both answer the same.
+It needs only Python 3.8, and one of the two.
+
+An answer is read as it is iterated. You may ask another command before its end: what is left is then kept in memory if you still hold
+the answer, and dropped otherwise. Threads may share a log: each call waits for its turn.
 """
 
+import builtins
 import collections
+import ctypes
 import decimal
+import io
 import json
+import mmap
 import os
 import re
+import shutil
 import subprocess
 import tempfile
+import threading
 import weakref
 
 __all__ = ["open", "loads", "Log", "Row", "Rows", "Refused", "Check", "Plan", "Error", "Ended", "Refusal", "QueryRefusal",
            "IndexRefusal", "LineRefusal", "SizeRefusal", "SeparatorRefusal", "MemoryRefusal", "CommandRefusal"]
 
-Row = collections.namedtuple("Row", "line path value")
+
+class Row(collections.namedtuple("Row", "line path bytes")):
+    """A selected value: the number of its line, from 1, its normalized path, and its bytes as they stand in the file."""
+
+    __slots__ = ()
+
+    @property
+    def value(self):
+        """What `loads` makes of the bytes."""
+        return loads(self.bytes)
+
+
 Refused = collections.namedtuple("Refused", "line fault")
 Check = collections.namedtuple("Check", "lines refused blank faults")
 Plan = collections.namedtuple("Plan", "steps opened lines")
@@ -36,7 +56,9 @@ Plan = collections.namedtuple("Plan", "steps opened lines")
 # of an index or with another word of a plan. Nor does a line within a value of a sequence, as no token of JSON begins with one
 # of these letters, and no string holds a line feed.
 ENDS = re.compile(rb"= |error: |open |indexed |dropped|appended |replaced ")
+END_LINE = re.compile(rb"^(?:" + ENDS.pattern + rb").*\n", re.MULTILINE)
 SEPARATOR = b"\x1e"
+BLOCK = 1 << 16
 
 
 class Error(Exception):
@@ -44,7 +66,7 @@ class Error(Exception):
 
 
 class Ended(Error):
-    """The program ended, or could not begin: `status` is its exit status, `message` what it said."""
+    """jpq ended, or could not begin: `status` is its exit status, `message` what it said."""
 
     def __init__(self, status, message):
         super().__init__(f"{message or 'jpq ended'} (status {status})")
@@ -55,12 +77,23 @@ class Refusal(Error):
     """A command that was answered by `error:`, and changed nothing: `fault` is what follows that word."""
 
     def __init__(self, fault, command):
-        super().__init__(f"{fault}: {command}")
+        super().__init__(f"{fault}: {command[:200].decode(errors='replace')}")
         self.fault, self.command = fault, command
 
 
 class QueryRefusal(Refusal):
     """`query` and one of syntax, integer, function, types, size, number."""
+
+    @property
+    def place(self):
+        """Where the query goes wrong, as jpgrep shows it: the words for it, the query, and a caret below the place. None where
+        there is no jpgrep on the path, or it finds no fault."""
+        query = self.command.partition(b" ")[2].replace(b"\r", b" ")
+        try:
+            said = subprocess.run(["jpgrep", "--check", "-e", query], stdin=subprocess.DEVNULL, capture_output=True).stderr
+        except (OSError, ValueError):
+            return None
+        return said.decode(errors="replace").rstrip("\n") or None
 
 
 class IndexRefusal(Refusal):
@@ -91,11 +124,14 @@ REFUSALS = {"query": QueryRefusal, "index": IndexRefusal, "line": LineRefusal, "
             "separator": SeparatorRefusal, "memory": MemoryRefusal, "command": CommandRefusal}
 
 
-def open(file, *, seq=False, program=None):
-    """Loads a file, or with `seq` a text sequence (RFC 7464), and answers the Log. The file is a name, or a pipe that is open,
-    as the `stdout` of a process that unpacks. `program` is the jpq to run: by default what the environment has as JPQ, or the
-    one on the path. Raises Ended where the file cannot be loaded."""
-    return Log(file, seq=seq, program=program)
+def open(file, *, seq=False, program=None, library=None):
+    """Loads a file, or with `seq` a text sequence (RFC 7464), and answers the Log.
+
+    The file is a name, bytes, or a binary file that is open, which is read from where it stands to its end. `library` is the
+    libjpq to use and `program` the jpq to run: by default the library that the environment has as JPQ_LIBRARY, or else
+    libjpq.so.0 where it is found, and else the program that the environment has as JPQ, or the one on the path. Raises Ended
+    where the file cannot be loaded, and OSError where there is no such file."""
+    return Log(file, seq=seq, program=program, library=library)
 
 
 def loads(value):
@@ -108,26 +144,199 @@ def _whole(digits):
     return int(digits) if len(digits) < 4000 else decimal.Decimal(digits)
 
 
+class _Lines:
+    """The answer of a command, line by line, of which blocks come."""
+
+    def __init__(self):
+        self._held, self._at = b"", 0
+
+    def line(self):
+        """The next line, with its line feed."""
+        end = self._held.find(b"\n", self._at)
+        while end < 0:
+            more = self.block()
+            if not more:
+                raise self.end()
+            seen = len(self._held) - self._at
+            self._held, self._at = self._held[self._at:] + more, 0
+            end = self._held.find(b"\n", seen)
+        line, self._at = self._held[self._at:end + 1], end + 1
+        return line
+
+    def skip(self):
+        """Passes over the answer to its end."""
+        while not (end := END_LINE.search(self._held[self._at:])):
+            last = self._held.rfind(b"\n", self._at) + 1 or self._at
+            more = self.block()
+            if not more:
+                raise self.end()
+            self._held, self._at = self._held[last:] + more, 0
+        self._at += end.end()
+
+
+class _Program(_Lines):
+    """The program, behind two pipes."""
+
+    def __init__(self, file, seq, program):
+        super().__init__()
+        self._ended, self._said, copy = None, tempfile.TemporaryFile(), None
+        if isinstance(file, (str, os.PathLike)):
+            name = os.fspath(file)
+        else:
+            copy = tempfile.TemporaryFile()
+            shutil.copyfileobj(file if hasattr(file, "read") else io.BytesIO(file), copy)
+            copy.seek(0)
+            name = f"/dev/fd/{copy.fileno()}"
+        if name[:1] in ("-", b"-"):
+            name = os.path.join(b"." if isinstance(name, bytes) else ".", name)
+        words = [program or os.environ.get("JPQ", "jpq"), name, *(["--seq"] if seq else [])]
+        try:
+            self._process = subprocess.Popen(words, stdin=subprocess.PIPE, stdout=subprocess.PIPE, stderr=self._said,
+                                             pass_fds=(copy.fileno(),) if copy else ())
+        except OSError:
+            self._said.close()
+            raise
+        finally:
+            if copy:
+                copy.close()
+
+    def ask(self, command):
+        try:
+            self._process.stdin.write(command)
+            self._process.stdin.flush()
+        except (BrokenPipeError, ConnectionResetError):
+            raise self.end() from None
+
+    def block(self):
+        return self._process.stdout.read1(BLOCK)
+
+    def end(self):
+        """Ends the program, and returns what to raise."""
+        if self._ended is None:
+            for pipe in (self._process.stdin, self._process.stdout):
+                try:
+                    pipe.close()
+                except OSError:
+                    pass
+            status = self._process.wait()
+            with self._said:
+                self._said.seek(0)
+                self._ended = Ended(status, self._said.read().decode(errors="replace").strip())
+        return self._ended
+
+
+class _Handle(ctypes.Structure):
+    _fields_ = [("at", ctypes.c_void_p), ("is_open", ctypes.c_bool), ("spare", ctypes.c_uint64 * 2)]
+
+
+class _Library(_Lines):
+    """The library, in this process."""
+
+    MESSAGES = {11: "cannot read", 12: "collection too large", 13: "bytes before first separator", 14: "script too large",
+                16: "out of memory"}
+
+    def __init__(self, file, seq, calls):
+        super().__init__()
+        self._calls, self._handle, self._ended = calls, _Handle(), None
+        self._room = ctypes.create_string_buffer(BLOCK)
+        if hasattr(file, "read"):
+            status = self._load(file.read(), seq)
+        elif isinstance(file, (str, os.PathLike)):
+            with builtins.open(file, "rb") as opened:
+                if os.fstat(opened.fileno()).st_size == 0:  # a pipe, say
+                    status = self._load(opened.read(), seq)
+                else:
+                    with mmap.mmap(opened.fileno(), 0, access=mmap.ACCESS_COPY) as whole:
+                        status = self._load(whole, seq)
+        else:
+            status = self._load(file, seq)
+        if status:
+            raise self._end(status)
+
+    @staticmethod
+    def find(name):
+        """The calls of a library, or None where it is not found."""
+        try:
+            calls = ctypes.CDLL(name)
+            text, length, handle = ctypes.c_void_p, ctypes.c_size_t, ctypes.POINTER(_Handle)
+            for call, answers, takes in (
+                    (calls.jpq_open, ctypes.c_uint32, [text, length, ctypes.c_uint32, ctypes.c_uint32, handle]),
+                    (calls.jpq_ask, ctypes.c_uint32, [handle, ctypes.c_char_p, length]),
+                    (calls.jpq_read, length, [handle, text, length]), (calls.jpq_close, None, [handle])):
+                call.restype, call.argtypes = answers, takes
+        except (OSError, AttributeError):
+            return None
+        return calls
+
+    def _load(self, given, seq):
+        view = memoryview(given).cast("B") if given else memoryview(b"\0")
+        if view.readonly:  # ctypes has no place of such memory but that of bytes
+            given = view.tobytes() if not isinstance(given, bytes) else given or b"\0"
+            place = ctypes.cast(ctypes.c_char_p(given), ctypes.c_void_p)
+        else:
+            place = ctypes.byref(ctypes.c_char.from_buffer(view))
+        status = self._calls.jpq_open(place, len(view) if given else 0, int(seq), 0xFFFFFFFF, self._handle)
+        del place
+        return status
+
+    def ask(self, command):
+        self._held, self._at = b"", 0
+        if self._calls.jpq_ask(self._handle, command, len(command)):
+            raise self._end(16)
+
+    def block(self):
+        return self._room[:self._calls.jpq_read(self._handle, self._room, BLOCK)]
+
+    def skip(self):
+        self._held, self._at = b"", 0
+
+    def _end(self, status):
+        self._calls.jpq_close(self._handle)
+        self._ended = Ended(status, f"jpq: {self.MESSAGES[status]}" if status else "")
+        return self._ended
+
+    def end(self):
+        """Frees what the library holds, and returns what to raise."""
+        return self._ended or self._end(0)
+
+    def __del__(self):
+        if self._handle.is_open:
+            self._calls.jpq_close(self._handle)
+
+
+def _engine(file, seq, program, library):
+    """What answers: the library where it is found, and else the program."""
+    if program is None:
+        for name in [library] if library else [os.environ.get("JPQ_LIBRARY"), "libjpq.so.0"]:
+            calls = name and _Library.find(name)
+            if calls:
+                return _Library(file, seq, calls)
+        if library:
+            raise OSError(f"no library {library}")
+    return _Program(file, seq, program)
+
+
 class Rows:
     """The rows of an answer: iterates over the values, as Row. `refused` has the lines that were refused so far, and `count`
     how many values there are, or None until the last was read."""
 
-    def __init__(self, log, decode):
+    def __init__(self, log):
         self.refused, self.count = [], None
-        self._log, self._decode, self._kept, self._end = log, decode, collections.deque(), None
+        self._log, self._kept, self._end = log, collections.deque(), None
 
     def __iter__(self):
         return self
 
     def __next__(self):
         while True:
-            row = self._next()
+            with self._log._lock:
+                row = self._next()
             if row is None:
                 raise StopIteration
             number, _, rest = row.lstrip(SEPARATOR).partition(b"\t")
             path, tab, value = rest.partition(b"\t")
             if tab:
-                return Row(int(number), path.decode(), loads(value) if self._decode else value)
+                return Row(int(number), path.decode(), value)
             self.refused.append(Refused(int(number), path[1:].decode()))
 
     def _next(self):
@@ -140,7 +349,7 @@ class Rows:
         return None
 
     def _read(self):
-        """Reads one more row from the program, or the end of the answer."""
+        """Reads one more row, or the end of the answer."""
         row = self._log._row()
         if ENDS.match(row):
             self._end = row
@@ -156,28 +365,14 @@ class Log:
     """An open file: see the calls. Each raises the Refusal of its kind where jpq answers `error:`, and Ended where jpq ended.
     """
 
-    def __init__(self, file, *, seq=False, program=None):
-        given = ()
-        if hasattr(file, "fileno"):
-            given = (file.fileno(),)
-            name = f"/dev/fd/{given[0]}"
-        else:
-            name = os.fspath(file)
-        if name[:1] in ("-", b"-"):
-            name = os.path.join(b"." if isinstance(name, bytes) else ".", name)
-        self._ahead, self._asked, self._is_open, self._ended = None, None, False, None
-        self._said = tempfile.TemporaryFile()
-        words = [program or os.environ.get("JPQ", "jpq"), name, *(["--seq"] if seq else [])]
-        try:
-            self._process = subprocess.Popen(
-                words, stdin=subprocess.PIPE, stdout=subprocess.PIPE, stderr=self._said, pass_fds=given)
-        except OSError:
-            self._said.close()
-            raise
+    def __init__(self, file, *, seq=False, program=None, library=None):
+        self._lock = threading.RLock()
+        self._ahead, self._asked, self._is_open, self._is_closed = None, None, False, False
+        self._engine = _engine(file, seq, program, library)
         try:
             self.indexes()  # answered when the file is loaded
         except BaseException:
-            self._end()
+            self._engine.end()
             raise
 
     def __enter__(self):
@@ -191,30 +386,33 @@ class Log:
                 raise
 
     def close(self):
-        """Ends the program. Raises Ended if its status is not 0. A second call does nothing."""
-        if self._ended is None:
-            is_read = not self._is_open  # where it is not, jpq is hung up on, and its status is of that
-            if self._end().status and is_read:
-                raise self._ended
+        """Ends jpq. Raises Ended if its status is not 0. A second call does nothing."""
+        with self._lock:
+            if not self._is_closed:
+                self._is_closed = True
+                is_read = not self._is_open  # where it is not, jpq is hung up on, and its status is of that
+                ended = self._engine.end()
+                if ended.status and is_read:
+                    raise ended
 
-    def query(self, query, *, decode=False):
+    def query(self, query):
         """The values that the query selects, as Rows."""
-        return self._rows("query", _query(query), decode)
+        return self._rows("query", _query(query))
 
     def check(self):
         """How many lines there are, how many refused and how many blank, and each refused one in `faults`."""
-        rows = self._rows("check", None, False)
+        rows = self._rows("check", None)
         for _ in rows:
             pass
         return Check(*map(int, re.findall(rb"\d+", rows._end)), tuple(rows.refused))
 
     def index(self, path):
         """Makes an index by the value at the path of a singular query; returns how many lines have one."""
-        return int(self._ask("index", _query(path)).split()[1])
+        return int(self._one("index", _query(path)).split()[1])
 
     def drop(self, path):
         """Deletes an index."""
-        self._ask("drop", _query(path))
+        self._one("drop", _query(path))
 
     def indexes(self):
         """The paths of the indexes."""
@@ -227,36 +425,32 @@ class Log:
 
     def append(self, text):
         """Adds a line at the end, in memory only; returns its number."""
-        return int(self._ask("append", text).split()[1])
+        return int(self._one("append", text).split()[1])
 
     def replace(self, line, text):
         """Replaces a line, in memory only."""
-        self._ask(f"replace {int(line)}", text)
+        self._one(f"replace {int(line)}", text)
 
-    # What goes through the pipes. At most one answer is on its way, and it is read to its end before the next command is
-    # written: so jpq never waits for its answer to be read while it is waited for to read.
+    # At most one answer is on its way, and it is read to its end before the next command is asked: so the program never waits for
+    # its answer to be read while it is waited for to read.
 
     def _ask(self, word, text):
-        """Writes a command, and returns the first row of its answer, which may be its end."""
+        """Asks a command, and returns the first row of its answer, which may be its end."""
         command = word.encode()
         if text is not None:
             command += b" " + (text.encode() if isinstance(text, str) else bytes(text))
         if b"\n" in command:
             raise ValueError("a command of jpq is one line, and this one has a line feed")
-        if self._ended is not None:
+        if self._is_closed:
             raise ValueError("the log is closed")
         self._settle()
-        if command.endswith(b"\r"):
-            command += b"\r"  # jpq drops the last
-        try:
-            self._process.stdin.write(command + b"\n")
-            self._process.stdin.flush()
-        except (BrokenPipeError, ConnectionResetError):
-            raise self._end() from None
+        # jpq drops a carriage return at the end
+        self._ahead, self._is_open = None, True
+        self._engine.ask(command + (b"\r\n" if command.endswith(b"\r") else b"\n"))
         row = self._row()
         if row.startswith(b"error: "):
             fault = row[7:].decode()
-            raise REFUSALS.get(fault.split()[0], Refusal)(fault, command[:200].decode(errors="replace"))
+            raise REFUSALS.get(fault.split()[0], Refusal)(fault, command)
         return row
 
     def _settle(self):
@@ -264,25 +458,34 @@ class Log:
         rows, self._asked = self._asked and self._asked(), None
         if rows is not None:
             rows._finish()
-        while self._is_open:
-            self._row()
+        if self._is_open:
+            if not (self._ahead and ENDS.match(self._ahead)):
+                self._engine.skip()
+            self._is_open = False
 
-    def _rows(self, word, text, decode):
-        first = self._ask(word, text)
-        rows = Rows(self, decode)
-        if ENDS.match(first):
-            rows._end = first
-        else:
-            rows._kept.append(first)
-            self._asked = weakref.ref(rows)
-        return rows
+    def _rows(self, word, text):
+        with self._lock:
+            first = self._ask(word, text)
+            rows = Rows(self)
+            if ENDS.match(first):
+                rows._end = first
+            else:
+                rows._kept.append(first)
+                self._asked = weakref.ref(rows)
+            return rows
 
     def _lines(self, word, text):
         """The lines of an answer but its end, as text, and its end."""
-        lines = [self._ask(word, text)]
-        while not ENDS.match(lines[-1]):
-            lines.append(self._row())
-        return tuple(line.decode() for line in lines[:-1]), lines[-1]
+        with self._lock:
+            lines = [self._ask(word, text)]
+            while not ENDS.match(lines[-1]):
+                lines.append(self._row())
+            return tuple(line.decode() for line in lines[:-1]), lines[-1]
+
+    def _one(self, word, text):
+        """The one line of an answer."""
+        with self._lock:
+            return self._ask(word, text)
 
     def _row(self):
         """The next row, or the line that ends the answer, without its line feed."""
@@ -296,26 +499,9 @@ class Log:
         return row
 
     def _line(self):
-        if self._ended is not None:
+        if self._is_closed:
             raise ValueError("the log is closed")
-        line = self._process.stdout.readline()
-        if not line.endswith(b"\n"):
-            raise self._end()
-        return line[:-1]
-
-    def _end(self):
-        """Ends the program, and returns what to raise."""
-        if self._ended is None:
-            for pipe in (self._process.stdin, self._process.stdout):
-                try:
-                    pipe.close()
-                except OSError:
-                    pass
-            status = self._process.wait()
-            with self._said:
-                self._said.seek(0)
-                self._ended = Ended(status, self._said.read().decode(errors="replace").strip())
-        return self._ended
+        return self._engine.line()[:-1]
 
 
 def _query(text):

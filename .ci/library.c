@@ -1,0 +1,95 @@
+/* asks COLLECTION SCRIPT FRAMING LINES [THREADS]: opens a collection, runs a script over it by so many lines in each call, or by
+ * jpq_run where LINES is 0, and writes what they answer. It ends with the first status that is not 0. With THREADS that many threads
+ * do so, each with a handle of its own, and all have to read the same. Nothing here calls malloc, so that each growth is the
+ * library's. */
+#define _GNU_SOURCE
+#include <fcntl.h>
+#include <jpq.h>
+#include <pthread.h>
+#include <stdlib.h>
+#include <string.h>
+#include <unistd.h>
+
+enum { MOST = 1 << 22, THREADS = 4 };
+static uint8_t collection[MOST], script[MOST];
+static size_t collection_length, script_length;
+static uint32_t framing;
+static long lines;
+
+static size_t load(const char *name, uint8_t *room) {
+    int file = open(name, O_RDONLY);
+    size_t length = 0;
+    ssize_t got;
+    while (file >= 0 && (got = read(file, room + length, MOST - length)) > 0) length += (size_t)got;
+    close(file);
+    return length;
+}
+
+/* Reads the answer by pieces of a size that changes, and writes it or adds it to the sum. */
+static void take(jpq *handle, uint64_t *sum) {
+    uint8_t room[1 << 12];
+    size_t size = 1, got, left = jpq_left(handle);
+    while ((got = jpq_read(handle, room, size)) > 0) {
+        if (got > size || jpq_left(handle) != (left -= got)) _exit(90);
+        if (!sum) {
+            if (write(1, room, got) != (ssize_t)got) _exit(91);
+        } else {
+            for (size_t i = 0; i < got; i++) *sum = *sum * 1099511628211u + room[i];
+        }
+        size = size * 3 % sizeof room + 1;
+    }
+    if (left != 0 || jpq_left(handle) != 0) _exit(92);
+}
+
+static uint32_t run(uint64_t *sum) {
+    jpq handle = JPQ_INIT;
+    memset(handle.spare, 0x5A, sizeof handle.spare);
+    uint64_t spare[2];
+    memcpy(spare, handle.spare, sizeof spare);
+    uint32_t status;
+    if (lines == 0) {
+        status = jpq_run(collection, collection_length, framing, JPQ_MOST, script, script_length, &handle);
+        take(&handle, sum);
+    } else {
+        status = jpq_open(collection, collection_length, framing, JPQ_MOST, &handle);
+        for (size_t at = 0; at < script_length && status == JPQ_DONE;) {
+            size_t end = at;
+            for (long n = 0; n < lines && end < script_length; n++) {
+                const uint8_t *feed = memchr(script + end, '\n', script_length - end);
+                end = feed ? (size_t)(feed - script) + 1 : script_length;
+            }
+            status = jpq_ask(&handle, script + at, end - at);
+            take(&handle, sum);
+            at = end;
+        }
+    }
+    if ((handle.at != NULL) != handle.is_open && handle.is_open) _exit(93);
+    jpq_close(&handle);
+    jpq_close(&handle);
+    if (handle.is_open || memcmp(spare, handle.spare, sizeof spare) != 0) _exit(94);
+    if (jpq_ask(&handle, script, script_length) != JPQ_SHUT || jpq_left(&handle) != 0) _exit(95);
+    return status;
+}
+
+static uint64_t sums[THREADS];
+static void *run_thread(void *number) {
+    return (void *)(uintptr_t)run(&sums[(uintptr_t)number]);
+}
+
+int main(int count, char **words) {
+    if (count < 5) return 96;
+    collection_length = load(words[1], collection);
+    script_length = load(words[2], script);
+    framing = (uint32_t)atoi(words[3]);
+    lines = atol(words[4]);
+    if (count == 5) return (int)run(NULL);
+    pthread_t threads[THREADS];
+    for (uintptr_t i = 0; i < THREADS; i++)
+        if (pthread_create(&threads[i], NULL, run_thread, (void *)i)) return 97;
+    for (uintptr_t i = 0; i < THREADS; i++) {
+        void *status;
+        pthread_join(threads[i], &status);
+        if (status || sums[i] != sums[0] || sums[i] == 0) return 98;
+    }
+    return 0;
+}

@@ -1,0 +1,106 @@
+/* jpq: JSONPath (RFC 9535) over JSON Lines, in this process.
+ *
+ * A handle holds a collection in memory. It answers the scripts of the program jpq, byte for byte as the program does.
+ *
+ * What the caller has to uphold, and nothing checks:
+ *  1. A handle begins as JPQ_INIT (zeros). Nothing but these calls writes to it.
+ *  2. It is never copied: a handle that was moved is used at its new place alone.
+ *  3. It serves one call at a time, from whatever thread.
+ *  4. It is given to jpq_close at the end; else its memory stays.
+ *  5. No pointer is null, also where the length beside it is 0.
+ *  6. A length is that of the bytes which stand at the pointer, or of the room there.
+ *  7. The bytes that a call reads are not written while it runs.
+ *  8. What a call writes, a handle and a room, is no part of its other arguments.
+ *  9. No call is made from a signal handler.
+ * 10. Nor from the forked child of a process that had several threads.
+ * 11. malloc, realloc and free are of one allocator, whose blocks are aligned as the C standard wants it.
+ * 12. No library other than this one defines a symbol that begins with jpq_.
+ */
+#ifndef JPQ_H
+#define JPQ_H
+
+#include <stdbool.h>
+#include <stddef.h>
+#include <stdint.h>
+
+#ifdef __cplusplus
+extern "C" {
+#endif
+
+/* A handle. Its fields are for the library alone; the spare words keep its size what it is. */
+typedef struct jpq {
+    void *at;
+    bool is_open;
+    uint64_t spare[2];
+} jpq;
+
+#ifdef __cplusplus
+#define JPQ_INIT {}
+static_assert(sizeof(jpq) == 32 && offsetof(jpq, is_open) == 8, "the layout of a handle");
+#else
+#define JPQ_INIT {0}
+_Static_assert(sizeof(jpq) == 32 && offsetof(jpq, is_open) == 8, "the layout of a handle");
+#endif
+
+/* How a collection is cut into texts: one on each line, or as a text sequence (RFC 7464). */
+enum { JPQ_LINES = 0, JPQ_SEQUENCE = 1 };
+
+/* The most bytes that a collection may have. */
+#define JPQ_MOST UINT32_MAX
+
+/* What a call answers. From 11 on these are the program's exit statuses. */
+enum {
+    JPQ_DONE = 0,
+    JPQ_SHUT = 1,     /* the handle is not open */
+    JPQ_NUMBER = 2,   /* the framing is neither JPQ_LINES nor JPQ_SEQUENCE */
+    JPQ_READ = 11,    /* a read failed: of bytes in memory none does */
+    JPQ_SIZE = 12,    /* the collection has more bytes than it may have */
+    JPQ_FRAMING = 13, /* bytes other than white space come before the first separator of a sequence */
+    JPQ_SCRIPT = 14,  /* the script has more than 4,294,967,295 bytes */
+    JPQ_MEMORY = 16   /* out of memory */
+};
+
+/* The words for a status. */
+static inline const char *jpq_message(uint32_t status) {
+    switch (status) {
+    case JPQ_DONE: return "done";
+    case JPQ_SHUT: return "the handle is not open";
+    case JPQ_NUMBER: return "no such framing";
+    case JPQ_READ: return "cannot read";
+    case JPQ_SIZE: return "collection too large";
+    case JPQ_FRAMING: return "bytes before first separator";
+    case JPQ_SCRIPT: return "script too large";
+    case JPQ_MEMORY: return "out of memory";
+    default: return "no such status";
+    }
+}
+
+/* Loads a copy of a collection of at most `most` bytes into the handle. What the handle had is freed first. JPQ_NUMBER, JPQ_SIZE,
+ * JPQ_FRAMING and JPQ_MEMORY leave it shut. */
+uint32_t jpq_open(const uint8_t *collection, size_t collection_length, uint32_t framing, uint32_t most, jpq *handle);
+
+/* Runs the commands of a script over the collection, and keeps what they answer to be read. What was left of the answer before is
+ * dropped. Commands of a script may change the collection and its indexes; the next script finds them so.
+ *
+ * JPQ_SHUT and JPQ_SCRIPT change nothing. After JPQ_MEMORY some first commands were run, what they changed stays, and a beginning of
+ * their answers can be read; where a command alone wants memory, it answers "error: memory" and the script goes on. */
+uint32_t jpq_ask(jpq *handle, const uint8_t *script, size_t script_length);
+
+/* How many bytes of the answer were not read. */
+size_t jpq_left(jpq *handle);
+
+/* Copies the bytes of the answer that come next into the room, as many as both have, and answers how many: 0 at its end. */
+size_t jpq_read(jpq *handle, uint8_t *room, size_t room_length);
+
+/* Frees what the handle has. A second call does nothing. */
+void jpq_close(jpq *handle);
+
+/* jpq_open, and where that is done jpq_ask: a whole run of the program. */
+uint32_t jpq_run(const uint8_t *collection, size_t collection_length, uint32_t framing, uint32_t most, const uint8_t *script,
+                 size_t script_length, jpq *handle);
+
+#ifdef __cplusplus
+}
+#endif
+
+#endif

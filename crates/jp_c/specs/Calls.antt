@@ -1,0 +1,15 @@
+-- What the numbers of a call from C stand for.
+use Rattle.std.specs.Prelude.{ℕ, zero, suc, Option, Some, None}
+use Rattle.jp_model.specs.declared.Framing.{Framing}
+use Rattle.jp_model.specs.declared.Framing.TheVariants as framings
+use Rattle.jp_model.specs.declared.Setup.{Setup}
+
+-- the framing of a number: lines, or a text sequence (RFC 7464)
+abbrev pub framing_of : ℕ → Option Framing
+framing_of zero = Some framings.Lines
+framing_of (suc zero) = Some framings.Sequence
+framing_of (suc (suc n)) = None
+
+-- how scripts are run over a collection with this framing and at most so many bytes
+abbrev pub setup_of : Framing → ℕ → Setup
+setup_of framing most = record { framing = framing; most = most; script_most = 4294967295 }

@@ -1,0 +1,186 @@
+//! jpq for C: a handle that has a collection, the scripts that are run over it, and what they answer. The calls and their statuses
+//! are described in `c/jpq.h`.
+//!
+//! Public calls:
+//!
+//! - `jpq_open`, `jpq_close`: a collection is loaded into a handle, and freed
+//! - `jpq_ask`: a script is run over it
+//! - `jpq_left`, `jpq_read`: how much of the answer is left, and its next bytes
+//! - `jpq_run`: a collection is loaded and a script run over it, in one call
+#![tactic(auto)]
+
+ghost use Rattle.std.specs.Prelude.{◌≡◌, ◌≢◌, ◌<◌, ◌≤◌, false, length, Option, None, Some, IfSome};
+ghost use Rattle.jp_model.specs.Lines.{is_framed};
+ghost use Rattle.jp_c.specs.Calls.{framing_of as framing_at, setup_of};
+ghost use Rattle.jp_c.specs.Sessions.{HasAnswered, HasAnsweredFirst, IsOpened, IsRead, IsRun, left_of};
+
+mod answers;
+mod handle;
+mod parts;
+mod session;
+
+use handle::Jpq;
+use jp_cli::RunFault;
+use jp_model::{Framing, Watched};
+use jp_store::{LoadFault, Store};
+use session::Session;
+use std::alloc::Global;
+
+/// The work is done.
+const DONE: u32 = 0;
+
+/// The handle is not open.
+const SHUT: u32 = 1;
+
+/// The framing is none.
+const FRAMING_NUMBER: u32 = 2;
+
+/// A read failed, which no read of bytes in memory does.
+const READ: u32 = 11;
+
+/// The collection has more bytes than it may have.
+const SIZE: u32 = 12;
+
+/// Bytes other than white space come before the first separator of a sequence.
+const FRAMING: u32 = 13;
+
+/// The script has more than 4,294,967,295 bytes.
+const SCRIPT: u32 = 14;
+
+/// A growth was refused.
+const MEMORY: u32 = 16;
+
+/// The framing of a number.
+fn framing_of(number: u32) -> Option<Framing>
+    ensures { result ≡ framing_at number }
+{
+    match number {
+        0 => Some(Framing::Lines),
+        1 => Some(Framing::Sequence),
+        _ => None,
+    }
+}
+
+/// Loads a collection of at most so many bytes into the handle. What it had is freed.
+///
+/// The framing is 0 for lines and 1 for a text sequence (RFC 7464), and else the status is 2. It is 12 where the collection has
+/// more bytes, 13 where bytes other than white space come before the first separator of a sequence, and 16 where a growth was
+/// refused; at each of these the handle is not open.
+#[unsafe(no_mangle)]
+pub extern "C" fn jpq_open(
+    alloc: Global,
+    collection: &[u8],
+    framing: u32,
+    most: u32,
+    handle: &mut Jpq,
+) -> u32
+    ensures number { framing_at framing ≡ None → result ≡ 2 }
+    ensures opened { IfSome (framing_at framing) (λ framing. result ≡ 0 → IsOpened (setup_of framing most) collection.now handle.new.session) }
+    ensures no_number { result ≡ 2 → framing_at framing ≡ None }
+    ensures size { result ≡ 12 → most < length collection.now }
+    ensures unframed { IfSome (framing_at framing) (λ framing. result ≡ 13 → (length collection.now ≤ most) × (is_framed framing collection.now ≡ false)) }
+    ensures stopped { 0 < result → handle.new.session ≡ None }
+{
+    drop(handle.take(alloc));
+    let Some(framing) = framing_of(framing) else {
+        return FRAMING_NUMBER;
+    };
+    let mut collection = Watched::new(collection);
+    let store = match Store::load(alloc, framing, most, &mut collection) {
+        Ok(store) => store,
+        Err(LoadFault::Read) => return READ,
+        Err(LoadFault::Size) => return SIZE,
+        Err(LoadFault::Framing) => return FRAMING,
+        Err(LoadFault::Memory) => return MEMORY,
+    };
+    match Box::new(alloc, Session::new(alloc, store)) {
+        Ok(session) => {
+            handle.put(session, alloc);
+            DONE
+        }
+        Err(_) => MEMORY,
+    }
+}
+
+/// Runs the commands of a script over the collection, and keeps what they answer. What was left of the answer before is dropped.
+///
+/// The status is 1 where the handle is not open, 14 where the script has more than 4,294,967,295 bytes, of which none is run then
+/// and nothing changes, and 16 where a growth was refused while a command line was held, or for the answer. Then some first commands
+/// were run, what they changed stays, and a beginning of their answers is left to be read.
+#[unsafe(no_mangle)]
+pub extern "C" fn jpq_ask(alloc: Global, handle: &mut Jpq, script: &[u8]) -> u32
+    ensures shut { handle.old.session ≡ None → (result ≡ 1) × (handle.new.session ≡ None) }
+    ensures is_shut { result ≡ 1 → handle.old.session ≡ None }
+    ensures long { result ≡ 14 → (4294967295 < length script.now) × (handle.new.session ≡ handle.old.session) }
+    ensures done { result ≡ 0 → HasAnswered handle.old.session handle.new.session script.now }
+    ensures stopped { 1 < result → result ≢ 14 → HasAnsweredFirst handle.old.session handle.new.session script.now }
+{
+    let Some(mut session) = handle.take(alloc) else {
+        return SHUT;
+    };
+    if script.len() > u32::MAX as usize {
+        handle.put(session, alloc);
+        return SCRIPT;
+    }
+    let ended = session.ask(alloc, script);
+    handle.put(session, alloc);
+    match ended {
+        Ok(()) => DONE,
+        Err(RunFault::Write | RunFault::Memory) => MEMORY,
+        Err(_) => READ,
+    }
+}
+
+/// How many bytes of the answer were not read; 0 where the handle is not open.
+#[unsafe(no_mangle)]
+pub extern "C" fn jpq_left(alloc: Global, handle: &mut Jpq) -> usize
+    ensures value { result ≡ length (left_of handle.old.session) }
+    ensures same { handle.new.session ≡ handle.old.session }
+{
+    let Some(session) = handle.take(alloc) else {
+        return 0;
+    };
+    let left = session.left();
+    handle.put(session, alloc);
+    left
+}
+
+/// Copies the bytes of the answer that come next into the room, as many as both have, and answers how many.
+#[unsafe(no_mangle)]
+pub extern "C" fn jpq_read(alloc: Global, handle: &mut Jpq, room: &mut [u8]) -> usize
+    ensures { IsRead result handle.old.session handle.new.session room.old room.new }
+{
+    let Some(mut session) = handle.take(alloc) else {
+        return 0;
+    };
+    let count = session.read(room);
+    handle.put(session, alloc);
+    count
+}
+
+/// Frees what the handle has. A second call does nothing.
+#[unsafe(no_mangle)]
+pub extern "C" fn jpq_close(alloc: Global, handle: &mut Jpq)
+    ensures { handle.new.session ≡ None }
+{
+    drop(handle.take(alloc));
+}
+
+/// `jpq_open`, and then `jpq_ask`, in one call: the program's whole run. The status is that of the first that is not 0.
+#[unsafe(no_mangle)]
+pub extern "C" fn jpq_run(
+    alloc: Global,
+    collection: &[u8],
+    framing: u32,
+    most: u32,
+    script: &[u8],
+    handle: &mut Jpq,
+) -> u32
+    ensures { IfSome (framing_at framing) (λ framing. result ≡ 0 → IsRun (setup_of framing most) collection.now script.now handle.new.session) }
+{
+    let status = jpq_open(alloc, collection, framing, most, handle);
+    if status != DONE {
+        return status;
+    }
+    jpq_ask(alloc, handle, script)
+}
