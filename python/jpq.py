@@ -269,13 +269,12 @@ class _Library(_Lines):
         return calls
 
     def _load(self, given, seq):
-        view = memoryview(given).cast("B") if given else memoryview(b"\0")
-        if view.readonly:  # ctypes has no place of such memory but that of bytes
-            given = view.tobytes() if not isinstance(given, bytes) else given or b"\0"
-            place = ctypes.cast(ctypes.c_char_p(given), ctypes.c_void_p)
+        length = memoryview(given).nbytes
+        if length == 0 or memoryview(given).readonly:  # ctypes finds the place of bytes, and of what may be written
+            place = ctypes.c_char_p(bytes(given))
         else:
-            place = ctypes.byref(ctypes.c_char.from_buffer(view))
-        status = self._calls.jpq_open(place, len(view) if given else 0, int(seq), 0xFFFFFFFF, self._handle)
+            place = ctypes.byref(ctypes.c_char.from_buffer(given))
+        status = self._calls.jpq_open(place, length, int(seq), 0xFFFFFFFF, self._handle)
         del place
         return status
 
