@@ -1,7 +1,12 @@
 -- One text for each exact value of a number: the layout of RFC 8785, section 3.2.2.3, with all digits in place of those of a float.
-use Rattle.std.specs.Prelude.{ℕ, ◌-◌, Bool, ◌&&◌, ◌==◌, List, [], ◌∷◌, ◌++◌, length, take, drop, replicate, decimal, ℤ, pos, negsuc, ◌+ℤ◌, ◌-ℤ◌, nat_abs, int_le, int_lt, if◌then◌else◌}
+use Rattle.std.specs.Prelude.{ℕ, ◌+◌, ◌-◌, Bool, ◌&&◌, ◌==◌, List, [], ◌∷◌, ◌++◌, length, map, take, drop, replicate, ℤ, pos, negsuc, ◌+ℤ◌, ◌-ℤ◌, nat_abs, int_le, int_lt, if◌then◌else◌}
+use Rattle.std.specs.Int.Digits.{digits_of}
 use Rattle.std.specs.List.{list_all}
 use Rattle.jp_model.specs.Json.Numbers.{fraction_bytes}
+
+-- the decimal digits of a whole number, however many it has
+abbrev pub whole_text : ℕ → List ℕ
+whole_text n = if n == 0 then 0x30 ∷ [] else map (λ digit. 0x30 + digit) (digits_of 10 n)
 
 -- so many zeros
 abbrev pub zeros : ℕ → List ℕ
@@ -14,7 +19,7 @@ without_trailing_zeros (d ∷ ds) = if list_all (λ digit. digit == 0x30) (d ∷
 
 -- an exponent, always with its sign
 abbrev pub exponent_text : ℤ → List ℕ
-exponent_text e = (if int_lt e (pos 0) then 0x2D else 0x2B) ∷ decimal (nat_abs e)
+exponent_text e = (if int_lt e (pos 0) then 0x2D else 0x2B) ∷ whole_text (nat_abs e)
 
 -- The digits s, of which neither the first nor the last is a zero, with the point n places behind the front of them: k digits
 -- stand for s times ten to the n - k.
@@ -27,7 +32,7 @@ with_point s n =
 
 -- m times ten to the e, where m is not zero
 abbrev pub size_text : ℕ → ℤ → List ℕ
-size_text m e = with_point (without_trailing_zeros (decimal m)) (pos (length (decimal m)) +ℤ e)
+size_text m e = with_point (without_trailing_zeros (whole_text m)) (pos (length (whole_text m)) +ℤ e)
 
 -- m times ten to the e
 abbrev pub number_text : ℤ → ℤ → List ℕ
