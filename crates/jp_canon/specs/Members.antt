@@ -1,0 +1,58 @@
+-- The members of an object as they are listed, with their nodes, and sorted by their names.
+use Rattle.std.specs.Prelude.{◌≡◌, ℕ, ◌≤◌, ◌∷◌, ◌++◌, List, map, take, drop, All, IsSorted, IsPermutation}
+use Rattle.std.specs.declared.cmp.Ordering.{Ordering}
+use Rattle.std.specs.Ordering.{nat_cmp}
+use Rattle.std.specs.Cmp.{IsTotalOrder, on_total}
+use Rattle.std.specs.Cmp.Lexicographic.{slice_cmp, nat_list_cmp_total}
+use Rattle.jp_canon.specs.Canonical as canonical
+use Rattle.jp_canon.specs.Canonical.{canonical_text, string_text, member_texts, by_name}
+use Rattle.jp_canon.specs.declared.member.Member.{Member}
+use Rattle.jp_model.specs.Json.Tree.{Children}
+use Rattle.jp_strings.specs.Points.{points_of}
+use Rattle.jp_tape.specs.Cursors.{node_of}
+use Rattle.jp_tape.specs.Words.{node_count, children_node_count}
+
+-- the scalars of the name
+abbrev pub points : Member → List ℕ
+points m = points_of m.name.now
+
+-- members are ordered by the scalars of their names
+abbrev pub name_order : Member → Member → Ordering
+name_order a b = slice_cmp nat_cmp (points a) (points b)
+
+-- that order is total
+pub names_total : IsTotalOrder name_order
+names_total = on_total points nat_list_cmp_total
+
+-- a listed member with its text
+abbrev pub with_text : Member → canonical.Member
+with_text m = record { name = points m; text = string_text (points m) ++ 0x3A ∷ canonical_text (node_of m.node).tree }
+
+-- the text of a listed member
+abbrev pub text_of : Member → List ℕ
+text_of m = (with_text m).text
+
+-- a member has no more nodes than these children
+abbrev pub IsWithin : Children → Member → Type 0
+IsWithin children m = node_count (node_of m.node).tree ≤ children_node_count children
+
+-- the members of an object were listed behind others, in the order of the line
+pub record AppendsMembers (old new : List Member) (children : Children) : Type 0 where
+  pub part : List Member
+  pub all : new ≡ old ++ part
+  pub are : map with_text part ≡ member_texts children
+  pub within : All (IsWithin children) part
+
+-- they were listed in the order of their names
+pub record AppendsByName (old new : List Member) (children : Children) : Type 0 where
+  pub part : List Member
+  pub all : new ≡ old ++ part
+  pub are : map with_text part ≡ by_name (member_texts children)
+  pub within : All (IsWithin children) part
+
+-- the members from a position on were sorted by their names
+pub record SortsFrom (from : ℕ) (old new : List Member) : Type 0 where
+  pub part : List Member
+  pub all : new ≡ take from old ++ part
+  pub moved : IsPermutation (drop from old) part
+  pub sorted : IsSorted name_order part
