@@ -1,12 +1,13 @@
--- The digits of a number spell it, in the grammars of JSON and of queries.
-use Rattle.std.proofs.Common.{◌≡◌, ℕ, zero, suc, ◌+◌, ◌-◌, ◌*◌, ◌/◌, ◌%◌, ◌^◌, ◌<◌, ◌≤◌, ⊎_elim, Bool, true, false, cond, nat_lt, List, [], ◌∷◌, ◌++◌, length, get_or, refl, sym, subst, ◌∙◌, arith}
-use Rattle.std.proofs.lemmas.Bool.{cases_lt, ltb-true, ltb-false, lt-ltb, ne_eqb}
+-- The digits of a whole number spell it, in the grammars of JSON and of queries.
+use Rattle.std.proofs.Common.{◌≡◌, ℕ, zero, suc, ◌+◌, ◌-◌, ◌*◌, ◌/◌, ◌%◌, ◌^◌, ◌<◌, ◌≤◌, ◌==◌, inl, inr, ⊎_elim, true, List, [], ◌∷◌, ◌++◌, length, map, get_or, refl, sym, ap, ap₂, subst, ◌∙◌, arith}
+use Rattle.std.proofs.lemmas.Bool.{cases_lt, cond_both, cond-false, ne_eqb}
 use Rattle.std.proofs.lemmas.Bool.Decides.{nat_tests}
-use Rattle.std.proofs.lemmas.List.{get_or_append_left, length-append}
-use Rattle.std.proofs.Math.Nat.{pow-suc}
+use Rattle.std.proofs.lemmas.List.{get_or_append_left, length-append, length-map, map-append}
+use Rattle.std.specs.Int.Digits.{digits_of}
+use Rattle.std.proofs.lemmas.Int.Digits.{digits_of_step, length-digits_of-le}
+use Rattle.jp_canon.specs.Layout.{whole_text}
 use Rattle.jp_model.specs.Characters.{is_digit, digits_value, value_behind}
 use Rattle.jp_model.specs.Json.Numbers.{AreDigits, AreSomeDigits, IsInt}
-use Rattle.jp_laws.specs.Digits.{digits_within, digits_of}
 
 -- these digits, with no zero in front but of the number 0, stand for the number
 pub record Spelt (n : ℕ) (ds : List ℕ) : Type 0 where
@@ -42,16 +43,37 @@ one_more n ds l s =
       first = λ h. subst (λ d. 48 < d) (sym (get_or_append_left ds ((48 + n % 10) ∷ []) 0 0 some)) first;
     }
 
-within_spelt : (bound n : ℕ) → n ≤ bound → Spelt n (digits_within bound n)
-unfolding digits_within
-within_spelt zero n h = one_digit n (omega arith)
-within_spelt (suc bound) n h = step (nat_lt n 10) refl (λ l. within_spelt bound (n / 10) (omega arith))
-  where
-    step : (b : Bool) → nat_lt n 10 ≡ b → (10 ≤ n → Spelt (n / 10) (digits_within bound (n / 10))) → Spelt n (cond b ((48 + n) ∷ []) (digits_within bound (n / 10) ++ (48 + n % 10) ∷ []))
-    step true e again = one_digit n (ltb-true n 10 e)
-    step false e again = one_more n (digits_within bound (n / 10)) (ltb-false n 10 e) (again (ltb-false n 10 e))
+-- ---- a whole number, one digit after another
 
-pub spelt : (n : ℕ) → Spelt n (digits_of n)
+abbrev glyph : ℕ → ℕ
+glyph digit = 0x30 + digit
+
+whole_positive : (n : ℕ) → 0 < n → whole_text n ≡ map glyph (digits_of 10 n)
+whole_positive n h = cond-false _ _ _ (ne_eqb n 0 (λ (e : n ≡ 0). omega arith))
+
+stepped : (n : ℕ) → 0 < n → whole_text n ≡ map glyph (digits_of 10 (n / 10)) ++ (48 + n % 10) ∷ []
+stepped n h = whole_positive n h ∙ (ap (map glyph) (digits_of_step 10 n (omega arith) h) ∙ map-append glyph (digits_of 10 (n / 10)) (n % 10 ∷ []))
+
+one_text : (n : ℕ) → n < 10 → whole_text n ≡ (48 + n) ∷ []
+one_text zero h = refl
+one_text (suc n) h =
+    stepped (suc n) (omega arith) ∙ ap₂ (λ (t d : ℕ). map glyph (digits_of 10 t) ++ (48 + d) ∷ []) (let e : suc n / 10 ≡ 0 = omega arith in e) (let e : suc n % 10 ≡ suc n = omega arith in e)
+
+more_text : (n : ℕ) → 10 ≤ n → whole_text n ≡ whole_text (n / 10) ++ (48 + n % 10) ∷ []
+more_text n h = stepped n (omega arith) ∙ ap (λ (l : List ℕ). l ++ (48 + n % 10) ∷ []) (sym (whole_positive (n / 10) (omega arith)))
+
+pub tens_text : (n : ℕ) → 0 < n → whole_text (n * 10) ≡ whole_text n ++ 0x30 ∷ []
+tens_text n h =
+    more_text (n * 10) (omega arith) ∙ ap₂ (λ (t d : ℕ). whole_text t ++ (48 + d) ∷ []) (let e : n * 10 / 10 ≡ n = omega arith in e) (let e : n * 10 % 10 ≡ 0 = omega arith in e)
+
+within_spelt : (bound n : ℕ) → n ≤ bound → Spelt n (whole_text n)
+within_spelt zero n h = subst (Spelt n) (sym (one_text n (omega arith))) (one_digit n (omega arith))
+within_spelt (suc bound) n h = elim (cases_lt n 10) [
+  | inl l ↦ subst (Spelt n) (sym (one_text n l)) (one_digit n l)
+  | inr l ↦ subst (Spelt n) (sym (more_text n l)) (one_more n (whole_text (n / 10)) l (within_spelt bound (n / 10) (omega arith)))
+]
+
+pub spelt : (n : ℕ) → Spelt n (whole_text n)
 spelt n = within_spelt n n (omega arith)
 
 pub spelt_some : (n : ℕ) (ds : List ℕ) → Spelt n ds → AreSomeDigits ds
@@ -66,25 +88,11 @@ spelt_int n (d ∷ e ∷ ds) s = (s.digits.0, ne_eqb d 0x30 (λ (z : d ≡ 0x30)
     not_zero : d ≡ 0x30 → ⊥
     not_zero z = ⊎_elim (λ l. let a = s.alone l in omega arith) (λ l. let f = s.first (omega arith) in omega arith) (cases_lt n 10)
 
-pub zero_digits : digits_of 0 ≡ 48 ∷ []
-unfolding digits_within
+pub zero_digits : whole_text 0 ≡ 48 ∷ []
 zero_digits = refl
 
 -- ---- how many digits there are
 
-within_short : (k bound n : ℕ) → n < 10 ^ suc k → length (digits_within bound n) ≤ suc k
-unfolding digits_within
-within_short k zero n h = omega arith
-within_short zero (suc bound) n h = step (nat_lt n 10) (lt-ltb n 10 h)
-  where
-    step : (b : Bool) → b ≡ true → length (cond b ((48 + n) ∷ []) (digits_within bound (n / 10) ++ (48 + n % 10) ∷ [])) ≤ 1
-    step true e = omega arith
-    step false e = absurd (cc)
-within_short (suc k) (suc bound) n h = step (nat_lt n 10) (within_short k bound (n / 10) (let p = pow-suc 10 (suc k) in omega arith))
-  where
-    step : (b : Bool) → length (digits_within bound (n / 10)) ≤ suc k → length (cond b ((48 + n) ∷ []) (digits_within bound (n / 10) ++ (48 + n % 10) ∷ [])) ≤ suc (suc k)
-    step true g = omega arith
-    step false g = omega (arith, length-append (digits_within bound (n / 10)) ((48 + n % 10) ∷ []))
-
-pub short_digits : (n : ℕ) → n < 10 ^ 15 → length (digits_of n) ≤ 15
-short_digits n h = within_short 14 n n h
+pub short_digits : (n : ℕ) → n < 10 ^ 15 → length (whole_text n) ≤ 15
+short_digits n h =
+    cond_both (n == 0) (0x30 ∷ []) (map glyph (digits_of 10 n)) (λ l. length l ≤ 15) (λ e. omega arith) (λ e. let a = length-map (digits_of 10 n) glyph in let b = length-digits_of-le 10 15 n (omega arith) h in omega (arith, a, b))

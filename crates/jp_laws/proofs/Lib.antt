@@ -2,6 +2,15 @@
 pub mod Agreeing
 pub mod AlikeNodes
 pub mod AlikeValues
+pub mod CanonicalDigits
+pub mod CanonicalEquals
+pub mod CanonicalLaws
+pub mod CanonicalMembers
+pub mod CanonicalNumbers
+pub mod CanonicalNumerals
+pub mod CanonicalShapes
+pub mod CanonicalTexts
+pub mod CanonicalTrees
 pub mod CutPieces
 pub mod Defaults
 pub mod Descendants
@@ -10,6 +19,7 @@ pub mod Distinct
 pub mod DroppedIndex
 pub mod EndIndexes
 pub mod EqualNames
+pub mod Exponents
 pub mod HexDigits
 pub mod JoinedParts
 pub mod JsonShapes
@@ -27,6 +37,8 @@ pub mod PatternShapes
 pub mod PatternTexts
 pub mod Permuted
 pub mod PlainSides
+pub mod PlainStatuses
+pub mod PlainTexts
 pub mod QueryShapes
 pub mod QueryTexts
 pub mod Reached
@@ -35,11 +47,14 @@ pub mod ReorderedValues
 pub mod RowFields
 pub mod Runs
 pub mod SameFront
+pub mod SayableNodes
 pub mod Shifted
 pub mod Sides
 pub mod SingularNodes
 pub mod SliceLoops
 pub mod Somewhere
+pub mod SpelledCharacters
+pub mod TextsFrom
 pub mod Utf8Lines
 pub mod ValueEquality
 pub mod WayBack

@@ -28,6 +28,12 @@ brought m e = ap (λ l. brought_to l m e) (same_least e) ∙ (ap (λ n. m *ℤ p
 pub whole_order : (m n e : ℤ) → number_order m e n e ≡ int_cmp m n
 whole_order m n e = ap₂ int_cmp (brought m e) (brought n e)
 
+pub ten_times : (k : ℕ) → 10 ^ suc k ≡ 10 ^ k * 10
+ten_times k = simp unary_clauses refl
+
+pub ten_more : (m : ℤ) (p : ℕ) → m *ℤ pos (p * 10) ≡ ten (m *ℤ pos p)
+ten_more m p = grind (arith, ints)
+
 module _ (order_total : IsTotalOrder order) where
   pub with_zeros : (m e : ℤ) (k : ℕ) → compared equal (Some (number m e)) (Some (number (m *ℤ pos (10 ^ k)) (e -ℤ pos k))) ≡ true
   with_zeros m e zero =
@@ -38,12 +44,6 @@ module _ (order_total : IsTotalOrder order) where
       let f : ℤ = e -ℤ pos k in
       ap₂ (λ (n f : ℤ). compared equal (Some (number m e)) (Some (number n f))) (ap (λ p. m *ℤ pos p) (ten_times k) ∙ ten_more m (10 ^ k)) (let h : e -ℤ pos (suc k) ≡ lower f = omega (arith, ints) in h)
       ∙ (value_right order_total equal n f (Some (number m e)) ∙ with_zeros m e k)
-    where
-      ten_times : (k : ℕ) → 10 ^ suc k ≡ 10 ^ k * 10
-      ten_times k = simp unary_clauses refl
-
-      ten_more : (m : ℤ) (p : ℕ) → m *ℤ pos (p * 10) ≡ ten (m *ℤ pos p)
-      ten_more m p = grind (arith, ints)
 
 -- ---- strings
 

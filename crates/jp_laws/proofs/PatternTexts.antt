@@ -9,7 +9,7 @@ use Rattle.ucd_category.specs.declared.GeneralCategoryGroup.TheVariants.{CasedLe
 use Rattle.jp_model.specs.Pattern.Classes.{among, escape_value, property_named}
 use Rattle.jp_model.specs.Pattern.Spelling.{Token, class_token, open_token, close_token, bar_token, count_token, is_class_plain, ClassChar, plain_char, escaped_char, has, has_not, SpellsItem, one_char, from_to, property_item, SpellsItems, no_item, more_items, SpellsMembers, first_item, SpellsClass, dot_class, bracketed_class, negated_class, SpellsBound, SpellsCount, at_least, between, SpellsToken, a_class, an_open, a_close, a_bar, a_count, SpellsTokens, no_token, more_tokens, Part, Derives, i_regexp_rule, branch_rule, piece_rule, atom_rule, one_branch, more_branches, no_piece, more_pieces, piece_once, counted_piece, class_atom, group_atom, SpellsPattern}
 use Rattle.jp_model.specs.Pattern.Tree.{Property, category_group, one_category, Item, range, with_property, without_property, CharClass, dot, members, Pattern, one_of, empty, followed_by, never, either_of, times}
-use Rattle.jp_laws.specs.Digits.{digits_of}
+use Rattle.jp_canon.specs.Layout.{whole_text}
 use Rattle.jp_laws.specs.PatternTexts.{escaped_scalars, scalar_text, group_letter, category_letters, property_text, item_text, class_text, count_text, token_text, grouped, barred, pattern_tokens, pattern_text, CanBeNamed, CanBeItem, CanBeItems, CanBeClass, CanBeCount, IsRegexp, IsMore, IsBranch, IsPiece, IsAtom}
 use Rattle.jp_laws.proofs.DigitTexts.{spelt}
 use Rattle.jp_laws.proofs.Reached.{Each, each_append}
@@ -86,8 +86,8 @@ class_spelled (members true (item ∷ items)) h = negated_class (members_spelled
 
 -- ---- tokens
 
-bound_spelled : (n : ℕ) → n ≤ 999999999 → SpellsBound (digits_of n) n
-bound_spelled n h = let s = spelt n in record { some = s.some; digits = digits_whole (digits_of n) s.digits; is = sym s.value; small = h }
+bound_spelled : (n : ℕ) → n ≤ 999999999 → SpellsBound (whole_text n) n
+bound_spelled n h = let s = spelt n in record { some = s.some; digits = digits_whole (whole_text n) s.digits; is = sym s.value; small = h }
 
 count_spelled : (least : ℕ) (most : Option ℕ) → CanBeCount least most → SpellsCount (count_text least most) least most
 count_spelled least None h = at_least (bound_spelled least h)

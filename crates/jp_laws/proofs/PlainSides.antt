@@ -16,7 +16,7 @@ use Rattle.jp_laws.proofs.Reached.{Each, subtree_reached, nodes_reached}
 use Rattle.jp_laws.proofs.ValueEquality.{tree_members}
 use Rattle.jp_laws.proofs.WayBack.{parsed_sound}
 
-abbrev IsPlain : Node → Type 0
+abbrev pub IsPlain : Node → Type 0
 IsPlain n = is_plain (Some (value_of n.tree)) ≡ true
 
 plain_by : (v : Value) → value_has_duplicate v ≡ false → has_members v ≡ true → is_plain (Some v) ≡ true
@@ -95,11 +95,15 @@ module _ (n : Node) (t : Tree) (here : IsPlain n) (top : IsPlain (root_node t)) 
   side_plain (single p) = single_plain (path_nodes p n t) (path_plain p)
   side_plain (result (call f args)) = function_plain f (given args n t) (arguments_plain args)
 
-pub sides_plain : (f : Framing) (line : List ℕ) (t : Tree) → HasStatus f line (parsed t) → (n : Node) → IsWithin (root_node t) n → (c : Comparable) → is_plain (compared_value c n t) ≡ true
-sides_plain f line t status n w c =
-    let s = parsed_sound f line t status in
-    let top : IsPlain (root_node t) = top_plain t s.2 (tree_members line t (s.0).value) in
-    side_plain n t (each_among IsPlain n (subtree (root_node t)) (subtree_reached IsPlain goes (root_node t) top) (within_among (root_node t) n w)) top c
+top_plain : (f : Framing) (line : List ℕ) (t : Tree) → HasStatus f line (parsed t) → IsPlain (root_node t)
+top_plain f line t status = let s = parsed_sound f line t status in by_tree t s.2 (tree_members line t (s.0).value)
   where
-    top_plain : (u : Tree) → has_duplicate u ≡ false → has_members (value_of u) ≡ true → is_plain (Some (value_of u)) ≡ true
-    top_plain (node x v) d m = plain_by v d m
+    by_tree : (u : Tree) → has_duplicate u ≡ false → has_members (value_of u) ≡ true → is_plain (Some (value_of u)) ≡ true
+    by_tree (node x v) d m = plain_by v d m
+
+-- each node of a line's tree is plain
+pub node_plain : (f : Framing) (line : List ℕ) (t : Tree) → HasStatus f line (parsed t) → (n : Node) → IsWithin (root_node t) n → IsPlain n
+node_plain f line t status n w = each_among IsPlain n (subtree (root_node t)) (subtree_reached IsPlain goes (root_node t) (top_plain f line t status)) (within_among (root_node t) n w)
+
+pub sides_plain : (f : Framing) (line : List ℕ) (t : Tree) → HasStatus f line (parsed t) → (n : Node) → IsWithin (root_node t) n → (c : Comparable) → is_plain (compared_value c n t) ≡ true
+sides_plain f line t status n w c = side_plain n t (node_plain f line t status n w) (top_plain f line t status) c

@@ -10,7 +10,8 @@ use Rattle.jp_model.specs.Query.Spelling.{is_function_scalar, Run, run_ends, run
 use Rattle.jp_model.specs.Query.Status.{TextSpells}
 use Rattle.jp_model.specs.Query.Syntax.{CompareOp, equal, not_equal, less, less_equal, greater, greater_equal, Origin, root, current, Literal, null_literal, false_literal, true_literal, number_literal, string_literal, Segment, child_segment, descendant_segment, Segments, no_segments, segment, Selector, name_selector, wildcard_selector, index_selector, slice_selector, filter_selector, Selectors, no_selectors, selector, Logical, or_all, and_all, negated, compare, exists, test, Logicals, no_logicals, logical, Comparable, constant, single, result, Argument, constant_argument, nodes_argument, condition, result_argument, Arguments, no_arguments, argument, Path, path, Call, call}
 use Rattle.jp_model.specs.Steps.{Step}
-use Rattle.jp_laws.specs.Digits.{digits_of, signed_digits}
+use Rattle.jp_canon.specs.Layout.{whole_text}
+use Rattle.jp_laws.specs.Digits.{signed_digits}
 use Rattle.jp_laws.specs.QueryTexts.{in_brackets, in_parentheses, bound_text, step_text, origin_text, segments_text, segment_text, selectors_text, more_selectors_text, selector_text, logical_text, more_logicals_text, comparable_text, filter_query_text, call_text, more_arguments_text, argument_text, query_text, IsFunctionName, CanBeLiteral, CanBeSegments, CanBeSegment, CanBeSelectors, CanBeMoreSelectors, CanBeSelector, CanBeLogical, CanBeLogicals, CanBeComparable, CanBeFilterQuery, CanBeCall, CanBeArguments, CanBeArgument}
 use Rattle.jp_laws.proofs.DigitTexts.{spelt, zero_digits}
 use Rattle.jp_laws.proofs.PathTexts.{name_quoted, positive_digits}
@@ -27,8 +28,8 @@ together P a b y h = subst P (sym (append_assoc a b y)) h
 
 int_spelled : (i : ℤ) (y : List ℕ) → Int (signed_digits i ++ y) y i
 int_spelled (pos zero) y = subst (λ ds. Int (ds ++ y) y (pos 0)) (sym zero_digits) zero_int
-int_spelled (pos (suc n)) y = let s = spelt (suc n) in subst (λ k. Int (digits_of (suc n) ++ y) y (pos k)) s.value (positive_int (positive_digits (digits_of (suc n)) y s.digits (s.first (omega arith))))
-int_spelled (negsuc n) y = let s = spelt (suc n) in subst (λ k. Int (45 ∷ (digits_of (suc n) ++ y)) y (neg_ℤ (pos k))) s.value (negative_int (positive_digits (digits_of (suc n)) y s.digits (s.first (omega arith))))
+int_spelled (pos (suc n)) y = let s = spelt (suc n) in subst (λ k. Int (whole_text (suc n) ++ y) y (pos k)) s.value (positive_int (positive_digits (whole_text (suc n)) y s.digits (s.first (omega arith))))
+int_spelled (negsuc n) y = let s = spelt (suc n) in subst (λ k. Int (45 ∷ (whole_text (suc n) ++ y)) y (neg_ℤ (pos k))) s.value (negative_int (positive_digits (whole_text (suc n)) y s.digits (s.first (omega arith))))
 
 string_said : (x y : List ℕ) → StringLiteral (quoted x ++ y) y x
 string_said x y = single_quoted (together (λ l. Quoted 39 l y x) (flat_map name_scalar x) (39 ∷ []) y (name_quoted x y))

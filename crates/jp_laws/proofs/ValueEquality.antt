@@ -97,7 +97,7 @@ found_passes k passes (child (Some name) (node s w) more) v f h = step (bytes_eq
     step true g again = ap passes (unsome g) ∙ h
     step false g again = again g
 
-found_named : (k : List ℕ) (cs : Children) (v : Value) → found k cs ≡ Some v → among k (names cs) ≡ true
+pub found_named : (k : List ℕ) (cs : Children) (v : Value) → found k cs ≡ Some v → among k (names cs) ≡ true
 found_named k no_child v f = absurd (cc)
 found_named k (child None t more) v f = found_named k more v f
 found_named k (child (Some name) (node s w) more) v f = step (bytes_eq k name.points) f (found_named k more v)
@@ -120,7 +120,7 @@ named_found k (child (Some name) (node s w) more) h = step (bytes_eq k name.poin
 abbrev pub Matched : Children → Children → Type 0
 Matched xs ys = (k : List ℕ) (v : Value) → found k xs ≡ Some v → (w : Value) × (found k ys ≡ Some w) × (values_equal v w ≡ true)
 
-within_matched : (xs ys : Children) → members_within xs ys ≡ true → Matched xs ys
+pub within_matched : (xs ys : Children) → members_within xs ys ≡ true → Matched xs ys
 within_matched no_child ys h k v f = absurd (cc)
 within_matched (child None (node s x) xs) ys h k v f = within_matched xs ys h k v f
 within_matched (child (Some name) (node s x) xs) ys h k v f = step (bytes_eq k name.points) refl f (within_matched xs ys p.1 k v)
@@ -144,11 +144,11 @@ matched_within (child (Some name) (node s x) xs) ys d m =
     and_from _ _ (found_passes name.points (λ y. values_equal x y) ys first.0 first.1 first.2) (matched_within xs ys p.1 rest)
 
 -- what holds of each value of some children
-abbrev OfEachChild : (Value → Type 0) → Children → Type 0
+abbrev pub OfEachChild : (Value → Type 0) → Children → Type 0
 OfEachChild P no_child = Unit {0}
 OfEachChild P (child name (node s v) more) = P v × OfEachChild P more
 
-each_found : (P : Value → Type 0) (k : List ℕ) (cs : Children) (v : Value) → OfEachChild P cs → found k cs ≡ Some v → P v
+pub each_found : (P : Value → Type 0) (k : List ℕ) (cs : Children) (v : Value) → OfEachChild P cs → found k cs ≡ Some v → P v
 each_found P k no_child v a f = absurd (cc)
 each_found P k (child None (node s w) more) v a f = each_found P k more v a.1 f
 each_found P k (child (Some name) (node s w) more) v a f = step (bytes_eq k name.points) f (each_found P k more v a.1)
@@ -181,7 +181,7 @@ pub record Plain (v : Value) : Type 0 where
   pub distinct : value_has_duplicate v ≡ false
   pub members : has_members v ≡ true
 
-plain_each : (cs : Children) → children_have_duplicate cs ≡ false → each_has_members cs ≡ true → OfEachChild Plain cs
+pub plain_each : (cs : Children) → children_have_duplicate cs ≡ false → each_has_members cs ≡ true → OfEachChild Plain cs
 plain_each no_child d m = tt
 plain_each (child name (node s v) more) d m =
     let p = or_parts (value_has_duplicate v) (children_have_duplicate more) d in
@@ -222,7 +222,7 @@ module _ (order_total : IsTotalOrder order) where
   abbrev Back : Value → Type 0
   Back v = (w : Value) → Plain v → Plain w → values_equal v w ≡ true → values_equal w v ≡ true
 
-  boolean_same : (a b : Bool) → boolean_equal a b ≡ true → a ≡ b
+  pub boolean_same : (a b : Bool) → boolean_equal a b ≡ true → a ≡ b
   boolean_same true b h = sym h
   boolean_same false true h = absurd (cc)
   boolean_same false false h = refl
@@ -357,7 +357,7 @@ module _ (order_total : IsTotalOrder order) where
 
   -- ---- sides of comparisons
 
-  plain_value : (v : Value) → is_plain (Some v) ≡ true → Plain v
+  pub plain_value : (v : Value) → is_plain (Some v) ≡ true → Plain v
   plain_value v h = let p = and_parts _ _ h in record { distinct = not-true _ p.0; members = p.1 }
 
   pub reflexive : (x : Option Value) → is_plain x ≡ true → compared equal x x ≡ true

@@ -7,6 +7,7 @@ pub mod Kinds
 pub mod Nodes
 pub mod PatternTexts
 pub mod Patterns
+pub mod Powers
 pub mod Queries
 pub mod QueryTexts
 pub mod Reordered

@@ -7,7 +7,7 @@ use Rattle.ucd_category.specs.declared.GeneralCategoryGroup.TheVariants.{Other, 
 use Rattle.jp_model.specs.Pattern.Classes.{among}
 use Rattle.jp_model.specs.Pattern.Spelling.{Token, class_token, open_token, close_token, bar_token, count_token}
 use Rattle.jp_model.specs.Pattern.Tree.{Property, category_group, one_category, Item, range, with_property, without_property, CharClass, dot, members, Pattern, one_of, empty, followed_by, never, either_of, times}
-use Rattle.jp_laws.specs.Digits.{digits_of}
+use Rattle.jp_canon.specs.Layout.{whole_text}
 
 -- ---- the text
 
@@ -82,8 +82,8 @@ class_text (members true items) = 0x5B ∷ 0x5E ∷ (flat_map item_text items ++
 
 -- quantifier
 abbrev pub count_text : ℕ → Option ℕ → List ℕ
-count_text least None = 0x7B ∷ (digits_of least ++ 0x2C ∷ 0x7D ∷ [])
-count_text least (Some most) = 0x7B ∷ (digits_of least ++ 0x2C ∷ (digits_of most ++ 0x7D ∷ []))
+count_text least None = 0x7B ∷ (whole_text least ++ 0x2C ∷ 0x7D ∷ [])
+count_text least (Some most) = 0x7B ∷ (whole_text least ++ 0x2C ∷ (whole_text most ++ 0x7D ∷ []))
 
 -- one token
 abbrev pub token_text : Token → List ℕ

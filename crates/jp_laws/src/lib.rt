@@ -2,6 +2,7 @@
 #![tactic(auto)]
 
 pub mod calls;
+pub mod canonical;
 pub mod comparisons;
 pub mod cutting;
 pub mod joining;

@@ -13,7 +13,7 @@ ghost use Rattle.jp_model.specs.Pattern.Tree.{Pattern};
 ghost use Rattle.jp_model.specs.Query.Spelling.{SpellsQuery};
 ghost use Rattle.jp_model.specs.Query.Status.{TextSpells};
 ghost use Rattle.jp_model.specs.Query.Syntax.{Segments};
-ghost use Rattle.jp_laws.specs.JsonTexts.{CanBeSaid, HasShortExponents, tree_text, unplaced};
+ghost use Rattle.jp_laws.specs.JsonTexts.{CanBeSaid, HasShortExponents, plain, tree_text, unplaced};
 ghost use Rattle.jp_laws.specs.PatternTexts.{IsRegexp, pattern_text};
 ghost use Rattle.jp_laws.specs.QueryTexts.{CanBeSegments, query_text};
 
@@ -25,9 +25,9 @@ ghost use Rattle.jp_laws.specs.QueryTexts.{CanBeSegments, query_text};
 /// A grammar of strings without the escape `\"` is refused here.
 pub fn each_tree_has_a_text()
     ensures line { (t : Tree) → CanBeSaid t → HasShortExponents t → depth t ≤ 512 → has_duplicate t ≡ false
-        → (u : Tree) × HasStatus in_lines (tree_text t) (parsed u) × (unplaced u ≡ unplaced t) }
+        → (u : Tree) × HasStatus in_lines (tree_text plain t) (parsed u) × (unplaced u ≡ unplaced t) }
     ensures sequence { (t : Tree) → CanBeSaid t → HasShortExponents t → depth t ≤ 512 → has_duplicate t ≡ false
-        → (u : Tree) × HasStatus in_sequence (tree_text t ++ 0x0A ∷ []) (parsed u) × (unplaced u ≡ unplaced t) }
+        → (u : Tree) × HasStatus in_sequence (tree_text plain t ++ 0x0A ∷ []) (parsed u) × (unplaced u ≡ unplaced t) }
     ensures only { (f : Framing) (line : List ℕ) (t : Tree) → HasStatus f line (parsed t)
         → CanBeSaid t × (depth t ≤ 512) × (has_duplicate t ≡ false) }
 {}

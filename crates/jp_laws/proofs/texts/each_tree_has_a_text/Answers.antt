@@ -1,5 +1,5 @@
 use Rattle.jp_laws.proofs.JsonShapes.{status_sayable}
-use Rattle.jp_laws.proofs.JsonStatuses.{line_status, sequence_status}
+use Rattle.jp_laws.proofs.PlainStatuses.{line_status, sequence_status}
 use Rattle.jp_laws.proofs.texts.each_tree_has_a_text.Goals as goal
 
 pub returns-clause-line : goal.returns-clause-line

@@ -1,0 +1,69 @@
+-- Digits with zeros before and behind them, and without those behind.
+use Rattle.std.proofs.Common.{◌≡◌, ℕ, zero, suc, ◌+◌, ◌-◌, ◌*◌, ◌^◌, Bool, true, cond, ◌&&◌, ◌==◌, List, [], ◌∷◌, ◌++◌, length, refl, ap, ap₂, ◌∙◌, arith}
+use Rattle.std.specs.List.{list_all}
+use Rattle.std.proofs.lemmas.Bool.{cond_both, and_parts, eqb-true}
+use Rattle.std.proofs.lemmas.List.{length-replicate}
+use Rattle.std.proofs.Math.Nat.{pow-succ'}
+use Rattle.jp_canon.specs.Layout.{zeros, without_trailing_zeros}
+use Rattle.jp_model.specs.Characters.{digits_value, value_behind}
+use Rattle.jp_model.specs.Json.Numbers.{AreDigits}
+
+-- ---- digits behind digits
+
+behind : (b : ℕ) (ds : List ℕ) → value_behind b ds ≡ b * 10 ^ length ds + digits_value ds
+behind b [] = omega arith
+behind b (d ∷ ds) = behind_step b (d - 0x30) (10 ^ length ds) (10 ^ suc (length ds)) (digits_value ds) _ _ (pow-succ' 10 (length ds)) (behind (b * 10 + (d - 0x30)) ds) (behind (0 + (d - 0x30)) ds)
+  where
+    behind_step : (b d p q v x y : ℕ) → q ≡ 10 * p → x ≡ (b * 10 + d) * p + v → y ≡ (0 + d) * p + v → x ≡ b * q + y
+    behind_step b d p q v x y e f g = rw e (omega (arith, f, g))
+
+value_append : (b : ℕ) (xs ys : List ℕ) → value_behind b (xs ++ ys) ≡ value_behind (value_behind b xs) ys
+value_append b [] ys = refl
+value_append b (x ∷ xs) ys = value_append (b * 10 + (x - 0x30)) xs ys
+
+pub zeros_value : (z : ℕ) → digits_value (zeros z) ≡ 0
+zeros_value zero = refl
+zeros_value (suc z) = zeros_value z
+
+pub zeros_digits : (z : ℕ) → AreDigits (zeros z)
+zeros_digits zero = tt
+zeros_digits (suc z) = (refl, zeros_digits z)
+
+pub digits_append : (xs ys : List ℕ) → AreDigits xs → AreDigits ys → AreDigits (xs ++ ys)
+digits_append [] ys a b = b
+digits_append (x ∷ xs) ys a b = (a.0, digits_append xs ys a.1 b)
+
+-- zeros behind digits multiply, and zeros before them do not count
+pub value_with_zeros : (ds : List ℕ) (z : ℕ) → digits_value (ds ++ zeros z) ≡ digits_value ds * 10 ^ z
+value_with_zeros ds z = value_append 0 ds (zeros z) ∙ (behind (digits_value ds) (zeros z) ∙ rw (zeros_value z, length-replicate {A = ℕ} z 0x30) (omega arith))
+
+pub value_behind_zeros : (z : ℕ) (ds : List ℕ) → digits_value (zeros z ++ ds) ≡ digits_value ds
+value_behind_zeros zero ds = refl
+value_behind_zeros (suc z) ds = value_behind_zeros z ds
+
+-- ---- without the zeros behind
+
+abbrev is_zero : ℕ → Bool
+is_zero digit = digit == 0x30
+
+all_zeros : (ds : List ℕ) → list_all is_zero ds ≡ true → ds ≡ zeros (length ds)
+all_zeros [] h = refl
+all_zeros (d ∷ ds) h = let p = and_parts (d == 0x30) (list_all is_zero ds) h in ap₂ (λ (c : ℕ) (l : List ℕ). c ∷ l) (eqb-true d 0x30 p.0) (all_zeros ds p.1)
+
+pub record Trimmed (ds : List ℕ) (s : List ℕ) : Type 0 where
+  pub count : ℕ
+  pub is : ds ≡ s ++ zeros count
+
+pub trimmed : (ds : List ℕ) → Trimmed ds (without_trailing_zeros ds)
+trimmed [] = record { count = 0; is = refl }
+trimmed (d ∷ ds) =
+    cond_both (list_all is_zero (d ∷ ds)) [] (d ∷ without_trailing_zeros ds) (Trimmed (d ∷ ds)) (λ h. record { count = length (d ∷ ds); is = all_zeros (d ∷ ds) h })
+    (λ h. let t = trimmed ds in record { count = t.count; is = ap (λ (l : List ℕ). d ∷ l) t.is })
+
+all_push : (ds : List ℕ) → list_all is_zero (ds ++ 0x30 ∷ []) ≡ list_all is_zero ds
+all_push [] = refl
+all_push (d ∷ ds) = ap (λ b. is_zero d && b) (all_push ds)
+
+pub trimmed_push : (ds : List ℕ) → without_trailing_zeros (ds ++ 0x30 ∷ []) ≡ without_trailing_zeros ds
+trimmed_push [] = refl
+trimmed_push (d ∷ ds) = ap₂ (λ (b : Bool) (l : List ℕ). cond b [] (d ∷ l)) (all_push (d ∷ ds)) (trimmed_push ds)
