@@ -15,11 +15,13 @@ use Rattle.jp_model.specs.Query.Syntax.{equal}
 use Rattle.jp_laws.specs.Alike.{AlikeNames, unnamed, named_alike, AlikeTrees, alike_trees, AlikeValues, alike_nulls, alike_booleans, alike_numbers, alike_strings, alike_containers, AlikeChildren, no_more, next_child}
 use Rattle.jp_laws.specs.JsonTexts.{label_text, tree_text, CanBeSaid, CanBeValue, HasNumbers}
 use Rattle.jp_laws.specs.Nodes.{IsWithin}
+use Rattle.jp_laws.specs.Ordered.{is_ordered}
 use Rattle.jp_laws.specs.Powers.{HasShortPower}
 use Rattle.jp_laws.specs.Values.{is_plain}
 use Rattle.jp_laws.proofs.AlikeValues.{equal_alike}
 use Rattle.jp_laws.proofs.CanonicalEquals.{one_text}
 use Rattle.jp_laws.proofs.CanonicalNumerals.{said, said_equal}
+use Rattle.jp_laws.proofs.CanonicalOrder.{tree_ordered, placed_ordered}
 use Rattle.jp_laws.proofs.CanonicalShapes.{tree_said, tree_numbers, tree_depth, tree_duplicate, value_duplicate}
 use Rattle.jp_laws.proofs.CanonicalTexts.{canonical, canonical_readable}
 use Rattle.jp_laws.proofs.CanonicalTrees.{sorted, sorted_value, tree_printed, value_reordered}
@@ -149,3 +151,11 @@ module _ (order_total : IsTotalOrder order) where
 
     pub node_status : (f : Framing) (line : List ℕ) (t : Tree) → HasStatus f line (parsed t) → (n : Node) → IsWithin (root_node t) n → HasNumbers HasShortPower n.tree → (u : Tree) → Text (canonical_text n.tree) u → HasStatus in_lines (canonical_text n.tree) (parsed u)
     node_status f line t h n i short u text = let s = node_sayable f line t h n i in status_says n.tree u s.said s.shallow (node_plain f line t h n i) short text
+
+    order_says : (t u : Tree) → CanBeSaid t → is_plain (Some (value_of t)) ≡ true → Text (canonical_text t) u → is_ordered u ≡ true
+    order_says (node s v) u h p text =
+        let t : Tree = node s v in
+        subst (λ x. is_ordered x ≡ true) (sym (one_tree (canonical_text t) (said_tree t) u (text_says t h) text)) (placed_ordered canonical (sorted t) 0 ∙ tree_ordered t (plain_value order_total v p).distinct)
+
+    pub node_order : (f : Framing) (line : List ℕ) (t : Tree) → HasStatus f line (parsed t) → (n : Node) → IsWithin (root_node t) n → (u : Tree) → Text (canonical_text n.tree) u → is_ordered u ≡ true
+    node_order f line t h n i u text = order_says n.tree u (node_sayable f line t h n i).said (node_plain f line t h n i) text

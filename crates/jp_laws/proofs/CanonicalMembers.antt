@@ -56,10 +56,10 @@ in_by_name x (m ∷ list) i = in_placed x m (by_name list) (⊎_elim (λ e. inl 
 
 -- ---- in order
 
-abbrev IsBelow : Member → List Member → Type 0
+abbrev pub IsBelow : Member → List Member → Type 0
 IsBelow m list = (x : Member) → IsIn x list → text_less m.name x.name ≡ true
 
-abbrev AreAscending : List Member → Type 0
+abbrev pub AreAscending : List Member → Type 0
 AreAscending [] = Unit {0}
 AreAscending (m ∷ list) = IsBelow m list × AreAscending list
 

@@ -9,7 +9,7 @@ use Rattle.jp_laws.proofs.CanonicalTrees.{put, sorted, sorted_value, sorted_elem
 use Rattle.jp_laws.proofs.ValueEquality.{among, text_itself, text_same}
 
 -- what holds of children holds of them with one more, wherever that is put
-put_has : (Holds : Children → Type 0) (a : Name) (t : Tree) → ((u : Children) → Holds u → Holds (child (Some a) t u)) → ((b : Name) (u : Tree) (more : Children) → (Holds more → Holds (put a t more)) → Holds (child (Some b) u more) → Holds (child (Some b) u (put a t more)))
+pub put_has : (Holds : Children → Type 0) (a : Name) (t : Tree) → ((u : Children) → Holds u → Holds (child (Some a) t u)) → ((b : Name) (u : Tree) (more : Children) → (Holds more → Holds (put a t more)) → Holds (child (Some b) u more) → Holds (child (Some b) u (put a t more)))
     → ((u : Tree) (more : Children) → (Holds more → Holds (put a t more)) → Holds (child None u more) → Holds (child None u (put a t more))) → (cs : Children) → Holds cs → Holds (put a t cs)
 put_has Holds a t here later unnamed no_child h = here no_child h
 put_has Holds a t here later unnamed (child None u more) h = unnamed u more (put_has Holds a t here later unnamed more) h

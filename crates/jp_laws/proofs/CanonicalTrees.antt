@@ -56,7 +56,7 @@ joined_text (child name t (child b u more)) =
     ∙ ap (λ (l : List ℕ). printed.label_text canonical name ++ (printed.tree_text canonical t ++ 0x2C ∷ l)) (joined_text (child b u more))
 
 -- the same as members
-abbrev listed : Children → List Member
+abbrev pub listed : Children → List Member
 listed no_child = []
 listed (child None t more) = listed more
 listed (child (Some name) t more) = record { name = name.points; text = printed.label_text canonical (Some name) ++ printed.tree_text canonical t } ∷ listed more
@@ -110,7 +110,7 @@ mutual
   elements_printed no_child = refl
   elements_printed (child name t more) = ap₂ (λ (x : List ℕ) (l : List (List ℕ)). x ∷ l) (tree_printed t) (elements_printed more)
 
-  members_printed : (cs : Children) → by_name (member_texts cs) ≡ listed (sorted_members cs)
+  pub members_printed : (cs : Children) → by_name (member_texts cs) ≡ listed (sorted_members cs)
   members_printed no_child = refl
   members_printed (child None t more) = members_printed more
   members_printed (child (Some name) t more) =

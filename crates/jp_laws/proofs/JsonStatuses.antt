@@ -52,7 +52,7 @@ module _ (printer : Printer) where
   more_names no_child i = refl
   more_names (child name t more) i = named (i + 1) name _ _ (more_names more (i + 1 + length (label_text printer name) + length (tree_text printer t)))
 
-  first_names : (cs : Children) (i : ℕ) → names (placed_first printer i cs) ≡ names cs
+  pub first_names : (cs : Children) (i : ℕ) → names (placed_first printer i cs) ≡ names cs
   first_names no_child i = refl
   first_names (child name t more) i = named i name _ _ (more_names more (i + length (label_text printer name) + length (tree_text printer t)))
 

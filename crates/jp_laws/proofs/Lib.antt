@@ -8,6 +8,7 @@ pub mod CanonicalLaws
 pub mod CanonicalMembers
 pub mod CanonicalNumbers
 pub mod CanonicalNumerals
+pub mod CanonicalOrder
 pub mod CanonicalShapes
 pub mod CanonicalTexts
 pub mod CanonicalTrees

@@ -5,6 +5,7 @@ pub mod Fallbacks
 pub mod JsonTexts
 pub mod Kinds
 pub mod Nodes
+pub mod Ordered
 pub mod PatternTexts
 pub mod Patterns
 pub mod Powers

@@ -13,6 +13,7 @@ ghost use Rattle.jp_model.specs.Meaning.Nodes.{Node, root_node};
 ghost use Rattle.jp_model.specs.Query.Syntax.{equal};
 ghost use Rattle.jp_laws.specs.JsonTexts.{CanBeValue, HasNumbers};
 ghost use Rattle.jp_laws.specs.Nodes.{IsWithin};
+ghost use Rattle.jp_laws.specs.Ordered.{is_ordered};
 ghost use Rattle.jp_laws.specs.Powers.{HasShortPower};
 ghost use Rattle.jp_laws.specs.Values.{is_plain};
 
@@ -44,6 +45,18 @@ pub fn canonical_text_says_the_value()
         → (u : Tree) × Text (canonical_text n.tree) u × (compared equal (Some (value_of u)) (Some (value_of n.tree)) ≡ true) × (canonical_text u ≡ canonical_text n.tree) }
     ensures status { (f : Framing) (line : List ℕ) (t : Tree) → HasStatus f line (parsed t) → (n : Node) → IsWithin (root_node t) n
         → HasNumbers HasShortPower n.tree → (u : Tree) → Text (canonical_text n.tree) u → HasStatus in_lines (canonical_text n.tree) (parsed u) }
+{
+    laws::values_are_in_total_order();
+    readings::one_tree();
+}
+
+/// In each object of the tree that the canonical text of a node of a line's tree spells, the names ascend, as strings do (RFC 9535,
+/// section 2.3.5.2.2).
+///
+/// The order of names by UTF-16 code units (RFC 8785, section 3.2.3) is refused here.
+pub fn canonical_members_are_in_order()
+    ensures { (f : Framing) (line : List ℕ) (t : Tree) → HasStatus f line (parsed t) → (n : Node) → IsWithin (root_node t) n
+        → (u : Tree) → Text (canonical_text n.tree) u → is_ordered u ≡ true }
 {
     laws::values_are_in_total_order();
     readings::one_tree();
