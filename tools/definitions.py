@@ -113,7 +113,7 @@ def laws(path):
 def table(name, head, definitions, title, named):
     """The lines of a file's table, below its name and its head; where names are given, with the rows of those alone."""
     of = "".join(re.findall(r"RFC \d+", head)[:1])
-    whole = "; ".join(citations(head) + re.findall(r"\bprofile\b", head))
+    whole = "; ".join(dict.fromkeys(citations(head) + re.findall(r"\bprofile\b", head)))
     rows = []
     for definition, comment, part in definitions:
         if comment or not rows:
@@ -150,6 +150,7 @@ def made_tables():
     used = [names for path in law_files for names in USED.findall(path.read_text())]
     return {
         "definitions": tables(files(CRATES / "jp_model/specs/Lib.antt"), commented, "Name"),
+        "canonical": tables([CRATES / f"jp_canon/specs/{name}.antt" for name in ("Canonical", "Layout")], commented, "Name"),
         "laws": tables([*law_files, *sorted(CRATES.glob("*/src/laws.rt"))], laws, "Law"),
         "words": tables(files(CRATES / "jp_laws/specs/Lib.antt"), commented, "Name", set(re.findall(r"\w+", " ".join(used)))),
     }

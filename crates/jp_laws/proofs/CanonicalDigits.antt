@@ -1,25 +1,12 @@
 -- Digits with zeros before and behind them, and without those behind.
-use Rattle.std.proofs.Common.{◌≡◌, ℕ, zero, suc, ◌+◌, ◌-◌, ◌*◌, ◌^◌, Bool, true, cond, ◌&&◌, ◌==◌, List, [], ◌∷◌, ◌++◌, length, refl, ap, ap₂, ◌∙◌, arith}
+use Rattle.std.proofs.Common.{◌≡◌, ℕ, zero, suc, Bool, true, cond, ◌&&◌, ◌==◌, List, [], ◌∷◌, ◌++◌, length, refl, ap, ap₂}
 use Rattle.std.specs.List.{list_all}
 use Rattle.std.proofs.lemmas.Bool.{cond_both, and_parts, eqb-true}
-use Rattle.std.proofs.lemmas.List.{length-replicate}
-use Rattle.std.proofs.Math.Nat.{pow-succ'}
 use Rattle.jp_canon.specs.Layout.{zeros, without_trailing_zeros}
-use Rattle.jp_model.specs.Characters.{digits_value, value_behind}
+use Rattle.jp_model.specs.Characters.{digits_value}
 use Rattle.jp_model.specs.Json.Numbers.{AreDigits}
 
--- ---- digits behind digits
-
-behind : (b : ℕ) (ds : List ℕ) → value_behind b ds ≡ b * 10 ^ length ds + digits_value ds
-behind b [] = omega arith
-behind b (d ∷ ds) = behind_step b (d - 0x30) (10 ^ length ds) (10 ^ suc (length ds)) (digits_value ds) _ _ (pow-succ' 10 (length ds)) (behind (b * 10 + (d - 0x30)) ds) (behind (0 + (d - 0x30)) ds)
-  where
-    behind_step : (b d p q v x y : ℕ) → q ≡ 10 * p → x ≡ (b * 10 + d) * p + v → y ≡ (0 + d) * p + v → x ≡ b * q + y
-    behind_step b d p q v x y e f g = rw e (omega (arith, f, g))
-
-value_append : (b : ℕ) (xs ys : List ℕ) → value_behind b (xs ++ ys) ≡ value_behind (value_behind b xs) ys
-value_append b [] ys = refl
-value_append b (x ∷ xs) ys = value_append (b * 10 + (x - 0x30)) xs ys
+-- ---- digits and zeros
 
 pub zeros_value : (z : ℕ) → digits_value (zeros z) ≡ 0
 zeros_value zero = refl
@@ -33,10 +20,7 @@ pub digits_append : (xs ys : List ℕ) → AreDigits xs → AreDigits ys → Are
 digits_append [] ys a b = b
 digits_append (x ∷ xs) ys a b = (a.0, digits_append xs ys a.1 b)
 
--- zeros behind digits multiply, and zeros before them do not count
-pub value_with_zeros : (ds : List ℕ) (z : ℕ) → digits_value (ds ++ zeros z) ≡ digits_value ds * 10 ^ z
-value_with_zeros ds z = value_append 0 ds (zeros z) ∙ (behind (digits_value ds) (zeros z) ∙ rw (zeros_value z, length-replicate {A = ℕ} z 0x30) (omega arith))
-
+-- zeros before digits do not count
 pub value_behind_zeros : (z : ℕ) (ds : List ℕ) → digits_value (zeros z ++ ds) ≡ digits_value ds
 value_behind_zeros zero ds = refl
 value_behind_zeros (suc z) ds = value_behind_zeros z ds

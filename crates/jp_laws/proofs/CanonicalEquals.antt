@@ -2,13 +2,14 @@
 use Rattle.std.proofs.Common.{◌≡◌, ℕ, List, ◌∷◌, ◌++◌, map, Bool, true, false, cond, Some, None, bytes_eq, refl, sym, ap, ap₂, subst, ◌∙◌, inl, inr}
 use Rattle.std.specs.Cmp.{IsTotalOrder}
 use Rattle.std.proofs.lemmas.Bool.{and_parts, or_parts, cond-true, both_ways, false_from_ne_true}
+use Rattle.jp_canon.proofs.ByName.{IsIn, AreNamed}
 use Rattle.jp_canon.specs.Canonical.{Member, by_name, bracketed, string_text, value_text, element_texts, member_texts}
 use Rattle.jp_decimal.specs.Values.{order}
 use Rattle.jp_model.specs.Json.Faults.{names, has_repeated, children_have_duplicate}
 use Rattle.jp_model.specs.Json.Tree.{node, Value, null, boolean, number, string, container, array, object, Children, no_child, child}
 use Rattle.jp_model.specs.Meaning.Compare.{values_equal, elements_equal, members_within}
 use Rattle.jp_laws.specs.Values.{are_members, each_has_members}
-use Rattle.jp_laws.proofs.CanonicalMembers.{IsIn, AreNamed, same_by_name}
+use Rattle.jp_laws.proofs.CanonicalMembers.{same_by_name}
 use Rattle.jp_laws.proofs.CanonicalNumbers.{equal_text}
 use Rattle.jp_laws.proofs.ValueEquality.{OfEachChild, Matched, Plain, among, back, boolean_same, each_found, found, found_named, plain_each, text_itself, text_same, unsome, within_matched}
 

@@ -5,12 +5,13 @@ use Rattle.std.specs.Cmp.{IsTotalOrder}
 use Rattle.std.proofs.lemmas.Bool.{cond_both, eqb-false, eqb-true, le-ltb, ne_eqb, and_parts}
 use Rattle.std.proofs.lemmas.Int.{ints}
 use Rattle.std.proofs.lemmas.List.{length-append, length-replicate, take-append-drop}
+use Rattle.jp_canon.proofs.Numbers.{value_with_zeros}
 use Rattle.jp_canon.specs.Layout.{whole_text, zeros, without_trailing_zeros, exponent_text, with_point, size_text, number_text}
 use Rattle.jp_decimal.specs.Values.{order}
 use Rattle.jp_model.specs.Characters.{digits_value}
 use Rattle.jp_model.specs.Json.Numbers.{AreDigits, AreSomeDigits, IsInt, plus_sign, minus_sign, is_minus, sign_bytes, Exponent, exponent_value, Numeral, IsNumeral, minus_bytes, fraction_bytes, numeral_bytes, signed, mantissa, scale, without_leading_zeros, is_long_exponent, number_equal}
 use Rattle.jp_laws.specs.Powers.{HasShortPower}
-use Rattle.jp_laws.proofs.CanonicalDigits.{zeros_value, digits_append, zeros_digits, value_with_zeros, value_behind_zeros, trimmed}
+use Rattle.jp_laws.proofs.CanonicalDigits.{zeros_value, digits_append, zeros_digits, value_behind_zeros, trimmed}
 use Rattle.jp_laws.proofs.DigitTexts.{Spelt, spelt, short_digits, spelt_some}
 use Rattle.jp_laws.proofs.Exponents.{counted_digits, its_sign}
 use Rattle.jp_laws.proofs.NumberOrder.{number_back, numbers_same}

@@ -1,14 +1,13 @@
 -- In the tree that a canonical text spells, members stand in the order of their names.
-use Rattle.std.proofs.Common.{◌≡◌, ℕ, ◌+◌, List, [], ◌∷◌, map, length, Bool, true, false, ◌&&◌, Option, Some, None, refl, sym, ap, ap₂, subst, ◌∙◌, inl}
-use Rattle.std.proofs.lemmas.Bool.{and_from, and_parts, or_parts, cond_both}
-use Rattle.jp_canon.specs.Canonical.{Member, by_name, canonical_text, member_texts}
+use Rattle.std.proofs.Common.{◌≡◌, ℕ, ◌+◌, List, [], ◌∷◌, map, length, Bool, true, false, ◌&&◌, Some, None, refl, ap, ap₂, subst, ◌∙◌, inl}
+use Rattle.std.proofs.lemmas.Bool.{and_from, and_parts, or_parts}
+use Rattle.jp_canon.proofs.ByName.{AreAscending, by_name_ascending}
+use Rattle.jp_canon.specs.Canonical.{Member, by_name, member_texts}
 use Rattle.jp_model.specs.Json.Faults.{names, has_repeated, has_duplicate, value_has_duplicate, children_have_duplicate}
-use Rattle.jp_model.specs.Json.Tree.{Tree, node, Value, null, boolean, number, string, container, array, object, Children, no_child, child, Name}
-use Rattle.jp_model.specs.Meaning.Compare.{text_less}
+use Rattle.jp_model.specs.Json.Tree.{Tree, node, Value, null, boolean, number, string, container, array, object, Children, no_child, child}
 use Rattle.jp_laws.specs.JsonTexts.{Printer, label_text, tree_text}
 use Rattle.jp_laws.specs.Ordered.{are_ascending, is_ordered, is_ordered_value, are_ordered}
 use Rattle.jp_laws.proofs.CanonicalEquals.{named}
-use Rattle.jp_laws.proofs.CanonicalMembers.{AreAscending, by_name_ascending}
 use Rattle.jp_laws.proofs.CanonicalShapes.{put_has}
 use Rattle.jp_laws.proofs.CanonicalTrees.{listed, members_printed, sorted, sorted_value, sorted_elements, sorted_members}
 use Rattle.jp_laws.proofs.JsonStatuses.{first_names}

@@ -75,7 +75,7 @@ less_first a b x y h = or_left _ _ (lt-ltb a b h)
 less_later : (a b : ℕ) (x y : List ℕ) → a ≡ b → text_less x y ≡ true → text_less (a ∷ x) (b ∷ y) ≡ true
 less_later a b x y e h = or_right (nat_lt a b) _ (and_from _ _ (eq-eqb a b e) h)
 
-pub strings_chain : (x y z : List ℕ) → text_less x y ≡ true → text_less y z ≡ true → text_less x z ≡ true
+strings_chain : (x y z : List ℕ) → text_less x y ≡ true → text_less y z ≡ true → text_less x z ≡ true
 strings_chain x [] z p q = absurd (cc)
 strings_chain x (b ∷ y) [] p q = absurd (cc)
 strings_chain [] (b ∷ y) (c ∷ z) p q = refl

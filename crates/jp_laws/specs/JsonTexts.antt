@@ -64,6 +64,7 @@ plain_numeral m e = record {
   exponent = Some (record { capital = false; sign = cond (int_lt e (pos 0)) minus_sign no_sign; digits = whole_text (nat_abs e) });
 }
 
+-- the plain printer, of those scalars and numerals
 abbrev pub plain : Printer
 plain = record { character = plain_character; numeral = plain_numeral }
 
@@ -81,7 +82,7 @@ abbrev mutual
   pub CanBeSaid : Tree → Type 0
   CanBeSaid (node s v) = CanBeValue v
 
-  -- the same of a value
+  -- JSON can say a value, in the same sense
   pub CanBeValue : Value → Type 0
   CanBeValue null = ⊤
   CanBeValue (boolean b) = ⊤

@@ -1,10 +1,10 @@
--- Trees whose members stand in the order of their names.
+-- Trees whose members stand in the order of their names, scalar by scalar (RFC 9535, section 2.3.5.2.2).
 use Rattle.std.specs.Prelude.{ℕ, Bool, true, ◌&&◌, List, [], ◌∷◌}
 use Rattle.jp_model.specs.Json.Faults.{names}
 use Rattle.jp_model.specs.Json.Tree.{Tree, node, Value, null, boolean, number, string, container, array, object, Children, no_child, child}
 use Rattle.jp_model.specs.Meaning.Compare.{text_less}
 
--- each name is less than the next, scalar by scalar (RFC 9535, section 2.3.5.2.2)
+-- each name is less than the next
 abbrev pub are_ascending : List (List ℕ) → Bool
 are_ascending [] = true
 are_ascending (x ∷ []) = true
