@@ -119,11 +119,12 @@ def devices(room):
 
 
 def own_output(room):
-    """A file that the rows are added to is not read, since it would have no end, unless nothing or one row is written."""
+    """A file that the rows are added to is not read, since it would have no end, unless nothing or one row is written, the header
+    being a row."""
     lines = b'{"a":1}\n{"a":2}\n'
     path = pathlib.Path(room, "own")
     cases = [(["$.a", "own"], "", b"own", b""), (["$.a"], "< own", b"(standard input)", b""), (["-c", "$.a", "own"], "", None, b"2\n"),
-             (["-m1", "$.a", "own"], "", None, b'{"a":1}\n')]
+             (["-m1", "$.a", "own"], "", None, b'{"a":1}\n'), (["--csv", "--header", "-m1", "$.a", "own"], "", b"own", b"$.a\n")]
     for words, given, refused, added in cases:
         path.write_bytes(lines)
         run = subprocess.run(["bash", "-c", f'"$0" "$@" {given} >> own', PROGRAM, *words], cwd=room, stdin=subprocess.DEVNULL,

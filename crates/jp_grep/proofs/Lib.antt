@@ -4,6 +4,7 @@ pub mod Cut
 pub mod Position
 pub mod Counted
 pub mod Written
+pub mod Celled
 pub mod Batched
 pub mod Ends
 pub mod Advancing

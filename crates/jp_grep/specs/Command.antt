@@ -1,6 +1,6 @@
 -- The program's words (profile), read as the crate `clap` reads words: `jpgrep [OPTION].. QUERY [FILE]..`, or with `-e QUERY` or
 -- `-w CONDITION` the files alone.
-use Rattle.std.specs.Prelude.{◌≡◌, ◌++◌, ◌&&◌, ◌||◌, ℕ, Bool, true, false, List, [], ◌∷◌, Option, Some, codes, if◌then◌else◌, map, option_map, unwrap_or}
+use Rattle.std.specs.Prelude.{◌≡◌, ◌++◌, ◌&&◌, ◌||◌, not, ℕ, Bool, true, false, List, [], ◌∷◌, Option, Some, codes, if◌then◌else◌, map, option_map, unwrap_or}
 use Rattle.std.specs.Option.{option_map_or}
 use Rattle.std.specs.Str.{bytes_eq}
 use Rattle.std.specs.Str.Parse.{digits_value, without_leading_plus}
@@ -60,6 +60,15 @@ printing_rules = flag_rule (codes "only") 0x6F (codes "only-matching")
     ∷ flag_rule (codes "quiet") 0x71 (codes "quiet")
     ∷ []
 
+-- how it is spelled: `-r`, `-j`, `--tsv`, `--csv`, `--header`
+abbrev pub spelling_rules : List Rule
+spelling_rules = flag_rule (codes "raw") 0x72 (codes "raw")
+    ∷ flag_rule (codes "canonical") 0x6A (codes "canonical")
+    ∷ word_rule (codes "tsv")
+    ∷ word_rule (codes "csv")
+    ∷ word_rule (codes "header")
+    ∷ []
+
 -- what stands in front, and how many lines are wanted: `-n`, `-H`, `-h`, `-m`
 abbrev pub front_rules : List Rule
 front_rules = flag_rule (codes "number") 0x6E (codes "line-number")
@@ -84,7 +93,7 @@ with_settings app = record app {
 
 -- the words that the program takes
 abbrev pub program : App
-program = with_rules (with_settings (new_app (codes "jpgrep"))) (asking_rules ++ printing_rules ++ front_rules ++ general_rules)
+program = with_rules (with_settings (new_app (codes "jpgrep"))) (asking_rules ++ printing_rules ++ spelling_rules ++ front_rules ++ general_rules)
 
 -- what the words give each argument, the first word being the program's own name
 unfoldable pub found_in : List Text → List Row
@@ -115,6 +124,11 @@ pub record IsAskedBy (found : List Row) (o : Options) : Type 0 where
   pub inverted : o.inverted ≡ is_given (codes "invert") found
   pub only_matching : o.only_matching ≡ is_given (codes "only") found
   pub paths : o.paths ≡ is_given (codes "path") found
+  pub raw : o.raw ≡ is_given (codes "raw") found
+  pub canonical : o.canonical ≡ is_given (codes "canonical") found
+  pub tabs : o.tabs ≡ is_given (codes "tsv") found
+  pub commas : o.commas ≡ is_given (codes "csv") found
+  pub header : o.header ≡ is_given (codes "header") found
   pub numbered : o.numbered ≡ is_given (codes "number") found
   pub counted : o.counted ≡ is_given (codes "count") found
   pub quiet : o.quiet ≡ is_given (codes "quiet") found
@@ -130,12 +144,27 @@ pub record IsAskedBy (found : List Row) (o : Options) : Type 0 where
 abbrev pub asks_nothing : List Row → Bool
 asks_nothing found = is_empty (values_in (codes "words") found) && is_empty (values_in (codes "query") found) && is_empty (values_in (codes "where") found)
 
--- why the words do not go together: `-l` with `-L`, `-H` with `-h`, `-v` with what prints values, no query; and none where they do
+-- values are asked for, and a table
+abbrev pub asks_values : List Row → Bool
+asks_values found = is_given (codes "only") found || is_given (codes "path") found
+
+abbrev pub asks_table : List Row → Bool
+asks_table found = is_given (codes "tsv") found || is_given (codes "csv") found
+
+-- why the words of what is printed do not go together: `-r` with `-j`, `--tsv` with `--csv`, a table with what spells or selects
+-- otherwise, `--header` without a table, `-v` with what prints values; and none where they do
+abbrev pub form_conflicts : List Row → Kinds
+form_conflicts found = if is_given (codes "raw") found && is_given (codes "canonical") found then ArgumentConflict ∷ []
+    else if is_given (codes "tsv") found && is_given (codes "csv") found then ArgumentConflict ∷ []
+    else if asks_table found && (asks_values found || is_given (codes "raw") found || is_given (codes "canonical") found) then ArgumentConflict ∷ []
+    else if is_given (codes "header") found && not (asks_table found) then MissingRequiredArgument ∷ []
+    else if is_given (codes "invert") found && (asks_table found || asks_values found) then ArgumentConflict ∷ [] else []
+
+-- why the words do not go together: `-l` with `-L`, `-H` with `-h`, what is printed, no query; and none where they do
 abbrev pub conflicts_in : List Row → Kinds
 conflicts_in found = if is_given (codes "with") found && is_given (codes "without") found then ArgumentConflict ∷ []
     else if is_given (codes "name") found && is_given (codes "unnamed") found then ArgumentConflict ∷ []
-    else if is_given (codes "invert") found && (is_given (codes "only") found || is_given (codes "path") found) then ArgumentConflict ∷ []
-    else if asks_nothing found then MissingRequiredArgument ∷ [] else []
+    else or_else (form_conflicts found) (if asks_nothing found then MissingRequiredArgument ∷ [] else [])
 
 -- why the words are refused as they are read: the kinds that the error may have, and none where they are taken
 unfoldable pub parse_faults : List Text → Kinds

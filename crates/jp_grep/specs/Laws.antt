@@ -3,7 +3,6 @@ use Rattle.std.specs.Prelude.{◌≡◌, ℕ, List, [], ◌∷◌, ◌++◌, fla
 use denote.Ref.{Bor}
 use Rattle.jp_model.specs.declared.Framing.TheVariants as framings
 use Rattle.jp_model.specs.Json.Reader.{status_of}
-use Rattle.jp_model.specs.Meaning.Nodes.{Node}
 use Rattle.jp_model.specs.Meaning.Paths.{path_text}
 use Rattle.jp_model.specs.Query.Syntax.{Segments}
 use Rattle.jp_model.specs.Rows.{Row, node_row, refusal_row, line_feed, source, tab, status_rows as query_rows}
@@ -11,6 +10,7 @@ use Rattle.jp_grep.specs.Matching.{conditions_of, queries_of}
 use Rattle.jp_grep.specs.Rows.{line_rows}
 use Rattle.jp_grep.specs.declared.form.Form.{Form}
 use Rattle.jp_grep.specs.declared.form.Shown.TheVariants as shown
+use Rattle.jp_grep.specs.declared.form.Spelling.TheVariants as spellings
 use Rattle.jp_grep.specs.declared.form.Summary.{Summary}
 use Rattle.jp_grep.specs.declared.question.Question.{Question}
 
@@ -19,6 +19,7 @@ abbrev pub numbered_values : Summary → Bor (List ℕ) → Bool → ℕ → For
 numbered_values summary name silent most = record {
   framing = framings.Lines;
   shown = shown.Values true;
+  spelling = spellings.Source;
   summary = summary;
   name = name;
   named = false;

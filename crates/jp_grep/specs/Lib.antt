@@ -1,5 +1,8 @@
 -- What jpgrep answers.
 pub mod Matching
+pub mod Spelled
+pub mod Tables
+pub mod Held
 pub mod Rows
 pub mod Streams
 pub mod Watching

@@ -10,10 +10,15 @@ use Rattle.jp_model.specs.Meaning.Nodes.{Node}
 use Rattle.jp_model.specs.Meaning.Paths.{path_text}
 use Rattle.jp_model.specs.Script.Machine.{is_refused_status}
 use Rattle.jp_model.specs.Rows.{row_start, line_fault_word, line_feed, source, tab}
+use Rattle.jp_canon.specs.Canonical.{canonical_text}
 use Rattle.jp_grep.specs.Matching.{is_selected, nodes_of, queries_of}
+use Rattle.jp_grep.specs.Spelled.{plain, spelled}
+use Rattle.jp_grep.specs.Tables.{table_row}
 use Rattle.jp_grep.specs.declared.form.Form.{Form}
 use Rattle.jp_grep.specs.declared.form.Shown.{Shown}
 use Rattle.jp_grep.specs.declared.form.Shown.TheVariants as shown
+use Rattle.jp_grep.specs.declared.form.Spelling.{Spelling}
+use Rattle.jp_grep.specs.declared.form.Spelling.TheVariants as spellings
 use Rattle.jp_grep.specs.declared.form.Summary.{Summary}
 use Rattle.jp_grep.specs.declared.form.Summary.TheVariants as summaries
 use Rattle.jp_grep.specs.declared.question.Question.{Question}
@@ -41,6 +46,12 @@ abbrev pub whole : Framing → List ℕ → Tree → List ℕ
 whole framings.Lines line t = line
 whole framings.Sequence line t = source line t
 
+-- the same, or its value plain or in canonical form
+abbrev pub line_text : Spelling → Framing → List ℕ → Tree → List ℕ
+line_text spellings.Source framing line t = whole framing line t
+line_text spellings.Text framing line t = plain line t
+line_text spellings.Canonical framing line t = canonical_text t
+
 -- the path in front of a value
 abbrev pub path_front : Bool → Node → List ℕ
 path_front false node = []
@@ -48,13 +59,14 @@ path_front true node = path_text node.location ++ tab
 
 -- a row for each of some nodes of line n
 abbrev pub node_rows : Form → Bool → ℕ → List ℕ → List Node → List ℕ
-node_rows form paths n line nodes = flat_map (λ node. row form n (path_front paths node ++ source line node.tree)) nodes
+node_rows form paths n line nodes = flat_map (λ node. row form n (path_front paths node ++ spelled form.spelling line node.tree)) nodes
 
 -- what is written of a selected line with this value
 abbrev pub shown_rows : Shown → Question → Form → ℕ → List ℕ → Tree → List ℕ
 shown_rows shown.Nothing question form n line t = []
-shown_rows shown.Line question form n line t = row form n (whole form.framing line t)
+shown_rows shown.Line question form n line t = row form n (line_text form.spelling form.framing line t)
 shown_rows (shown.Values paths) question form n line t = node_rows form paths n line (nodes_of (queries_of question) t)
+shown_rows (shown.Cells table) question form n line t = table_row table (queries_of question) form n line t
 
 -- what is written of a line
 abbrev pub status_rows : Question → Form → ℕ → List ℕ → LineStatus → List ℕ

@@ -2,8 +2,11 @@
 use Rattle.std.specs.Prelude.{ℕ, List, [], ◌∷◌, length, take, drop, map, codes, Bool, ◌&&◌, ◌||◌, not, ltb, if◌then◌else◌, min, unwrap_or}
 use Rattle.jp_grep.specs.declared.form.Shown.{Shown}
 use Rattle.jp_grep.specs.declared.form.Shown.TheVariants as shown
+use Rattle.jp_grep.specs.declared.form.Spelling.{Spelling}
+use Rattle.jp_grep.specs.declared.form.Spelling.TheVariants as spellings
 use Rattle.jp_grep.specs.declared.form.Summary.{Summary}
 use Rattle.jp_grep.specs.declared.form.Summary.TheVariants as summaries
+use Rattle.jp_grep.specs.declared.form.Table.TheVariants as tables
 use Rattle.jp_grep.specs.declared.options.Options.{Options}
 
 -- the words that belong to no option, the queries of `-e`, and the conditions of `-w`
@@ -35,9 +38,19 @@ asked_most o =
     let most = unwrap_or o.most 18446744073709551615 in
     if first_decides o then min most 1 else most
 
--- what a row shows: nothing where something else is printed, and values where `-o` or `-p` asks for them
+-- what a row shows: nothing where something else is printed, cells where `--tsv` or `--csv` asks for them, and values where `-o` or
+-- `-p` does
 abbrev pub asked_rows : Options → Shown
-asked_rows o = if first_decides o || o.counted then shown.Nothing else if o.only_matching || o.paths then shown.Values o.paths else shown.Line
+asked_rows o =
+    if first_decides o || o.counted then shown.Nothing
+    else if o.tabs then shown.Cells tables.Tabs
+    else if o.commas then shown.Cells tables.Commas
+    else if o.only_matching || o.paths then shown.Values o.paths
+    else shown.Line
+
+-- how a row spells it, as `-r` and `-j` ask for
+abbrev pub asked_spelling : Options → Spelling
+asked_spelling o = if o.raw then spellings.Text else if o.canonical then spellings.Canonical else spellings.Source
 
 -- what is printed in place of rows: of `-q`, `-l`, `-L`, `-c` the first decides
 abbrev pub asked_summary : Options → Summary

@@ -1,25 +1,33 @@
 //! The answer of lines: rows of those that are selected, messages on those that are refused.
 
-ghost use Rattle.std.specs.Prelude.{◌≡◌, ◌+◌, ◌<◌, ◌≤◌, false, length, IfOk, OnOk};
+ghost use Rattle.std.specs.Prelude.{◌≡◌, ◌+◌, ◌<◌, ◌≤◌, ◌∷◌, ◌++◌, [], List, ℕ, false, length, IfOk, OnOk};
 ghost use Rattle.jp_model.specs.Devices.{Writes};
 ghost use Rattle.jp_model.specs.Json.Status.{parsed};
 ghost use Rattle.jp_store.specs.Batches.{IsBatch, IsBatchLine, texts_of};
 ghost use Rattle.jp_store.specs.Views.{text_of_view, tree_of_view};
-ghost use Rattle.jp_grep.specs.Matching.{is_selected, nodes_of, queries_of};
+ghost use Rattle.jp_eval.specs.Compiled.{program_view};
+ghost use Rattle.jp_grep.specs.Held.{Holds};
+ghost use Rattle.jp_grep.specs.Matching.{is_selected, nodes_of, queries_of, selected_by};
 ghost use Rattle.jp_grep.specs.Progress.{says_refused, says_selected};
-ghost use Rattle.jp_grep.specs.Rows.{line_message, line_rows, messages_from, node_rows, output_from, refused_count, refused_line, selected_count, selected_line, shown_rows, status_rows, whole};
+ghost use Rattle.jp_grep.specs.Rows.{line_message, line_rows, line_text, messages_from, node_rows, output_from, refused_count, refused_line, row, selected_count, selected_line, shown_rows, status_rows, whole};
+ghost use Rattle.jp_grep.specs.Spelled.{spelled};
+ghost use Rattle.jp_grep.specs.Tables.{nodes_cell, table_row};
 ghost use Rattle.jp_grep.specs.Faults.{IsToldOf, is_input_fault, is_report_fault, is_write_fault};
 ghost use Rattle.jp_grep.specs.Watching.{answered_of};
 
 use crate::fault::SearchFault;
-use crate::form::{Form, Shown};
+use crate::form::{Form, Shown, Spelling, Table};
 use crate::progress::{Progress, Verdict};
 use crate::question::Question;
 use crate::rows::{write_refusal, write_row, write_values};
-use jp_eval::Frame;
+use crate::spelling::Speller;
+use crate::table::TableRow;
+use itoa::Buffer;
+use jp_eval::{Frame, Program};
 use jp_model::{Framing, Watched};
+use jp_rows::write_whole;
 use jp_store::{Batch, BatchLine, LineState, LineView};
-use std::alloc::Global;
+use std::alloc::{AllocError, Global};
 use std::io::Write;
 
 /// What answers lines.
@@ -28,6 +36,25 @@ pub(crate) struct Answerer<'q> {
     pub(crate) alloc: Global,
     pub(crate) question: &'q Question,
     pub(crate) form: &'q Form<'q>,
+}
+
+/// What lines lend to each other: the nodes that are found, a value as it is spelled, and the row of a table.
+#[derive(Drop)]
+struct Room<'r> {
+    frame: Frame<'r>,
+    speller: Speller,
+    row: TableRow,
+}
+
+impl<'r> Room<'r> {
+    /// With no room yet.
+    fn new(alloc: Global) -> Room<'r> {
+        Room {
+            frame: Frame::new(alloc),
+            speller: Speller::new(alloc),
+            row: TableRow::new(alloc),
+        }
+    }
 }
 
 impl<'q> Answerer<'q> {
@@ -42,6 +69,54 @@ impl<'q> Answerer<'q> {
         }
     }
 
+    /// Writes the row of a line whose value is spelled so.
+    fn write_spelled_line<'r, W: Write>(
+        self,
+        spelling: Spelling,
+        number: u64,
+        line: LineView<'r>,
+        speller: &mut Speller,
+        out: &mut Watched<W>,
+    ) -> Result<(), SearchFault>
+        requires working { out.old.failed ≡ false }
+        ensures row { Writes W.contents out.old out.new result (row self.entry.form.now number (spelled spelling (text_of_view line.entry) (tree_of_view line.entry))) }
+        ensures fault { IsToldOf is_write_fault result out.new.failed }
+        ensures others { IsToldOf is_report_fault result false }
+        ensures inner { IsToldOf is_input_fault result false }
+        ensures after { out.new.after ≡ out.old.after }
+    {
+        if speller.spell(spelling, line.root()).is_err() {
+            return Err(SearchFault::Memory);
+        }
+        write_row(self.form, number, &speller.text, out)
+    }
+
+    /// Writes the row of a line.
+    fn write_line<'r, W: Write>(
+        self,
+        number: u64,
+        line: LineView<'r>,
+        text: &'r [u8],
+        speller: &mut Speller,
+        out: &mut Watched<W>,
+    ) -> Result<(), SearchFault>
+        requires text { text_of_view line ≡ text.now }
+        requires working { out.old.failed ≡ false }
+        ensures row { Writes W.contents out.old out.new result (row self.entry.form.now number (line_text self.entry.form.now.spelling self.entry.form.now.framing text.now (tree_of_view line.entry))) }
+        ensures fault { IsToldOf is_write_fault result out.new.failed }
+        ensures others { IsToldOf is_report_fault result false }
+        ensures inner { IsToldOf is_input_fault result false }
+        ensures after { out.new.after ≡ out.old.after }
+    {
+        match self.form.spelling {
+            Spelling::Source => write_row(self.form, number, self.printed(line, text), out),
+            Spelling::Text => self.write_spelled_line(Spelling::Text, number, line, speller, out),
+            Spelling::Canonical => {
+                self.write_spelled_line(Spelling::Canonical, number, line, speller, out)
+            }
+        }
+    }
+
     /// Writes a row for each node that the queries select, query by query.
     fn write_nodes<'r, W: Write>(
         self,
@@ -49,7 +124,7 @@ impl<'q> Answerer<'q> {
         number: u64,
         line: LineView<'r>,
         text: &[u8],
-        frame: &mut Frame<'r>,
+        room: &mut Room<'r>,
         out: &mut Watched<W>,
     ) -> Result<(), SearchFault>
         requires text { text_of_view line ≡ text.now }
@@ -62,16 +137,87 @@ impl<'q> Answerer<'q> {
     {
         for query in &self.question.queries {
             if query
-                .run_in(self.alloc, line.root(), line.root(), frame)
+                .run_in(self.alloc, line.root(), line.root(), &mut room.frame)
                 .is_err()
             {
                 return Err(SearchFault::Memory);
             }
-            if write_values(self.form, paths, number, text, frame.found(), out).is_err() {
-                return Err(SearchFault::Write);
-            }
+            let nodes = room.frame.found();
+            write_values(
+                self.form,
+                paths,
+                number,
+                text,
+                nodes,
+                &mut room.speller,
+                out,
+            )?;
         }
         Ok(())
+    }
+
+    /// Adds the cell of a query to the row of a line.
+    fn add_cell<'r>(
+        self,
+        table: Table,
+        query: &Program,
+        line: LineView<'r>,
+        room: &mut Room<'r>,
+    ) -> Result<(), AllocError>
+        ensures { (cells : List (List ℕ)) → Holds table room.old.row cells → OnOk result (Holds table room.new.row
+            (cells ++ nodes_cell (text_of_view line.entry) (selected_by (program_view query.now) (tree_of_view line.entry)) ∷ [])) }
+    {
+        query.run_in(self.alloc, line.root(), line.root(), &mut room.frame)?;
+        match room.frame.found().first() {
+            Some(node) => room.speller.spell_cell(*node)?,
+            None => room.speller.clear(),
+        }
+        room.row.add(table, &room.speller.text)
+    }
+
+    /// Makes the row of a table. If memory is refused, it is to be forgotten.
+    fn make_cells<'r>(
+        self,
+        table: Table,
+        number: u64,
+        line: LineView<'r>,
+        room: &mut Room<'r>,
+    ) -> Result<(), AllocError>
+        ensures { OnOk result (room.new.row.text.items ≡ table_row table (queries_of self.entry.question.now) self.entry.form.now number (text_of_view line.entry) (tree_of_view line.entry)) }
+    {
+        let mut digits = Buffer::new();
+        let digits = digits.format(number).as_bytes();
+        room.row
+            .begin(table, self.form, self.form.name.as_bytes(), digits)?;
+        for query in &self.question.queries {
+            self.add_cell(table, query, line, room)?;
+        }
+        room.row.end()
+    }
+
+    /// Writes the row of a table.
+    fn write_cells<'r, W: Write>(
+        self,
+        table: Table,
+        number: u64,
+        line: LineView<'r>,
+        room: &mut Room<'r>,
+        out: &mut Watched<W>,
+    ) -> Result<(), SearchFault>
+        requires working { out.old.failed ≡ false }
+        ensures row { Writes W.contents out.old out.new result (table_row table (queries_of self.entry.question.now) self.entry.form.now number (text_of_view line.entry) (tree_of_view line.entry)) }
+        ensures fault { IsToldOf is_write_fault result out.new.failed }
+        ensures others { IsToldOf is_report_fault result false }
+        ensures inner { IsToldOf is_input_fault result false }
+        ensures after { out.new.after ≡ out.old.after }
+    {
+        if self.make_cells(table, number, line, room).is_err() {
+            return Err(SearchFault::Memory);
+        }
+        match write_whole(&room.row.text, out) {
+            Ok(()) => Ok(()),
+            Err(_) => Err(SearchFault::Write),
+        }
     }
 
     /// Writes what is shown of a selected line.
@@ -80,7 +226,7 @@ impl<'q> Answerer<'q> {
         number: u64,
         line: LineView<'r>,
         text: &'r [u8],
-        frame: &mut Frame<'r>,
+        room: &mut Room<'r>,
         out: &mut Watched<W>,
     ) -> Result<(), SearchFault>
         requires text { text_of_view line ≡ text.now }
@@ -93,11 +239,9 @@ impl<'q> Answerer<'q> {
     {
         match self.form.shown {
             Shown::Nothing => Ok(()),
-            Shown::Line => match write_row(self.form, number, self.printed(line, text), out) {
-                Ok(()) => Ok(()),
-                Err(_) => Err(SearchFault::Write),
-            },
-            Shown::Values { paths } => self.write_nodes(paths, number, line, text, frame, out),
+            Shown::Line => self.write_line(number, line, text, &mut room.speller, out),
+            Shown::Values { paths } => self.write_nodes(paths, number, line, text, room, out),
+            Shown::Cells(table) => self.write_cells(table, number, line, room, out),
         }
     }
 
@@ -107,7 +251,7 @@ impl<'q> Answerer<'q> {
         number: u64,
         line: LineView<'r>,
         text: &'r [u8],
-        frame: &mut Frame<'r>,
+        room: &mut Room<'r>,
         out: &mut Watched<W>,
     ) -> Result<Verdict, SearchFault>
         requires text { text_of_view line ≡ text.now }
@@ -120,13 +264,13 @@ impl<'q> Answerer<'q> {
         ensures inner { IsToldOf is_input_fault result false }
         ensures after { out.new.after ≡ out.old.after }
     {
-        let Ok(matches) = self.question.matches(self.alloc, line, frame) else {
+        let Ok(matches) = self.question.matches(self.alloc, line, &mut room.frame) else {
             return Err(SearchFault::Memory);
         };
         if matches == self.question.inverted {
             return Ok(Verdict::Passed);
         }
-        match self.write_shown(number, line, text, frame, out) {
+        match self.write_shown(number, line, text, room, out) {
             Ok(()) => Ok(Verdict::Selected),
             Err(fault) => Err(fault),
         }
@@ -137,7 +281,7 @@ impl<'q> Answerer<'q> {
         self,
         number: u64,
         line: BatchLine<'r>,
-        frame: &mut Frame<'r>,
+        room: &mut Room<'r>,
         out: &mut Watched<W>,
         messages: &mut Watched<E>,
     ) -> Result<Verdict, SearchFault>
@@ -162,7 +306,7 @@ impl<'q> Answerer<'q> {
                     Err(_) => Err(SearchFault::Report),
                 }
             }
-            LineState::Tree(view) => self.answer_value(number, view, line.text, frame, out),
+            LineState::Tree(view) => self.answer_value(number, view, line.text, room, out),
         }
     }
 
@@ -195,18 +339,12 @@ impl<'q> Answerer<'q> {
         ensures after { out.new.after ≡ out.old.after }
         ensures messages_after { messages.new.after ≡ messages.old.after }
     {
-        let mut frame = Frame::new(self.alloc);
+        let mut room = Room::new(self.alloc);
         for index in 0..batch.line_count() {
             if progress.counts.selected == self.form.most {
                 return Ok(());
             }
-            match self.answer_line(
-                progress.number,
-                batch.line(index),
-                &mut frame,
-                out,
-                messages,
-            ) {
+            match self.answer_line(progress.number, batch.line(index), &mut room, out, messages) {
                 Ok(verdict) => progress.pass(verdict)?,
                 Err(fault) => return Err(fault),
             }

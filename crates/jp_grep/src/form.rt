@@ -2,6 +2,26 @@
 
 use jp_model::Framing;
 
+/// How a value is spelled where it is printed.
+#[derive(Clone, Copy, Debug, PartialEq, Eq)]
+pub enum Spelling {
+    /// By its bytes in the line.
+    Source,
+    /// A string by its characters, where each escape gives what it stands for, and any other value by its bytes.
+    Text,
+    /// In canonical form.
+    Canonical,
+}
+
+/// What parts the cells of a table, and how a cell is written.
+#[derive(Clone, Copy, Debug, PartialEq, Eq)]
+pub enum Table {
+    /// Tabs. In a cell a tab, a line feed, a carriage return and a backslash are escaped by a backslash.
+    Tabs,
+    /// Commas. A cell with a comma, a quote, a carriage return or a line feed is quoted (RFC 4180, section 2).
+    Commas,
+}
+
 /// What a row shows of a selected line.
 #[derive(Clone, Copy, Debug, PartialEq, Eq)]
 pub enum Shown {
@@ -11,6 +31,8 @@ pub enum Shown {
     Line,
     /// Each value that the queries select, in a row of its own; with its normalized path and a tab in front where they are wanted.
     Values { paths: bool },
+    /// A cell for each query: empty where it selects no node, else of the first one.
+    Cells(Table),
 }
 
 /// What is written behind the rows of a stream.
@@ -31,6 +53,8 @@ pub struct Form<'a> {
     /// How the stream is cut into lines.
     pub framing: Framing,
     pub shown: Shown,
+    /// How a line or a value is spelled in its row. The cells of a table have a spelling of their own.
+    pub spelling: Spelling,
     pub summary: Summary,
     /// The name of the stream.
     pub name: &'a str,

@@ -3,15 +3,17 @@
 //! Public calls:
 //!
 //! - `Question`: the queries and the conditions that a line is asked
-//! - `Form`, `Shown`, `Summary`: what is written of a stream
+//! - `Form`, `Shown`, `Spelling`, `Table`, `Summary`: what is written of a stream
 //! - `search`, `SearchFault`: the lines of a stream, each answered as it comes
 //! - `Run`, `Finished`: the streams in turn, through two buffers that are written out at the end
 //! - `read_words`, `Options`: the program's words
 #![tactic(auto)]
 
 mod answer;
+mod arguments;
 mod fault;
 mod form;
+mod header;
 pub mod laws;
 mod options;
 mod progress;
@@ -19,11 +21,13 @@ mod question;
 mod rows;
 mod run;
 mod searching;
+mod spelling;
 mod stream;
+mod table;
 mod words;
 
 pub use fault::SearchFault;
-pub use form::{Form, Shown, Summary};
+pub use form::{Form, Shown, Spelling, Summary, Table};
 pub use jp_model::Framing;
 pub use options::Options;
 pub use progress::Counts;

@@ -1,12 +1,12 @@
 //! What the program's words ask for, once they are read.
 
-ghost use Rattle.std.specs.Prelude.{◌≡◌, ◌∷◌, [], List, map};
+ghost use Rattle.std.specs.Prelude.{◌≡◌, ◌||◌, ◌∷◌, [], List, map};
 ghost use Rattle.std.specs.Option.{option_map_or};
 ghost use Rattle.clap.specs.Words.{Row};
-ghost use Rattle.jp_grep.specs.Command.{IsAskedBy, conflicts_in};
-ghost use Rattle.jp_grep.specs.Words.{asked_files, asked_most, asked_queries, asked_rows, asked_summary, asks_names, begins_with_query};
+ghost use Rattle.jp_grep.specs.Command.{IsAskedBy, conflicts_in, form_conflicts};
+ghost use Rattle.jp_grep.specs.Words.{asked_files, asked_most, asked_queries, asked_rows, asked_spelling, asked_summary, asks_names, begins_with_query};
 
-use crate::form::{Form, Shown, Summary};
+use crate::form::{Form, Shown, Spelling, Summary, Table};
 use clap::error::ErrorKind;
 use jp_model::Framing;
 
@@ -27,6 +27,16 @@ pub struct Options<'a> {
     pub only_matching: bool,
     /// `-p`: the path of each value is printed in front of it.
     pub paths: bool,
+    /// `-r`: a string is printed as its text.
+    pub raw: bool,
+    /// `-j`: what is printed is in canonical form.
+    pub canonical: bool,
+    /// `--tsv`: cells between tabs are printed, and not the lines.
+    pub tabs: bool,
+    /// `--csv`: cells between commas.
+    pub commas: bool,
+    /// `--header`: the queries are printed above the cells.
+    pub header: bool,
     /// `-n`: the number of each line is printed in front.
     pub numbered: bool,
     /// `-c`: how many lines are selected is printed.
@@ -50,6 +60,30 @@ pub struct Options<'a> {
 }
 
 impl<'a> Options<'a> {
+    /// Why the words of what is printed do not go together, if they do not.
+    fn form_conflict(&self) -> Option<(ErrorKind, &'static str)>
+        ensures { (found : List Row) → IsAskedBy found self.now
+            → option_map_or (λ conflict. conflict.0 ∷ []) result [] ≡ form_conflicts found }
+    {
+        let (table, values) = (self.is_table(), self.only_matching || self.paths);
+        if self.raw && self.canonical {
+            return Some((ErrorKind::ArgumentConflict, BOTH_SPELLINGS));
+        }
+        if self.tabs && self.commas {
+            return Some((ErrorKind::ArgumentConflict, BOTH_TABLES));
+        }
+        if table && (values || self.raw || self.canonical) {
+            return Some((ErrorKind::ArgumentConflict, NO_SPELLING));
+        }
+        if self.header && !table {
+            return Some((ErrorKind::MissingRequiredArgument, NO_TABLE));
+        }
+        if self.inverted && (table || values) {
+            return Some((ErrorKind::ArgumentConflict, NO_VALUES));
+        }
+        None
+    }
+
     /// Why the words do not go together, if they do not.
     pub(crate) fn conflict(&self) -> Option<(ErrorKind, &'static str)>
         ensures { (found : List Row) → IsAskedBy found self.now
@@ -61,8 +95,8 @@ impl<'a> Options<'a> {
         if self.named && self.unnamed {
             return Some((ErrorKind::ArgumentConflict, BOTH_FRONTS));
         }
-        if self.inverted && (self.only_matching || self.paths) {
-            return Some((ErrorKind::ArgumentConflict, NO_VALUES));
+        if let Some(conflict) = self.form_conflict() {
+            return Some(conflict);
         }
         if self.words.is_empty() && self.queries.is_empty() && self.conditions.is_empty() {
             return Some((ErrorKind::MissingRequiredArgument, NO_QUERY));
@@ -91,6 +125,13 @@ impl<'a> Options<'a> {
         } else {
             &self.queries
         }
+    }
+
+    /// Whether the rows are those of a table, in which each query is a column.
+    pub fn is_table(&self) -> bool
+        ensures { result ≡ (self.now.tabs || self.now.commas) }
+    {
+        self.tabs || self.commas
     }
 
     /// The files that the words name.
@@ -123,10 +164,27 @@ impl<'a> Options<'a> {
     {
         if self.quiet || self.with_matches || self.without_matches || self.counted {
             Shown::Nothing
+        } else if self.tabs {
+            Shown::Cells(Table::Tabs)
+        } else if self.commas {
+            Shown::Cells(Table::Commas)
         } else if self.only_matching || self.paths {
             Shown::Values { paths: self.paths }
         } else {
             Shown::Line
+        }
+    }
+
+    /// How a row spells what it shows.
+    fn spelling(&self) -> Spelling
+        ensures { result ≡ asked_spelling self.now }
+    {
+        if self.raw {
+            Spelling::Text
+        } else if self.canonical {
+            Spelling::Canonical
+        } else {
+            Spelling::Source
         }
     }
 
@@ -150,6 +208,7 @@ impl<'a> Options<'a> {
     /// What is written of the file with this name.
     pub fn form<'f>(&self, name: &'f str) -> Form<'f>
         ensures shown { result.shown ≡ asked_rows self.now }
+        ensures spelling { result.spelling ≡ asked_spelling self.now }
         ensures summary { result.summary ≡ asked_summary self.now }
         ensures name { result.name ≡ name.entry }
         ensures named { result.named ≡ asks_names self.now }
@@ -161,6 +220,7 @@ impl<'a> Options<'a> {
         Form {
             framing: self.framing,
             shown: self.shown(),
+            spelling: self.spelling(),
             summary: self.summary(),
             name,
             named: self.named || (!self.unnamed && self.files().len() > 1),
@@ -178,9 +238,22 @@ const BOTH_NAMES: &str =
 /// What is said if `-H` is used with `-h`.
 const BOTH_FRONTS: &str = "the argument '--with-filename' cannot be used with '--no-filename'";
 
-/// What is said if `-v` is used with `-o` or `-p`.
+/// What is said if `-r` is used with `-j`.
+const BOTH_SPELLINGS: &str = "the argument '--raw' cannot be used with '--canonical'";
+
+/// What is said if `--tsv` is used with `--csv`.
+const BOTH_TABLES: &str = "the argument '--tsv' cannot be used with '--csv'";
+
+/// What is said if a table is to show values otherwise.
+const NO_SPELLING: &str =
+    "the arguments '--tsv' and '--csv' cannot be used with '--only-matching', '--path', '--raw' or '--canonical'";
+
+/// What is said if `--header` is used without a table.
+const NO_TABLE: &str = "the argument '--header' is used with '--tsv' or '--csv' alone";
+
+/// What is said if `-v` is used with what shows values.
 const NO_VALUES: &str =
-    "the argument '--invert-match' cannot be used with '--only-matching' or '--path'";
+    "the argument '--invert-match' cannot be used with '--only-matching', '--path', '--tsv' or '--csv'";
 
 /// What is said if no word is a query.
 const NO_QUERY: &str = "no QUERY was given, nor '--query <QUERY>' or '--where <CONDITION>'";

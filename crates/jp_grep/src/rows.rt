@@ -2,12 +2,16 @@
 
 ghost use Rattle.std.specs.Prelude.{◌≡◌, ◌++◌, false, is_err, decimal, map};
 ghost use Rattle.jp_model.specs.Devices.{Writes};
-ghost use Rattle.jp_model.specs.Rows.{line_feed, row_start, source};
+ghost use Rattle.jp_model.specs.Rows.{line_feed, row_start};
 ghost use Rattle.jp_tape.specs.Cursors.{line_of, node_of};
 ghost use Rattle.jp_eval.specs.Found.{AreOf};
+ghost use Rattle.jp_grep.specs.Faults.{IsToldOf, is_input_fault, is_report_fault, is_write_fault};
+ghost use Rattle.jp_grep.specs.Spelled.{spelled};
 ghost use Rattle.jp_grep.specs.Rows.{front, name_front, node_rows, number_front, path_front, refusal, row, summary_of};
 
+use crate::fault::SearchFault;
 use crate::form::{Form, Summary};
+use crate::spelling::Speller;
 use itoa::Buffer;
 use jp_model::{Framing, LineFault, Watched};
 use jp_rows::{WriteFault, write_path, write_whole};
@@ -87,10 +91,8 @@ fn write_ended<W: Write>(body: &[u8], out: &mut Watched<W>) -> Result<(), WriteF
     write_whole(b"\n", out)
 }
 
-/// Writes a row of a line.
-///
-/// After an `Err` the writer received a beginning of the row: no write follows one that failed or took no byte.
-pub(crate) fn write_row<W: Write>(
+/// Writes what stands in front, bytes, and a line feed.
+fn write_body<W: Write>(
     form: &Form<'_>,
     number: u64,
     body: &[u8],
@@ -103,6 +105,28 @@ pub(crate) fn write_row<W: Write>(
 {
     write_front(form, number, out)?;
     write_ended(body, out)
+}
+
+/// Writes a row of a line.
+///
+/// After an `Err` the writer received a beginning of the row: no write follows one that failed or took no byte.
+pub(crate) fn write_row<W: Write>(
+    form: &Form<'_>,
+    number: u64,
+    body: &[u8],
+    out: &mut Watched<W>,
+) -> Result<(), SearchFault>
+    requires { out.old.failed ≡ false }
+    ensures text { Writes W.contents out.old out.new result (row form.now number body.now) }
+    ensures fault { IsToldOf is_write_fault result out.new.failed }
+    ensures others { IsToldOf is_report_fault result false }
+    ensures inner { IsToldOf is_input_fault result false }
+    ensures after { out.new.after ≡ out.old.after }
+{
+    match write_body(form, number, body, out) {
+        Ok(()) => Ok(()),
+        Err(_) => Err(SearchFault::Write),
+    }
 }
 
 /// Writes the path of a node and a tab, where it is wanted.
@@ -123,22 +147,48 @@ fn write_path_front<W: Write>(
     write_whole(b"\t", out)
 }
 
+/// Writes the row of a node whose value and line feed are these bytes: most rows are so short that one write costs as much as they do.
+fn write_spelled<W: Write>(
+    form: &Form<'_>,
+    paths: bool,
+    number: u64,
+    node: Cursor<'_>,
+    ended: &[u8],
+    out: &mut Watched<W>,
+) -> Result<(), WriteFault>
+    requires { out.old.failed ≡ false }
+    ensures text { Writes W.contents out.old out.new result (front form.now number ++ (path_front paths (node_of node.entry) ++ ended.now)) }
+    ensures fault { out.new.failed ≡ is_err result }
+    ensures after { out.new.after ≡ out.old.after }
+{
+    write_front(form, number, out)?;
+    write_path_front(paths, node, out)?;
+    write_whole(ended, out)
+}
+
 /// Writes the row of a node.
 fn write_value<W: Write>(
     form: &Form<'_>,
     paths: bool,
     number: u64,
     node: Cursor<'_>,
+    speller: &mut Speller,
     out: &mut Watched<W>,
-) -> Result<(), WriteFault>
+) -> Result<(), SearchFault>
     requires { out.old.failed ≡ false }
-    ensures text { Writes W.contents out.old out.new result (row form.now number (path_front paths (node_of node.entry) ++ source (line_of node.entry) (node_of node.entry).tree)) }
-    ensures fault { out.new.failed ≡ is_err result }
+    ensures text { Writes W.contents out.old out.new result (row form.now number (path_front paths (node_of node.entry) ++ spelled form.now.spelling (line_of node.entry) (node_of node.entry).tree)) }
+    ensures fault { IsToldOf is_write_fault result out.new.failed }
+    ensures others { IsToldOf is_report_fault result false }
+    ensures inner { IsToldOf is_input_fault result false }
     ensures after { out.new.after ≡ out.old.after }
 {
-    write_front(form, number, out)?;
-    write_path_front(paths, node, out)?;
-    write_ended(node.source(), out)
+    if speller.spell_ended(form.spelling, node).is_err() {
+        return Err(SearchFault::Memory);
+    }
+    match write_spelled(form, paths, number, node, &speller.text, out) {
+        Ok(()) => Ok(()),
+        Err(_) => Err(SearchFault::Write),
+    }
 }
 
 /// Writes a row for each of some nodes of a line.
@@ -150,16 +200,19 @@ pub(crate) fn write_values<W: Write>(
     number: u64,
     text: &[u8],
     nodes: &[Cursor<'_>],
+    speller: &mut Speller,
     out: &mut Watched<W>,
-) -> Result<(), WriteFault>
+) -> Result<(), SearchFault>
     requires lines { AreOf text.now nodes.now }
     requires working { out.old.failed ≡ false }
     ensures text { Writes W.contents out.old out.new result (node_rows form.now paths number text.now (map node_of nodes.now)) }
-    ensures fault { out.new.failed ≡ is_err result }
+    ensures fault { IsToldOf is_write_fault result out.new.failed }
+    ensures others { IsToldOf is_report_fault result false }
+    ensures inner { IsToldOf is_input_fault result false }
     ensures after { out.new.after ≡ out.old.after }
 {
     for node in nodes {
-        write_value(form, paths, number, *node, out)?;
+        write_value(form, paths, number, *node, speller, out)?;
     }
     Ok(())
 }

@@ -1,14 +1,16 @@
 //! A run: the files in turn, and the two writers, each behind a buffer that is written out at the end.
 
-ghost use Rattle.std.specs.Prelude.{◌≡◌, ◌&&◌, ◌||◌, false, true, not, IfOk, MatchResult};
-ghost use Rattle.jp_model.specs.Devices.{Came, GaveUpTo};
+ghost use Rattle.std.specs.Prelude.{◌≡◌, ◌&&◌, ◌||◌, false, true, not, is_err, map, IfOk, MatchResult};
+ghost use Rattle.jp_model.specs.Devices.{Came, GaveUpTo, Writes};
 ghost use Rattle.jp_devices.specs.Buffered.{Took, filled, untold};
 ghost use Rattle.jp_grep.specs.Ends.{NotesSearch, status_of};
-ghost use Rattle.jp_grep.specs.Faults.{IsToldOf, is_read_fault, is_report_fault, is_write_fault};
+ghost use Rattle.jp_grep.specs.Faults.{IsToldOf, is_input_fault, is_read_fault, is_report_fault, is_write_fault};
+ghost use Rattle.jp_grep.specs.Tables.{header_text};
 ghost use Rattle.jp_grep.specs.Watching.{SearchStopped, Searched};
 
 use crate::fault::SearchFault;
 use crate::form::Form;
+use crate::header::write_header;
 use crate::options::Options;
 use crate::progress::Counts;
 use crate::question::Question;
@@ -100,6 +102,25 @@ impl<'q, W: Write + Drop, E: Write + Drop> Run<'q, W, E> {
         ensures { result ≡ (self.now.quiet && self.now.selected) }
     {
         self.quiet && self.selected
+    }
+
+    /// Writes what stands above the rows of all files, where they are those of a table: the queries as they were given.
+    ///
+    /// # Errors
+    ///
+    /// `Write` if it was not written: then a beginning of it was. `Memory` if a growth was refused: then nothing was.
+    pub fn write_header(&mut self, form: &Form<'_>, queries: &[&str]) -> Result<(), SearchFault>
+        requires writes { self.old.rows.failed ≡ false }
+        ensures header { Writes untold (filled self.old.rows.device) (filled self.new.rows.device) result (header_text form.now.shown form.now (map (λ query. query.now) queries.now)) }
+        ensures write_fault { IsToldOf is_write_fault result self.new.rows.failed }
+        ensures report_fault { IsToldOf is_report_fault result false }
+        ensures inner { IsToldOf is_input_fault result false }
+        ensures noted { (self.new.selected ≡ self.old.selected) × (self.new.failed ≡ (self.old.failed || is_err result)) }
+        ensures same { (self.new.messages ≡ self.old.messages) × (self.new.question ≡ self.old.question) × (self.new.quiet ≡ self.old.quiet) }
+    {
+        let written = write_header(self.alloc, form, queries, &mut self.rows);
+        self.failed |= written.is_err();
+        written
     }
 
     /// Searches a stream, as `search` does. What is said of the two writers is said of those behind the buffers, as they are once they

@@ -3,18 +3,23 @@
 use crate::patterns::{warn_of_condition, warn_of_segments};
 use crate::refusal::{Refusal, Text};
 use jp_grep::{Options, Question};
+use jp_query::is_singular;
 use jp_types::{read_condition, read_query};
 
-/// Adds a query, and warns of its patterns that are none unless all messages are silent.
+/// Adds a query, and warns of its patterns that are none unless all messages are silent. One that is a column of a table selects no
+/// more than one node of any line.
 fn add_query<'a>(
     rt: &HostRuntime,
     question: &mut Question,
     text: &'a str,
-    silent: bool,
+    options: &Options<'_>,
 ) -> Result<(), Refusal<'a>> {
     match read_query(rt.alloc(), text.as_bytes()) {
         Ok(query) => {
-            if !silent {
+            if options.is_table() && !is_singular(query.segments()) {
+                return Err(Refusal::NotSingular(text));
+            }
+            if !options.silent {
                 warn_of_segments(rt, query.segments())?;
             }
             Ok(question.add_query(rt.alloc(), &query)?)
@@ -48,7 +53,7 @@ pub(crate) fn read_question<'a>(
 ) -> Result<Question, Refusal<'a>> {
     let mut question = Question::new(rt.alloc(), options.inverted);
     for text in options.queries() {
-        add_query(rt, &mut question, text, options.silent)?;
+        add_query(rt, &mut question, text, options)?;
     }
     for text in &options.conditions {
         add_condition(rt, &mut question, text, options.silent)?;

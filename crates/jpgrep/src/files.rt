@@ -1,6 +1,5 @@
 //! The files in turn.
 
-use crate::NOT_SELECTED;
 use crate::output::{Output, RegularFile};
 use jp_devices::StandardInput;
 use jp_grep::{Finished, Options, Question, Run, SearchFault, Shown};
@@ -56,6 +55,22 @@ const IS_OUTPUT: &str = "input file is also the output";
 const STANDARD_INPUT: &str = "(standard input)";
 
 impl<'q> Searcher<'q> {
+    /// Writes the header of a table.
+    fn write_header(&mut self) -> Next {
+        if !self.run.is_open() {
+            return Next::Stop;
+        }
+        let form = self.options.form(STANDARD_INPUT);
+        match self.run.write_header(&form, self.options.queries()) {
+            Ok(()) => Next::GoOn,
+            Err(SearchFault::Memory) => {
+                tell_memory(self.rt);
+                Next::Stop
+            }
+            Err(_) => Next::Stop,
+        }
+    }
+
     /// Tells of a file, where messages are wanted.
     fn tell(&mut self, name: &str, message: &str) {
         self.run.refuse();
@@ -141,8 +156,18 @@ pub(crate) fn tell_memory(rt: &HostRuntime) {
     let _ = eprintln!(rt; "jpgrep: {}", message_of(SearchFault::Memory));
 }
 
+/// The file that more than one row may be added to.
+fn find_output(rt: &HostRuntime, options: &Options<'_>) -> Option<RegularFile> {
+    let form = options.form(STANDARD_INPUT);
+    if form.shown != Shown::Nothing && (form.most > 1 || options.header) {
+        RegularFile::of_output(rt)
+    } else {
+        None
+    }
+}
+
 /// Searches the files of the words in turn, and gives the exit status: 0 if a line was selected, 1 if none was, 2 if something was
-/// refused or failed.
+/// refused or failed. The header of a table stands above all rows.
 ///
 /// # Errors
 ///
@@ -152,26 +177,21 @@ pub(crate) fn search_files(
     options: &Options<'_>,
     question: &Question,
 ) -> Result<u8, AllocError> {
-    if options.most() == 0 {
-        return Ok(NOT_SELECTED);
-    }
     let files = options.files();
     let stdin = StandardInput::find(rt, files.is_empty() || files.contains(&"-"));
     let rows = Watched::new(Output::new(rt));
     let messages = Watched::new(rt.stderr());
     let run = Run::new(rt.alloc(), question, options, rows, messages)?;
-    let form = options.form(STANDARD_INPUT);
-    let output = if form.shown != Shown::Nothing && form.most > 1 {
-        RegularFile::of_output(rt)
-    } else {
-        None
-    };
+    let output = find_output(rt, options);
     let mut searcher = Searcher {
         rt,
         options,
         run,
         output,
     };
+    if (options.header && searcher.write_header() == Next::Stop) || options.most() == 0 {
+        return Ok(searcher.end());
+    }
     if files.is_empty() {
         searcher.search_word("-", stdin);
     }

@@ -21,9 +21,6 @@ use std::{env, io};
 /// The exit status where help, the version, or a check of good queries was asked for.
 const TOLD: u8 = 0;
 
-/// The exit status where no line was selected.
-const NOT_SELECTED: u8 = 1;
-
 /// The exit status where something was refused or failed.
 const FAULT: u8 = 2;
 

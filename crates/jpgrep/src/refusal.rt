@@ -37,6 +37,8 @@ impl<'a> Text<'a> {
 pub(crate) enum Refusal<'a> {
     /// A query or a condition is refused.
     Fault(Text<'a>, FaultPlace),
+    /// A query that is a column of a table is not singular (RFC 9535, section 2.3.5.1).
+    NotSingular(&'a str),
     /// A growth was refused.
     Memory,
 }
@@ -86,6 +88,17 @@ fn tell_fault(rt: &HostRuntime, text: Text<'_>, found: FaultPlace) -> Result<(),
     Ok(())
 }
 
+/// Says that a query is no column of a table, and shows it.
+fn tell_not_singular(rt: &HostRuntime, text: &str) -> Result<(), AllocError> {
+    let _ = eprintln!(rt;
+        "jpgrep: query: a column of a table has names and indexes alone, so that it is one value"
+    );
+    let excerpt = Excerpt::around(rt.alloc(), text, 0)?;
+    let line = excerpt.line.as_str();
+    let _ = eprintln!(rt; "  {line}");
+    Ok(())
+}
+
 impl<'a> Refusal<'a> {
     /// The refusal of a text.
     pub(crate) fn of(text: Text<'a>, refusal: jp_types::Refusal) -> Refusal<'a> {
@@ -99,6 +112,7 @@ impl<'a> Refusal<'a> {
     pub(crate) fn tell(&self, rt: &HostRuntime) {
         let told = match self {
             Refusal::Fault(text, found) => tell_fault(rt, *text, *found),
+            Refusal::NotSingular(text) => tell_not_singular(rt, text),
             Refusal::Memory => Err(AllocError),
         };
         if told.is_err() {

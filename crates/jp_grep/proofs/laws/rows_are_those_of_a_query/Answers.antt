@@ -1,5 +1,5 @@
 -- A line is selected exactly where the query answers a node.
-use Rattle.std.proofs.Common.{◌≡◌, ◌∙◌, ℕ, List, [], ◌∷◌, ◌++◌, append-nil, map, length, refl, sym, ap, subst, Bool, true, false, ◌||◌, ◌&&◌, arith, if◌then◌else◌}
+use Rattle.std.proofs.Common.{◌≡◌, ◌∙◌, ℕ, List, [], ◌∷◌, ◌++◌, append-nil, map, length, refl, sym, ap, Bool, true, false, ◌||◌, ◌&&◌, arith, if◌then◌else◌}
 use Rattle.std.specs.Prelude.{flat_map, not, ◌==◌}
 use Rattle.std.proofs.lemmas.List.Concat.{flat_map-cons}
 use Rattle.std.proofs.lemmas.Bool.{ne_eqb}
@@ -7,10 +7,9 @@ use denote.Ref.{Bor}
 use Rattle.jp_model.specs.declared.Framing.TheVariants as framings
 use Rattle.jp_model.specs.Json.Status.{LineStatus, blank, refused, parsed}
 use Rattle.jp_model.specs.Json.Reader.{status_of}
-use Rattle.jp_model.specs.Json.Tree.{Tree}
 use Rattle.jp_model.specs.Meaning.Nodes.{Node}
 use Rattle.jp_model.specs.Query.Syntax.{Logical, Segments}
-use Rattle.jp_model.specs.Rows.{Row, node_row, source, status_rows as query_rows}
+use Rattle.jp_model.specs.Rows.{node_row, source, status_rows as query_rows}
 use Rattle.jp_grep.specs.Laws.{numbered_values, row_with_colon}
 use Rattle.jp_grep.specs.Matching.{all_hold, conditions_of, matches, nodes_of, queries_of, selected_by, selects}
 use Rattle.jp_grep.specs.Rows.{node_rows, path_front, row, status_rows}

@@ -20,6 +20,15 @@ one_wanted : (before after most : ℕ) (b : Bool) → after ≡ before + cond b 
 one_wanted before after most true e l = omega (arith, e, l)
 one_wanted before after most false e l = omega (arith, e, l)
 
+pub returns-then-progress-self-clause-number : goal.returns-then-progress-self-clause-number
+returns-then-progress-self-clause-number g c =
+    let q = c.args.self.question.now in
+    let f = c.args.self.form.now in
+    let all = texts_of c.args.batch in
+    let whole = enough q f _ _ _ _ c.if-progress-self.true c.loop-index.invariant.lines in
+    c.loop-index.invariant.number
+    ∙ ap (λ k. c.args.progress.now.number + k) (sym (length-take-le c.loop-index.index all (omega (arith, c.loop-index.auto.index-end, c.line_count-index-end.ensures))) ∙ ap length (sym whole))
+
 pub returns-then-progress-self-clause-selected : goal.returns-then-progress-self-clause-selected
 returns-then-progress-self-clause-selected g c =
     let q = c.args.self.question.now in

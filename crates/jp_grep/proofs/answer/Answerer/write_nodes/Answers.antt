@@ -12,11 +12,11 @@ use Rattle.jp_tape.specs.Cursors.{node_of}
 use Rattle.jp_eval.specs.Compiled.{program_view}
 use Rattle.jp_eval.specs.declared.evaluate.Program.{Program}
 use Rattle.jp_store.specs.Views.{tree_of_view}
-use Rattle.jp_rows.proofs.Chains.{Part, both_received}
+use Rattle.jp_rows.proofs.Chains.{Part, both_received, ends_in_part}
 use Rattle.jp_grep.specs.Matching.{nodes_of, selected_by}
 use Rattle.jp_grep.specs.Rows.{node_rows}
 use Rattle.jp_grep.specs.declared.form.Form.{Form}
-use Rattle.jp_grep.proofs.Written.{by_done, by_err, by_ok, given_around, none_received, part_next}
+use Rattle.jp_grep.proofs.Written.{by_ok, given_around, none_received, part_next}
 use Rattle.jp_grep.proofs.answer.Answerer.write_nodes.Goals as goal
 
 module _ (form : Form) (paths : Bool) (n : ℕ) (text : List ℕ) (t : Tree) (programs : List Program) (i : ℕ) (program : Program) (within : i < length programs) (is : program ≡ get_or programs i program) where
@@ -62,9 +62,9 @@ returns-then-is_err-clause-rows g c =
     (around_query c.args.self.form.now c.args.paths c.args.number c.args.text.now t programs i program within is)
     c.loop-query.invariant.rows ([], refl, none_received c.loop-query.out)
 
-pub returns-then-is_err-2-clause-rows : goal.returns-then-is_err-2-clause-rows
+pub returns-in_err-write_values-clause-rows : goal.returns-in_err-write_values-clause-rows
 unfolding rows_of mine around_query
-returns-then-is_err-2-clause-rows g c =
+returns-in_err-write_values-clause-rows g c =
     let queries = c.deref-query-items.ensures.value in
     let i = c.loop-query.query-index in
     let program = c.query-item.result in
@@ -74,13 +74,14 @@ returns-then-is_err-2-clause-rows g c =
     let within : i < length programs = subst (λ l. i < length l) queries c.loop-query-test.true in
     let is = c.query-item.is ∙ ap (λ l. get_or l i program) queries in
     let ran = by_ok c.run_in.result _ (sym c.is_err.ensures.value ∙ c.if-is_err.false) c.run_in.ensures.ok in
-    let found : map node_of c.found.result.now ≡ selected_by (program_view program) t =
-    ap (map node_of) c.found.ensures ∙ ran ∙ ap₂ (λ (n m : Node). nodes (program_view program) (n ∷ []) m.tree) c.root.ensures.node c.root-in-loop-query.ensures.node in
-    let part = by_err c.write_values.result c.loop-query.out c.write_values.new.out _ (sym c.is_err-in-loop-query.ensures.value ∙ c.if-is_err-2.true) c.write_values.ensures.text in
-    part_next c.args.out.now c.loop-query.out c.write_values.new.out _ (node_rows form c.args.paths c.args.number c.args.text.now (selected_by (program_view program) t)) _ _
+    let found : map node_of c.found-nodes.result.now ≡ selected_by (program_view program) t =
+    ap (map node_of) c.found-nodes.ensures ∙ ran ∙ ap₂ (λ (n m : Node). nodes (program_view program) (n ∷ []) m.tree) c.root.ensures.node c.root-in-loop-query.ensures.node in
+    let part = c.in_err-write_values.ensures.text in
+    ends_in_part c.from_residual.result _ _ _ c.from_residual.ensures.0
+    (part_next c.args.out.now c.loop-query.out c.write_values.new.out _ (node_rows form c.args.paths c.args.number c.args.text.now (selected_by (program_view program) t)) _ _
     (around_query form c.args.paths c.args.number c.args.text.now t programs i program within is)
     c.loop-query.invariant.rows
-    (subst (λ (ns : List Node). Part g.W.Write.contents c.loop-query.out c.write_values.new.out (node_rows form c.args.paths c.args.number c.args.text.now ns)) found part)
+    (subst (λ (ns : List Node). Part g.W.Write.contents c.loop-query.out c.write_values.new.out (node_rows form c.args.paths c.args.number c.args.text.now ns)) found part))
 
 pub loop-query-preserved : goal.loop-query-preserved
 unfolding rows_of mine more
@@ -94,14 +95,12 @@ loop-query-preserved g c =
     let within : i < length programs = subst (λ l. i < length l) queries c.loop-query-test.true in
     let is = c.query-item.is ∙ ap (λ l. get_or l i program) queries in
     let ran = by_ok c.run_in.result _ (sym c.is_err.ensures.value ∙ c.if-is_err.false) c.run_in.ensures.ok in
-    let found : map node_of c.found.result.now ≡ selected_by (program_view program) t =
-    ap (map node_of) c.found.ensures ∙ ran ∙ ap₂ (λ (n m : Node). nodes (program_view program) (n ∷ []) m.tree) c.root.ensures.node c.root-in-loop-query.ensures.node in
-    let done = sym c.is_err-in-loop-query.ensures.value ∙ c.if-is_err-2.false in
-    let rows = by_done c.write_values.result c.loop-query.out c.write_values.new.out _ done c.write_values.ensures.text in
-    let mine_rows = subst (λ (ns : List Node). Received g.W.Write.contents c.loop-query.out c.write_values.new.out (node_rows form c.args.paths c.args.number c.args.text.now ns)) found rows in
+    let found : map node_of c.found-nodes.result.now ≡ selected_by (program_view program) t =
+    ap (map node_of) c.found-nodes.ensures ∙ ran ∙ ap₂ (λ (n m : Node). nodes (program_view program) (n ∷ []) m.tree) c.root.ensures.node c.root-in-loop-query.ensures.node in
+    let mine_rows = subst (λ (ns : List Node). Received g.W.Write.contents c.loop-query.out c.write_values.new.out (node_rows form c.args.paths c.args.number c.args.text.now ns)) found c.in_ok-write_values.ensures.text in
     record {
       rows = subst (λ l. Received g.W.Write.contents c.args.out.now c.write_values.new.out l) (sym (more form c.args.paths c.args.number c.args.text.now t programs i program within is))
           (both_received _ _ _ _ _ c.loop-query.invariant.rows mine_rows);
-      working = c.write_values.ensures.fault ∙ done;
+      working = c.in_ok-write_values.ensures.fault;
       after = c.write_values.ensures.after ∙ c.loop-query.invariant.after;
     }

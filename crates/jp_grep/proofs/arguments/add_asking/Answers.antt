@@ -3,7 +3,7 @@ use Rattle.std.proofs.lemmas.Result.{IfOk-weaker}
 use Rattle.clap.specs.Words.{AddsArg, app_of}
 use Rattle.jp_grep.specs.Command.{option_rule, asking_rules, with_rules, words_rule}
 use Rattle.jp_grep.proofs.Program.{with_no_rules, with_one_more}
-use Rattle.jp_grep.proofs.words.add_asking.Goals as goal
+use Rattle.jp_grep.proofs.arguments.add_asking.Goals as goal
 
 pub returns : goal.returns
 returns c =

@@ -1,0 +1,39 @@
+-- The cell of one query comes behind those of the queries before it.
+use Rattle.std.proofs.Common.{◌≡◌, ◌∙◌, ◌++◌, ◌+◌, ◌<◌, ℕ, List, [], ◌∷◌, ap, sym, subst, append_assoc, get_or, length, map, take, decimal}
+use Rattle.std.proofs.lemmas.List.{map-append, take_more}
+use Rattle.jp_model.specs.Json.Tree.{Tree}
+use Rattle.jp_model.specs.Query.Syntax.{Segments}
+use Rattle.jp_eval.specs.Compiled.{program_view}
+use Rattle.jp_eval.specs.declared.evaluate.Program.{Program}
+use Rattle.jp_store.specs.Views.{text_of_view, tree_of_view}
+use Rattle.jp_grep.specs.Held.{Holds}
+use Rattle.jp_grep.specs.Matching.{selected_by}
+use Rattle.jp_grep.specs.Tables.{front_cells, nodes_cell, query_cells}
+use Rattle.jp_grep.proofs.answer.Answerer.make_cells.Goals as goal
+
+cells_more : (line : List ℕ) (t : Tree) (programs : List Program) (i : ℕ) (program : Program) → i < length programs → program ≡ get_or programs i program
+    → query_cells (map program_view (take (i + 1) programs)) line t
+    ≡ query_cells (map program_view (take i programs)) line t ++ nodes_cell line (selected_by (program_view program) t) ∷ []
+cells_more line t programs i program within is =
+    let cell : Segments → List ℕ = λ query. nodes_cell line (selected_by query t) in
+    ap (λ l. map cell (map program_view l)) (take_more programs i program within ∙ ap (λ p. take i programs ++ p ∷ []) (sym is))
+    ∙ ap (map cell) (map-append program_view (take i programs) (program ∷ []))
+    ∙ map-append cell (map program_view (take i programs)) (program_view program ∷ [])
+
+pub loop-query-preserved : goal.loop-query-preserved
+loop-query-preserved c =
+    let queries = c.deref-query-items.ensures.value in
+    let i = c.loop-query.query-index in
+    let program = c.query-item.result in
+    let form = c.args.self.form.now in
+    let line = text_of_view c.args.line in
+    let t = tree_of_view c.args.line in
+    let programs = c.args.self.question.now.queries.items in
+    let front = front_cells form form.name.now (decimal c.args.number) in
+    let within : i < length programs = subst (λ l. i < length l) queries c.loop-query-test.true in
+    let is = c.query-item.is ∙ ap (λ l. get_or l i program) queries in
+    let before = query_cells (map program_view (take i programs)) line t in
+    let cell = nodes_cell line (selected_by (program_view program) t) in
+    subst (λ cells. Holds c.args.table c.add_cell.new.room.row cells)
+    (append_assoc front before (cell ∷ []) ∙ ap (λ l. front ++ l) (sym (cells_more line t programs i program within is)))
+    (c.in_ok-add_cell.ensures (front ++ before) c.loop-query.invariant)

@@ -1,0 +1,12 @@
+-- The cells in front, and those of the queries so far.
+use Rattle.std.proofs.Common.{◌++◌, decimal, map, take}
+use Rattle.jp_eval.specs.Compiled.{program_view}
+use Rattle.jp_store.specs.Views.{text_of_view, tree_of_view}
+use Rattle.jp_grep.specs.Held.{Holds}
+use Rattle.jp_grep.specs.Tables.{front_cells, query_cells}
+use Rattle.jp_grep.proofs.answer.Answerer.make_cells.Given as goal
+
+abbrev pub invariant-loop-query : goal.invariant-loop-query
+invariant-loop-query l = Holds l.table l.room.row
+    (front_cells l.self.form.now l.self.form.now.name.now (decimal l.number)
+    ++ query_cells (map program_view (take l.query-index l.self.question.now.queries.items)) (text_of_view l.line) (tree_of_view l.line))

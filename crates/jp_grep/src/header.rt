@@ -1,0 +1,63 @@
+//! What stands above the rows of a table.
+
+ghost use Rattle.std.specs.Prelude.{◌≡◌, false, map, IfOk};
+ghost use Rattle.jp_model.specs.Devices.{Writes};
+ghost use Rattle.jp_grep.specs.Faults.{IsToldOf, is_input_fault, is_report_fault, is_write_fault};
+ghost use Rattle.jp_grep.specs.Tables.{header_row, header_text};
+
+use crate::fault::SearchFault;
+use crate::form::{Form, Shown, Table};
+use crate::table::TableRow;
+use jp_model::Watched;
+use jp_rows::write_whole;
+use std::alloc::{AllocError, Global};
+use std::io::Write;
+
+/// The bytes of the row of the names of the columns.
+fn make_header(
+    alloc: Global,
+    table: Table,
+    form: &Form<'_>,
+    queries: &[&str],
+) -> Result<TableRow, AllocError>
+    ensures { IfOk result (λ row. row.text.items ≡ header_row table form.now (map (λ query. query.now) queries.now)) }
+{
+    let mut row = TableRow::new(alloc);
+    row.begin(table, form, b"file", b"line")?;
+    for query in queries {
+        row.add(table, query.as_bytes())?;
+    }
+    row.end()?;
+    Ok(row)
+}
+
+/// Writes what stands above the rows, where they are those of a table: the queries as they were given, behind the names of the cells
+/// in front.
+///
+/// # Errors
+///
+/// `Write` if it was not written: then a beginning of it was. `Memory` if a growth was refused: then nothing was.
+pub(crate) fn write_header<W: Write>(
+    alloc: Global,
+    form: &Form<'_>,
+    queries: &[&str],
+    out: &mut Watched<W>,
+) -> Result<(), SearchFault>
+    requires { out.old.failed ≡ false }
+    ensures header { Writes W.contents out.old out.new result (header_text form.now.shown form.now (map (λ query. query.now) queries.now)) }
+    ensures write_fault { IsToldOf is_write_fault result out.new.failed }
+    ensures report_fault { IsToldOf is_report_fault result false }
+    ensures inner { IsToldOf is_input_fault result false }
+    ensures after { out.new.after ≡ out.old.after }
+{
+    let Shown::Cells(table) = form.shown else {
+        return Ok(());
+    };
+    let Ok(row) = make_header(alloc, table, form, queries) else {
+        return Err(SearchFault::Memory);
+    };
+    match write_whole(&row.text, out) {
+        Ok(()) => Ok(()),
+        Err(_) => Err(SearchFault::Write),
+    }
+}

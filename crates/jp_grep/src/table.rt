@@ -1,0 +1,180 @@
+//! The rows of a table: cells parted by tabs, or by commas (RFC 4180, section 2).
+
+ghost use Rattle.std.specs.Prelude.{◌≡◌, ◌∷◌, ◌++◌, [], List, ℕ, OnOk, false, flat_map, if◌then◌else◌};
+ghost use Rattle.std.specs.List.{list_any};
+ghost use Rattle.jp_model.specs.Rows.{line_feed};
+ghost use Rattle.jp_grep.specs.Held.{Holds};
+ghost use Rattle.jp_grep.specs.Tables.{cell_text, commas_cell, front_cells, joined, quoted_byte, separator, tabs_byte, wants_quotes};
+
+use crate::form::{Form, Table};
+use std::alloc::{AllocError, Global};
+
+/// What parts two cells.
+fn separator(table: Table) -> u8
+    ensures { result ≡ separator table }
+{
+    match table {
+        Table::Tabs => b'\t',
+        Table::Commas => b',',
+    }
+}
+
+/// Appends a byte of a cell between tabs.
+fn append_tabs_byte(byte: u8, text: &mut Vec<u8>) -> Result<(), AllocError>
+    ensures { OnOk result (text.new.items ≡ text.old.items ++ tabs_byte byte) }
+{
+    match byte {
+        b'\t' => text.extend_from_slice(b"\\t"),
+        b'\n' => text.extend_from_slice(b"\\n"),
+        b'\r' => text.extend_from_slice(b"\\r"),
+        b'\\' => text.extend_from_slice(b"\\\\"),
+        _ => Ok(text.push(byte)?),
+    }
+}
+
+/// Appends a cell between tabs.
+fn append_between_tabs(cell: &[u8], text: &mut Vec<u8>) -> Result<(), AllocError>
+    ensures { OnOk result (text.new.items ≡ text.old.items ++ flat_map tabs_byte cell.now) }
+{
+    for byte in cell {
+        append_tabs_byte(*byte, text)?;
+    }
+    Ok(())
+}
+
+/// Whether a cell between commas is quoted for this byte.
+fn wants_quotes(byte: u8) -> bool
+    ensures { result ≡ wants_quotes byte }
+{
+    byte == b',' || byte == b'"' || byte == b'\r' || byte == b'\n'
+}
+
+/// Whether a cell between commas is quoted.
+fn is_quoted(cell: &[u8]) -> bool
+    ensures { result ≡ list_any wants_quotes cell.now }
+{
+    cell.iter().any(|byte| wants_quotes(*byte))
+}
+
+/// Appends a byte of a quoted cell.
+fn append_quoted_byte(byte: u8, text: &mut Vec<u8>) -> Result<(), AllocError>
+    ensures { OnOk result (text.new.items ≡ text.old.items ++ quoted_byte byte) }
+{
+    if byte == b'"' {
+        return text.extend_from_slice(b"\"\"");
+    }
+    Ok(text.push(byte)?)
+}
+
+/// Appends what stands between the quotes of a cell.
+fn append_between_quotes(cell: &[u8], text: &mut Vec<u8>) -> Result<(), AllocError>
+    ensures { OnOk result (text.new.items ≡ text.old.items ++ flat_map quoted_byte cell.now) }
+{
+    for byte in cell {
+        append_quoted_byte(*byte, text)?;
+    }
+    Ok(())
+}
+
+/// Appends a cell between commas.
+fn append_between_commas(cell: &[u8], text: &mut Vec<u8>) -> Result<(), AllocError>
+    ensures { OnOk result (text.new.items ≡ text.old.items ++ commas_cell cell.now) }
+{
+    if !is_quoted(cell) {
+        return text.extend_from_slice(cell);
+    }
+    text.push(b'"')?;
+    append_between_quotes(cell, text)?;
+    Ok(text.push(b'"')?)
+}
+
+/// Appends a cell as it stands in its row.
+fn append_cell(table: Table, cell: &[u8], text: &mut Vec<u8>) -> Result<(), AllocError>
+    ensures { OnOk result (text.new.items ≡ text.old.items ++ cell_text table cell.now) }
+{
+    match table {
+        Table::Tabs => append_between_tabs(cell, text),
+        Table::Commas => append_between_commas(cell, text),
+    }
+}
+
+/// A row of a table, made cell by cell. It lends its room from one to the next.
+#[derive(Drop)]
+pub(crate) struct TableRow {
+    pub(crate) text: Vec<u8>,
+    /// Whether it has no cell yet.
+    is_empty: bool,
+}
+
+impl TableRow {
+    /// With no cell, and no room yet.
+    pub(crate) fn new(alloc: Global) -> TableRow
+        ensures { (table : Table) → Holds table result [] }
+    {
+        TableRow {
+            text: Vec::new(alloc),
+            is_empty: true,
+        }
+    }
+
+    /// Begins a row.
+    fn clear(&mut self)
+        ensures { (table : Table) → Holds table self.new [] }
+    {
+        self.text.clear();
+        self.is_empty = true;
+    }
+
+    /// Parts the cell that comes next from those before it.
+    fn part(&mut self, table: Table) -> Result<(), AllocError>
+        ensures text { OnOk result (self.new.text.items ≡ self.old.text.items ++ (if self.old.is_empty then [] else separator table ∷ [])) }
+        ensures begun { OnOk result (self.new.is_empty ≡ false) }
+    {
+        if self.is_empty {
+            self.is_empty = false;
+            return Ok(());
+        }
+        Ok(self.text.push(separator(table))?)
+    }
+
+    /// Adds a cell. If memory is refused, the row is to be begun anew.
+    pub(crate) fn add(&mut self, table: Table, cell: &[u8]) -> Result<(), AllocError>
+        ensures { (cells : List (List ℕ)) → Holds table self.old cells → OnOk result (Holds table self.new (cells ++ cell.now ∷ [])) }
+    {
+        self.part(table)?;
+        append_cell(table, cell, &mut self.text)
+    }
+
+    /// Adds a cell where it is wanted.
+    #[tactic(auto, using(crate::proofs::Celled::holds_same))]
+    fn add_where(&mut self, wanted: bool, table: Table, cell: &[u8]) -> Result<(), AllocError>
+        ensures { (cells : List (List ℕ)) → Holds table self.old cells → OnOk result (Holds table self.new (cells ++ (if wanted then cell.now ∷ [] else []))) }
+    {
+        if wanted {
+            return self.add(table, cell);
+        }
+        Ok(())
+    }
+
+    /// Begins a row with the cells in front, as far as they are wanted. If memory is refused, the row is to be begun anew.
+    pub(crate) fn begin(
+        &mut self,
+        table: Table,
+        form: &Form<'_>,
+        name: &[u8],
+        number: &[u8],
+    ) -> Result<(), AllocError>
+        ensures { OnOk result (Holds table self.new (front_cells form.now name.now number.now)) }
+    {
+        self.clear();
+        self.add_where(form.named, table, name)?;
+        self.add_where(form.numbered, table, number)
+    }
+
+    /// Ends the row. If memory is refused, it is to be begun anew.
+    pub(crate) fn end(&mut self) -> Result<(), AllocError>
+        ensures { (table : Table) (cells : List (List ℕ)) → Holds table self.old cells → OnOk result (self.new.text.items ≡ joined table cells ++ line_feed) }
+    {
+        Ok(self.text.push(b'\n')?)
+    }
+}
