@@ -30,8 +30,8 @@ fn append_fraction(digits: &[u8], text: &mut Vec<u8>) -> Result<(), AllocError>
     text.extend_from_slice(digits)
 }
 
-/// Appends the exponent of a number whose point is so many places behind the front of its digits. It counts from behind the first
-/// digit, and so is one less.
+/// Appends the exponent of a number whose point is so many places behind the front of its digits. It counts from behind the
+/// first digit, and so is one less.
 fn append_exponent(places: i64, text: &mut Vec<u8>) -> Result<(), AllocError>
     ensures { OnOk result (text.new.items ≡ text.old.items ++ exponent_text (places -ℤ pos 1)) }
 {

@@ -114,7 +114,7 @@ fn append_value<'a>(
 #[derive(Drop)]
 pub struct Printer {
     alloc: Global,
-    /// The text of a node, as far as it is made.
+    /// The text of a node, as far as it is made. It is appended once it is whole.
     made: Vec<u8>,
 }
 
