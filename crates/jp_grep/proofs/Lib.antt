@@ -5,6 +5,7 @@ pub mod Position
 pub mod Counted
 pub mod Written
 pub mod Celled
+pub mod PlainBytes
 pub mod Batched
 pub mod Ends
 pub mod Advancing

@@ -35,14 +35,23 @@ wants_quotes byte = byte == 0x2C || byte == 0x22 || byte == 0x0D || byte == 0x0A
 abbrev pub quoted_byte : ℕ → List ℕ
 quoted_byte byte = if byte == 0x22 then 0x22 ∷ 0x22 ∷ [] else byte ∷ []
 
--- a cell between commas
-abbrev pub commas_cell : List ℕ → List ℕ
-commas_cell cell = if list_any wants_quotes cell then 0x22 ∷ (flat_map quoted_byte cell ++ 0x22 ∷ []) else cell
+-- a byte of a cell where it may not stand for itself
+abbrev pub byte_text : Table → ℕ → List ℕ
+byte_text tables.Tabs byte = tabs_byte byte
+byte_text tables.Commas byte = quoted_byte byte
 
--- a cell as it stands in its row
+-- the bytes of such a cell
+abbrev pub bytes_text : Table → List ℕ → List ℕ
+bytes_text table cell = flat_map (byte_text table) cell
+
+-- a cell in quotes
+abbrev pub quoted_cell : List ℕ → List ℕ
+quoted_cell cell = 0x22 ∷ (bytes_text tables.Commas cell ++ 0x22 ∷ [])
+
+-- a cell as it stands in its row: between commas in quotes, or by itself where it wants none
 abbrev pub cell_text : Table → List ℕ → List ℕ
-cell_text tables.Tabs cell = flat_map tabs_byte cell
-cell_text tables.Commas cell = commas_cell cell
+cell_text tables.Tabs cell = bytes_text tables.Tabs cell
+cell_text tables.Commas cell = if list_any wants_quotes cell then quoted_cell cell else cell
 
 -- cells in a row
 abbrev pub joined : Table → List (List ℕ) → List ℕ

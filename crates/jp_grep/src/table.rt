@@ -1,12 +1,13 @@
 //! The rows of a table: cells parted by tabs, or by commas (RFC 4180, section 2).
 
-ghost use Rattle.std.specs.Prelude.{◌≡◌, ◌∷◌, ◌++◌, [], List, ℕ, OnOk, false, flat_map, if◌then◌else◌};
+ghost use Rattle.std.specs.Prelude.{◌≡◌, ◌<◌, ◌≤◌, ◌∷◌, ◌++◌, [], List, ℕ, IfOk, OnOk, drop, false, length, if◌then◌else◌};
 ghost use Rattle.std.specs.List.{list_any};
 ghost use Rattle.jp_model.specs.Rows.{line_feed};
 ghost use Rattle.jp_grep.specs.Held.{Holds};
-ghost use Rattle.jp_grep.specs.Tables.{cell_text, commas_cell, front_cells, joined, quoted_byte, separator, tabs_byte, wants_quotes};
+ghost use Rattle.jp_grep.specs.Tables.{byte_text, bytes_text, cell_text, front_cells, joined, quoted_cell, separator, wants_quotes};
 
 use crate::form::{Form, Table};
+use jp_lanes::first_special;
 use std::alloc::{AllocError, Global};
 
 /// What parts two cells.
@@ -19,25 +20,48 @@ fn separator(table: Table) -> u8
     }
 }
 
-/// Appends a byte of a cell between tabs.
-fn append_tabs_byte(byte: u8, text: &mut Vec<u8>) -> Result<(), AllocError>
-    ensures { OnOk result (text.new.items ≡ text.old.items ++ tabs_byte byte) }
+/// Appends a byte of a cell that may not stand for itself.
+fn append_byte(table: Table, byte: u8, text: &mut Vec<u8>) -> Result<(), AllocError>
+    ensures { OnOk result (text.new.items ≡ text.old.items ++ byte_text table byte) }
 {
-    match byte {
-        b'\t' => text.extend_from_slice(b"\\t"),
-        b'\n' => text.extend_from_slice(b"\\n"),
-        b'\r' => text.extend_from_slice(b"\\r"),
-        b'\\' => text.extend_from_slice(b"\\\\"),
+    match (table, byte) {
+        (Table::Tabs, b'\t') => text.extend_from_slice(b"\\t"),
+        (Table::Tabs, b'\n') => text.extend_from_slice(b"\\n"),
+        (Table::Tabs, b'\r') => text.extend_from_slice(b"\\r"),
+        (Table::Tabs, b'\\') => text.extend_from_slice(b"\\\\"),
+        (Table::Commas, b'"') => text.extend_from_slice(b"\"\""),
         _ => Ok(text.push(byte)?),
     }
 }
 
-/// Appends a cell between tabs.
-fn append_between_tabs(cell: &[u8], text: &mut Vec<u8>) -> Result<(), AllocError>
-    ensures { OnOk result (text.new.items ≡ text.old.items ++ flat_map tabs_byte cell.now) }
+/// Appends the bytes from a position on that are no quote, no backslash and no control character, or the one that is: the position
+/// behind them.
+fn append_some(
+    table: Table,
+    cell: &[u8],
+    at: usize,
+    text: &mut Vec<u8>,
+) -> Result<usize, AllocError>
+    requires { at < length cell.now }
+    ensures goes { IfOk result (λ end. (at < end) × (end ≤ length cell.now)) }
+    ensures text { IfOk result (λ end. text.old.items ++ bytes_text table (drop at cell.now) ≡ text.new.items ++ bytes_text table (drop end cell.now)) }
 {
-    for byte in cell {
-        append_tabs_byte(*byte, text)?;
+    let end = first_special(cell, at);
+    if at < end {
+        text.extend_from_slice(&cell[at..end])?;
+        return Ok(end);
+    }
+    append_byte(table, cell[at], text)?;
+    Ok(at + 1)
+}
+
+/// Appends the bytes of a cell that may not stand for themselves.
+fn append_bytes(table: Table, cell: &[u8], text: &mut Vec<u8>) -> Result<(), AllocError>
+    ensures { OnOk result (text.new.items ≡ text.old.items ++ bytes_text table cell.now) }
+{
+    let mut at = 0;
+    while at < cell.len() {
+        at = append_some(table, cell, at, text)?;
     }
     Ok(())
 }
@@ -56,35 +80,12 @@ fn is_quoted(cell: &[u8]) -> bool
     cell.iter().any(|byte| wants_quotes(*byte))
 }
 
-/// Appends a byte of a quoted cell.
-fn append_quoted_byte(byte: u8, text: &mut Vec<u8>) -> Result<(), AllocError>
-    ensures { OnOk result (text.new.items ≡ text.old.items ++ quoted_byte byte) }
+/// Appends a cell in quotes.
+fn append_quoted(cell: &[u8], text: &mut Vec<u8>) -> Result<(), AllocError>
+    ensures { OnOk result (text.new.items ≡ text.old.items ++ quoted_cell cell.now) }
 {
-    if byte == b'"' {
-        return text.extend_from_slice(b"\"\"");
-    }
-    Ok(text.push(byte)?)
-}
-
-/// Appends what stands between the quotes of a cell.
-fn append_between_quotes(cell: &[u8], text: &mut Vec<u8>) -> Result<(), AllocError>
-    ensures { OnOk result (text.new.items ≡ text.old.items ++ flat_map quoted_byte cell.now) }
-{
-    for byte in cell {
-        append_quoted_byte(*byte, text)?;
-    }
-    Ok(())
-}
-
-/// Appends a cell between commas.
-fn append_between_commas(cell: &[u8], text: &mut Vec<u8>) -> Result<(), AllocError>
-    ensures { OnOk result (text.new.items ≡ text.old.items ++ commas_cell cell.now) }
-{
-    if !is_quoted(cell) {
-        return text.extend_from_slice(cell);
-    }
     text.push(b'"')?;
-    append_between_quotes(cell, text)?;
+    append_bytes(Table::Commas, cell, text)?;
     Ok(text.push(b'"')?)
 }
 
@@ -93,8 +94,9 @@ fn append_cell(table: Table, cell: &[u8], text: &mut Vec<u8>) -> Result<(), Allo
     ensures { OnOk result (text.new.items ≡ text.old.items ++ cell_text table cell.now) }
 {
     match table {
-        Table::Tabs => append_between_tabs(cell, text),
-        Table::Commas => append_between_commas(cell, text),
+        Table::Tabs => append_bytes(Table::Tabs, cell, text),
+        Table::Commas if is_quoted(cell) => append_quoted(cell, text),
+        Table::Commas => text.extend_from_slice(cell),
     }
 }
 

@@ -1,0 +1,38 @@
+-- Bytes of a cell that stand for themselves.
+use Rattle.std.proofs.Common.{arith, inl, inr, ◌≡◌, ◌∙◌, ◌+◌, ◌<◌, ◌≤◌, ◌==◌, ◌++◌, ◌∷◌, [], ℕ, zero, suc, List, true, false, refl, sym, ap₂, subst, drop, length, take}
+use Rattle.std.specs.Prelude.{slice_index}
+use Rattle.std.proofs.Math.Seq.{drop-cons}
+use Rattle.std.proofs.lemmas.Bool.Decides.{eqb_tells}
+use Rattle.std.proofs.lemmas.List.Concat.{flat_map-cons}
+use Rattle.jp_lanes.specs.Search.{is_special}
+use Rattle.jp_grep.specs.Tables.{byte_text, bytes_text}
+use Rattle.jp_grep.specs.declared.form.Table.{Table}
+use Rattle.jp_grep.specs.declared.form.Table.TheVariants as tables
+
+other_byte : (byte special : ℕ) → is_special special ≡ true → is_special byte ≡ false → (byte == special) ≡ false
+other_byte byte special is plain = elim (eqb_tells byte special) [
+  | inl same ↦ absurd (by (sym is ∙ sym (same_test same.1) ∙ plain))
+  | inr other ↦ other.0
+]
+  where
+    same_test : byte ≡ special → is_special byte ≡ is_special special
+    same_test e = subst (λ b. is_special byte ≡ is_special b) e refl
+
+    by : true ≡ false → ⊥
+    by e = cc
+
+plain_byte : (table : Table) (byte : ℕ) → is_special byte ≡ false → byte_text table byte ≡ byte ∷ []
+plain_byte tables.Tabs byte plain = rw (other_byte byte 0x09 refl plain, other_byte byte 0x0A refl plain, other_byte byte 0x0D refl plain, other_byte byte 0x5C refl plain) refl
+plain_byte tables.Commas byte plain = rw (other_byte byte 0x22 refl plain) refl
+
+-- from a position on so many bytes stand for themselves
+pub plain_run : (table : Table) (cell : List ℕ) (n at : ℕ) → at + n ≤ length cell → ((k : ℕ) → at ≤ k → k < at + n → is_special (slice_index cell k) ≡ false)
+    → bytes_text table (take n (drop at cell)) ≡ take n (drop at cell)
+plain_run table cell zero at within plain = refl
+plain_run table cell (suc n) at within plain =
+    let byte = slice_index cell at in
+    let rest = drop (suc at) cell in
+    let whole : drop at cell ≡ byte ∷ rest = drop-cons cell at 0 (omega (arith, within)) in
+    let one = plain_byte table byte (plain at (omega arith) (omega arith)) in
+    let others = plain_run table cell n (suc at) (omega (arith, within)) (λ k low high. plain k (omega (arith, low)) (omega (arith, high))) in
+    subst (λ l. bytes_text table (take (suc n) l) ≡ take (suc n) l) (sym whole) (flat_map-cons (byte_text table) byte (take n rest) ∙ ap₂ (λ a b. a ++ b) one others)
