@@ -19,9 +19,9 @@ use crate::fault::SearchFault;
 use crate::form::{Form, Shown, Spelling, Table};
 use crate::progress::{Progress, Verdict};
 use crate::question::Question;
+use crate::room::Room;
 use crate::rows::{write_refusal, write_row, write_values};
 use crate::spelling::Speller;
-use crate::table::TableRow;
 use itoa::Buffer;
 use jp_eval::{Frame, Program};
 use jp_model::{Framing, Watched};
@@ -36,25 +36,6 @@ pub(crate) struct Answerer<'q> {
     pub(crate) alloc: Global,
     pub(crate) question: &'q Question,
     pub(crate) form: &'q Form<'q>,
-}
-
-/// What lines lend to each other: the nodes that are found, a value as it is spelled, and the row of a table.
-#[derive(Drop)]
-struct Room<'r> {
-    frame: Frame<'r>,
-    speller: Speller,
-    row: TableRow,
-}
-
-impl<'r> Room<'r> {
-    /// With no room yet.
-    fn new(alloc: Global) -> Room<'r> {
-        Room {
-            frame: Frame::new(alloc),
-            speller: Speller::new(alloc),
-            row: TableRow::new(alloc),
-        }
-    }
 }
 
 impl<'q> Answerer<'q> {

@@ -18,6 +18,7 @@ pub mod laws;
 mod options;
 mod progress;
 mod question;
+mod room;
 mod rows;
 mod run;
 mod searching;
