@@ -23,7 +23,7 @@ use crate::room::Room;
 use crate::rows::{write_refusal, write_row, write_values};
 use crate::spelling::Speller;
 use itoa::Buffer;
-use jp_eval::{Frame, Program};
+use jp_eval::Program;
 use jp_model::{Framing, Watched};
 use jp_rows::write_whole;
 use jp_store::{Batch, BatchLine, LineState, LineView};
