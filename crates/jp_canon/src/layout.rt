@@ -9,6 +9,12 @@ use itoa::Buffer;
 use jp_decimal::{Decimal, DecimalKey, KeySize};
 use std::alloc::{AllocError, Global};
 
+/// The point stands at most so many places behind the front of the digits. Beyond that a number has an exponent.
+const MOST_PLACES: i64 = 21;
+
+/// The point stands at least at this place: at most five zeros are between it and the digits.
+const LEAST_PLACES: i64 = -5;
+
 /// Appends so many zeros.
 fn append_zeros(count: usize, text: &mut Vec<u8>) -> Result<(), AllocError>
     ensures { OnOk result (text.new.items ≡ text.old.items ++ zeros count) }
@@ -73,7 +79,7 @@ fn append_size(size: &KeySize, text: &mut Vec<u8>) -> Result<(), AllocError>
 {
     let digits = size.digits.as_slice();
     let places = size.power;
-    if places > 21 || places <= -6 {
+    if places > MOST_PLACES || places < LEAST_PLACES {
         return append_scientific(digits, places, text);
     }
     if places > 0 {

@@ -136,6 +136,7 @@ impl Printer {
         ensures text { OnOk result (text.new.items ≡ text.old.items ++ canonical_text (node_of node.entry).tree) }
         ensures kept { OnErr result (text.new.items ≡ text.old.items) }
     {
+        // It lists nodes of this line, so it is not kept. Where there is no object it takes no memory.
         let mut members = Vec::new(self.alloc);
         self.made.clear();
         append_value(self.alloc, node, &mut members, &mut self.made)?;
