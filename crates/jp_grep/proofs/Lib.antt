@@ -6,6 +6,7 @@ pub mod Counted
 pub mod Written
 pub mod Celled
 pub mod PlainBytes
+pub mod Cells
 pub mod Batched
 pub mod Ends
 pub mod Advancing

@@ -1,5 +1,5 @@
 -- Bytes of a cell that stand for themselves.
-use Rattle.std.proofs.Common.{arith, inl, inr, ◌≡◌, ◌∙◌, ◌+◌, ◌<◌, ◌≤◌, ◌==◌, ◌++◌, ◌∷◌, [], ℕ, zero, suc, List, true, false, refl, sym, ap₂, subst, drop, length, take}
+use Rattle.std.proofs.Common.{arith, inl, inr, ◌≡◌, ◌∙◌, ◌+◌, ◌<◌, ◌≤◌, ◌==◌, ◌++◌, ◌∷◌, [], ℕ, zero, suc, List, Bool, true, false, refl, sym, ap, ap₂, subst, drop, length, take}
 use Rattle.std.specs.Prelude.{slice_index}
 use Rattle.std.proofs.Math.Seq.{drop-cons}
 use Rattle.std.proofs.lemmas.Bool.Decides.{eqb_tells}
@@ -9,21 +9,19 @@ use Rattle.jp_grep.specs.Tables.{byte_text, bytes_text}
 use Rattle.jp_grep.specs.declared.form.Table.{Table}
 use Rattle.jp_grep.specs.declared.form.Table.TheVariants as tables
 
-other_byte : (byte special : ℕ) → is_special special ≡ true → is_special byte ≡ false → (byte == special) ≡ false
-other_byte byte special is plain = elim (eqb_tells byte special) [
-  | inl same ↦ absurd (by (sym is ∙ sym (same_test same.1) ∙ plain))
+-- a byte that does not pass a test is none that does
+pub differs : (test : ℕ → Bool) (byte special : ℕ) → test special ≡ true → test byte ≡ false → (byte == special) ≡ false
+differs test byte special is plain = elim (eqb_tells byte special) [
+  | inl same ↦ absurd (by (sym is ∙ sym (ap test same.1) ∙ plain))
   | inr other ↦ other.0
 ]
   where
-    same_test : byte ≡ special → is_special byte ≡ is_special special
-    same_test e = subst (λ b. is_special byte ≡ is_special b) e refl
-
     by : true ≡ false → ⊥
     by e = cc
 
 plain_byte : (table : Table) (byte : ℕ) → is_special byte ≡ false → byte_text table byte ≡ byte ∷ []
-plain_byte tables.Tabs byte plain = rw (other_byte byte 0x09 refl plain, other_byte byte 0x0A refl plain, other_byte byte 0x0D refl plain, other_byte byte 0x5C refl plain) refl
-plain_byte tables.Commas byte plain = rw (other_byte byte 0x22 refl plain) refl
+plain_byte tables.Tabs byte plain = rw (differs is_special byte 0x09 refl plain, differs is_special byte 0x0A refl plain, differs is_special byte 0x0D refl plain, differs is_special byte 0x5C refl plain) refl
+plain_byte tables.Commas byte plain = rw (differs is_special byte 0x22 refl plain) refl
 
 -- from a position on so many bytes stand for themselves
 pub plain_run : (table : Table) (cell : List ℕ) (n at : ℕ) → at + n ≤ length cell → ((k : ℕ) → at ≤ k → k < at + n → is_special (slice_index cell k) ≡ false)

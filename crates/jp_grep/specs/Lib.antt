@@ -13,5 +13,6 @@ pub mod Positions
 pub mod Searching
 pub mod Words
 pub mod Laws
+pub mod ReadBack
 pub mod Command
 pub mod Ends
