@@ -5,6 +5,8 @@ jpq on the same collections.
 
 How an example is written stands at the head of the examples. Without an executable JPQ the comparison with it is left out.
 """
+import csv
+import io
 import json
 import os
 import pathlib
@@ -217,6 +219,34 @@ def beside_jpq(room):
         check(f"collection {number} with {query}", ended(["-onp", query, "lines"], room), (stated, refused, 2 if refused else 0 if stated else 1))
 
 
+def canonical(value):
+    return json.dumps(value, sort_keys=True, separators=(",", ":"), ensure_ascii=False)
+
+
+def random_text(dice):
+    return "".join(dice.choice(("a", "é", ",", '"', "\t", "\n", "\r", "\\", " ", "\x01")) for _ in range(dice.randrange(6)))
+
+
+def read_back(room):
+    """Tables lead back to the values of their cells: by the reader of CSV that Python has, and by what stands behind a backslash.
+    Canonical form is what Python writes of a value with its names in order."""
+    dice = random.Random(4180)
+    names = ("a", "b", "d e", "'", '"')
+    words = [word for name in names for word in ("-e", f"$[{json.dumps(name)}]")]
+    letters = {"t": "\t", "n": "\n", "r": "\r", "\\": "\\"}
+    for number in range(100):
+        pick = lambda: random_text(dice) if dice.random() < 0.5 else random_value(dice, 2)
+        lines = [{name: pick() for name in dice.sample(names, dice.randrange(1, 6))} for _ in range(dice.randrange(1, 6))]
+        pathlib.Path(room, "lines").write_text("".join(json.dumps(line, ensure_ascii=dice.random() < 0.5) + "\n" for line in lines), "utf-8")
+        shown = lambda value: value if isinstance(value, str) else canonical(value)
+        stated = [[shown(line[name]) if name in line else "" for name in names] for line in lines]
+        text = ended(["--csv", *words, "lines"], room)[0].decode()
+        check(f"table {number} with commas", list(csv.reader(io.StringIO(text, newline=""))), stated)
+        rows = ended(["--tsv", *words, "lines"], room)[0].decode().split("\n")[:-1]
+        check(f"table {number} with tabs", [[re.sub(r"\\(.)", lambda found: letters[found[1]], cell) for cell in row.split("\t")] for row in rows], stated)
+        check(f"table {number} as lines", ended(["-j", "$", "lines"], room)[0].decode(), "".join(canonical(line) + "\n" for line in lines))
+
+
 def main():
     files, examples = read_examples()
     for example in examples:
@@ -228,6 +258,7 @@ def main():
         follows("lines of a fifo", ["-n", "$.a"], LINES, room)
         follows("texts of a fifo", ["-n", "--seq", "$.a"], TEXTS, room)
         memory()
+        read_back(room)
         if os.access(JPQ, os.X_OK):
             beside_jpq(room)
         else:
