@@ -363,6 +363,16 @@ def counts_of_many_nodes(checks):
     grows_with_its_input(checks, "counts in 64 MB", of_elements, 100_000)
 
 
+def dead_ends(checks):
+    """A node from which nothing is selected is walked once, by however many ways a query comes to it."""
+    deep = "[" * 512 + "]" * 512 + "\n"
+    twice = "$" + "[0,0]" * 24 + ".a"
+    for query in ("$..*..*..*..*..zz", "$..*..[0,*]..[?@.zz].*..zz", twice):
+        before = time.monotonic()
+        checks.check(f"dead ends of {query}", answered(deep, f"query {query}\n"), (0, "= 0\n"))
+        checks.check(f"a second for dead ends of {query}", time.monotonic() - before < 1, True)
+
+
 def checks_of_many_lines(checks):
     """`check` looks at the refused lines alone, so as many checks as lines take little more than their rows."""
     def checked(count):
@@ -429,7 +439,8 @@ def main():
     for part in (texts_of_brackets, memory_of_deep_lines, texts_cut_short, texts_of_backslashes, texts_of_each_form_of_tape,
                  lines_behind_long_ones, objects_of_many_members, many_lines, lines_of_one_key, edits_of_many_lines, texts_of_numbers,
                  texts_of_names, queries, patterns, long_texts, long_numbers, objects_turned, large_objects, filters_from_the_root,
-                 conditions_of_the_root, texts_from_the_root, counts_of_many_nodes, checks_of_many_lines, queries_of_one_line, devices, sizes):
+                 conditions_of_the_root, texts_from_the_root, counts_of_many_nodes, dead_ends, checks_of_many_lines,
+                 queries_of_one_line, devices, sizes):
         part(checks)
     print(f"{checks.passed} passed, {checks.failed} failed")
     return 1 if checks.failed else 0

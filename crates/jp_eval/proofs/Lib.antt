@@ -24,4 +24,6 @@ pub mod Origins
 pub mod Following
 pub mod Asked
 pub mod Childless
+pub mod DeadEnds
+pub mod Marked
 mod Literals

@@ -8,8 +8,8 @@ abbrev mutual
   size_of_segments (segment s ss) = size_of_segment s + size_of_segments ss
 
   pub size_of_segment : Segment → ℕ
-  size_of_segment (child_segment ss) = size_of_selectors ss + 7
-  size_of_segment (descendant_segment ss) = size_of_selectors ss + 7
+  size_of_segment (child_segment ss) = size_of_selectors ss + 9
+  size_of_segment (descendant_segment ss) = size_of_selectors ss + 9
 
   pub size_of_selectors : Selectors → ℕ
   size_of_selectors no_selectors = 0

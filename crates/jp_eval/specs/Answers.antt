@@ -1,10 +1,13 @@
 -- Answers to what is asked of the root.
-use Rattle.std.specs.Prelude.{◌≡◌, ℕ, Bool, Option, option_map, true}
+use Rattle.std.specs.Prelude.{◌≡◌, ◌+◌, ◌-◌, ◌∷◌, [], ℕ, suc, Bool, Option, drop, length, option_map, true}
 use Rattle.jp_model.specs.Json.Tree as tree
-use Rattle.jp_model.specs.Meaning.Selecting.{compared_value, truth}
-use Rattle.jp_tape.specs.Cursors.{node_of}
+use Rattle.jp_model.specs.Meaning.Selecting.{compared_value, nodes, truth}
+use Rattle.jp_tape.specs.declared.cursor.Cursor.{Cursor}
+use Rattle.jp_tape.specs.Cursors.{line_of, node_of, place_of}
 use Rattle.jp_eval.specs.Functions.{pattern_in}
-use Rattle.jp_eval.specs.Programs.{Table, logical_at, side_at, table_of}
+use Rattle.jp_eval.specs.Programs.{Table, logical_at, side_at, steps_view, table_of}
+use Rattle.jp_eval.specs.Places.{HasPlace}
+use Rattle.jp_eval.specs.declared.places.Places.{Places}
 use Rattle.jp_eval.specs.declared.frame.Answer.{Answer}
 use Rattle.jp_eval.specs.declared.frame.Answer.TheVariants as answers
 use Rattle.jp_eval.specs.declared.frame.Run.{Run}
@@ -33,8 +36,17 @@ pub record IsValue (side : Value) (wanted : Option tree.Value) : Type 0 where
   pub value : value_view side ≡ wanted
   pub sound : is_sound_value side ≡ true
 
--- the answer is that of the slot at a position
+-- from the node the last steps select nothing, with so many behind the first of them
+abbrev pub IsDeadEnd : Run → ℕ → Cursor → Type 0
+IsDeadEnd run behind c = nodes (steps_view (table_in run) (drop (length run.steps.now - suc behind) run.steps.now)) (node_of c ∷ []) (tree_in run) ≡ []
+
+-- at each of these places is such a node
+abbrev pub AreDeadEnds : Run → ℕ → Places → Type 0
+AreDeadEnds run behind places = (c : Cursor) → line_of c ≡ line_of run.root.now → HasPlace places (place_of c) → IsDeadEnd run behind c
+
+-- the answer is that of the slot at a position, or of the last steps, which have the positions behind the slots
 abbrev pub IsAnswer : Run → ℕ → Answer → Type 0
 IsAnswer run position (answers.Holds is) = is ≡ slot_truth run position
 IsAnswer run position (answers.Value side) = IsValue side (slot_value run position)
 IsAnswer run position (answers.Pattern read) = option_map pattern_view read.value ≡ pattern_in (slot_value run position)
+IsAnswer run position (answers.DeadEnds places) = (behind : ℕ) → position ≡ length run.slots.now + behind → AreDeadEnds run behind places

@@ -1,5 +1,5 @@
 -- What a call promises of the frame that it is lent.
-use Rattle.std.specs.Prelude.{◌≡◌, ℕ, Bool, List, [], Option, Some, Result, OnOk, slice_get}
+use Rattle.std.specs.Prelude.{◌≡◌, ◌++◌, ℕ, Bool, List, [], Option, Some, Result, OnOk, slice_get}
 use Rattle.jp_model.specs.Json.Tree.{Tree, Value}
 use Rattle.jp_model.specs.Meaning.Nodes.{Node}
 use Rattle.jp_model.specs.Meaning.Selecting.{compared_value, nodes, truth}
@@ -30,10 +30,25 @@ reached run steps starts = nodes (steps_view (table_in run) steps) starts (tree_
 abbrev pub AreKept : Run → List (Option Answer) → Type 0
 AreKept run answers = (position : ℕ) (answer : Answer) → slice_get answers position ≡ Some (Some answer) → IsAnswer run position answer
 
+-- the steps are the last of these
+pub record EndsWith (all rest : List Step) : Type 0 where
+  pub before : List Step
+  pub is : all ≡ before ++ rest
+
+-- in a walk for all nodes the steps are the last of the query
+abbrev pub EndsSo : Walk → List Step → Type 0
+EndsSo walk rest = walk.most ≡ 18446744073709551614 → EndsWith walk.run.now.steps.now rest
+
 -- a node of the line, and a frame whose answers are right
 pub record IsFrameFor (walk : Walk) (node : Cursor) (frame : Frame) : Type 0 where
   pub line : line_of node ≡ line_of walk.run.now.root.now
   pub kept : AreKept walk.run.now frame.answers.items
+
+-- the same, before these steps
+pub record IsFrameAt (walk : Walk) (node : Cursor) (rest : List Step) (frame : Frame) : Type 0 where
+  pub line : line_of node ≡ line_of walk.run.now.root.now
+  pub kept : AreKept walk.run.now frame.answers.items
+  pub end : EndsSo walk rest
 
 -- these nodes were added, as many as are looked for
 pub record Pushes {E : Type 0} {U : Type 0} (walk : Walk) (old new : Frame) (result : Result U E) (found : List Node) : Type 0 where

@@ -14,3 +14,4 @@ pub mod Frames
 pub mod Steps
 pub mod Questions
 pub mod Keys
+pub mod Places

@@ -29,9 +29,9 @@ pub(crate) fn no_answers<'a>(alloc: Global, count: usize) -> Result<Vec<Option<A
 
 impl<'p, 'a> Run<'p, 'a> {
     /// Makes room for answers. There is none yet where the query goes one step to children: each of its filters is met once then, and
-    /// one that asks of several children makes room itself.
+    /// one that asks of several children makes room itself. The dead ends of so many lists of steps have room behind them.
     #[inline(always)]
-    pub(crate) fn begin(self, steps: &[Step], frame: &mut Frame<'a>) -> Result<()>
+    pub(crate) fn begin(self, steps: &[Step], again: usize, frame: &mut Frame<'a>) -> Result<()>
         requires { AreKept self frame.old.answers.items }
         ensures kept { AreKept self.entry frame.new.answers.items }
         ensures found { frame.new.found ≡ frame.old.found }
@@ -39,7 +39,10 @@ impl<'p, 'a> Run<'p, 'a> {
     {
         match steps {
             [Step::One(_) | Step::Child(_)] => Ok(()),
-            _ => self.prepare(frame),
+            _ => {
+                self.prepare(frame)?;
+                self.make_room(again, frame)
+            }
         }
     }
 
@@ -52,6 +55,20 @@ impl<'p, 'a> Run<'p, 'a> {
         ensures count { frame.new.count ≡ frame.old.count }
     {
         for _position in frame.answers.len()..self.slots.len() {
+            frame.answers.push(None)?;
+        }
+        Ok(())
+    }
+
+    /// Makes room for the dead ends of so many lists of steps, behind the answers.
+    #[inline(never)]
+    fn make_room(self, lists: usize, frame: &mut Frame<'a>) -> Result<()>
+        requires { AreKept self frame.old.answers.items }
+        ensures kept { AreKept self.entry frame.new.answers.items }
+        ensures found { frame.new.found ≡ frame.old.found }
+        ensures count { frame.new.count ≡ frame.old.count }
+    {
+        for _list in 0..lists {
             frame.answers.push(None)?;
         }
         Ok(())
@@ -81,6 +98,7 @@ impl<'p, 'a> Run<'p, 'a> {
         let inner = Run {
             alloc: self.alloc,
             slots: &slot.slots,
+            steps: self.steps,
             root: self.root,
         };
         Some((inner, &slot.asked))
@@ -112,7 +130,7 @@ impl<'p, 'a> Run<'p, 'a> {
 
     /// What the slot at a position answered, where it was asked before in the line.
     #[inline(always)]
-    fn kept_at<'f>(self, position: usize, frame: &'f Frame<'a>) -> Option<&'f Answer<'a>>
+    pub(crate) fn kept_at<'f>(self, position: usize, frame: &'f Frame<'a>) -> Option<&'f Answer<'a>>
         requires { AreKept self frame.now.answers.items }
         ensures { IfSome result (λ answer. IsAnswer self.entry position answer.now) }
     {
@@ -121,7 +139,7 @@ impl<'p, 'a> Run<'p, 'a> {
 
     /// Keeps what the slot at a position answers, where there is room.
     #[inline(always)]
-    fn keep_at(self, position: usize, answer: Answer<'a>, frame: &mut Frame<'a>)
+    pub(crate) fn keep_at(self, position: usize, answer: Answer<'a>, frame: &mut Frame<'a>)
         requires kept { AreKept self frame.old.answers.items }
         requires right { IsAnswer self position answer }
         ensures kept { AreKept self.entry frame.new.answers.items }

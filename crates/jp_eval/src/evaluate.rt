@@ -12,6 +12,7 @@ ghost use Rattle.jp_eval.specs.Found.{Adds, AreOf, found_in};
 use crate::compile::Compiler;
 use crate::frame::{ALL, Frame, Run, Walk};
 use crate::program::{Slot, Step};
+use crate::ways::count_again;
 use jp_query::Segment;
 use jp_tape::Cursor;
 use std::alloc::{AllocError, Global};
@@ -22,6 +23,8 @@ use std::alloc::{AllocError, Global};
 pub struct Program {
     pub(crate) slots: Vec<Slot>,
     pub(crate) steps: Vec<Step>,
+    /// How many of them, at the end, a second way may lead to.
+    pub(crate) again: usize,
 }
 
 impl Program {
@@ -35,8 +38,13 @@ impl Program {
     {
         let mut compiler = Compiler::new(alloc);
         let steps = compiler.compile_segments(segments)?;
+        let again = count_again(&steps);
         let slots = compiler.slots;
-        Ok(Program { slots, steps })
+        Ok(Program {
+            slots,
+            steps,
+            again,
+        })
     }
 
     /// Adds what the steps select from a node. No query from the root was answered before.
@@ -57,9 +65,10 @@ impl Program {
         let run = Run {
             alloc,
             slots: &self.slots,
+            steps: &self.steps,
             root: &root,
         };
-        run.begin(&self.steps, frame)?;
+        run.begin(&self.steps, self.again, frame)?;
         let walk = Walk {
             run: &run,
             most: ALL,

@@ -4,7 +4,8 @@ ghost use Rattle.std.specs.Prelude.{◌≡◌};
 ghost use Rattle.jp_tape.specs.Cursors.{place_of};
 
 use crate::Result;
-use crate::program::Slot;
+use crate::places::Places;
+use crate::program::{Slot, Step};
 use jp_iregexp::Pattern;
 use jp_tape::Cursor;
 use jp_values::Value;
@@ -16,6 +17,8 @@ use std::alloc::{AllocError, Global};
 pub(crate) struct Run<'p, 'a> {
     pub(crate) alloc: Global,
     pub(crate) slots: &'p [Slot],
+    /// The steps of the query, whose dead ends are remembered.
+    pub(crate) steps: &'p [Step],
     pub(crate) root: &'p Cursor<'a>,
     ghost at_root: { place_of root.now ≡ 0 },
 }
@@ -43,6 +46,8 @@ pub(crate) enum Answer<'a> {
     Value(Value<'a>),
     /// The pattern that the value spells, where it spells one.
     Pattern(Box<Option<Pattern>>),
+    /// The nodes from which the last steps select nothing.
+    DeadEnds(Places),
 }
 
 /// The nodes that were found, and what was answered of what is asked of the root, by the positions of the slots. It lends its room

@@ -16,10 +16,12 @@ mod compile;
 mod compile_filter;
 mod conditions;
 mod constants;
+mod dead_ends;
 mod evaluate;
 mod frame;
 mod functions;
 mod leaves;
+mod places;
 mod predicate;
 mod program;
 mod question;
@@ -27,6 +29,7 @@ mod roots;
 mod select;
 mod steps;
 mod values;
+mod ways;
 
 /// What a call gives that may be refused memory.
 type Result<T> = std::result::Result<T, std::alloc::AllocError>;

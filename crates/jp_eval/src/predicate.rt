@@ -57,6 +57,7 @@ impl Predicate {
         let run = Run {
             alloc,
             slots: &self.slots,
+            steps: &[],
             root: &root,
         };
         run.prepare(frame)?;

@@ -9,7 +9,7 @@ ghost use Rattle.jp_model.specs.Meaning.Selecting.{segment_nodes, selected, sele
 ghost use Rattle.jp_model.specs.Meaning.Slices.{is_index, sliced};
 ghost use Rattle.jp_tape.specs.Cursors.{line_of, node_of};
 ghost use Rattle.jp_eval.specs.Found.{AreOf};
-ghost use Rattle.jp_eval.specs.Frames.{table_at, tree_at, reached, AreKept, IsFrameFor, Pushes};
+ghost use Rattle.jp_eval.specs.Frames.{table_at, tree_at, reached, AreKept, EndsSo, IsFrameAt, Pushes};
 ghost use Rattle.jp_eval.specs.Programs.{step_view, choices_view, choice_view, condition_view, test_view};
 ghost use Rattle.jp_eval.specs.Walks.{rises};
 
@@ -29,7 +29,7 @@ impl<'r, 'a> Walk<'r, 'a> {
         steps: &[Step],
         frame: &mut Frame<'a>,
     ) -> Result<()>
-        requires { IsFrameFor self node frame.old }
+        requires { IsFrameAt self node steps.now frame.old }
         ensures { Pushes self.entry frame.old frame.new result (reached self.entry.run.now steps.now (node_of node.entry ∷ [])) }
     {
         if let Some((step, rest)) = steps.split_first() {
@@ -38,7 +38,7 @@ impl<'r, 'a> Walk<'r, 'a> {
         frame.add(node, self.most)
     }
 
-    /// Adds what the step selects from a node, and the steps from there. Most queries end with a name or an index.
+    /// Adds what the step selects from a node, and the steps from there, which is nothing where it was nothing before.
     #[cycle(eval)]
     #[inline(never)]
     fn push_step(
@@ -48,7 +48,50 @@ impl<'r, 'a> Walk<'r, 'a> {
         rest: &[Step],
         frame: &mut Frame<'a>,
     ) -> Result<()>
-        requires { IsFrameFor self node frame.old }
+        requires { IsFrameAt self node (step.now ∷ rest.now) frame.old }
+        ensures { Pushes self.entry frame.old frame.new result (reached self.entry.run.now rest.now (segment_nodes (step_view (table_at self.entry) step.now) (node_of node.entry) (tree_at self.entry))) }
+    {
+        if self.remembers(step, rest, frame) {
+            return self.push_again(node, step, rest, frame);
+        }
+        self.push_selected(node, step, rest, frame)
+    }
+
+    /// The same, of a node that a second way may lead to. What is nothing is remembered.
+    #[cycle(eval)]
+    #[inline(never)]
+    fn push_again(
+        self,
+        node: Cursor<'a>,
+        step: &Step,
+        rest: &[Step],
+        frame: &mut Frame<'a>,
+    ) -> Result<()>
+        requires frame { IsFrameAt self node (step.now ∷ rest.now) frame.old }
+        requires all { self.most ≡ 18446744073709551614 }
+        ensures { Pushes self.entry frame.old frame.new result (reached self.entry.run.now rest.now (segment_nodes (step_view (table_at self.entry) step.now) (node_of node.entry) (tree_at self.entry))) }
+    {
+        if self.run.is_dead_end(node, rest, frame) {
+            return Ok(());
+        }
+        let before = frame.found.len();
+        self.push_selected(node, step, rest, frame)?;
+        self.run.note_where_none(node, rest, before, frame);
+        Ok(())
+    }
+
+    /// Adds what the step selects from a node, and the steps from there. Most queries end with a name or an index.
+    #[cycle(eval)]
+    #[tactic(auto, using(crate::proofs::DeadEnds::ends_next))]
+    #[inline(always)]
+    fn push_selected(
+        self,
+        node: Cursor<'a>,
+        step: &Step,
+        rest: &[Step],
+        frame: &mut Frame<'a>,
+    ) -> Result<()>
+        requires { IsFrameAt self node (step.now ∷ rest.now) frame.old }
         ensures { Pushes self.entry frame.old frame.new result (reached self.entry.run.now rest.now (segment_nodes (step_view (table_at self.entry) step.now) (node_of node.entry) (tree_at self.entry))) }
     {
         match step {
@@ -71,7 +114,7 @@ impl<'r, 'a> Walk<'r, 'a> {
         rest: &[Step],
         frame: &mut Frame<'a>,
     ) -> Result<()>
-        requires { IsFrameFor self node frame.old }
+        requires { IsFrameAt self node rest.now frame.old }
         ensures { Pushes self.entry frame.old frame.new result (reached self.entry.run.now rest.now (flat_map (λ d. selected (choices_view (table_at self.entry) choices.now) d (tree_at self.entry)) (subtree (node_of node.entry)))) }
     {
         for place in node.place()..node.after() {
@@ -93,7 +136,7 @@ impl<'r, 'a> Walk<'r, 'a> {
         rest: &[Step],
         frame: &mut Frame<'a>,
     ) -> Result<()>
-        requires { IsFrameFor self node frame.old }
+        requires { IsFrameAt self node rest.now frame.old }
         ensures { Pushes self.entry frame.old frame.new result (reached self.entry.run.now rest.now (selected (choices_view (table_at self.entry) choices.now) (node_of node.entry) (tree_at self.entry))) }
     {
         // Most nodes below a node have no children, and nothing is selected from them.
@@ -116,7 +159,7 @@ impl<'r, 'a> Walk<'r, 'a> {
         rest: &[Step],
         frame: &mut Frame<'a>,
     ) -> Result<()>
-        requires { IsFrameFor self node frame.old }
+        requires { IsFrameAt self node rest.now frame.old }
         ensures { Pushes self.entry frame.old frame.new result (reached self.entry.run.now rest.now (select (choice_view (table_at self.entry) choice.now) (node_of node.entry) (tree_at self.entry))) }
     {
         match choice {
@@ -140,7 +183,7 @@ impl<'r, 'a> Walk<'r, 'a> {
     /// Adds what the steps select from each child.
     #[cycle(eval)]
     fn push_children(self, node: Cursor<'a>, rest: &[Step], frame: &mut Frame<'a>) -> Result<()>
-        requires { IsFrameFor self node frame.old }
+        requires { IsFrameAt self node rest.now frame.old }
         ensures { Pushes self.entry frame.old frame.new result (reached self.entry.run.now rest.now (children (node_of node.entry))) }
     {
         let mut next = node.first_child();
@@ -164,7 +207,7 @@ impl<'r, 'a> Walk<'r, 'a> {
         rest: &[Step],
         frame: &mut Frame<'a>,
     ) -> Result<()>
-        requires { IsFrameFor self node frame.old }
+        requires { IsFrameAt self node rest.now frame.old }
         ensures { Pushes self.entry frame.old frame.new result (reached self.entry.run.now rest.now (sliced slice.first slice.last slice.step (node_of node.entry))) }
     {
         if slice.step > 0 {
@@ -183,7 +226,7 @@ impl<'r, 'a> Walk<'r, 'a> {
         rest: &[Step],
         frame: &mut Frame<'a>,
     ) -> Result<()>
-        requires { IsFrameFor self node frame.old }
+        requires { IsFrameAt self node rest.now frame.old }
         ensures { Pushes self.entry frame.old frame.new result (reached self.entry.run.now rest.now (children_where (is_index (rises slice.low slice.high slice.step)) (node_of node.entry))) }
     {
         let mut next = node.first_child();
@@ -206,6 +249,7 @@ impl<'r, 'a> Walk<'r, 'a> {
     fn push_each(self, nodes: &[Cursor<'a>], rest: &[Step], frame: &mut Frame<'a>) -> Result<()>
         requires lines { AreOf (line_of self.run.now.root.now) nodes.now }
         requires kept { AreKept self.run.now frame.old.answers.items }
+        requires end { EndsSo self rest.now }
         ensures { Pushes self.entry frame.old frame.new result (reached self.entry.run.now rest.now (map node_of nodes.now)) }
     {
         for node in nodes {
@@ -224,7 +268,7 @@ impl<'r, 'a> Walk<'r, 'a> {
         rest: &[Step],
         frame: &mut Frame<'a>,
     ) -> Result<()>
-        requires { IsFrameFor self node frame.old }
+        requires { IsFrameAt self node rest.now frame.old }
         ensures { Pushes self.entry frame.old frame.new result (reached self.entry.run.now rest.now (filter (λ c. truth_of (condition_view (table_at self.entry) condition.now) c (tree_at self.entry)) (children (node_of node.entry)))) }
     {
         match condition {
@@ -249,7 +293,7 @@ impl<'r, 'a> Walk<'r, 'a> {
         rest: &[Step],
         frame: &mut Frame<'a>,
     ) -> Result<()>
-        requires { IsFrameFor self node frame.old }
+        requires { IsFrameAt self node rest.now frame.old }
         ensures { Pushes self.entry frame.old frame.new result (reached self.entry.run.now rest.now (filter (λ c. truth_of (test_view (table_at self.entry) test.now) c (tree_at self.entry)) (children (node_of node.entry)))) }
     {
         self.run.prepare(frame)?;

@@ -10,7 +10,7 @@ use Rattle.jp_eval.specs.Programs.{table_of, steps_view}
 use Rattle.jp_eval.specs.Tallies.{tally}
 use Rattle.jp_eval.specs.declared.program.Slot.{Slot}
 use Rattle.jp_eval.specs.declared.program.Step.{Step}
-use Rattle.jp_eval.proofs.Answered.{none_kept}
+use Rattle.jp_eval.proofs.Answered.{none_in}
 use Rattle.jp_eval.proofs.Counts.{all_added, not_counted}
 use Rattle.jp_eval.proofs.evaluate.Program.push_all.Goals as goal
 
@@ -19,7 +19,7 @@ on_ok (Ok x) P Q f h = f h
 on_ok (Err e) P Q f h = tt
 
 pub begin-requires : goal.begin-requires
-begin-requires c = none_kept (record { alloc = c.args.alloc; slots = c.deref.result; root = record { ref_ptr = c.args.self.ref_ptr; now = c.args.root }; at_root = c.requires.root }) _ c.requires.answers
+begin-requires c position answer is = absurd ((none_in c.args.frame.now.answers.items c.requires.answers).none position answer is)
 
 pub returns-clause-ok : goal.returns-clause-ok
 returns-clause-ok c =
@@ -30,8 +30,8 @@ returns-clause-ok c =
     let n : Node = node_of c.args.start in
     let seen = λ (slots : List Slot) (steps : List Step). nodes (steps_view (table_of slots) steps) (n ∷ []) t in
     let before : List Cursor = c.begin.new.frame.found.items in
-    let found : List Node = seen c.deref.result.now c.deref-3.result.now in
+    let found : List Node = seen c.deref.result.now c.deref-4.result.now in
     on_ok c.push_steps.result (tally 18446744073709551614 c.push_steps.new.frame [] ≡ tally 18446744073709551614 c.begin.new.frame found)
     (map node_of new.items ≡ map node_of c.args.frame.now.found.items ++ seen c.args.self.now.slots.items c.args.self.now.steps.items)
     (λ e. all_added 18446744073709551614 before new.items c.begin.new.frame.count c.push_steps.new.frame.count found (not_counted 18446744073709551614 c.begin.new.frame c.push_steps.new.frame found (omega arith) e) (omega (arith, size, small))
-    ∙ ap₂ (λ (l : List Cursor) (ns : List Node). map node_of l ++ ns) (ap (λ v. v.items) c.in_ok-begin.ensures.found) (ap₂ seen c.deref.ensures.value c.deref-3.ensures.value)) c.push_steps.ensures.told
+    ∙ ap₂ (λ (l : List Cursor) (ns : List Node). map node_of l ++ ns) (ap (λ v. v.items) c.in_ok-begin.ensures.found) (ap₂ seen c.deref.ensures.value c.deref-4.ensures.value)) c.push_steps.ensures.told

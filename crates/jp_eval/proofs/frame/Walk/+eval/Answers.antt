@@ -29,6 +29,7 @@ use Rattle.jp_eval.specs.declared.frame.Run.{Run}
 use Rattle.jp_eval.specs.declared.program.Choice.{Choice}
 use Rattle.jp_eval.specs.declared.program.Condition.{Condition}
 use Rattle.jp_eval.specs.declared.leaves.LiteralPattern.{LiteralPattern}
+use Rattle.jp_eval.specs.declared.program.Step.{Step as ProgramStep}
 use Rattle.jp_eval.specs.declared.program.Test.{Test}
 use Rattle.jp_eval.specs.declared.program.Operand.{Operand}
 use Rattle.jp_eval.specs.declared.program.Spelled.{Spelled}
@@ -39,8 +40,9 @@ use Rattle.jp_eval.specs.declared.program.Found.{Found}
 use Rattle.jp_query.specs.View.{literal_view}
 use Rattle.std.proofs.Math.Logic.{∥∥₁_elim}
 use Rattle.jp_eval.proofs.Childless.{none_first, none_selected}
-use Rattle.jp_eval.proofs.Compiled.{chosen_is, found_is, literal_is, once_is, passes_is, slice_is, sought_once, spelled_is}
+use Rattle.jp_eval.proofs.Compiled.{child_is, chosen_is, descendant_is, found_is, literal_is, once_is, passes_is, slice_is, sought_once, spelled_is}
 use Rattle.jp_eval.proofs.Counts.{none_single, not_counted, single_found}
+use Rattle.jp_eval.proofs.DeadEnds.{ends_next, is_dead, none_found, nothing_there}
 use Rattle.jp_eval.proofs.Descendants.{below_at}
 use Rattle.jp_eval.proofs.Entered.{once_found, once_given, once_told}
 use Rattle.jp_eval.proofs.FromRoot.{logical_size, side_size}
@@ -50,7 +52,7 @@ use Rattle.jp_eval.proofs.Kept.{adds_none, adds_more, line_on, line_of_some}
 use Rattle.jp_eval.proofs.Lists.{item_at}
 use Rattle.jp_eval.proofs.Patterns.{told, one_proof}
 use Rattle.jp_eval.proofs.Following.{select_is, one_selects}
-use Rattle.jp_eval.proofs.Sizes.{size_of_argument, size_of_comparable, size_of_logical, size_of_selectors}
+use Rattle.jp_eval.proofs.Sizes.{size_of_argument, size_of_comparable, size_of_logical, size_of_segment, size_of_selectors}
 use Rattle.jp_eval.proofs.Slices.{none_risen}
 use Rattle.jp_eval.proofs.Walks.{chosen_from, chosen_here, passed_here, at_next, index_fits}
 use Rattle.std.proofs.lemmas.List.{drop_all}
@@ -331,8 +333,8 @@ push_choice-returns-in-None t c =
     ap (λ (x : Choice). select (choice_view (table_in c.args.self.run.now) x) n u) c.in-One.is ∙ (ap (λ (x : syntax.Selector). select x n u) (chosen_is (table_in c.args.self.run.now) c.in-One.key) ∙ (select_is (key_view c.in-One.key) n u ∙ sym c.in-None.ensures.nodes)) in
     nothing_added c.args.self c.args.frame.now ss u _ c.requires.kept none
 
-pub push_step-returns-in-None : goal.push_step-returns-in-None
-push_step-returns-in-None t c =
+pub push_selected-returns-in-None : goal.push_selected-returns-in-None
+push_selected-returns-in-None t c =
     let u : Tree = (node_of c.args.self.run.now.root.now).tree in
     let ss : Segments = steps_view (table_in c.args.self.run.now) c.args.rest.now in
     let n : Node = node_of c.args.node in
@@ -536,3 +538,36 @@ passes_pattern-returns-in_ok-read-in-Found-clause-value t c =
     let second = c.in_ok-value-in-Found.ensures.value.value ∙ sym there in
     subst (λ (v : Bool). IfOk c.read_passes-in-Found.result (λ b. b ≡ v)) (ap₂ (in_pattern test) c.in_ok-text.ensures.value.value second)
     (told c.read_passes-in-Found.result test _ own _ c.in_ok-read-in-Found.ensures c.read_passes-in-Found.ensures)
+
+-- ---- dead ends
+
+pub push_selected-push_choices-requires : goal.push_selected-push_choices-requires
+push_selected-push_choices-requires t c =
+    let table : Table = table_in c.args.self.run.now in
+    let size = ap (λ (x : ProgramStep). size_of_segment (step_view table x)) c.in-Child.is ∙ ap size_of_segment (child_is table c.in-Child.choices) in
+    let same = ap (λ (l : List Choice). size_of_selectors (choices_view table l)) c.deref.ensures.value in
+    (omega (arith, size, same, c.decreases), record { line = c.requires.line; kept = c.requires.kept; end = ends_next c.args.self c.args.step.now c.args.rest.now c.requires.end })
+
+pub push_selected-push_subtree-requires : goal.push_selected-push_subtree-requires
+push_selected-push_subtree-requires t c =
+    let table : Table = table_in c.args.self.run.now in
+    let size = ap (λ (x : ProgramStep). size_of_segment (step_view table x)) c.in-Descendant.is ∙ ap size_of_segment (descendant_is table c.in-Descendant.choices) in
+    let same = ap (λ (l : List Choice). size_of_selectors (choices_view table l)) c.deref-in-Descendant.ensures.value in
+    (omega (arith, size, same, c.decreases), record { line = c.requires.line; kept = c.requires.kept; end = ends_next c.args.self c.args.step.now c.args.rest.now c.requires.end })
+
+pub push_again-returns-then-is_dead_end : goal.push_again-returns-then-is_dead_end
+push_again-returns-then-is_dead_end t c =
+    let run : Run = c.args.self.run.now in
+    let none = nothing_there run c.args.node c.args.step.now c.args.rest.now (c.requires.frame.end c.requires.all) (c.is_dead_end.ensures c.if-is_dead_end.true) in
+    is_done (begins c.args.self c.args.frame.now c.args.frame.now [] _ c.requires.frame.kept refl refl (sym none)) refl
+
+pub push_again-note_where_none-requires-clause-dead : goal.push_again-note_where_none-requires-clause-dead
+push_again-note_where_none-requires-clause-dead t c e =
+    let run : Run = c.args.self.run.now in
+    let new : Frame = c.push_selected.new.frame in
+    let size = new.found.ok in
+    let small = new.found.small in
+    let found : List Node = nodes (steps_view (table_in run) c.args.rest.now) (segment_nodes (step_view (table_in run) c.args.step.now) (node_of c.args.node) (tree_in run)) (tree_in run) in
+    let told = subst (λ (most : ℕ). tally most new [] ≡ tally most c.args.frame.now found) c.requires.all c.in_ok-push_selected.ensures.told in
+    is_dead run c.args.node c.args.step.now c.args.rest.now (c.requires.frame.end c.requires.all)
+    (none_found c.args.frame.now new found told (e ∙ (c.len-before.ensures ∙ c.args.frame.now.found.ok.0)) (omega (arith, size, small)))

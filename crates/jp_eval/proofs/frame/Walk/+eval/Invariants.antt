@@ -16,37 +16,43 @@ use Rattle.jp_eval.proofs.Sizes.{size_of_segments, size_of_segment, size_of_sele
 use Rattle.jp_eval.proofs.frame.Walk.+eval.Given as goal
 
 abbrev pub decreases-push_steps : goal.decreases-push_steps
-decreases-push_steps l = size_of_segments (steps_view (table_in l.self.run.now) l.steps.now) + 1
+decreases-push_steps l = size_of_segments (steps_view (table_in l.self.run.now) l.steps.now) + 3
 
 abbrev pub decreases-push_step : goal.decreases-push_step
-decreases-push_step l = size_of_segment (step_view (table_in l.self.run.now) l.step.now) + size_of_segments (steps_view (table_in l.self.run.now) l.rest.now)
+decreases-push_step l = size_of_segment (step_view (table_in l.self.run.now) l.step.now) + size_of_segments (steps_view (table_in l.self.run.now) l.rest.now) + 2
+
+abbrev pub decreases-push_again : goal.decreases-push_again
+decreases-push_again l = size_of_segment (step_view (table_in l.self.run.now) l.step.now) + size_of_segments (steps_view (table_in l.self.run.now) l.rest.now) + 1
+
+abbrev pub decreases-push_selected : goal.decreases-push_selected
+decreases-push_selected l = size_of_segment (step_view (table_in l.self.run.now) l.step.now) + size_of_segments (steps_view (table_in l.self.run.now) l.rest.now)
 
 abbrev pub decreases-push_subtree : goal.decreases-push_subtree
-decreases-push_subtree l = size_of_selectors (choices_view (table_in l.self.run.now) l.choices.now) + size_of_segments (steps_view (table_in l.self.run.now) l.rest.now) + 6
+decreases-push_subtree l = size_of_selectors (choices_view (table_in l.self.run.now) l.choices.now) + size_of_segments (steps_view (table_in l.self.run.now) l.rest.now) + 8
 
 abbrev pub decreases-push_choices : goal.decreases-push_choices
-decreases-push_choices l = size_of_selectors (choices_view (table_in l.self.run.now) l.choices.now) + size_of_segments (steps_view (table_in l.self.run.now) l.rest.now) + 5
+decreases-push_choices l = size_of_selectors (choices_view (table_in l.self.run.now) l.choices.now) + size_of_segments (steps_view (table_in l.self.run.now) l.rest.now) + 7
 
 abbrev pub decreases-push_choice : goal.decreases-push_choice
-decreases-push_choice l = size_of_selector (choice_view (table_in l.self.run.now) l.choice.now) + size_of_segments (steps_view (table_in l.self.run.now) l.rest.now) + 4
+decreases-push_choice l = size_of_selector (choice_view (table_in l.self.run.now) l.choice.now) + size_of_segments (steps_view (table_in l.self.run.now) l.rest.now) + 6
 
 abbrev pub decreases-push_children : goal.decreases-push_children
-decreases-push_children l = size_of_segments (steps_view (table_in l.self.run.now) l.rest.now) + 2
+decreases-push_children l = size_of_segments (steps_view (table_in l.self.run.now) l.rest.now) + 4
 
 abbrev pub decreases-push_slice : goal.decreases-push_slice
-decreases-push_slice l = size_of_segments (steps_view (table_in l.self.run.now) l.rest.now) + 3
+decreases-push_slice l = size_of_segments (steps_view (table_in l.self.run.now) l.rest.now) + 5
 
 abbrev pub decreases-push_rising : goal.decreases-push_rising
-decreases-push_rising l = size_of_segments (steps_view (table_in l.self.run.now) l.rest.now) + 2
+decreases-push_rising l = size_of_segments (steps_view (table_in l.self.run.now) l.rest.now) + 4
 
 abbrev pub decreases-push_each : goal.decreases-push_each
-decreases-push_each l = size_of_segments (steps_view (table_in l.self.run.now) l.rest.now) + 2
+decreases-push_each l = size_of_segments (steps_view (table_in l.self.run.now) l.rest.now) + 4
 
 abbrev pub decreases-push_where : goal.decreases-push_where
-decreases-push_where l = size_of_logical (condition_view (table_in l.self.run.now) l.condition.now) + size_of_segments (steps_view (table_in l.self.run.now) l.rest.now) + 5
+decreases-push_where l = size_of_logical (condition_view (table_in l.self.run.now) l.condition.now) + size_of_segments (steps_view (table_in l.self.run.now) l.rest.now) + 7
 
 abbrev pub decreases-push_tested : goal.decreases-push_tested
-decreases-push_tested l = size_of_logical (test_view (table_in l.self.run.now) l.test.now) + size_of_segments (steps_view (table_in l.self.run.now) l.rest.now) + 4
+decreases-push_tested l = size_of_logical (test_view (table_in l.self.run.now) l.test.now) + size_of_segments (steps_view (table_in l.self.run.now) l.rest.now) + 6
 
 abbrev pub decreases-holds : goal.decreases-holds
 decreases-holds l = size_of_logical (condition_view (table_in l.self.run.now) l.condition.now) + 2
@@ -64,13 +70,13 @@ abbrev pub decreases-are_all : goal.decreases-are_all
 decreases-are_all l = size_of_logicals (conditions_view (table_in l.self.run.now) l.parts.now)
 
 abbrev pub decreases-has_node : goal.decreases-has_node
-decreases-has_node l = size_of_segments (steps_view (table_in l.self.run.now) l.steps.now) + 2
+decreases-has_node l = size_of_segments (steps_view (table_in l.self.run.now) l.steps.now) + 4
 
 abbrev pub decreases-only_value : goal.decreases-only_value
-decreases-only_value l = size_of_segments (steps_view (table_in l.self.run.now) l.steps.now) + 2
+decreases-only_value l = size_of_segments (steps_view (table_in l.self.run.now) l.steps.now) + 4
 
 abbrev pub decreases-count_nodes : goal.decreases-count_nodes
-decreases-count_nodes l = size_of_segments (steps_view (table_in l.self.run.now) l.steps.now) + 2
+decreases-count_nodes l = size_of_segments (steps_view (table_in l.self.run.now) l.steps.now) + 4
 
 abbrev pub decreases-compare_values : goal.decreases-compare_values
 decreases-compare_values l = size_of_comparable (operand_view (table_in l.self.run.now) l.left.now) + size_of_comparable (operand_view (table_in l.self.run.now) l.right.now) + 5

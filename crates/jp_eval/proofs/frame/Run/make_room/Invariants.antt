@@ -1,0 +1,11 @@
+-- The answers that were kept are still there.
+use Rattle.std.proofs.Common.{◌≡◌}
+use Rattle.jp_eval.specs.Frames.{AreKept}
+use Rattle.jp_eval.proofs.frame.Run.make_room.Given as goal
+
+abbrev pub invariant-loop-list : goal.invariant-loop-list
+invariant-loop-list l = record {
+  kept : AreKept l.self l.frame.answers.items;
+  found : l.frame.found ≡ l.fn.frame.found;
+  count : l.frame.count ≡ l.fn.frame.count;
+}
