@@ -77,6 +77,8 @@ pub extern "C" fn jpq_open(
     ensures number { framing_at framing ≡ None → result ≡ 2 }
     ensures opened { IfSome (framing_at framing) (λ framing. result ≡ 0 → IsOpened (setup_of framing most) collection.now handle.new.session) }
     ensures no_number { result ≡ 2 → framing_at framing ≡ None }
+    ensures not_shut { result ≢ 1 }
+    ensures not_long { result ≢ 14 }
     ensures size { result ≡ 12 → most < length collection.now }
     ensures unframed { IfSome (framing_at framing) (λ framing. result ≡ 13 → (length collection.now ≤ most) × (is_framed framing collection.now ≡ false)) }
     ensures stopped { 0 < result → handle.new.session ≡ None }
@@ -111,6 +113,7 @@ pub extern "C" fn jpq_open(
 pub extern "C" fn jpq_ask(alloc: Global, handle: &mut Jpq, script: &[u8]) -> u32
     ensures shut { handle.old.session ≡ None → (result ≡ 1) × (handle.new.session ≡ None) }
     ensures is_shut { result ≡ 1 → handle.old.session ≡ None }
+    ensures of_scripts { (result ≢ 2) × (result ≢ 12) × (result ≢ 13) }
     ensures long { result ≡ 14 → (4294967295 < length script.now) × (handle.new.session ≡ handle.old.session) }
     ensures done { result ≡ 0 → HasAnswered handle.old.session handle.new.session script.now }
     ensures stopped { 1 < result → result ≢ 14 → HasAnsweredFirst handle.old.session handle.new.session script.now }
@@ -176,7 +179,13 @@ pub extern "C" fn jpq_run(
     script: &[u8],
     handle: &mut Jpq,
 ) -> u32
-    ensures { IfSome (framing_at framing) (λ framing. result ≡ 0 → IsRun (setup_of framing most) collection.now script.now handle.new.session) }
+    ensures number { framing_at framing ≡ None → result ≡ 2 }
+    ensures no_number { result ≡ 2 → framing_at framing ≡ None }
+    ensures not_shut { result ≢ 1 }
+    ensures size { result ≡ 12 → most < length collection.now }
+    ensures unframed { IfSome (framing_at framing) (λ framing. result ≡ 13 → (length collection.now ≤ most) × (is_framed framing collection.now ≡ false)) }
+    ensures long { result ≡ 14 → 4294967295 < length script.now }
+    ensures done { IfSome (framing_at framing) (λ framing. result ≡ 0 → IsRun (setup_of framing most) collection.now script.now handle.new.session) }
 {
     let status = jpq_open(alloc, collection, framing, most, handle);
     if status != DONE {
