@@ -28,9 +28,6 @@ module _ (backslash : ℕ) (first : Bool) where
       bit-and backslash (flipped (bool_byte first)) (suc i) ∙ ap (λ x. bit backslash (suc i) && x) (bit-not (bool_byte first) (suc i) (flag_small first) within ∙ ap not (bit_of_flag_above first i))
       ∙ and-true (bit backslash (suc i))
 
-  settle : (b f : Bool) → ((b && not f) && not false) ≡ (b && not f)
-  settle b f = and-true (b && not f)
-
   escaped_above : (i : ℕ) → i < 64 → odd_run live (suc i) ≡ escaped_at backslash first (suc i)
   unfolding odd_run escaped_at
   escaped_above zero within = ap (λ x. x && true) live_first ∙ and-true (bit backslash 0 && not first)

@@ -16,15 +16,3 @@ grows_by a b c rows positions g e f u = record {
   positions = f ∙ ap (λ p. p ++ positions) g.positions ∙ append_assoc (written a.positions) g.more_positions positions;
   is_utf8 = u ∙ g.is_utf8;
 }
-
-pub grows_same : (a b c : Marks) → Grows a b → c.rows.items ≡ b.rows.items → (written c.positions) ≡ (written b.positions) → c.is_utf8 ≡ b.is_utf8 → Grows a c
-grows_same a b c g e f u = record {
-  more_rows = g.more_rows;
-  more_positions = g.more_positions;
-  rows = e ∙ g.rows;
-  positions = f ∙ g.positions;
-  is_utf8 = u ∙ g.is_utf8;
-}
-
-pub grows_then : (a b c : Marks) → Grows a b → Grows b c → Grows a c
-grows_then a b c g h = grows_by a b c h.more_rows h.more_positions g h.rows h.positions h.is_utf8

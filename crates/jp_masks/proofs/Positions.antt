@@ -1,8 +1,8 @@
 -- The positions of the set bits of a word, lowest first.
-use Rattle.std.proofs.Common.{◌≡◌, ℕ, zero, suc, ◌+◌, ◌-◌, ◌^◌, ◌<◌, ◌≤◌, ◌==◌, Bool, true, false, cond, List, [], ◌∷◌, ◌++◌, length, map, refl, sym, ap, ap₂, ◌∙◌, arith, w64, ◌⊎◌, inl, inr}
+use Rattle.std.proofs.Common.{◌≡◌, ℕ, zero, suc, ◌+◌, ◌-◌, ◌^◌, ◌<◌, ◌≤◌, ◌==◌, Bool, true, false, cond, List, [], ◌∷◌, ◌++◌, length, refl, sym, ap, ap₂, ◌∙◌, arith, w64, ◌⊎◌, inl, inr}
 use Rattle.std.specs.List.{filter, range_with_len}
 use Rattle.std.specs.Int.{trailing_zeros}
-use lib.Bits.{bit_and, and_le_r}
+use lib.Bits.{bit_and}
 use Rattle.std.proofs.lemmas.Bool.{cases_lt}
 use Rattle.std.proofs.lemmas.Bool.Decides.{eqb_tells}
 use Rattle.jp_lanes.specs.Word.{bit}
@@ -107,9 +107,6 @@ module _ (word : ℕ) (some : 0 < word) (small : word < 2 ^ 64) where
       go (inl is) = ap (bit word) is.1 ∙ lowest_set
       go (inr not_it) = sym (others_stay i not_it.1) ∙ set
 
-  pub less : without_lowest word < word
-  less = omega (arith, and_le_r word (word - 1))
-
   pub lowest_first : set_bits word ≡ trailing_zeros w64 word ∷ set_bits (without_lowest word)
   unfolding set_bits
   lowest_first =
@@ -132,10 +129,3 @@ length-filter_range p a (suc n) = one (p a) (length-filter_range p (a + 1) n)
 pub length-set_bits : (word : ℕ) → length (set_bits word) ≤ 64
 unfolding set_bits
 length-set_bits word = length-filter_range (bit word) 0 64
-
--- positions that are counted from 0
-pub from_first : (before positions : List ℕ) (base : ℕ) → before ++ map (λ i. base + i - 0) positions ≡ before ++ map (λ i. base + i) positions
-from_first before positions base = λ t. before ++ map (λ i. whole (base + i) t) positions
-  where
-    whole : (n : ℕ) → n - 0 ≡ n
-    whole n = omega arith

@@ -120,9 +120,6 @@ module _ (line : List ℕ) where
   and-false true = refl
   and-false false = refl
 
-  abbrev Known : ℕ → ℕ → Type 0
-  Known i b = byte i ≡ b
-
   class_of : (i b : ℕ) → byte i ≡ b → Class i (is_white b) (is_structural b) (is_quote b) (is_backslash b)
   class_of i b e = record { white = ap is_white e; structural = ap is_structural e; quote = ap is_quote e; backslash = ap is_backslash e }
 

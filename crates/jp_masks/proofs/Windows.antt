@@ -47,10 +47,6 @@ or-false : (a : Bool) → (a || false) ≡ a
 or-false true = refl
 or-false false = refl
 
-xor-false : (a : Bool) → xor a false ≡ a
-xor-false true = refl
-xor-false false = refl
-
 xor_shuffle : (a b c : Bool) → xor (xor a b) c ≡ xor (xor a c) b
 xor_shuffle = of_three (λ a b c. xor (xor a b) c ≡ xor (xor a c) b) refl refl refl refl refl refl refl refl
 
@@ -156,9 +152,6 @@ odd_double word k full odd even all tells i within =
     go : (i < k) ⊎ (k ≤ i) → (bit full i && bit (shifted k odd) i) ≡ (all_before word i k && odd_within word (i - k) k)
     go (inl low) = ap (λ x. x && bit (shifted k odd) i) (all i within ∙ all_before_short word i k low) ∙ ap (λ x. x && odd_within word (i - k) k) (sym (all_before_short word i k low))
     go (inr high) = ap₂ (λ x y. x && y) (all i within) (bit-shifted_high k odd i high within ∙ tells (i - k) (omega arith))
-
-abbrev pub full_1 : ℕ → ℕ
-full_1 word = shifted 1 word
 
 abbrev pub more_full : ℕ → ℕ → ℕ
 more_full k full = bit_and full (shifted k full)

@@ -1,16 +1,16 @@
 //! The marks of one line.
 
-ghost use Rattle.std.specs.Prelude.{◌≡◌, ℕ, ◌+◌, ◌*◌, ◌^◌, ◌<◌, ◌≤◌, List, ◌++◌, length, flat_map, nat_lt, IfOk};
+ghost use Rattle.std.specs.Prelude.{◌≡◌, ℕ, ◌+◌, ◌*◌, ◌^◌, ◌<◌, ◌≤◌, true, List, ◌++◌, map, length, flat_map, nat_lt, IfOk};
 ghost use Rattle.jp_model.specs.Json.Marks.{marks};
 ghost use Rattle.jp_model.specs.Json.Spelling.{Text};
 ghost use Rattle.jp_model.specs.Json.Tree.{Tree};
 ghost use Rattle.jp_masks.specs.Tokens.{tokens};
-ghost use Rattle.jp_lanes.specs.Word.{Says};
+ghost use Rattle.jp_lanes.specs.Word.{bit, Says};
 ghost use Rattle.jp_masks.specs.OneLine.{HasMarked};
-ghost use Rattle.jp_masks.specs.Written.{written};
+ghost use Rattle.jp_masks.specs.Positions.{set_bits};
 
-use crate::block::{Carry, scan_block};
-use crate::room::Positions;
+use crate::block::{BLOCK, Carry, scan_block};
+use arrayvec::ArrayVec;
 use jp_lanes::pad;
 use std::alloc::{AllocError, Global};
 
@@ -31,19 +31,33 @@ pub fn first_bits(count: usize) -> u64
     (1 << count) - 1
 }
 
+/// The positions of the marks of a block that begins at `base`, ascending.
+fn block_positions(base: u32, marks: u64) -> ArrayVec<u32, BLOCK>
+    requires { (i : ℕ) → i < 64 → bit marks i ≡ true → base + i < 2 ^ 32 }
+    ensures { result.items ≡ map (λ i. base + i) (set_bits marks) }
+{
+    let mut positions = ArrayVec::new();
+    let mut rest = marks;
+    while rest != 0 {
+        positions.push(base + rest.trailing_zeros());
+        rest &= rest - 1;
+    }
+    positions
+}
+
 /// Adds the marks of a whole block that begins at `base`, and returns what is known after it.
 fn mark_block(
-    positions: &mut Positions,
+    positions: &mut Vec<u32>,
     base: u32,
     known: Carry,
     block: &[u8; 64],
 ) -> Result<Carry, AllocError>
     requires { base + 64 ≤ 2 ^ 32 }
-    ensures { (read : List ℕ) → HasMarked read (written positions.old) known base
-        → IfOk result (λ next. HasMarked (read ++ block.now) (written positions.new) next (base + 64)) }
+    ensures { (read : List ℕ) → HasMarked read positions.old.items known base
+        → IfOk result (λ next. HasMarked (read ++ block.now) positions.new.items next (base + 64)) }
 {
     let found = scan_block(block, None, known);
-    positions.push_block(base, 0, found.marks)?;
+    positions.extend_from_slice(&block_positions(base, found.marks))?;
     Ok(found.next)
 }
 
@@ -57,7 +71,7 @@ pub fn line_marks(alloc: Global, line: &[u8]) -> Result<Vec<u32>, AllocError>
     ensures tokens { (t : Tree) (text : Text line.now t) → IfOk result (λ found. found.items ≡ tokens line.now t text.value) }
 {
     let (blocks, rest) = split_blocks(line);
-    let mut positions = Positions::new(alloc);
+    let mut positions = Vec::new(alloc);
     let mut known = Carry::START;
     let mut base = 0;
     for block in blocks {
@@ -65,6 +79,7 @@ pub fn line_marks(alloc: Global, line: &[u8]) -> Result<Vec<u32>, AllocError>
         base += 64;
     }
     let found = scan_block(&pad(rest), None, known);
-    positions.push_block(base, 0, found.marks & first_bits(rest.len()))?;
-    Ok(positions.into_vec())
+    let last = found.marks & first_bits(rest.len());
+    positions.extend_from_slice(&block_positions(base, last))?;
+    Ok(positions)
 }

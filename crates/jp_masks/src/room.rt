@@ -61,15 +61,6 @@ impl Positions {
         &self.room[..self.filled]
     }
 
-    /// All positions, in a list of their own.
-    pub fn into_vec(self) -> Vec<u32>
-        ensures { result.items ≡ written self }
-    {
-        let mut room = self.room;
-        room.truncate(self.filled);
-        room
-    }
-
     /// Makes room for the positions of some blocks.
     #[inline(never)]
     fn grow(&mut self) -> Result<(), AllocError>

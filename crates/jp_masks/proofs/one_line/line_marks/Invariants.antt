@@ -1,10 +1,9 @@
 use Rattle.std.proofs.Common.{◌≡◌, ◌*◌, take, flat_map}
-use Rattle.jp_masks.specs.Written.{written}
 use Rattle.jp_masks.specs.OneLine.{HasMarked}
 use Rattle.jp_masks.proofs.one_line.line_marks.Given as goal
 
 abbrev pub invariant-loop-block : goal.invariant-loop-block
 invariant-loop-block l = record {
-  marked : HasMarked (flat_map (λ b. b) (take l.block-index l.blocks)) (written l.positions) l.known l.base;
+  marked : HasMarked (flat_map (λ b. b) (take l.block-index l.blocks)) l.positions.items l.known l.base;
   base : l.base ≡ 64 * l.block-index;
 }
