@@ -1,17 +1,8 @@
 //! Which function of a query is the first that is unknown, or does not fit where it stands (RFC 9535, section 2.4.3).
 
 use crate::signature::{Kind, Signature, signature_of};
-use jp_query::{Argument, Call, Comparable, Logical, Segment, Selector, is_singular};
-
-/// Whether an argument may stand for a parameter, whatever the functions in it give.
-fn fits(argument: &Argument, parameter: Kind) -> bool {
-    match argument {
-        Argument::Constant(_) => parameter == Kind::Value,
-        Argument::Nodes(path) => parameter != Kind::Value || is_singular(&path.segments),
-        Argument::Condition(_) => parameter == Kind::Logical,
-        Argument::Result(_) => true,
-    }
-}
+use crate::typing::fits;
+use jp_query::{Argument, Call, Comparable, Logical, Segment, Selector};
 
 /// Whether a function gives what is wanted, and each argument may stand for its parameter.
 fn is_allowed(call: &Call, signature: Signature, wanted: Kind) -> bool {

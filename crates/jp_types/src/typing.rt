@@ -3,7 +3,7 @@
 ghost use Rattle.std.specs.Prelude.{◌≡◌, ◌&&◌, map};
 ghost use Rattle.jp_model.specs.Query.Typing.{segments_typed, selectors_typed, logical_typed, logicals_typed, comparable_typed, call_typed, call_serves, arguments_typed, argument_typed};
 ghost use Rattle.jp_query.specs.View.{segments_view, selectors_view, logical_view, logicals_view, comparable_view, call_view, arguments_view, argument_view};
-ghost use Rattle.jp_types.specs.Signatures.{kind_view};
+ghost use Rattle.jp_types.specs.Signatures.{fits, kind_view};
 
 use crate::signature::{Kind, signature_of};
 use jp_query::{Argument, Call, Comparable, Logical, Segment, Selector, is_singular};
@@ -110,16 +110,29 @@ fn arguments_typed(arguments: &[Argument], parameters: &[Kind]) -> bool
     true
 }
 
-#[cycle(typing)]
-fn argument_typed(argument: &Argument, kind: Kind) -> bool
-    ensures { result ≡ argument_typed (argument_view argument.now) (kind_view kind) }
+/// Whether an argument may stand for a parameter, whatever the functions in it give.
+pub(crate) fn fits(argument: &Argument, parameter: Kind) -> bool
+    ensures { result ≡ fits (argument_view argument.now) (kind_view parameter) }
 {
     match argument {
-        Argument::Constant(_) => kind == Kind::Value,
-        Argument::Nodes(path) => {
-            (kind != Kind::Value || is_singular(&path.segments)) && segments_typed(&path.segments)
-        }
-        Argument::Condition(condition) => kind == Kind::Logical && logical_typed(condition),
-        Argument::Result(call) => call_typed(call, kind),
+        Argument::Constant(_) => parameter == Kind::Value,
+        Argument::Nodes(path) => parameter != Kind::Value || is_singular(&path.segments),
+        Argument::Condition(_) => parameter == Kind::Logical,
+        Argument::Result(_) => true,
+    }
+}
+
+#[cycle(typing)]
+fn argument_typed(argument: &Argument, parameter: Kind) -> bool
+    ensures { result ≡ argument_typed (argument_view argument.now) (kind_view parameter) }
+{
+    if !fits(argument, parameter) {
+        return false;
+    }
+    match argument {
+        Argument::Constant(_) => true,
+        Argument::Nodes(path) => segments_typed(&path.segments),
+        Argument::Condition(condition) => logical_typed(condition),
+        Argument::Result(call) => call_typed(call, parameter),
     }
 }
