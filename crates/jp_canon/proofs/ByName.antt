@@ -8,8 +8,9 @@ use Rattle.std.proofs.lemmas.List.Sorted.{All-permutation, Contains-permutation,
 use Rattle.std.proofs.Math.Seq.{take-append_seam, drop-append_seam}
 use Rattle.std.proofs.lemmas.Slice.Eq.{bytes_eq-Decides}
 use Rattle.jp_canon.specs.Canonical.{Member, placed, by_name, member_texts}
-use Rattle.jp_canon.specs.declared.member.Member.{Member as Listed}
-use Rattle.jp_canon.specs.Members.{points, name_order, with_text, IsWithin, AppendsMembers, AppendsByName, SortsFrom}
+use Rattle.jp_values.specs.declared.member.Member.{Member as Listed}
+use Rattle.jp_values.specs.ByName.{points, by_name as name_order}
+use Rattle.jp_canon.specs.Members.{with_text, IsWithin, AppendsMembers, AppendsByName, SortsFrom}
 use Rattle.jp_canon.proofs.NameOrder.{less_is, less_trans, not_both, less_other}
 use Rattle.jp_model.specs.Characters.{text_equal}
 use Rattle.jp_model.specs.Json.Faults.{names, has_repeated, has_duplicate}

@@ -5,8 +5,9 @@ use Rattle.std.proofs.lemmas.List.{map-append}
 use Rattle.std.proofs.lemmas.List.Elements.{All-append, All-cons, All-nil}
 use Rattle.jp_canon.specs.Canonical as canonical
 use Rattle.jp_canon.specs.Canonical.{canonical_text, string_text, member_texts}
-use Rattle.jp_canon.specs.declared.member.Member.{Member}
-use Rattle.jp_canon.specs.Members.{points, with_text, IsWithin, AppendsMembers}
+use Rattle.jp_values.specs.declared.member.Member.{Member}
+use Rattle.jp_values.specs.ByName.{points}
+use Rattle.jp_canon.specs.Members.{with_text, IsWithin, AppendsMembers}
 use Rattle.jp_model.specs.Json.Tree.{Tree, Children, no_child, child, Name}
 use Rattle.jp_tape.specs.declared.cursor.Cursor.{Cursor}
 use Rattle.jp_tape.specs.Cursors.{node_of, name_of, children_from, children_after}

@@ -7,7 +7,7 @@ use Rattle.std.proofs.lemmas.Simd.{map-map}
 use Rattle.std.proofs.Math.Seq.{drop-append_seam}
 use Rattle.jp_canon.specs.Canonical as canonical
 use Rattle.jp_canon.specs.Canonical.{member_texts, by_name}
-use Rattle.jp_canon.specs.declared.member.Member.{Member}
+use Rattle.jp_values.specs.declared.member.Member.{Member}
 use Rattle.jp_canon.specs.Members.{with_text, text_of, IsWithin, AppendsByName}
 use Rattle.jp_canon.proofs.Joined.{comma, joined_from, turn_joined, all_joined, between_brackets}
 use Rattle.jp_model.specs.Json.Tree.{Children}

@@ -4,8 +4,9 @@ use Rattle.std.specs.Prelude.{IsPermutation, IsSorted}
 use Rattle.std.proofs.lemmas.List.{drop_all, take_all, take-append-le, length-take-le}
 use Rattle.std.proofs.lemmas.List.Sorted.{length_permutation}
 use borrow.Rule.Slice.PartMut.{put_mid}
-use Rattle.jp_canon.specs.declared.member.Member.{Member}
-use Rattle.jp_canon.specs.Members.{name_order, SortsFrom}
+use Rattle.jp_values.specs.declared.member.Member.{Member}
+use Rattle.jp_canon.specs.Members.{SortsFrom}
+use Rattle.jp_values.specs.ByName.{by_name as name_order}
 
 -- a list that was written back over another of its length
 written : {X : Type 0} (all old : List X) (n : ℕ) → length all ≡ n → take n (all ++ drop (length all) old) ≡ all

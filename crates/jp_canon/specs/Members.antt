@@ -1,28 +1,12 @@
 -- The members of an object as they are listed, with their nodes, and sorted by their names.
 use Rattle.std.specs.Prelude.{◌≡◌, ℕ, ◌≤◌, ◌∷◌, ◌++◌, List, map, take, drop, All, IsSorted, IsPermutation}
-use Rattle.std.specs.declared.cmp.Ordering.{Ordering}
-use Rattle.std.specs.Ordering.{nat_cmp}
-use Rattle.std.specs.Cmp.{IsTotalOrder, on_total}
-use Rattle.std.specs.Cmp.Lexicographic.{slice_cmp, nat_list_cmp_total}
 use Rattle.jp_canon.specs.Canonical as canonical
 use Rattle.jp_canon.specs.Canonical.{canonical_text, string_text, member_texts, by_name}
-use Rattle.jp_canon.specs.declared.member.Member.{Member}
 use Rattle.jp_model.specs.Json.Tree.{Children}
-use Rattle.jp_strings.specs.Points.{points_of}
 use Rattle.jp_tape.specs.Cursors.{node_of}
 use Rattle.jp_tape.specs.Words.{node_count, children_node_count}
-
--- the scalars of the name
-abbrev pub points : Member → List ℕ
-points m = points_of m.name.now
-
--- members are ordered by the scalars of their names
-abbrev pub name_order : Member → Member → Ordering
-name_order a b = slice_cmp nat_cmp (points a) (points b)
-
--- that order is total
-pub names_total : IsTotalOrder name_order
-names_total = on_total points nat_list_cmp_total
+use Rattle.jp_values.specs.ByName.{points, by_name as name_order}
+use Rattle.jp_values.specs.declared.member.Member.{Member}
 
 -- a listed member with its text
 abbrev pub with_text : Member → canonical.Member

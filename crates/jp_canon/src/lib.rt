@@ -15,7 +15,6 @@
 #![tactic(auto)]
 
 mod layout;
-mod member;
 mod members;
 mod printer;
 mod string;

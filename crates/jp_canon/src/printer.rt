@@ -8,10 +8,10 @@ ghost use Rattle.jp_tape.specs.Cursors.{node_of};
 ghost use Rattle.jp_tape.specs.Spots.{children_in};
 
 use crate::layout::append_number;
-use crate::member::Member;
 use crate::members::append_by_name;
 use crate::string::append_string;
 use jp_tape::{Cursor, Kind};
+use jp_values::Member;
 use std::alloc::{AllocError, Global};
 
 /// Appends a comma, but not before the first of some elements or members.

@@ -1,27 +1,17 @@
 -- Elements and members, one at a time.
-use Rattle.std.proofs.Common.{◌≡◌, ℕ, ◌&&◌, nat_eq, Bool, true, false, if◌then◌else◌, List, sym, ◌∙◌, ap, ap₂, refl, Option, Some, None}
+use Rattle.std.proofs.Common.{◌≡◌, ℕ, ◌&&◌, Bool, true, false, if◌then◌else◌, List, sym, ◌∙◌, ap, refl, Option, Some, None}
 use Rattle.std.specs.Prelude.{option_map}
 use Rattle.jp_model.specs.Characters.{text_equal}
-use Rattle.jp_model.specs.Json.Tree.{Tree, Value, null, boolean, number, string, container, Container, array, object, Children, no_child, child, node, value_of, Name, count_children}
-use Rattle.jp_model.specs.Meaning.Compare.{values_equal, elements_equal, members_within, member_passes}
+use Rattle.jp_model.specs.Json.Tree.{Tree, Value, null, boolean, number, string, container, array, object, Children, no_child, child, node, value_of, Name}
+use Rattle.jp_model.specs.Meaning.Compare.{values_equal, members_within, member_passes}
 use Rattle.jp_tape.specs.declared.Kind.TheVariants as kinds
 use Rattle.jp_tape.specs.declared.cursor.Cursor.{Cursor}
 use Rattle.jp_tape.specs.Cursors.{node_of, name_of, children_from, children_after}
-use Rattle.jp_tape.specs.Kinds.{container_kind, kind_of}
-use Rattle.jp_tape.specs.Spots.{children_in}
+use Rattle.jp_tape.specs.Kinds.{kind_of}
 use Rattle.jp_values.specs.Members.{member_named}
 use Rattle.jp_values.specs.Scalars.{scalar_in, scalars_equal}
 
 -- ---- elements
-
-pub elements_step : (a b : Option Name) (t u : Tree) (xs ys : Children) → elements_equal (child a t xs) (child b u ys) ≡ values_equal (value_of t) (value_of u) && elements_equal xs ys
-elements_step a b (node s x) (node r y) xs ys = refl
-
-pub elements_left : (a : Option Name) (t : Tree) (xs : Children) → elements_equal (child a t xs) no_child ≡ false
-elements_left a (node s x) xs = refl
-
-pub elements_right : (b : Option Name) (u : Tree) (ys : Children) → elements_equal no_child (child b u ys) ≡ false
-elements_right b (node s y) ys = refl
 
 -- ---- members
 
@@ -43,29 +33,6 @@ pub members_nameless : (t : Tree) (xs ys : Children) → members_within (child N
 members_nameless (node s x) xs ys = refl
 
 -- ---- by kinds
-
--- what is of the kind of an array, or of an object, is one
-container_of : (kind : Container) (v : Value) → kind_of v ≡ container_kind kind → v ≡ container kind (children_in v)
-container_of array (container array xs) h = refl
-container_of array (container object xs) h = absurd (cc)
-container_of array null h = absurd (cc)
-container_of array (boolean true) h = absurd (cc)
-container_of array (boolean false) h = absurd (cc)
-container_of array (number m e) h = absurd (cc)
-container_of array (string points) h = absurd (cc)
-container_of object (container object xs) h = refl
-container_of object (container array xs) h = absurd (cc)
-container_of object null h = absurd (cc)
-container_of object (boolean true) h = absurd (cc)
-container_of object (boolean false) h = absurd (cc)
-container_of object (number m e) h = absurd (cc)
-container_of object (string points) h = absurd (cc)
-
-pub arrays_equal : (v w : Value) → kind_of v ≡ kinds.Array → kind_of w ≡ kinds.Array → elements_equal (children_in v) (children_in w) ≡ values_equal v w
-arrays_equal v w a b = sym (ap₂ values_equal (container_of array v a) (container_of array w b))
-
-pub objects_equal : (v w : Value) → kind_of v ≡ kinds.Object → kind_of w ≡ kinds.Object → nat_eq (count_children (children_in v)) (count_children (children_in w)) && members_within (children_in v) (children_in w) ≡ values_equal v w
-objects_equal v w a b = sym (ap₂ values_equal (container_of object v a) (container_of object w b))
 
 pub leaves_equal : (v w : Value) → (kind_of v ≡ kinds.Array → kind_of w ≡ kinds.Array → ⊥) → (kind_of v ≡ kinds.Object → kind_of w ≡ kinds.Object → ⊥) → scalars_equal (scalar_in v) (scalar_in w) ≡ values_equal v w
 leaves_equal (container array xs) (container array ys) a o = absurd (a refl refl)

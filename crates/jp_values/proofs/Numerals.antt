@@ -1,16 +1,13 @@
 -- The digits of a count are read as the count, and orders the other way round.
-use Rattle.std.proofs.Common.{◌≡◌, ℕ, zero, suc, ltb, ◌<◌, ◌^◌, Bool, true, false, cond, List, [], ◌∷◌, length, get_or, sym, ◌∙◌, ap, ap₂, refl, arith, ℤ, pos, negsuc, None, decimal, append-nil}
-use Rattle.std.specs.Ordering.{int_cmp, ordering_reverse}
+use Rattle.std.proofs.Common.{◌≡◌, ℕ, zero, suc, ◌<◌, ◌^◌, false, List, [], ◌∷◌, length, get_or, sym, ◌∙◌, ap, ap₂, arith, ℤ, pos, None, decimal, append-nil}
 use Rattle.std.proofs.lemmas.Bool.{ne_eqb}
-use Rattle.std.proofs.lemmas.Bool.Decides.{nat_tests}
-use Rattle.std.proofs.lemmas.Cmp.{int_cmp_total}
 use Rattle.std.proofs.lemmas.Fmt.{digits_decimal, digits_value-decimal, decimal_nonempty, first_decimal, decimal_digit}
 use Rattle.jp_model.proofs.Digits.{digits_model}
 use Rattle.jp_model.specs.Characters.{digits_value}
-use Rattle.jp_model.specs.Json.Numbers.{Numeral, IsNumeral, IsInt, AreDigits, numeral_bytes, numeral_of, is_long_exponent, mantissa, scale, smaller, brought_to}
+use Rattle.jp_model.specs.Json.Numbers.{Numeral, IsNumeral, IsInt, AreDigits, numeral_bytes, numeral_of, is_long_exponent, mantissa, scale}
 use Rattle.jp_model.proofs.Reader.Numbers.{parts_read}
 use Rattle.jp_model.proofs.Reader.Lexical.{clash}
-use Rattle.jp_decimal.specs.Values.{Number, order}
+use Rattle.jp_decimal.specs.Values.{Number}
 use Rattle.jp_decimal.specs.Reading.{ReadsAs, RefusesNumber}
 use Rattle.jp_decimal.specs.declared.fault.NumberFault.{NumberFault}
 use Rattle.jp_decimal.specs.declared.fault.NumberFault.TheVariants.{Shape, Exponent}
@@ -62,21 +59,3 @@ count_is n h = record { value = value; read = read }
     read Exponent r = clash _ r.long (ap is_long_exponent (sym r.spells.only ∙ parts))
 
 -- ---- orders
-
-either : (p q : Bool) {x y : ℤ} → (p ≡ true → q ≡ true → ⊥) → (p ≡ false → q ≡ false → x ≡ y) → cond p x y ≡ cond q y x
-either true true n s = absurd (n refl refl)
-either true false n s = refl
-either false true n s = refl
-either false false n s = sym (s refl refl)
-
-smaller-comm : (a b : ℤ) → smaller a b ≡ smaller b a
-smaller-comm (pos a) (pos b) = either (ltb a b) (ltb b a) (λ p q. grind (arith, nat_tests, p, q)) (λ p q. ap pos (grind (arith, nat_tests, p, q)))
-smaller-comm (pos a) (negsuc b) = refl
-smaller-comm (negsuc a) (pos b) = refl
-smaller-comm (negsuc a) (negsuc b) = either (ltb b a) (ltb a b) (λ p q. grind (arith, nat_tests, p, q)) (λ p q. ap negsuc (grind (arith, nat_tests, p, q)))
-
-pub order_reversed : (x y : Number) → order x y ≡ ordering_reverse (order y x)
-order_reversed x y =
-    let least : ℤ = smaller x.scale y.scale in
-    int_cmp_total.antisymm (brought_to least x.mantissa x.scale) (brought_to least y.mantissa y.scale)
-    ∙ ap (λ s. ordering_reverse (int_cmp (brought_to s y.mantissa y.scale) (brought_to s x.mantissa x.scale))) (smaller-comm x.scale y.scale)

@@ -7,6 +7,7 @@
 //!   sides
 //! - `Value::read`: the side with the number of its node read
 //! - `equal_in`, `compare_in`: the same answers, with memory for large objects whose members come in different orders
+//! - `Member`: a member of an object, ordered by the scalars of its name
 //! - `key_of`, `key_of_literal`, `Key`: one key for all equal values that are neither arrays nor objects, ordered as these
 #![tactic(auto)]
 
@@ -31,4 +32,5 @@ pub use equality::equal;
 pub use equality_in::equal_in;
 pub use key::Key;
 pub use keys::{key_of, key_of_literal};
+pub use member::Member;
 pub use value::Value;

@@ -7,13 +7,15 @@ ghost use Rattle.jp_strings.specs.Points.{IsText, is_text_from};
 use jp_strings::is_plain;
 use jp_tape::Cursor;
 
-/// A member of an object, with the body of its name. Whether the name is plain is found once, so that names are compared no
-/// further than they agree.
+/// A member of an object, with the body of its name. Members are ordered by the scalars of their names (RFC 9535, section
+/// 2.3.5.2.2). Whether the name is plain is found once, so that names are compared no further than they agree.
 #[derive(Clone, Copy)]
-pub(crate) struct Member<'a> {
+pub struct Member<'a> {
+    /// The body of its name.
     pub name: &'a [u8],
     /// Each character of the name stands for itself.
-    pub is_plain: bool,
+    pub(crate) is_plain: bool,
+    /// The node of its value.
     pub node: Cursor<'a>,
     ghost is_text: { IsTrue (is_text_from name.now 0) },
     ghost stands_for_itself: { IsTrue is_plain → ArePlain name.now 0 (length name.now) },

@@ -1,6 +1,6 @@
 -- Each member that has a name is listed behind those in front of it.
 use Rattle.std.proofs.Common.{◌∙◌, List, ℕ, Some, sym, ap, subst, Option}
-use Rattle.jp_canon.specs.declared.member.Member.{Member}
+use Rattle.jp_values.specs.declared.member.Member.{Member}
 use Rattle.jp_canon.proofs.Listed.{Listed, listed_none, listed_named, listed_nameless, listed_all}
 use Rattle.jp_model.specs.Json.Tree.{Children, value_of}
 use Rattle.jp_strings.specs.Points.{points_of}

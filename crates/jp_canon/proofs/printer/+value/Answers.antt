@@ -1,7 +1,7 @@
 -- Elements and members are printed one behind the other.
 use Rattle.std.proofs.Common.{◌≡◌, ◌++◌, ◌∙◌, ℕ, ◌≤◌, ◌<◌, false, List, length, get_or, sym, ap, arith, Option}
 use Rattle.jp_canon.specs.Canonical.{canonical_text, element_texts}
-use Rattle.jp_canon.specs.declared.member.Member.{Member}
+use Rattle.jp_values.specs.declared.member.Member.{Member}
 use Rattle.jp_canon.specs.Members.{IsWithin}
 use Rattle.jp_canon.proofs.Joined.{joined_from, turn_joined}
 use Rattle.jp_canon.proofs.Printed.{one_within, turn_printed, all_printed}
