@@ -1,7 +1,6 @@
 -- Words of sets of positions.
-use Rattle.std.proofs.Common.{◌≡◌, ◌≢◌, ℕ, zero, suc, ◌+◌, ◌-◌, ◌*◌, ◌/◌, ◌%◌, ◌^◌, ◌<◌, ◌≤◌, ◌⊎◌, inl, inr, List, [], ◌∷◌, ◌++◌, length, replicate, get_or, set, bit_or, max, min, w64, arith, refl, sym, ◌∙◌, ap, get_or-set_same, get_or-set_other, subst}
+use Rattle.std.proofs.Common.{◌≡◌, ◌≢◌, ℕ, zero, suc, ◌+◌, ◌-◌, ◌*◌, ◌/◌, ◌%◌, ◌^◌, ◌<◌, ◌≤◌, ◌⊎◌, inl, inr, List, [], ◌∷◌, ◌++◌, length, get_or, bit_or, max, min, w64, arith, refl, sym, ◌∙◌, ap, subst}
 use Rattle.std.proofs.lemmas.Bool.{le-leb, lt-leb}
-use Rattle.std.proofs.lemmas.List.{get_or_append_left, get_or-append_right, get_or-replicate, length-replicate}
 use Rattle.std.specs.Int.{bit_at, bit_not, trailing_zeros}
 use Rattle.std.specs.Int.Bits.{or_zero_r}
 use lib.Bits.{bit_and}
@@ -49,9 +48,6 @@ word_before first words w l = rw (lt-leb first w l) refl
 pub word_behind : (first : ℕ) (words : List ℕ) (w : ℕ) → first + length words ≤ w → word_of first words w ≡ 0
 word_behind first words w l = word_in first words w (omega (arith, l)) ∙ get_or-eq_default words 0 (omega (arith, l))
 
-pub word_none : (first w : ℕ) → word_of first [] w ≡ 0
-word_none first w = elim (below_or_not w first) [ inl l ↦ word_before first [] w l | inr l ↦ word_behind first [] w (omega (arith, l)) ]
-
 pub word_kept : (first : ℕ) (words : List ℕ) (i : ℕ) → word_of first words (first + i) ≡ get_or words i 0
 word_kept first words i =
     let at : first + i - first ≡ i = omega arith in
@@ -68,43 +64,6 @@ pub word_pushed : (first : ℕ) (words : List ℕ) (w : ℕ) → word_of first (
 word_pushed first words w = elim (below_or_not w first) [
   | inl l ↦ word_before first (words ++ 0 ∷ []) w l ∙ sym (word_before first words w l)
   | inr l ↦ word_in first (words ++ 0 ∷ []) w l ∙ one_zero_more words (w - first) ∙ sym (word_in first words w l)
-]
-
--- nor do zeros in front of them
-pub word_lowered : (first old : ℕ) (words : List ℕ) (w : ℕ) → first ≤ old → word_of first (replicate (old - first) 0 ++ words) w ≡ word_of old words w
-word_lowered first old words w low = elim (below_or_not w old) [
-  | inl l ↦ front l ∙ sym (word_before old words w l)
-  | inr l ↦
-      (let at : w - first - (old - first) ≡ w - old = omega (arith, l, low) in
-      word_in first (replicate (old - first) 0 ++ words) w (omega (arith, l, low))
-      ∙ get_or-append_right (replicate (old - first) 0) words (old - first) (w - first) 0 (length-replicate {A = ℕ} (old - first) 0) (omega (arith, l, low))
-      ∙ ap (λ k. get_or words k 0) at ∙ sym (word_in old words w l))
-]
-  where
-    front : w < old → word_of first (replicate (old - first) 0 ++ words) w ≡ 0
-    front l = elim (below_or_not w first) [
-      | inl k ↦ word_before first (replicate (old - first) 0 ++ words) w k
-      | inr k ↦
-          (let size = length-replicate {A = ℕ} (old - first) 0 in
-          word_in first (replicate (old - first) 0 ++ words) w k
-          ∙ get_or_append_left (replicate (old - first) 0) words 0 (w - first) (omega (arith, l, k, size))
-          ∙ get_or-replicate (old - first) (w - first) 0 0 (omega (arith, l, k)))
-    ]
-
--- one word is changed
-pub word_set : (first : ℕ) (words : List ℕ) (w bits : ℕ) → first ≤ w → w < first + length words → word_of first (set words (w - first) (bit_or (get_or words (w - first) 0) bits)) w ≡ bit_or (word_of first words w) bits
-word_set first words w bits low high =
-    let inside : w - first < length words = omega (arith, low, high) in
-    word_in first (set words (w - first) (bit_or (get_or words (w - first) 0) bits)) w low
-    ∙ get_or-set_same words (w - first) (bit_or (get_or words (w - first) 0) bits) 0 inside
-    ∙ ap (λ k. bit_or k bits) (sym (word_in first words w low))
-
-pub word_other : (first : ℕ) (words : List ℕ) (w x v : ℕ) → first ≤ w → v ≢ w → word_of first (set words (w - first) x) v ≡ word_of first words v
-word_other first words w x v low other = elim (below_or_not v first) [
-  | inl l ↦ word_before first (set words (w - first) x) v l ∙ sym (word_before first words v l)
-  | inr l ↦
-      (let apart : v - first ≢ w - first = λ e. other (omega (arith, e, l, low)) in
-      word_in first (set words (w - first) x) v l ∙ rw get_or-set_other refl ∙ sym (word_in first words v l))
 ]
 
 -- ---- bits put into a word

@@ -1,11 +1,11 @@
 -- Parts with their tables, as a row and as a list.
 use Rattle.std.proofs.Common.{◌≡◌, ℕ, zero, suc, ◌+◌, ◌<◌, List, [], ◌∷◌, ◌++◌, length, take, map, get_or, arith, refl, sym, ◌∙◌, ap, subst, Global, Vec}
-use Rattle.std.proofs.lemmas.List.{take_more, map-append}
+use Rattle.std.proofs.lemmas.List.{map-append}
 use Rattle.jp_model.specs.Pattern.Tree.{Pattern, empty, followed_by, never, either_of}
 use Rattle.jp_iregexp.specs.declared.node.Node.{Node, Sequence, Choice, Row_of-Node, end_of-Node, more_of-Node, items-the_row-Node, items_hidden-the_row-Node-0}
 use Rattle.jp_iregexp.specs.Tables.{Kept, KeptParts, KeptList}
 use Rattle.jp_iregexp.specs.Nodes.{tree_of, sequence_list, choice_list}
-use Rattle.jp_iregexp.proofs.Parts.{row_of, tree_of_Sequence, tree_of_Choice}
+use Rattle.jp_iregexp.proofs.Parts.{row_of, take_item, tree_of_Sequence, tree_of_Choice}
 
 list_kept : (text : List ℕ) (n : _) (row : Row_of-Node n) → KeptParts text row → KeptList text (items-the_row-Node n row)
 list_kept text n end_of-Node k = tt
@@ -68,9 +68,6 @@ same_sequence made parts e =
 pub same_choice : (made parts : Vec Node Global) → map tree_of made.items ≡ map tree_of parts.items → tree_of (Choice made) ≡ tree_of (Choice parts)
 same_choice made parts e =
     tree_of_Choice made ∙ choice_trees made.items ∙ ap in_choice e ∙ sym (tree_of_Choice parts ∙ choice_trees parts.items)
-
-take_item : (parts : List Node) (i : ℕ) (part : Node) → i < length parts → part ≡ get_or parts i part → take (i + 1) parts ≡ take i parts ++ part ∷ []
-take_item parts i part l is = take_more parts i part l ∙ ap (λ p. take i parts ++ p ∷ []) (sym is)
 
 -- one more of the parts
 pub kept_more : (text : List ℕ) (parts : List Node) (i : ℕ) (part : Node) → i < length parts → part ≡ get_or parts i part → KeptList text (take i parts) → Kept text part → KeptList text (take (i + 1) parts)

@@ -2,11 +2,8 @@
 use Rattle.std.proofs.Common.{◌≡◌, ℕ, zero, suc, ◌^◌, ◌<◌, ◌≤◌, ◌↔◌, Bool, List, [], ◌∷◌, ◌++◌, ◌+◌, length, drop, get_or, add-one, drop-cons, Some, arith, refl, sym, ◌∙◌, ap, subst, append-nil}
 use Rattle.std.proofs.lemmas.Nat.Bits.{bit_at-zero}
 use Rattle.std.proofs.lemmas.List.{length_push}
-use Rattle.jp_iregexp.specs.States.{State, state_at, Passes, Leads, IsStep, entry, IsLaidOut}
+use Rattle.jp_iregexp.specs.States.{State, state_at, Leads, IsStep, through, IsLaidOut}
 use Rattle.jp_iregexp.proofs.Sums.{enter, entered, only_one}
-
-passes_map : (states : List State) (set c : ℕ) (P Q : ℕ → Type 0) → ((behind : ℕ) → P behind → Q behind) → Passes states set c P → Passes states set c Q
-passes_map states set c P Q f h = record { number = h.number; state = h.state; is = h.is; waits = h.waits; has = h.has; rest = f h.state.behind h.rest }
 
 there : (states : List State) (set next c : ℕ) (text : List ℕ) → IsStep states set c next → Leads states set (c ∷ text) → Leads states next text
 there states set next c [] s h = (s 63).1 h
@@ -24,7 +21,7 @@ back states set next c (d ∷ text) s h =
 pub stepped : (states : List State) (set next c : ℕ) (text : List ℕ) → IsStep states set c next → Leads states set (c ∷ text) ↔ Leads states next text
 stepped states set next c text s = (there states set next c text s, back states set next c text s)
 
-inside : (states : List State) (p : ℕ) (w : State) → state_at states p ≡ Some w → p < length states
+pub inside : (states : List State) (p : ℕ) (w : State) → state_at states p ≡ Some w → p < length states
 inside [] p w is = absurd (cc)
 inside (x ∷ states) zero w is = omega arith
 inside (x ∷ states) (suc p) w is = (let l = inside states p w is in omega (arith, l))
@@ -43,14 +40,11 @@ alone : (Member : List ℕ → Type 0) (text front rest : List ℕ) → text ≡
 alone Member text front rest is none m = subst Member (sym (is ∙ ap (λ x. front ++ x) none ∙ append-nil front)) m
 
 -- what is laid out in front of the end leads where the text is a member
-pub whole : (states : List State) (Member : List ℕ → Type 0) (first : ℕ) (e : Bool) → length states ≤ 63 → IsLaidOut states Member (2 ^ 63) first e → (text : List ℕ) → Leads states (entry e first (2 ^ 63)) text ↔ Member text
-whole states Member first e few a text =
-    let none = append-nil states in (
-      (λ h. let s = enter states [] Member (2 ^ 63) first e a text (subst (λ ps. Leads ps (entry e first (2 ^ 63)) text) (sym none) h) in
-          alone Member text s.front s.rest s.is (at_end states s.rest few (subst (λ ps. Leads ps (2 ^ 63) s.rest) none s.second)) s.first),
-      (λ m. subst (λ ps. Leads ps (entry e first (2 ^ 63)) text) none
-          (entered states [] Member (2 ^ 63) first e a text (record { front = text; rest = []; is = sym (append-nil text); first = m; second = subst (λ ps. Leads ps (2 ^ 63) []) (sym none) (from_end states) }))),
-    )
+pub whole : (states : List State) (Member : List ℕ → Type 0) (first : ℕ) (e : Bool) → length states ≤ 63 → IsLaidOut states Member (2 ^ 63) first e → (text : List ℕ) → Leads states (through e first (2 ^ 63)) text ↔ Member text
+whole states Member first e few a text = (
+  (λ h. let s = enter states Member (2 ^ 63) first e a text h in alone Member text s.front s.rest s.is (at_end states s.rest few s.second) s.first),
+  (λ m. entered states Member (2 ^ 63) first e a text (record { front = text; rest = []; is = sym (append-nil text); first = m; second = from_end states })),
+)
 
 pub next_scalar : (text : List ℕ) (i c : ℕ) → i < length text → c ≡ get_or text i c → drop i text ≡ c ∷ drop (i + 1) text
 next_scalar text i c inside e = rw add-one (drop-cons text i c inside ∙ ap (λ p. p ∷ drop (suc i) text) (sym e))

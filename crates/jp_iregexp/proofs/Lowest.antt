@@ -1,11 +1,10 @@
 -- The lowest bit of a set.
-use Rattle.std.proofs.Common.{◌≡◌, ℕ, ◌-◌, ◌^◌, ◌<◌, ◌⊎◌, inl, inr, IsTrue, List, Some, bit_or, w64, refl, sym, subst, ◌∙◌, arith}
+use Rattle.std.proofs.Common.{◌≡◌, ℕ, ◌-◌, ◌^◌, ◌<◌, ◌⊎◌, inl, inr, IsTrue, List, Some, bit_or, w64, refl, sym, subst, ◌∙◌}
 use Rattle.std.specs.Int.{trailing_zeros}
 use lib.Bits.{bit_and}
-use Rattle.std.proofs.lemmas.Nat.Bits.{bit_at-zero}
 use Rattle.jp_model.proofs.LowestBit.{lowest, is_kept}
 use Rattle.jp_model.specs.Pattern.Classes.{in_class}
-use Rattle.jp_iregexp.specs.States.{State, HasState, state_at, Passes, IsStep, IsPassed}
+use Rattle.jp_iregexp.specs.States.{State, HasState, state_at, Passes, IsPassed}
 use Rattle.jp_iregexp.proofs.Sums.{same_or_not, holds_either, holds_left, holds_right, some_same}
 
 module _ (word : ℕ) (some : 0 < word) (small : word < 2 ^ 64) where
@@ -24,12 +23,6 @@ pub record IsPartStep (states : List State) (set scalar rest next : ℕ) : Type 
   pub sound : (q : ℕ) → HasState next q → Passes states set scalar (λ behind. HasState behind q)
   pub left : (p : ℕ) → HasState rest p → HasState set p
   pub complete : (q : ℕ) → Passes states set scalar (λ behind. HasState behind q) → HasState next q ⊎ Passes states rest scalar (λ behind. HasState behind q)
-
-pub start_step : (states : List State) (set scalar : ℕ) → IsPartStep states set scalar set 0
-start_step states set scalar = record { sound = λ q h. absurd (let z = bit_at-zero q in omega (arith, z, h)); left = λ p h. h; complete = λ q h. inr h }
-
-pub end_step : (states : List State) (set scalar next : ℕ) → IsPartStep states set scalar 0 next → IsStep states set scalar next
-end_step states set scalar next s = λ q. (s.sound q, λ h. elim (s.complete q h) [ inl i ↦ i | inr r ↦ absurd (let z = bit_at-zero r.number in let w = r.waits in omega (arith, z, w)) ])
 
 module _ (states : List State) (set scalar rest next : ℕ) (some : 0 < rest) (small : rest < 2 ^ 64) (s : IsPartStep states set scalar rest next) where
   moved : (q : ℕ) (r : Passes states rest scalar (λ behind. HasState behind q)) → (r.number ≡ trailing_zeros w64 rest → ⊥) → Passes states (bit_and rest (rest - 1)) scalar (λ behind. HasState behind q)

@@ -1,6 +1,7 @@
 -- The parts of a node, as a row and as a list.
 use mathlib.Core.Former.{Count}
-use Rattle.std.proofs.Common.{◌≡◌, ℕ, zero, suc, ◌+◌, ◌<◌, ◌≤◌, List, [], ◌∷◌, length, drop, get_or, arith, refl, sym, ◌∙◌, ap, add-one, drop-cons, Global, Vec, Result, Ok, Err, IfOk}
+use Rattle.std.proofs.Common.{◌≡◌, ℕ, zero, suc, ◌+◌, ◌<◌, ◌≤◌, List, [], ◌∷◌, ◌++◌, length, drop, take, get_or, arith, refl, sym, ◌∙◌, ap, add-one, drop-cons, Global, Vec, Result, Ok, Err, IfOk}
+use Rattle.std.proofs.lemmas.List.{take_more}
 use Rattle.jp_iregexp.specs.declared.node.Node.{Node, Sequence, Choice, Sequence', Choice', Row_of-Node, end_of-Node, more_of-Node, items-the_row-Node, items_hidden-the_row-Node-0}
 use Rattle.jp_model.specs.Pattern.Tree.{followed_by, either_of}
 use Rattle.jp_iregexp.specs.Nodes.{tree_of, sequence_of, choice_of, sequence_list, choice_list}
@@ -37,6 +38,9 @@ drop_past [] zero l = refl
 drop_past [] (suc i) l = refl
 drop_past (part ∷ parts) zero l = absurd (omega arith)
 drop_past (part ∷ parts) (suc i) l = drop_past parts i (omega arith)
+
+pub take_item : (parts : List Node) (i : ℕ) (part : Node) → i < length parts → part ≡ get_or parts i part → take (i + 1) parts ≡ take i parts ++ part ∷ []
+take_item parts i part l is = take_more parts i part l ∙ ap (λ p. take i parts ++ p ∷ []) (sym is)
 
 -- what follows of each value of an `Ok`
 pub if_ok_map : {A E : Type 0} (P Q : A → Type 0) (r : Result A E) → ((v : A) → P v → Q v) → IfOk r P → IfOk r Q

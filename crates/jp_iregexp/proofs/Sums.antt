@@ -1,11 +1,11 @@
 -- How the states of parts make those of the whole.
 use Rattle.std.proofs.Common.{◌≡◌, ◌≢◌, ℕ, zero, suc, ◌+◌, ◌^◌, ◌<◌, ◌≤◌, ◌⊎◌, inl, inr, Bool, true, false, ◌&&◌, ◌||◌, IsTrue, List, [], ◌∷◌, ◌++◌, length, Some, None, bit_or, arith, refl, sym, ◌∙◌, ap, subst, append_assoc, append-nil, length-append}
 use Rattle.std.specs.Int.{bit_at}
-use Rattle.std.proofs.lemmas.Nat.Bits.{bit_at_or, bit_at-lt, bit_at-zero, bit_at-pow_same, bit_at-pow_other}
+use Rattle.std.proofs.lemmas.Nat.Bits.{bit_at_or, bit_at-lt, bit_at-pow_same, bit_at-pow_other}
 use Rattle.jp_model.specs.Pattern.Tree.{CharClass}
 use Rattle.jp_model.specs.Pattern.Classes.{in_class}
 use Rattle.jp_model.specs.Pattern.Language.{IsOne, Splits, Repeats, RepeatsWithin}
-use Rattle.jp_iregexp.specs.States.{State, HasState, state_at, Leads, SplitsBehind, entry, IsLaidOut}
+use Rattle.jp_iregexp.specs.States.{State, HasState, state_at, Leads, SplitsBehind, through, IsLaidOut}
 
 -- ---- sets
 
@@ -51,49 +51,34 @@ to_splits c text s = record { front = c ∷ s.front; rest = s.rest; is = ap (λ 
 all_rest : {First Second : List ℕ → Type 0} (text : List ℕ) → First [] → Second text → Splits First Second text
 all_rest text f s = record { front = []; rest = text; is = refl; first = f; second = s }
 
-module _ (states more : List State) (Member : List ℕ → Type 0) (behind first : ℕ) where
-  pub enter : (e : Bool) → IsLaidOut states Member behind first e → (text : List ℕ) → Leads (states ++ more) (entry e first behind) text → Splits Member (Leads (states ++ more) behind) text
+module _ (states : List State) (Member : List ℕ → Type 0) (behind first : ℕ) where
+  pub enter : (e : Bool) → IsLaidOut states Member behind first e → (text : List ℕ) → Leads states (through e first behind) text → Splits Member (Leads states behind) text
   enter false a [] h = absurd (a.no_end h)
-  enter false a (c ∷ text) h = to_splits c text (a.sound more c text h)
+  enter false a (c ∷ text) h = to_splits c text (a.sound c text h)
   enter true a [] h = elim (holds_either first behind 63 h) [ inl i ↦ absurd (a.no_end i) | inr i ↦ all_rest [] (a.empty refl) i ]
   enter true a (c ∷ text) h =
-      elim (leads_either (states ++ more) first behind (c ∷ text) h) [
-        | inl i ↦ to_splits c text (a.sound more c text i)
+      elim (leads_either states first behind (c ∷ text) h) [
+        | inl i ↦ to_splits c text (a.sound c text i)
         | inr i ↦ all_rest (c ∷ text) (a.empty refl) i
       ]
 
-  from_first : (e : Bool) (text : List ℕ) → Leads (states ++ more) first text → Leads (states ++ more) (entry e first behind) text
+  from_first : (e : Bool) (text : List ℕ) → Leads states first text → Leads states (through e first behind) text
   from_first false text h = h
-  from_first true text h = leads_left (states ++ more) first behind text h
+  from_first true text h = leads_left states first behind text h
 
-  from_behind : (e : Bool) (text : List ℕ) → e ≡ true → Leads (states ++ more) behind text → Leads (states ++ more) (entry e first behind) text
+  from_behind : (e : Bool) (text : List ℕ) → e ≡ true → Leads states behind text → Leads states (through e first behind) text
   from_behind false text is h = absurd (cc)
-  from_behind true text is h = leads_right (states ++ more) first behind text h
+  from_behind true text is h = leads_right states first behind text h
 
-  entered_at : (e : Bool) → IsLaidOut states Member behind first e → (text front rest : List ℕ) → text ≡ front ++ rest → Member front → Leads (states ++ more) behind rest → Leads (states ++ more) (entry e first behind) text
-  entered_at e a text [] rest is f s = from_behind e text (a.nonempty f) (subst (Leads (states ++ more) behind) (sym is) s)
+  entered_at : (e : Bool) → IsLaidOut states Member behind first e → (text front rest : List ℕ) → text ≡ front ++ rest → Member front → Leads states behind rest → Leads states (through e first behind) text
+  entered_at e a text [] rest is f s = from_behind e text (a.nonempty f) (subst (Leads states behind) (sym is) s)
   entered_at e a text (c ∷ front) rest is f s =
-      subst (Leads (states ++ more) (entry e first behind)) (sym is) (from_first e (c ∷ (front ++ rest)) (a.complete more c (front ++ rest) (record { front = front; rest = rest; is = refl; first = f; second = s })))
+      subst (Leads states (through e first behind)) (sym is) (from_first e (c ∷ (front ++ rest)) (a.complete c (front ++ rest) (record { front = front; rest = rest; is = refl; first = f; second = s })))
 
-  pub entered : (e : Bool) → IsLaidOut states Member behind first e → (text : List ℕ) → Splits Member (Leads (states ++ more) behind) text → Leads (states ++ more) (entry e first behind) text
+  pub entered : (e : Bool) → IsLaidOut states Member behind first e → (text : List ℕ) → Splits Member (Leads states behind) text → Leads states (through e first behind) text
   entered e a text s = entered_at e a text s.front s.rest s.is s.first s.second
 
--- ---- more states
-
-pub grown : (states extra : List State) (Member : List ℕ → Type 0) (behind first : ℕ) (e : Bool) → IsLaidOut states Member behind first e → IsLaidOut (states ++ extra) Member behind first e
-grown states extra Member behind first e a = record {
-  sound = λ more c text h. subst (λ ps. SplitsBehind Member (Leads ps behind) c text) (sym (append_assoc states extra more)) (a.sound (extra ++ more) c text (subst (λ ps. Leads ps first (c ∷ text)) (append_assoc states extra more) h));
-  complete = λ more c text h. subst (λ ps. Leads ps first (c ∷ text)) (sym (append_assoc states extra more)) (a.complete (extra ++ more) c text (subst (λ ps. SplitsBehind Member (Leads ps behind) c text) (append_assoc states extra more) h));
-  no_end = a.no_end;
-  empty = a.empty;
-  nonempty = a.nonempty;
-}
-
 -- ---- one state
-
-state_last : (states more : List State) (w : State) → state_at ((states ++ w ∷ []) ++ more) (length states) ≡ Some w
-state_last [] more w = refl
-state_last (x ∷ states) more w = state_last states more w
 
 pub same_or_not : (m n : ℕ) → (m ≡ n) ⊎ (m ≢ n)
 same_or_not zero zero = inl refl
@@ -107,62 +92,51 @@ only_one k p h = elim (same_or_not p k) [ inl e ↦ e | inr d ↦ absurd (let z 
 pub some_same : {A : Type 0} {x y : A} → Some x ≡ Some y → x ≡ y
 some_same {A} {x} {y} e = cc
 
-module _ (states : List State) (class : CharClass) (behind : ℕ) where
-  abbrev pub w : State
-  w = record { class = class; behind = behind }
-
-  one_sound : (more : List State) (c : ℕ) (text : List ℕ) → Leads ((states ++ w ∷ []) ++ more) (2 ^ length states) (c ∷ text) → SplitsBehind (IsOne (λ c. IsTrue (in_class class c))) (Leads ((states ++ w ∷ []) ++ more) behind) c text
-  one_sound more c text h =
-      let number : h.number ≡ length states = only_one (length states) h.number h.waits in
-      let is : h.state ≡ w = some_same (sym h.is ∙ ap (state_at ((states ++ w ∷ []) ++ more)) number ∙ state_last states more w) in
+-- the state of this number, and what waits behind it
+module _ (states : List State) (class : CharClass) (behind k : ℕ) (is : state_at states k ≡ Some (record { class = class; behind = behind })) where
+  one_sound : (c : ℕ) (text : List ℕ) → Leads states (2 ^ k) (c ∷ text) → SplitsBehind (IsOne (λ c. IsTrue (in_class class c))) (Leads states behind) c text
+  one_sound c text h =
+      let number : h.number ≡ k = only_one k h.number h.waits in
+      let w : h.state ≡ record { class = class; behind = behind } = some_same (sym h.is ∙ ap (state_at states) number ∙ is) in
       record {
         front = [];
         rest = text;
         is = refl;
-        first = record { scalar = c; is = refl; passes = subst (λ (p : State). IsTrue (in_class p.class c)) is h.has };
-        second = subst (λ (p : State). Leads ((states ++ w ∷ []) ++ more) p.behind text) is h.rest;
+        first = record { scalar = c; is = refl; passes = subst (λ (p : State). IsTrue (in_class p.class c)) w h.has };
+        second = subst (λ (p : State). Leads states p.behind text) w h.rest;
       }
 
-  one_complete : (more : List State) (c : ℕ) (text : List ℕ) → SplitsBehind (IsOne (λ c. IsTrue (in_class class c))) (Leads ((states ++ w ∷ []) ++ more) behind) c text → Leads ((states ++ w ∷ []) ++ more) (2 ^ length states) (c ∷ text)
-  one_complete more c text s =
+  one_complete : (c : ℕ) (text : List ℕ) → SplitsBehind (IsOne (λ c. IsTrue (in_class class c))) (Leads states behind) c text → Leads states (2 ^ k) (c ∷ text)
+  one_complete c text s =
       let front : s.front ≡ [] = cc (s.first.is) in
       let scalar : s.first.scalar ≡ c = cc (s.first.is) in
       record {
-        number = length states;
-        state = w;
-        is = state_last states more w;
-        waits = bit_at-pow_same (length states);
+        number = k;
+        state = record { class = class; behind = behind };
+        is = is;
+        waits = bit_at-pow_same k;
         has = subst (λ d. IsTrue (in_class class d)) scalar s.first.passes;
-        rest = subst (Leads ((states ++ w ∷ []) ++ more) behind) (sym (s.is ∙ ap (λ x. x ++ s.rest) front)) s.second;
+        rest = subst (Leads states behind) (sym (s.is ∙ ap (λ x. x ++ s.rest) front)) s.second;
       }
 
-  pub one : length states < 63 → IsLaidOut (states ++ w ∷ []) (IsOne (λ c. IsTrue (in_class class c))) behind (2 ^ length states) false
+  pub one : k < 63 → IsLaidOut states (IsOne (λ c. IsTrue (in_class class c))) behind (2 ^ k) false
   one few = record {
     sound = one_sound;
     complete = one_complete;
-    no_end = λ h. (let e = only_one (length states) 63 h in omega (arith, e));
+    no_end = λ h. (let e = only_one k 63 h in omega (arith, e));
     empty = λ h. absurd (cc);
     nonempty = λ h. absurd (let e = h.is in cc);
   }
 
 -- ---- no state
 
-pub nothing : (states : List State) (behind : ℕ) → IsLaidOut states (λ text. text ≡ []) behind 0 true
-nothing states behind = record {
-  sound = λ more c text h. absurd (let z = bit_at-zero h.number in let i = h.waits in omega (arith, z, i));
-  complete = λ more c text s. absurd (let e = s.first in cc);
-  no_end = λ h. (let z = bit_at-zero 63 in omega (arith, z, h));
-  empty = λ h. refl;
-  nonempty = λ h. refl;
-}
-
 -- ---- the same set
 
 pub same : (states : List State) (Member Other : List ℕ → Type 0) (behind first : ℕ) (e : Bool) → ((text : List ℕ) → Member text → Other text) → ((text : List ℕ) → Other text → Member text)
     → IsLaidOut states Member behind first e → IsLaidOut states Other behind first e
 same states Member Other behind first e to from a = record {
-  sound = λ more c text h. (let s = a.sound more c text h in record { front = s.front; rest = s.rest; is = s.is; first = to (c ∷ s.front) s.first; second = s.second });
-  complete = λ more c text s. a.complete more c text (record { front = s.front; rest = s.rest; is = s.is; first = from (c ∷ s.front) s.first; second = s.second });
+  sound = λ c text h. (let s = a.sound c text h in record { front = s.front; rest = s.rest; is = s.is; first = to (c ∷ s.front) s.first; second = s.second });
+  complete = λ c text s. a.complete c text (record { front = s.front; rest = s.rest; is = s.is; first = from (c ∷ s.front) s.first; second = s.second });
   no_end = a.no_end;
   empty = λ h. to [] (a.empty h);
   nonempty = λ h. a.nonempty (from [] h);
@@ -186,18 +160,18 @@ behind_map : {First Other Second : List ℕ → Type 0} (c : ℕ) (text : List �
 behind_map c text f s = record { front = s.front; rest = s.rest; is = s.is; first = f (c ∷ s.front) s.first; second = s.second }
 
 module _ (states : List State) (First Second : List ℕ → Type 0) (behind f g : ℕ) (d e : Bool) (a : IsLaidOut states First behind f d) (b : IsLaidOut states Second behind g e) where
-  either_complete : (more : List State) (c : ℕ) (text : List ℕ) → SplitsBehind (λ x. First x ⊎ Second x) (Leads (states ++ more) behind) c text → Leads (states ++ more) (bit_or f g) (c ∷ text)
-  either_complete more c text s =
+  either_complete : (c : ℕ) (text : List ℕ) → SplitsBehind (λ x. First x ⊎ Second x) (Leads states behind) c text → Leads states (bit_or f g) (c ∷ text)
+  either_complete c text s =
       elim s.first [
-        | inl i ↦ leads_left (states ++ more) f g (c ∷ text) (a.complete more c text (record { front = s.front; rest = s.rest; is = s.is; first = i; second = s.second }))
-        | inr i ↦ leads_right (states ++ more) f g (c ∷ text) (b.complete more c text (record { front = s.front; rest = s.rest; is = s.is; first = i; second = s.second }))
+        | inl i ↦ leads_left states f g (c ∷ text) (a.complete c text (record { front = s.front; rest = s.rest; is = s.is; first = i; second = s.second }))
+        | inr i ↦ leads_right states f g (c ∷ text) (b.complete c text (record { front = s.front; rest = s.rest; is = s.is; first = i; second = s.second }))
       ]
 
   pub either : IsLaidOut states (λ x. First x ⊎ Second x) behind (bit_or f g) (d || e)
   either = record {
-    sound = λ more c text h. elim (leads_either (states ++ more) f g (c ∷ text) h) [
-      | inl i ↦ behind_map c text (λ x m. inl m) (a.sound more c text i)
-      | inr i ↦ behind_map c text (λ x m. inr m) (b.sound more c text i)
+    sound = λ c text h. elim (leads_either states f g (c ∷ text) h) [
+      | inl i ↦ behind_map c text (λ x m. inl m) (a.sound c text i)
+      | inr i ↦ behind_map c text (λ x m. inr m) (b.sound c text i)
     ];
     complete = either_complete;
     no_end = λ h. elim (holds_either f g 63 h) [ inl i ↦ a.no_end i | inr i ↦ b.no_end i ];
@@ -223,13 +197,13 @@ both_empty : (First Second : List ℕ → Type 0) (front rest : List ℕ) → []
 both_empty First Second [] rest is f s = (f, subst Second (sym is) s)
 both_empty First Second (c ∷ front) rest is f s = absurd (cc)
 
-module _ (states : List State) (First Second : List ℕ → Type 0) (behind f g : ℕ) (d e : Bool) (a : IsLaidOut states First (entry e g behind) f d) (b : IsLaidOut states Second behind g e) (more : List State) where
+module _ (states : List State) (First Second : List ℕ → Type 0) (behind f g : ℕ) (d e : Bool) (a : IsLaidOut states First (through e g behind) f d) (b : IsLaidOut states Second behind g e) where
   abbrev Behind : List ℕ → Type 0
-  Behind = Leads (states ++ more) behind
+  Behind = Leads states behind
 
-  join : (c : ℕ) (text : List ℕ) → SplitsBehind First (Leads (states ++ more) (entry e g behind)) c text → SplitsBehind (Splits First Second) Behind c text
+  join : (c : ℕ) (text : List ℕ) → SplitsBehind First (Leads states (through e g behind)) c text → SplitsBehind (Splits First Second) Behind c text
   join c text s =
-      let t = enter states more Second behind g e b s.rest s.second in
+      let t = enter states Second behind g e b s.rest s.second in
       record {
         front = s.front ++ t.front;
         rest = t.rest;
@@ -241,57 +215,57 @@ module _ (states : List State) (First Second : List ℕ → Type 0) (behind f g 
   skip : (c : ℕ) (text : List ℕ) → First [] → SplitsBehind Second Behind c text → SplitsBehind (Splits First Second) Behind c text
   skip c text none s = record { front = s.front; rest = s.rest; is = s.is; first = record { front = []; rest = c ∷ s.front; is = refl; first = none; second = s.first }; second = s.second }
 
-  pub then_sound : (c : ℕ) (text : List ℕ) (k : Bool) → d ≡ k → Leads (states ++ more) (entry k f g) (c ∷ text) → SplitsBehind (Splits First Second) Behind c text
-  then_sound c text false is h = join c text (a.sound more c text h)
+  pub then_sound : (c : ℕ) (text : List ℕ) (k : Bool) → d ≡ k → Leads states (through k f g) (c ∷ text) → SplitsBehind (Splits First Second) Behind c text
+  then_sound c text false is h = join c text (a.sound c text h)
   then_sound c text true is h =
-      elim (leads_either (states ++ more) f g (c ∷ text) h) [
-        | inl i ↦ join c text (a.sound more c text i)
-        | inr i ↦ skip c text (a.empty is) (b.sound more c text i)
+      elim (leads_either states f g (c ∷ text) h) [
+        | inl i ↦ join c text (a.sound c text i)
+        | inr i ↦ skip c text (a.empty is) (b.sound c text i)
       ]
 
-  split : (c : ℕ) (text inside rest front back : List ℕ) → text ≡ inside ++ rest → c ∷ inside ≡ front ++ back → First front → Second back → Behind rest → Leads (states ++ more) (entry d f g) (c ∷ text)
+  split : (c : ℕ) (text inside rest front back : List ℕ) → text ≡ inside ++ rest → c ∷ inside ≡ front ++ back → First front → Second back → Behind rest → Leads states (through d f g) (c ∷ text)
   split c text inside rest [] back is parts m n h =
-      from_behind states more First g f d (c ∷ text) (a.nonempty m)
-      (b.complete more c text (record { front = inside; rest = rest; is = is; first = subst Second (sym parts) n; second = h }))
+      from_behind states First g f d (c ∷ text) (a.nonempty m)
+      (b.complete c text (record { front = inside; rest = rest; is = is; first = subst Second (sym parts) n; second = h }))
   split c text inside rest (x ∷ front) back is parts m n h =
       let head : x ≡ c = cc (parts) in
       let tail : inside ≡ front ++ back = cc (parts) in
-      from_first states more First g f d (c ∷ text)
-      (a.complete more c text (record {
+      from_first states First g f d (c ∷ text)
+      (a.complete c text (record {
         front = front;
         rest = back ++ rest;
         is = is ∙ ap (λ y. y ++ rest) tail ∙ append_assoc front back rest;
         first = subst (λ y. First (y ∷ front)) head m;
-        second = entered states more Second behind g e b (back ++ rest) (record { front = back; rest = rest; is = refl; first = n; second = h });
+        second = entered states Second behind g e b (back ++ rest) (record { front = back; rest = rest; is = refl; first = n; second = h });
       }))
 
-  pub then_complete : (c : ℕ) (text : List ℕ) → SplitsBehind (Splits First Second) Behind c text → Leads (states ++ more) (entry d f g) (c ∷ text)
+  pub then_complete : (c : ℕ) (text : List ℕ) → SplitsBehind (Splits First Second) Behind c text → Leads states (through d f g) (c ∷ text)
   then_complete c text s = split c text s.front s.rest s.first.front s.first.rest s.is s.first.is s.first.first s.first.second s.second
 
-entry_no_end : (k : Bool) (f g : ℕ) → (HasState f 63 → ⊥) → (HasState g 63 → ⊥) → HasState (entry k f g) 63 → ⊥
-entry_no_end false f g a b h = a h
-entry_no_end true f g a b h = elim (holds_either f g 63 h) [ inl i ↦ a i | inr i ↦ b i ]
+through_no_end : (k : Bool) (f g : ℕ) → (HasState f 63 → ⊥) → (HasState g 63 → ⊥) → HasState (through k f g) 63 → ⊥
+through_no_end false f g a b h = a h
+through_no_end true f g a b h = elim (holds_either f g 63 h) [ inl i ↦ a i | inr i ↦ b i ]
 
-pub chained : (states : List State) (First Second : List ℕ → Type 0) (behind f g : ℕ) (d e : Bool) → IsLaidOut states First (entry e g behind) f d → IsLaidOut states Second behind g e
-    → IsLaidOut states (Splits First Second) behind (entry d f g) (d && e)
+pub chained : (states : List State) (First Second : List ℕ → Type 0) (behind f g : ℕ) (d e : Bool) → IsLaidOut states First (through e g behind) f d → IsLaidOut states Second behind g e
+    → IsLaidOut states (Splits First Second) behind (through d f g) (d && e)
 chained states First Second behind f g d e a b = record {
-  sound = λ more c text h. then_sound states First Second behind f g d e a b more c text d refl h;
-  complete = λ more c text s. then_complete states First Second behind f g d e a b more c text s;
-  no_end = entry_no_end d f g a.no_end b.no_end;
+  sound = λ c text h. then_sound states First Second behind f g d e a b c text d refl h;
+  complete = λ c text s. then_complete states First Second behind f g d e a b c text s;
+  no_end = through_no_end d f g a.no_end b.no_end;
   empty = λ h. record { front = []; rest = []; is = refl; first = a.empty (and_left d e h); second = b.empty (and_right d e h) };
   nonempty = λ s. (let p = both_empty First Second s.front s.rest s.is s.first s.second in and_both d e (a.nonempty p.0) (b.nonempty p.1));
 }
 
 -- ---- any number
 
-module _ (states : List State) (Member : List ℕ → Type 0) (behind first : ℕ) (e : Bool) (a : IsLaidOut states Member (bit_or behind first) first e) (more : List State) where
+module _ (states : List State) (Member : List ℕ → Type 0) (behind first : ℕ) (e : Bool) (a : IsLaidOut states Member (bit_or behind first) first e) where
   abbrev Rest : List ℕ → Type 0
-  Rest = Leads (states ++ more) behind
+  Rest = Leads states behind
 
   abbrev Many : List ℕ → Type 0
   Many = RepeatsWithin Member 0 None
 
-  last_one : (c : ℕ) (text : List ℕ) (s : SplitsBehind Member (Leads (states ++ more) (bit_or behind first)) c text) → Rest s.rest → SplitsBehind Many Rest c text
+  last_one : (c : ℕ) (text : List ℕ) (s : SplitsBehind Member (Leads states (bit_or behind first)) c text) → Rest s.rest → SplitsBehind Many Rest c text
   last_one c text s h = record {
     front = s.front;
     rest = s.rest;
@@ -309,39 +283,39 @@ module _ (states : List State) (Member : List ℕ → Type 0) (behind first : �
     second = s.second;
   }
 
-  any_on : (n : ℕ) (c : ℕ) (text front rest : List ℕ) → text ≡ front ++ rest → length text ≤ n → Member (c ∷ front) → Leads (states ++ more) first rest → SplitsBehind Many Rest c text
+  any_on : (n : ℕ) (c : ℕ) (text front rest : List ℕ) → text ≡ front ++ rest → length text ≤ n → Member (c ∷ front) → Leads states first rest → SplitsBehind Many Rest c text
   any_on n c text front [] is short m h = absurd (a.no_end h)
   any_on zero c text front (x ∷ others) is short m h = absurd (let l : length text ≡ length front + suc (length others) = ap length is ∙ length-append front (x ∷ others) in omega (arith, l, short))
   any_on (suc n) c text front (x ∷ others) is short m h =
       let l : length text ≡ length front + suc (length others) = ap length is ∙ length-append front (x ∷ others) in
-      let s = a.sound more x others h in
+      let s = a.sound x others h in
       and_more c text front (x ∷ others) x others is m refl
-      (elim (leads_either (states ++ more) behind first s.rest s.second) [
+      (elim (leads_either states behind first s.rest s.second) [
         | inl i ↦ last_one x others s i
         | inr i ↦ any_on n x others s.front s.rest s.is (omega (arith, l, short)) s.first i
       ])
 
-  pub any_sound : (c : ℕ) (text : List ℕ) → Leads (states ++ more) first (c ∷ text) → SplitsBehind Many Rest c text
+  pub any_sound : (c : ℕ) (text : List ℕ) → Leads states first (c ∷ text) → SplitsBehind Many Rest c text
   any_sound c text h =
-      let s = a.sound more c text h in
-      elim (leads_either (states ++ more) behind first s.rest s.second) [
+      let s = a.sound c text h in
+      elim (leads_either states behind first s.rest s.second) [
         | inl i ↦ last_one c text s i
         | inr i ↦ any_on (length text) c text s.front s.rest s.is (omega arith) s.first i
       ]
 
   abbrev LeadBy : ℕ → Type 0
-  LeadBy count = (c : ℕ) (inside rest : List ℕ) → Repeats Member count (c ∷ inside) → Rest rest → Leads (states ++ more) first (c ∷ (inside ++ rest))
+  LeadBy count = (c : ℕ) (inside rest : List ℕ) → Repeats Member count (c ∷ inside) → Rest rest → Leads states first (c ∷ (inside ++ rest))
 
-  any_rest : (count : ℕ) → LeadBy count → (back rest : List ℕ) → Repeats Member count back → Rest rest → Leads (states ++ more) (bit_or behind first) (back ++ rest)
-  any_rest count by [] rest n h = leads_left (states ++ more) behind first rest h
-  any_rest count by (x ∷ back) rest n h = leads_right (states ++ more) behind first (x ∷ (back ++ rest)) (by x back rest n h)
+  any_rest : (count : ℕ) → LeadBy count → (back rest : List ℕ) → Repeats Member count back → Rest rest → Leads states (bit_or behind first) (back ++ rest)
+  any_rest count by [] rest n h = leads_left states behind first rest h
+  any_rest count by (x ∷ back) rest n h = leads_right states behind first (x ∷ (back ++ rest)) (by x back rest n h)
 
-  any_turn : (count : ℕ) → LeadBy count → (c : ℕ) (inside rest front back : List ℕ) → c ∷ inside ≡ front ++ back → Member front → Repeats Member count back → Rest rest → Leads (states ++ more) first (c ∷ (inside ++ rest))
+  any_turn : (count : ℕ) → LeadBy count → (c : ℕ) (inside rest front back : List ℕ) → c ∷ inside ≡ front ++ back → Member front → Repeats Member count back → Rest rest → Leads states first (c ∷ (inside ++ rest))
   any_turn count by c inside rest [] back parts m n h = by c inside rest (subst (Repeats Member count) (sym parts) n) h
   any_turn count by c inside rest (x ∷ front) back parts m n h =
       let head : x ≡ c = cc (parts) in
       let tail : inside ≡ front ++ back = cc (parts) in
-      a.complete more c (inside ++ rest) (record {
+      a.complete c (inside ++ rest) (record {
         front = front;
         rest = back ++ rest;
         is = ap (λ y. y ++ rest) tail ∙ append_assoc front back rest;
@@ -355,9 +329,32 @@ module _ (states : List State) (Member : List ℕ → Type 0) (behind first : �
 
 pub any : (states : List State) (Member : List ℕ → Type 0) (behind first : ℕ) (e : Bool) → IsLaidOut states Member (bit_or behind first) first e → IsLaidOut states (RepeatsWithin Member 0 None) behind first true
 any states Member behind first e a = record {
-  sound = λ more c text h. any_sound states Member behind first e a more c text h;
-  complete = λ more c text s. subst (λ x. Leads (states ++ more) first (c ∷ x)) (sym s.is) (any_complete states Member behind first e a more s.first.count c s.front s.rest s.first.repeats s.second);
+  sound = λ c text h. any_sound states Member behind first e a c text h;
+  complete = λ c text s. subst (λ x. Leads states first (c ∷ x)) (sym s.is) (any_complete states Member behind first e a s.first.count c s.front s.rest s.first.repeats s.second);
   no_end = a.no_end;
   empty = λ h. record { count = 0; enough = omega arith; few = tt; repeats = refl };
   nonempty = λ h. refl;
 }
+
+-- ---- once or more
+
+first_of_none : (Member : List ℕ → Type 0) (front rest : List ℕ) → [] ≡ front ++ rest → Member front → Member []
+first_of_none Member [] rest is m = m
+first_of_none Member (c ∷ front) rest is m = absurd (cc)
+
+pub some_of_none : (Member : List ℕ → Type 0) (count : ℕ) → 1 ≤ count → Repeats Member count [] → Member []
+some_of_none Member zero l r = absurd (omega arith)
+some_of_none Member (suc count) l r = first_of_none Member r.front r.rest r.is r.first
+
+not_none : (Member : List ℕ → Type 0) (count c : ℕ) (text : List ℕ) → Repeats Member count (c ∷ text) → 1 ≤ count
+not_none Member zero c text r = absurd (cc)
+not_none Member (suc count) c text r = omega arith
+
+pub once_or_more : (states : List State) (Member : List ℕ → Type 0) (behind first : ℕ) (e : Bool) → IsLaidOut states Member (bit_or behind first) first e → IsLaidOut states (RepeatsWithin Member 1 None) behind first e
+once_or_more states Member behind first e a = (let b = any states Member behind first e a in record {
+  sound = λ c text h. (let s = b.sound c text h in let m = s.first in record { front = s.front; rest = s.rest; is = s.is; first = record { count = m.count; enough = not_none Member m.count c s.front m.repeats; few = tt; repeats = m.repeats }; second = s.second });
+  complete = λ c text s. b.complete c text (record { front = s.front; rest = s.rest; is = s.is; first = record { count = s.first.count; enough = omega arith; few = tt; repeats = s.first.repeats }; second = s.second });
+  no_end = a.no_end;
+  empty = λ h. record { count = 1; enough = omega arith; few = tt; repeats = record { front = []; rest = []; is = refl; first = a.empty h; second = refl } };
+  nonempty = λ m. a.nonempty (some_of_none Member m.count m.enough m.repeats);
+})

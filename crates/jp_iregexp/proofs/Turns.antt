@@ -45,9 +45,6 @@ pub record Gathers (rest parts : List Node) (text : List ℕ) (starts all : Posi
   pub complete : (p q : ℕ) → Has starts p → Reach (Language (choice_list parts)) text p q → Has all q ⊎ Reach (Language (choice_list rest)) text p q
   pub inside : (x : List ℕ) → Language (choice_list rest) x → Language (choice_list parts) x
 
-pub gather_start : (parts : List Node) (text : List ℕ) (starts all : PositionSet) → IsSetOver (length text) all → ((q : ℕ) → ¬ (Has all q)) → Gathers parts parts text starts all
-gather_start parts text starts all over none = record { over = over; sound = λ q h. absurd (none q h); complete = λ p q h r. inr r; inside = λ x m. m }
-
 first_or_rest : (part : Node) (rest : List Node) (text : List ℕ) (p q : ℕ) → Reach (Language (choice_list (part ∷ rest))) text p q → Reach (Language (tree_of part)) text p q ⊎ Reach (Language (choice_list rest)) text p q
 first_or_rest part rest text p q r =
     elim r.member [
@@ -153,9 +150,11 @@ front_step Member text reached frontier next fresh both f a split added old new 
 
 -- ---- the least number, and then further ones
 
-pub times_some : (Member : List ℕ → Type 0) (least most : ℕ) (text : List ℕ) (starts reached ends : PositionSet) → least ≤ most → AreEnds (Repeats Member least) text starts reached → AreEnds (RepeatsWithin Member 0 (Some (most - least))) text reached ends → AreEnds (RepeatsWithin Member least (Some most)) text starts ends
-times_some Member least most text starts reached ends l a b =
-    ends_same text starts ends (within_join least (Some most) l) (λ x _ r. within_split least (Some most) x r) (ends_then text starts reached ends a b)
+pub times_some : (Member : List ℕ → Type 0) (least further : ℕ) (text : List ℕ) (starts reached ends : PositionSet) → AreEnds (Repeats Member least) text starts reached → AreEnds (RepeatsWithin Member 0 (Some further)) text reached ends → AreEnds (RepeatsWithin Member least (Some (least + further))) text starts ends
+times_some Member least further text starts reached ends a b =
+    let whole : least + further - least ≡ further = omega arith in
+    ends_same text starts ends (within_join least (Some (least + further)) (omega arith)) (λ x _ r. within_split least (Some (least + further)) x r)
+    (ends_then text starts reached ends a (subst (λ n. AreEnds (RepeatsWithin Member 0 (Some n)) text reached ends) (sym whole) b))
 
 -- as many turns as the text has scalars are any number of turns
 pub any_number : (Member : List ℕ → Type 0) (text : List ℕ) (starts ends : PositionSet) → AreEnds (RepeatsWithin Member 0 (Some (length text))) text starts ends → AreEnds (RepeatsWithin Member 0 None) text starts ends
@@ -164,14 +163,6 @@ any_number Member text starts ends a = ends_same text starts ends (uncut (length
 pub times_none : (Member : List ℕ → Type 0) (least : ℕ) (text : List ℕ) (starts reached ends : PositionSet) → AreEnds (Repeats Member least) text starts reached → AreEnds (RepeatsWithin Member 0 None) text reached ends → AreEnds (RepeatsWithin Member least None) text starts ends
 times_none Member least text starts reached ends a b =
     ends_same text starts ends (within_join least None tt) (λ x _ r. within_split least None x r) (ends_then text starts reached ends a b)
-
--- more than the most is none
-pub times_never : (Member : List ℕ → Type 0) (least most : ℕ) (text : List ℕ) (starts ends : PositionSet) → most < least → IsSetOver (length text) ends → ((q : ℕ) → ¬ (Has ends q)) → AreEnds (RepeatsWithin Member least (Some most)) text starts ends
-times_never Member least most text starts ends l over none = record {
-  over = over;
-  sound = λ q h. absurd (none q h);
-  complete = λ p q h r. absurd (let m = r.member in let few : m.count ≤ most = m.few in let enough = m.enough in omega arith);
-}
 
 pub exact_start : (Member : List ℕ → Type 0) (count : ℕ) (text : List ℕ) (starts reached : PositionSet) → IsSetOver (length text) starts → AreSame reached starts → Continues (Repeats Member (count - 0)) (Repeats Member count) text starts reached
 exact_start Member count text starts reached over e =

@@ -1,5 +1,5 @@
 -- The pattern that a part of the program's tree stands for.
-use Rattle.std.specs.Prelude.{List, [], ◌∷◌, map}
+use Rattle.std.specs.Prelude.{ℕ, ◌+◌, List, [], ◌∷◌, map, Option, Some, None}
 use Rattle.jp_iregexp.specs.declared.class.Property.{Property}
 use Rattle.jp_iregexp.specs.declared.class.Property.TheVariants.{Group as GroupProperty, Category as CategoryProperty}
 use Rattle.jp_iregexp.specs.declared.class.Item.{Item}
@@ -25,12 +25,17 @@ abbrev pub class_of : Class → CharClass
 class_of DotClass = dot
 class_of (MembersClass negated items) = members negated (map item_of items.items)
 
+-- the greatest number, where so many may follow the least one
+abbrev pub most_of : ℕ → Option ℕ → Option ℕ
+most_of least None = None
+most_of least (Some further) = Some (least + further)
+
 abbrev mutual
   pub tree_of : Node → Pattern
   tree_of (ClassNode c) = one_of (class_of c)
   tree_of (Sequence' shape parts) = sequence_of parts
   tree_of (Choice' shape parts) = choice_of parts
-  tree_of (Repeated' p body least most rows) = times (tree_of body) least most
+  tree_of (Repeated' p body least further rows) = times (tree_of body) least (most_of least further)
 
   pub sequence_of : {m : _} → Row_of-Node m → Pattern
   sequence_of end_of-Node = empty

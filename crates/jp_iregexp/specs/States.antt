@@ -44,15 +44,15 @@ pub record SplitsBehind (First Second : List ℕ → Type 0) (c : ℕ) (text : L
   pub first : First (c ∷ front)
   pub second : Second rest
 
--- what waits at the front of a part
-abbrev pub entry : Bool → ℕ → ℕ → ℕ
-entry has_empty first behind = if has_empty then bit_or first behind else first
+-- the states of a part, and those beyond it too where the part can be empty
+abbrev pub through : Bool → ℕ → ℕ → ℕ
+through has_empty states beyond = if has_empty then bit_or states beyond else states
 
--- The part is laid out in front of what waits behind it, whatever states come later: its first states lead where a member that
--- is not empty leads to what waits behind.
+-- The part is laid out in front of what waits behind it: its first states lead where a member that is not empty leads to what
+-- waits behind.
 pub record IsLaidOut (states : List State) (Member : List ℕ → Type 0) (behind first : ℕ) (has_empty : Bool) : Type 0 where
-  pub sound : (more : List State) (c : ℕ) (text : List ℕ) → Leads (states ++ more) first (c ∷ text) → SplitsBehind Member (Leads (states ++ more) behind) c text
-  pub complete : (more : List State) (c : ℕ) (text : List ℕ) → SplitsBehind Member (Leads (states ++ more) behind) c text → Leads (states ++ more) first (c ∷ text)
+  pub sound : (c : ℕ) (text : List ℕ) → Leads states first (c ∷ text) → SplitsBehind Member (Leads states behind) c text
+  pub complete : (c : ℕ) (text : List ℕ) → SplitsBehind Member (Leads states behind) c text → Leads states first (c ∷ text)
   pub no_end : HasState first 63 → ⊥
   pub empty : has_empty ≡ true → Member []
   pub nonempty : Member [] → has_empty ≡ true
@@ -84,12 +84,11 @@ pub record WaitsBehind (after : List ℕ) (ready q : ℕ) : Type 0 where
   pub is_ready : HasState ready number
   pub waits : HasState (get_or after number 0) q
 
--- the set has the state before this one, and nothing else
+-- the set has the state with the next number, and nothing else
 abbrev pub is_link : (set number : ℕ) → Bool
-is_link set zero = false
-is_link set (suc p) = set == 2 ^ p
+is_link set number = set == 2 ^ suc number
 
--- only the state with the number before waits behind the state
+-- only the state with the next number waits behind the state
 abbrev pub is_chained : List ℕ → ℕ → Bool
 is_chained after p = is_link (get_or after p 0) p
 

@@ -27,7 +27,7 @@ abbrev mutual
   Kept text (ClassNode c) = Unit {0}
   Kept text (Sequence' shape parts) = KeptParts text parts
   Kept text (Choice' shape parts) = KeptParts text parts
-  Kept text (Repeated' p body least most rows) = Kept text body × KeptRows text body rows.items
+  Kept text (Repeated' p body least further rows) = Kept text body × KeptRows text body rows.items
 
   pub KeptParts : List ℕ → {m : _} → Row_of-Node m → Type 0
   KeptParts text end_of-Node = Unit {0}

@@ -6,7 +6,7 @@ use Rattle.std.specs.List.{list_all}
 use Rattle.jp_model.specs.Characters.{is_digit, value_behind}
 use Rattle.jp_iregexp.specs.declared.brackets.Next.{Next}
 use Rattle.jp_iregexp.specs.declared.brackets.Next.TheVariants.{Item as ItemNext, Hyphen as HyphenNext, End as EndNext}
-use Rattle.jp_iregexp.specs.Nodes.{item_of, class_of}
+use Rattle.jp_iregexp.specs.Nodes.{item_of, class_of, most_of}
 use Rattle.jp_model.specs.Pattern.Reading.{Read, then_read, up_to, with_rest, count_in, read_class, read_escape, one_item, read_item, read_items, read_span, tokens_within}
 use Rattle.jp_model.specs.Pattern.Spelling.{Token as TreeToken, class_token, open_token, close_token, bar_token, count_token, is_normal_char}
 use Rattle.jp_model.specs.Pattern.Groups.{Groups, read_from}
@@ -18,11 +18,11 @@ token_of (ClassToken c) = class_token (class_of c)
 token_of OpenToken = open_token
 token_of CloseToken = close_token
 token_of BarToken = bar_token
-token_of (CountToken least most) = count_token least most
+token_of (CountToken least further) = count_token least (most_of least further)
 
--- a quantifier by its bounds
+-- a quantifier by its least number, and by how many may follow
 abbrev pub count_of_pair : ℕ × Option ℕ → TreeToken
-count_of_pair p = count_token p.0 p.1
+count_of_pair p = count_token p.0 (most_of p.0 p.1)
 
 -- the item that stands first in a class: a hyphen stands for itself there
 abbrev pub first_of : List ℕ → Read Item

@@ -32,11 +32,12 @@ pub(crate) struct Automaton {
     pub(crate) starts: u64,
     /// By state what waits after it.
     after: Vec<u64>,
-    /// The states after which only the one with the number before waits.
+    /// The states after which only the one with the next number waits.
     chained: u64,
     /// By ASCII scalar the states whose class has it.
     ascii: Vec<u64>,
     ghost behind: { after.items ≡ map (λ p. p.after) states.items },
+    ghost few: { length after.items ≤ 63 },
     ghost links: { (p : ℕ) → HasState chained p ↔ IsTrue (is_chained after.items p) },
     ghost masks: { AreMasks (map state_of states.items) ascii.items },
     ghost all: { length ascii.items ≡ 128 },
@@ -90,7 +91,7 @@ impl Automaton {
     fn behind(&self, ready: u64) -> u64
         ensures { (q : ℕ) → HasState result q ↔ WaitsBehind self.now.after.items ready q }
     {
-        let moved = (ready & self.chained) >> 1;
+        let moved = (ready & self.chained) << 1;
         moved | behind_each(self.after.as_slice(), ready & !self.chained)
     }
 
@@ -199,8 +200,7 @@ fn words_after(alloc: Global, states: &[State]) -> Result<Vec<u64>, AllocError>
     Ok(words)
 }
 
-// The states after which only the one with the number before waits. A part is laid out in front of what waits after it, so
-// most are.
+// The states after which only the one with the next number waits. They are numbered as they are read, so most are.
 fn chained(after: &[u64]) -> u64
     requires { length after.now ≤ 63 }
     ensures { (p : ℕ) → HasState result p ↔ IsTrue (is_chained after.now p) }
@@ -214,12 +214,12 @@ fn chained(after: &[u64]) -> u64
     all
 }
 
-// Whether the word has the number before alone.
+// Whether the word has the next number alone.
 fn is_link(word: u64, number: usize) -> bool
-    requires { number < 64 }
+    requires { number < 63 }
     ensures { result ≡ is_link word number }
 {
-    number > 0 && word == 1 << (number - 1)
+    word == 1 << (number + 1)
 }
 
 // By ASCII scalar the states that wait for it.

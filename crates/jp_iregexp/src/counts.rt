@@ -30,14 +30,14 @@ fn bound(digits: &[char]) -> Option<u32>
     Some(value)
 }
 
-// The bounds that are between braces, the second not below the first.
+// The bounds that are between braces, the second not below the first: the least number, and how many may follow.
 fn bounds(inside: &[char]) -> Option<(u32, Option<u32>)>
     ensures { option_map count_of_pair result ≡ count_in inside.now (up_to 0x2C inside.now) }
 {
     match cut(',', inside) {
         None => {
             let exact = bound(inside)?;
-            Some((exact, Some(exact)))
+            Some((exact, Some(0)))
         }
         Some((first, second)) => {
             let least = bound(first)?;
@@ -46,7 +46,7 @@ fn bounds(inside: &[char]) -> Option<(u32, Option<u32>)>
             }
             let most = bound(second)?;
             if least <= most {
-                Some((least, Some(most)))
+                Some((least, Some(most - least)))
             } else {
                 None
             }
@@ -54,7 +54,7 @@ fn bounds(inside: &[char]) -> Option<(u32, Option<u32>)>
     }
 }
 
-/// The bounds after `{`, and what follows `}`.
+/// The least number after `{` and how many may follow it, and what is after `}`.
 pub(crate) fn read_bounds(text: &[char]) -> Option<((u32, Option<u32>), &[char])>
     ensures { option_map (λ p. (count_of_pair p.0, p.1.now)) result ≡ then_read (up_to 0x7D text.now) (λ inside rest. with_rest rest (count_in inside (up_to 0x2C inside))) }
 {

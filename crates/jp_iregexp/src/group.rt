@@ -3,7 +3,7 @@
 ghost use Rattle.std.specs.Prelude.{◌≡◌, IfOk, OnOk, Some, None, if◌then◌else◌};
 ghost use Rattle.jp_iregexp.specs.Groups.{group_of, atom_of, latest_first};
 ghost use Rattle.jp_model.specs.Pattern.Groups.{fresh, with_atom, add_atom, add_count, next_branch, whole_of};
-ghost use Rattle.jp_iregexp.specs.Nodes.{tree_of};
+ghost use Rattle.jp_iregexp.specs.Nodes.{most_of, tree_of};
 
 use crate::node::Node;
 use std::alloc::{AllocError, Global};
@@ -59,9 +59,9 @@ impl Group {
         &mut self,
         alloc: Global,
         least: u32,
-        most: Option<u32>,
+        further: Option<u32>,
     ) -> Result<bool, AllocError>
-        ensures { IfOk result (λ stands. add_count least most (group_of self.old) (group_of self.old).atom ≡ (if stands then Some (group_of self.new) else None)) }
+        ensures { IfOk result (λ stands. add_count least (most_of least further) (group_of self.old) (group_of self.old).atom ≡ (if stands then Some (group_of self.new) else None)) }
     {
         match self.atom.take() {
             None => Ok(false),
@@ -69,7 +69,7 @@ impl Group {
                 self.pieces.push(Node::Repeated {
                     body: Box::new(alloc, atom)?,
                     least,
-                    most,
+                    further,
                     rows: Vec::new(alloc),
                 })?;
                 Ok(true)

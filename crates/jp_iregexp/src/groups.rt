@@ -74,7 +74,7 @@ impl Groups {
                 self.now.end_branch(alloc)?;
                 Ok(true)
             }
-            Token::Count(least, most) => self.now.add_count(alloc, least, most),
+            Token::Count(least, further) => self.now.add_count(alloc, least, further),
         }
     }
 

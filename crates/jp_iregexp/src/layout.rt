@@ -1,178 +1,127 @@
-//! The states of a pattern's parts.
+//! The states of a pattern's parts (Glushkov 1961): a state for each class, numbered as they are read. Each part says once which of
+//! its states take a first scalar, which take a last one, and whether it can be empty. Parts are put together by links: what
+//! follows a part waits after its last states.
 
-ghost use Rattle.std.specs.Prelude.{◌≡◌, ◌≤◌, ◌&&◌, ◌||◌, IfOk, bit_or, map, true, Some, None};
+ghost use Rattle.std.specs.Prelude.{◌≡◌, ◌<◌, ◌^◌, ◌&&◌, ◌||◌, ◌-◌, IfOk, bit_or, map, true, Some, None};
 ghost use Rattle.std.specs.Option.{IfSome};
-ghost use Rattle.jp_model.specs.Pattern.Language.{Language, RepeatsWithin};
+ghost use Rattle.jp_model.specs.Pattern.Language.{Language, Repeats, RepeatsWithin};
 ghost use Rattle.jp_model.specs.Pattern.Tree.{one_of};
-ghost use Rattle.jp_iregexp.specs.States.{entry, Accepts};
-ghost use Rattle.jp_iregexp.specs.Layouts.{LaidOnto, left_of, state_of};
-ghost use Rattle.jp_iregexp.specs.Nodes.{tree_of, class_of, sequence_list, choice_list};
+ghost use Rattle.jp_iregexp.specs.States.{through, Accepts};
+ghost use Rattle.jp_iregexp.specs.Layouts.{AreLinked, LaidOnto, state_of, turns_in_front};
+ghost use Rattle.jp_iregexp.specs.Nodes.{most_of, tree_of, class_of, sequence_list, choice_list};
 
 use crate::automaton::{Automaton, END, MOST_STATES, State};
 use crate::class::Class;
 use crate::node::Node;
 use std::alloc::{AllocError, Global};
 
-/// How a part begins: the states that wait for its first scalar, and whether the empty text is in its set.
+/// The states that take a first scalar of a part, those that take a last one, and whether the empty text is in its set.
 #[derive(Clone, Copy)]
-pub(crate) struct Entry {
+pub(crate) struct Part {
     pub(crate) first: u64,
+    pub(crate) last: u64,
     pub(crate) has_empty: bool,
 }
 
-impl Entry {
-    /// The empty text alone.
-    fn nothing() -> Entry
-        ensures first { result.first ≡ 0 }
-        ensures has_empty { result.has_empty ≡ true }
-    {
-        Entry {
-            first: 0,
-            has_empty: true,
-        }
-    }
+/// The empty text alone.
+const NOTHING: Part = Part {
+    first: 0,
+    last: 0,
+    has_empty: true,
+};
 
-    /// What waits at the front of the part, where this waits after it.
-    fn before(self, behind: u64) -> u64
-        ensures { result ≡ entry self.has_empty self.first behind }
-    {
-        if self.has_empty {
-            self.first | behind
-        } else {
-            self.first
-        }
-    }
-
-    /// The part and then another one.
-    fn then(self, next: Entry) -> Entry
-        ensures first { result.first ≡ entry self.has_empty self.first next.first }
-        ensures has_empty { result.has_empty ≡ (self.has_empty && next.has_empty) }
-    {
-        Entry {
-            first: self.before(next.first),
-            has_empty: self.has_empty && next.has_empty,
-        }
-    }
-
+impl Part {
     /// The one part or the other.
-    fn or(self, other: Entry) -> Entry
+    fn or(self, other: Part) -> Part
         ensures first { result.first ≡ bit_or self.first other.first }
+        ensures last { result.last ≡ bit_or self.last other.last }
         ensures has_empty { result.has_empty ≡ (self.has_empty || other.has_empty) }
     {
-        Entry {
+        Part {
             first: self.first | other.first,
+            last: self.last | other.last,
             has_empty: self.has_empty || other.has_empty,
         }
     }
 }
 
-/// The states so far, and how many more parts may be laid out.
+// The states of a part, and those beyond it too where the part can be empty.
+fn through(has_empty: bool, states: u64, beyond: u64) -> u64
+    ensures { result ≡ through has_empty states beyond }
+{
+    if has_empty { states | beyond } else { states }
+}
+
+/// The states so far.
 #[derive(Drop)]
 pub(crate) struct Layout {
     states: Vec<State>,
-    fuel: u32,
 }
 
 impl Layout {
-    /// Lays a part out, in front of what waits after it, or gives up.
+    /// Lays a part out, or gives up where there are too many states.
     #[cycle(layout)]
-    fn part(&mut self, alloc: Global, node: &Node, behind: u64) -> Result<Option<Entry>, AllocError>
-        ensures { IfOk result (λ found. IfSome found (λ e. LaidOnto self.old.states.items self.new.states.items (Language (tree_of node.now)) behind e.first e.has_empty)) }
+    fn part(&mut self, alloc: Global, node: &Node) -> Result<Option<Part>, AllocError>
+        ensures { IfOk result (λ found. IfSome found (λ p. LaidOnto (map state_of self.old.states.items) (map state_of self.new.states.items) (Language (tree_of node.now)) p.first p.last p.has_empty)) }
     {
-        if self.fuel == 0 {
-            return Ok(None);
-        }
-        self.fuel -= 1;
         match node {
-            Node::Class(class) => {
-                let found = self.class(alloc, class, behind)?;
-                Ok(found)
-            }
-            Node::Sequence(parts) => {
-                let found = self.sequence(alloc, parts.as_slice(), behind)?;
-                Ok(found)
-            }
-            Node::Choice(parts) => {
-                let found = self.choice(alloc, parts.as_slice(), behind)?;
-                Ok(found)
-            }
+            Node::Class(class) => self.class(alloc, class),
+            Node::Sequence(parts) => self.sequence(alloc, parts.as_slice()),
+            Node::Choice(parts) => self.choice(alloc, parts.as_slice()),
             Node::Repeated {
                 body,
                 least,
-                most,
+                further,
                 ..
-            } => {
-                let found = self.repeated(alloc, body, *least, *most, behind)?;
-                Ok(found)
-            }
+            } => self.repeated(alloc, body, *least, *further),
         }
     }
 
-    fn class(
-        &mut self,
-        alloc: Global,
-        class: &Class,
-        behind: u64,
-    ) -> Result<Option<Entry>, AllocError>
-        ensures { IfOk result (λ found. IfSome found (λ e. LaidOnto self.old.states.items self.new.states.items (Language (one_of (class_of class.now))) behind e.first e.has_empty)) }
+    fn class(&mut self, alloc: Global, class: &Class) -> Result<Option<Part>, AllocError>
+        ensures { IfOk result (λ found. IfSome found (λ p. LaidOnto (map state_of self.old.states.items) (map state_of self.new.states.items) (Language (one_of (class_of class.now))) p.first p.last p.has_empty)) }
     {
-        let p = self.states.len();
-        if p >= MOST_STATES {
+        let number = self.states.len();
+        if number >= MOST_STATES {
             return Ok(None);
         }
         let class = class.copy(alloc)?;
-        self.states.push(State {
-            class,
-            after: behind,
-        })?;
-        Ok(Some(Entry {
-            first: 1 << p,
+        self.states.push(State { class, after: 0 })?;
+        Ok(Some(Part {
+            first: 1 << number,
+            last: 1 << number,
             has_empty: false,
         }))
     }
 
     #[cycle(layout)]
-    fn sequence(
-        &mut self,
-        alloc: Global,
-        parts: &[Node],
-        behind: u64,
-    ) -> Result<Option<Entry>, AllocError>
-        ensures { IfOk result (λ found. IfSome found (λ e. LaidOnto self.old.states.items self.new.states.items (Language (sequence_list parts.now)) behind e.first e.has_empty)) }
+    fn sequence(&mut self, alloc: Global, parts: &[Node]) -> Result<Option<Part>, AllocError>
+        ensures { IfOk result (λ found. IfSome found (λ p. LaidOnto (map state_of self.old.states.items) (map state_of self.new.states.items) (Language (sequence_list parts.now)) p.first p.last p.has_empty)) }
     {
-        let mut entry = Entry::nothing();
-        for k in 0..parts.len() {
-            let part = &parts[parts.len() - 1 - k];
-            let waiting = entry.before(behind);
-            let Some(front) = self.part(alloc, part, waiting)? else {
+        let mut all = NOTHING;
+        for part in parts {
+            let Some(next) = self.part(alloc, part)? else {
                 return Ok(None);
             };
-            entry = front.then(entry);
+            all = self.joined(all, next);
         }
-        Ok(Some(entry))
+        Ok(Some(all))
     }
 
     #[cycle(layout)]
-    fn choice(
-        &mut self,
-        alloc: Global,
-        parts: &[Node],
-        behind: u64,
-    ) -> Result<Option<Entry>, AllocError>
-        ensures { IfOk result (λ found. IfSome found (λ e. LaidOnto self.old.states.items self.new.states.items (Language (choice_list parts.now)) behind e.first e.has_empty)) }
+    fn choice(&mut self, alloc: Global, parts: &[Node]) -> Result<Option<Part>, AllocError>
+        ensures { IfOk result (λ found. IfSome found (λ p. LaidOnto (map state_of self.old.states.items) (map state_of self.new.states.items) (Language (choice_list parts.now)) p.first p.last p.has_empty)) }
     {
-        let mut entry = Entry {
-            first: 0,
+        let mut all = Part {
             has_empty: false,
+            ..NOTHING
         };
-        for k in 0..parts.len() {
-            let part = &parts[parts.len() - 1 - k];
-            let Some(front) = self.part(alloc, part, behind)? else {
+        for part in parts {
+            let Some(next) = self.part(alloc, part)? else {
                 return Ok(None);
             };
-            entry = front.or(entry);
+            all = all.or(next);
         }
-        Ok(Some(entry))
+        Ok(Some(all))
     }
 
     #[cycle(layout)]
@@ -181,94 +130,135 @@ impl Layout {
         alloc: Global,
         body: &Node,
         least: u32,
-        most: Option<u32>,
-        behind: u64,
-    ) -> Result<Option<Entry>, AllocError>
-        ensures { IfOk result (λ found. IfSome found (λ e. LaidOnto self.old.states.items self.new.states.items (RepeatsWithin (Language (tree_of body.now)) least most) behind e.first e.has_empty)) }
+        further: Option<u32>,
+    ) -> Result<Option<Part>, AllocError>
+        ensures { IfOk result (λ found. IfSome found (λ p. LaidOnto (map state_of self.old.states.items) (map state_of self.new.states.items) (RepeatsWithin (Language (tree_of body.now)) least (most_of least further)) p.first p.last p.has_empty)) }
     {
-        let Some(further) = self.further(alloc, body, least, most, behind)? else {
+        let Some(front) = self.exact(alloc, body, turns_in_front(least, further))? else {
             return Ok(None);
         };
-        let mut entry = further;
-        for turn in 0..least {
-            let waiting = entry.before(behind);
-            let Some(front) = self.part(alloc, body, waiting)? else {
-                return Ok(None);
-            };
-            entry = front.then(entry);
-        }
-        Ok(Some(entry))
+        let Some(back) = self.last_turns(alloc, body, least, further)? else {
+            return Ok(None);
+        };
+        Ok(Some(self.joined(front, back)))
     }
 
-    // The turns that may follow the least ones. It gives up where fewer than those are allowed.
+    // The turns that `turns_in_front` leaves.
     #[cycle(layout)]
-    fn further(
+    fn last_turns(
         &mut self,
         alloc: Global,
         body: &Node,
         least: u32,
-        most: Option<u32>,
-        behind: u64,
-    ) -> Result<Option<Entry>, AllocError>
-        ensures enough { IfOk result (λ found. IfSome found (λ _. IfSome most (λ most. least ≤ most))) }
-        ensures laid { IfOk result (λ found. IfSome found (λ e. LaidOnto self.old.states.items self.new.states.items (RepeatsWithin (Language (tree_of body.now)) 0 (left_of least most)) behind e.first e.has_empty)) }
+        further: Option<u32>,
+    ) -> Result<Option<Part>, AllocError>
+        ensures { IfOk result (λ found. IfSome found (λ p. LaidOnto (map state_of self.old.states.items) (map state_of self.new.states.items) (RepeatsWithin (Language (tree_of body.now)) (least - turns_in_front least further) further) p.first p.last p.has_empty)) }
     {
-        match most {
-            Some(most) => {
-                if most < least {
-                    return Ok(None);
-                }
-                self.up_to(alloc, body, most - least, behind)
-            }
-            None => self.any(alloc, body, behind),
+        match further {
+            Some(further) => self.up_to(alloc, body, further),
+            None => self.any(alloc, body, least),
         }
     }
 
+    // So many turns. They end where a turn has no state, and is the empty text or none.
     #[cycle(layout)]
-    fn up_to(
-        &mut self,
-        alloc: Global,
-        body: &Node,
-        most: u32,
-        behind: u64,
-    ) -> Result<Option<Entry>, AllocError>
-        ensures { IfOk result (λ found. IfSome found (λ e. LaidOnto self.old.states.items self.new.states.items (RepeatsWithin (Language (tree_of body.now)) 0 (Some most)) behind e.first e.has_empty)) }
+    fn exact(&mut self, alloc: Global, body: &Node, count: u32) -> Result<Option<Part>, AllocError>
+        ensures { IfOk result (λ found. IfSome found (λ p. LaidOnto (map state_of self.old.states.items) (map state_of self.new.states.items) (Repeats (Language (tree_of body.now)) count) p.first p.last p.has_empty)) }
     {
-        let mut entry = Entry::nothing();
-        for turn in 0..most {
-            let waiting = entry.before(behind);
-            let Some(front) = self.part(alloc, body, waiting)? else {
+        let mut all = NOTHING;
+        for turn in 0..count {
+            let Some(next) = self.part(alloc, body)? else {
                 return Ok(None);
             };
-            let more = front.then(entry);
-            entry = Entry {
-                first: more.first,
-                has_empty: true,
-            };
+            all = self.joined(all, next);
+            if next.first == 0 {
+                return Ok(Some(all));
+            }
         }
-        Ok(Some(entry))
+        Ok(Some(all))
     }
 
-    // Any number of times. The first states are those of a trial; the second time they wait after the part too.
+    // Up to so many turns. They end where a turn has no state.
     #[cycle(layout)]
-    fn any(&mut self, alloc: Global, body: &Node, behind: u64) -> Result<Option<Entry>, AllocError>
-        ensures { IfOk result (λ found. IfSome found (λ e. LaidOnto self.old.states.items self.new.states.items (RepeatsWithin (Language (tree_of body.now)) 0 None) behind e.first e.has_empty)) }
+    fn up_to(&mut self, alloc: Global, body: &Node, most: u32) -> Result<Option<Part>, AllocError>
+        ensures { IfOk result (λ found. IfSome found (λ p. LaidOnto (map state_of self.old.states.items) (map state_of self.new.states.items) (RepeatsWithin (Language (tree_of body.now)) 0 (Some most)) p.first p.last p.has_empty)) }
     {
-        let count = self.states.len();
-        let Some(trial) = self.part(alloc, body, behind)? else {
-            return Ok(None);
-        };
-        self.states.truncate(count);
-        let Some(again) = self.part(alloc, body, behind | trial.first)? else {
-            return Ok(None);
-        };
-        if again.first != trial.first {
-            return Ok(None);
+        let mut all = NOTHING;
+        for turn in 0..most {
+            let Some(next) = self.part(alloc, body)? else {
+                return Ok(None);
+            };
+            if next.first == 0 {
+                return Ok(Some(all));
+            }
+            let more = self.joined(all, next);
+            all = Part {
+                has_empty: true,
+                ..more
+            };
         }
-        Ok(Some(Entry {
-            first: again.first,
-            has_empty: true,
+        Ok(Some(all))
+    }
+
+    // Any number of turns, or at least one where `least` is not 0: after the last states the first ones wait again.
+    #[cycle(layout)]
+    fn any(&mut self, alloc: Global, body: &Node, least: u32) -> Result<Option<Part>, AllocError>
+        ensures { IfOk result (λ found. IfSome found (λ p. LaidOnto (map state_of self.old.states.items) (map state_of self.new.states.items) (RepeatsWithin (Language (tree_of body.now)) (least - (least - 1)) None) p.first p.last p.has_empty)) }
+    {
+        let Some(turn) = self.part(alloc, body)? else {
+            return Ok(None);
+        };
+        self.link(turn.last, turn.first);
+        Ok(Some(Part {
+            has_empty: turn.has_empty || least == 0,
+            ..turn
         }))
+    }
+
+    // The one part and then the other.
+    fn joined(&mut self, one: Part, other: Part) -> Part
+        ensures linked { AreLinked one.last other.first (map state_of self.old.states.items) (map state_of self.new.states.items) }
+        ensures first { result.first ≡ through one.has_empty one.first other.first }
+        ensures last { result.last ≡ through other.has_empty other.last one.last }
+        ensures has_empty { result.has_empty ≡ (one.has_empty && other.has_empty) }
+    {
+        self.link(one.last, other.first);
+        Part {
+            first: through(one.has_empty, one.first, other.first),
+            last: through(other.has_empty, other.last, one.last),
+            has_empty: one.has_empty && other.has_empty,
+        }
+    }
+
+    // After each of the last states the first ones wait too.
+    fn link(&mut self, last: u64, first: u64)
+        ensures { AreLinked last first (map state_of self.old.states.items) (map state_of self.new.states.items) }
+    {
+        let mut rest = last;
+        while rest != 0 {
+            self.link_one(rest.trailing_zeros() as usize, first);
+            rest &= rest - 1;
+        }
+    }
+
+    fn link_one(&mut self, number: usize, first: u64)
+        requires { number < 64 }
+        ensures { AreLinked (2 ^ number) first (map state_of self.old.states.items) (map state_of self.new.states.items) }
+    {
+        if let Some(state) = self.states.get_mut(number) {
+            state.after |= first;
+        }
+    }
+}
+
+// How many of the turns come in front of the last ones: those are the further ones, or any number of them with one of the least.
+fn turns_in_front(least: u32, further: Option<u32>) -> u32
+    ensures { result ≡ turns_in_front least further }
+{
+    if further.is_some() {
+        least
+    } else {
+        least.saturating_sub(1)
     }
 }
 
@@ -278,15 +268,15 @@ pub(crate) fn automaton_of(alloc: Global, root: &Node) -> Result<Option<Automato
 {
     let mut layout = Layout {
         states: Vec::new(alloc),
-        fuel: 1000,
     };
-    let Some(entry) = layout.part(alloc, root, END)? else {
+    let Some(all) = layout.part(alloc, root)? else {
         return Ok(None);
     };
     if layout.states.len() > MOST_STATES {
         return Ok(None);
     }
-    let starts = entry.before(END);
+    layout.link(all.last, END);
+    let starts = through(all.has_empty, all.first, END);
     let automaton = Automaton::new(alloc, layout.states, starts)?;
     Ok(Some(automaton))
 }

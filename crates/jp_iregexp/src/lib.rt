@@ -12,6 +12,7 @@ mod codes;
 mod compiled;
 mod counts;
 mod escapes;
+mod even;
 mod group;
 mod groups;
 mod items;

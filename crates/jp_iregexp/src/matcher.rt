@@ -1,13 +1,15 @@
 //! Which positions a part of a pattern reaches.
 
-ghost use Rattle.std.specs.Prelude.{Some, None, IfOk};
+ghost use Rattle.std.specs.Prelude.{◌<◌, ◌≤◌, ◌^◌, Some, None, IfOk};
+ghost use Rattle.jp_iregexp.specs.Evens.{HaveLength};
 ghost use Rattle.jp_iregexp.specs.Positions.{AreEnds, AreStarts};
 ghost use Rattle.jp_model.specs.Pattern.Language.{Language, Repeats, RepeatsWithin};
 ghost use Rattle.jp_iregexp.specs.Tables.{Kept, KeptList, KeptRows};
-ghost use Rattle.jp_iregexp.specs.Nodes.{tree_of, class_of, sequence_list, choice_list};
+ghost use Rattle.jp_iregexp.specs.Nodes.{most_of, tree_of, class_of, sequence_list, choice_list};
 ghost use Rattle.jp_model.specs.Pattern.Tree.{one_of, times};
 
 use crate::class::Class;
+use crate::even::{common_length, doubled};
 use crate::node::Node;
 use crate::positions::PositionSet;
 use crate::runs::{count_ends, run_ends, window_ends};
@@ -54,9 +56,9 @@ pub(crate) fn ends(
         Node::Repeated {
             body,
             least,
-            most,
+            further,
             rows,
-        } => repeated_ends(alloc, body, rows.as_slice(), *least, *most, text, starts),
+        } => repeated_ends(alloc, body, rows.as_slice(), *least, *further, text, starts),
     }
 }
 
@@ -99,34 +101,26 @@ fn choice_ends(
     Ok(all)
 }
 
-// The part from `least` to `most` times.
+// The part `least` times, and up to so many further times.
 #[cycle(ends)]
 fn repeated_ends(
     alloc: Global,
     body: &Node,
     rows: &[PositionSet],
     least: u32,
-    most: Option<u32>,
+    further: Option<u32>,
     text: &[char],
     starts: &PositionSet,
 ) -> Result<PositionSet, AllocError>
     requires starts { AreStarts text.now starts.now }
     requires kept { Kept text.now body.now }
     requires rows { KeptRows text.now body.now rows.now }
-    ensures { IfOk result (λ out. AreEnds (Language (times (tree_of body.now) least most)) text.now starts.now out) }
+    ensures { IfOk result (λ out. AreEnds (Language (times (tree_of body.now) least (most_of least further))) text.now starts.now out) }
 {
-    match most {
-        Some(most) => {
-            if most < least {
-                return Ok(PositionSet::empty(alloc));
-            }
-            let reached = exact_turns(alloc, body, rows, least, text, starts)?;
-            up_to_turns(alloc, body, rows, most - least, text, &reached)
-        }
-        None => {
-            let reached = exact_turns(alloc, body, rows, least, text, starts)?;
-            any_turns(alloc, body, rows, text, &reached)
-        }
+    let reached = exact_turns(alloc, body, rows, least, text, starts)?;
+    match further {
+        Some(further) => up_to_turns(alloc, body, rows, further, text, &reached),
+        None => any_turns(alloc, body, rows, text, &reached),
     }
 }
 
@@ -187,13 +181,50 @@ fn exact_turns(
     requires rows { KeptRows text.now body.now rows.now }
     ensures { IfOk result (λ out. AreEnds (Repeats (Language (tree_of body.now)) count) text.now starts.now out) }
 {
-    match body {
-        Node::Class(class) => count_ends(alloc, class, text, count, starts),
+    if let Node::Class(class) = body {
+        return count_ends(alloc, class, text, count, starts);
+    }
+    match common_length(body) {
+        Some(length) if length > 0 && count > 1 => {
+            even_turns(alloc, body, rows, length, count, text, starts)
+        }
         _ => counted_turns(alloc, body, rows, count, text, starts),
     }
 }
 
-// So many turns. They stop where one changes nothing.
+// So many turns of a part whose texts all have this length: the ends of one turn are found once, from each position that the turns
+// may come to.
+#[cycle(ends)]
+fn even_turns(
+    alloc: Global,
+    body: &Node,
+    rows: &[PositionSet],
+    length: usize,
+    count: u32,
+    text: &[char],
+    starts: &PositionSet,
+) -> Result<PositionSet, AllocError>
+    requires starts { AreStarts text.now starts.now }
+    requires kept { Kept text.now body.now }
+    requires rows { KeptRows text.now body.now rows.now }
+    requires length { HaveLength (Language (tree_of body.now)) length }
+    requires some { 0 < length }
+    requires small { length ≤ 2 ^ 31 }
+    requires many { 0 < count }
+    ensures { IfOk result (λ out. AreEnds (Repeats (Language (tree_of body.now)) count) text.now starts.now out) }
+{
+    let distance = count as usize * length;
+    if distance > text.len() {
+        return Ok(PositionSet::empty(alloc));
+    }
+    let high = (starts.high() + distance).min(text.len() + 1);
+    let from = PositionSet::range(alloc, starts.low(), high)?;
+    let once = one_turn(alloc, body, rows, text, &from)?;
+    let all = doubled(alloc, &once, length, count)?;
+    starts.moved_within(alloc, distance, &all)
+}
+
+// So many turns. They stop where one changes nothing, as where nothing is reached any more.
 #[cycle(ends)]
 fn counted_turns(
     alloc: Global,

@@ -1,6 +1,6 @@
 //! Sets of positions of a text, as bits of 64-bit words.
 
-ghost use Rattle.std.specs.Prelude.{◌≡◌, ◌^◌, ℕ, ◌+◌, ◌<◌, ◌≤◌, ◌↔◌, ◌⊎◌, IsTrue, IfOk, OnOk};
+ghost use Rattle.std.specs.Prelude.{◌≡◌, ◌^◌, ℕ, ◌+◌, ◌-◌, ◌<◌, ◌≤◌, ◌↔◌, ◌⊎◌, IsTrue, IfOk, OnOk};
 ghost use Rattle.std.specs.Int.{bit_at};
 ghost use Rattle.jp_iregexp.specs.Positions.{Has, IsSetOver};
 
@@ -43,6 +43,19 @@ impl PositionSet {
         let mut set = PositionSet::empty(alloc);
         for w in 0..length / 64 + 1 {
             set.window.add_word(w, first_bits(length - w * 64))?;
+        }
+        Ok(set)
+    }
+
+    /// Each position from the first one on, up to the one before the second.
+    pub(crate) fn range(alloc: Global, low: usize, high: usize) -> Result<PositionSet, AllocError>
+        requires { high ≤ 2 ^ 63 }
+        ensures sound { IfOk result (λ set. (p : ℕ) → Has set p → low ≤ p × p < high) }
+        ensures each { IfOk result (λ set. (p : ℕ) → low ≤ p → p < high → Has set p) }
+    {
+        let mut set = PositionSet::empty(alloc);
+        for p in low..high {
+            set.insert(p)?;
         }
         Ok(set)
     }
@@ -123,6 +136,26 @@ impl PositionSet {
         for (i, word) in self.window.words.iter().enumerate() {
             let w = self.window.first + i;
             set.window.add_word(w, *word & !other.window.word(w))?;
+        }
+        Ok(set)
+    }
+
+    /// The positions so far behind those of this set, as far as the other set has them.
+    pub(crate) fn moved_within(
+        &self,
+        alloc: Global,
+        distance: usize,
+        other: &PositionSet,
+    ) -> Result<PositionSet, AllocError>
+        ensures { IfOk result (λ set. (q : ℕ) → Has set q ↔ (distance ≤ q × Has self.now (q - distance) × Has other.now q)) }
+    {
+        let mut set = PositionSet::empty(alloc);
+        let low = self.low().saturating_add(distance);
+        let high = self.high().saturating_add(distance);
+        for q in low.max(other.low())..high.min(other.high()) {
+            if other.contains(q) && self.contains(q - distance) {
+                set.insert(q)?;
+            }
         }
         Ok(set)
     }

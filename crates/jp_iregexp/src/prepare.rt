@@ -1,20 +1,25 @@
-//! Nested counts. Where a count is under another one, the turns of the outer one would repeat those of the inner one,
-//! and the counts multiply. So each part under a count that has a count in it gets a table of its ends first: for a text of n
-//! scalars, n + 1 rows, each as wide as what it reaches, which live as long as the match. A count over a class takes no turns,
-//! but one pass, and needs no table around it.
+//! Turns in turns. Where a part that takes turns is in another one, the turns of the outer one repeat those of the inner one, and
+//! their numbers multiply. Turns end where they reach nothing new, after no more of them than the text has scalars, so one in
+//! another one costs no more than a table of the inner one's ends would. Where more are in one another, each part under one of
+//! them gets such a table first: for a text of n scalars, n + 1 rows, each as wide as what it reaches, which live as long as the
+//! match. Scalars of a class take no turns, but one pass, nor do parts of one length.
 
 ghost use Rattle.std.specs.Prelude.{◌≡◌, ◌^◌, ◌<◌, ℕ, List, false, map, length, IfOk};
 ghost use Rattle.jp_model.specs.Pattern.Language.{Language};
 ghost use Rattle.jp_model.specs.Pattern.Tree.{times};
 ghost use Rattle.jp_iregexp.specs.Positions.{AreEnds, AreStarts};
 ghost use Rattle.jp_iregexp.specs.Tables.{Kept, KeptList, KeptRows};
-ghost use Rattle.jp_iregexp.specs.Nodes.{tree_of};
+ghost use Rattle.jp_iregexp.specs.Nodes.{most_of, tree_of};
 
+use crate::even::common_length;
 use crate::matcher::ends;
 use crate::node::Node;
 use crate::positions::PositionSet;
 use crate::table::table;
 use std::alloc::{AllocError, Global};
+
+// So many parts that take turns may be in one another without a table.
+const MOST_LEVELS: usize = 2;
 
 /// The positions where a text of the part ends that begins at one of the starts.
 pub(crate) fn reach(
@@ -26,62 +31,40 @@ pub(crate) fn reach(
     requires { AreStarts text.now starts.now }
     ensures { IfOk result (λ out. AreEnds (Language (tree_of node.now)) text.now starts.now out) }
 {
-    if !needs_tables(node) {
+    if !needs_tables(node, MOST_LEVELS) {
         return ends(alloc, node, text, starts);
     }
     let prepared = prepare(alloc, node, text)?;
     ends(alloc, &prepared, text, starts)
 }
 
-// Whether a repeated part that takes turns is in the part.
-#[cycle(turns)]
-fn has_turns(node: &Node) -> bool {
-    match node {
-        Node::Class(_) => false,
-        Node::Sequence(parts) => some_has_turns(parts.as_slice()),
-        Node::Choice(parts) => some_has_turns(parts.as_slice()),
-        Node::Repeated { body, .. } => !is_class(body),
-    }
-}
-
-fn is_class(node: &Node) -> bool {
-    matches!(node, Node::Class(_))
-}
-
-#[cycle(turns)]
-fn some_has_turns(parts: &[Node]) -> bool {
-    for part in parts {
-        if has_turns(part) {
-            return true;
-        }
-    }
-    false
-}
-
-// Whether a repeated part that takes turns is in another one, or one has rows already.
+// Whether more parts than this that take turns are in one another, or one has a table.
 #[cycle(needs)]
-fn needs_tables(node: &Node) -> bool
+fn needs_tables(node: &Node, levels: usize) -> bool
     ensures { result ≡ false → (text : List ℕ) → Kept text node.now }
 {
     match node {
         Node::Class(_) => false,
-        Node::Sequence(parts) => some_needs_tables(parts.as_slice()),
-        Node::Choice(parts) => some_needs_tables(parts.as_slice()),
+        Node::Sequence(parts) => some_needs_tables(parts.as_slice(), levels),
+        Node::Choice(parts) => some_needs_tables(parts.as_slice(), levels),
         Node::Repeated { body, rows, .. } => {
-            if !rows.is_empty() || has_turns(body) {
+            if !rows.is_empty() {
                 return true;
             }
-            needs_tables(body)
+            if matches!(**body, Node::Class(_)) || common_length(node).is_some() {
+                return needs_tables(body, levels);
+            }
+            levels == 0 || needs_tables(body, levels - 1)
         }
     }
 }
 
 #[cycle(needs)]
-fn some_needs_tables(parts: &[Node]) -> bool
+fn some_needs_tables(parts: &[Node], levels: usize) -> bool
     ensures { result ≡ false → (text : List ℕ) → KeptList text parts.now }
 {
     for part in parts {
-        if needs_tables(part) {
+        if needs_tables(part, levels) {
             return true;
         }
     }
@@ -111,11 +94,11 @@ fn prepare(alloc: Global, node: &Node, text: &[char]) -> Result<Node, AllocError
         Node::Repeated {
             body,
             least,
-            most,
+            further,
             ..
         } => {
             let made = prepare(alloc, body, text)?;
-            with_rows(alloc, made, *least, *most, text)
+            with_rows(alloc, made, *least, *further, text)
         }
     }
 }
@@ -140,12 +123,12 @@ fn with_rows(
     alloc: Global,
     body: Node,
     least: u32,
-    most: Option<u32>,
+    further: Option<u32>,
     text: &[char],
 ) -> Result<Node, AllocError>
     requires fits { length text.now < 2 ^ 63 }
     requires kept { Kept text.now body }
-    ensures same { IfOk result (λ made. tree_of made ≡ times (tree_of body) least most) }
+    ensures same { IfOk result (λ made. tree_of made ≡ times (tree_of body) least (most_of least further)) }
     ensures kept { IfOk result (λ made. Kept text.now made) }
 {
     let rows = rows_of(alloc, &body, text)?;
@@ -153,7 +136,7 @@ fn with_rows(
     Ok(Node::Repeated {
         body,
         least,
-        most,
+        further,
         rows,
     })
 }
@@ -164,7 +147,7 @@ fn rows_of(alloc: Global, body: &Node, text: &[char]) -> Result<Vec<PositionSet>
     requires kept { Kept text.now body.now }
     ensures { IfOk result (λ rows. KeptRows text.now body.now rows.items) }
 {
-    if has_turns(body) {
+    if needs_tables(body, 0) {
         table(alloc, body, text)
     } else {
         Ok(Vec::new(alloc))

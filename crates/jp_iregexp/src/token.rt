@@ -20,7 +20,7 @@ pub(crate) enum Token {
     Open,
     Close,
     Bar,
-    /// A quantifier, by its least and its greatest number.
+    /// A quantifier: its least number, and how many may follow, where that is bounded.
     Count(u32, Option<u32>),
 }
 
@@ -53,7 +53,7 @@ fn read_longer(
     if first == '{' {
         match read_bounds(text) {
             None => Ok(None),
-            Some(((least, most), rest)) => Ok(Some((Token::Count(least, most), rest))),
+            Some(((least, further), rest)) => Ok(Some((Token::Count(least, further), rest))),
         }
     } else if first == '[' {
         match read_brackets(alloc, text)? {

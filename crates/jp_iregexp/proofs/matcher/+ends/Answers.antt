@@ -1,10 +1,11 @@
-use Rattle.std.proofs.Common.{◌≡◌, ℕ, ◌-◌, ◌≤◌, inl, inr, Option, Some, None, IfOk, length, arith, rules, sym, ◌∙◌, ap, subst}
+use Rattle.std.proofs.Common.{◌≡◌, ℕ, ◌+◌, ◌*◌, ◌-◌, ◌≤◌, ◌↔◌, inl, inr, refl, Option, Some, None, IfOk, length, arith, rules, sym, ◌∙◌, ap, subst}
 use Rattle.jp_iregexp.specs.declared.node.Node.{Node, the_lemmas}
 use Rattle.jp_iregexp.specs.declared.positions.PositionSet.{PositionSet}
 use Rattle.jp_model.specs.Pattern.Language.{Language, Repeats, RepeatsWithin}
 use Rattle.jp_model.specs.Pattern.Tree.{Pattern}
-use Rattle.jp_iregexp.specs.Positions.{AreEnds}
-use Rattle.jp_iregexp.specs.Nodes.{tree_of, sequence_list, choice_list}
+use Rattle.jp_iregexp.specs.Positions.{Has, AreEnds}
+use Rattle.jp_iregexp.proofs.Evens.{even_ends, even_none}
+use Rattle.jp_iregexp.specs.Nodes.{most_of, tree_of, sequence_list, choice_list}
 use Rattle.jp_iregexp.proofs.Parts.{tree_of_Sequence, tree_of_Choice, drop_item, drop_past, if_ok_map}
 use Rattle.jp_iregexp.proofs.Turns.{continue_start, sequence_step, sequence_end, gather_step, gather_end, exact_start, exact_step, exact_exit, exact_end, further_start, further_step, further_exit, further_end, front_start, front_step, times_some, times_none, any_number}
 use Rattle.jp_iregexp.proofs.Reaching.{same_over}
@@ -50,6 +51,22 @@ ends-returns-in-Choice t c =
 pub exact_turns-returns-in-Class : goal.exact_turns-returns-in-Class
 exact_turns-returns-in-Class t c =
     subst (λ (n : Node). IfOk c.count_ends.result (λ (out : PositionSet). AreEnds (Repeats (Language (tree_of n)) c.args.count) c.args.text.now c.args.starts.now out)) (sym c.in-Class.is) c.count_ends.ensures
+
+pub even_turns-returns-then-distance-text : goal.even_turns-returns-then-distance-text
+even_turns-returns-then-distance-text t c =
+    even_none (Language (tree_of c.args.body.now)) c.args.length c.requires.length c.args.text.now c.args.starts.now c.empty.result c.args.count (c.args.count * c.args.length) refl (omega (arith, c.if-distance-text.true)) c.empty.ensures
+
+pub even_turns-returns : goal.even_turns-returns
+even_turns-returns t c =
+    let member = Language (tree_of c.args.body.now) in
+    let text = c.args.text.now in
+    let starts = c.args.starts.now in
+    let step = c.args.length in
+    let distance = c.args.count * step in
+    let from = c.in_ok-from.ensures in
+    if_ok_map (λ (out : PositionSet). (q : ℕ) → Has out q ↔ (distance ≤ q × Has starts (q - distance) × Has c.in_ok-all.all q)) (λ (out : PositionSet). AreEnds (Repeats member c.args.count) text starts out) c.moved_within.result
+    (λ out moved. even_ends member step c.requires.length c.requires.some text c.low.result c.min-high.result c.in_ok-from.from c.in_ok-once.once (record { sound = from.sound; each = from.each }) c.in_ok-once.ensures
+    starts c.in_ok-all.all out c.args.count distance refl c.requires.many c.low.ensures (λ p h fits. let high = c.high.ensures.above p h in let min = c.min-high.ensures in omega (arith, high, min, fits)) c.in_ok-all.ensures moved) c.moved_within.ensures
 
 pub counted_turns-loop-turn-init : goal.counted_turns-loop-turn-init
 counted_turns-loop-turn-init t c =
@@ -120,29 +137,27 @@ any_turns-returns-in_default t c =
     if_ok_map (λ (out : PositionSet). AreEnds (RepeatsWithin member 0 (Some (length text))) text starts out) (λ (out : PositionSet). AreEnds (RepeatsWithin member 0 None) text starts out) c.further_turns.result
     (λ out b. any_number member text starts out b) c.further_turns.ensures
 
-pub repeated_ends-returns-in_ok-reached-in-Some : goal.repeated_ends-returns-in_ok-reached-in-Some
-repeated_ends-returns-in_ok-reached-in-Some t c =
+pub repeated_ends-returns-in-Some : goal.repeated_ends-returns-in-Some
+repeated_ends-returns-in-Some t c =
     let member = Language (tree_of c.args.body.now) in
     let text = c.args.text.now in
     let starts = c.args.starts.now in
-    let reached = c.in_ok-reached-in-Some.reached in
+    let reached = c.in_ok-reached.reached in
     let least = c.args.least in
-    let most = c.in-Some.most in
-    let enough : least ≤ most = omega arith in
-    subst (λ (m : Option ℕ). IfOk c.up_to_turns.result (λ (out : PositionSet). AreEnds (RepeatsWithin member least m) text starts out)) (sym c.in-Some.is)
-    (if_ok_map (λ (out : PositionSet). AreEnds (RepeatsWithin member 0 (Some (most - least))) text reached out) (λ (out : PositionSet). AreEnds (RepeatsWithin member least (Some most)) text starts out) c.up_to_turns.result
-    (λ out b. times_some member least most text starts reached out enough c.in_ok-reached-in-Some.ensures b) c.up_to_turns.ensures)
+    subst (λ (m : Option ℕ). IfOk c.up_to_turns.result (λ (out : PositionSet). AreEnds (RepeatsWithin member least (most_of least m)) text starts out)) (sym c.in-Some.is)
+    (if_ok_map (λ (out : PositionSet). AreEnds (RepeatsWithin member 0 (Some c.in-Some.further)) text reached out) (λ (out : PositionSet). AreEnds (RepeatsWithin member least (Some (least + c.in-Some.further))) text starts out) c.up_to_turns.result
+    (λ out b. times_some member least c.in-Some.further text starts reached out c.in_ok-reached.ensures b) c.up_to_turns.ensures)
 
-pub repeated_ends-returns-in_ok-reached-in-None : goal.repeated_ends-returns-in_ok-reached-in-None
-repeated_ends-returns-in_ok-reached-in-None t c =
+pub repeated_ends-returns : goal.repeated_ends-returns
+repeated_ends-returns t c =
     let member = Language (tree_of c.args.body.now) in
     let text = c.args.text.now in
     let starts = c.args.starts.now in
-    let reached = c.in_ok-reached-in-None.reached in
+    let reached = c.in_ok-reached.reached in
     let least = c.args.least in
-    subst (λ (m : Option ℕ). IfOk c.any_turns.result (λ (out : PositionSet). AreEnds (RepeatsWithin member least m) text starts out)) (sym c.in-None.is)
+    subst (λ (m : Option ℕ). IfOk c.any_turns.result (λ (out : PositionSet). AreEnds (RepeatsWithin member least (most_of least m)) text starts out)) (sym c.in-None.is)
     (if_ok_map (λ (out : PositionSet). AreEnds (RepeatsWithin member 0 None) text reached out) (λ (out : PositionSet). AreEnds (RepeatsWithin member least None) text starts out) c.any_turns.result
-    (λ out b. times_none member least text starts reached out c.in_ok-reached-in-None.ensures b) c.any_turns.ensures)
+    (λ out b. times_none member least text starts reached out c.in_ok-reached.ensures b) c.any_turns.ensures)
 
 pub choice_ends-ends-requires : goal.choice_ends-ends-requires
 choice_ends-ends-requires t c =
