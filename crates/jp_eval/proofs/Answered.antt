@@ -35,10 +35,6 @@ kept_more run answers new e h = λ position answer f. more_of (λ k a. IsAnswer 
 pub none_more : (answers new : List (Option Answer)) → new ≡ answers ++ None ∷ [] → HasNone answers → HasNone new
 none_more answers new e h = record { none = λ position answer f. more_of (λ k a. ⊥) answers h.none position answer (ap (λ (l : List (Option Answer)). slice_get l position) (sym e) ∙ f) }
 
--- so each that is there is right
-pub none_kept : (run : Run) (answers : List (Option Answer)) → answers ≡ [] → AreKept run answers
-none_kept run answers e = λ position answer f. absurd ((none_in answers e).none position answer f)
-
 -- what stands in a list in which one item was set
 pub got : {A B : Type 0} (l : List A) (i j : ℕ) (x y : A) → slice_get (slice_set l i x) j ≡ Some y → (i ≡ j → x ≡ y → B) → (slice_get l j ≡ Some y → B) → B
 got [] i j x y h f g = g h

@@ -1,6 +1,6 @@
 -- How many nodes were added, and which was the only one.
-use Rattle.std.proofs.Common.{◌≡◌, ℕ, ◌+◌, ◌<◌, List, [], ◌∷◌, ◌++◌, length, map, take, drop, get_or, Bool, true, false, not, ltb, ◌==◌, sym, ◌∙◌, ap, subst, refl, arith, Some, None, length-append, append-nil}
-use Rattle.std.proofs.lemmas.Bool.{eqb-true, lt-ltb, le-ltb}
+use Rattle.std.proofs.Common.{◌≡◌, ℕ, ◌+◌, ◌<◌, List, [], ◌∷◌, ◌++◌, length, map, take, drop, get_or, Bool, true, false, ◌==◌, sym, ◌∙◌, ap, subst, refl, arith, Some, None, length-append, append-nil}
+use Rattle.std.proofs.lemmas.Bool.{eqb-true}
 use Rattle.std.proofs.lemmas.List.{length-map, map-append, drop_at, take_all}
 use Rattle.jp_model.specs.Json.Tree.{value_of}
 use Rattle.jp_model.specs.Meaning.Nodes.{Node}
@@ -37,25 +37,30 @@ all_added most old new k n found e h =
     let size = ap length all in
     all ∙ not_cut most (map node_of old ++ found) (omega (arith, size, l, h))
 
--- where each is counted none is kept
-pub none_kept : (most : ℕ) (line : List ℕ) (old new : List Cursor) (k n : ℕ) (found : List Node) → Adds line old new → tallied true most new n [] ≡ tallied true most old k found → new ≡ old
-none_kept most line old new k n found a e =
-    let same : map node_of new ≡ map node_of old = ap (λ (t : Tally). t.nodes) e in
-    let size = ap length same in
-    let l = length-map new node_of in
-    let m = length-map old node_of in
-    let is = ap length a.is in
-    let sum = length-append old a.others in
-    a.is ∙ (ap (λ (xs : List Cursor). old ++ xs) (none a.others (omega (arith, size, l, m, is, sum))) ∙ append-nil old)
-  where
-    none : (xs : List Cursor) → length xs ≡ 0 → xs ≡ []
-    none [] h = refl
-    none (x ∷ xs) h = absurd (omega (arith, h))
-
+-- where each is counted, all are
 pub counted_so : (most : ℕ) (old new : List Cursor) (k n : ℕ) (found : List Node) → tallied true most new n [] ≡ tallied true most old k found → n ≡ k + length found
 counted_so most old new k n found e =
     let c : n + 0 ≡ k + length found = ap (λ (t : Tally). t.count) e in
     omega (arith, c)
+
+-- where as many are kept and counted as before, and more are looked for, none was added
+pub none_added : (most : ℕ) (old new : Frame) (found : List Node) → tally most new [] ≡ tally most old found → length new.found.items ≡ length old.found.items → new.count ≡ old.count → length old.found.items < most → found ≡ []
+none_added most old new found e l k h = by (is_counted most) e
+  where
+    none : (xs : List Node) → length xs ≡ 0 → xs ≡ []
+    none [] h = refl
+    none (x ∷ xs) h = absurd (omega (arith, h))
+
+    by : (b : Bool) → tallied b most new.found.items new.count [] ≡ tallied b most old.found.items old.count found → found ≡ []
+    by true f =
+        let c = counted_so most old.found.items new.found.items old.count new.count found f in
+        none found (omega (arith, c, k))
+    by false f =
+        let all = ap length (all_added most old.found.items new.found.items old.count new.count found f (omega (arith, l, h))) in
+        let a = length-map new.found.items node_of in
+        let b = length-map old.found.items node_of in
+        let sum = length-append (map node_of old.found.items) found in
+        none found (omega (arith, all, a, b, sum, l))
 
 -- the nodes that were added behind the old ones, so many at most
 others_are : (more : ℕ) (line : List ℕ) (old new : List Cursor) (k n before : ℕ) (found : List Node) (a : Adds line old new) → length old ≡ before → tallied false (before + more) new n [] ≡ tallied false (before + more) old k found
@@ -67,21 +72,6 @@ others_are more line old new k n before found a l e =
     let new_is : map node_of new ++ [] ≡ map node_of old ++ own = append-nil (map node_of new) ∙ (ap (map node_of) a.is ∙ map-append node_of old a.others) in
     let both : map node_of old ++ take more own ≡ map node_of old ++ take more found = sym (cut own) ∙ (ap (take (before + more)) (sym new_is) ∙ (ap (λ (t : Tally). t.nodes) e ∙ cut found)) in
     sym (drop_at (map node_of old) (take more own) before m) ∙ (ap (drop before) both ∙ drop_at (map node_of old) (take more found) before m)
-
--- one was added where there is one
-pub some_found : (line : List ℕ) (old new : List Cursor) (k n before : ℕ) (found : List Node) → Adds line old new → length old ≡ before → tallied false (before + 1) new n [] ≡ tallied false (before + 1) old k found
-    → ltb before (length new) ≡ not (length found == 0)
-some_found line old new k n before found a l e =
-    let one = others_are 1 line old new k n before found a l e in
-    let size = ap length a.is in
-    let sum = length-append old a.others in
-    by a.others found one (omega (arith, size, sum, l))
-  where
-    by : (others : List Cursor) (found : List Node) → take 1 (map node_of others) ≡ take 1 found → length new ≡ before + length others → ltb before (length new) ≡ not (length found == 0)
-    by [] [] e h = le-ltb before (length new) (omega (arith, h))
-    by [] (x ∷ found) e h = absurd (cc)
-    by (c ∷ others) [] e h = absurd (cc)
-    by (c ∷ others) (x ∷ found) e h = lt-ltb before (length new) (omega (arith, h)) ∙ sym (ap not (differs (length (x ∷ found)) 0 (λ i. let none : length (x ∷ found) ≡ 0 = i in absurd (cc))))
 
 single_from : (found : List Node) (n : Node) → n ∷ [] ≡ take 2 found → Some (value_of n.tree) ≡ single_value found
 single_from [] n e = absurd (cc)

@@ -1,6 +1,6 @@
 -- The element of an index.
-use Rattle.std.proofs.Common.{◌≡◌, ◌∙◌, ℕ, zero, suc, ◌+◌, ◌-◌, ◌<◌, ◌≤◌, ℤ, pos, negsuc, ◌<ℤ◌, List, [], ◌∷◌, map, filter, drop, cond, true, false, ◌&&◌, Option, Some, None, sym, ap, refl, arith, ◌⊎◌, inl, inr, leb}
-use Rattle.std.specs.Prelude.{option_map}
+use Rattle.std.proofs.Common.{◌≡◌, ◌∙◌, ℕ, zero, suc, ◌+◌, ◌-◌, ◌<◌, ◌≤◌, ℤ, pos, negsuc, nat_abs, ◌<ℤ◌, List, [], ◌∷◌, map, filter, drop, cond, true, false, ◌&&◌, Option, Some, None, sym, ap, refl, arith, ◌⊎◌, inl, inr, leb}
+use Rattle.std.specs.Prelude.{option_map, int_lt}
 use Rattle.std.proofs.lemmas.Int.{ints}
 use Rattle.std.proofs.lemmas.Bool.{cases_lt, le-leb, lt-leb, and_left, and_right}
 use Rattle.jp_model.specs.Steps.{Step, name_step, index_step, same_int}
@@ -117,3 +117,8 @@ none_outside c z h =
         let few = children_few c in
         let count = length-children (node_of c) in
         int_other k i (λ e. omega (arith, ints, h, e, b, few, count))
+
+-- an integer that is not below 0 is its distance from 0
+pub whole_again : (z : ℤ) → int_lt z (pos 0) ≡ false → pos (nat_abs z) ≡ z
+whole_again (pos n) h = refl
+whole_again (negsuc n) h = absurd (cc)

@@ -1,5 +1,5 @@
 -- What is asked of the root is the same for each node.
-use Rattle.std.proofs.Common.{◌≡◌, ◌+◌, ◌∷◌, ◌&&◌, ◌||◌, ◌==◌, Bool, true, List, length, not, refl, sym, ◌∙◌, ap, ap₂}
+use Rattle.std.proofs.Common.{◌≡◌, ◌+◌, ◌∷◌, ◌&&◌, ◌||◌, ◌==◌, Bool, List, length, not, refl, ap, ap₂}
 use Rattle.jp_model.specs.Json.Tree.{Tree}
 use Rattle.jp_model.specs.Meaning.Compare.{compared}
 use Rattle.jp_model.specs.Meaning.Functions.{ArgumentResult, given_value, logical_function, single_value, value_function}
@@ -29,7 +29,7 @@ mutual
 
   pub side_size : (a : Comparable) → size_of_comparable (side_from_root a) ≡ size_of_comparable a
   side_size (constant c) = refl
-  side_size (single p) = ap (λ n. n + 3) (path_size p)
+  side_size (single p) = ap (λ n. n + 4) (path_size p)
   side_size (result c) = ap (λ n. n + 3) (call_size c)
 
   call_size : (c : Call) → size_of_call (call_from_root c) ≡ size_of_call c
@@ -41,7 +41,7 @@ mutual
 
   argument_size : (a : Argument) → size_of_argument (argument_from_root a) ≡ size_of_argument a
   argument_size (constant_argument c) = refl
-  argument_size (nodes_argument p) = ap (λ n. n + 3) (path_size p)
+  argument_size (nodes_argument p) = ap (λ n. n + 4) (path_size p)
   argument_size (condition l) = ap (λ n. n + 1) (logical_size l)
   argument_size (result_argument c) = ap (λ n. n + 3) (call_size c)
 

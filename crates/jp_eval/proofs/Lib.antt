@@ -22,8 +22,6 @@ pub mod Entered
 pub mod Given
 pub mod Origins
 pub mod Following
-pub mod Asked
 pub mod Childless
 pub mod DeadEnds
-pub mod Marked
 mod Literals

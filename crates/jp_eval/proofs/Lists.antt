@@ -14,14 +14,6 @@ pub cut_behind : {A : Type 0} (most : ℕ) (new old part others : List A) → ta
 cut_behind most new old part others e =
     sym (take-inside most new others) ∙ (ap (λ l. take most (l ++ others)) e ∙ (take-inside most (old ++ part) others ∙ ap (take most) (append_assoc old part others)))
 
-take-front : {A : Type 0} (xs ys : List A) → take (length xs) (xs ++ ys) ≡ xs
-take-front [] ys = refl
-take-front (x ∷ xs) ys = ap (λ l. x ∷ l) (take-front xs ys)
-
--- there is no room for more
-pub full : {A : Type 0} (most : ℕ) (now xs ys : List A) → length now ≡ most → take most (now ++ xs) ≡ take most (now ++ ys)
-full most now xs ys e = ap (λ n. take n (now ++ xs)) (sym e) ∙ (take-front now xs ∙ (sym (take-front now ys) ∙ ap (λ n. take n (now ++ ys)) e))
-
 -- a list that is shorter than the cut was not cut
 pub not_cut : {A : Type 0} (most : ℕ) (xs : List A) → length (take most xs) < most → take most xs ≡ xs
 not_cut zero xs h = absurd (omega (arith, h))

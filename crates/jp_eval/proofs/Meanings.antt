@@ -2,13 +2,9 @@
 use Rattle.std.proofs.Common.{◌≡◌, ℕ, List, [], ◌∷◌, ◌++◌, length, map, sym, ◌∙◌, ap, ap₂, refl, append_assoc, append-nil, Option, Some}
 use Rattle.std.specs.Prelude.{slice_get}
 use Rattle.std.proofs.lemmas.List.{length-map}
-use Rattle.jp_eval.specs.declared.program.Slot.{Slot, fold_out-Slot, fold-roll-Slot}
-use Rattle.jp_eval.specs.declared.program.Slot.TheOpen.{Slot-F}
-use Rattle.jp_eval.specs.declared.program.Slot.TheViews.{out-Slot, roll-Slot}
+use Rattle.jp_eval.specs.declared.program.Slot.{Slot, fold_out-Slot}
+use Rattle.jp_eval.specs.declared.program.Slot.TheViews.{out-Slot}
 use Rattle.jp_eval.specs.Programs.{Meant, Table, Means, Grows, asked_view, table_of, slot_view, slot_step}
-
-pub grows_not : (old : List Slot) → Grows old old
-grows_not old = ([], sym (append-nil (table_of old)))
 
 pub grows_on : (old mid new : List Slot) → Grows old mid → Grows mid new → Grows old new
 grows_on old mid new a b = (a.0 ++ b.0, b.1 ∙ (ap (λ (x : Table). x ++ b.0) a.1 ∙ append_assoc (table_of old) a.0 b.0))
@@ -65,10 +61,6 @@ none_more {A} {B} {D} {old} {new} {ahead} {all} f done g e a = record {
 
 -- ---- slots
 
-map-append : {A B : Type 0} (f : A → B) (xs ys : List A) → map f (xs ++ ys) ≡ map f xs ++ map f ys
-map-append f [] ys = refl
-map-append f (x ∷ xs) ys = ap (λ l. f x ∷ l) (map-append f xs ys)
-
 -- what stands behind a list of this length
 get_behind : {A : Type 0} (l : List A) (x : A) (more : List A) (position : ℕ) → position ≡ length l → slice_get ((l ++ x ∷ []) ++ more) position ≡ Some x
 get_behind {A} l x more position e = ap (slice_get ((l ++ x ∷ []) ++ more)) e ∙ go l
@@ -88,10 +80,6 @@ slot_means {A} old new m u read position y h e grown p =
           let found : slice_get (table_of new ++ more) position ≡ Some m = ap (λ (l : Table). slice_get (l ++ more) position) grown ∙ get_behind (table_of old) m more position size in
           h (table_of new ++ more) ∙ (ap read found ∙ sym e);
     }
-
--- the slot that is put behind others
-pub slot_added : (old new : List Slot) (s : Slot-F Slot) → new ≡ old ++ roll-Slot s ∷ [] → table_of new ≡ table_of old ++ asked_view (table_of s.slots.items) s.asked ∷ []
-slot_added old new s e = ap table_of e ∙ (map-append slot_view old (roll-Slot s ∷ []) ∙ ap (λ (m : Meant). table_of old ++ m ∷ []) (fold-roll-Slot Meant slot_step s))
 
 -- what a slot asks is read by its own slots
 pub slot_viewed : (s : Slot) → slot_view s ≡ asked_view (table_of (out-Slot s).slots.items) (out-Slot s).asked

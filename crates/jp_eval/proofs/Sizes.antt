@@ -8,8 +8,8 @@ abbrev mutual
   size_of_segments (segment s ss) = size_of_segment s + size_of_segments ss
 
   pub size_of_segment : Segment → ℕ
-  size_of_segment (child_segment ss) = size_of_selectors ss + 9
-  size_of_segment (descendant_segment ss) = size_of_selectors ss + 9
+  size_of_segment (child_segment ss) = size_of_selectors ss + 11
+  size_of_segment (descendant_segment ss) = size_of_selectors ss + 11
 
   pub size_of_selectors : Selectors → ℕ
   size_of_selectors no_selectors = 0
@@ -33,7 +33,7 @@ abbrev mutual
 
   pub size_of_comparable : Comparable → ℕ
   size_of_comparable (constant c) = 0
-  size_of_comparable (single p) = size_of_path p + 3
+  size_of_comparable (single p) = size_of_path p + 4
   size_of_comparable (result c) = size_of_call c + 3
 
   pub size_of_path : Path → ℕ
@@ -48,6 +48,6 @@ abbrev mutual
 
   pub size_of_argument : Argument → ℕ
   size_of_argument (constant_argument c) = 0
-  size_of_argument (nodes_argument p) = size_of_path p + 3
+  size_of_argument (nodes_argument p) = size_of_path p + 4
   size_of_argument (condition l) = size_of_logical l + 1
   size_of_argument (result_argument c) = size_of_call c + 3

@@ -1,33 +1,26 @@
 -- What values of the program stand for, one level deep.
-use Rattle.std.proofs.Common.{◌≡◌, ◌∙◌, ℤ, sym, ap, Option}
+use Rattle.std.proofs.Common.{◌≡◌, ◌∙◌, sym, ap}
 use Rattle.std.specs.Prelude.{string_bytes}
 use Rattle.std.specs.Str.{chars}
 use Rattle.jp_model.specs.Query.Syntax as syntax
-use Rattle.jp_query.specs.View.{call_view, path_view, arguments_view, argument_view, segments_view, origin_view, selector_view, logical_view, comparable_view, op_view, literal_view, argument_step, comparable_step, logical_step, segment_step, selector_step, call_step, path_step}
+use Rattle.jp_query.specs.View.{call_view, path_view, arguments_view, argument_view, segments_view, origin_view, logical_view, comparable_view, op_view, literal_view, argument_step, comparable_step, logical_step, segment_step, selector_step, call_step, path_step}
 use Rattle.jp_query.specs.declared.tree.Call.{Call, fold_out-Call}
 use Rattle.jp_query.specs.declared.tree.Path.{Path, fold_out-Path}
 use Rattle.jp_query.specs.declared.tree.CompareOp.{CompareOp}
 use Rattle.jp_query.specs.declared.tree.Comparable.{Comparable}
-use Rattle.jp_query.specs.declared.tree.Selector.{fold-roll-Selector}
 use Rattle.jp_query.specs.declared.tree.Selector.TheVariants as selectors
 use Rattle.jp_query.specs.declared.tree.Argument.{fold-roll-Argument}
 use Rattle.jp_query.specs.declared.tree.Argument.TheVariants as arguments
 use Rattle.jp_query.specs.declared.tree.Literal.{Literal}
 use Rattle.jp_query.specs.declared.tree.Logical.{Logical, fold-roll-Logical}
 use Rattle.jp_query.specs.declared.tree.Logical.TheVariants as logicals
-use Rattle.jp_query.specs.declared.tree.Argument.TheOpen.{Argument-F, Logical-F, Selector-F}
+use Rattle.jp_query.specs.declared.tree.Argument.TheOpen.{Argument-F, Logical-F}
 
 pub path_viewed : (p : Path) → path_view p ≡ syntax.path (origin_view p.origin) (segments_view p.segments.items)
 path_viewed p = fold_out-Path syntax.Argument syntax.Comparable syntax.Logical syntax.Segment syntax.Selector syntax.Call syntax.Path argument_step comparable_step logical_step segment_step selector_step call_step path_step p
 
 pub call_viewed : (c : Call) → call_view c ≡ syntax.call (chars (string_bytes c.name)) (arguments_view c.arguments.items)
 call_viewed c = fold_out-Call syntax.Argument syntax.Comparable syntax.Logical syntax.Segment syntax.Selector syntax.Call syntax.Path argument_step comparable_step logical_step segment_step selector_step call_step path_step c
-
-pub index_viewed : (i : ℤ) → selector_view (selectors.Index i) ≡ syntax.index_selector i
-index_viewed i = ap selector_view (sym (selectors.rolls-Index i)) ∙ fold-roll-Selector syntax.Argument syntax.Comparable syntax.Logical syntax.Segment syntax.Selector syntax.Call syntax.Path argument_step comparable_step logical_step segment_step selector_step call_step path_step (Selector-F.Index i)
-
-pub slice_viewed : (first last step : Option ℤ) → selector_view (selectors.Slice first last step) ≡ syntax.slice_selector first last step
-slice_viewed first last step = ap selector_view (sym (selectors.rolls-Slice first last step)) ∙ fold-roll-Selector syntax.Argument syntax.Comparable syntax.Logical syntax.Segment syntax.Selector syntax.Call syntax.Path argument_step comparable_step logical_step segment_step selector_step call_step path_step (Selector-F.Slice first last step)
 
 pub constant_viewed : (l : Literal) → argument_view (arguments.Constant l) ≡ syntax.constant_argument (literal_view l)
 constant_viewed l = ap argument_view (sym (arguments.rolls-Constant l)) ∙ fold-roll-Argument syntax.Argument syntax.Comparable syntax.Logical syntax.Segment syntax.Selector syntax.Call syntax.Path argument_step comparable_step logical_step segment_step selector_step call_step path_step (Argument-F.Argument::Constant l)

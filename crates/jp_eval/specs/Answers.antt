@@ -1,5 +1,5 @@
 -- Answers to what is asked of the root.
-use Rattle.std.specs.Prelude.{◌≡◌, ◌+◌, ◌-◌, ◌∷◌, [], ℕ, suc, Bool, Option, drop, length, option_map, true}
+use Rattle.std.specs.Prelude.{◌≡◌, ◌-◌, ◌∷◌, [], ℕ, suc, Bool, List, Option, Some, drop, length, option_map, slice_get, true}
 use Rattle.jp_model.specs.Json.Tree as tree
 use Rattle.jp_model.specs.Meaning.Selecting.{compared_value, nodes, truth}
 use Rattle.jp_tape.specs.declared.cursor.Cursor.{Cursor}
@@ -44,9 +44,12 @@ IsDeadEnd run behind c = nodes (steps_view (table_in run) (drop (length run.step
 abbrev pub AreDeadEnds : Run → ℕ → Places → Type 0
 AreDeadEnds run behind places = (c : Cursor) → line_of c ≡ line_of run.root.now → HasPlace places (place_of c) → IsDeadEnd run behind c
 
--- the answer is that of the slot at a position, or of the last steps, which have the positions behind the slots
+-- the dead ends that are remembered are such nodes, by how many steps come behind the first
+abbrev pub AreAllDead : Run → List Places → Type 0
+AreAllDead run dead_ends = (behind : ℕ) (places : Places) → slice_get dead_ends behind ≡ Some places → AreDeadEnds run behind places
+
+-- the answer is that of the slot at a position
 abbrev pub IsAnswer : Run → ℕ → Answer → Type 0
 IsAnswer run position (answers.Holds is) = is ≡ slot_truth run position
 IsAnswer run position (answers.Value side) = IsValue side (slot_value run position)
 IsAnswer run position (answers.Pattern read) = option_map pattern_view read.value ≡ pattern_in (slot_value run position)
-IsAnswer run position (answers.DeadEnds places) = (behind : ℕ) → position ≡ length run.slots.now + behind → AreDeadEnds run behind places

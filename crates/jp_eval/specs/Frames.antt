@@ -1,11 +1,11 @@
 -- What a call promises of the frame that it is lent.
-use Rattle.std.specs.Prelude.{◌≡◌, ◌++◌, ℕ, Bool, List, [], Option, Some, Result, OnOk, slice_get}
-use Rattle.jp_model.specs.Json.Tree.{Tree, Value}
+use Rattle.std.specs.Prelude.{◌≡◌, ◌++◌, ℕ, List, [], Option, Some, Result, OnOk, slice_get}
+use Rattle.jp_model.specs.Json.Tree.{Tree}
 use Rattle.jp_model.specs.Meaning.Nodes.{Node}
-use Rattle.jp_model.specs.Meaning.Selecting.{compared_value, nodes, truth}
+use Rattle.jp_model.specs.Meaning.Selecting.{nodes}
 use Rattle.jp_tape.specs.declared.cursor.Cursor.{Cursor}
-use Rattle.jp_tape.specs.Cursors.{line_of, node_of}
-use Rattle.jp_eval.specs.Answers.{IsAnswer, table_in, tree_in, slot_truth, slot_value}
+use Rattle.jp_tape.specs.Cursors.{line_of}
+use Rattle.jp_eval.specs.Answers.{AreAllDead, IsAnswer, table_in, tree_in}
 use Rattle.jp_eval.specs.Found.{Adds}
 use Rattle.jp_eval.specs.Programs.{Table, steps_view}
 use Rattle.jp_eval.specs.Tallies.{tally}
@@ -35,30 +35,36 @@ pub record EndsWith (all rest : List Step) : Type 0 where
   pub before : List Step
   pub is : all ≡ before ++ rest
 
--- in a walk for all nodes the steps are the last of the query
-abbrev pub EndsSo : Walk → List Step → Type 0
-EndsSo walk rest = walk.most ≡ 18446744073709551614 → EndsWith walk.run.now.steps.now rest
-
 -- a node of the line, and a frame whose answers are right
 pub record IsFrameFor (walk : Walk) (node : Cursor) (frame : Frame) : Type 0 where
   pub line : line_of node ≡ line_of walk.run.now.root.now
   pub kept : AreKept walk.run.now frame.answers.items
 
--- the same, before these steps
+-- the same, before the last of the query's steps, whose dead ends are right
 pub record IsFrameAt (walk : Walk) (node : Cursor) (rest : List Step) (frame : Frame) : Type 0 where
   pub line : line_of node ≡ line_of walk.run.now.root.now
   pub kept : AreKept walk.run.now frame.answers.items
-  pub end : EndsSo walk rest
+  pub dead : AreAllDead walk.run.now frame.dead_ends.items
+  pub end : EndsWith walk.run.now.steps.now rest
 
 -- these nodes were added, as many as are looked for
 pub record Pushes {E : Type 0} {U : Type 0} (walk : Walk) (old new : Frame) (result : Result U E) (found : List Node) : Type 0 where
   pub adds : Adds (line_of walk.run.now.root.now) old.found.items new.found.items
   pub kept : AreKept walk.run.now new.answers.items
+  pub dead : AreAllDead walk.run.now new.dead_ends.items
   pub told : OnOk result (tally walk.most new [] ≡ tally walk.most old found)
 
--- the frame was lent, and has the nodes and the number that it had
+-- the same by another query, whose dead ends are its own
+pub record Finds {E : Type 0} {U : Type 0} (walk : Walk) (old new : Frame) (result : Result U E) (found : List Node) : Type 0 where
+  pub adds : Adds (line_of walk.run.now.root.now) old.found.items new.found.items
+  pub kept : AreKept walk.run.now new.answers.items
+  pub dead : new.dead_ends ≡ old.dead_ends
+  pub told : OnOk result (tally walk.most new [] ≡ tally walk.most old found)
+
+-- the frame was lent, and has the nodes, the number and the dead ends that it had
 pub record Lends {E : Type 0} {A : Type 0} (walk : Walk) (old new : Frame) (result : Result A E) : Type 0 where
   pub adds : Adds (line_of walk.run.now.root.now) old.found.items new.found.items
   pub kept : AreKept walk.run.now new.answers.items
+  pub dead : new.dead_ends ≡ old.dead_ends
   pub same : OnOk result (new.found.items ≡ old.found.items)
   pub count : OnOk result (new.count ≡ old.count)

@@ -13,5 +13,6 @@ pub mod Answers
 pub mod Frames
 pub mod Steps
 pub mod Questions
+pub mod Indexing
 pub mod Keys
 pub mod Places

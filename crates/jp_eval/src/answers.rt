@@ -29,20 +29,18 @@ pub(crate) fn no_answers<'a>(alloc: Global, count: usize) -> Result<Vec<Option<A
 
 impl<'p, 'a> Run<'p, 'a> {
     /// Makes room for answers. There is none yet where the query goes one step to children: each of its filters is met once then, and
-    /// one that asks of several children makes room itself. The dead ends of so many lists of steps have room behind them.
+    /// one that asks of several children makes room itself.
     #[inline(always)]
-    pub(crate) fn begin(self, steps: &[Step], again: usize, frame: &mut Frame<'a>) -> Result<()>
+    pub(crate) fn begin(self, steps: &[Step], frame: &mut Frame<'a>) -> Result<()>
         requires { AreKept self frame.old.answers.items }
         ensures kept { AreKept self.entry frame.new.answers.items }
         ensures found { frame.new.found ≡ frame.old.found }
         ensures count { frame.new.count ≡ frame.old.count }
+        ensures dead { frame.new.dead_ends ≡ frame.old.dead_ends }
     {
         match steps {
             [Step::One(_) | Step::Child(_)] => Ok(()),
-            _ => {
-                self.prepare(frame)?;
-                self.make_room(again, frame)
-            }
+            _ => self.prepare(frame),
         }
     }
 
@@ -53,22 +51,9 @@ impl<'p, 'a> Run<'p, 'a> {
         ensures kept { AreKept self.entry frame.new.answers.items }
         ensures found { frame.new.found ≡ frame.old.found }
         ensures count { frame.new.count ≡ frame.old.count }
+        ensures dead { frame.new.dead_ends ≡ frame.old.dead_ends }
     {
         for _position in frame.answers.len()..self.slots.len() {
-            frame.answers.push(None)?;
-        }
-        Ok(())
-    }
-
-    /// Makes room for the dead ends of so many lists of steps, behind the answers.
-    #[inline(never)]
-    fn make_room(self, lists: usize, frame: &mut Frame<'a>) -> Result<()>
-        requires { AreKept self frame.old.answers.items }
-        ensures kept { AreKept self.entry frame.new.answers.items }
-        ensures found { frame.new.found ≡ frame.old.found }
-        ensures count { frame.new.count ≡ frame.old.count }
-    {
-        for _list in 0..lists {
             frame.answers.push(None)?;
         }
         Ok(())
@@ -81,6 +66,7 @@ impl<'p, 'a> Run<'p, 'a> {
         ensures refused { IfErr result (λ e. frame.new.answers ≡ frame.old.answers) }
         ensures found { frame.new.found ≡ frame.old.found }
         ensures count { frame.new.count ≡ frame.old.count }
+        ensures dead { frame.new.dead_ends ≡ frame.old.dead_ends }
     {
         let answers = no_answers(self.alloc, self.slots.len())?;
         Ok(std::mem::replace(&mut frame.answers, answers))
@@ -99,6 +85,9 @@ impl<'p, 'a> Run<'p, 'a> {
             alloc: self.alloc,
             slots: &slot.slots,
             steps: self.steps,
+            again: self.again,
+            first: self.first,
+            room: self.room,
             root: self.root,
         };
         Some((inner, &slot.asked))
@@ -145,6 +134,7 @@ impl<'p, 'a> Run<'p, 'a> {
         ensures kept { AreKept self.entry frame.new.answers.items }
         ensures found { frame.new.found ≡ frame.old.found }
         ensures count { frame.new.count ≡ frame.old.count }
+        ensures dead { frame.new.dead_ends ≡ frame.old.dead_ends }
     {
         if position < frame.answers.len() {
             frame.answers[position] = Some(answer);

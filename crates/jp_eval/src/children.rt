@@ -1,8 +1,8 @@
 //! Children that are selected by name or by index (RFC 9535, sections 2.3.1, 2.3.3 and 2.3.4).
 
-ghost use Rattle.std.specs.Prelude.{◌≡◌, ℕ, false, pos, neg_ℤ, ◌-ℤ◌, ◌<ℤ◌, ◌≤ℤ◌, ◌≢◌, ◌^◌, true, length, int_le, unwrap_or, map, IfOk, IfSome, IsTrue, ◌↔◌};
+ghost use Rattle.std.specs.Prelude.{◌≡◌, ℕ, List, ◌+◌, false, pos, neg_ℤ, ◌-ℤ◌, ◌<ℤ◌, ◌≤ℤ◌, ◌≢◌, ◌^◌, true, length, int_le, unwrap_or, map, IfOk, IfSome, IsTrue, ◌↔◌};
 ghost use Rattle.std.specs.Str.{chars};
-ghost use Rattle.jp_model.specs.Meaning.Nodes.{step_to, children_where, child_count as count_of};
+ghost use Rattle.jp_model.specs.Meaning.Nodes.{Node, step_to, children_where, child_count as count_of};
 ghost use Rattle.jp_model.specs.Json.Tree.{value_of};
 ghost use Rattle.jp_model.specs.Meaning.Slices.{named, indexed, sliced, is_name, is_index, normal as normal_of, on_stride, downward};
 ghost use Rattle.jp_strings.specs.Plain.{ArePlain};
@@ -56,7 +56,7 @@ pub(crate) fn find_member<'a>(node: Cursor<'a>, name: &str, plain: bool) -> Opti
 }
 
 /// An index from the start (RFC 9535, section 2.3.4.2.2).
-fn normal(count: u32, index: i64) -> i64
+pub(crate) fn normal(count: u32, index: i64) -> i64
     ensures { result ≡ normal_of count index }
 {
     if index < 0 {
@@ -66,13 +66,13 @@ fn normal(count: u32, index: i64) -> i64
     }
 }
 
-/// The child that so many children come before.
-fn nth_child(node: Cursor<'_>, position: u32) -> Option<Cursor<'_>>
-    ensures at { IsAt (node_of node.entry) position result }
-    ensures line { IfSome result (λ c. line_of c ≡ line_of node.entry) }
+/// The sibling that so many come before, from the first on.
+pub(crate) fn skip_siblings(first: Option<Cursor<'_>>, count: u32) -> Option<Cursor<'_>>
+    ensures at { (parent : Node) (index : ℕ) → IsAt parent index first.entry → IsAt parent (index + count) result }
+    ensures line { (line : List ℕ) → IfSome first.entry (λ c. line_of c ≡ line) → IfSome result (λ c. line_of c ≡ line) }
 {
-    let mut next = node.first_child();
-    for _passed in 0..position {
+    let mut next = first;
+    for _passed in 0..count {
         match next {
             Some(child) => next = child.next_sibling(),
             None => return None,
@@ -81,7 +81,7 @@ fn nth_child(node: Cursor<'_>, position: u32) -> Option<Cursor<'_>>
     next
 }
 
-fn is_array(node: Cursor<'_>) -> bool
+pub(crate) fn is_array(node: Cursor<'_>) -> bool
     ensures { IsTrue result ↔ (kind_of (value_of (node_of node.entry).tree) ≡ kinds.Array) }
 {
     matches!(node.kind(), Kind::Array)
@@ -110,7 +110,7 @@ pub(crate) fn find_element(node: Cursor<'_>, index: i64) -> Option<Cursor<'_>>
     if position < 0 || position > 0xFFFF_FFFF {
         return None;
     }
-    nth_child(node, position as u32)
+    skip_siblings(node.first_child(), position as u32)
 }
 
 /// Whether an index is a whole number of steps from the start (RFC 9535, section 2.3.4.2.2).

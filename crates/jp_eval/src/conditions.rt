@@ -126,7 +126,7 @@ impl<'r, 'a> Walk<'r, 'a> {
     {
         let before = frame.found.len();
         let (run, most) = (self.run, before + 1);
-        Walk { run, most }.push_steps(node, steps, frame)?;
+        Walk { run, most }.push_query(node, steps, frame)?;
         let some = frame.found.len() > before;
         frame.found.truncate(before);
         Ok(some)

@@ -10,6 +10,7 @@ ghost use Rattle.jp_eval.specs.Compiled.{program_view};
 ghost use Rattle.jp_eval.specs.Found.{Adds, AreOf, found_in};
 
 use crate::compile::Compiler;
+use crate::dead_ends::room_of;
 use crate::frame::{ALL, Frame, Run, Walk};
 use crate::program::{Slot, Step};
 use crate::ways::count_again;
@@ -59,6 +60,7 @@ impl Program {
         requires line { line_of start ≡ line_of root }
         requires root { place_of root ≡ 0 }
         requires answers { frame.old.answers.items ≡ [] }
+        requires dead { frame.old.dead_ends.items ≡ [] }
         ensures kept { Adds (line_of root.entry) frame.old.found.items frame.new.found.items }
         ensures ok { OnOk result (map node_of frame.new.found.items ≡ map node_of frame.old.found.items ++ nodes (program_view self.now) (node_of start.entry ∷ []) (node_of root.entry).tree) }
     {
@@ -66,9 +68,12 @@ impl Program {
             alloc,
             slots: &self.slots,
             steps: &self.steps,
+            again: self.again,
+            first: start.place(),
+            room: room_of(root),
             root: &root,
         };
-        run.begin(&self.steps, self.again, frame)?;
+        run.begin(&self.steps, frame)?;
         let walk = Walk {
             run: &run,
             most: ALL,

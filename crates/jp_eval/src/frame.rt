@@ -17,8 +17,14 @@ use std::alloc::{AllocError, Global};
 pub(crate) struct Run<'p, 'a> {
     pub(crate) alloc: Global,
     pub(crate) slots: &'p [Slot],
-    /// The steps of the query, whose dead ends are remembered.
+    /// The steps of the query.
     pub(crate) steps: &'p [Step],
+    /// How many of them, at the end, a second way may lead to, so that dead ends are remembered.
+    pub(crate) again: usize,
+    /// The place of the node that the query goes from.
+    pub(crate) first: u32,
+    /// How many bytes dead ends may take, with those of the queries within.
+    pub(crate) room: u64,
     pub(crate) root: &'p Cursor<'a>,
     ghost at_root: { place_of root.now ≡ 0 },
 }
@@ -46,8 +52,6 @@ pub(crate) enum Answer<'a> {
     Value(Value<'a>),
     /// The pattern that the value spells, where it spells one.
     Pattern(Box<Option<Pattern>>),
-    /// The nodes from which the last steps select nothing.
-    DeadEnds(Places),
 }
 
 /// The nodes that were found, and what was answered of what is asked of the root, by the positions of the slots. It lends its room
@@ -58,6 +62,8 @@ pub struct Frame<'a> {
     /// How many nodes were counted.
     pub(crate) count: u64,
     pub(crate) answers: Vec<Option<Answer<'a>>>,
+    /// The nodes from which the last steps of the query select nothing, by how many steps come behind the first of them.
+    pub(crate) dead_ends: Vec<Places>,
 }
 
 impl<'a> Frame<'a> {
@@ -71,11 +77,13 @@ impl<'a> Frame<'a> {
     pub fn new(alloc: Global) -> Frame<'a>
         ensures found { found_in result ≡ [] }
         ensures answers { result.answers.items ≡ [] }
+        ensures dead { result.dead_ends.items ≡ [] }
     {
         Frame {
             found: Vec::new(alloc),
             count: 0,
             answers: Vec::new(alloc),
+            dead_ends: Vec::new(alloc),
         }
     }
 
@@ -91,10 +99,12 @@ impl<'a> Frame<'a> {
     pub(crate) fn forget(&mut self)
         ensures found { self.new.found.items ≡ [] }
         ensures answers { self.new.answers.items ≡ [] }
+        ensures dead { self.new.dead_ends.items ≡ [] }
     {
         self.found.clear();
         self.count = 0;
         self.answers.clear();
+        self.dead_ends.clear();
     }
 
     /// Whether no more nodes are looked for.
@@ -110,6 +120,7 @@ impl<'a> Frame<'a> {
     pub(crate) fn add(&mut self, node: Cursor<'a>, most: usize) -> Result<()>
         ensures adds { Adds (line_of node.entry) self.old.found.items self.new.found.items }
         ensures answers { self.new.answers ≡ self.old.answers }
+        ensures dead { self.new.dead_ends ≡ self.old.dead_ends }
         ensures told { OnOk result (tally most self.new [] ≡ tally most self.old (node_of node.entry ∷ [])) }
     {
         if most == COUNTED {

@@ -6,18 +6,20 @@ ghost use Rattle.jp_eval.specs.Places.{HasPlace};
 use crate::Result;
 use std::alloc::Global;
 
-/// Some places of nodes, as far as the last that was put in.
+/// Some places of nodes, from the first on that may be one of them, as far as the last that was put in.
 #[derive(Drop)]
 pub(crate) struct Places {
+    pub(crate) first: u32,
     pub(crate) marks: Vec<bool>,
 }
 
 impl Places {
-    /// No place.
-    pub(crate) fn new(alloc: Global) -> Places
+    /// No place. None before this one is ever put in.
+    pub(crate) fn new(alloc: Global, first: u32) -> Places
         ensures { (place : ℕ) → HasPlace result place → ⊥ }
     {
         Places {
+            first,
             marks: Vec::new(alloc),
         }
     }
@@ -27,14 +29,20 @@ impl Places {
     pub(crate) fn has(&self, place: u32) -> bool
         ensures { result ≡ true → HasPlace self.now place }
     {
-        matches!(self.marks.get(place as usize), Some(true))
+        if place < self.first {
+            return false;
+        }
+        matches!(self.marks.get((place - self.first) as usize), Some(true))
     }
 
     /// Puts a place in. If memory is refused, the answer is `AllocError`, and it may not be one of them.
     pub(crate) fn put(&mut self, place: u32) -> Result<()>
         ensures { (other : ℕ) → HasPlace self.new other → HasPlace self.old other ⊎ (other ≡ place) }
     {
-        let index = place as usize;
+        if place < self.first {
+            return Ok(());
+        }
+        let index = (place - self.first) as usize;
         for _mark in self.marks.len()..index + 1 {
             self.marks.push(false)?;
         }

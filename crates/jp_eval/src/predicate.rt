@@ -9,6 +9,7 @@ ghost use Rattle.jp_tape.specs.Cursors.{line_of, place_of, node_of};
 ghost use Rattle.jp_eval.specs.Compiled.{predicate_view};
 
 use crate::compile::Compiler;
+use crate::dead_ends::room_of;
 use crate::frame::{ALL, Frame, Run, Walk};
 use crate::program::{Condition, Slot};
 use jp_query::{Logical, Origin};
@@ -58,6 +59,9 @@ impl Predicate {
             alloc,
             slots: &self.slots,
             steps: &[],
+            again: 0,
+            first: 0,
+            room: room_of(root),
             root: &root,
         };
         run.prepare(frame)?;

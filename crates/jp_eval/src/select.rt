@@ -3,19 +3,20 @@
 //! The nodes are found node by node: for each child that the first step selects, the other steps go on from there. So no
 //! list is made in between, and a search for one node stops at the first.
 
-ghost use Rattle.std.specs.Prelude.{◌≡◌, [], ◌∷◌, map, filter, flat_map};
-ghost use Rattle.jp_model.specs.Meaning.Nodes.{children, children_where, subtree};
+ghost use Rattle.std.specs.Prelude.{◌≡◌, [], ◌∷◌, IfSome, filter, flat_map};
+ghost use Rattle.jp_model.specs.Meaning.Nodes.{children, subtree};
 ghost use Rattle.jp_model.specs.Meaning.Selecting.{segment_nodes, selected, select, truth as truth_of};
-ghost use Rattle.jp_model.specs.Meaning.Slices.{is_index, sliced};
 ghost use Rattle.jp_tape.specs.Cursors.{line_of, node_of};
-ghost use Rattle.jp_eval.specs.Found.{AreOf};
-ghost use Rattle.jp_eval.specs.Frames.{table_at, tree_at, reached, AreKept, EndsSo, IsFrameAt, Pushes};
+ghost use Rattle.jp_eval.specs.Answers.{AreAllDead};
+ghost use Rattle.jp_eval.specs.Found.{node_list};
+ghost use Rattle.jp_eval.specs.Frames.{table_at, tree_at, reached, AreKept, EndsWith, IsFrameAt, Pushes};
+ghost use Rattle.jp_eval.specs.Indexing.{AreKnown};
 ghost use Rattle.jp_eval.specs.Programs.{step_view, choices_view, choice_view, condition_view, test_view};
-ghost use Rattle.jp_eval.specs.Walks.{rises};
 
 use crate::Result;
-use crate::children::{Rising, Slice, find_falling};
+use crate::children::Slice;
 use crate::frame::{Frame, Walk};
+use crate::indexing::Elements;
 use crate::program::{Choice, Condition, Step, Test};
 use jp_tape::Cursor;
 
@@ -51,13 +52,13 @@ impl<'r, 'a> Walk<'r, 'a> {
         requires { IsFrameAt self node (step.now ∷ rest.now) frame.old }
         ensures { Pushes self.entry frame.old frame.new result (reached self.entry.run.now rest.now (segment_nodes (step_view (table_at self.entry) step.now) (node_of node.entry) (tree_at self.entry))) }
     {
-        if self.remembers(step, rest, frame) {
+        if self.remembers(step, rest) {
             return self.push_again(node, step, rest, frame);
         }
         self.push_selected(node, step, rest, frame)
     }
 
-    /// The same, of a node that a second way may lead to. What is nothing is remembered.
+    /// Adds what `push_step` adds, of a node that a second way may lead to. What is nothing is remembered.
     #[cycle(eval)]
     #[inline(never)]
     fn push_again(
@@ -67,16 +68,15 @@ impl<'r, 'a> Walk<'r, 'a> {
         rest: &[Step],
         frame: &mut Frame<'a>,
     ) -> Result<()>
-        requires frame { IsFrameAt self node (step.now ∷ rest.now) frame.old }
-        requires all { self.most ≡ 18446744073709551614 }
+        requires { IsFrameAt self node (step.now ∷ rest.now) frame.old }
         ensures { Pushes self.entry frame.old frame.new result (reached self.entry.run.now rest.now (segment_nodes (step_view (table_at self.entry) step.now) (node_of node.entry) (tree_at self.entry))) }
     {
         if self.run.is_dead_end(node, rest, frame) {
             return Ok(());
         }
-        let before = frame.found.len();
+        let (found, count) = (frame.found.len(), frame.count);
         self.push_selected(node, step, rest, frame)?;
-        self.run.note_where_none(node, rest, before, frame);
+        self.note_where_none(node, rest, found, count, frame);
         Ok(())
     }
 
@@ -95,10 +95,7 @@ impl<'r, 'a> Walk<'r, 'a> {
         ensures { Pushes self.entry frame.old frame.new result (reached self.entry.run.now rest.now (segment_nodes (step_view (table_at self.entry) step.now) (node_of node.entry) (tree_at self.entry))) }
     {
         match step {
-            Step::One(key) => match key.find(node) {
-                Some(child) => self.push_steps(child, rest, frame),
-                None => Ok(()),
-            },
+            Step::One(key) => self.push_found(key.find(node), rest, frame),
             Step::Child(choices) => self.push_choices(node, choices, rest, frame),
             Step::Descendant(choices) => self.push_subtree(node, choices, rest, frame),
         }
@@ -143,10 +140,52 @@ impl<'r, 'a> Walk<'r, 'a> {
         if node.first_child().is_none() {
             return Ok(());
         }
+        match choices {
+            [choice] => self.push_choice(node, choice, rest, frame),
+            _ => self.push_several(node, choices, rest, frame),
+        }
+    }
+
+    /// Adds what several choices select from a node, in their order, and the steps from there.
+    #[cycle(eval)]
+    #[inline(never)]
+    fn push_several(
+        self,
+        node: Cursor<'a>,
+        choices: &[Choice],
+        rest: &[Step],
+        frame: &mut Frame<'a>,
+    ) -> Result<()>
+        requires { IsFrameAt self node rest.now frame.old }
+        ensures { Pushes self.entry frame.old frame.new result (reached self.entry.run.now rest.now (selected (choices_view (table_at self.entry) choices.now) (node_of node.entry) (tree_at self.entry))) }
+    {
+        let mut elements = Elements::of(node);
         for choice in choices {
-            self.push_choice(node, choice, rest, frame)?;
+            self.push_one_of(&mut elements, choice, rest, frame)?;
         }
         Ok(())
+    }
+
+    /// Adds what one of several choices selects from a node, whose elements are known so far, and the steps from there.
+    #[cycle(eval)]
+    #[inline(always)]
+    fn push_one_of(
+        self,
+        elements: &mut Elements<'a>,
+        choice: &Choice,
+        rest: &[Step],
+        frame: &mut Frame<'a>,
+    ) -> Result<()>
+        requires frame { IsFrameAt self elements.old.node rest.now frame.old }
+        requires known { AreKnown elements.old }
+        ensures pushes { Pushes self.entry frame.old frame.new result (reached self.entry.run.now rest.now (select (choice_view (table_at self.entry) choice.now) (node_of elements.old.node) (tree_at self.entry))) }
+        ensures node { elements.new.node ≡ elements.old.node }
+        ensures known { AreKnown elements.new }
+    {
+        match choice {
+            Choice::One(key) => self.push_found(elements.find_by(key), rest, frame),
+            _ => self.push_choice(elements.node, choice, rest, frame),
+        }
     }
 
     /// Adds what the choice selects from a node, and the steps from there.
@@ -163,10 +202,7 @@ impl<'r, 'a> Walk<'r, 'a> {
         ensures { Pushes self.entry frame.old frame.new result (reached self.entry.run.now rest.now (select (choice_view (table_at self.entry) choice.now) (node_of node.entry) (tree_at self.entry))) }
     {
         match choice {
-            Choice::One(key) => match key.find(node) {
-                Some(child) => self.push_steps(child, rest, frame),
-                None => Ok(()),
-            },
+            Choice::One(key) => self.push_found(key.find(node), rest, frame),
             Choice::Wildcard => self.push_children(node, rest, frame),
             Choice::Slice { first, last, step } => {
                 let parts = Slice {
@@ -177,6 +213,27 @@ impl<'r, 'a> Walk<'r, 'a> {
                 self.push_slice(node, parts, rest, frame)
             }
             Choice::Filter(condition) => self.push_where(node, condition, rest, frame),
+        }
+    }
+
+    /// Adds what the steps select from a node, if there is one.
+    #[cycle(eval)]
+    #[inline(always)]
+    fn push_found(
+        self,
+        found: Option<Cursor<'a>>,
+        rest: &[Step],
+        frame: &mut Frame<'a>,
+    ) -> Result<()>
+        requires line { IfSome found (λ c. line_of c ≡ line_of self.run.now.root.now) }
+        requires kept { AreKept self.run.now frame.old.answers.items }
+        requires dead { AreAllDead self.run.now frame.old.dead_ends.items }
+        requires end { EndsWith self.run.now.steps.now rest.now }
+        ensures { Pushes self.entry frame.old frame.new result (reached self.entry.run.now rest.now (node_list found.entry)) }
+    {
+        match found {
+            Some(node) => self.push_steps(node, rest, frame),
+            None => Ok(()),
         }
     }
 
@@ -193,67 +250,6 @@ impl<'r, 'a> Walk<'r, 'a> {
             }
             self.push_steps(child, rest, frame)?;
             next = child.next_sibling();
-        }
-        Ok(())
-    }
-
-    /// Adds what the steps select from each element of a slice, in the order in which it selects them.
-    #[cycle(eval)]
-    #[inline(never)]
-    fn push_slice(
-        self,
-        node: Cursor<'a>,
-        slice: Slice,
-        rest: &[Step],
-        frame: &mut Frame<'a>,
-    ) -> Result<()>
-        requires { IsFrameAt self node rest.now frame.old }
-        ensures { Pushes self.entry frame.old frame.new result (reached self.entry.run.now rest.now (sliced slice.first slice.last slice.step (node_of node.entry))) }
-    {
-        if slice.step > 0 {
-            return self.push_rising(node, Rising::of(node, slice), rest, frame);
-        }
-        let found = find_falling(self.run.alloc, node, slice)?;
-        self.push_each(&found, rest, frame)
-    }
-
-    /// Adds what the steps select from each element of a slice with a step above 0. It goes no further than the last.
-    #[cycle(eval)]
-    fn push_rising(
-        self,
-        node: Cursor<'a>,
-        slice: Rising,
-        rest: &[Step],
-        frame: &mut Frame<'a>,
-    ) -> Result<()>
-        requires { IsFrameAt self node rest.now frame.old }
-        ensures { Pushes self.entry frame.old frame.new result (reached self.entry.run.now rest.now (children_where (is_index (rises slice.low slice.high slice.step)) (node_of node.entry))) }
-    {
-        let mut next = node.first_child();
-        let mut index = 0;
-        while let Some(child) = next {
-            if frame.has(self.most) || slice.ends_before(index) {
-                return Ok(());
-            }
-            if slice.has(child, index) {
-                self.push_steps(child, rest, frame)?;
-            }
-            index += 1;
-            next = child.next_sibling();
-        }
-        Ok(())
-    }
-
-    /// Adds what the steps select from each of some nodes.
-    #[cycle(eval)]
-    fn push_each(self, nodes: &[Cursor<'a>], rest: &[Step], frame: &mut Frame<'a>) -> Result<()>
-        requires lines { AreOf (line_of self.run.now.root.now) nodes.now }
-        requires kept { AreKept self.run.now frame.old.answers.items }
-        requires end { EndsSo self rest.now }
-        ensures { Pushes self.entry frame.old frame.new result (reached self.entry.run.now rest.now (map node_of nodes.now)) }
-    {
-        for node in nodes {
-            self.push_steps(*node, rest, frame)?;
         }
         Ok(())
     }

@@ -102,7 +102,7 @@ impl<'r, 'a> Walk<'r, 'a> {
     {
         let before = frame.found.len();
         let (run, most) = (self.run, before + 2);
-        Walk { run, most }.push_steps(node, steps, frame)?;
+        Walk { run, most }.push_query(node, steps, frame)?;
         let value = if frame.found.len() == before + 1 {
             Value::Node(frame.found[before])
         } else {
@@ -121,7 +121,7 @@ impl<'r, 'a> Walk<'r, 'a> {
     {
         let before = frame.count;
         let (run, most) = (self.run, COUNTED);
-        Walk { run, most }.push_steps(node, steps, frame)?;
+        Walk { run, most }.push_query(node, steps, frame)?;
         let count = frame.count - before;
         frame.count = before;
         Ok(count)

@@ -1,5 +1,5 @@
 -- No child has an index below 0 or so large.
-use Rattle.std.proofs.Common.{rules, refl, sym, subst, Option, ℕ, false, negsuc, nat_abs, ◌≡◌, ◌∙◌, ◌<ℤ◌, ◌⊎◌, inl, inr, ℤ, pos, ap, arith, w64}
+use Rattle.std.proofs.Common.{rules, ◌+◌, refl, sym, subst, Option, ℕ, false, negsuc, nat_abs, ◌≡◌, ◌∙◌, ◌<ℤ◌, ◌⊎◌, inl, inr, ℤ, pos, ap, arith, w64}
 use Rattle.std.specs.Prelude.{int_lt}
 use Rattle.std.proofs.lemmas.Bool.{true≢false}
 use Rattle.std.proofs.lemmas.Int.{ints}
@@ -11,8 +11,9 @@ use Rattle.jp_tape.specs.Cursors.{line_of, node_of}
 use Rattle.jp_tape.specs.declared.cursor.Cursor.{Cursor}
 use Rattle.jp_tape.proofs.Cursors.{standing}
 use Rattle.jp_eval.specs.Walks.{IsAt}
-use Rattle.jp_eval.proofs.Elements.{none_outside, nth_is}
+use Rattle.jp_eval.proofs.Elements.{none_outside, nth_is, whole_again}
 use Rattle.jp_eval.proofs.NoMembers.{no_elements, nameless}
+use Rattle.jp_eval.proofs.Walks.{at_first}
 use Rattle.jp_eval.proofs.children.find_element.Goals as goal
 use Rattle.jp_eval.proofs.children.find_element.Goals.{then-position-lt0-via-then-position-lt0, then-position-lt0-via-else-position-lt0+then-position-gt4294967295}
 
@@ -33,17 +34,13 @@ returns-then-position-lt0-clause-nodes c =
     none_outside c.args.node position outside ∙ ap (λ (z : ℤ). children_where (is_index (same_int z)) (node_of c.args.node)) c.index_from_start-position.ensures
     ∙ ap (λ (z : ℤ). indexed z (node_of c.args.node)) fits
 
-whole_again : (z : ℤ) → int_lt z (pos 0) ≡ false → pos (nat_abs z) ≡ z
-whole_again (pos n) h = refl
-whole_again (negsuc n) h = absurd (cc)
-
 pub returns-clause-nodes : goal.returns-clause-nodes
 returns-clause-nodes c =
     let n = node_of c.args.node in
     let raw : ℤ = to_z w64 (of_z w64 c.index_from_start-position.result) in
     let position : ℕ = nat_abs raw in
-    let at : IsAt n position c.nth_child.result = c.nth_child.ensures.at in
+    let at : IsAt n position c.skip_siblings.result = subst (λ k. IsAt n k c.skip_siblings.result) (let e : 0 + position ≡ position = omega arith in e) (c.skip_siblings.ensures.at n 0 (at_first n c.first_child.result c.first_child.ensures.nodes c.first_child.ensures.children)) in
     let kept : raw ≡ c.index_from_start-position.result = search rules in
     let fits : to_z w64 (of_z w64 c.args.index) ≡ c.args.index = search rules in
-    nth_is n position c.nth_child.result at (λ d e. nameless (line_of c.args.node) n position d (standing c.args.node).spells (c.is_array.ensures.0 c.if-not-is_array.false) (subst (λ (r : Option Cursor). IsAt n position r) e at))
+    nth_is n position c.skip_siblings.result at (λ d e. nameless (line_of c.args.node) n position d (standing c.args.node).spells (c.is_array.ensures.0 c.if-not-is_array.false) (subst (λ (r : Option Cursor). IsAt n position r) e at))
     ∙ (ap (λ (z : ℤ). children_where (is_index (same_int z)) n) (whole_again raw c.if-position-lt0.false ∙ (kept ∙ c.index_from_start-position.ensures)) ∙ ap (λ (z : ℤ). indexed z n) fits)

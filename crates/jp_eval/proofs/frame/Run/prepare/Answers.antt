@@ -7,4 +7,5 @@ loop-position-preserved c = record {
   kept = kept_more c.args.self c.loop-position.frame.answers.items c.push.new.self.items c.in_ok-push.ensures.items c.loop-position.invariant.kept;
   found = c.loop-position.invariant.found;
   count = c.loop-position.invariant.count;
+  dead = c.loop-position.invariant.dead;
 }

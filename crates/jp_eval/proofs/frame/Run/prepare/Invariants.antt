@@ -8,4 +8,5 @@ invariant-loop-position l = record {
   kept : AreKept l.self l.frame.answers.items;
   found : l.frame.found ≡ l.fn.frame.found;
   count : l.frame.count ≡ l.fn.frame.count;
+  dead : l.frame.dead_ends ≡ l.fn.frame.dead_ends;
 }

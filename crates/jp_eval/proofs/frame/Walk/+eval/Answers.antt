@@ -1,20 +1,21 @@
 -- What was added is what the steps select, and what was answered is what the parts of a filter mean.
-use Rattle.std.proofs.Common.{rules, w64, ℤ, Bool, ◌≡◌, ◌∙◌, ◌+◌, ◌-◌, ◌++◌, [], ◌∷◌, List, ℕ, true, false, refl, map, take, drop, length, filter, flat_map, sym, ap, ap₂, subst, arith, Some, Option, Vec, Global, Ok}
-use Rattle.std.specs.Prelude.{IfOk, IfSome, OnOk, not, option_map}
+use Rattle.std.proofs.Common.{rules, w64, ℤ, Bool, ◌≡◌, ◌∙◌, ◌+◌, ◌-◌, ◌++◌, [], ◌∷◌, List, ℕ, true, false, refl, map, drop, length, filter, flat_map, sym, ap, ap₂, subst, arith, Some, Option, Ok}
+use Rattle.std.specs.Prelude.{IfOk, OnOk, not, option_map}
 use Rattle.jp_model.specs.Json.Tree.{Tree, Value}
 use Rattle.jp_model.specs.Meaning.Nodes.{Node, children, children_where, subtree}
 use Rattle.jp_model.specs.Steps.{Step}
 use Rattle.jp_model.specs.Meaning.Selecting.{nodes, segment_nodes, selected, select, truth, given_by, compared_value}
 use Rattle.jp_model.specs.Meaning.Slices.{sliced, is_index}
-use Rattle.jp_model.specs.Meaning.Functions.{counted, in_pattern, single_value, literal_value}
+use Rattle.jp_model.specs.Meaning.Functions.{in_pattern, literal_value}
 use Rattle.jp_model.specs.Query.Syntax as syntax
 use Rattle.jp_model.specs.Query.Syntax.{Segments}
 use Rattle.jp_model.proofs.Seek.{no_nodes}
 use Rattle.jp_tape.specs.declared.cursor.Cursor.{Cursor}
-use Rattle.jp_tape.specs.Cursors.{line_of, place_of, node_of, nodes_from, nodes_after}
+use Rattle.jp_tape.specs.Cursors.{place_of, node_of, nodes_from, nodes_after}
 use Rattle.jp_values.specs.Values.{value_view, is_sound_value}
 use Rattle.jp_eval.specs.Answers.{IsAnswer, IsValue, table_in, tree_in, slot_truth, slot_value}
-use Rattle.jp_eval.specs.Frames.{AreKept, Lends, Pushes}
+use Rattle.jp_eval.specs.Found.{node_list}
+use Rattle.jp_eval.specs.Frames.{Pushes}
 use Rattle.jp_iregexp.specs.Trees.{pattern_view}
 use Rattle.jp_iregexp.specs.declared.pattern.Pattern.{Pattern}
 use Rattle.jp_eval.specs.Functions.{passing, pattern_in}
@@ -41,14 +42,14 @@ use Rattle.jp_query.specs.View.{literal_view}
 use Rattle.std.proofs.Math.Logic.{∥∥₁_elim}
 use Rattle.jp_eval.proofs.Childless.{none_first, none_selected}
 use Rattle.jp_eval.proofs.Compiled.{child_is, chosen_is, descendant_is, found_is, literal_is, once_is, passes_is, slice_is, sought_once, spelled_is}
-use Rattle.jp_eval.proofs.Counts.{none_single, not_counted, single_found}
-use Rattle.jp_eval.proofs.DeadEnds.{ends_next, is_dead, none_found, nothing_there}
+use Rattle.jp_eval.proofs.Counts.{none_added, none_single, not_counted, single_found}
+use Rattle.jp_eval.proofs.DeadEnds.{ends_next, is_dead, nothing_there}
 use Rattle.jp_eval.proofs.Descendants.{below_at}
 use Rattle.jp_eval.proofs.Entered.{once_found, once_given, once_told}
 use Rattle.jp_eval.proofs.FromRoot.{logical_size, side_size}
 use Rattle.jp_eval.proofs.Given.{given_size, given_so, passes_told}
-use Rattle.jp_eval.proofs.Goes.{Goes, begins, lent_first, others_are, goes_past, goes_lent, is_done, is_full, filter_taken, filter_passed, filter_all, filter_none, nothing_added}
-use Rattle.jp_eval.proofs.Kept.{adds_none, adds_more, line_on, line_of_some}
+use Rattle.jp_eval.proofs.Goes.{Goes, begins, dead_as, lent_first, others_are, goes_past, goes_lent, is_done, is_full, filter_taken, filter_passed, filter_all, filter_none, nothing_added}
+use Rattle.jp_eval.proofs.Kept.{adds_more, line_on, line_of_some}
 use Rattle.jp_eval.proofs.Lists.{item_at}
 use Rattle.jp_eval.proofs.Patterns.{told, one_proof}
 use Rattle.jp_eval.proofs.Following.{select_is, one_selects}
@@ -64,7 +65,7 @@ use Rattle.jp_eval.proofs.frame.Walk.+eval.Goals.{push_tested-then-branch+in_ok-
 
 pub push_children-returns-in_err-push_steps : goal.push_children-returns-in_err-push_steps
 push_children-returns-in_err-push_steps t c =
-    record { adds = adds_more c.loop-next.invariant.goes.adds c.in_err-push_steps.ensures.adds; kept = c.in_err-push_steps.ensures.kept; told = search rules }
+    record { adds = adds_more c.loop-next.invariant.goes.adds c.in_err-push_steps.ensures.adds; kept = c.in_err-push_steps.ensures.kept; dead = c.in_err-push_steps.ensures.dead; told = search rules }
 
 pub push_children-loop-next-preserved : goal.push_children-loop-next-preserved
 push_children-loop-next-preserved t c =
@@ -94,7 +95,7 @@ push_children-returns-then-has t c =
 
 pub push_subtree-returns-in_err-push_choices : goal.push_subtree-returns-in_err-push_choices
 push_subtree-returns-in_err-push_choices t c =
-    record { adds = adds_more c.loop-place.invariant.goes.adds c.in_err-push_choices.ensures.adds; kept = c.in_err-push_choices.ensures.kept; told = search rules }
+    record { adds = adds_more c.loop-place.invariant.goes.adds c.in_err-push_choices.ensures.adds; kept = c.in_err-push_choices.ensures.kept; dead = c.in_err-push_choices.ensures.dead; told = search rules }
 
 pub push_subtree-returns-then-has : goal.push_subtree-returns-then-has
 push_subtree-returns-then-has t c =
@@ -135,11 +136,11 @@ push_subtree-returns t c =
 
 pub push_tested-returns-in_err-passes : goal.push_tested-returns-in_err-passes
 push_tested-returns-in_err-passes t c =
-    record { adds = adds_more c.loop-next.invariant.goes.adds c.in_err-passes.ensures.lends.adds; kept = c.in_err-passes.ensures.lends.kept; told = search rules }
+    record { adds = adds_more c.loop-next.invariant.goes.adds c.in_err-passes.ensures.lends.adds; kept = c.in_err-passes.ensures.lends.kept; dead = dead_as c.args.self.run.now c.loop-next.frame.dead_ends c.passes.new.frame.dead_ends c.in_err-passes.ensures.lends.dead c.loop-next.invariant.goes.dead; told = search rules }
 
 pub push_tested-returns-in_err-push_steps : goal.push_tested-returns-in_err-push_steps
 push_tested-returns-in_err-push_steps t c =
-    record { adds = adds_more c.loop-next.invariant.goes.adds (adds_more c.in_ok-passes.ensures.lends.adds c.in_err-push_steps.ensures.adds); kept = c.in_err-push_steps.ensures.kept; told = search rules }
+    record { adds = adds_more c.loop-next.invariant.goes.adds (adds_more c.in_ok-passes.ensures.lends.adds c.in_err-push_steps.ensures.adds); kept = c.in_err-push_steps.ensures.kept; dead = c.in_err-push_steps.ensures.dead; told = search rules }
 
 pub push_tested-returns-then-has : goal.push_tested-returns-then-has
 push_tested-returns-then-has t c =
@@ -185,7 +186,7 @@ push_tested-returns t c =
 
 pub push_each-returns-in_err-push_steps : goal.push_each-returns-in_err-push_steps
 push_each-returns-in_err-push_steps t c =
-    record { adds = adds_more c.loop-node.invariant.goes.adds c.in_err-push_steps.ensures.adds; kept = c.in_err-push_steps.ensures.kept; told = search rules }
+    record { adds = adds_more c.loop-node.invariant.goes.adds c.in_err-push_steps.ensures.adds; kept = c.in_err-push_steps.ensures.kept; dead = c.in_err-push_steps.ensures.dead; told = search rules }
 
 pub push_each-loop-node-preserved : goal.push_each-loop-node-preserved
 push_each-loop-node-preserved t c =
@@ -215,14 +216,14 @@ push_choices-returns-then-is_none t c =
     let ss : Segments = steps_view (table_in c.args.self.run.now) c.args.rest.now in
     let n : Node = node_of c.args.node in
     let none : children n ≡ [] = sym c.first_child.ensures.nodes ∙ none_first c.first_child.result (c.is_none.ensures ∙ ap not c.if-is_none.true) in
-    nothing_added c.args.self c.args.frame.now ss u _ c.requires.kept (none_selected (choices_view (table_in c.args.self.run.now) c.args.choices.now) n u none)
+    nothing_added c.args.self c.args.frame.now ss u _ c.requires.kept c.requires.dead (none_selected (choices_view (table_in c.args.self.run.now) c.args.choices.now) n u none)
 
-pub push_choices-returns-in_err-push_choice : goal.push_choices-returns-in_err-push_choice
-push_choices-returns-in_err-push_choice t c =
-    record { adds = adds_more c.loop-choice.invariant.goes.adds c.in_err-push_choice.ensures.adds; kept = c.in_err-push_choice.ensures.kept; told = search rules }
+pub push_several-returns-in_err-push_one_of : goal.push_several-returns-in_err-push_one_of
+push_several-returns-in_err-push_one_of t c =
+    record { adds = adds_more c.loop-choice.invariant.goes.adds c.in_err-push_one_of.ensures.pushes.adds; kept = c.in_err-push_one_of.ensures.pushes.kept; dead = c.in_err-push_one_of.ensures.pushes.dead; told = search rules }
 
-pub push_choices-loop-choice-preserved : goal.push_choices-loop-choice-preserved
-push_choices-loop-choice-preserved t c =
+pub push_several-loop-choice-preserved : goal.push_several-loop-choice-preserved
+push_several-loop-choice-preserved t c =
     let u : Tree = (node_of c.args.self.run.now.root.now).tree in
     let ss : Segments = steps_view (table_in c.args.self.run.now) c.args.rest.now in
     let n : Node = node_of c.args.node in
@@ -235,14 +236,16 @@ push_choices-loop-choice-preserved t c =
     let size = ap (λ (l : List Choice). size_of_selectors (choices_view (table_in c.args.self.run.now) l)) here in
     let before = kept.size in
     record {
-      goes = goes_past c.push_choice.new.frame ss u (select (choice_view (table_in c.args.self.run.now) first) n u) (selected (choices_view (table_in c.args.self.run.now) others) n u)
+      goes = goes_past c.push_one_of.new.frame ss u (select (choice_view (table_in c.args.self.run.now) first) n u) (selected (choices_view (table_in c.args.self.run.now) others) n u)
           (others_are (nodes ss (select (choice_view (table_in c.args.self.run.now) first) n u ++ selected (choices_view (table_in c.args.self.run.now) others) n u) u) (ap (λ (l : List Choice). nodes ss (selected (choices_view (table_in c.args.self.run.now) l) n u) u) here) kept.goes)
-          c.in_ok-push_choice.ensures;
+          (subst (λ (d : Cursor). Pushes c.args.self c.loop-choice.frame c.push_one_of.new.frame (Ok _) (nodes ss (select (choice_view (table_in c.args.self.run.now) first) (node_of d) u) u)) kept.node c.in_ok-push_one_of.ensures.pushes);
       size = omega (arith, size, before);
+      known = c.in_ok-push_one_of.ensures.known;
+      node = c.in_ok-push_one_of.ensures.node ∙ kept.node;
     }
 
-pub push_choices-returns : goal.push_choices-returns
-push_choices-returns t c =
+pub push_several-returns : goal.push_several-returns
+push_several-returns t c =
     let u : Tree = (node_of c.args.self.run.now.root.now).tree in
     let ss : Segments = steps_view (table_in c.args.self.run.now) c.args.rest.now in
     let n : Node = node_of c.args.node in
@@ -258,22 +261,22 @@ push_choice-returns-in-Slice t c =
     let seen = ap (choice_view (table_in c.args.self.run.now)) c.in-Slice.is ∙ slice_is (table_in c.args.self.run.now) c.in-Slice.first c.in-Slice.last c.in-Slice.step in
     let same : sliced c.in-Slice.first c.in-Slice.last (to_z w64 (of_z w64 c.unwrap_or.result)) n ≡ select (choice_view (table_in c.args.self.run.now) c.args.choice.now) n u =
     ap (λ (z : ℤ). sliced c.in-Slice.first c.in-Slice.last z n) (fits ∙ c.unwrap_or.ensures) ∙ sym (ap (λ (x : syntax.Selector). select x n u) seen) in
-    record { adds = c.push_slice.ensures.adds; kept = c.push_slice.ensures.kept; told = subst (λ (l : List Node). OnOk c.push_slice.result (tally c.args.self.most c.push_slice.new.frame [] ≡ tally c.args.self.most c.args.frame.now (nodes (steps_view (table_in c.args.self.run.now) c.args.rest.now) l u))) same c.push_slice.ensures.told }
+    record { adds = c.push_slice.ensures.adds; kept = c.push_slice.ensures.kept; dead = c.push_slice.ensures.dead; told = subst (λ (l : List Node). OnOk c.push_slice.result (tally c.args.self.most c.push_slice.new.frame [] ≡ tally c.args.self.most c.args.frame.now (nodes (steps_view (table_in c.args.self.run.now) c.args.rest.now) l u))) same c.push_slice.ensures.told }
 
 pub push_slice-returns-then-slice-gt0 : goal.push_slice-returns-then-slice-gt0
 push_slice-returns-then-slice-gt0 t c =
     let u : Tree = (node_of c.args.self.run.now.root.now).tree in
-    record { adds = c.push_rising.ensures.adds; kept = c.push_rising.ensures.kept; told = subst (λ (l : List Node). OnOk c.push_rising.result (tally c.args.self.most c.push_rising.new.frame [] ≡ tally c.args.self.most c.args.frame.now (nodes (steps_view (table_in c.args.self.run.now) c.args.rest.now) l u))) c.of.ensures c.push_rising.ensures.told }
+    record { adds = c.push_rising.ensures.adds; kept = c.push_rising.ensures.kept; dead = c.push_rising.ensures.dead; told = subst (λ (l : List Node). OnOk c.push_rising.result (tally c.args.self.most c.push_rising.new.frame [] ≡ tally c.args.self.most c.args.frame.now (nodes (steps_view (table_in c.args.self.run.now) c.args.rest.now) l u))) c.of.ensures c.push_rising.ensures.told }
 
 pub push_slice-returns : goal.push_slice-returns
 push_slice-returns t c =
     let u : Tree = (node_of c.args.self.run.now.root.now).tree in
     let same = ap (map node_of) c.deref.ensures.value ∙ c.in_ok-found.ensures.nodes in
-    record { adds = c.push_each.ensures.adds; kept = c.push_each.ensures.kept; told = subst (λ (l : List Node). OnOk c.push_each.result (tally c.args.self.most c.push_each.new.frame [] ≡ tally c.args.self.most c.args.frame.now (nodes (steps_view (table_in c.args.self.run.now) c.args.rest.now) l u))) same c.push_each.ensures.told }
+    record { adds = c.push_each.ensures.adds; kept = c.push_each.ensures.kept; dead = c.push_each.ensures.dead; told = subst (λ (l : List Node). OnOk c.push_each.result (tally c.args.self.most c.push_each.new.frame [] ≡ tally c.args.self.most c.args.frame.now (nodes (steps_view (table_in c.args.self.run.now) c.args.rest.now) l u))) same c.push_each.ensures.told }
 
 pub push_rising-returns-in_err-push_steps : goal.push_rising-returns-in_err-push_steps
 push_rising-returns-in_err-push_steps t c =
-    record { adds = adds_more c.loop-next.invariant.goes.adds c.in_err-push_steps.ensures.adds; kept = c.in_err-push_steps.ensures.kept; told = search rules }
+    record { adds = adds_more c.loop-next.invariant.goes.adds c.in_err-push_steps.ensures.adds; kept = c.in_err-push_steps.ensures.kept; dead = c.in_err-push_steps.ensures.dead; told = search rules }
 
 pub push_rising-loop-next-preserved : goal.push_rising-loop-next-preserved
 push_rising-loop-next-preserved t c =
@@ -322,25 +325,13 @@ push_rising-overflow_add-index t c =
     let small = index_fits c.args.node i c.in-Some.child at in
     omega (arith, small)
 
--- ---- no child of that name or index
+-- ---- what is found of a name or an index
 
-pub push_choice-returns-in-None : goal.push_choice-returns-in-None
-push_choice-returns-in-None t c =
+pub push_found-returns-in-None : goal.push_found-returns-in-None
+push_found-returns-in-None t c =
     let u : Tree = (node_of c.args.self.run.now.root.now).tree in
     let ss : Segments = steps_view (table_in c.args.self.run.now) c.args.rest.now in
-    let n : Node = node_of c.args.node in
-    let none : select (choice_view (table_in c.args.self.run.now) c.args.choice.now) n u ≡ [] =
-    ap (λ (x : Choice). select (choice_view (table_in c.args.self.run.now) x) n u) c.in-One.is ∙ (ap (λ (x : syntax.Selector). select x n u) (chosen_is (table_in c.args.self.run.now) c.in-One.key) ∙ (select_is (key_view c.in-One.key) n u ∙ sym c.in-None.ensures.nodes)) in
-    nothing_added c.args.self c.args.frame.now ss u _ c.requires.kept none
-
-pub push_selected-returns-in-None : goal.push_selected-returns-in-None
-push_selected-returns-in-None t c =
-    let u : Tree = (node_of c.args.self.run.now.root.now).tree in
-    let ss : Segments = steps_view (table_in c.args.self.run.now) c.args.rest.now in
-    let n : Node = node_of c.args.node in
-    let table : Table = table_in c.args.self.run.now in
-    let there : step_nodes (key_view c.in-One.key) n ≡ [] = search (rules, c.in-None.ensures.nodes) in
-    nothing_added c.args.self c.args.frame.now ss u _ c.requires.kept (one_selects table c.args.step.now c.in-One.key n u c.in-One.is ∙ there)
+    nothing_added c.args.self c.args.frame.now ss u _ c.requires.kept c.requires.dead (ap node_list c.in-None.is)
 
 -- ---- slices that end, and where a walk begins
 
@@ -365,7 +356,7 @@ push_subtree-loop-place-init t c =
     let n : Cursor = c.args.node in
     let start = c.place-place.ensures.value in
     let zero : c.place-place.result - place_of n ≡ 0 = omega (arith, start) in
-    record { goes = begins c.args.self c.args.frame.now c.args.frame.now _ _ c.requires.kept refl refl (ap (λ (k : ℕ). nodes ss (flat_map f (drop k (subtree (node_of n)))) u) zero) }
+    record { goes = begins c.args.self c.args.frame.now c.args.frame.now _ _ c.requires.kept c.requires.dead refl refl (ap (λ (k : ℕ). nodes ss (flat_map f (drop k (subtree (node_of n)))) u) zero) }
 
 -- ---- what is asked of the root
 
@@ -412,7 +403,7 @@ push_where-returns-else-branch t c =
     let below : List Node = children (node_of c.args.node) in
     let told : (n : Node) → p n ≡ slot_truth run c.in-Once.position = λ n. ap (λ (x : Condition). truth (condition_view (table_in run) x) n u) c.in-Once.is ∙ once_told run c.in-Once.position n in
     let none : filter p below ≡ [] = filter_none p below (λ n. told n ∙ (sym c.in_ok-holds_once-in-Once.ensures.value ∙ c.if-branch.false)) in
-    is_done (goes_lent c.holds_once.new.frame (begins c.args.self c.args.frame.now c.args.frame.now [] (nodes ss (filter p below) u) c.requires.kept refl refl (sym (ap (λ (l : List Node). nodes ss l u) none ∙ no_nodes ss u))) c.in_ok-holds_once-in-Once.ensures.lends) refl
+    is_done (goes_lent c.holds_once.new.frame (begins c.args.self c.args.frame.now c.args.frame.now [] (nodes ss (filter p below) u) c.requires.kept c.requires.dead refl refl (sym (ap (λ (l : List Node). nodes ss l u) none ∙ no_nodes ss u))) c.in_ok-holds_once-in-Once.ensures.lends) refl
 
 pub sought_value-value_once-requires : goal.sought_value-value_once-requires
 sought_value-value_once-requires t c =
@@ -433,13 +424,13 @@ sought_value-returns-in-Once-clause-value t c =
 
 pub only_value-returns-clause-value : goal.only_value-returns-clause-value
 only_value-returns-clause-value t c =
-    let new = c.push_steps.new.frame.found in
+    let new = c.push_query.new.frame.found in
     let before : ℕ = c.len-before.result in
     let found : List Node = nodes (steps_view (table_in c.args.self.run.now) c.args.steps.now) (node_of c.args.node ∷ []) (node_of c.args.self.run.now.root.now).tree in
     let old : length c.args.frame.now.found.items ≡ before = sym (c.len-before.ensures ∙ c.args.frame.now.found.ok.0) in
     let size = c.args.frame.now.found.ok in
     let small = c.args.frame.now.found.small in
-    let told = not_counted (before + 2) c.args.frame.now c.push_steps.new.frame found (omega (arith, old, size, small)) c.in_ok-push_steps.ensures.told in
+    let told = not_counted (before + 2) c.args.frame.now c.push_query.new.frame found (omega (arith, old, size, small)) c.in_ok-push_query.ensures.told in
     let now : c.len.result ≡ length new.items = c.len.ensures ∙ new.ok.0 in
     record {
       sound = elim c.if-len-before.branch [
@@ -449,9 +440,9 @@ only_value-returns-clause-value t c =
       value = elim c.if-len-before.branch [
         | only_value-then-len-before w ↦
             (ap value_view w.value-is
-            ∙ single_found _ c.args.frame.now.found.items new.items _ _ before found w.index.result.now c.in_ok-push_steps.ensures.adds old told (sym now ∙ w.if-len-before.true) (sym w.index.ensures))
+            ∙ single_found _ c.args.frame.now.found.items new.items _ _ before found w.index.result.now c.in_ok-push_query.ensures.adds old told (sym now ∙ w.if-len-before.true) (sym w.index.ensures))
         | only_value-else-len-before w ↦
-            (ap value_view w.value-is ∙ none_single _ c.args.frame.now.found.items new.items _ _ before found c.in_ok-push_steps.ensures.adds old told (λ e. w.if-len-before.false (now ∙ e)))
+            (ap value_view w.value-is ∙ none_single _ c.args.frame.now.found.items new.items _ _ before found c.in_ok-push_query.ensures.adds old told (λ e. w.if-len-before.false (now ∙ e)))
       ];
     }
 
@@ -546,28 +537,26 @@ push_selected-push_choices-requires t c =
     let table : Table = table_in c.args.self.run.now in
     let size = ap (λ (x : ProgramStep). size_of_segment (step_view table x)) c.in-Child.is ∙ ap size_of_segment (child_is table c.in-Child.choices) in
     let same = ap (λ (l : List Choice). size_of_selectors (choices_view table l)) c.deref.ensures.value in
-    (omega (arith, size, same, c.decreases), record { line = c.requires.line; kept = c.requires.kept; end = ends_next c.args.self c.args.step.now c.args.rest.now c.requires.end })
+    (omega (arith, size, same, c.decreases), record { line = c.requires.line; kept = c.requires.kept; dead = c.requires.dead; end = ends_next c.args.self.run.now.steps.now c.args.step.now c.args.rest.now c.requires.end })
 
 pub push_selected-push_subtree-requires : goal.push_selected-push_subtree-requires
 push_selected-push_subtree-requires t c =
     let table : Table = table_in c.args.self.run.now in
     let size = ap (λ (x : ProgramStep). size_of_segment (step_view table x)) c.in-Descendant.is ∙ ap size_of_segment (descendant_is table c.in-Descendant.choices) in
     let same = ap (λ (l : List Choice). size_of_selectors (choices_view table l)) c.deref-in-Descendant.ensures.value in
-    (omega (arith, size, same, c.decreases), record { line = c.requires.line; kept = c.requires.kept; end = ends_next c.args.self c.args.step.now c.args.rest.now c.requires.end })
+    (omega (arith, size, same, c.decreases), record { line = c.requires.line; kept = c.requires.kept; dead = c.requires.dead; end = ends_next c.args.self.run.now.steps.now c.args.step.now c.args.rest.now c.requires.end })
 
 pub push_again-returns-then-is_dead_end : goal.push_again-returns-then-is_dead_end
 push_again-returns-then-is_dead_end t c =
     let run : Run = c.args.self.run.now in
-    let none = nothing_there run c.args.node c.args.step.now c.args.rest.now (c.requires.frame.end c.requires.all) (c.is_dead_end.ensures c.if-is_dead_end.true) in
-    is_done (begins c.args.self c.args.frame.now c.args.frame.now [] _ c.requires.frame.kept refl refl (sym none)) refl
+    let none = nothing_there run c.args.node c.args.step.now c.args.rest.now c.requires.end (c.is_dead_end.ensures c.if-is_dead_end.true) in
+    is_done (begins c.args.self c.args.frame.now c.args.frame.now [] _ c.requires.kept c.requires.dead refl refl (sym none)) refl
 
-pub push_again-note_where_none-requires-clause-dead : goal.push_again-note_where_none-requires-clause-dead
-push_again-note_where_none-requires-clause-dead t c e =
+pub push_again-note_where_none-requires-clause-is : goal.push_again-note_where_none-requires-clause-is
+push_again-note_where_none-requires-clause-is t c e k more =
     let run : Run = c.args.self.run.now in
     let new : Frame = c.push_selected.new.frame in
-    let size = new.found.ok in
-    let small = new.found.small in
     let found : List Node = nodes (steps_view (table_in run) c.args.rest.now) (segment_nodes (step_view (table_in run) c.args.step.now) (node_of c.args.node) (tree_in run)) (tree_in run) in
-    let told = subst (λ (most : ℕ). tally most new [] ≡ tally most c.args.frame.now found) c.requires.all c.in_ok-push_selected.ensures.told in
-    is_dead run c.args.node c.args.step.now c.args.rest.now (c.requires.frame.end c.requires.all)
-    (none_found c.args.frame.now new found told (e ∙ (c.len-before.ensures ∙ c.args.frame.now.found.ok.0)) (omega (arith, size, small)))
+    let old : c.len-found.result ≡ length c.args.frame.now.found.items = c.len-found.ensures ∙ c.args.frame.now.found.ok.0 in
+    is_dead run c.args.node c.args.step.now c.args.rest.now c.requires.end
+    (none_added c.args.self.most c.args.frame.now new found c.in_ok-push_selected.ensures.told (e ∙ old) k (omega (arith, old, more)))

@@ -8,6 +8,7 @@ use Rattle.jp_tape.specs.Cursors.{line_of, place_of, node_of, nodes_from}
 use Rattle.jp_eval.specs.Answers.{table_in, tree_in}
 use Rattle.jp_eval.specs.Expressions.{all_are}
 use Rattle.jp_eval.specs.Frames.{AreKept}
+use Rattle.jp_eval.specs.Indexing.{AreKnown}
 use Rattle.jp_eval.specs.Programs.{logical_at, side_at, step_view, steps_view, choices_view, choice_view, conditions_view, condition_view, test_view, operand_view, spelled_view, sought_view, found_view}
 use Rattle.jp_eval.specs.Walks.{IsAt, rises}
 use Rattle.jp_eval.proofs.Goes.{Goes}
@@ -28,10 +29,19 @@ abbrev pub decreases-push_selected : goal.decreases-push_selected
 decreases-push_selected l = size_of_segment (step_view (table_in l.self.run.now) l.step.now) + size_of_segments (steps_view (table_in l.self.run.now) l.rest.now)
 
 abbrev pub decreases-push_subtree : goal.decreases-push_subtree
-decreases-push_subtree l = size_of_selectors (choices_view (table_in l.self.run.now) l.choices.now) + size_of_segments (steps_view (table_in l.self.run.now) l.rest.now) + 8
+decreases-push_subtree l = size_of_selectors (choices_view (table_in l.self.run.now) l.choices.now) + size_of_segments (steps_view (table_in l.self.run.now) l.rest.now) + 10
 
 abbrev pub decreases-push_choices : goal.decreases-push_choices
-decreases-push_choices l = size_of_selectors (choices_view (table_in l.self.run.now) l.choices.now) + size_of_segments (steps_view (table_in l.self.run.now) l.rest.now) + 7
+decreases-push_choices l = size_of_selectors (choices_view (table_in l.self.run.now) l.choices.now) + size_of_segments (steps_view (table_in l.self.run.now) l.rest.now) + 9
+
+abbrev pub decreases-push_several : goal.decreases-push_several
+decreases-push_several l = size_of_selectors (choices_view (table_in l.self.run.now) l.choices.now) + size_of_segments (steps_view (table_in l.self.run.now) l.rest.now) + 8
+
+abbrev pub decreases-push_one_of : goal.decreases-push_one_of
+decreases-push_one_of l = size_of_selector (choice_view (table_in l.self.run.now) l.choice.now) + size_of_segments (steps_view (table_in l.self.run.now) l.rest.now) + 7
+
+abbrev pub decreases-push_found : goal.decreases-push_found
+decreases-push_found l = size_of_segments (steps_view (table_in l.self.run.now) l.rest.now) + 4
 
 abbrev pub decreases-push_choice : goal.decreases-push_choice
 decreases-push_choice l = size_of_selector (choice_view (table_in l.self.run.now) l.choice.now) + size_of_segments (steps_view (table_in l.self.run.now) l.rest.now) + 6
@@ -70,13 +80,16 @@ abbrev pub decreases-are_all : goal.decreases-are_all
 decreases-are_all l = size_of_logicals (conditions_view (table_in l.self.run.now) l.parts.now)
 
 abbrev pub decreases-has_node : goal.decreases-has_node
-decreases-has_node l = size_of_segments (steps_view (table_in l.self.run.now) l.steps.now) + 4
+decreases-has_node l = size_of_segments (steps_view (table_in l.self.run.now) l.steps.now) + 5
 
 abbrev pub decreases-only_value : goal.decreases-only_value
-decreases-only_value l = size_of_segments (steps_view (table_in l.self.run.now) l.steps.now) + 4
+decreases-only_value l = size_of_segments (steps_view (table_in l.self.run.now) l.steps.now) + 5
 
 abbrev pub decreases-count_nodes : goal.decreases-count_nodes
-decreases-count_nodes l = size_of_segments (steps_view (table_in l.self.run.now) l.steps.now) + 4
+decreases-count_nodes l = size_of_segments (steps_view (table_in l.self.run.now) l.steps.now) + 5
+
+abbrev pub decreases-push_query : goal.decreases-push_query
+decreases-push_query l = size_of_segments (steps_view (table_in l.self.run.now) l.steps.now) + 4
 
 abbrev pub decreases-compare_values : goal.decreases-compare_values
 decreases-compare_values l = size_of_comparable (operand_view (table_in l.self.run.now) l.left.now) + size_of_comparable (operand_view (table_in l.self.run.now) l.right.now) + 5
@@ -109,6 +122,7 @@ invariant-are_all-loop-part l =
     record {
       same : l.frame.found.items ≡ l.fn.frame.found.items;
       count : l.frame.count ≡ l.fn.frame.count;
+      dead : l.frame.dead_ends ≡ l.fn.frame.dead_ends;
       kept : AreKept l.self.run.now l.frame.answers.items;
       told : all_are l.answer (conditions_view (table_in l.self.run.now) (drop l.part-index l.parts)) n t ≡ all_are l.answer (conditions_view (table_in l.self.run.now) l.parts) n t;
       size : size_of_logicals (conditions_view (table_in l.self.run.now) (drop l.part-index l.parts)) ≤ size_of_logicals (conditions_view (table_in l.self.run.now) l.parts);
@@ -165,11 +179,13 @@ invariant-push_rising-loop-next l =
 abbrev pub decreases-push_rising-loop-next : goal.decreases-push_rising-loop-next
 decreases-push_rising-loop-next l = length (nodes_from l.next)
 
-abbrev pub invariant-push_choices-loop-choice : goal.invariant-push_choices-loop-choice
-invariant-push_choices-loop-choice l =
+abbrev pub invariant-push_several-loop-choice : goal.invariant-push_several-loop-choice
+invariant-push_several-loop-choice l =
     let t = tree_in l.self.run.now in
     let n = node_of l.node in
     record {
       goes : Goes l.self l.fn.frame l.frame (nodes (steps_view (table_in l.self.run.now) l.rest) (selected (choices_view (table_in l.self.run.now) (drop l.choice-index l.choices)) n t) t) (nodes (steps_view (table_in l.self.run.now) l.rest) (selected (choices_view (table_in l.self.run.now) l.choices) n t) t);
       size : size_of_selectors (choices_view (table_in l.self.run.now) (drop l.choice-index l.choices)) ≤ size_of_selectors (choices_view (table_in l.self.run.now) l.choices);
+      known : AreKnown l.elements;
+      node : l.elements.node ≡ l.node;
     }
