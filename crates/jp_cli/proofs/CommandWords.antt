@@ -3,7 +3,6 @@ use Rattle.std.proofs.Common.{◌≡◌, ◌∙◌, ℕ, zero, List, [], ◌∷�
 use Rattle.std.specs.Prelude.{◌==◌, suc, Some, None, codes}
 use Rattle.std.proofs.lemmas.Bool.{eqb-false}
 use Rattle.memchr.specs.Find.{IsFirstByte, is_byte}
-use Rattle.jp_model.proofs.Seek.{text_same}
 use Rattle.jp_model.specs.Characters.{text_equal}
 use Rattle.jp_model.specs.Script.Commands.{indexes_line, check_line, first_word, behind_word, command_with, command_of}
 
@@ -38,10 +37,6 @@ parted (c ∷ x) (suc at) h =
 
 pub not_empty : (n : ℕ) (is_empty : Bool) → is_empty ≡ (n == 0) → is_empty ≡ false → n ≡ 0 → ⊥
 not_empty n is_empty test no_test none = eqb-false n 0 (sym test ∙ no_test) none
-
--- a word alone asks for what its line asks for
-pub asks_word : (line word : List ℕ) → text_equal line word ≡ true → command_of line ≡ command_of word
-asks_word line word e = ap command_of (text_same line word e)
 
 -- a line that is none of the two words without an argument
 pub asks_by_word : (line : List ℕ) → (length line ≡ 0 → ⊥) → text_equal line (codes "indexes") ≡ false → text_equal line (codes "check") ≡ false → command_of line ≡ command_with (first_word line) (behind_word line)

@@ -1,5 +1,5 @@
 -- How a script ends by the commands that its lines ask for, and how a run ends by how its script ended.
-use Rattle.std.proofs.Common.{◌≡◌, ◌∙◌, ◌≤◌, ℕ, List, [], ◌∷◌, ◌++◌, length, take, drop, map, sym, ap, subst, refl, Bool, true, false, ◌||◌, Option, Some, None, Result, Ok, Err, MatchResult, append-nil, inr}
+use Rattle.std.proofs.Common.{◌≡◌, ◌∙◌, ◌≤◌, ℕ, List, [], ◌∷◌, ◌++◌, length, take, drop, map, sym, ap, subst, refl, Bool, true, false, Option, Some, None, Result, Ok, Err, MatchResult, append-nil, inr}
 use Rattle.std.specs.Prelude.{OnOk, IfSome}
 use Rattle.std.proofs.lemmas.List.{map-append}
 use Rattle.std.specs.Io.KnownBytes.{Consumes, IsAtEnd}
@@ -18,7 +18,7 @@ use Rattle.jp_model.specs.Script.Commands.{command_of}
 use Rattle.jp_cli.specs.Commands.{asked_in}
 use Rattle.jp_cli.specs.Runs.{Progress, Ran, RanFirst, ScriptStopped}
 use Rattle.jp_cli.specs.Sessions.{HasRun, HasRunFirst, HasStopped}
-use Rattle.jp_model.proofs.Devices.{came_so, or_true}
+use Rattle.jp_model.proofs.Devices.{came_so}
 
 module _ (query_of : List ℕ → QueryStatus) (setup : Setup) where
   -- lines as they came ask for what they ask without their final CR
@@ -143,12 +143,6 @@ told_of_all (Err fault) Stops c0 c1 s0 s1 c s P h k ended out = tt
 told_of_all (Ok x) Stops c0 c1 s0 s1 c s P h k ended out =
     if_some (λ all. c ≡ all) (λ c. IfSome s0 (λ s. P c s)) c0 (all_came c0 c1 c h ended.0)
     (λ all e. if_some (λ every. s ≡ every) (λ s. P all s) s0 (all_came s0 s1 s k ended.1) (λ every f. subst (P all) f (subst (λ t. P t s) e out)))
-
--- what came to its end left its reader there
-pub came_ended : {X F : Type 0} (result : Result X F) (old new ended : Bool) (P : Type 0) (Stops : F → Type 0) → new ≡ (old || ended)
-    → MatchResult result (λ _. (ended ≡ true) × P) Stops → OnOk result (new ≡ true)
-came_ended (Err fault) old new ended P Stops e h = tt
-came_ended (Ok x) old new ended P Stops e h = e ∙ (ap (λ b. old || b) h.0 ∙ sym (or_true old))
 
 pub both_ended : {X F : Type 0} (result : Result X F) (A B : Type 0) → A → OnOk result B → OnOk result (A × B)
 both_ended (Err fault) A B a b = tt

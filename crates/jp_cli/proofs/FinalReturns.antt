@@ -1,5 +1,5 @@
 -- A line with one byte at its end.
-use Rattle.std.proofs.Common.{◌≡◌, ◌∙◌, ℕ, List, [], ◌∷◌, ◌++◌, length, sym, ap, refl, arith, true, false, Bool, if◌then◌else◌}
+use Rattle.std.proofs.Common.{◌≡◌, ◌∙◌, ℕ, List, [], ◌∷◌, ◌++◌, sym, ap, refl, true, false, Bool, if◌then◌else◌}
 use Rattle.std.specs.Prelude.{◌==◌}
 use Rattle.std.proofs.lemmas.Bool.{ne_eqb}
 use Rattle.jp_model.specs.Script.Commands.{without_final_cr}
@@ -19,7 +19,3 @@ with_return line front last e is =
 
 pub without_return : (line front : List ℕ) (last : ℕ) → line ≡ front ++ last ∷ [] → (last ≡ 0x0D → ⊥) → line ≡ without_final_cr line
 without_return line front last e not = sym (ap without_final_cr e ∙ last_by front last false (ne_eqb last 0x0D not) ∙ sym e)
-
-pub without_bytes : (line : List ℕ) → length line ≡ 0 → line ≡ without_final_cr line
-without_bytes [] e = refl
-without_bytes (c ∷ line) e = absurd (omega arith)

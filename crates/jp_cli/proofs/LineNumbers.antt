@@ -17,12 +17,6 @@ number_if_digits (c ∷ x) l f s =
     let other : (c == 0x30) ≡ false = ne_eqb c 0x30 f in
     ap (λ b. b && not (c == 0x30) && list_all is_digit (c ∷ x)) few ∙ ap (λ b. not b && list_all is_digit (c ∷ x)) other
 
-pub not_a_digit_low : (c : ℕ) → c < 48 → is_digit c ≡ false
-not_a_digit_low c l = grind (arith, nat_tests, l)
-
-pub not_a_digit_high : (c : ℕ) → 57 < c → is_digit c ≡ false
-not_a_digit_high c l = grind (arith, nat_tests, l)
-
 pub a_digit : (c : ℕ) → 48 ≤ c → c ≤ 57 → is_digit c ≡ true
 a_digit c l h = grind (arith, nat_tests, l, h)
 
@@ -53,10 +47,6 @@ module _ (ds : List ℕ) (i value : ℕ) (l : i < length ds) (so : IsRead ds i v
         are_digits = sym (ap (λ b. b && list_all is_digit (drop (i + 1) ds)) digit) ∙ (sym (ap (list_all is_digit) next) ∙ so.are_digits);
         low = omega (arith, v, p, high);
       }
-
-  -- a byte that is no digit
-  pub no_digit : is_digit (get_or ds i 0) ≡ false → list_all is_digit ds ≡ false
-  no_digit e = sym so.are_digits ∙ (ap (list_all is_digit) next ∙ ap (λ b. b && list_all is_digit (drop (i + 1) ds)) e)
 
 -- all are read
 pub all_read : (ds : List ℕ) (i value : ℕ) → length ds ≤ i → IsRead ds i value → (list_all is_digit ds ≡ true) × (value ≡ digits_value ds)

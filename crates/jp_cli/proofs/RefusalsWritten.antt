@@ -176,9 +176,6 @@ module _ (c : Collection) (lines trees refusals : ℕ) (l : lines ≡ length c.s
   all : count_by is_blank_status (statuses_in c) + refusals + trees ≡ lines
   all = omega (arith, l, t, r, length-lines 1 (statuses_in c), all_are_one (statuses_in c), length-map c.state.lines (status_of c.framing))
 
-  pub trees_fit : trees ≤ lines
-  trees_fit = omega (arith, all)
-
   pub refusals_fit : refusals ≤ lines - trees
   refusals_fit = omega (arith, all)
 

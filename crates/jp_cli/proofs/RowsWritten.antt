@@ -128,8 +128,3 @@ module _ {W : Type 0} (contents : W → Option (List ℕ)) (f : Framing) (whole 
 
     pub refusal_in_part : (new : Device W) → Part contents out new (refusal_text f line fault) → Part contents initial new whole
     refusal_in_part new p = in_part (refusal_text f line fault) (flat_map (found_text f) (expanded rest ps)) (refusal_told f ls rest line fault ps e) new p
-
--- at the end all are written
-pub all_written : {W : Type 0} (contents : W → Option (List ℕ)) (f : Framing) (whole : List ℕ) (initial out : Device W) (ls : List LineRows) (ps : List ℕ) → IsWritten contents f whole initial ls ps out → ls ≡ [] → Received contents initial out whole
-all_written contents f whole initial out ls ps so none =
-    subst (Received contents initial out) (sym (append-nil so.done) ∙ (ap (λ (xs : List LineRows). so.done ++ flat_map (found_text f) (expanded xs ps)) (sym none) ∙ so.all)) so.written

@@ -21,9 +21,6 @@ use Rattle.jp_decimal.proofs.KeyOrder.{in_order, some_digit, no_zeros}
 int_cases : (p q : ℤ) → ((int_cmp p q ≡ Less) × (p <ℤ q)) ⊎ (((int_cmp p q ≡ Equal) × (p ≡ q)) ⊎ ((int_cmp p q ≡ Greater) × (q <ℤ p)))
 int_cases p q = by_ranked (p <ℤ q) (p ≡ q) (q <ℤ p) (int_cmp p q) (int_ranked p q (int_cmp p q) refl) (λ e h. inl (e, h)) (λ e h. inr (inl (e, h))) (λ e h. inr (inr (e, h)))
 
-key_value : KeySize → ℕ
-key_value k = digits_value k.digits.items
-
 key_digits : (k : KeySize) → AreDigits k.digits.items
 key_digits k = digits_found k.digits.items k.are_digits
 

@@ -1,5 +1,5 @@
 -- The order of numbers with a sign, from the order of their sizes.
-use Rattle.std.proofs.Common.{◌≡◌, ℕ, zero, suc, ◌*◌, ◌^◌, ◌<◌, Bool, true, false, sym, ◌∙◌, ap, ap₂, refl, arith, pos, negsuc, neg_ℤ, ◌*ℤ◌, Less, Equal, Greater}
+use Rattle.std.proofs.Common.{◌≡◌, ℕ, zero, suc, ◌*◌, ◌^◌, ◌<◌, Bool, true, false, sym, ◌∙◌, ap, ap₂, refl, arith, pos, negsuc, neg_ℤ, ◌*ℤ◌, Less, Greater}
 use Rattle.std.specs.Ordering.{nat_cmp, int_cmp, ordering_reverse}
 use Rattle.std.proofs.lemmas.Bool.Decides.{nat_tests}
 use Rattle.std.proofs.Math.Nat.{one-le-pow, mul-pos}
@@ -57,9 +57,6 @@ order_with_signs s t m n = ap₂ int_cmp (signed_times s (unsigned_mantissa m) (
 pub both_minus : (s t : Bool) (m n : Magnitude) → s ≡ true → t ≡ true → ordering_reverse (order_of m n) ≡ order (number_of s m) (number_of t n)
 both_minus s t m n e f = rw (e, f) (sym (order_with_signs true true m n ∙ order_minus (left m n) (right m n)))
 
-pub both_plus : (s t : Bool) (m n : Magnitude) → s ≡ false → t ≡ false → order_of m n ≡ order (number_of s m) (number_of t n)
-both_plus s t m n e f = rw (e, f) (sym (order_with_signs false false m n ∙ order_plus (left m n) (right m n)))
-
 -- a number brought to another exponent is zero only if it was
 pub zero_from_times : (a k : ℕ) → a * 10 ^ k ≡ 0 → a ≡ 0
 zero_from_times zero k e = refl
@@ -72,10 +69,3 @@ minus_plus s t m n e f h =
 pub plus_minus : (s t : Bool) (m n : Magnitude) → s ≡ false → t ≡ true → ((unsigned_mantissa m ≡ 0) × (unsigned_mantissa n ≡ 0) → ⊥) → Greater ≡ order (number_of s m) (number_of t n)
 plus_minus s t m n e f h =
     rw (e, f) (sym (order_with_signs false true m n ∙ order_apart_turned (left m n) (right m n) (λ p q. h (zero_from_times _ _ p, zero_from_times _ _ q))))
-
-zero_left : (s : Bool) (a p : ℕ) → a ≡ 0 → signed s a *ℤ pos p ≡ pos 0
-zero_left true a p e = rw e (ap pos (zero_times p))
-zero_left false a p e = rw e (ap pos (zero_times p))
-
-pub both_nothing : (s t : Bool) (m n : Magnitude) → (unsigned_mantissa m ≡ 0) × (unsigned_mantissa n ≡ 0) → Equal ≡ order (number_of s m) (number_of t n)
-both_nothing s t m n h = sym (ap₂ int_cmp (zero_left s _ (10 ^ raised m n) h.0) (zero_left t _ (10 ^ raised_other m n) h.1))

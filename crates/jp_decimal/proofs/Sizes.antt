@@ -170,12 +170,6 @@ greater_by_position m n k l h g lead less =
 times_zero : (a p b q : ℕ) → a ≡ 0 → 0 < b → 0 < q → a * p < b * q
 times_zero a p b q e h g = let k : 0 < b * q = mul-pos h g in rw e (omega (arith, k))
 
-zero_value : (a p : ℕ) → a ≡ 0 → a * p ≡ 0
-zero_value a p e = rw e (omega arith)
-
-pub both_zero : (m n : Magnitude) → unsigned_mantissa m ≡ 0 → unsigned_mantissa n ≡ 0 → Equal ≡ order_of m n
-both_zero m n e f = sym (nat_same _ _ (zero_value (unsigned_mantissa m) (10 ^ raised m n) e ∙ sym (zero_value (unsigned_mantissa n) (10 ^ raised_other m n) f)))
-
 pub zero_less : (m n : Magnitude) → unsigned_mantissa m ≡ 0 → 0 < unsigned_mantissa n → Less ≡ order_of m n
 zero_less m n e h = sym (nat_less _ _ (times_zero (unsigned_mantissa m) (10 ^ raised m n) (unsigned_mantissa n) (10 ^ raised_other m n) e h (one-le-pow (raised_other m n) 10 (omega arith))))
 

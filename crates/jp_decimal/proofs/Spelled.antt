@@ -8,8 +8,7 @@ use Rattle.jp_decimal.proofs.Signs.{number_of}
 use Rattle.jp_decimal.specs.declared.parts.Magnitude.{Magnitude}
 use Rattle.jp_decimal.specs.declared.fault.NumberFault.{NumberFault}
 use Rattle.jp_decimal.specs.declared.fault.NumberFault.TheVariants.{Shape, Exponent as TooLong}
-use Rattle.std.proofs.lemmas.Bool.{ne_eqb, eq-eqb}
-use Rattle.jp_decimal.specs.Steps.{SpellsExponent, ExponentIs, letter, RefusesExponent, SpellsBehindInt, BehindIntIs, RefusesBehindInt, SpellsUnsigned, MagnitudeIs, RefusesUnsigned}
+use Rattle.jp_decimal.specs.Steps.{SpellsExponent, ExponentIs, letter, RefusesExponent, SpellsBehindInt, RefusesBehindInt, SpellsUnsigned, MagnitudeIs, RefusesUnsigned}
 use Rattle.jp_decimal.specs.Reading.{SpellsNumeral, ReadsAs, RefusesNumber}
 use Rattle.jp_model.specs.Json.Numbers.{IsNumeral, numeral_bytes, head_of, numeral_of}
 use Rattle.jp_model.proofs.Reader.Numbers.{parts_read}
@@ -88,10 +87,6 @@ pub fraction_head : (f : List ℕ) (x : Option Exponent) → is_digit (head_of (
 fraction_head [] x = exponent_head x
 fraction_head (d ∷ ds) x = refl
 
--- without a point
-pub no_point_is : (text : List ℕ) (e : ℤ) → ExponentIs text e → BehindIntIs text [] e
-no_point_is text e h = record { exponent = h.exponent; spells = record { digits = tt; correct = h.spells.correct; spelled = h.spells.spelled }; short = h.short; is = h.is }
-
 no_point_spells : (text f : List ℕ) (x : Option Exponent) → head_of text ≢ 0x2E → SpellsBehindInt text f x → SpellsExponent text x
 no_point_spells text [] x n p = record { correct = p.correct; spelled = p.spelled }
 no_point_spells text (d ∷ ds) x n p = absurd (n (sym (ap head_of p.spelled)))
@@ -112,41 +107,10 @@ some_fraction : (ds r text : List ℕ) (x : Option Exponent) → 0 < length ds �
 some_fraction [] r text x l e p = absurd (omega arith)
 some_fraction (d ∷ ds) r text x l e p = ap (λ (xs : List ℕ). 0x2E ∷ ((d ∷ ds) ++ xs)) p ∙ e
 
-pub point_is : (text rest ds r : List ℕ) (e : ℤ) → 0x2E ∷ rest ≡ text → ds ++ r ≡ rest → AreDigits ds → 0 < length ds → ExponentIs r e → BehindIntIs text ds e
-point_is text rest ds r e p j a l h = record {
-  exponent = h.exponent;
-  spells = record { digits = a; correct = h.spells.correct; spelled = some_fraction ds r text h.exponent l (ap (λ (xs : List ℕ). 0x2E ∷ xs) j ∙ p) h.spells.spelled };
-  short = h.short;
-  is = h.is;
-}
-
-pub point_empty : (text rest ds r : List ℕ) → 0x2E ∷ rest ≡ text → ds ++ r ≡ rest → AreDigits ds → is_digit (head_of r) ≡ false → length ds ≡ 0 → (f : List ℕ) (x : Option Exponent) → SpellsBehindInt text f x → ⊥
-point_empty text rest ds r e j a n l f x p = let s = point_spells text rest ds r f x e j a n p in absurd (omega (arith, s.1, ap length s.0))
-
 pub point_refused : (fault : NumberFault) (text rest ds r : List ℕ) → 0x2E ∷ rest ≡ text → ds ++ r ≡ rest → AreDigits ds → is_digit (head_of r) ≡ false → 0 < length ds → RefusesExponent r fault → RefusesBehindInt text fault
 point_refused Shape text rest ds r e j a n l h = λ f x p. h x (point_spells text rest ds r f x e j a n p).2
 point_refused TooLong text rest ds r e j a n l h =
     (ds, h.0, record { digits = a; correct = h.1.correct; spelled = some_fraction ds r text h.0 l (ap (λ (xs : List ℕ). 0x2E ∷ xs) j ∙ e) h.1.spelled }, h.2)
-
--- the test for int
-pub is_int_empty : (ds : List ℕ) → length ds ≡ 0 → IsInt ds → ⊥
-is_int_empty [] l i = i
-is_int_empty (d ∷ ds) l i = absurd (omega arith)
-
-pub is_int_one : (ds : List ℕ) → length ds ≡ 1 → AreDigits ds → IsInt ds
-is_int_one [] l a = absurd (omega arith)
-is_int_one (d ∷ []) l a = a.0
-is_int_one (d ∷ e ∷ ds) l a = absurd (omega arith)
-
-pub is_int_more : (ds : List ℕ) → 1 < length ds → AreDigits ds → get_or ds 0 0 ≢ 0x30 → IsInt ds
-is_int_more [] l a n = absurd (omega arith)
-is_int_more (d ∷ []) l a n = absurd (omega arith)
-is_int_more (d ∷ e ∷ ds) l a n = (a.0, ne_eqb d 0x30 n, a.1)
-
-pub is_int_zero : (ds : List ℕ) → 1 < length ds → get_or ds 0 0 ≡ 0x30 → IsInt ds → ⊥
-is_int_zero [] l e i = i
-is_int_zero (d ∷ []) l e i = absurd (omega arith)
-is_int_zero (d ∷ f ∷ ds) l e i = true_or_false (d == 0x30) (eq-eqb d 0x30 e) i.1
 
 int_digits : (ds : List ℕ) → IsInt ds → AreDigits ds
 int_digits [] i = absurd i
@@ -159,11 +123,6 @@ unsigned_spells text int rest n j a h p =
     let same = digits_same n.int int (fraction_bytes n.fraction ++ exponent_bytes n.exponent) rest (int_digits n.int p.correct.int) a (fraction_head n.fraction n.exponent) h (p.spelled ∙ sym j) in
     (same.0, record { digits = p.correct.fraction; correct = p.correct.exponent; spelled = same.1 })
 
-pub no_int : (text int rest : List ℕ) → int ++ rest ≡ text → AreDigits int → is_digit (head_of rest) ≡ false → (IsInt int → ⊥) → (n : Numeral) → SpellsUnsigned text n → ⊥
-no_int text int rest j a h never n p =
-    let P : List ℕ → Type 0 = λ ds. IsInt ds in
-    never (subst P (unsigned_spells text int rest n j a h p).0 p.correct.int)
-
 pub unsigned_refused : (fault : NumberFault) (text int rest : List ℕ) → int ++ rest ≡ text → AreDigits int → is_digit (head_of rest) ≡ false → IsInt int → RefusesBehindInt rest fault → RefusesUnsigned text fault
 unsigned_refused Shape text int rest j a h i r = λ n p. r n.fraction n.exponent (unsigned_spells text int rest n j a h p).1
 unsigned_refused TooLong text int rest j a h i r = (
@@ -171,16 +130,6 @@ unsigned_refused TooLong text int rest j a h i r = (
   record { correct = record { int = i; fraction = r.2.digits; exponent = r.2.correct }; spelled = ap (λ xs. int ++ xs) r.2.spelled ∙ j },
   r.3,
 )
-
-pub unsigned_is : (text rest : List ℕ) (m : Magnitude) → m.int.now ++ rest ≡ text → IsInt m.int.now → BehindIntIs rest m.fraction.now m.exponent → MagnitudeIs text m
-unsigned_is text rest m j i b = record {
-  numeral = record { negative = false; int = m.int.now; fraction = m.fraction.now; exponent = b.exponent };
-  spells = record { correct = record { int = i; fraction = b.spells.digits; exponent = b.spells.correct }; spelled = ap (λ xs. m.int.now ++ xs) b.spells.spelled ∙ j };
-  short = b.short;
-  int = refl;
-  fraction = refl;
-  exponent = b.is;
-}
 
 int_head : (ds r : List ℕ) → IsInt ds → is_digit (head_of (ds ++ r)) ≡ true
 int_head [] r i = absurd i

@@ -1,5 +1,5 @@
 -- Lines that are answered one after another.
-use Rattle.std.proofs.Common.{◌≡◌, ◌∙◌, ◌<◌, ◌≤◌, ℕ, ◌+◌, ◌-◌, List, [], ◌∷◌, ◌++◌, length, refl, sym, ap, append_assoc, append-nil, subst, arith, Bool, true, false, if◌then◌else◌}
+use Rattle.std.proofs.Common.{◌≡◌, ◌∙◌, ◌<◌, ℕ, ◌+◌, ◌-◌, List, [], ◌∷◌, ◌++◌, length, refl, sym, ap, append_assoc, append-nil, arith, Bool, true, false, if◌then◌else◌}
 use Rattle.std.specs.Prelude.{zero, suc, count_by, cond}
 use Rattle.std.proofs.lemmas.List.Sums.{sum_by-append, sum_by-cons}
 use Rattle.jp_grep.specs.Rows.{line_message, line_rows, messages_from, output_from}
@@ -43,17 +43,6 @@ module _ (test : List ℕ → Bool) where
       let taken = up_to test k xs in
       ap (λ l. x ∷ l) (up_to-append k xs ys)
       ∙ ap (λ n. x ∷ (taken ++ up_to test n ys)) (less (test x) most (count_by test taken) ∙ ap (λ n. suc most - n) (sym (count-cons x taken)))
-
-  pub count_within : (most : ℕ) (xs : List (List ℕ)) → count_by test (up_to test most xs) ≤ most
-  count_within zero xs = omega arith
-  count_within (suc most) [] = omega arith
-  count_within (suc most) (x ∷ xs) =
-      let taken = up_to test (if test x then most else suc most) xs in
-      subst (λ n. n ≤ suc most) (sym (count-cons x taken)) (by (test x) (count_by test taken) (count_within (if test x then most else suc most) xs))
-    where
-      by : (b : Bool) (c : ℕ) → c ≤ (if b then most else suc most) → cond b 1 0 + c ≤ suc most
-      by true c l = omega (arith, l)
-      by false c l = omega (arith, l)
 
   pub count-append : (xs ys : List (List ℕ)) → count_by test (xs ++ ys) ≡ count_by test xs + count_by test ys
   count-append xs ys = sum_by-append (λ y. cond (test y) 1 0) xs ys

@@ -50,10 +50,6 @@ pub by_err : {W A E : Type 0} {contents : W → Option (List ℕ)} (result : Res
 by_err (Ok x) old new text e h = absurd (cc)
 by_err (Err fault) old new text e h = h
 
-pub by_done : {W A E : Type 0} {contents : W → Option (List ℕ)} (result : Result A E) (old new : Device W) (text : List ℕ) → is_err result ≡ false → Writes contents old new result text → Received contents old new text
-by_done (Ok x) old new text e h = h
-by_done (Err fault) old new text e h = absurd (cc)
-
 -- nothing was written
 pub none_written : {W A E : Type 0} (contents : W → Option (List ℕ)) (result : Result A E) (device : Device W) → Writes contents device device result []
 none_written contents (Ok x) device = received_none contents device

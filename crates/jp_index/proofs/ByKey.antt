@@ -106,10 +106,6 @@ module _ (keys : ℕ → Option Key) where
         let none : keys line ≡ None = none_is (keys line) (λ e. n (h.are_all line e)) in
         subst (λ f. AreByKey f lines) (λ i a. sym (but_none none a) i) h
 
-    -- a line that has no key
-    pub none_put_in : (lines : List ℕ) → AreByKey (but line keys) lines → keys line ≡ None → AreByKey keys lines
-    none_put_in lines h none = subst (λ f. AreByKey f lines) (λ i a. but_none none a i) h
-
     others_in : (lines : List ℕ) → AreByKey (but line keys) lines → All Other lines
     others_in lines h k d l = but_line (get_or lines k d) (h.have_keys k d l)
 

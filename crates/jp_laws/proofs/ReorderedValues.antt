@@ -84,9 +84,6 @@ put_members no_child rest name (node s v) h g = and_from _ _ h g
 put_members (child n (node r w) more) rest name u h g = let p = and_parts (has_members w) (each_has_members (joined more rest)) g in and_from _ _ p.0 (put_members more rest name u h p.1)
 
 mutual
-  tree_left : {t u : Tree} → ReorderedTrees t u → has_members (value_of t) ≡ true
-  tree_left (reordered_trees h) = value_left h
-
   pub value_left : {v w : Value} → ReorderedValues v w → has_members v ≡ true
   value_left same_null = refl
   value_left same_boolean = refl

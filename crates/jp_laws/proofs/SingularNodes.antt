@@ -19,9 +19,6 @@ use Rattle.jp_laws.proofs.Distinct.{IsDistinct, nodes_distinct}
 use Rattle.jp_laws.proofs.Reached.{Each}
 use Rattle.jp_laws.proofs.SliceLoops.{one_at_most}
 
-abbrev StepList : Type 0
-StepList = List (Step × Tree)
-
 abbrev has_name : List ℕ → Step × Tree → Bool
 has_name x p = is_name x p.0
 

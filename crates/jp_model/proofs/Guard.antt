@@ -47,10 +47,6 @@ nothing_from f h (n ∷ ns) = rw (h n) (nothing_from f h ns)
 pub selects_none : (l : Logical) (t : Tree) → ((n : Node) → truth l n t ≡ false) → (n : Node) → selected (selector (filter_selector l) no_selectors) n t ≡ []
 selects_none l t h n = rw (none_pass (λ c. truth l c t) (λ c. h c) (children n)) refl
 
-pub segment_selects_none : (l : Logical) (t : Tree) → ((n : Node) → truth l n t ≡ false) → (n : Node)
-    → (segment_nodes (child_segment (selector (filter_selector l) no_selectors)) n t ≡ []) × (segment_nodes (descendant_segment (selector (filter_selector l) no_selectors)) n t ≡ [])
-segment_selects_none l t h n = (selects_none l t h n, nothing_from (λ d. selected (selector (filter_selector l) no_selectors) d t) (selects_none l t h) (subtree n))
-
 -- and with it the rest of the query
 pub guarded_query : (g : Segment) (gs : Segments) (list : List Node) (t : Tree) → ((n : Node) → segment_nodes g n t ≡ []) → nodes (segment g gs) list t ≡ []
 guarded_query g gs list t h = rw (nothing_from (λ n. segment_nodes g n t) h list) (no_nodes gs t)

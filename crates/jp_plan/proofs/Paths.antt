@@ -29,11 +29,6 @@ pub spelled_is : (p : List Step) (o : Option (List Step)) → are_of_steps p o �
 spelled_is p None h = absurd (cc)
 spelled_is p (Some q) h = ap Some (steps_same p q h)
 
--- no path is left
-pub none_indexed : (o : Option (List Step)) → is_indexed [] o ≡ false
-none_indexed None = refl
-none_indexed (Some steps) = refl
-
 -- a path that does not have the steps is passed over
 pub passed_over : (p : List Step) (paths : List (List Step)) (o : Option (List Step)) → are_of_steps p o ≡ false → is_indexed (p ∷ paths) o ≡ is_indexed paths o
 passed_over p paths None h = refl

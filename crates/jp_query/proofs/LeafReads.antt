@@ -2,10 +2,10 @@
 use Rattle.std.proofs.Common.{◌≡◌, ◌∙◌, ℕ, ℤ, zero, suc, ◌≤◌, List, [], ◌∷◌, length, Bool, true, false, cond, ◌||◌, ◌==◌, Option, Some, None, refl, ⊎_elim, arith, le_refl}
 use Rattle.std.proofs.lemmas.Bool.{ne_eqb, eq-eqb, or_left, or_right, or_cases, and_parts, and_from, ltb-true, lt-ltb, false_from_ne_true, cond-true, cond-false}
 use Rattle.jp_model.specs.Characters.{is_digit, is_lower, is_surrogate, is_high_surrogate, is_low_surrogate, pair_value}
-use Rattle.jp_model.specs.Query.Spelling.{Shorthand, shorthand, FunctionName, function_name, Positive, positive, Int, zero_int, positive_int, negative_int, Hex4, hex4, Escape, escaped_b, escaped_f, escaped_n, escaped_r, escaped_t, escaped_slash, escaped_backslash, escaped_scalar, escaped_pair, Quoted, closing_quote, plain, other_quote, escaped_quote, escaped, StringLiteral, double_quoted, single_quoted, IsOp, equal_op, not_equal_op, less_equal_op, greater_equal_op, less_op, greater_op, IsOrigin, at_mark, dollar_mark, is_name_first, is_name_scalar, is_function_scalar, is_plain}
-use Rattle.jp_model.specs.Query.Syntax.{CompareOp, Origin}
+use Rattle.jp_model.specs.Query.Spelling.{Shorthand, shorthand, FunctionName, function_name, Positive, positive, Int, zero_int, positive_int, negative_int, Hex4, hex4, Escape, escaped_b, escaped_f, escaped_n, escaped_r, escaped_t, escaped_slash, escaped_backslash, escaped_scalar, escaped_pair, Quoted, closing_quote, plain, other_quote, escaped_quote, escaped, StringLiteral, double_quoted, single_quoted, IsOp, equal_op, not_equal_op, less_equal_op, greater_equal_op, less_op, greater_op, is_name_first, is_name_scalar, is_function_scalar, is_plain}
+use Rattle.jp_model.specs.Query.Syntax.{CompareOp}
 use Rattle.jp_query.specs.Reading.Scalars as r
-use Rattle.jp_query.specs.Reading.Scalars.{Item, is_item, ◌>>=◌, many, call_start}
+use Rattle.jp_query.specs.Reading.Scalars.{Item, is_item, many, call_start}
 use Rattle.jp_query.specs.Reading.Numbers as numbers
 use Rattle.jp_query.specs.Reading.Numbers.{is_positive_digit, is_int_first, int_at}
 use Rattle.jp_query.specs.Reading.Strings as strings
@@ -163,11 +163,6 @@ string_first (double_quoted q) = refl
 string_first (single_quoted q) = refl
 
 -- ---- marks
-
-pub origin_reads : {x y : List ℕ} {o : Origin} → IsOrigin x y o → origin_at x ≡ Some (o, y)
-unfolding origin_at
-origin_reads at_mark = refl
-origin_reads dollar_mark = refl
 
 -- neither mark stands there
 pub no_origin : (x : List ℕ) → (head x == 64) ≡ false → (head x == 36) ≡ false → origin_at x ≡ None

@@ -1,44 +1,11 @@
 -- Runs of a class of scalars, read one by one.
-use Rattle.std.proofs.Common.{◌≡◌, ℕ, suc, ◌+◌, Some, length-append, ◌<◌, ◌≤◌, List, [], ◌∷◌, ◌++◌, length, take, drop, get_or, Bool, true, false, cond, refl, sym, ap, ◌∙◌, arith, append_assoc, append-nil}
-use Rattle.std.proofs.lemmas.List.{drop_more}
-use Rattle.std.proofs.Math.Seq.{take-suc, take-append_seam, drop-append_seam}
+use Rattle.std.proofs.Common.{◌≡◌, ℕ, ◌+◌, Some, length-append, ◌≤◌, List, [], ◌∷◌, ◌++◌, length, take, drop, Bool, true, false, cond, refl, sym, ap, ◌∙◌, arith}
+use Rattle.std.proofs.Math.Seq.{take-append_seam, drop-append_seam}
 use Rattle.jp_query.specs.Reading.Scalars.{run, begins, first_and_run}
 
 -- the run from a position on, behind what stands in front of it
 abbrev pub run_from : (ℕ → Bool) → List ℕ → ℕ → List ℕ × List ℕ
 run_from m x i = (take i x ++ (run m (drop i x)).0, (run m (drop i x)).1)
-
-run_on : (m : ℕ → Bool) (c : ℕ) (x : List ℕ) → m c ≡ true → run m (c ∷ x) ≡ (c ∷ (run m x).0, (run m x).1)
-run_on m c x h = step (m c) h
-  where
-    step : (t : Bool) → t ≡ true → cond {A = List ℕ × List ℕ} t (c ∷ (run m x).0, (run m x).1) ([], c ∷ x) ≡ (c ∷ (run m x).0, (run m x).1)
-    step true e = refl
-    step false e = absurd (cc)
-
-run_ended : (m : ℕ → Bool) (c : ℕ) (x : List ℕ) → m c ≡ false → run m (c ∷ x) ≡ ([], c ∷ x)
-run_ended m c x h = step (m c) h
-  where
-    step : (t : Bool) → t ≡ false → cond {A = List ℕ × List ℕ} t (c ∷ (run m x).0, (run m x).1) ([], c ∷ x) ≡ ([], c ∷ x)
-    step true e = absurd (cc)
-    step false e = refl
-
--- one more scalar of the class
-pub run_goes_on : (m : ℕ → Bool) (x : List ℕ) (i : ℕ) → i < length x → m (get_or x i 0) ≡ true → run_from m x i ≡ run m x → run_from m x (i + 1) ≡ run m x
-run_goes_on m x i lt h so_far =
-    let d : drop i x ≡ get_or x i 0 ∷ drop (i + 1) x = drop_more x i 0 lt in
-    let e : run m (drop i x) ≡ (get_or x i 0 ∷ (run m (drop (i + 1) x)).0, (run m (drop (i + 1) x)).1) = ap (run m) d ∙ run_on m (get_or x i 0) (drop (i + 1) x) h in
-    let k : i + 1 ≡ suc i = omega arith in
-    let f : take (i + 1) x ≡ take i x ++ (get_or x i 0 ∷ []) = ap (λ (n : ℕ). take n x) k ∙ take-suc x i 0 lt in
-    let one : run_from m x i ≡ run_from m x (i + 1) = rw (e, f) (ap (λ (all : List ℕ). (all, (run m (drop (i + 1) x)).1)) (simp append_assoc)) in
-    sym one ∙ so_far
-
--- another scalar
-pub run_stops : (m : ℕ → Bool) (x : List ℕ) (i : ℕ) → i < length x → m (get_or x i 0) ≡ false → run_from m x i ≡ run m x → (take i x, drop i x) ≡ run m x
-run_stops m x i lt h so_far =
-    let d : drop i x ≡ get_or x i 0 ∷ drop (i + 1) x = drop_more x i 0 lt in
-    let e : run m (drop i x) ≡ ([], drop i x) = ap (run m) d ∙ (run_ended m (get_or x i 0) (drop (i + 1) x) h ∙ ap (λ (rest : List ℕ). ([], rest)) (sym d)) in
-    let one : run_from m x i ≡ (take i x, drop i x) = rw e (ap (λ (all : List ℕ). (all, drop i x)) (append-nil (take i x))) in
-    sym one ∙ so_far
 
 -- a run stands in front of what is left
 pub run_joins : (m : ℕ → Bool) (x : List ℕ) → (run m x).0 ++ (run m x).1 ≡ x

@@ -86,10 +86,6 @@ fraction_sound x r h = ⊎_elim
     (λ a. as_read (StandsInFront AreDigits fraction_bytes x) _ r a.1 ([], tt, refl, refl))
     (chosen (after 46 x) _ _ (Some r) h)
 
--- the letter of an exponent
-letter_of : Bool → ℕ
-letter_of capital = cond capital 0x45 0x65
-
 behind_sound : (capital : Bool) (letter : ℕ) (x : List ℕ) (r : List ℕ × List ℕ) → cond capital 0x45 0x65 ≡ letter → exponent_behind letter x ≡ Some r → StandsInFront IsExponent exponent_bytes (letter ∷ x) r.1 r.0
 unfolding exponent_behind
 behind_sound capital letter x r l h =

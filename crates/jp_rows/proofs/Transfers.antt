@@ -1,5 +1,5 @@
 -- What one write after another receives.
-use Rattle.std.proofs.Common.{◌≡◌, ℕ, ◌+◌, ◌-◌, ◌≤◌, List, [], ◌++◌, length, take, drop, append-nil, Bool, false, ◌||◌, ◌&&◌, eqb, ltb, arith, length-drop}
+use Rattle.std.proofs.Common.{◌≡◌, ℕ, ◌+◌, ◌-◌, ◌≤◌, List, ◌++◌, length, take, drop, Bool, false, ◌||◌, ◌&&◌, eqb, ltb, arith, length-drop}
 use Rattle.std.proofs.Math.Seq.{take-append_seam, take-add}
 use Rattle.std.proofs.lemmas.List.{take_rest}
 use Rattle.std.proofs.lemmas.Bool.{ne_eqb}
@@ -8,9 +8,6 @@ use Rattle.jp_model.specs.Devices.{Begins}
 -- the first bytes of a list begin it
 pub begins_front : (xs ys : List ℕ) → Begins xs (xs ++ ys)
 begins_front xs ys = take-append_seam xs ys
-
-pub begins_itself : (xs : List ℕ) → Begins xs xs
-begins_itself xs = let e : Begins xs (xs ++ []) = begins_front xs [] in rw (append-nil xs) at e
 
 -- a write that took something left the device working
 pub still_working : (old new : Bool) (taken size : ℕ) → new ≡ (old || (eqb taken 0 && ltb 0 size)) → old ≡ false → (taken ≡ 0 → ⊥) → new ≡ false

@@ -1,16 +1,14 @@
 -- A line that is stored is read.
-use Rattle.std.proofs.Common.{◌≡◌, ◌∙◌, ◌<◌, ℕ, List, length, map, get_or, sym, ap, true, false}
+use Rattle.std.proofs.Common.{◌≡◌, ◌∙◌, ◌<◌, ℕ, List, length, map, get_or, sym, ap}
 use Rattle.std.specs.Prelude.{slice_get, All}
 use Rattle.std.specs.Option.{option_map}
 use Rattle.std.proofs.lemmas.Option.{slice_get-map, slice_get-get_or}
 use Rattle.jp_model.specs.declared.Framing.{Framing}
-use Rattle.jp_model.specs.Json.Status.{parsed}
 use Rattle.jp_model.specs.Json.Reader.{status_of}
 use Rattle.jp_model.specs.Plans.{is_tree}
 use Rattle.jp_model.specs.Steps.{Step}
 use Rattle.jp_index.specs.Entries.{entry_in, status_entry}
 use Rattle.jp_model.specs.Script.Machine.{text_or_nothing, is_refused_status}
-use Rattle.jp_tape.specs.Tapes.{spelled}
 use Rattle.jp_store.specs.Stored.{IsRead, IsTold, stored_text, told_of, is_tree_status, is_fault_status, told_tree}
 use Rattle.jp_store.specs.Views.{status_kind}
 use Rattle.jp_store.specs.declared.Status.{Status}
@@ -39,12 +37,6 @@ entry_is p n f told.Blank text h = sym (ap (status_entry p n) h)
 entry_is p n f (told.Refused fault) text h = sym (ap (status_entry p n) h)
 entry_is p n f told.Tree text h = sym (ap (status_entry p n) h)
 
--- a line of which a tree is told has the tree that it spells
-pub tree_is : (f : Framing) (status : Status) (text : List ℕ) → IsTold f status text → is_tree_status status ≡ true → status_of f text ≡ parsed (spelled text)
-tree_is f told.Blank text h t = absurd (cc)
-tree_is f (told.Refused fault) text h t = absurd (cc)
-tree_is f told.Tree text h t = h
-
 module _ (f : Framing) (bytes tapes : List ℕ) (lines : List Line) (i : ℕ) (d : Line) (within : i < length lines) where
   abbrev pub line : Line
   line = get_or lines i d
@@ -59,9 +51,3 @@ module _ (f : Framing) (bytes tapes : List ℕ) (lines : List Line) (i : ℕ) (d
     -- what is told of the line
     pub status_told : told_of line ≡ status_kind (status_of f (text_or_nothing (slice_get (map (stored_text bytes) lines) i)))
     status_told = is_told f (told_of line) (stored_text bytes line) read_at.told ∙ ap (λ t. status_kind (status_of f t)) (sym text_at)
-
-    pub tree_missing : is_tree_status (told_of line) ≡ false → is_tree (status_of f (text_or_nothing (slice_get (map (stored_text bytes) lines) i))) ≡ false
-    tree_missing none = ap (λ t. is_tree (status_of f t)) text_at ∙ (sym (told_is_tree f (told_of line) (stored_text bytes line) read_at.told) ∙ none)
-
-    pub tree_there : is_tree_status (told_of line) ≡ true → status_of f (text_or_nothing (slice_get (map (stored_text bytes) lines) i)) ≡ parsed (spelled (stored_text bytes line))
-    tree_there some = ap (status_of f) text_at ∙ tree_is f (told_of line) (stored_text bytes line) read_at.told some

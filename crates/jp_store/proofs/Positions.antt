@@ -1,6 +1,6 @@
 -- Indexes from a position on, of which the first is handled after the others.
 use Rattle.std.proofs.Common.{◌≡◌, ◌∙◌, ◌<◌, ℕ, zero, suc, List, [], ◌∷◌, length, take, drop, set, get_or, refl, sym, ap, subst, arith}
-use Rattle.std.specs.Prelude.{Option, Result, Ok, Err, OnOk, OnErr}
+use Rattle.std.specs.Prelude.{Option, Result, Ok, Err, OnErr}
 use Rattle.jp_model.specs.Json.Tree.{Tree}
 use Rattle.jp_model.specs.Steps.{Step}
 use Rattle.jp_index.specs.Entries.{Entry, entry_in, with_line}
@@ -13,10 +13,6 @@ use Rattle.jp_store.specs.Stored.{path_of}
 pub on_err : {A E : Type 0} (r : Result A E) (P : Type 0) → P → OnErr r P
 on_err (Ok x) P p = tt
 on_err (Err e) P p = p
-
-pub on_ok : {A E : Type 0} (r : Result A E) (P : Type 0) → P → OnOk r P
-on_ok (Ok x) P p = p
-on_ok (Err e) P p = tt
 
 same_index : (x : ValueIndex) → IsSame x x
 same_index x = record { path_is = refl; entries_are = λ es h. h }
@@ -53,13 +49,6 @@ first_is (x ∷ xs) (z ∷ new) zero d y l e = head_same y z _ _ e
 first_is (x ∷ xs) [] (suc i) d y l e = absurd (cc)
 first_is (x ∷ xs) (z ∷ new) (suc i) d y l e = first_is xs new i d y (omega arith) (tail_same x z _ _ e)
 
-pub long_enough : (xs new : List ValueIndex) (i : ℕ) (y : ValueIndex) → i < length xs → take (suc i) new ≡ take (suc i) (set xs i y) → i < length new
-long_enough [] new i y l e = absurd (omega arith)
-long_enough (x ∷ xs) [] zero y l e = absurd (cc)
-long_enough (x ∷ xs) (z ∷ new) zero y l e = omega arith
-long_enough (x ∷ xs) [] (suc i) y l e = absurd (cc)
-long_enough (x ∷ xs) (z ∷ new) (suc i) y l e = let k = long_enough xs new i y (omega arith) (tail_same x z _ _ e) in omega arith
-
 -- none was edited
 pub rest_same : (xs new : List ValueIndex) (i : ℕ) (d y : ValueIndex) → i < length xs → IsSame (get_or xs i d) y → take (suc i) new ≡ take (suc i) (set xs i y)
     → AreSame (drop (suc i) (set xs i y)) (drop (suc i) new) → AreSame (drop i xs) (drop i new)
@@ -77,11 +66,6 @@ rest_edited line tree (x ∷ xs) [] zero d y z l h e r = absurd (cc)
 rest_edited line tree (x ∷ xs) (w ∷ new) zero d y z l h e r = (h, r)
 rest_edited line tree (x ∷ xs) [] (suc i) d y z l h e r = absurd (cc)
 rest_edited line tree (x ∷ xs) (w ∷ new) (suc i) d y z l h e r = rest_edited line tree xs new i d y z (omega arith) h (tail_same x w _ _ e) r
-
-pub front_set : (new : List ValueIndex) (i : ℕ) (z : ValueIndex) → take i (set new i z) ≡ take i new
-front_set [] i z = refl
-front_set (x ∷ xs) zero z = refl
-front_set (x ∷ xs) (suc i) z = ap (λ l. x ∷ l) (front_set xs i z)
 
 -- what stands at a position does not depend on what would stand past the end
 pub same_at : (xs : List ValueIndex) (i : ℕ) (d e : ValueIndex) → i < length xs → get_or xs i d ≡ get_or xs i e

@@ -11,7 +11,7 @@ use Rattle.jp_model.specs.Json.Strings.{paired, has_lone_surrogate}
 use Rattle.jp_model.proofs.Reader.Lexical.{clash}
 use Rattle.jp_model.proofs.Reader.Scans.{then_some}
 use Rattle.jp_strings.specs.Plain.{ArePlain, begins_character}
-use Rattle.jp_strings.specs.Points.{units_from, points_from, is_text_from, GoesOn}
+use Rattle.jp_strings.specs.Points.{units_from, points_from, is_text_from}
 use Rattle.jp_strings.specs.Counts.{Counts}
 use Rattle.jp_strings.proofs.Halves.{high_is_surrogate, paired_single}
 use Rattle.jp_strings.proofs.Reading.{with_unit}
@@ -86,11 +86,6 @@ run_counts body at end o l t p s =
     let size = ap length here ∙ length-append cs (paired rest.0) in
     let behind = ap length (points_from_units body end rest.0 rest.1) in
     record { some = omega (arith, count, some); points = omega (arith, count, size, behind); text = text_from_units body end rest.0 rest.1 (lone_behind cs (paired rest.0) whole) }
-
-pub one_counts : (body : List ℕ) (at point behind : ℕ) → GoesOn body at point behind → Counts body at behind 1
-one_counts body at point behind g =
-    let size = ap length g.points in
-    record { some = omega arith; points = omega (arith, size); text = g.text }
 
 -- where a text goes on at a special byte, that is a backslash
 pub special_is_backslash : (body : List ℕ) (at : ℕ) → is_text_from body at ≡ true → at < length body → is_special (byte_at body at) ≡ true → byte_at body at ≡ 0x5C

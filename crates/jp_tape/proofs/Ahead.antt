@@ -247,9 +247,6 @@ goes_on line ms at a some = elim (cases_lt at (length line)) [
   | inr end ↦ (let none = ap length (a.are ∙ none_at_end line at end) in absurd (omega (arith, none, some)))
 ]
 
-pub skips_none : (line ms : List ℕ) (from : ℕ) → from ≤ length line → Stops line from → IsAhead line from ms → Skips line ms from from
-skips_none line ms from l s a = stays_here line ms from l s a
-
 pub none_is_end : (ms : List ℕ) (end : ℕ) → length ms ≡ 0 → end ≡ first_or ms end
 none_is_end [] end e = refl
 none_is_end (m ∷ ms) end e = absurd (omega (arith, e))

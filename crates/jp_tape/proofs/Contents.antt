@@ -37,13 +37,6 @@ text_kind (string points) h = (points, refl)
 text_kind (container array children) h = absurd (cc)
 text_kind (container object children) h = absurd (cc)
 
-pub no_text_kind : (v : Value) → (kind_of v ≡ kinds.Text → ⊥) → text_in v ≡ None
-no_text_kind null h = refl
-no_text_kind (boolean b) h = refl
-no_text_kind (number m e) h = refl
-no_text_kind (string points) h = absurd (h refl)
-no_text_kind (container kind children) h = refl
-
 pub number_kind : (v : Value) → kind_of v ≡ kinds.Number → (m e : ℤ) × (v ≡ number m e)
 number_kind null h = absurd (cc)
 number_kind (boolean true) h = absurd (cc)
@@ -52,13 +45,6 @@ number_kind (number m e) h = (m, e, refl)
 number_kind (string points) h = absurd (cc)
 number_kind (container array children) h = absurd (cc)
 number_kind (container object children) h = absurd (cc)
-
-pub no_number_kind : (v : Value) → (kind_of v ≡ kinds.Number → ⊥) → number_in v ≡ None
-no_number_kind null h = refl
-no_number_kind (boolean b) h = refl
-no_number_kind (number m e) h = absurd (h refl)
-no_number_kind (string points) h = refl
-no_number_kind (container kind children) h = refl
 
 -- ---- a body of the line by itself
 

@@ -1,5 +1,5 @@
 -- The names that are kept.
-use Rattle.std.proofs.Common.{◌≡◌, ℕ, ◌+◌, ◌*◌, ◌<◌, ◌≤◌, ◌||◌, Bool, true, false, List, [], ◌∷◌, ◌++◌, length, sym, ◌∙◌, ap, subst, refl, arith, Option, Some, None, length-append, add-zero, append-nil}
+use Rattle.std.proofs.Common.{◌≡◌, ℕ, ◌+◌, ◌<◌, ◌≤◌, ◌||◌, Bool, true, false, List, [], ◌∷◌, ◌++◌, length, sym, ◌∙◌, ap, subst, refl, arith, Option, Some, None, length-append, add-zero, append-nil}
 use Rattle.std.proofs.lemmas.List.{map-append}
 use Rattle.std.proofs.lemmas.List.Elements.{All-append, All-cons}
 use Rattle.std.proofs.lemmas.Option.{same_Some, none-some}
@@ -11,10 +11,9 @@ use Rattle.jp_model.specs.Json.Faults.{name_points, name_has_lone_surrogate}
 use Rattle.jp_model.specs.Json.Spelling.{SpellsLabel}
 use Rattle.jp_tape.specs.declared.builder.kept.KeptName.{KeptName}
 use Rattle.jp_tape.specs.declared.builder.machine.Builder.{Builder}
-use Rattle.jp_tape.specs.declared.builder.machine.Turn.{Turn}
 use Rattle.jp_tape.specs.declared.builder.machine.Turn.TheVariants as turns
 use Rattle.jp_tape.specs.declared.builder.tokens.Label.{Label}
-use Rattle.jp_tape.specs.Machine.{Labelled, IsBehind, first_fault, held}
+use Rattle.jp_tape.specs.Machine.{Labelled, first_fault, held}
 use Rattle.jp_tape.specs.Names.{spelled_name, spelled_names, IsKept, AreKept}
 use Rattle.jp_tape.specs.Reading.{body_of, body_word, FoundLabel}
 use Rattle.jp_strings.specs.Plain.{ArePlain}
@@ -106,11 +105,3 @@ labelled_bare line kind from r f old new word m e o i n w q u =
       names = λ z. ap (spelled_names line) n ∙ (sym (append-nil _) ∙ ap (λ (x : Option Name). spelled_names line old.names.items ++ name_points x []) (sym bare));
       kept = λ z all. subst (AreKept line) (sym n) all;
     }
-
--- the turn is behind where the label was read
-pub behind_label : (line : List ℕ) (at from : ℕ) (kind : Container) (turn : Turn) (old new : Builder) → Labelled line kind from turn old new → at < from → length old.words.items ≤ 3 * from → IsBehind line at turn new
-behind_label line at from kind turn old new l a w =
-    let o = l.order in
-    let i = l.within in
-    let e = ap length l.words in
-    subst (λ x. IsBehind line at x new) (sym l.is_turn) (omega (arith, a, o), (i, omega (arith, e, w, o)))

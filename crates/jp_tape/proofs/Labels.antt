@@ -12,7 +12,6 @@ use Rattle.jp_model.specs.Json.Spelling.{SpellsString, SpellsName, SpellsLabel, 
 use Rattle.jp_model.proofs.Reader.Lexical.{white_unique, span_is}
 use Rattle.jp_model.proofs.Reader.Bodies.{body_whole}
 use Rattle.jp_model.specs.Json.Marks.{may_begin}
-use Rattle.jp_tape.specs.declared.builder.tokens.Label.{Label}
 use Rattle.jp_tape.specs.Ahead.{IsAhead, first_or}
 use Rattle.jp_tape.proofs.Ahead.{skips_to_mark, passes_next, structural_begins, none_is_end}
 use Rattle.jp_tape.proofs.Quotes.{closes, never_closes}
@@ -127,7 +126,3 @@ few_marks_no_name line ms from a few (Some n) place l s i =
           omega (arith, same, end, i)
           )
     ]
-
--- the same of arrays and of objects, as the code asks for it
-pub found_object : (line : List ℕ) (kind : Container) (from : ℕ) (r : Label) → kind ≡ object → FoundLabel line object from r → FoundLabel line kind from r
-found_object line kind from r e f = subst (λ x. FoundLabel line x from r) (sym e) f

@@ -80,12 +80,6 @@ number_there line from to b n o w d c h l = (
   ap is_long_exponent (ap numeral_of (sym h) ∙ parts_read n c) ∙ l,
 )
 
--- a number is not empty
-minus_long : (negative : Bool) (int rest : List ℕ) → 1 ≤ length int → 1 ≤ length (minus_bytes negative ++ (int ++ rest))
-minus_long true int rest l = omega arith
-minus_long false [] rest l = absurd (omega (arith, l))
-minus_long false (d ∷ ds) rest l = omega arith
-
 -- ---- digits
 
 zero_alone : (d : ℕ) (rest : ℕ) → (d ≡ 0x30 → rest + 2 ≡ 1) → (d == 0x30) ≡ false

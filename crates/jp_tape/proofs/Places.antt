@@ -65,9 +65,6 @@ node_at t place h =
     ap (λ x. slice_get x place) (sym (nodes-spots t))
     ∙ (slice_get-map (λ (s : Spot). s.node) (spots t) place ∙ ap (option_map (λ (s : Spot). s.node)) (slice_get-get_or (spots t) place (root_spot t) (omega (arith, l, h))))
 
-pub root-at : (t : Tree) → spot_at t 0 ≡ root_spot t
-root-at t = refl
-
 -- ---- the place behind the subtree
 
 pub after_within : (t : Tree) (place : ℕ) → place < node_count t → place + length (subtree (spot_at t place).node) ≤ node_count t

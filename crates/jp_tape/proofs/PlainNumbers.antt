@@ -22,10 +22,6 @@ then_reads line a b c xs ys r s =
     let p = s.order in
     record { order = omega (arith, o, p); within = s.within; are = joined line a b c o p ∙ ap₂ (λ (u v : List ℕ). u ++ v) r.are s.are }
 
--- no bytes
-pub reads_none : (line : List ℕ) (i : ℕ) → i ≤ length line → Reads line i i []
-reads_none line i l = record { order = omega arith; within = l; are = between_none line i }
-
 -- one byte
 pub reads_one : (line : List ℕ) (i b : ℕ) → i < length line → byte_at line i ≡ b → Reads line i (i + 1) (b ∷ [])
 reads_one line i b l h = record {

@@ -1,6 +1,5 @@
 -- Where the words of a node are in what is kept of them.
 use Rattle.std.proofs.Common.{◌≡◌, ℕ, zero, suc, ◌+◌, ◌*◌, ◌/◌, ◌<◌, ◌^◌, List, [], ◌∷◌, length, get_or, ◌∙◌, ap, subst, refl, arith}
-use Rattle.std.proofs.lemmas.Bool.Decides.{nat_tests}
 use Rattle.jp_tape.specs.Forms.{word_of, node_words, compact_words, medium_words, words_in}
 
 -- the words of the node at a place have these halves
@@ -53,9 +52,6 @@ compact_is bits words e = ap (λ b. words_in b words) e
 
 pub medium_is : (bits : ℕ) (words : List ℕ) → bits ≡ 21 → words_in bits words ≡ medium_words words
 medium_is bits words e = ap (λ b. words_in b words) e
-
-pub wide_is : (bits : ℕ) (words : List ℕ) → (bits ≡ 10 → ⊥) → (bits ≡ 21 → ⊥) → words_in bits words ≡ words
-wide_is bits words a b = grind (arith, nat_tests, a, b)
 
 pub compact_within : (bits place : ℕ) (words : List ℕ) → bits ≡ 10 → 3 * place + 2 < length (words_in bits words) → place < length words
 compact_within bits place words is h =
