@@ -54,15 +54,20 @@ def ended(words, standard_input):
     return run.returncode, run.stdout.decode()
 
 
+def seconds_so_far():
+    """The processor's time of all runs so far."""
+    runs = resource.getrusage(resource.RUSAGE_CHILDREN)
+    return runs.ru_utime + runs.ru_stime
+
+
 def grows_with_its_input(checks, name, run, count):
     """A run over n, 2 n and 4 n gives what is stated, and takes little more than twice and four times the processor's time: a square
     would take four and sixteen times. `run` gives what a run of a size answered, and what is stated of it."""
     seconds = []
     for size in (count, 2 * count, 4 * count):
-        before = resource.getrusage(resource.RUSAGE_CHILDREN)
+        before = seconds_so_far()
         checks.check(f"{name}, {size}", *run(size))
-        after = resource.getrusage(resource.RUSAGE_CHILDREN)
-        seconds.append(after.ru_utime + after.ru_stime - before.ru_utime - before.ru_stime)
+        seconds.append(seconds_so_far() - before)
     told = ", ".join(f"{time:.2f}" for time in seconds)
     checks.check(f"seconds of {name}: {told}", seconds[2] <= 8 * max(seconds[0], 0.05), True)
 
@@ -256,7 +261,10 @@ def long_texts(checks):
     cases = [("match", "(.|\\\\n)*", True), ("match", "a{64}b*a*", True), ("match", ".{0,99999}", False),
              ("match", ".{99999}", False), ("search", ".{99999}", True), ("search", "a{1000000}", True), ("search", "a{1000001}", False),
              ("match", "(.|\\\\n)*|x{64}", True), ("search", "(.|\\\\n)*|x{64}", True),
-             ("match", "(a{64}|b)*", True), ("match", "(a{63}|b)*", False), ("search", "(a{64}|c)*b", False)]
+             ("match", "(a{64}|b)*", True), ("match", "(a{63}|b)*", False), ("search", "(a{64}|c)*b", False),
+             ("match", "((a{64}|aa)*c?)*b", False), ("match", "((a{64}|b)*c?)*", True), ("search", "(aa){999}", True),
+             ("search", "(aa){500000}", True), ("search", "(aa){500001}", False), ("match", "(a|b){1000000}", True),
+             ("match", "(a|b){999999}", False), ("match", "((a|b){2}){500000}", True)]
     for function, pattern, is_found in cases:
         script = f"query $[?{function}(@,'{pattern}')]\n"
         checks.check(f"{function} of {pattern} on a million scalars", answered(f'["{long}"]\n', script), (0, row if is_found else "= 0\n"))
@@ -268,6 +276,16 @@ def long_texts(checks):
     checks.check("short strings against a long one", answered(f'[{short},"{long * 4}"]\n', script), (0, rows([(1, "$[200000]")], f'"{long * 4}"') + "= 0\n"))
     many = "[" + ",".join(["1"] * 100_000) + "]"
     checks.check("each element against the last", answered(f"{many}\n", "query $[?@ != $[-1]]\n"), (0, "= 0\n"))
+
+
+def turns_in_turns(checks):
+    """Parts that take turns in one another, on texts that are long for them."""
+    cases = [(10_000, "((a?){999}){999}b", False), (200_000, "(a|b){99999}b", False), (200_000, "(a|b){200000}", True),
+             (1_000, "(" * 250 + "a{64}b?" + ")*" * 250, False), (1_000, "(" * 250 + "a{64}b?" + "){0,2}" * 250, False)]
+    for length, pattern, matches in cases:
+        text = "a" * length
+        stated = rows([(1, "$[0]")], f'"{text}"') if matches else "= 0\n"
+        checks.check(f"{pattern[:40]} on {length} scalars", answered(f'["{text}"]\n', f"query $[?match(@,'{pattern}')]\n"), (0, stated))
 
 
 def long_numbers(checks):
@@ -367,10 +385,28 @@ def dead_ends(checks):
     """A node from which nothing is selected is walked once, by however many ways a query comes to it."""
     deep = "[" * 512 + "]" * 512 + "\n"
     twice = "$" + "[0,0]" * 24 + ".a"
-    for query in ("$..*..*..*..*..zz", "$..*..[0,*]..[?@.zz].*..zz", twice):
-        before = time.monotonic()
-        checks.check(f"dead ends of {query}", answered(deep, f"query {query}\n"), (0, "= 0\n"))
-        checks.check(f"a second for dead ends of {query}", time.monotonic() - before < 1, True)
+    objects, names = '{"a":' * 512 + "1" + "}" * 512 + "\n", "$" + "..a" * 64 + "..zz"
+    cases = [(deep, query) for query in ("$..*..*..*..*..zz", "$..*..[0,*]..[?@.zz].*..zz", twice, "$[?@..*..*..*..*..zz]",
+                                         "$[?count(@..*..*..*..*..zz)>0]", "$[?value(@..*..*..*..*..zz)==1]")]
+    for line, query in cases + [(objects, names)]:
+        before = seconds_so_far()
+        checks.check(f"dead ends of {query[:40]}", answered(line, f"query {query}\n"), (0, "= 0\n"))
+        checks.check(f"a second for dead ends of {query[:40]}", seconds_so_far() - before < 1, True)
+
+
+def indexes_of_one_array(checks):
+    """The elements of an array are counted once for all indexes of a segment, and each is looked for from the one before it on."""
+    length = 100_000
+    line = "[" + ",".join(["1"] * length) + "]\n"
+
+    def selected(indexes):
+        text = ",".join(str(index) for index in indexes)
+        places = [(1, f"$[{index % length}]") for index in indexes]
+        return answered(line, f"query $[{text}]\n"), (0, rows(places, "1"))
+
+    grows_with_its_input(checks, "the last element again", lambda count: selected([-1] * count), 2_500)
+    grows_with_its_input(checks, "indexes that rise", lambda count: selected(range(count)), 2_500)
+    grows_with_its_input(checks, "the last elements in their order", lambda count: selected(range(-count, 0)), 2_500)
 
 
 def checks_of_many_lines(checks):
@@ -437,10 +473,10 @@ def sizes(checks):
 def main():
     checks = Checks()
     for part in (texts_of_brackets, memory_of_deep_lines, texts_cut_short, texts_of_backslashes, texts_of_each_form_of_tape,
-                 lines_behind_long_ones, objects_of_many_members, many_lines, lines_of_one_key, edits_of_many_lines, texts_of_numbers,
-                 texts_of_names, queries, patterns, long_texts, long_numbers, objects_turned, large_objects, filters_from_the_root,
-                 conditions_of_the_root, texts_from_the_root, counts_of_many_nodes, dead_ends, checks_of_many_lines,
-                 queries_of_one_line, devices, sizes):
+                 lines_behind_long_ones, objects_of_many_members, many_lines, lines_of_one_key, edits_of_many_lines,
+                 texts_of_numbers, texts_of_names, queries, patterns, long_texts, turns_in_turns, long_numbers, objects_turned,
+                 large_objects, filters_from_the_root, conditions_of_the_root, texts_from_the_root, counts_of_many_nodes,
+                 dead_ends, indexes_of_one_array, checks_of_many_lines, queries_of_one_line, devices, sizes):
         part(checks)
     print(f"{checks.passed} passed, {checks.failed} failed")
     return 1 if checks.failed else 0
