@@ -1,5 +1,5 @@
 -- What well-typed calls are given, by the names of their functions.
-use Rattle.std.proofs.Common.{◌≡◌, ◌∙◌, ◌<◌, ℕ, zero, suc, List, [], ◌∷◌, length, Bool, true, false, ◌&&◌, if◌then◌else◌, Option, Some, None, codes, sym, ap, ap₂, subst, refl, lit<, bytes_eq, string_bytes}
+use Rattle.std.proofs.Common.{◌≡◌, ◌∙◌, ℕ, zero, suc, List, [], ◌∷◌, length, Bool, true, false, ◌&&◌, if◌then◌else◌, Option, Some, None, codes, sym, ap, ap₂, subst, refl, lit<, bytes_eq, string_bytes}
 use Rattle.std.specs.Prelude.{is_some, nat_lt, encode_utf8_all}
 use Rattle.std.specs.List.{list_all}
 use Rattle.std.specs.Str.{chars, IsUtf8, IsAscii}
@@ -9,7 +9,7 @@ use Rattle.std.proofs.lemmas.Str.{chars-IsAscii, encodes-chars, encodes-IsAscii}
 use Rattle.jp_model.specs.Characters.{text_equal}
 use Rattle.jp_model.specs.Query.Syntax as syntax
 use Rattle.jp_model.specs.Query.Syntax.{Call, call, Arguments, no_arguments, argument}
-use Rattle.jp_model.specs.Query.Typing.{Kind, value_kind, nodes_kind, logical_kind, Signature, signature_of, result_serves, takes, call_serves, call_typed, arguments_typed, argument_typed, is_kind}
+use Rattle.jp_model.specs.Query.Typing.{Kind, value_kind, nodes_kind, logical_kind, Signature, result_serves, takes, call_serves, call_typed, arguments_typed, argument_typed}
 use Rattle.jp_model.proofs.Seek.{text_same}
 use Rattle.jp_query.specs.View.{argument_view, arguments_view, call_view}
 use Rattle.jp_query.specs.declared.tree.Argument.{Argument}

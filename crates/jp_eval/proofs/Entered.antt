@@ -1,37 +1,17 @@
 -- What the slot at a position asks, read by its own slots.
-use Rattle.std.proofs.Common.{◌≡◌, ℕ, zero, suc, List, [], ◌∷◌, map, Some, None, sym, ◌∙◌, ap, refl}
-use Rattle.std.specs.Prelude.{slice_get}
+use Rattle.std.proofs.Common.{◌≡◌, ℕ, ◌∙◌, ap}
 use Rattle.jp_model.specs.Query.Syntax.{Comparable, Logical}
 use Rattle.jp_model.specs.Meaning.Nodes.{Node}
 use Rattle.jp_model.specs.Meaning.Selecting.{compared_value, given_by, truth}
 use Rattle.jp_eval.specs.Answers.{table_in, tree_in, slot_truth, slot_value}
-use Rattle.jp_eval.specs.Programs.{Meant, argument_of, asked_view, condition_view, logical_at, side_at, sought_view, table_of, slot_view}
+use Rattle.jp_eval.specs.Programs.{argument_of, condition_view, logical_at, side_at, sought_view}
 use Rattle.jp_eval.specs.declared.frame.Run.{Run}
 use Rattle.jp_eval.specs.declared.program.Condition.TheVariants as conditions
-use Rattle.jp_eval.specs.declared.program.Slot.{Slot}
-use Rattle.jp_eval.specs.declared.program.Slot.TheViews.{out-Slot}
 use Rattle.jp_eval.specs.declared.program.Sought.TheVariants as things
 use Rattle.jp_eval.proofs.Compiled.{once_is, sought_once}
 use Rattle.jp_eval.proofs.Descendants.{root_is}
 use Rattle.jp_eval.proofs.FromRoot.{side_told, told_of_root}
 use Rattle.jp_eval.proofs.Given.{given_so}
-use Rattle.jp_eval.proofs.Meanings.{slot_viewed}
-
-get_map : {A B : Type 0} (f : A → B) (l : List A) (position : ℕ) (x : A) → slice_get l position ≡ Some x → slice_get (map f l) position ≡ Some (f x)
-get_map f [] position x e = absurd (cc)
-get_map f (y ∷ l) zero x e = let same : y ≡ x = cc in ap (λ z. Some (f z)) same
-get_map f (y ∷ l) (suc position) x e = get_map f l position x e
-
-none_map : {A B : Type 0} (f : A → B) (l : List A) (position : ℕ) → slice_get l position ≡ None → slice_get (map f l) position ≡ None
-none_map f [] position e = refl
-none_map f (y ∷ l) zero e = absurd (cc)
-none_map f (y ∷ l) (suc position) e = none_map f l position e
-
-pub slot_found : (slots : List Slot) (position : ℕ) (slot : Slot) → slice_get slots position ≡ Some slot → Some (asked_view (table_of (out-Slot slot).slots.items) (out-Slot slot).asked) ≡ slice_get (table_of slots) position
-slot_found slots position slot e = ap (λ (m : Meant). Some m) (sym (slot_viewed slot)) ∙ sym (get_map slot_view slots position slot e)
-
-pub no_slot : (slots : List Slot) (position : ℕ) → slice_get slots position ≡ None → None ≡ slice_get (table_of slots) position
-no_slot slots position e = sym (none_map slot_view slots position e)
 
 -- what a slot asks of the root says the same of each node
 pub once_told : (run : Run) (position : ℕ) (n : Node) → truth (condition_view (table_in run) (conditions.Once position)) n (tree_in run) ≡ slot_truth run position

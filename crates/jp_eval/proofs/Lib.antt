@@ -25,3 +25,6 @@ pub mod Following
 pub mod Childless
 pub mod DeadEnds
 mod Literals
+mod Remembered
+mod Runs
+mod Tables

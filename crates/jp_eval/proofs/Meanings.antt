@@ -1,10 +1,9 @@
 -- What was compiled keeps its meaning as slots are added.
 use Rattle.std.proofs.Common.{◌≡◌, ℕ, List, [], ◌∷◌, ◌++◌, length, map, sym, ◌∙◌, ap, ap₂, refl, append_assoc, append-nil, Option, Some}
 use Rattle.std.specs.Prelude.{slice_get}
-use Rattle.std.proofs.lemmas.List.{length-map}
-use Rattle.jp_eval.specs.declared.program.Slot.{Slot, fold_out-Slot}
-use Rattle.jp_eval.specs.declared.program.Slot.TheViews.{out-Slot}
-use Rattle.jp_eval.specs.Programs.{Meant, Table, Means, Grows, asked_view, table_of, slot_view, slot_step}
+use Rattle.jp_eval.specs.declared.program.Slot.{Slot}
+use Rattle.jp_eval.specs.Programs.{Meant, Table, Means, Grows, table_of}
+use Rattle.jp_eval.proofs.Tables.{get_behind, length_table}
 
 pub grows_on : (old mid new : List Slot) → Grows old mid → Grows mid new → Grows old new
 grows_on old mid new a b = (a.0 ++ b.0, b.1 ∙ (ap (λ (x : Table). x ++ b.0) a.1 ∙ append_assoc (table_of old) a.0 b.0))
@@ -61,29 +60,21 @@ none_more {A} {B} {D} {old} {new} {ahead} {all} f done g e a = record {
 
 -- ---- slots
 
--- what stands behind a list of this length
-get_behind : {A : Type 0} (l : List A) (x : A) (more : List A) (position : ℕ) → position ≡ length l → slice_get ((l ++ x ∷ []) ++ more) position ≡ Some x
-get_behind {A} l x more position e = ap (slice_get ((l ++ x ∷ []) ++ more)) e ∙ go l
-  where
-    go : (l : List A) → slice_get ((l ++ x ∷ []) ++ more) (length l) ≡ Some x
-    go [] = refl
-    go (y ∷ l) = go l
-
 -- a slot was added, and the part is what is read of it
 pub slot_means : {A : Type 0} (old new : List Slot) (m : Meant) (u : Table → A) (read : Option Meant → A) (position : ℕ) (y : A)
     → ((table : Table) → u table ≡ read (slice_get table position)) → y ≡ read (Some m) → table_of new ≡ table_of old ++ m ∷ [] → position ≡ length old → Means old new u y
 slot_means {A} old new m u read position y h e grown p =
-    let size : position ≡ length (table_of old) = p ∙ sym (length-map old slot_view) in
+    let size : position ≡ length (table_of old) = p ∙ sym (length_table old) in
     record {
       grows = (m ∷ [], grown);
       is = λ more.
-          let found : slice_get (table_of new ++ more) position ≡ Some m = ap (λ (l : Table). slice_get (l ++ more) position) grown ∙ get_behind (table_of old) m more position size in
+          let found : slice_get (table_of new ++ more) position ≡ Some m = ap₂ (λ (l : Table) (k : ℕ). slice_get (l ++ more) k) grown size ∙ get_behind (table_of old) m more in
           h (table_of new ++ more) ∙ (ap read found ∙ sym e);
     }
 
--- what a slot asks is read by its own slots
-pub slot_viewed : (s : Slot) → slot_view s ≡ asked_view (table_of (out-Slot s).slots.items) (out-Slot s).asked
-slot_viewed s = fold_out-Slot Meant slot_step s
+-- what was compiled behind other slots
+pub means_behind : {A : Type 0} {old mid new : List Slot} {v : Table → A} {x : A} → Grows old mid → Means mid new v x → Means old new v x
+means_behind {A} {old} {mid} {new} g m = record { grows = grows_on old mid new g m.grows; is = m.is }
 
 -- with no more slots
 pub whole : {A : Type 0} {v : Table → A} {x : A} (old new : List Slot) → Means old new v x → v (table_of new) ≡ x

@@ -1,13 +1,13 @@
 -- What is asked of the root or of the current node, part by part.
-use Rattle.std.proofs.Common.{◌≡◌, ◌∙◌, ◌&&◌, Bool, true, false, List, [], ◌∷◌, map, ap, ap₂, sym, refl}
+use Rattle.std.proofs.Common.{◌≡◌, ◌∙◌, ◌&&◌, Bool, true, List, [], ◌∷◌, map, ap, ap₂, sym, refl}
 use Rattle.std.proofs.lemmas.Bool.{and_parts}
-use Rattle.jp_model.specs.Query.Syntax.{Origin, root, current, CompareOp, Segments, Logical, or_all, and_all, negated, compare, exists, test, Logicals, logical, Comparable, single, result, Argument, no_arguments, argument, Path, path, call}
+use Rattle.jp_model.specs.Query.Syntax.{Origin, root, current, CompareOp, Segments, Logical, or_all, and_all, negated, compare, exists, test, logical, Comparable, single, result, Argument, no_arguments, argument, path, call}
 use Rattle.jp_query.specs.View.{logicals_of, origin_view, path_view, segments_view}
 use Rattle.jp_query.specs.declared.tree.Path.{Path as TreePath}
 use Rattle.jp_eval.specs.Calls.{length_call, count_call, value_call}
 use Rattle.jp_eval.specs.Programs.{argument_of, here}
 use Rattle.jp_eval.specs.Questions.{passing_name, question_view}
-use Rattle.jp_eval.specs.Roots.{argument_from, argument_from_root, asks_from, is_root, logical_from, logicals_from_root, path_asks_root, side_from, side_from_root}
+use Rattle.jp_eval.specs.Roots.{argument_from, asks_from, is_root, logical_from, logicals_from_root, path_asks_root, side_from}
 use Rattle.jp_eval.specs.declared.question.Question.{Question}
 use Rattle.jp_eval.specs.declared.question.Question.TheVariants as questions
 use Rattle.jp_eval.proofs.Given.{rooted_so}

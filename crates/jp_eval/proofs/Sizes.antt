@@ -16,7 +16,7 @@ abbrev mutual
   size_of_selectors (selector s ss) = size_of_selector s + size_of_selectors ss
 
   pub size_of_selector : Selector → ℕ
-  size_of_selector (filter_selector l) = size_of_logical l + 2
+  size_of_selector (filter_selector l) = size_of_logical l + 3
   size_of_selector _ = 1
 
   pub size_of_logical : Logical → ℕ

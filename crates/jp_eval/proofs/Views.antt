@@ -8,7 +8,6 @@ use Rattle.jp_query.specs.declared.tree.Call.{Call, fold_out-Call}
 use Rattle.jp_query.specs.declared.tree.Path.{Path, fold_out-Path}
 use Rattle.jp_query.specs.declared.tree.CompareOp.{CompareOp}
 use Rattle.jp_query.specs.declared.tree.Comparable.{Comparable}
-use Rattle.jp_query.specs.declared.tree.Selector.TheVariants as selectors
 use Rattle.jp_query.specs.declared.tree.Argument.{fold-roll-Argument}
 use Rattle.jp_query.specs.declared.tree.Argument.TheVariants as arguments
 use Rattle.jp_query.specs.declared.tree.Literal.{Literal}

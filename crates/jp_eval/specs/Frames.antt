@@ -5,7 +5,7 @@ use Rattle.jp_model.specs.Meaning.Nodes.{Node}
 use Rattle.jp_model.specs.Meaning.Selecting.{nodes}
 use Rattle.jp_tape.specs.declared.cursor.Cursor.{Cursor}
 use Rattle.jp_tape.specs.Cursors.{line_of}
-use Rattle.jp_eval.specs.Answers.{AreAllDead, IsAnswer, table_in, tree_in}
+use Rattle.jp_eval.specs.Answers.{AreAllDead, IsAnswer, slots_in, table_in, tree_in}
 use Rattle.jp_eval.specs.Found.{Adds}
 use Rattle.jp_eval.specs.Programs.{Table, steps_view}
 use Rattle.jp_eval.specs.Tallies.{tally}
@@ -28,7 +28,7 @@ reached run steps starts = nodes (steps_view (table_in run) steps) starts (tree_
 
 -- each answer that was kept is right
 abbrev pub AreKept : Run → List (Option Answer) → Type 0
-AreKept run answers = (position : ℕ) (answer : Answer) → slice_get answers position ≡ Some (Some answer) → IsAnswer run position answer
+AreKept run answers = (position : ℕ) (answer : Answer) → slice_get answers position ≡ Some (Some answer) → IsAnswer run (slice_get (slots_in run) position) answer
 
 -- the steps are the last of these
 pub record EndsWith (all rest : List Step) : Type 0 where

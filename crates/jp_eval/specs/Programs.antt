@@ -1,5 +1,5 @@
 -- What a compiled query means: the segments that it was made of. The meaning of slots is given by a table.
-use Rattle.std.specs.Prelude.{◌≡◌, ℕ, List, [], ◌++◌, map, Option, Some, None, slice_get}
+use Rattle.std.specs.Prelude.{◌≡◌, ℕ, List, [], ◌∷◌, ◌++◌, map, Option, Some, None, slice_get}
 use Rattle.jp_model.specs.Query.Syntax as syntax
 use Rattle.jp_query.specs.View.{segments_of, selectors_of, logicals_of, literal_view, op_view}
 use Rattle.jp_model.specs.Query.Singular.{step_selector}
@@ -7,8 +7,6 @@ use Rattle.jp_eval.specs.Calls.{length_call, count_call, value_call}
 use Rattle.jp_eval.specs.Keys.{key_view, key_segment, keys_view}
 use Rattle.jp_eval.specs.Questions.{passing_name, question_view}
 use Rattle.jp_eval.specs.Roots.{logical_from_root, side_from_root}
-use Rattle.jp_eval.specs.declared.program.Asked.{Asked}
-use Rattle.jp_eval.specs.declared.program.Asked.TheVariants as asked
 use Rattle.jp_eval.specs.declared.program.Step.{Step, fold-Step}
 use Rattle.jp_eval.specs.declared.program.Choice.{Choice, fold-Choice}
 use Rattle.jp_eval.specs.declared.program.Condition.{Condition, fold-Condition}
@@ -17,11 +15,11 @@ use Rattle.jp_eval.specs.declared.program.Operand.{Operand, fold-Operand}
 use Rattle.jp_eval.specs.declared.program.Spelled.{Spelled, fold-Spelled}
 use Rattle.jp_eval.specs.declared.program.Sought.{Sought, fold-Sought}
 use Rattle.jp_eval.specs.declared.program.Found.{Found, fold-Found}
-use Rattle.jp_eval.specs.declared.program.Slot.{Slot, fold-Slot}
-use Rattle.jp_eval.specs.declared.program.Slot.TheOpen.{Slot-F}
+use Rattle.jp_eval.specs.declared.program.Slot.{Slot}
+use Rattle.jp_eval.specs.declared.program.Slot.TheVariants as slots
 use Rattle.jp_eval.specs.declared.program.Choice.TheOpen.{Choice-F, Condition-F, Found-F, Operand-F, Sought-F, Spelled-F, Step-F, Test-F}
 
--- what is asked of the root: whether an expression holds, or the value of a side of a comparison
+-- what is asked once: whether an expression holds, or the value of a side of a comparison
 pub data Meant : Type 0 where
   expression : syntax.Logical → Meant
   side : syntax.Comparable → Meant
@@ -78,6 +76,7 @@ choice_step (Choice-F.Filter l) = syntax.filter_selector l
 abbrev pub condition_step : Table → Condition-F syntax.Selector syntax.Logical syntax.Comparable syntax.Comparable syntax.Comparable syntax.Argument syntax.Segment syntax.Logical → syntax.Logical
 condition_step table (Condition-F.Test l) = l
 condition_step table (Condition-F.Condition::Once position) = logical_from_root (logical_at table position)
+condition_step table (Condition-F.Known position) = logical_at table position
 
 -- the same of what is asked of a node
 abbrev pub test_step : Test-F syntax.Selector syntax.Logical syntax.Comparable syntax.Comparable syntax.Comparable syntax.Argument syntax.Segment syntax.Logical → syntax.Logical
@@ -85,7 +84,7 @@ test_step (Test-F.Test::Single keys question) = question_view question (here (ke
 test_step (Test-F.Or ls) = syntax.or_all (logicals_of ls.items)
 test_step (Test-F.And ls) = syntax.and_all (logicals_of ls.items)
 test_step (Test-F.Not l) = syntax.negated l.value
-test_step (Test-F.Exists ss) = syntax.exists (here (segments_of ss.items))
+test_step (Test-F.Exists ss again) = syntax.exists (here (segments_of ss.items))
 test_step (Test-F.Compare a op b) = syntax.compare a (op_view op) b
 test_step (Test-F.Passes whole text pattern) = syntax.test (syntax.call (passing_name whole) (syntax.argument (argument_of text) (syntax.argument pattern syntax.no_arguments)))
 
@@ -107,10 +106,10 @@ sought_step table (Sought-F.Sought::Once position) = side_from_root (side_at tab
 -- the same of what is found at a node
 abbrev pub found_step : Found-F syntax.Selector syntax.Logical syntax.Comparable syntax.Comparable syntax.Comparable syntax.Argument syntax.Segment syntax.Logical → syntax.Comparable
 found_step (Found-F.Found::Single keys) = syntax.single (here (keys_view keys.items))
-found_step (Found-F.Only ss) = syntax.single (here (segments_of ss.items))
+found_step (Found-F.Only ss again) = syntax.single (here (segments_of ss.items))
 found_step (Found-F.Length a) = syntax.result (length_call (argument_of a.value))
-found_step (Found-F.Count ss) = syntax.result (count_call (here (segments_of ss.items)))
-found_step (Found-F.Value ss) = syntax.result (value_call (here (segments_of ss.items)))
+found_step (Found-F.Count ss again) = syntax.result (count_call (here (segments_of ss.items)))
+found_step (Found-F.Value ss again) = syntax.result (value_call (here (segments_of ss.items)))
 
 -- a segment
 abbrev pub step_step : Step-F syntax.Selector syntax.Logical syntax.Comparable syntax.Comparable syntax.Comparable syntax.Argument syntax.Segment syntax.Logical → syntax.Segment
@@ -166,21 +165,19 @@ conditions_view table ls = logicals_of (map (condition_view table) ls)
 
 -- ---- slots
 
--- what is asked of the root, whose own slots are seen already
-abbrev pub asked_view : Table → Asked → Meant
-asked_view table (asked.Test test) = expression (test_view table test)
-asked_view table (asked.Value found) = side (found_view table found)
+-- what a slot asks, where what those before it ask is seen already
+abbrev pub slot_view : Table → Slot → Meant
+slot_view table (slots.Test test) = expression (test_view table test)
+slot_view table (slots.Value found) = side (found_view table found)
 
--- what a slot asks
-abbrev pub slot_step : Slot-F Meant → Meant
-slot_step s = asked_view s.slots.items s.asked
+-- the table that some slots make behind those of another one
+abbrev pub table_behind : Table → List Slot → Table
+table_behind table [] = table
+table_behind table (slot ∷ more) = table_behind (table ++ slot_view table slot ∷ []) more
 
-abbrev pub slot_view : Slot → Meant
-slot_view = fold-Slot Meant slot_step
-
--- those of each slot
+-- what each slot asks: it refers to those before it
 abbrev pub table_of : List Slot → Table
-table_of slots = map slot_view slots
+table_of = table_behind []
 
 -- from the old slots it came to these
 abbrev pub Grows : List Slot → List Slot → Type 0

@@ -1,31 +1,18 @@
-//! What was answered of what is asked of the root.
+//! What was answered of what is asked once.
 
-ghost use Rattle.std.specs.Prelude.{◌≡◌, IfErr, IfOk, IfSome, MatchOption, option_map, slice_get};
+ghost use Rattle.std.specs.Prelude.{◌≡◌, IfOk, IfSome, MatchOption, option_map, slice_get};
 ghost use Rattle.jp_model.specs.Meaning.Functions.{in_pattern};
 ghost use Rattle.jp_values.specs.Values.{value_view};
-ghost use Rattle.jp_eval.specs.Answers.{IsAnswer, IsValue, slot_truth, slot_value, table_in};
+ghost use Rattle.jp_eval.specs.Answers.{IsAnswer, IsRunOf, IsValue, slot_truth, slot_value, table_in};
 ghost use Rattle.jp_eval.specs.Frames.{AreKept, Lends};
 ghost use Rattle.jp_eval.specs.Functions.{passing};
-ghost use Rattle.jp_eval.specs.Programs.{asked_view, found_view, logical_at, no_logical, no_side, side_at, test_view};
-ghost use Rattle.jp_eval.specs.declared.frame.Run.{Run as AnyRun};
+ghost use Rattle.jp_eval.specs.Programs.{found_view, logical_at, no_logical, no_side, side_at, slot_view, test_view};
 
 use crate::Result;
 use crate::frame::{Answer, Frame, Run, Walk};
 use crate::functions::{read_passes, read_pattern};
-use crate::program::{Asked, Found, Step, Test};
+use crate::program::{Found, Slot, Step, Test};
 use jp_values::Value;
-use std::alloc::Global;
-
-/// No answer, at so many positions.
-pub(crate) fn no_answers<'a>(alloc: Global, count: usize) -> Result<Vec<Option<Answer<'a>>>>
-    ensures { (run : AnyRun) → IfOk result (λ answers. AreKept run answers.items) }
-{
-    let mut answers = Vec::with_capacity(alloc, count)?;
-    for _position in 0..count {
-        answers.push(None)?;
-    }
-    Ok(answers)
-}
 
 impl<'p, 'a> Run<'p, 'a> {
     /// Makes room for answers. There is none yet where the query goes one step to children: each of its filters is met once then, and
@@ -44,7 +31,7 @@ impl<'p, 'a> Run<'p, 'a> {
         }
     }
 
-    /// Makes room for answers, where a filter is going to ask of one child after another. What is asked once is not kept.
+    /// Makes room for the answers that the part at hand refers to, where it may ask for one of them again. What is asked once is not kept.
     #[inline(never)]
     pub(crate) fn prepare(self, frame: &mut Frame<'a>) -> Result<()>
         requires { AreKept self frame.old.answers.items }
@@ -53,66 +40,57 @@ impl<'p, 'a> Run<'p, 'a> {
         ensures count { frame.new.count ≡ frame.old.count }
         ensures dead { frame.new.dead_ends ≡ frame.old.dead_ends }
     {
-        for _position in frame.answers.len()..self.slots.len() {
+        for _position in frame.answers.len()..self.known {
             frame.answers.push(None)?;
         }
         Ok(())
     }
 
-    /// No answers in place of those in the frame, which it gives back.
+    /// What the slot at a position asks, and a run that it is asked in, which refers to the slots before it.
     #[inline(always)]
-    fn swap_answers(self, frame: &mut Frame<'a>) -> Result<Vec<Option<Answer<'a>>>>
-        ensures kept { IfOk result (λ outer. AreKept self.entry frame.new.answers.items × (outer ≡ frame.old.answers)) }
-        ensures refused { IfErr result (λ e. frame.new.answers ≡ frame.old.answers) }
-        ensures found { frame.new.found ≡ frame.old.found }
-        ensures count { frame.new.count ≡ frame.old.count }
-        ensures dead { frame.new.dead_ends ≡ frame.old.dead_ends }
+    fn slot_at(self, position: usize) -> Option<(Run<'p, 'a>, &'p Slot)>
+        ensures run { IfSome result (λ r. IsRunOf self.entry r.0) }
+        ensures view { option_map (λ r. slot_view (table_in r.0) r.1.now) result ≡ slice_get (table_in self.entry) position }
     {
-        let answers = no_answers(self.alloc, self.slots.len())?;
-        Ok(std::mem::replace(&mut frame.answers, answers))
-    }
-
-    /// What the slot at a position asks of the root, with its own slots, if there is one.
-    #[inline(always)]
-    fn asked_at(self, position: usize) -> Option<(Run<'p, 'a>, &'p Asked)>
-        ensures root { IfSome result (λ r. r.0.root.now ≡ self.entry.root.now) }
-        ensures view { option_map (λ r. asked_view (table_in r.0) r.1.now) result ≡ slice_get (table_in self.entry) position }
-    {
+        if position >= self.known {
+            return None;
+        }
         let Some(slot) = self.slots.get(position) else {
             return None;
         };
         let inner = Run {
             alloc: self.alloc,
-            slots: &slot.slots,
+            slots: self.slots,
+            known: position,
             steps: self.steps,
             again: self.again,
             first: self.first,
             room: self.room,
             root: self.root,
         };
-        Some((inner, &slot.asked))
+        Some((inner, slot))
     }
 
-    /// The test of the slot at a position, with its own slots.
+    /// The test of the slot at a position.
     #[inline(always)]
-    fn test_at(self, position: usize) -> Option<(Run<'p, 'a>, &'p Test)>
-        ensures root { IfSome result (λ r. r.0.root.now ≡ self.entry.root.now) }
+    pub(crate) fn test_at(self, position: usize) -> Option<(Run<'p, 'a>, &'p Test)>
+        ensures run { IfSome result (λ r. IsRunOf self.entry r.0) }
         ensures view { MatchOption result (logical_at (table_in self.entry) position ≡ no_logical) (λ r. logical_at (table_in self.entry) position ≡ test_view (table_in r.0) r.1.now) }
     {
-        match self.asked_at(position) {
-            Some((inner, Asked::Test(test))) => Some((inner, test)),
+        match self.slot_at(position) {
+            Some((inner, Slot::Test(test))) => Some((inner, test)),
             _ => None,
         }
     }
 
-    /// The value of the slot at a position, with its own slots.
+    /// The value of the slot at a position.
     #[inline(always)]
     fn found_at(self, position: usize) -> Option<(Run<'p, 'a>, &'p Found)>
-        ensures root { IfSome result (λ r. r.0.root.now ≡ self.entry.root.now) }
+        ensures run { IfSome result (λ r. IsRunOf self.entry r.0) }
         ensures view { MatchOption result (side_at (table_in self.entry) position ≡ no_side) (λ r. side_at (table_in self.entry) position ≡ found_view (table_in r.0) r.1.now) }
     {
-        match self.asked_at(position) {
-            Some((inner, Asked::Value(found))) => Some((inner, found)),
+        match self.slot_at(position) {
+            Some((inner, Slot::Value(found))) => Some((inner, found)),
             _ => None,
         }
     }
@@ -121,8 +99,11 @@ impl<'p, 'a> Run<'p, 'a> {
     #[inline(always)]
     pub(crate) fn kept_at<'f>(self, position: usize, frame: &'f Frame<'a>) -> Option<&'f Answer<'a>>
         requires { AreKept self frame.now.answers.items }
-        ensures { IfSome result (λ answer. IsAnswer self.entry position answer.now) }
+        ensures { IfSome result (λ answer. IsAnswer self.entry (slice_get (table_in self.entry) position) answer.now) }
     {
+        if position >= self.known {
+            return None;
+        }
         frame.answers.get(position)?.as_ref()
     }
 
@@ -130,13 +111,13 @@ impl<'p, 'a> Run<'p, 'a> {
     #[inline(always)]
     pub(crate) fn keep_at(self, position: usize, answer: Answer<'a>, frame: &mut Frame<'a>)
         requires kept { AreKept self frame.old.answers.items }
-        requires right { IsAnswer self position answer }
+        requires right { IsAnswer self (slice_get (table_in self) position) answer }
         ensures kept { AreKept self.entry frame.new.answers.items }
         ensures found { frame.new.found ≡ frame.old.found }
         ensures count { frame.new.count ≡ frame.old.count }
         ensures dead { frame.new.dead_ends ≡ frame.old.dead_ends }
     {
-        if position < frame.answers.len() {
+        if position < self.known && position < frame.answers.len() {
             frame.answers[position] = Some(answer);
         }
     }
@@ -157,11 +138,9 @@ impl<'r, 'a> Walk<'r, 'a> {
         let Some((inner, test)) = self.run.test_at(position) else {
             return Ok(false);
         };
-        let outer = inner.swap_answers(frame)?;
+        inner.prepare(frame)?;
         let (run, most) = (&inner, self.most);
-        let result = Walk { run, most }.passes_any(*inner.root, test, frame);
-        frame.answers = outer;
-        let truth = result?;
+        let truth = Walk { run, most }.passes_any(*inner.root, test, frame)?;
         self.run.keep_at(position, Answer::Holds(truth), frame);
         Ok(truth)
     }
@@ -177,11 +156,9 @@ impl<'r, 'a> Walk<'r, 'a> {
         let Some((inner, found)) = self.run.found_at(position) else {
             return Ok(Value::Nothing);
         };
-        let outer = inner.swap_answers(frame)?;
+        inner.prepare(frame)?;
         let (run, most) = (&inner, self.most);
-        let result = Walk { run, most }.found_value(*inner.root, found, frame);
-        frame.answers = outer;
-        result
+        Walk { run, most }.found_value(*inner.root, found, frame)
     }
 
     /// The value that a slot finds at the root, which is looked for once.

@@ -2,24 +2,28 @@
 
 ghost use Rattle.std.specs.Prelude.{◌≡◌, ◌++◌, [], ◌∷◌, length, true, IfOk, OnOk};
 ghost use Rattle.jp_eval.specs.Expressions.{readable};
-ghost use Rattle.jp_eval.specs.Programs.{Table, Means, asked_view, table_of, steps_view, step_view, choices_view, choice_view, condition_view, test_view, sought_view, found_view};
+ghost use Rattle.jp_eval.specs.Programs.{Table, Means, slot_view, table_of, steps_view, step_view, choices_view, choice_view, condition_view, test_view, sought_view, found_view};
 ghost use Rattle.jp_eval.specs.Roots.{logical_from_root, side_from_root};
-ghost use Rattle.jp_model.specs.Query.Limits.{segments_pass, segment_passes, selectors_pass, selector_passes};
-ghost use Rattle.jp_model.specs.Query.Typing.{segments_typed, segment_typed, selectors_typed, selector_typed};
-ghost use Rattle.jp_query.specs.View.{segments_view, segment_view, selectors_view, selector_view};
+ghost use Rattle.jp_model.specs.Query.Limits.{segments_pass, segment_passes, selectors_pass, selector_passes, logical_passes};
+ghost use Rattle.jp_model.specs.Query.Typing.{segments_typed, segment_typed, selectors_typed, selector_typed, logical_typed};
+ghost use Rattle.jp_query.specs.View.{segments_view, segment_view, selectors_view, selector_view, logical_view};
 
 use crate::Result;
 use crate::constants::{compile_key, compile_member_name};
-use crate::program::{Asked, Choice, Condition, Found, Slot, Sought, Step, Test};
+use crate::program::{Choice, Condition, Found, Slot, Sought, Step, Test};
 use crate::question::Key;
-use jp_query::{Origin, Segment, Selector};
+use crate::roots::logical_asks_root;
+use crate::ways::Ways;
+use jp_query::{Logical, Origin, Segment, Selector};
 use std::alloc::Global;
 
-/// What compiles a query, and the slots of what it has come upon that is asked of the root.
+/// What compiles a query, and the slots of what it has come upon that is asked once.
 #[derive(Drop)]
 pub(crate) struct Compiler {
     pub(crate) alloc: Global,
     pub(crate) slots: Vec<Slot>,
+    /// How the nodes lie that the part at hand goes from, or is asked of.
+    pub(crate) ways: Ways,
 }
 
 impl Compiler {
@@ -30,33 +34,47 @@ impl Compiler {
         Compiler {
             alloc,
             slots: Vec::new(alloc),
+            ways: Ways::Apart,
         }
     }
 
     /// Adds a slot, and answers its position.
-    fn add_slot(&mut self, slots: Vec<Slot>, asked: Asked) -> Result<usize>
+    fn add_slot(&mut self, slot: Slot) -> Result<usize>
         ensures position { IfOk result (λ position. position ≡ length self.old.slots.items) }
-        ensures added { OnOk result (table_of self.new.slots.items ≡ table_of self.old.slots.items ++ asked_view (table_of slots.items) asked ∷ []) }
+        ensures added { OnOk result (table_of self.new.slots.items ≡ table_of self.old.slots.items ++ slot_view (table_of self.old.slots.items) slot ∷ []) }
     {
         let position = self.slots.len();
-        self.slots.push(Slot { slots, asked })?;
+        self.slots.push(slot)?;
         Ok(position)
     }
 
     /// Adds a slot for a test, and answers the condition that it holds of the root.
-    pub(crate) fn add_test(&mut self, slots: Vec<Slot>, test: Test) -> Result<Condition>
-        ensures { IfOk result (λ condition. Means self.old.slots.items self.new.slots.items (λ (table : Table). condition_view table condition) (logical_from_root (test_view (table_of slots.items) test))) }
+    pub(crate) fn add_test(&mut self, test: Test) -> Result<Condition>
+        ensures { IfOk result (λ condition. Means self.old.slots.items self.new.slots.items (λ (table : Table). condition_view table condition) (logical_from_root (test_view (table_of self.old.slots.items) test))) }
     {
-        let position = self.add_slot(slots, Asked::Test(test))?;
+        let position = self.add_slot(Slot::Test(test))?;
         Ok(Condition::Once(position))
     }
 
-    /// Adds a slot for a value, and answers that it is looked for at the root.
-    pub(crate) fn add_value(&mut self, slots: Vec<Slot>, found: Found) -> Result<Sought>
-        ensures { IfOk result (λ sought. Means self.old.slots.items self.new.slots.items (λ (table : Table). sought_view table sought) (side_from_root (found_view (table_of slots.items) found))) }
+    /// Adds a slot for a test, and answers the condition that it holds of the node.
+    fn add_known(&mut self, test: Test) -> Result<Condition>
+        ensures { IfOk result (λ condition. Means self.old.slots.items self.new.slots.items (λ (table : Table). condition_view table condition) (test_view (table_of self.old.slots.items) test)) }
     {
-        let position = self.add_slot(slots, Asked::Value(found))?;
+        let position = self.add_slot(Slot::Test(test))?;
+        Ok(Condition::Known(position))
+    }
+
+    /// Adds a slot for a value, and answers that it is looked for at the root.
+    pub(crate) fn add_value(&mut self, found: Found) -> Result<Sought>
+        ensures { IfOk result (λ sought. Means self.old.slots.items self.new.slots.items (λ (table : Table). sought_view table sought) (side_from_root (found_view (table_of self.old.slots.items) found))) }
+    {
+        let position = self.add_slot(Slot::Value(found))?;
         Ok(Sought::Once(position))
+    }
+
+    /// Whether a second way may lead to a node that the part at hand is asked of.
+    fn meets_again(&self) -> bool {
+        matches!(self.ways, Ways::Again)
     }
 
     /// The steps of segments, in their order.
@@ -66,11 +84,16 @@ impl Compiler {
         requires typed { segments_typed (segments_view segments.now) ≡ true }
         ensures { IfOk result (λ steps. Means self.old.slots.items self.new.slots.items (λ (table : Table). steps_view table steps.items) (segments_view segments.now)) }
     {
+        let outer = self.ways;
         let mut compiled = Vec::new(self.alloc);
         for segment in segments {
+            let before = self.ways;
+            self.ways = before.within(segment);
             let one = self.compile_segment(segment)?;
+            self.ways = before.behind(&one);
             compiled.push(one)?;
         }
+        self.ways = outer;
         Ok(compiled)
     }
 
@@ -126,10 +149,24 @@ impl Compiler {
                 last: *last,
                 step: *step,
             }),
-            Selector::Filter(expression) => Ok(Choice::Filter(self.compile_logical(
-                Origin::Current,
-                expression,
-            )?)),
+            Selector::Filter(expression) => Ok(Choice::Filter(self.compile_filter(expression)?)),
         }
+    }
+
+    /// The condition of a filter. Where a second way may lead to a node, what it answers is remembered, but for what is soon asked again.
+    #[cycle(compile)]
+    fn compile_filter(&mut self, expression: &Logical) -> Result<Condition>
+        requires literals { logical_passes (logical_view expression.now) readable ≡ true }
+        requires typed { logical_typed (logical_view expression.now) ≡ true }
+        ensures { IfOk result (λ condition. Means self.old.slots.items self.new.slots.items (λ (table : Table). condition_view table condition) (logical_view expression.now)) }
+    {
+        if !self.meets_again() || logical_asks_root(expression) {
+            return self.compile_logical(Origin::Current, expression);
+        }
+        let test = self.compile_test(Origin::Current, expression)?;
+        if let Test::Single(..) = test {
+            return Ok(Condition::Test(test));
+        }
+        self.add_known(test)
     }
 }

@@ -19,6 +19,7 @@ use crate::constants::{compile_keys, compile_literal, compile_pattern};
 use crate::program::{Condition, Found, Operand, Sought, Spelled, Test};
 use crate::question::Question;
 use crate::roots::{becomes_slot, call_asks_root, logical_asks_root, path_asks_root};
+use crate::ways::{Ways, count_again};
 use jp_query::{Argument, Call, Comparable, CompareOp, Logical, Origin, Path};
 
 impl Compiler {
@@ -51,16 +52,17 @@ impl Compiler {
         ensures { IfOk result (λ condition. Means self.old.slots.items self.new.slots.items (λ (table : Table). logical_from (origin_view from) (condition_view table condition)) (logical_view expression.now)) }
     {
         if becomes_slot(from, logical_asks_root(expression)) {
-            let mut inner = Compiler::new(self.alloc);
-            let test = inner.compile_test(Origin::Root, expression)?;
-            return self.add_test(inner.slots, test);
+            let ways = std::mem::replace(&mut self.ways, Ways::Apart);
+            let test = self.compile_test(Origin::Root, expression)?;
+            self.ways = ways;
+            return self.add_test(test);
         }
         Ok(Condition::Test(self.compile_test(from, expression)?))
     }
 
     /// The test of an expression, that is of a slot where it asks the root alone.
     #[cycle(compile)]
-    fn compile_test(&mut self, from: Origin, expression: &Logical) -> Result<Test>
+    pub(crate) fn compile_test(&mut self, from: Origin, expression: &Logical) -> Result<Test>
         requires literals { logical_passes (logical_view expression.now) readable ≡ true }
         requires typed { logical_typed (logical_view expression.now) ≡ true }
         requires root { logical_asks_root (logical_view expression.now) ≡ is_root (origin_view from) }
@@ -119,7 +121,9 @@ impl Compiler {
         if let Some(keys) = compile_keys(self.alloc, &path.segments)? {
             return Ok(Test::Single(keys, Question::Exists));
         }
-        Ok(Test::Exists(self.compile_segments(&path.segments)?))
+        let steps = self.compile_segments(&path.segments)?;
+        let again = count_again(&steps);
+        Ok(Test::Exists { steps, again })
     }
 
     /// The test of a call that answers a truth.
@@ -212,9 +216,10 @@ impl Compiler {
         ensures { IfOk result (λ sought. Means self.old.slots.items self.new.slots.items (λ (table : Table). side_from (origin_view from) (sought_view table sought)) (single (path_view path.now))) }
     {
         if becomes_slot(from, path_asks_root(path)) {
-            let mut inner = Compiler::new(self.alloc);
-            let found = inner.compile_only(path)?;
-            return self.add_value(inner.slots, found);
+            let ways = std::mem::replace(&mut self.ways, Ways::Apart);
+            let found = self.compile_only(path)?;
+            self.ways = ways;
+            return self.add_value(found);
         }
         Ok(Sought::Found(self.compile_only(path)?))
     }
@@ -229,7 +234,9 @@ impl Compiler {
         if let Some(keys) = compile_keys(self.alloc, &path.segments)? {
             return Ok(Found::Single(keys));
         }
-        Ok(Found::Only(self.compile_segments(&path.segments)?))
+        let steps = self.compile_segments(&path.segments)?;
+        let again = count_again(&steps);
+        Ok(Found::Only { steps, again })
     }
 
     /// What is looked for by a call whose answer is a value. One that asks the root alone becomes a slot.
@@ -241,9 +248,10 @@ impl Compiler {
         ensures { IfOk result (λ sought. Means self.old.slots.items self.new.slots.items (λ (table : Table). side_from (origin_view from) (sought_view table sought)) (call_result (call_view call.now))) }
     {
         if becomes_slot(from, call_asks_root(call)) {
-            let mut inner = Compiler::new(self.alloc);
-            let found = inner.compile_value(Origin::Root, call)?;
-            return self.add_value(inner.slots, found);
+            let ways = std::mem::replace(&mut self.ways, Ways::Apart);
+            let found = self.compile_value(Origin::Root, call)?;
+            self.ways = ways;
+            return self.add_value(found);
         }
         Ok(Sought::Found(self.compile_value(from, call)?))
     }
@@ -263,11 +271,13 @@ impl Compiler {
             }
             ValueCall::Count(path) => {
                 let steps = self.compile_segments(&path.segments)?;
-                Ok(Found::Count(steps))
+                let again = count_again(&steps);
+                Ok(Found::Count { steps, again })
             }
             ValueCall::Value(path) => {
                 let steps = self.compile_segments(&path.segments)?;
-                Ok(Found::Value(steps))
+                let again = count_again(&steps);
+                Ok(Found::Value { steps, again })
             }
         }
     }

@@ -48,6 +48,7 @@ impl<'r, 'a> Walk<'r, 'a> {
         match condition {
             Condition::Test(test) => self.passes(node, test, frame),
             Condition::Once(position) => self.holds_once(*position, frame),
+            Condition::Known(position) => self.holds_known(node, *position, frame),
         }
     }
 
@@ -83,7 +84,7 @@ impl<'r, 'a> Walk<'r, 'a> {
             Test::Or(parts) => Ok(!self.are_all(node, parts, false, frame)?),
             Test::And(parts) => self.are_all(node, parts, true, frame),
             Test::Not(inner) => Ok(!self.holds(node, inner, frame)?),
-            Test::Exists(steps) => self.has_node(node, steps, frame),
+            Test::Exists { steps, again } => self.has_node(node, steps, *again, frame),
             Test::Compare { left, op, right } => {
                 self.compare_values(node, left, *op, right, frame)
             }
@@ -119,14 +120,20 @@ impl<'r, 'a> Walk<'r, 'a> {
     /// Whether the steps select a node. The first decides.
     #[cycle(eval)]
     #[inline(never)]
-    fn has_node(self, node: Cursor<'a>, steps: &[Step], frame: &mut Frame<'a>) -> Result<bool>
+    fn has_node(
+        self,
+        node: Cursor<'a>,
+        steps: &[Step],
+        again: usize,
+        frame: &mut Frame<'a>,
+    ) -> Result<bool>
         requires { IsFrameFor self node frame.old }
         ensures lends { Lends self.entry frame.old frame.new result }
         ensures value { IfOk result (λ b. b ≡ not (length (reached self.entry.run.now steps.now (node_of node.entry ∷ [])) == 0)) }
     {
         let before = frame.found.len();
         let (run, most) = (self.run, before + 1);
-        Walk { run, most }.push_query(node, steps, frame)?;
+        Walk { run, most }.push_query(node, steps, again, frame)?;
         let some = frame.found.len() > before;
         frame.found.truncate(before);
         Ok(some)

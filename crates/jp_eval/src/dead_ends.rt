@@ -10,16 +10,16 @@ use crate::Result;
 use crate::frame::{Frame, Run, Walk};
 use crate::places::Places;
 use crate::program::Step;
-use crate::ways::count_again;
 use jp_tape::Cursor;
 
-/// The dead ends of a line take at most so many bytes for each of its nodes, and `SHARED` beside.
-const EACH: u64 = 8;
+/// The dead ends of a line take at most so many bytes for each of its nodes, and `SHARED` beside. What conditions answered of its nodes
+/// takes as much.
+const EACH: u64 = 4;
 
-/// A megabyte.
-const SHARED: u64 = 1 << 20;
+/// Half a megabyte.
+const SHARED: u64 = 1 << 19;
 
-/// The room for the dead ends of a line, in bytes.
+/// The room for the dead ends of a line, or for what conditions answered of its nodes, in bytes.
 pub(crate) fn room_of(root: Cursor<'_>) -> u64 {
     u64::from(root.after()) * EACH + SHARED
 }
@@ -132,6 +132,7 @@ impl<'r, 'a> Walk<'r, 'a> {
         self,
         node: Cursor<'a>,
         steps: &[Step],
+        again: usize,
         frame: &mut Frame<'a>,
     ) -> Result<()>
         requires { IsFrameFor self node frame.old }
@@ -140,8 +141,9 @@ impl<'r, 'a> Walk<'r, 'a> {
         let own = Run {
             alloc: self.run.alloc,
             slots: self.run.slots,
+            known: self.run.known,
             steps,
-            again: count_again(steps),
+            again,
             first: node.place(),
             room: self.run.room_within(),
             root: self.run.root,

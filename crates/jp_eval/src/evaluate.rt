@@ -67,6 +67,7 @@ impl Program {
         let run = Run {
             alloc,
             slots: &self.slots,
+            known: self.slots.len(),
             steps: &self.steps,
             again: self.again,
             first: start.place(),

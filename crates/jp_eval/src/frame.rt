@@ -17,6 +17,8 @@ use std::alloc::{AllocError, Global};
 pub(crate) struct Run<'p, 'a> {
     pub(crate) alloc: Global,
     pub(crate) slots: &'p [Slot],
+    /// How many of them, from the first on, the part at hand refers to.
+    pub(crate) known: usize,
     /// The steps of the query.
     pub(crate) steps: &'p [Step],
     /// How many of them, at the end, a second way may lead to, so that dead ends are remembered.
@@ -43,7 +45,7 @@ pub(crate) const ALL: usize = usize::MAX - 1;
 /// So many nodes at most are found where each is counted, and none is kept.
 pub(crate) const COUNTED: usize = usize::MAX;
 
-/// The answer to what a slot asks of the root.
+/// The answer to what a slot asks.
 #[derive(Drop)]
 pub(crate) enum Answer<'a> {
     /// Whether it holds.
@@ -52,10 +54,12 @@ pub(crate) enum Answer<'a> {
     Value(Value<'a>),
     /// The pattern that the value spells, where it spells one.
     Pattern(Box<Option<Pattern>>),
+    /// Of which nodes it holds and of which it does not, by their places.
+    OfNodes(Vec<Option<bool>>),
 }
 
-/// The nodes that were found, and what was answered of what is asked of the root, by the positions of the slots. It lends its room
-/// from line to line.
+/// The nodes that were found, and what was answered of what is asked once, by the positions of the slots. It lends its room from line
+/// to line.
 #[derive(Drop)]
 pub struct Frame<'a> {
     pub(crate) found: Vec<Cursor<'a>>,

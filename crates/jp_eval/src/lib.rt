@@ -30,6 +30,7 @@ mod roots;
 mod select;
 mod slicing;
 mod steps;
+mod truths;
 mod values;
 mod ways;
 

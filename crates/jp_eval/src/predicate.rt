@@ -58,6 +58,7 @@ impl Predicate {
         let run = Run {
             alloc,
             slots: &self.slots,
+            known: self.slots.len(),
             steps: &[],
             again: 0,
             first: 0,

@@ -51,6 +51,8 @@ pub(crate) enum Condition {
     Test(Test),
     /// What the slot at this position asks of the root, so that the answer is the same for each node of a line.
     Once(usize),
+    /// What the slot at this position asks of the node. What it answered is remembered, for a second way to the node.
+    Known(usize),
 }
 
 /// What is asked of a node (RFC 9535, section 2.3.5.2).
@@ -62,8 +64,11 @@ pub(crate) enum Test {
     Or(Vec<Condition>),
     And(Vec<Condition>),
     Not(Box<Condition>),
-    /// Whether the query selects a node.
-    Exists(Vec<Step>),
+    /// Whether the query selects a node. Here and below `again` is how many of its last steps a second way may lead to.
+    Exists {
+        steps: Vec<Step>,
+        again: usize,
+    },
     Compare {
         left: Operand,
         op: CompareOp,
@@ -109,25 +114,18 @@ pub(crate) enum Found {
     /// That of the node that a singular query selects.
     Single(Vec<Key>),
     /// That of the only node that another query selects.
-    Only(Vec<Step>),
+    Only { steps: Vec<Step>, again: usize },
     /// How long a value is (RFC 9535, section 2.4.4).
     Length(Box<Operand>),
     /// How many nodes a query selects (RFC 9535, section 2.4.5).
-    Count(Vec<Step>),
+    Count { steps: Vec<Step>, again: usize },
     /// That of the only node that a query selects, as a function answers it (RFC 9535, section 2.4.8).
-    Value(Vec<Step>),
+    Value { steps: Vec<Step>, again: usize },
 }
 
-/// What a filter asks of the root, once in a line, and the slots of what is within it.
+/// What a filter asks once: of the root, once in a line, or of a node, once of each. It refers only to slots before it.
 #[derive(Drop)]
-pub(crate) struct Slot {
-    pub(crate) slots: Vec<Slot>,
-    pub(crate) asked: Asked,
-}
-
-/// What is asked of the root. It stands here as it is asked of any node.
-#[derive(Drop)]
-pub(crate) enum Asked {
+pub(crate) enum Slot {
     Test(Test),
     Value(Found),
 }

@@ -11,13 +11,13 @@ ghost use Rattle.jp_eval.specs.Answers.{AreAllDead};
 ghost use Rattle.jp_eval.specs.Found.{node_list};
 ghost use Rattle.jp_eval.specs.Frames.{table_at, tree_at, reached, AreKept, EndsWith, IsFrameAt, Pushes};
 ghost use Rattle.jp_eval.specs.Indexing.{AreKnown};
-ghost use Rattle.jp_eval.specs.Programs.{step_view, choices_view, choice_view, condition_view, test_view};
+ghost use Rattle.jp_eval.specs.Programs.{step_view, choices_view, choice_view, condition_view};
 
 use crate::Result;
 use crate::children::Slice;
 use crate::frame::{Frame, Walk};
 use crate::indexing::Elements;
-use crate::program::{Choice, Condition, Step, Test};
+use crate::program::{Choice, Condition, Step};
 use jp_tape::Cursor;
 
 impl<'r, 'a> Walk<'r, 'a> {
@@ -267,30 +267,27 @@ impl<'r, 'a> Walk<'r, 'a> {
         requires { IsFrameAt self node rest.now frame.old }
         ensures { Pushes self.entry frame.old frame.new result (reached self.entry.run.now rest.now (filter (λ c. truth_of (condition_view (table_at self.entry) condition.now) c (tree_at self.entry)) (children (node_of node.entry)))) }
     {
-        match condition {
-            Condition::Once(position) => {
-                if self.holds_once(*position, frame)? {
-                    self.push_children(node, rest, frame)
-                } else {
-                    Ok(())
-                }
+        if let Condition::Once(position) = condition {
+            if self.holds_once(*position, frame)? {
+                return self.push_children(node, rest, frame);
             }
-            Condition::Test(test) => self.push_tested(node, test, rest, frame),
+            return Ok(());
         }
+        self.push_tested(node, condition, rest, frame)
     }
 
-    /// Adds what the steps select from each child that passes the test.
+    /// Adds what the steps select from each child of which the condition holds.
     #[cycle(eval)]
     #[inline(always)]
     fn push_tested(
         self,
         node: Cursor<'a>,
-        test: &Test,
+        condition: &Condition,
         rest: &[Step],
         frame: &mut Frame<'a>,
     ) -> Result<()>
         requires { IsFrameAt self node rest.now frame.old }
-        ensures { Pushes self.entry frame.old frame.new result (reached self.entry.run.now rest.now (filter (λ c. truth_of (test_view (table_at self.entry) test.now) c (tree_at self.entry)) (children (node_of node.entry)))) }
+        ensures { Pushes self.entry frame.old frame.new result (reached self.entry.run.now rest.now (filter (λ c. truth_of (condition_view (table_at self.entry) condition.now) c (tree_at self.entry)) (children (node_of node.entry)))) }
     {
         self.run.prepare(frame)?;
         let mut next = node.first_child();
@@ -298,7 +295,7 @@ impl<'r, 'a> Walk<'r, 'a> {
             if frame.has(self.most) {
                 return Ok(());
             }
-            if self.passes(child, test, frame)? {
+            if self.holds(child, condition, frame)? {
                 self.push_steps(child, rest, frame)?;
             }
             next = child.next_sibling();

@@ -81,10 +81,12 @@ impl<'r, 'a> Walk<'r, 'a> {
     {
         match found {
             Found::Single(keys) => Ok(node_value(follow_keys(keys, node))),
-            Found::Only(steps) => self.only_value(node, steps, frame),
-            Found::Value(steps) => self.only_value(node, steps, frame),
+            Found::Only { steps, again } => self.only_value(node, steps, *again, frame),
+            Found::Value { steps, again } => self.only_value(node, steps, *again, frame),
             Found::Length(operand) => Ok(length_of(self.value_of(node, operand, frame)?)),
-            Found::Count(steps) => Ok(Value::Count(self.count_nodes(node, steps, frame)?)),
+            Found::Count { steps, again } => {
+                Ok(Value::Count(self.count_nodes(node, steps, *again, frame)?))
+            }
         }
     }
 
@@ -94,6 +96,7 @@ impl<'r, 'a> Walk<'r, 'a> {
         self,
         node: Cursor<'a>,
         steps: &[Step],
+        again: usize,
         frame: &mut Frame<'a>,
     ) -> Result<Value<'a>>
         requires { IsFrameFor self node frame.old }
@@ -102,7 +105,7 @@ impl<'r, 'a> Walk<'r, 'a> {
     {
         let before = frame.found.len();
         let (run, most) = (self.run, before + 2);
-        Walk { run, most }.push_query(node, steps, frame)?;
+        Walk { run, most }.push_query(node, steps, again, frame)?;
         let value = if frame.found.len() == before + 1 {
             Value::Node(frame.found[before])
         } else {
@@ -114,14 +117,20 @@ impl<'r, 'a> Walk<'r, 'a> {
 
     /// How many nodes the steps select. No list is made of them.
     #[cycle(eval)]
-    fn count_nodes(self, node: Cursor<'a>, steps: &[Step], frame: &mut Frame<'a>) -> Result<u64>
+    fn count_nodes(
+        self,
+        node: Cursor<'a>,
+        steps: &[Step],
+        again: usize,
+        frame: &mut Frame<'a>,
+    ) -> Result<u64>
         requires { IsFrameFor self node frame.old }
         ensures lends { Lends self.entry frame.old frame.new result }
         ensures value { IfOk result (λ count. count ≡ length (reached self.entry.run.now steps.now (node_of node.entry ∷ []))) }
     {
         let before = frame.count;
         let (run, most) = (self.run, COUNTED);
-        Walk { run, most }.push_query(node, steps, frame)?;
+        Walk { run, most }.push_query(node, steps, again, frame)?;
         let count = frame.count - before;
         frame.count = before;
         Ok(count)

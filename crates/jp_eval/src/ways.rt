@@ -3,10 +3,11 @@
 ghost use Rattle.std.specs.Prelude.{◌≤◌, length};
 
 use crate::program::{Choice, Step};
+use jp_query::Segment;
 
 /// How the nodes lie that steps go on from.
 #[derive(Clone, Copy)]
-enum Ways {
+pub(crate) enum Ways {
     /// Each is met once, and none is below another.
     Apart,
     /// Each is met once.
@@ -32,8 +33,16 @@ impl Ways {
         }
     }
 
+    /// The nodes from whose children a segment selects.
+    pub(crate) fn within(self, segment: &Segment) -> Ways {
+        match segment {
+            Segment::Child(_) => self,
+            Segment::Descendant(_) => self.down(),
+        }
+    }
+
     /// Those that a step selects from them.
-    fn behind(self, step: &Step) -> Ways {
+    pub(crate) fn behind(self, step: &Step) -> Ways {
         match step {
             Step::One(_) => self,
             Step::Child(choices) => self.through(choices),

@@ -1,9 +1,9 @@
 -- A call that answers a truth is of `match` or of `search`, with two arguments.
-use Rattle.std.proofs.Common.{◌≡◌, ◌∙◌, ℕ, Bool, true, false, List, [], ◌∷◌, length, codes, ap, sym, subst, refl, arith, chars, string_bytes, bytes_eq}
+use Rattle.std.proofs.Common.{◌≡◌, ◌∙◌, ℕ, Bool, true, false, List, codes, ap, sym, subst, refl, arith, chars, string_bytes, bytes_eq}
 use Rattle.std.specs.Str.{IsUtf8}
 use Rattle.jp_model.specs.Query.Syntax as syntax
 use Rattle.jp_model.specs.Query.Typing.{logical_kind}
-use Rattle.jp_query.specs.View.{arguments_view, call_view}
+use Rattle.jp_query.specs.View.{arguments_view}
 use Rattle.jp_query.specs.declared.tree.Argument.{Argument}
 use Rattle.jp_query.specs.declared.tree.Call.{Call}
 use Rattle.jp_eval.specs.Questions.{passing_name}

@@ -1,5 +1,5 @@
 -- A call that answers a value is of `length`, or it is of `count` or `value` and is given nodes.
-use Rattle.std.proofs.Common.{◌≡◌, ◌∙◌, ℕ, Bool, true, false, List, [], ◌∷◌, length, codes, ap, sym, subst, refl, arith, chars, string_bytes, bytes_eq, get_or}
+use Rattle.std.proofs.Common.{◌≡◌, ◌∙◌, ℕ, true, false, List, [], ◌∷◌, codes, ap, sym, subst, refl, arith, chars, string_bytes, bytes_eq, get_or}
 use Rattle.std.specs.List.{list_all}
 use Rattle.std.specs.Prelude.{nat_lt}
 use Rattle.std.specs.Str.{IsUtf8}

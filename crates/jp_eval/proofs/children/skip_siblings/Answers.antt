@@ -1,6 +1,5 @@
 -- From child to child.
-use Rattle.std.proofs.Common.{◌≡◌, ◌+◌, arith, subst, ap, ℕ, Option}
-use Rattle.jp_model.specs.Meaning.Nodes.{Node}
+use Rattle.std.proofs.Common.{◌≡◌, ◌+◌, arith, subst, ℕ, Option}
 use Rattle.jp_tape.specs.declared.cursor.Cursor.{Cursor}
 use Rattle.jp_eval.specs.Walks.{IsAt}
 use Rattle.jp_eval.proofs.Kept.{line_on, line_of_some}

@@ -1,5 +1,5 @@
 -- What was compiled means what it was made of.
-use Rattle.std.proofs.Common.{rules, arith, ◌≡◌, ◌∙◌, ℕ, ◌+◌, ◌&&◌, Bool, true, List, [], ◌∷◌, map, drop, sym, ap, ap₂, refl, subst, Option, Vec, Global, Result, Ok, Err}
+use Rattle.std.proofs.Common.{rules, arith, ◌≡◌, ◌∙◌, ℕ, ◌+◌, ◌&&◌, Bool, true, List, ◌∷◌, map, drop, sym, ap, ap₂, refl, subst, Option, Vec, Global, Result, Ok, Err}
 use Rattle.std.specs.Prelude.{IfOk, IfSome}
 use Rattle.std.proofs.Math.Bool.{and-true}
 use Rattle.std.proofs.lemmas.Bool.{and_parts}
@@ -10,14 +10,14 @@ use Rattle.jp_query.specs.View.{origin_view, op_view, literal_view, segments_of,
 use Rattle.jp_query.specs.declared.tree.Segment.{Segment}
 use Rattle.jp_query.specs.declared.tree.Selector.{Selector}
 use Rattle.jp_query.specs.declared.tree.Logical.{Logical}
-use Rattle.jp_query.specs.declared.tree.Argument.{Argument}
 use Rattle.jp_query.specs.declared.tree.Path.{Path}
 use Rattle.jp_eval.specs.Calls.{called, length_call, count_call, value_call}
 use Rattle.jp_eval.specs.Expressions.{readable}
 use Rattle.jp_eval.specs.Keys.{keys_view}
 use Rattle.jp_eval.specs.Questions.{passing_name, question_view}
 use Rattle.jp_eval.specs.Roots.{argument_asks_root, argument_from, asks_from, call_asks_root, is_root, logical_asks_root, logicals_ask_root, logical_from, logical_from_root, path_asks_root, side_asks_root, side_from, side_from_root}
-use Rattle.jp_eval.specs.Programs.{Means, Table, argument_of, here, table_of, steps_view, step_view, choice_view, condition_view, test_view, operand_view, spelled_view, sought_view, found_view}
+use Rattle.jp_eval.specs.Programs.{Means, Table, argument_of, table_of, steps_view, step_view, choice_view, condition_view, test_view, operand_view, spelled_view, sought_view, found_view}
+use Rattle.jp_eval.specs.declared.program.Slot.{Slot}
 use Rattle.jp_eval.specs.declared.program.Step.TheVariants as steps
 use Rattle.jp_eval.specs.declared.program.Choice.TheVariants as choices
 use Rattle.jp_eval.specs.declared.program.Condition.{Condition}
@@ -35,9 +35,9 @@ use Rattle.jp_eval.proofs.Called.{fits, values_given}
 use Rattle.jp_eval.proofs.Lists.{item_at}
 use Rattle.jp_eval.proofs.Origins.{from_or, from_and, from_not, from_compare, from_exists, from_question, from_passes, from_single, from_length, from_count, from_value, from_argument, asked_so, both_asked, begins_at, path_from}
 use Rattle.jp_eval.proofs.Sizes.{size_of_segments, size_of_selectors, size_of_logical, size_of_logicals, size_of_call}
-use Rattle.jp_eval.proofs.Views.{path_viewed, call_viewed, compare_viewed, nodes_viewed, result_viewed, constant_viewed}
-use Rattle.jp_eval.proofs.Compiled.{child_seen, descendant_seen, filter_seen, or_seen, and_seen, not_seen, exists_seen, test_seen, constant_seen, single_seen, result_seen, child_is, descendant_is, filter_is, tests_is, single_is, or_is, and_is, not_is, exists_is, compare_is, passes_is, constant_is, operand_is, literal_is, spelled_is, found_is, keys_found, only_found, length_found, count_found, value_found}
-use Rattle.jp_eval.proofs.Meanings.{means_by, means_so, both_mean, one_more, none_more, whole}
+use Rattle.jp_eval.proofs.Views.{compare_viewed, nodes_viewed, result_viewed}
+use Rattle.jp_eval.proofs.Compiled.{child_seen, descendant_seen, filter_seen, or_seen, and_seen, not_seen, exists_seen, test_seen, constant_seen, single_seen, result_seen, child_is, descendant_is, filter_is, tests_is, single_is, or_is, and_is, not_is, exists_is, compare_is, passes_is, operand_is, spelled_is, found_is, only_found, length_found, count_found, value_found}
+use Rattle.jp_eval.proofs.Meanings.{means_behind, means_by, means_so, both_mean, one_more, none_more, whole}
 use Rattle.jp_eval.proofs.compile.Compiler.+compile.Goals as goal
 
 pub compile_segment-returns-in_ok-compile_selectors-in-Child : goal.compile_segment-returns-in_ok-compile_selectors-in-Child
@@ -46,8 +46,8 @@ compile_segment-returns-in_ok-compile_selectors-in-Child t c = means_by syntax.c
 pub compile_segment-returns-in_ok-compile_selectors-in-Descendant : goal.compile_segment-returns-in_ok-compile_selectors-in-Descendant
 compile_segment-returns-in_ok-compile_selectors-in-Descendant t c = means_by syntax.descendant_segment (λ (table : Table). step_view table (steps.Descendant c.in_ok-compile_selectors-in-Descendant.field-0)) (segment_view c.args.segment.now) (λ table. descendant_is table c.in_ok-compile_selectors-in-Descendant.field-0) (ap segment_view c.in-Descendant.is ∙ (descendant_seen c.in-Descendant.selectors ∙ ap (λ (l : List Selector). syntax.descendant_segment (selectors_view l)) (sym c.deref-in-Descendant.ensures.value))) c.in_ok-compile_selectors-in-Descendant.ensures
 
-pub compile_selector-returns-in_ok-compile_logical-in-Filter : goal.compile_selector-returns-in_ok-compile_logical-in-Filter
-compile_selector-returns-in_ok-compile_logical-in-Filter t c = means_by syntax.filter_selector (λ (table : Table). choice_view table (choices.Filter c.in_ok-compile_logical-in-Filter.field-0)) (selector_view c.args.selector.now) (λ table. filter_is table c.in_ok-compile_logical-in-Filter.field-0) (ap selector_view c.in-Filter.is ∙ filter_seen c.in-Filter.expression) c.in_ok-compile_logical-in-Filter.ensures
+pub compile_selector-returns-in_ok-compile_filter-in-Filter : goal.compile_selector-returns-in_ok-compile_filter-in-Filter
+compile_selector-returns-in_ok-compile_filter-in-Filter t c = means_by syntax.filter_selector (λ (table : Table). choice_view table (choices.Filter c.in_ok-compile_filter-in-Filter.field-0)) (selector_view c.args.selector.now) (λ table. filter_is table c.in_ok-compile_filter-in-Filter.field-0) (ap selector_view c.in-Filter.is ∙ filter_seen c.in-Filter.expression) c.in_ok-compile_filter-in-Filter.ensures
 
 -- ---- parts in their order
 
@@ -123,10 +123,23 @@ pub compile_logical-returns-then-becomes_slot : goal.compile_logical-returns-the
 compile_logical-returns-then-becomes_slot t c =
     let o = origin_view c.args.from in
     let l : syntax.Logical = logical_view c.args.expression.now in
-    let own : syntax.Logical = logical_from_root (test_view (table_of c.compile_test.new.self.slots.items) c.in_ok-test.test) in
+    let mid : List Slot = c.compile_test.new.self.slots.items in
+    let own : syntax.Logical = logical_from_root (test_view (table_of mid) c.in_ok-test.test) in
     let at : o ≡ syntax.current = c.becomes_slot.ensures.yes c.if-becomes_slot.true in
-    ok_then c.add_test.result (λ (x : Condition). Means c.args.self.now.slots.items c.add_test.new.self.slots.items (λ (table : Table). condition_view table x) own) (λ (x : Condition). Means c.args.self.now.slots.items c.add_test.new.self.slots.items (λ (table : Table). logical_from o (condition_view table x)) l)
-    (λ x m. means_by (λ (y : syntax.Logical). y) (λ (table : Table). logical_from o (condition_view table x)) l (λ table. ap (λ p. logical_from p (condition_view table x)) at) (sym (whole _ _ c.in_ok-test.ensures)) m) c.add_test.ensures
+    ok_then c.add_test.result (λ (x : Condition). Means mid c.add_test.new.self.slots.items (λ (table : Table). condition_view table x) own) (λ (x : Condition). Means c.args.self.now.slots.items c.add_test.new.self.slots.items (λ (table : Table). logical_from o (condition_view table x)) l)
+    (λ x m. means_behind c.in_ok-test.ensures.grows (means_by (λ (y : syntax.Logical). y) (λ (table : Table). logical_from o (condition_view table x)) l (λ table. ap (λ p. logical_from p (condition_view table x)) at) (sym (whole _ _ c.in_ok-test.ensures)) m)) c.add_test.ensures
+
+-- ---- filters
+
+pub compile_filter-returns-in-Single : goal.compile_filter-returns-in-Single
+compile_filter-returns-in-Single t c = means_by (λ (y : syntax.Logical). y) (λ (table : Table). condition_view table (conditions.Test c.in_ok-test.test)) (logical_view c.args.expression.now) (λ table. tests_is table c.in_ok-test.test) refl c.in_ok-test.ensures
+
+pub compile_filter-returns : goal.compile_filter-returns
+compile_filter-returns t c =
+    let l : syntax.Logical = logical_view c.args.expression.now in
+    let mid : List Slot = c.compile_test.new.self.slots.items in
+    ok_then c.add_known.result (λ (x : Condition). Means mid c.add_known.new.self.slots.items (λ (table : Table). condition_view table x) (test_view (table_of mid) c.in_ok-test.test)) (λ (x : Condition). Means c.args.self.now.slots.items c.add_known.new.self.slots.items (λ (table : Table). condition_view table x) l)
+    (λ x m. means_behind c.in_ok-test.ensures.grows (means_by (λ (y : syntax.Logical). y) (λ (table : Table). condition_view table x) l (λ table. refl) (sym (whole _ _ c.in_ok-test.ensures)) m)) c.add_known.ensures
 
 pub compile_logical-compile_test-requires : goal.compile_logical-compile_test-requires
 compile_logical-compile_test-requires t c =
@@ -221,21 +234,21 @@ pub compile_exists-returns : goal.compile_exists-returns
 compile_exists-returns t c =
     let p : Path = c.args.path.now in
     let o = origin_view p.origin in
-    let x = c.in_ok-compile_segments.field-0 in
-    means_by (λ (ss : syntax.Segments). syntax.exists (syntax.path o ss)) (λ (table : Table). logical_from o (test_view table (tests.Exists x))) (syntax.exists (path_view p))
-    (λ table. ap (logical_from o) (exists_is table x) ∙ from_exists o (steps_view table x.items))
+    let x = c.in_ok-steps.steps in
+    means_by (λ (ss : syntax.Segments). syntax.exists (syntax.path o ss)) (λ (table : Table). logical_from o (test_view table (tests.Exists x c.count_again-again.result))) (syntax.exists (path_view p))
+    (λ table. ap (logical_from o) (exists_is table x _) ∙ from_exists o (steps_view table x.items))
     (ap syntax.exists (path_from p o (segments_view c.deref-2.result.now) refl (ap segments_view c.deref-2.ensures.value)))
-    c.in_ok-compile_segments.ensures
+    c.in_ok-steps.ensures
 
 pub compile_only-returns : goal.compile_only-returns
 compile_only-returns t c =
     let p : Path = c.args.path.now in
     let o = origin_view p.origin in
-    let x = c.in_ok-compile_segments.field-0 in
-    means_by (λ (ss : syntax.Segments). syntax.single (syntax.path o ss)) (λ (table : Table). side_from o (found_view table (finds.Only x))) (syntax.single (path_view p))
-    (λ table. ap (side_from o) (only_found table x) ∙ from_single o (steps_view table x.items))
+    let x = c.in_ok-steps.steps in
+    means_by (λ (ss : syntax.Segments). syntax.single (syntax.path o ss)) (λ (table : Table). side_from o (found_view table (finds.Only x c.count_again-again.result))) (syntax.single (path_view p))
+    (λ table. ap (side_from o) (only_found table x _) ∙ from_single o (steps_view table x.items))
     (ap syntax.single (path_from p o (segments_view c.deref-2.result.now) refl (ap segments_view c.deref-2.ensures.value)))
-    c.in_ok-compile_segments.ensures
+    c.in_ok-steps.ensures
 
 -- ---- texts and patterns
 
@@ -302,18 +315,20 @@ pub compile_path-returns-then-becomes_slot : goal.compile_path-returns-then-beco
 compile_path-returns-then-becomes_slot t c =
     let o = origin_view c.args.from in
     let first : origin_view c.args.path.now.origin ≡ syntax.root = begins_at c.args.path.now syntax.root (sym c.path_asks_root.ensures ∙ c.becomes_slot.ensures.asks c.if-becomes_slot.true) in
-    let own : syntax.Comparable = side_from_root (found_view (table_of c.compile_only.new.self.slots.items) c.in_ok-found.found) in
+    let mid : List Slot = c.compile_only.new.self.slots.items in
+    let own : syntax.Comparable = side_from_root (found_view (table_of mid) c.in_ok-found.found) in
     let at : o ≡ syntax.current = c.becomes_slot.ensures.yes c.if-becomes_slot.true in
-    ok_then c.add_value.result (λ (x : Sought). Means c.args.self.now.slots.items c.add_value.new.self.slots.items (λ (table : Table). sought_view table x) own) (λ (x : Sought). Means c.args.self.now.slots.items c.add_value.new.self.slots.items (λ (table : Table). side_from o (sought_view table x)) (syntax.single (path_view c.args.path.now)))
-    (λ x m. means_by (λ (y : syntax.Comparable). y) (λ (table : Table). side_from o (sought_view table x)) (syntax.single (path_view c.args.path.now)) (λ table. ap (λ p. side_from p (sought_view table x)) at) (sym (whole _ _ c.in_ok-found.ensures) ∙ ap (λ p. side_from p (found_view (table_of c.compile_only.new.self.slots.items) c.in_ok-found.found)) first) m) c.add_value.ensures
+    ok_then c.add_value.result (λ (x : Sought). Means mid c.add_value.new.self.slots.items (λ (table : Table). sought_view table x) own) (λ (x : Sought). Means c.args.self.now.slots.items c.add_value.new.self.slots.items (λ (table : Table). side_from o (sought_view table x)) (syntax.single (path_view c.args.path.now)))
+    (λ x m. means_behind c.in_ok-found.ensures.grows (means_by (λ (y : syntax.Comparable). y) (λ (table : Table). side_from o (sought_view table x)) (syntax.single (path_view c.args.path.now)) (λ table. ap (λ p. side_from p (sought_view table x)) at) (sym (whole _ _ c.in_ok-found.ensures) ∙ ap (λ p. side_from p (found_view (table_of mid) c.in_ok-found.found)) first) m)) c.add_value.ensures
 
 pub compile_call-returns-then-becomes_slot : goal.compile_call-returns-then-becomes_slot
 compile_call-returns-then-becomes_slot t c =
     let o = origin_view c.args.from in
-    let own : syntax.Comparable = side_from_root (found_view (table_of c.compile_value.new.self.slots.items) c.in_ok-found.found) in
+    let mid : List Slot = c.compile_value.new.self.slots.items in
+    let own : syntax.Comparable = side_from_root (found_view (table_of mid) c.in_ok-found.found) in
     let at : o ≡ syntax.current = c.becomes_slot.ensures.yes c.if-becomes_slot.true in
-    ok_then c.add_value.result (λ (x : Sought). Means c.args.self.now.slots.items c.add_value.new.self.slots.items (λ (table : Table). sought_view table x) own) (λ (x : Sought). Means c.args.self.now.slots.items c.add_value.new.self.slots.items (λ (table : Table). side_from o (sought_view table x)) (syntax.result (call_view c.args.call.now)))
-    (λ x m. means_by (λ (y : syntax.Comparable). y) (λ (table : Table). side_from o (sought_view table x)) (syntax.result (call_view c.args.call.now)) (λ table. ap (λ p. side_from p (sought_view table x)) at) (sym (whole _ _ c.in_ok-found.ensures)) m) c.add_value.ensures
+    ok_then c.add_value.result (λ (x : Sought). Means mid c.add_value.new.self.slots.items (λ (table : Table). sought_view table x) own) (λ (x : Sought). Means c.args.self.now.slots.items c.add_value.new.self.slots.items (λ (table : Table). side_from o (sought_view table x)) (syntax.result (call_view c.args.call.now)))
+    (λ x m. means_behind c.in_ok-found.ensures.grows (means_by (λ (y : syntax.Comparable). y) (λ (table : Table). side_from o (sought_view table x)) (syntax.result (call_view c.args.call.now)) (λ table. ap (λ p. side_from p (sought_view table x)) at) (sym (whole _ _ c.in_ok-found.ensures)) m)) c.add_value.ensures
 
 pub compile_path-returns : goal.compile_path-returns
 compile_path-returns t c =
@@ -349,8 +364,8 @@ compile_value-returns-in_ok-steps-in-Count t c =
     let x = c.in_ok-steps-in-Count.steps in
     let seen : count_call (path_view p) ≡ call_view c.args.call.now = sym (ap called c.in-Count.is) ∙ c.value_call.ensures in
     let at : origin_view p.origin ≡ o = begins_at p o (sym (and-true (path_asks_root (path_view p))) ∙ (ap call_asks_root seen ∙ c.requires.root)) in
-    means_by (λ (ss : syntax.Segments). syntax.result (count_call (syntax.path o ss))) (λ (table : Table). side_from o (found_view table (finds.Count x))) (syntax.result (call_view c.args.call.now))
-    (λ table. ap (side_from o) (count_found table x) ∙ from_count o (steps_view table x.items))
+    means_by (λ (ss : syntax.Segments). syntax.result (count_call (syntax.path o ss))) (λ (table : Table). side_from o (found_view table (finds.Count x c.count_again-again.result))) (syntax.result (call_view c.args.call.now))
+    (λ table. ap (side_from o) (count_found table x _) ∙ from_count o (steps_view table x.items))
     (ap syntax.result (sym seen ∙ ap count_call (path_from p o (segments_view c.deref.result.now) at (ap segments_view c.deref.ensures.value))))
     c.in_ok-steps-in-Count.ensures
 
@@ -361,7 +376,7 @@ compile_value-returns-in_ok-steps-in-Value t c =
     let x = c.in_ok-steps-in-Value.steps in
     let seen : value_call (path_view p) ≡ call_view c.args.call.now = sym (ap called c.in-Value.is) ∙ c.value_call.ensures in
     let at : origin_view p.origin ≡ o = begins_at p o (sym (and-true (path_asks_root (path_view p))) ∙ (ap call_asks_root seen ∙ c.requires.root)) in
-    means_by (λ (ss : syntax.Segments). syntax.result (value_call (syntax.path o ss))) (λ (table : Table). side_from o (found_view table (finds.Value x))) (syntax.result (call_view c.args.call.now))
-    (λ table. ap (side_from o) (value_found table x) ∙ from_value o (steps_view table x.items))
+    means_by (λ (ss : syntax.Segments). syntax.result (value_call (syntax.path o ss))) (λ (table : Table). side_from o (found_view table (finds.Value x c.count_again-again-in-Value.result))) (syntax.result (call_view c.args.call.now))
+    (λ table. ap (side_from o) (value_found table x _) ∙ from_value o (steps_view table x.items))
     (ap syntax.result (sym seen ∙ ap value_call (path_from p o (segments_view c.deref-in-Value.result.now) at (ap segments_view c.deref-in-Value.ensures.value))))
     c.in_ok-steps-in-Value.ensures

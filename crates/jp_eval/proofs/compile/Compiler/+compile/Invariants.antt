@@ -21,6 +21,9 @@ decreases-compile_selectors l = size_of_selectors (selectors_view l.selectors.no
 abbrev pub decreases-compile_selector : goal.decreases-compile_selector
 decreases-compile_selector l = size_of_selector (selector_view l.selector.now)
 
+abbrev pub decreases-compile_filter : goal.decreases-compile_filter
+decreases-compile_filter l = size_of_logical (logical_view l.expression.now) + 2
+
 abbrev pub decreases-compile_logicals : goal.decreases-compile_logicals
 decreases-compile_logicals l = size_of_logicals (logicals_view l.parts.now)
 

@@ -1,6 +1,6 @@
 -- What was added is what the steps select, and what was answered is what the parts of a filter mean.
 use Rattle.std.proofs.Common.{rules, w64, ℤ, Bool, ◌≡◌, ◌∙◌, ◌+◌, ◌-◌, ◌++◌, [], ◌∷◌, List, ℕ, true, false, refl, map, drop, length, filter, flat_map, sym, ap, ap₂, subst, arith, Some, Option, Ok}
-use Rattle.std.specs.Prelude.{IfOk, OnOk, not, option_map}
+use Rattle.std.specs.Prelude.{IfOk, OnOk, not, option_map, slice_get}
 use Rattle.jp_model.specs.Json.Tree.{Tree, Value}
 use Rattle.jp_model.specs.Meaning.Nodes.{Node, children, children_where, subtree}
 use Rattle.jp_model.specs.Steps.{Step}
@@ -11,7 +11,7 @@ use Rattle.jp_model.specs.Query.Syntax as syntax
 use Rattle.jp_model.specs.Query.Syntax.{Segments}
 use Rattle.jp_model.proofs.Seek.{no_nodes}
 use Rattle.jp_tape.specs.declared.cursor.Cursor.{Cursor}
-use Rattle.jp_tape.specs.Cursors.{place_of, node_of, nodes_from, nodes_after}
+use Rattle.jp_tape.specs.Cursors.{line_of, place_of, node_of, nodes_from, nodes_after}
 use Rattle.jp_values.specs.Values.{value_view, is_sound_value}
 use Rattle.jp_eval.specs.Answers.{IsAnswer, IsValue, table_in, tree_in, slot_truth, slot_value}
 use Rattle.jp_eval.specs.Found.{node_list}
@@ -19,8 +19,6 @@ use Rattle.jp_eval.specs.Frames.{Pushes}
 use Rattle.jp_iregexp.specs.Trees.{pattern_view}
 use Rattle.jp_iregexp.specs.declared.pattern.Pattern.{Pattern}
 use Rattle.jp_eval.specs.Functions.{passing, pattern_in}
-use Rattle.jp_eval.specs.Keys.{key_view}
-use Rattle.jp_eval.specs.Steps.{step_nodes}
 use Rattle.jp_eval.specs.Programs.{Table, logical_at, side_at, step_view, steps_view, choices_view, choice_view, condition_view, test_view, operand_view, spelled_view, sought_view, found_view}
 use Rattle.jp_eval.specs.Tallies.{tally}
 use Rattle.jp_eval.specs.Walks.{IsAt, rises}
@@ -41,7 +39,7 @@ use Rattle.jp_eval.specs.declared.program.Found.{Found}
 use Rattle.jp_query.specs.View.{literal_view}
 use Rattle.std.proofs.Math.Logic.{∥∥₁_elim}
 use Rattle.jp_eval.proofs.Childless.{none_first, none_selected}
-use Rattle.jp_eval.proofs.Compiled.{child_is, chosen_is, descendant_is, found_is, literal_is, once_is, passes_is, slice_is, sought_once, spelled_is}
+use Rattle.jp_eval.proofs.Compiled.{child_is, descendant_is, found_is, literal_is, once_is, passes_is, slice_is, sought_once, spelled_is}
 use Rattle.jp_eval.proofs.Counts.{none_added, none_single, not_counted, single_found}
 use Rattle.jp_eval.proofs.DeadEnds.{ends_next, is_dead, nothing_there}
 use Rattle.jp_eval.proofs.Descendants.{below_at}
@@ -52,7 +50,7 @@ use Rattle.jp_eval.proofs.Goes.{Goes, begins, dead_as, lent_first, others_are, g
 use Rattle.jp_eval.proofs.Kept.{adds_more, line_on, line_of_some}
 use Rattle.jp_eval.proofs.Lists.{item_at}
 use Rattle.jp_eval.proofs.Patterns.{told, one_proof}
-use Rattle.jp_eval.proofs.Following.{select_is, one_selects}
+use Rattle.jp_eval.proofs.Runs.{frame_in, kept_back, kept_in, lent_back, lent_from, lent_room}
 use Rattle.jp_eval.proofs.Sizes.{size_of_argument, size_of_comparable, size_of_logical, size_of_segment, size_of_selectors}
 use Rattle.jp_eval.proofs.Slices.{none_risen}
 use Rattle.jp_eval.proofs.Walks.{chosen_from, chosen_here, passed_here, at_next, index_fits}
@@ -134,13 +132,13 @@ push_subtree-returns t c =
 
 -- ---- filters
 
-pub push_tested-returns-in_err-passes : goal.push_tested-returns-in_err-passes
-push_tested-returns-in_err-passes t c =
-    record { adds = adds_more c.loop-next.invariant.goes.adds c.in_err-passes.ensures.lends.adds; kept = c.in_err-passes.ensures.lends.kept; dead = dead_as c.args.self.run.now c.loop-next.frame.dead_ends c.passes.new.frame.dead_ends c.in_err-passes.ensures.lends.dead c.loop-next.invariant.goes.dead; told = search rules }
+pub push_tested-returns-in_err-holds : goal.push_tested-returns-in_err-holds
+push_tested-returns-in_err-holds t c =
+    record { adds = adds_more c.loop-next.invariant.goes.adds c.in_err-holds.ensures.lends.adds; kept = c.in_err-holds.ensures.lends.kept; dead = dead_as c.args.self.run.now c.loop-next.frame.dead_ends c.holds.new.frame.dead_ends c.in_err-holds.ensures.lends.dead c.loop-next.invariant.goes.dead; told = search rules }
 
 pub push_tested-returns-in_err-push_steps : goal.push_tested-returns-in_err-push_steps
 push_tested-returns-in_err-push_steps t c =
-    record { adds = adds_more c.loop-next.invariant.goes.adds (adds_more c.in_ok-passes.ensures.lends.adds c.in_err-push_steps.ensures.adds); kept = c.in_err-push_steps.ensures.kept; dead = c.in_err-push_steps.ensures.dead; told = search rules }
+    record { adds = adds_more c.loop-next.invariant.goes.adds (adds_more c.in_ok-holds.ensures.lends.adds c.in_err-push_steps.ensures.adds); kept = c.in_err-push_steps.ensures.kept; dead = c.in_err-push_steps.ensures.dead; told = search rules }
 
 pub push_tested-returns-then-has : goal.push_tested-returns-then-has
 push_tested-returns-then-has t c =
@@ -150,23 +148,23 @@ pub push_tested-loop-next-preserved : goal.push_tested-loop-next-preserved
 push_tested-loop-next-preserved t c =
     let u : Tree = (node_of c.args.self.run.now.root.now).tree in
     let ss : Segments = steps_view (table_in c.args.self.run.now) c.args.rest.now in
-    let p = λ (n : Node). truth (test_view (table_in c.args.self.run.now) c.args.test.now) n u in
+    let p = λ (n : Node). truth (condition_view (table_in c.args.self.run.now) c.args.condition.now) n u in
     let child : Cursor = c.in-Some.child in
     let kept = c.loop-next.invariant in
     let next : Option Cursor = c.next_sibling-next.result in
     let total : List Node = nodes ss (filter p (children (node_of c.args.node))) u in
-    let here : Goes c.args.self c.args.frame.now c.passes.new.frame (nodes ss (filter p (node_of child ∷ nodes_after child)) u) total =
-    goes_lent c.passes.new.frame (others_are (nodes ss (filter p (nodes_from (Some child))) u) (ap (λ (o : Option Cursor). nodes ss (filter p (nodes_from o)) u) c.in-Some.is) kept.goes) c.in_ok-passes.ensures.lends in
+    let here : Goes c.args.self c.args.frame.now c.holds.new.frame (nodes ss (filter p (node_of child ∷ nodes_after child)) u) total =
+    goes_lent c.holds.new.frame (others_are (nodes ss (filter p (nodes_from (Some child))) u) (ap (λ (o : Option Cursor). nodes ss (filter p (nodes_from o)) u) c.in-Some.is) kept.goes) c.in_ok-holds.ensures.lends in
     let goes : Goes c.args.self c.args.frame.now c.if-branch.frame (nodes ss (filter p (nodes_after child)) u) total =
     elim c.if-branch.branch [
       | push_tested-then-branch+in_ok-push_steps w ↦
-          (let taken : p (node_of child) ≡ true = sym c.in_ok-passes.ensures.value ∙ w.if-branch.true in
+          (let taken : p (node_of child) ≡ true = sym c.in_ok-holds.ensures.value ∙ w.if-branch.true in
           subst (λ (f : Frame). Goes c.args.self c.args.frame.now f (nodes ss (filter p (nodes_after child)) u) total) (sym w.frame-is)
           (goes_past w.push_steps.new.frame ss u (node_of child ∷ []) (filter p (nodes_after child))
           (others_are (nodes ss (node_of child ∷ filter p (nodes_after child)) u) (ap (λ (l : List Node). nodes ss l u) (filter_taken p (node_of child) (nodes_after child) taken)) here)
           w.in_ok-push_steps.ensures))
       | push_tested-else-branch w ↦
-          (let passed : p (node_of child) ≡ false = sym c.in_ok-passes.ensures.value ∙ w.if-branch.false in
+          (let passed : p (node_of child) ≡ false = sym c.in_ok-holds.ensures.value ∙ w.if-branch.false in
           subst (λ (f : Frame). Goes c.args.self c.args.frame.now f (nodes ss (filter p (nodes_after child)) u) total) (sym w.frame-is)
           (others_are (nodes ss (filter p (nodes_after child)) u) (ap (λ (l : List Node). nodes ss l u) (filter_passed p (node_of child) (nodes_after child) passed)) here))
     ] in
@@ -179,7 +177,7 @@ pub push_tested-returns : goal.push_tested-returns
 push_tested-returns t c =
     let u : Tree = (node_of c.args.self.run.now.root.now).tree in
     let ss : Segments = steps_view (table_in c.args.self.run.now) c.args.rest.now in
-    let p = λ (n : Node). truth (test_view (table_in c.args.self.run.now) c.args.test.now) n u in
+    let p = λ (n : Node). truth (condition_view (table_in c.args.self.run.now) c.args.condition.now) n u in
     is_done c.loop-next.invariant.goes (ap (λ (o : Option Cursor). nodes ss (filter p (nodes_from o)) u) c.in_default.is ∙ no_nodes ss u)
 
 -- ---- from each of some nodes
@@ -390,20 +388,75 @@ push_where-returns-then-branch t c =
     let p = λ (n : Node). truth (condition_view (table_in run) c.args.condition.now) n u in
     let below : List Node = children (node_of c.args.node) in
     let told : (n : Node) → p n ≡ slot_truth run c.in-Once.position = λ n. ap (λ (x : Condition). truth (condition_view (table_in run) x) n u) c.in-Once.is ∙ once_told run c.in-Once.position n in
-    let all : filter p below ≡ below = filter_all p below (λ n. told n ∙ (sym c.in_ok-holds_once-in-Once.ensures.value ∙ c.if-branch.true)) in
+    let all : filter p below ≡ below = filter_all p below (λ n. told n ∙ (sym c.in_ok-holds_once.ensures.value ∙ c.if-branch.true)) in
     subst (λ (l : List Node). Pushes c.args.self c.args.frame.now c.push_children.new.frame c.push_children.result (nodes ss l u)) (sym all)
-    (lent_first c.push_children.result c.in_ok-holds_once-in-Once.ensures.lends c.push_children.ensures)
+    (lent_first c.push_children.result c.in_ok-holds_once.ensures.lends c.push_children.ensures)
 
-pub push_where-returns-else-branch : goal.push_where-returns-else-branch
-push_where-returns-else-branch t c =
+pub push_where-returns-in-Once : goal.push_where-returns-in-Once
+push_where-returns-in-Once t c =
     let run : Run = c.args.self.run.now in
     let u : Tree = (node_of c.args.self.run.now.root.now).tree in
     let ss : Segments = steps_view (table_in c.args.self.run.now) c.args.rest.now in
     let p = λ (n : Node). truth (condition_view (table_in run) c.args.condition.now) n u in
     let below : List Node = children (node_of c.args.node) in
     let told : (n : Node) → p n ≡ slot_truth run c.in-Once.position = λ n. ap (λ (x : Condition). truth (condition_view (table_in run) x) n u) c.in-Once.is ∙ once_told run c.in-Once.position n in
-    let none : filter p below ≡ [] = filter_none p below (λ n. told n ∙ (sym c.in_ok-holds_once-in-Once.ensures.value ∙ c.if-branch.false)) in
-    is_done (goes_lent c.holds_once.new.frame (begins c.args.self c.args.frame.now c.args.frame.now [] (nodes ss (filter p below) u) c.requires.kept c.requires.dead refl refl (sym (ap (λ (l : List Node). nodes ss l u) none ∙ no_nodes ss u))) c.in_ok-holds_once-in-Once.ensures.lends) refl
+    let none : filter p below ≡ [] = filter_none p below (λ n. told n ∙ (sym c.in_ok-holds_once.ensures.value ∙ c.if-branch.false)) in
+    is_done (goes_lent c.holds_once.new.frame (begins c.args.self c.args.frame.now c.args.frame.now [] (nodes ss (filter p below) u) c.requires.kept c.requires.dead refl refl (sym (ap (λ (l : List Node). nodes ss l u) none ∙ no_nodes ss u))) c.in_ok-holds_once.ensures.lends) refl
+
+-- ---- slots
+
+pub find_at_root-prepare-requires : goal.find_at_root-prepare-requires
+find_at_root-prepare-requires t c = kept_in c.args.self.run.now c.in-Some.inner c.in-Some.ensures.run c.args.frame.now.answers.items c.requires
+
+pub find_at_root-found_value-requires : goal.find_at_root-found_value-requires
+find_at_root-found_value-requires t c =
+    let size = ap size_of_comparable c.in-Some.ensures.view in
+    (omega (arith, size, c.decreases), record { line = refl; kept = c.in_ok-prepare.ensures.kept })
+
+pub find_at_root-returns-clause-lends : goal.find_at_root-returns-clause-lends
+find_at_root-returns-clause-lends t c =
+    let room = c.prepare.ensures in
+    lent_from c.args.self c.args.frame.now room.found room.count room.dead (lent_back c.args.self c.in-Some.ensures.run c.found_value.ensures.lends)
+
+pub find_at_root-returns-in_err-prepare-clause-lends : goal.find_at_root-returns-in_err-prepare-clause-lends
+find_at_root-returns-in_err-prepare-clause-lends t c =
+    let room = c.prepare.ensures in
+    lent_room c.args.self c.args.frame.now c.prepare.new.frame c.from_residual.result (kept_back c.args.self.run.now c.in-Some.inner c.in-Some.ensures.run c.prepare.new.frame.answers.items room.kept) room.found room.count room.dead
+
+pub holds_once-prepare-requires : goal.holds_once-prepare-requires
+holds_once-prepare-requires t c = kept_in c.args.self.run.now c.in-Some.inner c.in-Some.ensures.run c.args.frame.now.answers.items c.requires
+
+pub holds_once-passes_any-requires : goal.holds_once-passes_any-requires
+holds_once-passes_any-requires t c =
+    let size = ap size_of_logical c.in-Some.ensures.view in
+    (omega (arith, size, c.decreases), record { line = refl; kept = c.in_ok-prepare.ensures.kept })
+
+pub holds_once-returns-in_err-truth-clause-lends : goal.holds_once-returns-in_err-truth-clause-lends
+holds_once-returns-in_err-truth-clause-lends t c =
+    let room = c.prepare.ensures in
+    let lent = lent_from c.args.self c.args.frame.now room.found room.count room.dead (lent_back c.args.self c.in-Some.ensures.run c.in_err-truth.ensures.lends) in
+    record { adds = lent.adds; kept = lent.kept; dead = lent.dead; same = search rules; count = search rules }
+
+pub holds_once-returns-in_err-prepare-clause-lends : goal.holds_once-returns-in_err-prepare-clause-lends
+holds_once-returns-in_err-prepare-clause-lends t c =
+    let room = c.prepare.ensures in
+    lent_room c.args.self c.args.frame.now c.prepare.new.frame c.from_residual.result (kept_back c.args.self.run.now c.in-Some.inner c.in-Some.ensures.run c.prepare.new.frame.answers.items room.kept) room.found room.count room.dead
+
+pub holds_once-keep_at-requires-clause-kept : goal.holds_once-keep_at-requires-clause-kept
+holds_once-keep_at-requires-clause-kept t c = (lent_back c.args.self c.in-Some.ensures.run c.in_ok-truth.ensures.lends).kept
+
+pub holds_known-passes_any-requires : goal.holds_known-passes_any-requires
+holds_known-passes_any-requires t c =
+    let size = ap size_of_logical c.in-Some-test_at.ensures.view in
+    (omega (arith, size, c.decreases), frame_in c.args.node c.args.frame.now c.in-Some-test_at.ensures.run c.requires.line c.requires.kept)
+
+pub holds_known-returns-in_err-truth-clause-lends : goal.holds_known-returns-in_err-truth-clause-lends
+holds_known-returns-in_err-truth-clause-lends t c =
+    let lent = lent_back c.args.self c.in-Some-test_at.ensures.run c.in_err-truth.ensures.lends in
+    record { adds = lent.adds; kept = lent.kept; dead = lent.dead; same = search rules; count = search rules }
+
+pub holds_known-note_truth-requires-clause-kept : goal.holds_known-note_truth-requires-clause-kept
+holds_known-note_truth-requires-clause-kept t c = (lent_back c.args.self c.in-Some-test_at.ensures.run c.in_ok-truth.ensures.lends).kept
 
 pub sought_value-value_once-requires : goal.sought_value-value_once-requires
 sought_value-value_once-requires t c =
@@ -467,7 +520,7 @@ passes_any-returns-in-Passes-clause-value t c =
 pub passes_once-returns-in-Some-Pattern-clause-value : goal.passes_once-returns-in-Some-Pattern-clause-value
 passes_once-returns-in-Some-Pattern-clause-value t c =
     let run : Run = c.args.self.run.now in
-    let kept = subst (λ (a : Answer). IsAnswer run c.args.position a) c.in-Some-Pattern.field-0-is c.in-Some-Pattern.ensures in
+    let kept = subst (λ (a : Answer). IsAnswer run (slice_get (table_in run) c.args.position) a) c.in-Some-Pattern.field-0-is c.in-Some-Pattern.ensures in
     let spelled = ap (λ (o : Option Pattern). option_map pattern_view o) c.deref.ensures ∙ kept in
     told c.read_passes.result (passing c.args.whole) _ (value_view c.args.text) (slot_value run c.args.position) spelled c.read_passes.ensures
 

@@ -62,7 +62,7 @@ abbrev pub decreases-push_where : goal.decreases-push_where
 decreases-push_where l = size_of_logical (condition_view (table_in l.self.run.now) l.condition.now) + size_of_segments (steps_view (table_in l.self.run.now) l.rest.now) + 7
 
 abbrev pub decreases-push_tested : goal.decreases-push_tested
-decreases-push_tested l = size_of_logical (test_view (table_in l.self.run.now) l.test.now) + size_of_segments (steps_view (table_in l.self.run.now) l.rest.now) + 6
+decreases-push_tested l = size_of_logical (condition_view (table_in l.self.run.now) l.condition.now) + size_of_segments (steps_view (table_in l.self.run.now) l.rest.now) + 6
 
 abbrev pub decreases-holds : goal.decreases-holds
 decreases-holds l = size_of_logical (condition_view (table_in l.self.run.now) l.condition.now) + 2
@@ -75,6 +75,9 @@ decreases-passes_any l = size_of_logical (test_view (table_in l.self.run.now) l.
 
 abbrev pub decreases-holds_once : goal.decreases-holds_once
 decreases-holds_once l = size_of_logical (logical_at (table_in l.self.run.now) l.position) + 1
+
+abbrev pub decreases-holds_known : goal.decreases-holds_known
+decreases-holds_known l = size_of_logical (logical_at (table_in l.self.run.now) l.position) + 1
 
 abbrev pub decreases-are_all : goal.decreases-are_all
 decreases-are_all l = size_of_logicals (conditions_view (table_in l.self.run.now) l.parts.now)
@@ -150,7 +153,7 @@ invariant-push_subtree-loop-place l =
 abbrev pub invariant-push_tested-loop-next : goal.invariant-push_tested-loop-next
 invariant-push_tested-loop-next l =
     let t = tree_in l.self.run.now in
-    let p = λ (c : Node). truth (test_view (table_in l.self.run.now) l.test) c t in
+    let p = λ (c : Node). truth (condition_view (table_in l.self.run.now) l.condition) c t in
     record {
       goes : Goes l.self l.fn.frame l.frame (nodes (steps_view (table_in l.self.run.now) l.rest) (filter p (nodes_from l.next)) t) (nodes (steps_view (table_in l.self.run.now) l.rest) (filter p (children (node_of l.node))) t);
       line : IfSome l.next (λ c. line_of c ≡ line_of l.self.run.now.root.now);

@@ -1,6 +1,5 @@
 -- No child has an index below 0 or so large.
-use Rattle.std.proofs.Common.{rules, ◌+◌, refl, sym, subst, Option, ℕ, false, negsuc, nat_abs, ◌≡◌, ◌∙◌, ◌<ℤ◌, ◌⊎◌, inl, inr, ℤ, pos, ap, arith, w64}
-use Rattle.std.specs.Prelude.{int_lt}
+use Rattle.std.proofs.Common.{rules, sym, subst, Option, ℕ, nat_abs, ◌≡◌, ◌∙◌, ◌<ℤ◌, ◌⊎◌, inl, inr, ℤ, pos, ap, arith, w64}
 use Rattle.std.proofs.lemmas.Bool.{true≢false}
 use Rattle.std.proofs.lemmas.Int.{ints}
 use mir.Val.{to_z, of_z}
