@@ -1,30 +1,46 @@
 //! A pattern's tree, and its automaton where it has one.
 
-ghost use Rattle.std.specs.Prelude.{◌≡◌, IfOk, map};
+ghost use Rattle.std.specs.Prelude.{◌≡◌, IfOk, map, Some, None};
 ghost use Rattle.std.specs.Option.{IfSome};
 ghost use Rattle.jp_iregexp.specs.States.{Accepts};
 ghost use Rattle.jp_iregexp.specs.Layouts.{state_of};
 ghost use Rattle.jp_iregexp.specs.Nodes.{tree_of};
+ghost use Rattle.jp_iregexp.specs.Numbers.{numbers_behind};
 
 use crate::automaton::Automaton;
 use crate::layout::automaton_of;
 use crate::node::Node;
+use crate::numbers::with_numbers;
 use std::alloc::{AllocError, Global};
 
-/// A tree and its automaton, which it has where it is small enough.
+/// A tree and its automaton, which it has where it is small enough. In another one the tables are numbered.
 #[derive(Drop)]
 pub(crate) struct Compiled {
     pub(crate) root: Node,
     pub(crate) automaton: Option<Automaton>,
+    pub(crate) tables: usize,
     ghost same: { ∥ IfSome automaton (λ a. Accepts (map state_of a.states.items) a.starts (tree_of root)) ∥₁ },
+    ghost numbered: { automaton ≡ None → numbers_behind 0 root ≡ Some tables },
 }
 
 impl Compiled {
     /// Lays the tree out. If memory is refused, the answer is an error.
     pub(crate) fn new(alloc: Global, root: Node) -> Result<Compiled, AllocError>
-        ensures { IfOk result (λ compiled. compiled.root ≡ root) }
+        ensures { IfOk result (λ compiled. tree_of compiled.root ≡ tree_of root) }
     {
         let automaton = automaton_of(alloc, &root)?;
-        Ok(Compiled { root, automaton })
+        if automaton.is_some() {
+            return Ok(Compiled {
+                root,
+                automaton,
+                tables: 0,
+            });
+        }
+        let (root, tables) = with_numbers(alloc, &root)?;
+        Ok(Compiled {
+            root,
+            automaton: None,
+            tables,
+        })
     }
 }

@@ -70,7 +70,7 @@ impl Group {
                     body: Box::new(alloc, atom)?,
                     least,
                     further,
-                    rows: Vec::new(alloc),
+                    table: None,
                 })?;
                 Ok(true)
             }

@@ -21,13 +21,15 @@ mod layout;
 mod matcher;
 mod names;
 mod node;
+mod numbers;
 mod parser;
 mod pattern;
 mod positions;
-mod prepare;
 mod runs;
-mod table;
+mod tables;
 mod token;
 mod window;
 
 pub use pattern::Pattern;
+
+type Result<T> = std::result::Result<T, std::alloc::AllocError>;

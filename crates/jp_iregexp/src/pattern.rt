@@ -1,6 +1,6 @@
 //! Patterns and the questions that are asked of them.
 
-ghost use Rattle.std.specs.Prelude.{◌≡◌, ◌^◌, ◌<◌, IfOk, length, option_map};
+ghost use Rattle.std.specs.Prelude.{◌≡◌, IfOk, None, option_map};
 ghost use Rattle.std.specs.Str.{chars};
 ghost use Rattle.jp_model.specs.Pattern.Membership.{is_in, occurs_in};
 ghost use Rattle.jp_model.specs.Pattern.Reading.{pattern_of};
@@ -8,10 +8,9 @@ ghost use Rattle.jp_iregexp.specs.Nodes.{tree_of};
 ghost use Rattle.jp_iregexp.specs.Trees.{pattern_view};
 
 use crate::compiled::Compiled;
-use crate::node::Node;
 use crate::parser::read_pattern;
 use crate::positions::PositionSet;
-use crate::prepare::reach;
+use crate::tables::reach;
 use std::alloc::{AllocError, Global};
 
 /// A pattern (RFC 9485, section 3).
@@ -45,7 +44,7 @@ impl Pattern {
         if let Some(automaton) = &self.compiled.automaton {
             return Ok(automaton.accepts(text));
         }
-        matches_by_tree(alloc, &self.compiled.root, text)
+        matches_by_tree(alloc, &self.compiled, text)
     }
 
     /// Whether some part of the text, the empty one included, is in the pattern's set. If memory is refused, the answer is
@@ -57,7 +56,7 @@ impl Pattern {
         if let Some(automaton) = &self.compiled.automaton {
             return Ok(automaton.finds(text));
         }
-        occurs_by_tree(alloc, &self.compiled.root, text)
+        occurs_by_tree(alloc, &self.compiled, text)
     }
 }
 
@@ -69,40 +68,26 @@ fn scalars_of(alloc: Global, text: &str) -> Result<Vec<char>, AllocError>
 
 // Whether the whole text is in the set of a tree. Few patterns have no automaton.
 #[inline(never)]
-fn matches_by_tree(alloc: Global, root: &Node, text: &str) -> Result<bool, AllocError>
-    ensures { IfOk result (λ answer. answer ≡ is_in (tree_of root.now) (chars text.now)) }
+fn matches_by_tree(alloc: Global, compiled: &Compiled, text: &str) -> Result<bool, AllocError>
+    requires { compiled.now.automaton ≡ None }
+    ensures { IfOk result (λ answer. answer ≡ is_in (tree_of compiled.now.root) (chars text.now)) }
 {
     let scalars = scalars_of(alloc, text)?;
-    matches_scalars(alloc, root, scalars.as_slice())
+    let scalars = scalars.as_slice();
+    let starts = PositionSet::one(alloc, 0)?;
+    let reached = reach(alloc, compiled, scalars, &starts)?;
+    Ok(reached.contains(scalars.len()))
 }
 
 // Whether some part of the text is in the set of a tree.
 #[inline(never)]
-fn occurs_by_tree(alloc: Global, root: &Node, text: &str) -> Result<bool, AllocError>
-    ensures { IfOk result (λ answer. answer ≡ occurs_in (tree_of root.now) (chars text.now)) }
+fn occurs_by_tree(alloc: Global, compiled: &Compiled, text: &str) -> Result<bool, AllocError>
+    requires { compiled.now.automaton ≡ None }
+    ensures { IfOk result (λ answer. answer ≡ occurs_in (tree_of compiled.now.root) (chars text.now)) }
 {
     let scalars = scalars_of(alloc, text)?;
-    occurs_in_scalars(alloc, root, scalars.as_slice())
-}
-
-pub(crate) fn matches_scalars(alloc: Global, node: &Node, text: &[char]) -> Result<bool, AllocError>
-    requires { length text.now < 2 ^ 63 }
-    ensures { IfOk result (λ answer. answer ≡ is_in (tree_of node.now) text.now) }
-{
-    let starts = PositionSet::one(alloc, 0)?;
-    let reached = reach(alloc, node, text, &starts)?;
-    Ok(reached.contains(text.len()))
-}
-
-pub(crate) fn occurs_in_scalars(
-    alloc: Global,
-    node: &Node,
-    text: &[char],
-) -> Result<bool, AllocError>
-    requires { length text.now < 2 ^ 63 }
-    ensures { IfOk result (λ answer. answer ≡ occurs_in (tree_of node.now) text.now) }
-{
-    let starts = PositionSet::all(alloc, text.len())?;
-    let reached = reach(alloc, node, text, &starts)?;
+    let scalars = scalars.as_slice();
+    let starts = PositionSet::all(alloc, scalars.len())?;
+    let reached = reach(alloc, compiled, scalars, &starts)?;
     Ok(reached.has_any())
 }

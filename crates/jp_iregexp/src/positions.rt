@@ -4,8 +4,9 @@ ghost use Rattle.std.specs.Prelude.{◌≡◌, ◌^◌, ℕ, ◌+◌, ◌-◌, �
 ghost use Rattle.std.specs.Int.{bit_at};
 ghost use Rattle.jp_iregexp.specs.Positions.{Has, IsSetOver};
 
+use crate::Result;
 use crate::window::Window;
-use std::alloc::{AllocError, Global};
+use std::alloc::Global;
 
 /// A set of positions.
 #[derive(Drop)]
@@ -24,7 +25,7 @@ impl PositionSet {
     }
 
     /// One position.
-    pub(crate) fn one(alloc: Global, p: usize) -> Result<PositionSet, AllocError>
+    pub(crate) fn one(alloc: Global, p: usize) -> Result<PositionSet>
         requires { p < 2 ^ 63 }
         ensures has { IfOk result (λ set. Has set p) }
         ensures only { IfOk result (λ set. (q : ℕ) → Has set q → q ≡ p) }
@@ -35,7 +36,7 @@ impl PositionSet {
     }
 
     /// Each position of a text of this length.
-    pub(crate) fn all(alloc: Global, length: usize) -> Result<PositionSet, AllocError>
+    pub(crate) fn all(alloc: Global, length: usize) -> Result<PositionSet>
         requires { length < 2 ^ 63 }
         ensures over { IfOk result (λ set. IsSetOver length set) }
         ensures each { IfOk result (λ set. (p : ℕ) → p ≤ length → Has set p) }
@@ -48,7 +49,7 @@ impl PositionSet {
     }
 
     /// Each position from the first one on, up to the one before the second.
-    pub(crate) fn range(alloc: Global, low: usize, high: usize) -> Result<PositionSet, AllocError>
+    pub(crate) fn range(alloc: Global, low: usize, high: usize) -> Result<PositionSet>
         requires { high ≤ 2 ^ 63 }
         ensures sound { IfOk result (λ set. (p : ℕ) → Has set p → low ≤ p × p < high) }
         ensures each { IfOk result (λ set. (p : ℕ) → low ≤ p → p < high → Has set p) }
@@ -88,7 +89,7 @@ impl PositionSet {
         self.window.high()
     }
 
-    pub(crate) fn copy(&self, alloc: Global) -> Result<PositionSet, AllocError>
+    pub(crate) fn copy(&self, alloc: Global) -> Result<PositionSet>
         ensures { IfOk result (λ set. (p : ℕ) → Has set p ↔ Has self.now p) }
     {
         Ok(PositionSet {
@@ -102,7 +103,7 @@ impl PositionSet {
         (self.window.word(p / 64) >> (p % 64)) & 1 == 1
     }
 
-    pub(crate) fn insert(&mut self, p: usize) -> Result<(), AllocError>
+    pub(crate) fn insert(&mut self, p: usize) -> Result<()>
         requires { p < 2 ^ 63 }
         ensures same { OnOk result (Has self.new p) }
         ensures old { OnOk result ((q : ℕ) → Has self.old q → Has self.new q) }
@@ -112,7 +113,7 @@ impl PositionSet {
         Ok(())
     }
 
-    pub(crate) fn add_all(&mut self, other: &PositionSet) -> Result<(), AllocError>
+    pub(crate) fn add_all(&mut self, other: &PositionSet) -> Result<()>
         ensures old { OnOk result ((q : ℕ) → Has self.old q → Has self.new q) }
         ensures added { OnOk result ((q : ℕ) → Has other.now q → Has self.new q) }
         ensures new { OnOk result ((q : ℕ) → Has self.new q → Has self.old q ⊎ Has other.now q) }
@@ -124,11 +125,7 @@ impl PositionSet {
     }
 
     /// The positions that are not in the other set.
-    pub(crate) fn without(
-        &self,
-        alloc: Global,
-        other: &PositionSet,
-    ) -> Result<PositionSet, AllocError>
+    pub(crate) fn without(&self, alloc: Global, other: &PositionSet) -> Result<PositionSet>
         ensures sound { IfOk result (λ set. (q : ℕ) → Has set q → Has self.now q) }
         ensures complete { IfOk result (λ set. (q : ℕ) → Has self.now q → Has set q ⊎ Has other.now q) }
     {
@@ -146,7 +143,7 @@ impl PositionSet {
         alloc: Global,
         distance: usize,
         other: &PositionSet,
-    ) -> Result<PositionSet, AllocError>
+    ) -> Result<PositionSet>
         ensures { IfOk result (λ set. (q : ℕ) → Has set q ↔ (distance ≤ q × Has self.now (q - distance) × Has other.now q)) }
     {
         let mut set = PositionSet::empty(alloc);

@@ -1,4 +1,4 @@
-use Rattle.std.proofs.Common.{◌≡◌, ℕ, ◌+◌, ◌*◌, ◌-◌, ◌≤◌, ◌↔◌, inl, inr, refl, Option, Some, None, IfOk, length, arith, rules, sym, ◌∙◌, ap, subst}
+use Rattle.std.proofs.Common.{◌≡◌, ℕ, List, get_or, Vec, Global, ◌<◌, ◌+◌, ◌*◌, ◌-◌, ◌≤◌, ◌↔◌, inl, inr, refl, Option, Some, None, IfOk, length, arith, rules, sym, ◌∙◌, ap, subst}
 use Rattle.jp_iregexp.specs.declared.node.Node.{Node, the_lemmas}
 use Rattle.jp_iregexp.specs.declared.positions.PositionSet.{PositionSet}
 use Rattle.jp_model.specs.Pattern.Language.{Language, Repeats, RepeatsWithin}
@@ -9,57 +9,58 @@ use Rattle.jp_iregexp.specs.Nodes.{most_of, tree_of, sequence_list, choice_list}
 use Rattle.jp_iregexp.proofs.Parts.{tree_of_Sequence, tree_of_Choice, drop_item, drop_past, if_ok_map}
 use Rattle.jp_iregexp.proofs.Turns.{continue_start, sequence_step, sequence_end, gather_step, gather_end, exact_start, exact_step, exact_exit, exact_end, further_start, further_step, further_exit, further_end, front_start, front_step, times_some, times_none, any_number}
 use Rattle.jp_iregexp.proofs.Reaching.{same_over}
-use Rattle.jp_iregexp.specs.Tables.{Kept, KeptList}
+use Rattle.jp_iregexp.proofs.Rows.{table_ends}
+use Rattle.jp_iregexp.specs.Tables.{AreInRows, IsKept, IsTable, Kept, KeptList}
 use Rattle.jp_iregexp.proofs.Keeping.{kept_at, from_Sequence, from_Choice}
-use Rattle.jp_iregexp.proofs.matcher.+ends.Goals as goal
+use Rattle.jp_iregexp.proofs.matcher.Matcher.+ends.Goals as goal
 
 pub choice_ends-loop-part-preserved : goal.choice_ends-loop-part-preserved
 choice_ends-loop-part-preserved t c =
     let e = c.in_ok-add_all.ensures in
-    gather_step c.args.parts.now c.loop-part.part-index c.part-item.result c.args.text.now c.args.starts.now c.loop-part.all c.in_ok-reached.reached c.add_all.new.self
+    gather_step c.args.parts.now c.loop-part.part-index c.part-item.result c.args.self.now.text.now c.args.starts.now c.loop-part.all c.in_ok-reached.reached c.add_all.new.self
     (drop_item c.args.parts.now c.loop-part.part-index c.part-item.result (omega arith) c.part-item.is) c.loop-part.invariant c.in_ok-reached.ensures e.old e.added e.new
 
 pub choice_ends-returns : goal.choice_ends-returns
 choice_ends-returns t c =
-    gather_end c.args.parts.now c.loop-part.part-index c.args.text.now c.args.starts.now c.loop-part.all
+    gather_end c.args.parts.now c.loop-part.part-index c.args.self.now.text.now c.args.starts.now c.loop-part.all
     (drop_past c.args.parts.now c.loop-part.part-index (omega arith)) c.loop-part.invariant
 
 pub sequence_ends-loop-part-init : goal.sequence_ends-loop-part-init
 sequence_ends-loop-part-init t c =
-    continue_start (Language (sequence_list c.args.parts.now)) c.args.text.now c.args.starts.now c.in_ok-reached.reached c.requires.starts.over c.in_ok-reached.ensures
+    continue_start (Language (sequence_list c.args.parts.now)) c.args.self.now.text.now c.args.starts.now c.in_ok-reached.reached c.requires.starts.over c.in_ok-reached.ensures
 
 pub sequence_ends-loop-part-preserved : goal.sequence_ends-loop-part-preserved
 sequence_ends-loop-part-preserved t c =
-    sequence_step c.args.parts.now c.loop-part.part-index c.part-item.result (Language (sequence_list c.args.parts.now)) c.args.text.now c.args.starts.now c.loop-part.reached c.in_ok-reached-2.reached
+    sequence_step c.args.parts.now c.loop-part.part-index c.part-item.result (Language (sequence_list c.args.parts.now)) c.args.self.now.text.now c.args.starts.now c.loop-part.reached c.in_ok-reached-2.reached
     (drop_item c.args.parts.now c.loop-part.part-index c.part-item.result (omega arith) c.part-item.is) c.loop-part.invariant c.in_ok-reached-2.ensures
 
 pub sequence_ends-returns : goal.sequence_ends-returns
 sequence_ends-returns t c =
-    sequence_end c.args.parts.now c.loop-part.part-index (Language (sequence_list c.args.parts.now)) c.args.text.now c.args.starts.now c.loop-part.reached
+    sequence_end c.args.parts.now c.loop-part.part-index (Language (sequence_list c.args.parts.now)) c.args.self.now.text.now c.args.starts.now c.loop-part.reached
     (drop_past c.args.parts.now c.loop-part.part-index (omega arith)) c.loop-part.invariant
 
 pub ends-returns-in-Sequence : goal.ends-returns-in-Sequence
 ends-returns-in-Sequence t c =
     let tree : tree_of c.args.node.now ≡ sequence_list c.as_slice.result.now = ap tree_of c.in-Sequence.is ∙ tree_of_Sequence c.in-Sequence.parts ∙ ap sequence_list (sym c.as_slice.ensures.value) in
-    subst (λ (r : Pattern). IfOk c.sequence_ends.result (λ (out : PositionSet). AreEnds (Language r) c.args.text.now c.args.starts.now out)) (sym tree) c.sequence_ends.ensures
+    subst (λ (r : Pattern). IfOk c.sequence_ends.result (λ (out : PositionSet). AreEnds (Language r) c.args.self.now.text.now c.args.starts.now out)) (sym tree) c.sequence_ends.ensures
 
 pub ends-returns-in-Choice : goal.ends-returns-in-Choice
 ends-returns-in-Choice t c =
     let tree : tree_of c.args.node.now ≡ choice_list c.as_slice-in-Choice.result.now = ap tree_of c.in-Choice.is ∙ tree_of_Choice c.in-Choice.parts ∙ ap choice_list (sym c.as_slice-in-Choice.ensures.value) in
-    subst (λ (r : Pattern). IfOk c.choice_ends.result (λ (out : PositionSet). AreEnds (Language r) c.args.text.now c.args.starts.now out)) (sym tree) c.choice_ends.ensures
+    subst (λ (r : Pattern). IfOk c.choice_ends.result (λ (out : PositionSet). AreEnds (Language r) c.args.self.now.text.now c.args.starts.now out)) (sym tree) c.choice_ends.ensures
 
 pub exact_turns-returns-in-Class : goal.exact_turns-returns-in-Class
 exact_turns-returns-in-Class t c =
-    subst (λ (n : Node). IfOk c.count_ends.result (λ (out : PositionSet). AreEnds (Repeats (Language (tree_of n)) c.args.count) c.args.text.now c.args.starts.now out)) (sym c.in-Class.is) c.count_ends.ensures
+    subst (λ (n : Node). IfOk c.count_ends.result (λ (out : PositionSet). AreEnds (Repeats (Language (tree_of n)) c.args.count) c.args.self.now.text.now c.args.starts.now out)) (sym c.in-Class.is) c.count_ends.ensures
 
-pub even_turns-returns-then-distance-text : goal.even_turns-returns-then-distance-text
-even_turns-returns-then-distance-text t c =
-    even_none (Language (tree_of c.args.body.now)) c.args.length c.requires.length c.args.text.now c.args.starts.now c.empty.result c.args.count (c.args.count * c.args.length) refl (omega (arith, c.if-distance-text.true)) c.empty.ensures
+pub even_turns-returns-then-distance-self : goal.even_turns-returns-then-distance-self
+even_turns-returns-then-distance-self t c =
+    even_none (Language (tree_of c.args.body.now)) c.args.length c.requires.length c.args.self.now.text.now c.args.starts.now c.empty.result c.args.count (c.args.count * c.args.length) refl (omega (arith, c.if-distance-self.true)) c.empty.ensures
 
 pub even_turns-returns : goal.even_turns-returns
 even_turns-returns t c =
     let member = Language (tree_of c.args.body.now) in
-    let text = c.args.text.now in
+    let text = c.args.self.now.text.now in
     let starts = c.args.starts.now in
     let step = c.args.length in
     let distance = c.args.count * step in
@@ -70,31 +71,31 @@ even_turns-returns t c =
 
 pub counted_turns-loop-turn-init : goal.counted_turns-loop-turn-init
 counted_turns-loop-turn-init t c =
-    exact_start (Language (tree_of c.args.body.now)) c.args.count c.args.text.now c.args.starts.now c.in_ok-reached.reached c.requires.starts.over c.in_ok-reached.ensures
+    exact_start (Language (tree_of c.args.body.now)) c.args.count c.args.self.now.text.now c.args.starts.now c.in_ok-reached.reached c.requires.starts.over c.in_ok-reached.ensures
 
 pub counted_turns-loop-turn-preserved : goal.counted_turns-loop-turn-preserved
 counted_turns-loop-turn-preserved t c =
     let member = Language (tree_of c.args.body.now) in
-    exact_step member (Repeats member c.args.count) c.args.text.now c.args.starts.now c.loop-turn.reached c.in_ok-next.next c.args.count c.loop-turn.turn (omega arith) c.loop-turn.invariant c.in_ok-next.ensures
+    exact_step member (Repeats member c.args.count) c.args.self.now.text.now c.args.starts.now c.loop-turn.reached c.in_ok-next.next c.args.count c.loop-turn.turn (omega arith) c.loop-turn.invariant c.in_ok-next.ensures
 
 pub counted_turns-returns-then-is_same : goal.counted_turns-returns-then-is_same
 counted_turns-returns-then-is_same t c =
     let member = Language (tree_of c.args.body.now) in
-    exact_exit member (Repeats member c.args.count) c.args.text.now c.args.starts.now c.loop-turn.reached c.in_ok-next.next c.args.count c.loop-turn.turn c.loop-turn.invariant c.in_ok-next.ensures (c.is_same.ensures c.if-is_same.true)
+    exact_exit member (Repeats member c.args.count) c.args.self.now.text.now c.args.starts.now c.loop-turn.reached c.in_ok-next.next c.args.count c.loop-turn.turn c.loop-turn.invariant c.in_ok-next.ensures (c.is_same.ensures c.if-is_same.true)
 
 pub counted_turns-returns : goal.counted_turns-returns
 counted_turns-returns t c =
     let member = Language (tree_of c.args.body.now) in
-    exact_end member (Repeats member c.args.count) c.args.text.now c.args.starts.now c.loop-turn.reached c.loop-turn.reached c.args.count c.loop-turn.turn (omega arith) c.loop-turn.invariant
+    exact_end member (Repeats member c.args.count) c.args.self.now.text.now c.args.starts.now c.loop-turn.reached c.loop-turn.reached c.args.count c.loop-turn.turn (omega arith) c.loop-turn.invariant
 
 pub further_turns-loop-turn-init : goal.further_turns-loop-turn-init
 further_turns-loop-turn-init t c =
     let member = Language (tree_of c.args.body.now) in
     let reached = c.in_ok-reached.reached in
     record {
-      continues = further_start member c.args.most c.args.text.now c.args.starts.now reached c.requires.starts.over c.in_ok-reached.ensures;
-      fronts = front_start member c.args.text.now c.args.starts.now reached c.in_ok-frontier.frontier c.in_ok-reached.ensures c.in_ok-frontier.ensures;
-      inside = same_over (length c.args.text.now) c.args.starts.now c.in_ok-frontier.frontier c.in_ok-frontier.ensures c.requires.starts.over;
+      continues = further_start member c.args.most c.args.self.now.text.now c.args.starts.now reached c.requires.starts.over c.in_ok-reached.ensures;
+      fronts = front_start member c.args.self.now.text.now c.args.starts.now reached c.in_ok-frontier.frontier c.in_ok-reached.ensures c.in_ok-frontier.ensures;
+      inside = same_over (length c.args.self.now.text.now) c.args.starts.now c.in_ok-frontier.frontier c.in_ok-frontier.ensures c.requires.starts.over;
     }
 
 pub further_turns-loop-turn-preserved : goal.further_turns-loop-turn-preserved
@@ -102,7 +103,7 @@ further_turns-loop-turn-preserved t c =
     let member = Language (tree_of c.args.body.now) in
     let l = c.loop-turn in
     let i = l.invariant in
-    let text = c.args.text.now in
+    let text = c.args.self.now.text.now in
     let next = c.in_ok-next.next in
     let fresh = c.in_ok-fresh.fresh in
     let f = c.in_ok-fresh.ensures in
@@ -120,19 +121,19 @@ further_turns-returns-then-not-has_any t c =
     let member = Language (tree_of c.args.body.now) in
     let l = c.loop-turn in
     let i = l.invariant in
-    further_exit member (RepeatsWithin member 0 (Some c.args.most)) c.args.text.now c.args.starts.now l.reached c.in_ok-next.next l.frontier c.args.most l.turn i.continues i.fronts c.in_ok-next.ensures
+    further_exit member (RepeatsWithin member 0 (Some c.args.most)) c.args.self.now.text.now c.args.starts.now l.reached c.in_ok-next.next l.frontier c.args.most l.turn i.continues i.fronts c.in_ok-next.ensures
     (λ q h. elim (c.in_ok-fresh.ensures.complete q h) [ inl n ↦ absurd (let some = c.has_any.ensures.none q n in let none = c.if-not-has_any.true in cc) | inr o ↦ o ])
 
 pub further_turns-returns : goal.further_turns-returns
 further_turns-returns t c =
     let member = Language (tree_of c.args.body.now) in
     let l = c.loop-turn in
-    further_end member (RepeatsWithin member 0 (Some c.args.most)) c.args.text.now c.args.starts.now l.reached l.reached c.args.most l.turn (omega arith) l.invariant.continues
+    further_end member (RepeatsWithin member 0 (Some c.args.most)) c.args.self.now.text.now c.args.starts.now l.reached l.reached c.args.most l.turn (omega arith) l.invariant.continues
 
 pub any_turns-returns-in_default : goal.any_turns-returns-in_default
 any_turns-returns-in_default t c =
     let member = Language (tree_of c.args.body.now) in
-    let text = c.args.text.now in
+    let text = c.args.self.now.text.now in
     let starts = c.args.starts.now in
     if_ok_map (λ (out : PositionSet). AreEnds (RepeatsWithin member 0 (Some (length text))) text starts out) (λ (out : PositionSet). AreEnds (RepeatsWithin member 0 None) text starts out) c.further_turns.result
     (λ out b. any_number member text starts out b) c.further_turns.ensures
@@ -140,7 +141,7 @@ any_turns-returns-in_default t c =
 pub repeated_ends-returns-in-Some : goal.repeated_ends-returns-in-Some
 repeated_ends-returns-in-Some t c =
     let member = Language (tree_of c.args.body.now) in
-    let text = c.args.text.now in
+    let text = c.args.self.now.text.now in
     let starts = c.args.starts.now in
     let reached = c.in_ok-reached.reached in
     let least = c.args.least in
@@ -151,7 +152,7 @@ repeated_ends-returns-in-Some t c =
 pub repeated_ends-returns : goal.repeated_ends-returns
 repeated_ends-returns t c =
     let member = Language (tree_of c.args.body.now) in
-    let text = c.args.text.now in
+    let text = c.args.self.now.text.now in
     let starts = c.args.starts.now in
     let reached = c.in_ok-reached.reached in
     let least = c.args.least in
@@ -161,22 +162,39 @@ repeated_ends-returns t c =
 
 pub choice_ends-ends-requires : goal.choice_ends-ends-requires
 choice_ends-ends-requires t c =
-    let kept = kept_at c.args.text.now c.args.parts.now c.loop-part.part-index c.part-item.result (omega arith) c.part-item.is c.requires.kept in
+    let kept = kept_at c.args.self.now.text.now c.args.self.now.tables.items c.args.parts.now c.loop-part.part-index c.part-item.result (omega arith) c.part-item.is c.requires.kept in
     (search (rules, the_lemmas), (search rules, kept))
 
 pub sequence_ends-ends-requires : goal.sequence_ends-ends-requires
 sequence_ends-ends-requires t c =
-    let kept = kept_at c.args.text.now c.args.parts.now c.loop-part.part-index c.part-item.result (omega arith) c.part-item.is c.requires.kept in
+    let kept = kept_at c.args.self.now.text.now c.args.self.now.tables.items c.args.parts.now c.loop-part.part-index c.part-item.result (omega arith) c.part-item.is c.requires.kept in
     (search (rules, the_lemmas), (search rules, kept))
 
 pub ends-sequence_ends-requires : goal.ends-sequence_ends-requires
 ends-sequence_ends-requires t c =
-    let text = c.args.text.now in
-    let kept = subst (KeptList text) (sym c.as_slice.ensures.value) (from_Sequence text c.in-Sequence.parts (subst (Kept text) c.in-Sequence.is c.requires.kept)) in
+    let text = c.args.self.now.text.now in
+    let tables = c.args.self.now.tables.items in
+    let kept = subst (KeptList text tables) (sym c.as_slice.ensures.value) (from_Sequence text tables c.in-Sequence.parts (subst (Kept text tables) c.in-Sequence.is c.requires.kept)) in
     (search (rules, the_lemmas), (search rules, kept))
 
 pub ends-choice_ends-requires : goal.ends-choice_ends-requires
 ends-choice_ends-requires t c =
-    let text = c.args.text.now in
-    let kept = subst (KeptList text) (sym c.as_slice-in-Choice.ensures.value) (from_Choice text c.in-Choice.parts (subst (Kept text) c.in-Choice.is c.requires.kept)) in
+    let text = c.args.self.now.text.now in
+    let tables = c.args.self.now.tables.items in
+    let kept = subst (KeptList text tables) (sym c.as_slice-in-Choice.ensures.value) (from_Choice text tables c.in-Choice.parts (subst (Kept text tables) c.in-Choice.is c.requires.kept)) in
     (search (rules, the_lemmas), (search rules, kept))
+
+pub one_turn-returns-in-Some-get : goal.one_turn-returns-in-Some-get
+one_turn-returns-in-Some-get t c =
+    let member = Language (tree_of c.args.body.now) in
+    let text = c.args.self.now.text.now in
+    let tables = c.args.self.now.tables.items in
+    let number = c.in-Some.number in
+    let rows = c.in-Some-get.rows.now in
+    let found = c.in-Some-get.ensures.lookup in
+    let kept : IsKept text tables c.args.body.now (Some number) = subst (IsKept text tables c.args.body.now) c.in-Some.is c.requires.kept.1 in
+    let inside : number < length tables = subst (λ (x : List (Vec PositionSet Global)). number < length x) c.deref.ensures.value found.3.0 in
+    let is : rows ≡ get_or tables number rows = subst (λ (x : List (Vec PositionSet Global)). rows ≡ get_or x number rows) c.deref.ensures.value found.1 in
+    let table : IsTable member text c.as_slice.result.now = subst (λ (x : List PositionSet). IsTable member text x) (sym c.as_slice.ensures.value) (kept rows inside is) in
+    if_ok_map (λ (out : PositionSet). AreInRows c.as_slice.result.now c.args.starts.now out) (λ (out : PositionSet). AreEnds member text c.args.starts.now out) c.ends_in.result
+    (λ out a. table_ends member text c.as_slice.result.now c.args.starts.now out table c.requires.starts.over a) c.ends_in.ensures

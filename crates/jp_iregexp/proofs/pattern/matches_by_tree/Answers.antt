@@ -1,20 +1,20 @@
-use Rattle.std.proofs.Common.{◌≡◌, ◌↔◌, true}
+use Rattle.std.proofs.Common.{◌≡◌, ◌↔◌, ℕ, List, true, ◌∙◌, ap}
 use Rattle.jp_model.specs.Pattern.Language.{Language}
 use Rattle.jp_model.specs.Pattern.Membership.{is_in}
 use Rattle.jp_model.proofs.Pattern.Decides.{decides}
 use Rattle.jp_iregexp.specs.Nodes.{tree_of}
 use Rattle.jp_iregexp.proofs.Asked.{whole_sound, whole_complete, same_test}
-use Rattle.jp_iregexp.proofs.pattern.matches_scalars.Goals as goal
+use Rattle.jp_iregexp.proofs.pattern.matches_by_tree.Goals as goal
 
 pub returns : goal.returns
 returns c =
-    let pattern = tree_of c.args.node.now in
+    let pattern = tree_of c.args.compiled.now.root in
     let member = Language pattern in
-    let text = c.args.text.now in
+    let text = c.as_slice-scalars.result.now in
     let starts = c.in_ok-starts.starts in
     let ends = c.in_ok-reached.reached in
     let found : (c.contains.result ≡ true) ↔ member text = (
       λ h. whole_sound member text starts ends c.in_ok-starts.ensures.only c.in_ok-reached.ensures (c.contains.ensures.0 h),
       λ m. c.contains.ensures.1 (whole_complete member text starts ends c.in_ok-starts.ensures.has c.in_ok-reached.ensures m),
     ) in
-    same_test c.contains.result (is_in pattern text) (member text) found (decides pattern text)
+    same_test c.contains.result (is_in pattern text) (member text) found (decides pattern text) ∙ ap (λ (x : List ℕ). is_in pattern x) (c.as_slice-scalars.ensures.value ∙ c.in_ok-scalars.ensures)
