@@ -3,9 +3,9 @@
 ghost use Rattle.std.specs.Prelude.{◌≡◌, ◌<◌, false, length, slice_get, IfSome, MatchOption};
 ghost use Rattle.jp_model.specs.Query.Singular.{singular_steps};
 ghost use Rattle.jp_model.specs.Query.Syntax.{compare};
-ghost use Rattle.jp_model.specs.Plans.{mirrored, is_guard_operator, guard_on, only_filter, conjunct_guard, first_guard, conjuncts, segment_conjuncts, guard_of};
-ghost use Rattle.jp_query.specs.View.{comparable_view, op_view, literal_view, logical_view, path_view, segments_view, segment_view, selectors_view, selector_view};
-ghost use Rattle.jp_plan.specs.Paths.{alone, guard_at, is_indexed, path_guard};
+ghost use Rattle.jp_model.specs.Plans.{mirrored, is_guard_operator, guard_on, conjunct_guard, first_guard, conjuncts, segment_conjuncts, guard_of};
+ghost use Rattle.jp_query.specs.View.{comparable_view, op_view, literal_view, logical_view, path_view, segments_view, segment_view};
+ghost use Rattle.jp_plan.specs.Paths.{guard_at, is_indexed, path_guard};
 
 use crate::singular::spells;
 use jp_query::{Comparable, CompareOp, Literal, Logical, Origin, Path, Segment, Selector};
@@ -74,10 +74,8 @@ fn singular_guard<'q>(
     if !is_guard_operator(op) {
         return None;
     }
-    match find_index(store, segments) {
-        Some(index) => Some(Guard { index, op, literal }),
-        None => None,
-    }
+    let index = find_index(store, segments)?;
+    Some(Guard { index, op, literal })
 }
 
 /// The guard of a comparison of a path with a literal on its right.
@@ -106,16 +104,14 @@ fn compare_guard<'q>(
     ensures within { IfSome result (λ g. g.index < length store.now.state.paths) }
     ensures guard { guard_at store.now.state.paths result ≡ conjunct_guard store.now.state.paths (compare (comparable_view left.now) (op_view op) (comparable_view right.now)) }
 {
-    match left {
-        Comparable::Single(path) => match right {
-            Comparable::Constant(literal) => path_guard(store, path, op, literal),
-            Comparable::Single(_) | Comparable::Result(_) => None,
-        },
-        Comparable::Constant(literal) => match right {
-            Comparable::Single(path) => path_guard(store, path, mirror(op), literal),
-            Comparable::Constant(_) | Comparable::Result(_) => None,
-        },
-        Comparable::Result(_) => None,
+    match (left, right) {
+        (Comparable::Single(path), Comparable::Constant(literal)) => {
+            path_guard(store, path, op, literal)
+        }
+        (Comparable::Constant(literal), Comparable::Single(path)) => {
+            path_guard(store, path, mirror(op), literal)
+        }
+        _ => None,
     }
 }
 
@@ -139,39 +135,17 @@ fn logical_guard<'q>(store: &Store, logical: &'q Logical) -> Option<Guard<'q>>
     }
 }
 
-/// The first guard that a selector gives, if it is a filter.
-fn selector_guard<'q>(store: &Store, selector: &'q Selector) -> Option<Guard<'q>>
-    ensures within { IfSome result (λ g. g.index < length store.now.state.paths) }
-    ensures guard { guard_at store.now.state.paths result ≡ first_guard store.now.state.paths (only_filter (alone (selector_view selector.now))) }
-{
-    match selector {
-        Selector::Filter(condition) => logical_guard(store, condition),
-        Selector::Name(_) | Selector::Wildcard | Selector::Index(_) | Selector::Slice { .. } => {
-            None
-        }
-    }
-}
-
-/// The first guard that a filter gives, where it is the only selector.
-fn selectors_guard<'q>(store: &Store, selectors: &'q [Selector]) -> Option<Guard<'q>>
-    ensures within { IfSome result (λ g. g.index < length store.now.state.paths) }
-    ensures guard { guard_at store.now.state.paths result ≡ first_guard store.now.state.paths (only_filter (selectors_view selectors.now)) }
-{
-    if selectors.len() == 1 {
-        selector_guard(store, &selectors[0])
-    } else {
-        None
-    }
-}
-
 /// The first guard that a segment gives, whose only selector is a filter.
 fn segment_guard<'q>(store: &Store, segment: &'q Segment) -> Option<Guard<'q>>
     ensures within { IfSome result (λ g. g.index < length store.now.state.paths) }
     ensures guard { guard_at store.now.state.paths result ≡ first_guard store.now.state.paths (segment_conjuncts (segment_view segment.now)) }
 {
-    match segment {
-        Segment::Child(selectors) => selectors_guard(store, selectors),
-        Segment::Descendant(selectors) => selectors_guard(store, selectors),
+    let (Segment::Child(selectors) | Segment::Descendant(selectors)) = segment;
+    match selectors.as_slice() {
+        [Selector::Filter(condition)] => logical_guard(store, condition),
+        [_] => None,
+        [] => None,
+        [_, _, ..] => None,
     }
 }
 
