@@ -3,8 +3,8 @@
     refused_growths.py PROGRAM FOLDER LIBRARY
 
 FOLDER is for files. LIBRARY is `refuse.c` as it was built; where it is empty no growth can be refused, and the scripts are
-run without. What is stated of a run is computed by `script_model`, with the command left out in which the growth was refused,
-and for a run without a refusal it is also written out below.
+run without. What is stated of a run is what the program itself writes when no growth is refused, for the first commands, or
+with the command left out in which the growth was refused; what it writes for all commands is written out below.
 
 A run has to end with status 16 and the answers of the first commands before one, of none where the growth was refused while
 loading; or with status 0 where one command answered `error: memory`, one that may, and all others as without it. Status 16
@@ -18,10 +18,10 @@ import subprocess
 import sys
 import time
 
-from script_model import Store, answer, lines_of, wants_memory
-
 PROGRAM, FOLDER, LIBRARY = sys.argv[1:]
 MEMORY = "error: memory\n"
+# What a command answers that wants no memory: one that is empty, and one that is unknown.
+WITHOUT_MEMORY = ("", "error: command\n")
 NO_MEMORY = "jpq: out of memory\n"
 ASKED_AGAIN = "refused\nasked again\n"
 END = time.monotonic() + 70
@@ -282,14 +282,6 @@ class Run:
         return int(self.told) if self.told.strip().isdigit() else -1
 
 
-def answers_of(collection, commands, refused=None):
-    """What each command answers, where a growth is refused in the one at this place."""
-    store, answers = Store(lines_of(collection)), []
-    for place, command in enumerate(commands):
-        answers.append(MEMORY if place == refused else answer(store, command))
-    return answers
-
-
 def held_growths(commands):
     """How often the memory of a held command line grows for each command, the most; for one behind the last, never."""
     room, growths = 0, []
@@ -332,25 +324,38 @@ class Script:
 
     def __init__(self, name, collection, script, by_file):
         self.name, self.collection, self.script, self.by_file = name, collection, script, by_file
-        self.commands = lines_of(script)
-        self.whole = answers_of(collection, self.commands)
-        self.without = {place: answers_of(collection, self.commands, place)
-                        for place, command in enumerate(self.commands) if wants_memory(command)}
+        self.commands = script.splitlines()
+        self.fronts = [self.written(self.commands[:count]) for count in range(len(self.commands) + 1)]
+        self.without = {place: self.written_without(place) for place in range(len(self.commands)) if self.wants_memory(place)}
         self.held = held_growths(self.commands)
-        self.begun = {"".join(self.whole[:count]): count for count in reversed(range(len(self.commands) + 1))}
-        self.left_out = {"".join(answers): place for place, answers in self.without.items()}
+        self.begun = {front: count for count, front in reversed(list(enumerate(self.fronts)))}
+        self.left_out = {text: place for place, text in self.without.items()}
+
+    def written(self, commands):
+        """What the program writes for these commands, with no growth refused."""
+        return Run(self.collection, "".join(f"{command}\n" for command in commands), 0, self.by_file).out
+
+    def wants_memory(self, place):
+        """Whether the command there may answer that it had no memory."""
+        return self.fronts[place + 1][len(self.fronts[place]):] not in WITHOUT_MEMORY
+
+    def written_without(self, place):
+        """What is written where the command there answers that it had no memory, and changes nothing."""
+        front, others = self.fronts[place], self.commands[:place] + self.commands[place + 1:]
+        return front + MEMORY + self.written(others)[len(front):]
 
     def run(self, refused, next_too=False):
         return Run(self.collection, self.script, refused, self.by_file, next_too)
 
     def is_whole(self, run):
         """Whether a run ended as one without a refusal."""
-        return (run.status, run.out, run.err) == (0, "".join(self.whole), "")
+        return (run.status, run.out, run.err) == (0, self.fronts[-1], "")
 
     def whole_fault(self, run, stated):
         """What is wrong with a run without a refusal, or None."""
-        if "".join(self.whole) != stated:
-            return f"the model: {differs(''.join(self.whole), stated)}"
+        for front in self.fronts:
+            if not stated.startswith(front):
+                return f"the first commands alone: {differs(front, stated)}"
         if run.status != 0 or run.err:
             return f"status {run.status} for 0, said: {run.err!r}"
         return None if run.out == stated else differs(run.out, stated)
@@ -361,7 +366,7 @@ class Script:
             if run.err != NO_MEMORY:
                 return f"status 16, said: {run.err!r}", before
             if run.out not in self.begun:
-                return f"status 16, and not the first answers: {differs(run.out, ''.join(self.whole))}", before
+                return f"status 16, and not the first answers: {differs(run.out, self.fronts[-1])}", before
             place = self.begun[run.out]
             if loading and place:
                 return f"status 16 while loading, and {place} commands were answered", before
@@ -379,15 +384,15 @@ class Script:
 
     def nearest(self, out):
         """How an output differs from the one that has the same command left out, or none."""
-        if out == "".join(self.whole):
+        if out == self.fronts[-1]:
             return "a growth was refused and not asked for again, and every command was answered as without that"
         if MEMORY not in out:
-            return f"a growth was refused, and no command answered that: {differs(out, ''.join(self.whole))}"
+            return f"a growth was refused, and no command answered that: {differs(out, self.fronts[-1])}"
         front = out[:out.index(MEMORY)]
-        for place, answers in self.without.items():
-            if "".join(answers[:place]) == front:
-                return f"{self.commands[place]!r} refused: {differs(out, ''.join(answers))}"
-        return f"refused where no command begins: {differs(out, ''.join(self.whole))}"
+        for place, text in self.without.items():
+            if self.fronts[place] == front:
+                return f"{self.commands[place]!r} refused: {differs(out, text)}"
+        return f"refused where no command begins: {differs(out, self.fronts[-1])}"
 
     def each_refused(self, checks, stated):
         """Refuses each growth in turn, until a run meets no refusal, and tells how many were refused."""
@@ -431,10 +436,9 @@ def command_growths(line, lines, made, command, stated):
     return runs[1].growths() - runs[0].growths()
 
 
-def edit_growths(lines, made):
-    """How many growths `replace 1 2` has on so many lines `1`."""
-    scripts = (made, made + "replace 1 2\n")
-    return command_growths("1", lines, made, "replace 1 2\n", ["".join(answers_of("1\n" * lines, lines_of(it))) for it in scripts])
+def edit_growths(lines, made, told):
+    """How many growths `replace 1 2` has on so many lines `1`, behind commands that tell this."""
+    return command_growths("1", lines, made, "replace 1 2\n", [told, told + "replaced 1\n"])
 
 
 def pattern_growths(lines, condition):
@@ -446,8 +450,8 @@ def pattern_growths(lines, condition):
 def check_growths(checks):
     """The growths of an edit or a query do not come with the number of lines: a text that runs through the states of a pattern has
     none."""
-    cases = [("an edit", lambda lines: edit_growths(lines, "")),
-             ("an edit with an index", lambda lines: edit_growths(lines, "index $\n")),
+    cases = [("an edit", lambda lines: edit_growths(lines, "", "")),
+             ("an edit with an index", lambda lines: edit_growths(lines, "index $\n", f"indexed {lines}\n")),
              ("a pattern", lambda lines: pattern_growths(lines, r"match(@,'((a*)*b?)*\\p{Nd}')")),
              ("a search", lambda lines: pattern_growths(lines, "search(@,'(a|b){3,30}[0-9]+')"))]
     for name, growths in cases:
