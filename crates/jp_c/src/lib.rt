@@ -1,5 +1,5 @@
-//! jpq for C: a handle that has a collection, the scripts that are run over it, and what they answer. The calls and their statuses
-//! are described in `c/jpq.h`.
+//! jpq for C: a handle that has a collection, the scripts that are run over it, and what they answer. The calls and their
+//! statuses are described in `c/jpq.h`.
 //!
 //! Public calls:
 //!
@@ -104,11 +104,12 @@ pub extern "C" fn jpq_open(
     }
 }
 
-/// Runs the commands of a script over the collection, and keeps what they answer. What was left of the answer before is dropped.
+/// Runs the commands of a script over the collection, and keeps what they answer. What was left of the answer before is
+/// dropped.
 ///
-/// The status is 1 where the handle is not open, 14 where the script has more than 4,294,967,295 bytes, of which none is run then
-/// and nothing changes, and 16 where a growth was refused while a command line was held, or for the answer. Then some first commands
-/// were run, what they changed stays, and a beginning of their answers is left to be read.
+/// The status is 1 where the handle is not open, 14 where the script has more than 4,294,967,295 bytes, of which none is run
+/// then and nothing changes, and 16 where a growth was refused while a command line was held, or for the answer. Then some
+/// first commands were run, what they changed stays, and a beginning of their answers is left to be read.
 #[unsafe(no_mangle)]
 pub extern "C" fn jpq_ask(alloc: Global, handle: &mut Jpq, script: &[u8]) -> u32
     ensures shut { handle.old.session ≡ None → (result ≡ 1) × (handle.new.session ≡ None) }

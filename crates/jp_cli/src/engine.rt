@@ -37,7 +37,8 @@ pub fn run<C: Read, R: Read, W: Write>(
     requires collection { collection.old.failed ≡ false }
     requires script { script.old.failed ≡ false }
     requires out { out.old.failed ≡ false }
-    // The readers gave some bytes. At Ok they gave all, and the writer received the output for them; else what `RunStopped` says.
+    // The readers gave some bytes. At Ok they gave all, and the writer received the output for them; else what `RunStopped`
+    // says.
     ensures output { (given : GivenToRun)
         × GaveUpTo C.remaining collection.old collection.new given.collection
         × GaveUpTo R.remaining script.old script.new given.script

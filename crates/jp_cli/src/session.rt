@@ -13,8 +13,8 @@ use jp_store::{Opened, Store};
 use std::alloc::Global;
 use std::io::{Read, Write};
 
-/// A collection that is held, over which scripts are run, one after another. Each begins with the lines and the indexes that the
-/// ones before it left.
+/// A collection that is held, over which scripts are run, one after another. Each begins with the lines and the indexes that
+/// the ones before it left.
 #[derive(Drop)]
 pub struct Session {
     pub(crate) store: Store,
@@ -45,14 +45,15 @@ impl Session {
     /// Runs the commands of a script over the collection, and writes what they answer.
     ///
     /// Each command is answered as its line feed comes, and its answer is whole before its first byte is written. The writer is
-    /// flushed before each read of the script where it took bytes since, or came with bytes that were unflushed. No read follows
-    /// one that answered 0, one that failed, or the byte past the limit, and no write follows one that failed or took no byte.
+    /// flushed before each read of the script where it took bytes since, or came with bytes that were unflushed. No read
+    /// follows one that answered 0, one that failed, or the byte past the limit, and no write follows one that failed or took
+    /// no byte.
     ///
     /// # Errors
     ///
-    /// `ReadScript` if a read failed or the script has more bytes than it may have, `Write` if a write failed or took no byte, or
-    /// a flush failed, and `Memory` if a growth was refused while a command line was held. Some first ones of the commands were
-    /// run then, and what they changed stays.
+    /// `ReadScript` if a read failed or the script has more bytes than it may have, `Write` if a write failed or took no byte,
+    /// or a flush failed, and `Memory` if a growth was refused while a command line was held. Some first ones of the commands
+    /// were run then, and what they changed stays.
     pub fn run<R: Read, W: Write>(
         &mut self,
         script: &mut Watched<R>,
@@ -60,14 +61,15 @@ impl Session {
     ) -> Result<(), RunFault>
         requires script { script.old.failed ≡ false }
         requires out { out.old.failed ≡ false }
-        // The reader gave some bytes. At Ok it gave all, the writer received the answers to them, and the collection is what they
-        // made of it; else what `HasStopped` says, and what some first commands made of it.
+        // The reader gave some bytes. At Ok it gave all, the writer received the answers to them, and the collection is what
+        // they made of it; else what `HasStopped` says, and what some first commands made of it.
         ensures output { (came : Came) × GaveUpTo R.remaining script.old script.new came × MatchResult result
             (λ _. (came.ended ≡ true)
             × HasRun query_of command_of W.contents out.old out.new (setup_of self.old) (state_of self.old) came.bytes (state_of self.new))
             (λ fault. HasStopped query_of command_of W.contents out.old out.new (setup_of self.old) (state_of self.old) fault came
             × HasRunFirst query_of command_of W.contents out.old out.new (setup_of self.old) (state_of self.old) (lines_within (setup_of self.old) came) (state_of self.new)) }
-        // In short: of a reader that tells its bytes, Ok means the answers to all of them, and an Err those of some first commands.
+        // In short: of a reader that tells its bytes, Ok means the answers to all of them, and an Err those of some first
+        // commands.
         ensures told { MatchResult result
             (λ _. IfSome (R.remaining script.old.device) (λ s.
             HasRun query_of command_of W.contents out.old out.new (setup_of self.old) (state_of self.old) s (state_of self.new)))

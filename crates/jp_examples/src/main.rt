@@ -82,6 +82,7 @@ fn check_files(rt: &HostRuntime) -> Result<bool, AllocError> {
     Ok(is_right)
 }
 
+/// Checks the files of examples that are named, and ends with 0 where all are as written.
 fn main(rt: HostRuntime) -> ExitCode {
     match check_files(&rt) {
         Ok(true) => ExitCode::from(0),

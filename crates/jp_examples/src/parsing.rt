@@ -120,6 +120,7 @@ fn set<T: Drop>(setting: &mut Option<T>, value: T) -> Result<(), Reason> {
     Ok(())
 }
 
+/// The framing that a word names.
 fn framing_of(value: &str) -> Result<Framing, Reason> {
     if value == "sequence" {
         Ok(Framing::Sequence)
@@ -128,6 +129,7 @@ fn framing_of(value: &str) -> Result<Framing, Reason> {
     }
 }
 
+/// The number that digits spell.
 fn number_of(value: &str) -> Result<u32, Reason> {
     if !value.bytes().all(|digit| digit.is_ascii_digit()) {
         return Err(Reason::Number);
@@ -135,6 +137,7 @@ fn number_of(value: &str) -> Result<u32, Reason> {
     value.parse::<u32>().map_err(|_| Reason::Number)
 }
 
+/// The fault that words name, with which a run ends.
 fn fault_of(value: &str) -> Result<RunFault, Reason> {
     match value {
         "size" => Ok(RunFault::Size),

@@ -19,6 +19,7 @@ struct Cutting<'a> {
 }
 
 impl<'a> Cutting<'a> {
+    /// Over these bytes.
     fn new(bytes: &'a [u8], most: usize) -> Cutting<'a> {
         Cutting { rest: bytes, most }
     }

@@ -29,7 +29,8 @@ pub enum Shown {
     Nothing,
     /// The line.
     Line,
-    /// Each value that the queries select, in a row of its own; with its normalized path and a tab in front where they are wanted.
+    /// Each value that the queries select, in a row of its own; with its normalized path and a tab in front where they are
+    /// wanted.
     Values { paths: bool },
     /// A cell for each query: empty where it selects no node, else of the first one.
     Cells(Table),

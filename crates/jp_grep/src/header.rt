@@ -31,8 +31,8 @@ fn make_header(
     Ok(row)
 }
 
-/// Writes what stands above the rows, where they are those of a table: the queries as they were given, behind the names of the cells
-/// in front.
+/// Writes what stands above the rows, where they are those of a table: the queries as they were given, behind the names of the
+/// cells in front.
 ///
 /// # Errors
 ///

@@ -113,8 +113,8 @@ impl<'a> Options<'a> {
         self.queries.is_empty() && self.conditions.is_empty()
     }
 
-    /// The queries that the words name: those of `-e`, or the first word where there is neither `-e` nor `-w`. With `-w` alone it is
-    /// `$`.
+    /// The queries that the words name: those of `-e`, or the first word where there is neither `-e` nor `-w`. With `-w` alone
+    /// it is `$`.
     pub fn queries(&self) -> &[&'a str]
         ensures { map (λ s. s.now) result.now ≡ asked_queries self.now }
     {
@@ -145,8 +145,8 @@ impl<'a> Options<'a> {
         }
     }
 
-    /// How many selected lines of each file are wanted: as many as `-m` says, or else as 64 bits count. Where the first decides, it
-    /// is no more than one.
+    /// How many selected lines of each file are wanted: as many as `-m` says, or else as 64 bits count. Where the first
+    /// decides, it is no more than one.
     pub fn most(&self) -> u64
         ensures { result ≡ asked_most self.now }
     {

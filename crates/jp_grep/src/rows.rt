@@ -147,7 +147,8 @@ fn write_path_front<W: Write>(
     write_whole(b"\t", out)
 }
 
-/// Writes the row of a node whose value and line feed are these bytes: most rows are so short that one write costs as much as they do.
+/// Writes the row of a node whose value and line feed are these bytes: most rows are so short that one write costs as much as
+/// they do.
 fn write_spelled<W: Write>(
     form: &Form<'_>,
     paths: bool,

@@ -29,8 +29,8 @@ const NOT_SELECTED: u8 = 1;
 /// The exit status where something was refused or failed.
 const FAULT: u8 = 2;
 
-/// A run over files: what they are asked, the writers of the rows and of the messages, each behind a buffer of 8192 bytes, and what
-/// came of the files so far.
+/// A run over files: what they are asked, the writers of the rows and of the messages, each behind a buffer of 8192 bytes, and
+/// what came of the files so far.
 #[derive(Drop)]
 pub struct Run<'q, W: Write + Drop, E: Write + Drop> {
     alloc: Global,
@@ -123,8 +123,8 @@ impl<'q, W: Write + Drop, E: Write + Drop> Run<'q, W, E> {
         written
     }
 
-    /// Searches a stream, as `search` does. What is said of the two writers is said of those behind the buffers, as they are once they
-    /// took what the buffers hold.
+    /// Searches a stream, as `search` does. What is said of the two writers is said of those behind the buffers, as they are
+    /// once they took what the buffers hold.
     ///
     /// # Errors
     ///
@@ -182,8 +182,8 @@ impl<'q, W: Write + Drop, E: Write + Drop> Run<'q, W, E> {
         }
     }
 
-    /// Ends the run: what the buffers hold is written, and both writers are flushed. One of which a call failed is not called again.
-    /// A write or a flush that fails is told by the status, as all that was refused or failed before.
+    /// Ends the run: what the buffers hold is written, and both writers are flushed. One of which a call failed is not called
+    /// again. A write or a flush that fails is told by the status, as all that was refused or failed before.
     pub fn finish(self) -> Finished<W, E>
         ensures rows { Took result.rows (filled self.entry.rows.device) }
         ensures messages { Took result.messages (filled self.entry.messages.device) }

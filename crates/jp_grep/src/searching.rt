@@ -175,18 +175,18 @@ fn search_lines<R: Read, W: Write, E: Write>(
     Err(SearchFault::Size)
 }
 
-/// Searches a stream: reads it piece by piece, and answers each line as it comes. A row is written for each selected line, and a
-/// message for each refused one; behind the rows what the form asks for. A byte order mark at the front is dropped.
+/// Searches a stream: reads it piece by piece, and answers each line as it comes. A row is written for each selected line, and
+/// a message for each refused one; behind the rows what the form asks for. A byte order mark at the front is dropped.
 ///
-/// Before each read both writers are flushed where they took bytes since, and each line that ended is answered. No read follows one
-/// that answered 0, one that failed, or the last line that is wanted, and no write follows one that failed or took no byte.
+/// Before each read both writers are flushed where they took bytes since, and each line that ended is answered. No read follows
+/// one that answered 0, one that failed, or the last line that is wanted, and no write follows one that failed or took no byte.
 ///
 /// # Errors
 ///
-/// `Read` if a read failed: each line that ended before is answered. `Framing` if bytes other than white space come before the first
-/// separator of a sequence: nothing is written then. The first read tells it, where it brings three bytes or more. `Size` if a line is
-/// longer than 4,294,967,294 bytes, `Memory` if a growth was refused, `Write` and `Report` if a row or a message was not written: then
-/// a beginning of the answer was.
+/// `Read` if a read failed: each line that ended before is answered. `Framing` if bytes other than white space come before the
+/// first separator of a sequence: nothing is written then. The first read tells it, where it brings three bytes or more. `Size`
+/// if a line is longer than 4,294,967,294 bytes, `Memory` if a growth was refused, `Write` and `Report` if a row or a message
+/// was not written: then a beginning of the answer was.
 pub fn search<R: Read, W: Write, E: Write>(
     alloc: Global,
     question: &Question,
@@ -199,7 +199,8 @@ pub fn search<R: Read, W: Write, E: Write>(
     requires unended { input.old.ended ≡ false }
     requires writes { out.old.failed ≡ false }
     requires reports { messages.old.failed ≡ false }
-    // The reader gave some bytes. At Ok all lines up to the last one that is wanted are answered; else what `SearchStopped` says.
+    // The reader gave some bytes. At Ok all lines up to the last one that is wanted are answered; else what `SearchStopped`
+    // says.
     ensures output { (came : Came) × GaveUpTo R.remaining input.old input.new came × MatchResult result
         (λ counts. Searched W.contents E.contents question.now form.now out.old out.new messages.old messages.new came counts)
         (λ fault. SearchStopped W.contents E.contents question.now form.now out.old out.new messages.old messages.new fault came) }

@@ -12,7 +12,8 @@ use jp_strings::{Scalars, plain_text};
 use jp_tape::{Cursor, Kind};
 use std::alloc::{AllocError, Global};
 
-/// Appends the characters that the body of a string spells, in UTF-8 (RFC 8259, section 7). Only a body with an escape is decoded.
+/// Appends the characters that the body of a string spells, in UTF-8 (RFC 8259, section 7). Only a body with an escape is
+/// decoded.
 fn append_body(body: &[u8], text: &mut Vec<u8>) -> Result<(), AllocError>
     requires { IsText body.now }
     ensures { OnOk result (text.new.items ≡ text.old.items ++ encode_utf8_all (points_of body.now)) }
@@ -84,7 +85,8 @@ impl Speller {
         Ok(self.text.push(b'\n')?)
     }
 
-    /// Spells a value as a cell has it: an array or an object in canonical form. If memory is refused, the text is to be forgotten.
+    /// Spells a value as a cell has it: an array or an object in canonical form. If memory is refused, the text is to be
+    /// forgotten.
     pub(crate) fn spell_cell(&mut self, node: Cursor<'_>) -> Result<(), AllocError>
         ensures { OnOk result (self.new.text.items ≡ cell_of (line_of node.entry) (node_of node.entry).tree) }
     {

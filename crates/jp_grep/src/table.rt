@@ -34,8 +34,8 @@ fn append_byte(table: Table, byte: u8, text: &mut Vec<u8>) -> Result<(), AllocEr
     }
 }
 
-/// Appends the bytes from a position on that are no quote, no backslash and no control character, or the one that is: the position
-/// behind them.
+/// Appends the bytes from a position on that are no quote, no backslash and no control character, or the one that is: the
+/// position behind them.
 fn append_some(
     table: Table,
     cell: &[u8],

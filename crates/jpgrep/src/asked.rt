@@ -6,8 +6,8 @@ use jp_grep::{Options, Question};
 use jp_query::is_singular;
 use jp_types::{read_condition, read_query};
 
-/// Adds a query, and warns of its patterns that are none unless all messages are silent. One that is a column of a table selects no
-/// more than one node of any line.
+/// Adds a query, and warns of its patterns that are none unless all messages are silent. One that is a column of a table
+/// selects no more than one node of any line.
 fn add_query<'a>(
     rt: &HostRuntime,
     question: &mut Question,

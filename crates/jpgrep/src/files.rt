@@ -136,8 +136,8 @@ impl<'q> Searcher<'q> {
         }
     }
 
-    /// Ends the run, tells of rows or messages that were not written, and gives the exit status. A pipe that nobody reads any more is
-    /// no news.
+    /// Ends the run, tells of rows or messages that were not written, and gives the exit status. A pipe that nobody reads any
+    /// more is no news.
     fn end(self) -> u8 {
         let rt = self.rt;
         let finished = self.run.finish();
@@ -166,8 +166,8 @@ fn find_output(rt: &HostRuntime, options: &Options<'_>) -> Option<RegularFile> {
     }
 }
 
-/// Searches the files of the words in turn, and gives the exit status: 0 if a line was selected, 1 if none was, 2 if something was
-/// refused or failed. The header of a table stands above all rows.
+/// Searches the files of the words in turn, and gives the exit status: 0 if a line was selected, 1 if none was, 2 if something
+/// was refused or failed. The header of a table stands above all rows.
 ///
 /// # Errors
 ///

@@ -95,6 +95,7 @@ fn run_arguments(rt: &HostRuntime) -> u8 {
     run_words(rt, texts.as_slice())
 }
 
+/// Runs the program.
 fn main(rt: HostRuntime) -> ExitCode {
     ExitCode::from(run_arguments(&rt))
 }

@@ -97,6 +97,7 @@ fn run_arguments(rt: &HostRuntime) -> End {
     run_words(rt, texts.as_slice())
 }
 
+/// Runs the program, and says at its end what went wrong.
 fn main(rt: HostRuntime) -> ExitCode {
     let end = run_arguments(&rt);
     let message = end.message();
