@@ -106,6 +106,23 @@ def memory_of_deep_lines(checks):
         checks.check(f"memory of deep lines, {name}, times the line: {told}", peak <= 8 * os.path.getsize(lines), True)
 
 
+def memory_of_what_is_remembered(checks):
+    """What is remembered of a line takes at most eight bytes for each of its nodes and a megabyte, however many steps a query has. Two
+    megabytes more are for what two runs differ by."""
+    lines, nodes = file_of("lines", "[" + ",".join(["[[]]"] * (MILLION // 2)) + "]\n"), MILLION + 1
+
+    def peak_of(command):
+        script = file_of("script", f"{command}\n")
+        with subprocess.Popen([PROGRAM, lines, "--script", script], stdout=subprocess.PIPE) as run:
+            run.stdout.read()
+            return os.wait4(run.pid, 0)[2].ru_maxrss * 1024
+
+    alone = peak_of("query $.a")
+    for name, query in (("5,000 descendants", "$" + "..a" * 5000), ("wildcards", "$..*..*..*..zz"), ("filters", "$..[?@..*..[?@..zz]]")):
+        more = peak_of(f"query {query}") - alone
+        checks.check(f"memory of what is remembered, {name}: {more} bytes", more <= 8 * nodes + 3 * 2**20, True)
+
+
 def texts_cut_short(checks):
     """No beginning of a text is a text."""
     text = '{"a":[{"b":1},{"b":2}],"b":3}'
@@ -382,13 +399,16 @@ def counts_of_many_nodes(checks):
 
 
 def dead_ends(checks):
-    """A node from which nothing is selected is walked once, by however many ways a query comes to it."""
+    """A node from which nothing is selected is walked once, and a filter asked of a node once, by however many ways they come to it."""
     deep = "[" * 512 + "]" * 512 + "\n"
     twice = "$" + "[0,0]" * 24 + ".a"
-    objects, names = '{"a":' * 512 + "1" + "}" * 512 + "\n", "$" + "..a" * 64 + "..zz"
+    objects, names = '{"a":' * 256 + "1" + "}" * 256 + "\n", "$" + "..a" * 128 + "..zz"
     cases = [(deep, query) for query in ("$..*..*..*..*..zz", "$..*..[0,*]..[?@.zz].*..zz", twice, "$[?@..*..*..*..*..zz]",
                                          "$[?count(@..*..*..*..*..zz)>0]", "$[?value(@..*..*..*..*..zz)==1]")]
-    for line, query in cases + [(objects, names)]:
+    filters = "@.*"
+    for _ in range(8):
+        filters = f"!@..[?{filters}]"
+    for line, query in cases + [(objects, names), (deep, f"$[?{filters}]")]:
         before = seconds_so_far()
         checks.check(f"dead ends of {query[:40]}", answered(line, f"query {query}\n"), (0, "= 0\n"))
         checks.check(f"a second for dead ends of {query[:40]}", seconds_so_far() - before < 1, True)
@@ -472,11 +492,12 @@ def sizes(checks):
 
 def main():
     checks = Checks()
-    for part in (texts_of_brackets, memory_of_deep_lines, texts_cut_short, texts_of_backslashes, texts_of_each_form_of_tape,
-                 lines_behind_long_ones, objects_of_many_members, many_lines, lines_of_one_key, edits_of_many_lines,
-                 texts_of_numbers, texts_of_names, queries, patterns, long_texts, turns_in_turns, long_numbers, objects_turned,
-                 large_objects, filters_from_the_root, conditions_of_the_root, texts_from_the_root, counts_of_many_nodes,
-                 dead_ends, indexes_of_one_array, checks_of_many_lines, queries_of_one_line, devices, sizes):
+    for part in (texts_of_brackets, memory_of_deep_lines, memory_of_what_is_remembered, texts_cut_short,
+                 texts_of_backslashes, texts_of_each_form_of_tape, lines_behind_long_ones, objects_of_many_members,
+                 many_lines, lines_of_one_key, edits_of_many_lines, texts_of_numbers, texts_of_names, queries, patterns,
+                 long_texts, turns_in_turns, long_numbers, objects_turned, large_objects, filters_from_the_root,
+                 conditions_of_the_root, texts_from_the_root, counts_of_many_nodes, dead_ends, indexes_of_one_array,
+                 checks_of_many_lines, queries_of_one_line, devices, sizes):
         part(checks)
     print(f"{checks.passed} passed, {checks.failed} failed")
     return 1 if checks.failed else 0
