@@ -23,8 +23,8 @@ abbrev pub IsOpened : Setup → List ℕ → Option Session → Type 0
 IsOpened setup collection None = ⊥
 IsOpened setup collection (Some new) = MayLoad setup collection × (setup_of new.collection ≡ setup) × (state_of new.collection ≡ loaded setup collection) × (left_in new ≡ [])
 
--- The commands of the script were run, and what they answer is left to be read. A flag tells for each whether a growth was refused
--- in it.
+-- The commands of the script were run, and what they answer is left to be read. A flag tells for each whether a growth was
+-- refused in it.
 abbrev pub Answers : Session → Session → List ℕ → Type 0
 Answers old new script = (flags : List Bool) × OnlyForMemory command_of (command_lines script) flags
     × (length script ≤ (setup_of old.collection).script_most)

@@ -1,6 +1,6 @@
--- Canonical text: one text for all values that are equal (RFC 9535, section 2.3.5.2.2), in the manner of RFC 8785. Where it differs
--- from RFC 8785: numbers have all their digits, as none becomes a float, and members are ordered by the scalars of their names, as
--- RFC 9535 orders strings, not by UTF-16 code units.
+-- Canonical text: one text for all values that are equal (RFC 9535, section 2.3.5.2.2), in the manner of RFC 8785. Where it
+-- differs from RFC 8785: numbers have all their digits, as none becomes a float, and members are ordered by the scalars of
+-- their names, as RFC 9535 orders strings, not by UTF-16 code units.
 use Rattle.std.specs.Prelude.{ℕ, ◌/◌, ◌%◌, ◌==◌, ◌||◌, nat_lt, List, [], ◌∷◌, ◌++◌, map, flat_map, Some, None, encode_utf8, codes, if◌then◌else◌}
 use Rattle.std.specs.List.{join_with_byte}
 use Rattle.jp_model.specs.Json.Spelling.{word_of, null_word, opening, closing}

@@ -1,4 +1,5 @@
--- One text for each exact value of a number: the layout of RFC 8785, section 3.2.2.3, with all digits in place of those of a float.
+-- One text for each exact value of a number: the layout of RFC 8785, section 3.2.2.3, with all digits in place of those of a
+-- float.
 use Rattle.std.specs.Prelude.{ℕ, ◌+◌, ◌-◌, ◌&&◌, ◌==◌, List, [], ◌∷◌, ◌++◌, length, map, take, drop, replicate, ℤ, pos, negsuc, ◌+ℤ◌, ◌-ℤ◌, nat_abs, int_le, int_lt, if◌then◌else◌}
 use Rattle.std.specs.Int.Digits.{digits_of}
 use Rattle.std.specs.List.{list_all}

@@ -11,16 +11,16 @@ use Rattle.jp_model.specs.Script.Machine.{OnlyForMemory, State, run_commands}
 
 -- The status of a query, and what a command line asks for, are parameters.
 module _ (query_of : List ℕ → QueryStatus) (asked : List ℕ → Command) {W : Type 0} (contents : W → Option (List ℕ)) (out_old out_new : Device W) (setup : Setup) (old : State) where
-  -- The script fits, its commands were run, the writer received their answers, and this is the state that they leave. A flag tells
-  -- for each whether a growth was refused in it.
+  -- The script fits, its commands were run, the writer received their answers, and this is the state that they leave. A flag
+  -- tells for each whether a growth was refused in it.
   abbrev pub HasRun : List ℕ → State → Type 0
   HasRun script new = (length script ≤ setup.script_most) × (flags : List Bool)
       × OnlyForMemory asked (command_lines script) flags
       × Received contents out_old out_new (run_commands query_of asked setup old (command_lines script) flags).written
       × (new ≡ (run_commands query_of asked setup old (command_lines script) flags).after)
 
-  -- Some first ones of these command lines were run, the writer received a beginning of their answers, and this is the state that
-  -- they leave.
+  -- Some first ones of these command lines were run, the writer received a beginning of their answers, and this is the state
+  -- that they leave.
   abbrev pub HasRunFirst : List (List ℕ) → State → Type 0
   HasRunFirst commands new = (first : List (List ℕ)) × BeginsLines first commands × (flags : List Bool) × (part : List ℕ)
       × OnlyForMemory asked first flags

@@ -1,4 +1,5 @@
--- What the program's words ask for (profile): `jpq FILE [-c COMMAND].. [--script FILE] [--seq]`, read as the crate `clap` reads words.
+-- What the program's words ask for (profile): `jpq FILE [-c COMMAND].. [--script FILE] [--seq]`, read as the crate `clap` reads
+-- words.
 use Rattle.std.specs.Prelude.{true, false, List, [], ◌∷◌, Option, Some, None, codes, if◌then◌else◌, unwrap_or}
 use Rattle.std.specs.Option.{option_map_or}
 use Rattle.std.specs.Str.{bytes_eq}

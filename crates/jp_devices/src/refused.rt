@@ -15,8 +15,8 @@ fn shown(alloc: Global, bytes: &[u8]) -> Result<String, AllocError> {
     Ok(text)
 }
 
-/// Says in the name of a program which word is the first that is not UTF-8, as far as it can be shown. Of a word of more than 4096
-/// bytes it says only that there is one.
+/// Says in the name of a program which word is the first that is not UTF-8, as far as it can be shown. Of a word of more than
+/// 4096 bytes it says only that there is one.
 pub fn refuse_word(rt: &HostRuntime, program: &str) {
     let mut room = [0; 4096];
     for number in 0..usize::MAX {

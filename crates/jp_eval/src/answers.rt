@@ -15,8 +15,8 @@ use crate::program::{Found, Slot, Step, Test};
 use jp_values::Value;
 
 impl<'p, 'a> Run<'p, 'a> {
-    /// Makes room for answers. There is none yet where the query goes one step to children: each of its filters is met once then, and
-    /// one that asks of several children makes room itself.
+    /// Makes room for answers. There is none yet where the query goes one step to children: each of its filters is met once
+    /// then, and one that asks of several children makes room itself.
     #[inline(always)]
     pub(crate) fn begin(self, steps: &[Step], frame: &mut Frame<'a>) -> Result<()>
         requires { AreKept self frame.old.answers.items }
@@ -31,7 +31,8 @@ impl<'p, 'a> Run<'p, 'a> {
         }
     }
 
-    /// Makes room for the answers that the part at hand refers to, where it may ask for one of them again. What is asked once is not kept.
+    /// Makes room for the answers that the part at hand refers to, where it may ask for one of them again. What is asked once
+    /// is not kept.
     #[inline(never)]
     pub(crate) fn prepare(self, frame: &mut Frame<'a>) -> Result<()>
         requires { AreKept self frame.old.answers.items }

@@ -153,7 +153,8 @@ impl Compiler {
         }
     }
 
-    /// The condition of a filter. Where a second way may lead to a node, what it answers is remembered, but for what is soon asked again.
+    /// The condition of a filter. Where a second way may lead to a node, what it answers is remembered, but for what is soon
+    /// asked again.
     #[cycle(compile)]
     fn compile_filter(&mut self, expression: &Logical) -> Result<Condition>
         requires literals { logical_passes (logical_view expression.now) readable ≡ true }

@@ -1,5 +1,5 @@
-//! Dead ends: nodes from which the last steps of a query select nothing. They are remembered as long as the query is walked, so that a
-//! second way to such a node is not walked again.
+//! Dead ends: nodes from which the last steps of a query select nothing. They are remembered as long as the query is walked, so
+//! that a second way to such a node is not walked again.
 
 ghost use Rattle.std.specs.Prelude.{◌≡◌, ◌<◌, ◌∷◌, [], length, true};
 ghost use Rattle.jp_tape.specs.Cursors.{line_of, node_of};
@@ -12,8 +12,8 @@ use crate::places::Places;
 use crate::program::Step;
 use jp_tape::Cursor;
 
-/// The dead ends of a line take at most so many bytes for each of its nodes, and `SHARED` beside. What conditions answered of its nodes
-/// takes as much.
+/// The dead ends of a line take at most so many bytes for each of its nodes, and `SHARED` beside. What conditions answered of
+/// its nodes takes as much.
 const EACH: u64 = 4;
 
 /// Half a megabyte.
@@ -87,8 +87,8 @@ impl<'p, 'a> Run<'p, 'a> {
 }
 
 impl<'r, 'a> Walk<'r, 'a> {
-    /// Whether dead ends of a step and those behind it are remembered: where a second way may lead to a node. A name or an index is
-    /// found again sooner than it is looked up.
+    /// Whether dead ends of a step and those behind it are remembered: where a second way may lead to a node. A name or an
+    /// index is found again sooner than it is looked up.
     #[inline(always)]
     pub(crate) fn remembers(self, step: &Step, rest: &[Step]) -> bool {
         match step {
@@ -97,8 +97,8 @@ impl<'r, 'a> Walk<'r, 'a> {
         }
     }
 
-    /// Remembers a dead end where no node was found or counted since there were so many, though more were looked for. A node without
-    /// children is soon walked again.
+    /// Remembers a dead end where no node was found or counted since there were so many, though more were looked for. A node
+    /// without children is soon walked again.
     #[inline(always)]
     pub(crate) fn note_where_none(
         self,
@@ -125,8 +125,8 @@ impl<'r, 'a> Walk<'r, 'a> {
         }
     }
 
-    /// Adds what a query within a filter selects from a node, as long as fewer nodes than `most` were found. It has dead ends of its
-    /// own.
+    /// Adds what a query within a filter selects from a node, as long as fewer nodes than `most` were found. It has dead ends
+    /// of its own.
     #[cycle(eval)]
     pub(crate) fn push_query(
         self,

@@ -82,8 +82,8 @@ impl Program {
         walk.push_steps(start, &self.steps, frame)
     }
 
-    /// Finds the nodelist that `run` adds, in a frame that lends its room from line to line: `found` of it is the nodelist then, and
-    /// what it had found before is forgotten.
+    /// Finds the nodelist that `run` adds, in a frame that lends its room from line to line: `found` of it is the nodelist
+    /// then, and what it had found before is forgotten.
     ///
     /// If memory is refused, the answer is `AllocError`, and the frame can be lent again.
     pub fn run_in<'a>(

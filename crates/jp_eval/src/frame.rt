@@ -58,8 +58,8 @@ pub(crate) enum Answer<'a> {
     OfNodes(Vec<Option<bool>>),
 }
 
-/// The nodes that were found, and what was answered of what is asked once, by the positions of the slots. It lends its room from line
-/// to line.
+/// The nodes that were found, and what was answered of what is asked once, by the positions of the slots. It lends its room
+/// from line to line.
 #[derive(Drop)]
 pub struct Frame<'a> {
     pub(crate) found: Vec<Cursor<'a>>,

@@ -21,7 +21,8 @@ use crate::program::{Choice, Condition, Step};
 use jp_tape::Cursor;
 
 impl<'r, 'a> Walk<'r, 'a> {
-    /// Adds what the steps select from a node, as long as fewer nodes than `most` were found. Where none is left, that is the node.
+    /// Adds what the steps select from a node, as long as fewer nodes than `most` were found. Where none is left, that is the
+    /// node.
     #[cycle(eval)]
     #[inline(always)]
     pub(crate) fn push_steps(

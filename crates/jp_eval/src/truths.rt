@@ -12,7 +12,8 @@ use crate::dead_ends::room_of;
 use crate::frame::{Answer, Frame, Run, Walk};
 use jp_tape::Cursor;
 
-/// Puts in what is true or false of the node at a place. If memory is refused, the answer is `AllocError`, and it may not be in.
+/// Puts in what is true or false of the node at a place. If memory is refused, the answer is `AllocError`, and it may not be
+/// in.
 fn put_truth(truths: &mut Vec<Option<bool>>, place: u32, truth: bool) -> Result<()>
     ensures { (other : ℕ) (b : Bool) → slice_get truths.new.items other ≡ Some (Some b) → (slice_get truths.old.items other ≡ Some (Some b)) ⊎ ((other ≡ place) × (b ≡ truth)) }
 {
@@ -64,8 +65,8 @@ impl<'p, 'a> Run<'p, 'a> {
         }
     }
 
-    /// Remembers what the slot at a position answers of a node. What goes beyond the room is not remembered, nor what memory is refused
-    /// for.
+    /// Remembers what the slot at a position answers of a node. What goes beyond the room is not remembered, nor what memory is
+    /// refused for.
     #[inline(never)]
     fn note_truth(self, position: usize, node: Cursor<'a>, truth: bool, frame: &mut Frame<'a>)
         requires kept { AreKept self frame.old.answers.items }

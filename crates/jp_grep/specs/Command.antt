@@ -1,5 +1,5 @@
--- The program's words (profile), read as the crate `clap` reads words: `jpgrep [OPTION].. QUERY [FILE]..`, or with `-e QUERY` or
--- `-w CONDITION` the files alone.
+-- The program's words (profile), read as the crate `clap` reads words: `jpgrep [OPTION].. QUERY [FILE]..`, or with `-e QUERY`
+-- or `-w CONDITION` the files alone.
 use Rattle.std.specs.Prelude.{◌≡◌, ◌++◌, ◌&&◌, ◌||◌, not, ℕ, Bool, true, false, List, [], ◌∷◌, Option, Some, codes, if◌then◌else◌, map, option_map, unwrap_or}
 use Rattle.std.specs.Option.{option_map_or}
 use Rattle.std.specs.Str.{bytes_eq}
@@ -85,7 +85,8 @@ general_rules = flag_rule (codes "silent") 0x73 (codes "no-messages") ∷ word_r
 abbrev pub with_rules : App → List Rule → App
 with_rules app rules = record app { top = record app.top { rules = app.top.rules ++ rules } }
 
--- a command that tells its version where it is asked for it, gets no flag for its help, and takes an option again that was given
+-- a command that tells its version where it is asked for it, gets no flag for its help, and takes an option again that was
+-- given
 abbrev pub with_settings : App → App
 with_settings app = record app {
   top = record app.top { has_version = true; disable_help_flag = true; args_override_self = true };
@@ -151,8 +152,8 @@ asks_values found = is_given (codes "only") found || is_given (codes "path") fou
 abbrev pub asks_table : List Row → Bool
 asks_table found = is_given (codes "tsv") found || is_given (codes "csv") found
 
--- why the words of what is printed do not go together: `-r` with `-j`, `--tsv` with `--csv`, a table with what spells or selects
--- otherwise, `--header` without a table, `-v` with what prints values; and none where they do
+-- why the words of what is printed do not go together: `-r` with `-j`, `--tsv` with `--csv`, a table with what spells or
+-- selects otherwise, `--header` without a table, `-v` with what prints values; and none where they do
 abbrev pub form_conflicts : List Row → Kinds
 form_conflicts found = if is_given (codes "raw") found && is_given (codes "canonical") found then ArgumentConflict ∷ []
     else if is_given (codes "tsv") found && is_given (codes "csv") found then ArgumentConflict ∷ []

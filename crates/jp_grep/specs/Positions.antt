@@ -16,7 +16,8 @@ pub record IsAtFront (framing : Framing) (came held : List ℕ) (answered : List
   pub none : answered ≡ []
   pub unended : HasNoEnd framing came
 
--- All lines that end in the bytes that came are answered. Whatever follows, the other lines are those of what is held and of that.
+-- All lines that end in the bytes that came are answered. Whatever follows, the other lines are those of what is held and of
+-- that.
 pub record IsBehind (framing : Framing) (came held : List ℕ) (answered : List (List ℕ)) : Type 0 where
   pub mark : (more : List ℕ) → GoesOn came more
   pub rest : (more : List ℕ) → lines_in framing (without_byte_order_mark came ++ more) ≡ answered ++ lines_in framing (held ++ more)

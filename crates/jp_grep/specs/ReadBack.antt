@@ -37,7 +37,8 @@ read_tabs false (byte ∷ rest) =
     else if byte == 0x5C then read_tabs true rest
     else with_byte byte (read_tabs false rest)
 
--- where one stands who reads cells between commas: in front of a cell, in one without quotes, in one with quotes, behind a quote in it
+-- where one stands who reads cells between commas: in front of a cell, in one without quotes, in one with quotes, behind a
+-- quote in it
 pub data Place : Type 0 where
   in_front : Place
   in_bare : Place
@@ -70,8 +71,8 @@ abbrev pub read_row : Table → List ℕ → Read
 read_row tables.Tabs text = read_tabs false text
 read_row tables.Commas text = read_commas in_front text
 
--- A row leads back to its cells and to where it ends, whatever its cells have in them and whatever follows. So a table does to all of
--- its rows.
+-- A row leads back to its cells and to where it ends, whatever its cells have in them and whatever follows. So a table does to
+-- all of its rows.
 abbrev pub RowsLeadBack : Type 0
 RowsLeadBack = (table : Table) (cell : List ℕ) (others : List (List ℕ)) (rest : List ℕ)
     → read_row table ((joined table (cell ∷ others) ++ line_feed) ++ rest) ≡ record { cell = cell; others = others; rest = rest }

@@ -11,8 +11,8 @@ use Rattle.jp_canon.specs.Canonical.{canonical_text}
 use Rattle.jp_grep.specs.declared.form.Spelling.{Spelling}
 use Rattle.jp_grep.specs.declared.form.Spelling.TheVariants as spellings
 
--- a string by its characters in UTF-8, where each escape gives what it stands for (RFC 8259, section 7), and any other value as its
--- line spells it
+-- a string by its characters in UTF-8, where each escape gives what it stands for (RFC 8259, section 7), and any other value as
+-- its line spells it
 abbrev pub plain : List ℕ → Tree → List ℕ
 plain line t = option_map_or encode_utf8_all (text_in (value_of t)) (source line t)
 

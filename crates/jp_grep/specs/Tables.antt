@@ -27,7 +27,8 @@ tabs_byte byte =
     else if byte == 0x5C then codes "\\\\"
     else byte ∷ []
 
--- a byte for which a cell between commas is quoted: a comma, a quote, a carriage return or a line feed (RFC 4180, section 2, rule 6)
+-- a byte for which a cell between commas is quoted: a comma, a quote, a carriage return or a line feed (RFC 4180, section 2,
+-- rule 6)
 abbrev pub wants_quotes : ℕ → Bool
 wants_quotes byte = byte == 0x2C || byte == 0x22 || byte == 0x0D || byte == 0x0A
 
@@ -61,7 +62,8 @@ joined table cells = join_with_byte (separator table) (map (cell_text table) cel
 abbrev pub front_cells : Form → List ℕ → List ℕ → List (List ℕ)
 front_cells form name number = (if form.named then name ∷ [] else []) ++ (if form.numbered then number ∷ [] else [])
 
--- the cell of a query that selects these nodes, of which it is one at most where the query is singular (RFC 9535, section 2.3.5.1)
+-- the cell of a query that selects these nodes, of which it is one at most where the query is singular (RFC 9535,
+-- section 2.3.5.1)
 abbrev pub nodes_cell : List ℕ → List Node → List ℕ
 nodes_cell line [] = []
 nodes_cell line (node ∷ more) = cell_of line node.tree

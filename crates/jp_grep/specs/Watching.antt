@@ -33,7 +33,8 @@ module _ {W E : Type 0} (rows_in : W → Option (List ℕ)) (messages_in : E →
     pub rows : (part : List ℕ) × Begins part (whole_output question form lines) × Received rows_in out0 out1 part
     pub messages : (part : List ℕ) × Begins part (messages_from form 1 lines) × Received messages_in told0 told1 part
 
-  -- What passed while the lines of a stream were answered up to its end, or up to the last line that is wanted: all is answered.
+  -- What passed while the lines of a stream were answered up to its end, or up to the last line that is wanted: all is
+  -- answered.
   pub record SearchedLines (question : Question) (form : Form) (out0 out1 : Device W) (told0 told1 : Device E) (came : Came) (counts : Counts) : Type 0 where
     pub all : Answered question form out0 out1 told0 told1 (answered question form came)
     pub selected : counts.selected ≡ selected_count question form.framing (answered question form came)

@@ -32,14 +32,15 @@ asked_files o = if begins_with_query o then drop 1 (words_of o) else words_of o
 abbrev pub first_decides : Options → Bool
 first_decides o = o.quiet || o.with_matches || o.without_matches
 
--- how many selected lines of a file are wanted: what `-m` says, or else what 64 bits count, and no more than one where the first decides
+-- how many selected lines of a file are wanted: what `-m` says, or else what 64 bits count, and no more than one where the
+-- first decides
 abbrev pub asked_most : Options → ℕ
 asked_most o =
     let most = unwrap_or o.most 18446744073709551615 in
     if first_decides o then min most 1 else most
 
--- what a row shows: nothing where something else is printed, cells where `--tsv` or `--csv` asks for them, and values where `-o` or
--- `-p` does
+-- what a row shows: nothing where something else is printed, cells where `--tsv` or `--csv` asks for them, and values where
+-- `-o` or `-p` does
 abbrev pub asked_rows : Options → Shown
 asked_rows o =
     if first_decides o || o.counted then shown.Nothing

@@ -22,8 +22,8 @@ use std::alloc::{AllocError, Global};
 /// A chunk has room for so many lines, and holds fewer.
 const CHUNK: usize = 512;
 
-/// Lines in order of key and line. What moves when one is put in or taken out is one chunk, and the list of chunks where a chunk
-/// is split or is empty.
+/// Lines in order of key and line. What moves when one is put in or taken out is one chunk, and the list of chunks where a
+/// chunk is split or is empty.
 #[derive(Drop)]
 pub(crate) struct Order {
     /// Their lines one after another are in order. No chunk is empty.

@@ -12,7 +12,7 @@ fn is_special(byte: u8) -> bool
     byte == b'"' || byte == b'\\' || byte < 0x20
 }
 
-// Bit i tells whether lane i is special.
+/// Bit i tells whether lane i is special.
 #[inline(always)]
 fn special_lanes<const N: usize>(lanes: Simd<u8, N>) -> u64
     requires { N ≤ 64 }
@@ -24,7 +24,7 @@ fn special_lanes<const N: usize>(lanes: Simd<u8, N>) -> u64
     (quotes | backslashes | controls).to_bitmask()
 }
 
-// How many of the N bytes at a position come before the first special one.
+/// How many of the N bytes at a position come before the first special one.
 #[inline(always)]
 fn plain_run<const N: usize>(bytes: &[u8], at: usize) -> usize
     requires few { N ≤ 64 }
@@ -63,8 +63,8 @@ pub fn first_special(bytes: &[u8], from: usize) -> usize
     first_special_of_few(bytes, at)
 }
 
-// The first special byte where few bytes are left: eight at once, then four, and then byte by byte. It is not inlined, so that
-// the search of longer runs is.
+/// The first special byte where few bytes are left: eight at once, then four, and then byte by byte. It is not inlined, so that
+/// the search of longer runs is.
 #[inline(never)]
 fn first_special_of_few(bytes: &[u8], from: usize) -> usize
     requires { from ≤ length bytes.now }
@@ -88,7 +88,7 @@ fn first_special_of_few(bytes: &[u8], from: usize) -> usize
     first_special_plainly(bytes, at)
 }
 
-// The first special byte, byte by byte.
+/// The first special byte, byte by byte.
 fn first_special_plainly(bytes: &[u8], from: usize) -> usize
     requires { from ≤ length bytes.now }
     ensures { IsFirstSpecial bytes.now from result }
@@ -100,7 +100,7 @@ fn first_special_plainly(bytes: &[u8], from: usize) -> usize
     at
 }
 
-// Whether a special byte is among the first N bytes, or among the last N, which may be some of them.
+/// Whether a special byte is among the first N bytes, or among the last N, which may be some of them.
 #[inline(always)]
 fn has_special_at_ends<const N: usize>(bytes: &[u8]) -> bool
     requires few { N ≤ 64 }
@@ -131,7 +131,7 @@ pub fn has_special(bytes: &[u8]) -> bool
     first_special_plainly(bytes, 0) < bytes.len()
 }
 
-// Whether the N bytes at a position are the same.
+/// Whether the N bytes at a position are the same.
 #[inline(always)]
 fn equal_blocks<const N: usize>(a: &[u8], b: &[u8], at: usize) -> bool
     requires few { N ≤ 64 }
@@ -144,7 +144,7 @@ fn equal_blocks<const N: usize>(a: &[u8], b: &[u8], at: usize) -> bool
     first.simd_ne(second).to_bitmask() == 0
 }
 
-// Whether the first N bytes are the same, and the last N, which may be some of them.
+/// Whether the first N bytes are the same, and the last N, which may be some of them.
 #[inline(always)]
 fn equal_ends<const N: usize>(a: &[u8], b: &[u8]) -> bool
     requires few { N ≤ 64 }
@@ -156,7 +156,7 @@ fn equal_ends<const N: usize>(a: &[u8], b: &[u8]) -> bool
     equal_blocks::<N>(a, b, 0) && equal_blocks::<N>(a, b, a.len() - N)
 }
 
-// Whether as many bytes are the same, where they are few: most names of a line are.
+/// Whether as many bytes are the same, where they are few: most names of a line are.
 #[inline(always)]
 fn equal_few(a: &[u8], b: &[u8]) -> bool
     requires size { length a.now ≡ length b.now }
@@ -172,7 +172,7 @@ fn equal_few(a: &[u8], b: &[u8]) -> bool
     a == b
 }
 
-// Whether two runs of any length are equal. It is not inlined.
+/// Whether two runs of any length are equal. It is not inlined.
 #[inline(never)]
 fn equal_many(a: &[u8], b: &[u8]) -> bool
     requires { length a.now ≡ length b.now }

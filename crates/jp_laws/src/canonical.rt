@@ -1,5 +1,5 @@
-//! Laws of canonical text: it is one text for all values that are equal, and says the value (RFC 9535, section 2.3.5.2.2, in the
-//! manner of RFC 8785).
+//! Laws of canonical text: it is one text for all values that are equal, and says the value (RFC 9535, section 2.3.5.2.2, in
+//! the manner of RFC 8785).
 
 ghost use Rattle.std.specs.Prelude.{◌≡◌, ◌↔◌, ℕ, List, true, Some};
 ghost use Rattle.jp_canon.specs.Canonical.{canonical_text, value_text};
@@ -23,8 +23,8 @@ use jp_model::laws as readings;
 /// Two values whose strings and names are scalars, without equal names, have one canonical text exactly where they are equal
 /// (RFC 9535, section 2.3.5.2.2); so have any two nodes of the trees of lines.
 ///
-/// A layout that keeps a zero behind the point is refused here, and so are members in the order of the line, and numbers of which
-/// only the last 64 digits are written.
+/// A layout that keeps a zero behind the point is refused here, and so are members in the order of the line, and numbers of
+/// which only the last 64 digits are written.
 pub fn canonical_texts_are_equal_where_values_are()
     ensures values { (v w : Value) → CanBeValue v → CanBeValue w → is_plain (Some v) ≡ true → is_plain (Some w) ≡ true
         → (value_text v ≡ value_text w) ↔ (compared equal (Some v) (Some w) ≡ true) }
@@ -36,8 +36,8 @@ pub fn canonical_texts_are_equal_where_values_are()
     readings::one_tree();
 }
 
-/// The canonical text of a node of a line's tree spells a tree whose value is equal to the node's, and whose canonical text is the
-/// same bytes. Where the powers of ten of the first digits of its numbers are below 10^15, it is a line with that tree.
+/// The canonical text of a node of a line's tree spells a tree whose value is equal to the node's, and whose canonical text is
+/// the same bytes. Where the powers of ten of the first digits of its numbers are below 10^15, it is a line with that tree.
 ///
 /// An exponent that is one too large is refused here.
 pub fn canonical_text_says_the_value()
@@ -50,8 +50,8 @@ pub fn canonical_text_says_the_value()
     readings::one_tree();
 }
 
-/// In each object of the tree that the canonical text of a node of a line's tree spells, the names ascend, as strings do (RFC 9535,
-/// section 2.3.5.2.2).
+/// In each object of the tree that the canonical text of a node of a line's tree spells, the names ascend, as strings do
+/// (RFC 9535, section 2.3.5.2.2).
 ///
 /// The order of names by UTF-16 code units (RFC 8785, section 3.2.3) is refused here.
 pub fn canonical_members_are_in_order()

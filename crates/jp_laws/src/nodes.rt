@@ -47,8 +47,8 @@ pub fn tests_of_singular_queries_are_of_their_values()
         → call_value (call (codes "value") (argument (nodes_argument p) no_arguments)) n t ≡ compared_value (single p) n t }
 {}
 
-/// The node and its descendants are visited once each: in a tree without equal names the locations of `subtree` are all different,
-/// and a node is among them exactly where it is the node or below it.
+/// The node and its descendants are visited once each: in a tree without equal names the locations of `subtree` are all
+/// different, and a node is among them exactly where it is the node or below it.
 pub fn descendants_are_visited_once()
     ensures apart { (n : Node) → has_duplicate n.tree ≡ false → AreApart (subtree n) }
     ensures all { (n m : Node) → IsAmong m (subtree n) ↔ IsWithin n m }

@@ -1,4 +1,5 @@
--- The tokens of a JSON text, by its derivation (RFC 8259, section 2): the position where each begins, and that of the closing quote of each string and name.
+-- The tokens of a JSON text, by its derivation (RFC 8259, section 2): the position where each begins, and that of the closing
+-- quote of each string and name.
 use Rattle.std.specs.Prelude.{ℕ, ◌+◌, List, [], ◌∷◌, ◌++◌, Option, Some, None}
 use Rattle.jp_model.specs.declared.Span.{Span}
 use Rattle.jp_model.specs.Json.Spelling.{Spells, SpellsValue, SpellsFirst, SpellsMore, SpellsLabel}

@@ -168,8 +168,8 @@ fn bit_numbers(table: &[[u8; LANES]; 256], byte: u8) -> [u8; LANES]
     table[byte as usize]
 }
 
-/// Writes the positions of the set bits of a byte, whose lowest bit is at `base`, lowest first from an index on, and returns how
-/// many they are. What stood after them up to the eighth position is lost.
+/// Writes the positions of the set bits of a byte, whose lowest bit is at `base`, lowest first from an index on, and returns
+/// how many they are. What stood after them up to the eighth position is lost.
 #[inline(always)]
 fn write_byte(positions: &mut [u32], at: usize, base: u32, byte: u8) -> usize
     requires { at + LANES ≤ length positions.old }
@@ -183,8 +183,8 @@ fn write_byte(positions: &mut [u32], at: usize, base: u32, byte: u8) -> usize
     byte.count_ones() as usize
 }
 
-/// Writes the positions of the set bits of a block that begins at `base`, lowest first and each modulo 2^32, and returns how many
-/// they are. A byte writes eight positions, so the last one ends within those of the block.
+/// Writes the positions of the set bits of a block that begins at `base`, lowest first and each modulo 2^32, and returns how
+/// many they are. A byte writes eight positions, so the last one ends within those of the block.
 #[inline(always)]
 fn write_positions(positions: &mut [u32], base: u32, word: u64) -> usize
     requires room { BLOCK ≤ length positions.old }

@@ -6,10 +6,10 @@
 //!   word in its row or error line
 //! - `Lines`, `without_byte_order_mark`, `is_blank`: the lines of a collection; its bytes after a mark at the front; whether a
 //!   line is white space alone
-//! - `Watched`: a device, one call of it for each `read`, `read_after`, `write` and `flush`; proofs see the bytes that its reads
-//!   gave and those that its writes took. `failed`, `ended` and `unflushed` say whether a call failed, a read came to the end,
-//!   bytes are unflushed; `calls` counts all calls, `after` those after a failure, reads after the end, and reads into no room,
-//!   and `early` reads while a writer has bytes unflushed
+//! - `Watched`: a device, one call of it for each `read`, `read_after`, `write` and `flush`; proofs see the bytes that its
+//!   reads gave and those that its writes took. `failed`, `ended` and `unflushed` say whether a call failed, a read came to the
+//!   end, bytes are unflushed; `calls` counts all calls, `after` those after a failure, reads after the end, and reads into no
+//!   room, and `early` reads while a writer has bytes unflushed
 #![tactic(auto)]
 
 pub mod laws;

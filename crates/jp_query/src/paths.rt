@@ -49,7 +49,7 @@ impl Default for Step {
     }
 }
 
-// Most singular queries have few steps: so many of them lie in the path itself.
+/// Most singular queries have few steps: so many of them lie in the path itself.
 const INLINE_STEPS: usize = 4;
 
 /// The steps of a singular query, in order. Two are equal where their steps are.
@@ -77,7 +77,7 @@ impl PartialEq for SingularPath {
     }
 }
 
-// The selector of a child segment that has one alone.
+/// The selector of a child segment that has one alone.
 fn only_selector(segment: &Segment) -> Option<&Selector>
     ensures { MatchOption result (singular_step (segment_view segment.now) ≡ None) (λ s. singular_step (segment_view segment.now) ≡ selector_step (selector_view s.now)) }
 {
@@ -105,7 +105,7 @@ pub fn singular_selector(segment: &Segment) -> Option<&Selector>
     }
 }
 
-// Whether the segment is singular.
+/// Whether the segment is singular.
 fn is_singular_segment(segment: &Segment) -> bool
     ensures { result ≡ is_some (singular_step (segment_view segment.now)) }
 {
@@ -125,7 +125,7 @@ pub fn is_singular(segments: &[Segment]) -> bool
     true
 }
 
-// The step of a segment that is singular.
+/// The step of a segment that is singular.
 fn singular_step(segment: &Segment) -> Result<Option<Step>, AllocError>
     ensures { IfOk result (λ found. option_map step_view found ≡ singular_step (segment_view segment.now)) }
 {

@@ -3,14 +3,15 @@
 //! Public calls:
 //!
 //! - `Store::load`, `LoadFault`: the lines of a collection, each with its status and tape, and no index
-//! - `line_count`, `tree_count`, `refused_count`, `line_status`, `Status`, `refused_lines`, `refused_behind`: how many lines there
-//!   are, how many with a tree and how many that are refused; what line n is, from 1; the numbers of the refused lines, ascending;
-//!   the first of them behind line n
-//! - `meter`, `is_metered`, `Opened::count`, `view`, `LineView`: a count at 0, which can be had once; line n with its tape, which
-//!   adds one to the count
+//! - `line_count`, `tree_count`, `refused_count`, `line_status`, `Status`, `refused_lines`, `refused_behind`: how many lines
+//!   there are, how many with a tree and how many that are refused; what line n is, from 1; the numbers of the refused lines,
+//!   ascending; the first of them behind line n
+//! - `meter`, `is_metered`, `Opened::count`, `view`, `LineView`: a count at 0, which can be had once; line n with its tape,
+//!   which adds one to the count
 //! - `add_index`, `IndexFault`, `drop_index`, `Missing`, `index_count`, `index`, `path_at`: the indexes and their paths, in the
 //!   order in which they were made
-//! - `BatchRoom::read`, `Batch`, `BatchLine`, `LineState`: the lines of a piece of a stream, each read, where no collection is held
+//! - `BatchRoom::read`, `Batch`, `BatchLine`, `LineState`: the lines of a piece of a stream, each read, where no collection is
+//!   held
 //! - `separator`, `is_framed_text`: the byte that separates lines; what may stand before the first separator
 //! - `append`, `replace`, `EditFault`: a line added at the end, or put in the place of line n, in the text and in every index
 #![tactic(auto)]

@@ -8,8 +8,8 @@ use jp_model::Span;
 /// A line without its separator.
 #[derive(Drop)]
 pub(crate) enum Line {
-    /// Its bytes are among those that were loaded. Where it has a tree, so many nodes of the tapes that were loaded, from a word
-    /// on, are its own.
+    /// Its bytes are among those that were loaded. Where it has a tree, so many nodes of the tapes that were loaded, from a
+    /// word on, are its own.
     Loaded {
         status: Status,
         nodes: u32,

@@ -178,8 +178,8 @@ impl Store {
         self.is_metered
     }
 
-    /// A count of opened lines, at 0. It can be had once, so each line that is opened later is counted in it, from 0 or from where
-    /// it was restarted.
+    /// A count of opened lines, at 0. It can be had once, so each line that is opened later is counted in it, from 0 or from
+    /// where it was restarted.
     pub fn meter(&mut self) -> Opened
         requires { self.old.is_metered ≡ false }
         ensures count { result ≡ 0 }

@@ -1,4 +1,5 @@
--- The code points of a body, as a function that computes. A body is what stands between a string's quotes (RFC 8259, section 7).
+-- The code points of a body, as a function that computes. A body is what stands between a string's quotes (RFC 8259,
+-- section 7).
 use Rattle.std.specs.Prelude.{◌≡◌, ℕ, zero, suc, Bool, true, false, not, cond, ◌==◌, List, [], ◌∷◌, length, Option, Some, None}
 use Rattle.jp_model.specs.Json.Strings.{SpellsBody, paired, has_lone_surrogate}
 use Rattle.jp_model.specs.Json.Reader.{and_then, character_at}

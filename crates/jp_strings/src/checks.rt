@@ -11,26 +11,26 @@ use crate::fault::StringFault;
 use jp_lanes::first_special;
 use simdutf8::is_utf8;
 
-// Whether a unit is the second half of a surrogate pair.
+/// Whether a unit is the second half of a surrogate pair.
 fn is_low_surrogate(unit: u32) -> bool
     ensures { result ≡ is_low_half unit }
 {
     (0xDC00..0xE000).contains(&unit)
 }
 
-// What was seen of halves of surrogate pairs, from left to right.
+/// What was seen of halves of surrogate pairs, from left to right.
 #[derive(Clone, Copy)]
 struct Halves {
-    // The last character was the first half of a pair.
+    /// The last character was the first half of a pair.
     after_high: bool,
-    // A half before it stands alone.
+    /// A half before it stands alone.
     is_lone: bool,
 }
 
 impl Halves {
     ghost use Rattle.jp_strings.specs.Halves.{alone_behind};
 
-    // What was seen after one more unit.
+    /// What was seen after one more unit.
     fn with_unit(self, unit: u32) -> Self
         ensures { (units : List ℕ) → alone_behind self (unit ∷ units) ≡ alone_behind result units }
     {
@@ -40,14 +40,14 @@ impl Halves {
         }
     }
 
-    // Whether a half stands alone where nothing follows.
+    /// Whether a half stands alone where nothing follows.
     fn has_lone(self) -> bool
         ensures { result ≡ alone_behind self [] }
     {
         self.is_lone || self.after_high
     }
 
-    // What was seen after characters that are not halves.
+    /// What was seen after characters that are not halves.
     fn with_scalars(self) -> Self
         ensures high { result.after_high ≡ false }
         ensures first { (unit : ℕ) (units : List ℕ) → is_surrogate unit ≡ false
@@ -60,7 +60,7 @@ impl Halves {
     }
 }
 
-// One escape, or all characters up to the next one: the position after them, and what was seen then.
+/// One escape, or all characters up to the next one: the position after them, and what was seen then.
 #[inline(always)]
 fn advance(body: &[u8], at: usize, seen: Halves) -> Option<(usize, Halves)>
     requires inside { at < length body.now }

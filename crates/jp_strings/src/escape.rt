@@ -6,14 +6,14 @@ ghost use Rattle.jp_model.specs.Json.Places.{byte_at};
 ghost use Rattle.jp_model.specs.Json.Strings.{short_escape as short_escape_unit};
 ghost use Rattle.jp_model.specs.Json.Reader.{character_at};
 
-// Whether a unit is the first half of a surrogate pair.
+/// Whether a unit is the first half of a surrogate pair.
 pub(crate) fn is_high_surrogate(unit: u32) -> bool
     ensures { result ≡ is_high_half unit }
 {
     (0xD800..0xDC00).contains(&unit)
 }
 
-// What a hexadecimal digit of either case stands for.
+/// What a hexadecimal digit of either case stands for.
 #[inline(always)]
 fn digit_at(body: &[u8], at: usize) -> Option<u32>
     ensures { result ≡ (if char.is_digit (byte_at body.now at) 16
@@ -23,7 +23,7 @@ fn digit_at(body: &[u8], at: usize) -> Option<u32>
     char::from(byte).to_digit(16)
 }
 
-// What the four hexadecimal digits of the escape at a position stand for.
+/// What the four hexadecimal digits of the escape at a position stand for.
 #[inline(always)]
 fn four_digits(body: &[u8], at: usize) -> Option<u32>
     requires { at ≤ length body.now }
@@ -37,7 +37,7 @@ fn four_digits(body: &[u8], at: usize) -> Option<u32>
     Some(first * 4096 + second * 256 + third * 16 + fourth)
 }
 
-// What a backslash and a letter stand for, but for `u`.
+/// What a backslash and a letter stand for, but for `u`.
 #[inline(always)]
 fn short_escape(letter: u8) -> Option<u32>
     ensures { result ≡ short_escape_unit letter }
@@ -53,7 +53,7 @@ fn short_escape(letter: u8) -> Option<u32>
     }
 }
 
-// The unit that an escape stands for, and the position after it.
+/// The unit that an escape stands for, and the position after it.
 #[inline(always)]
 pub(crate) fn read_escape(body: &[u8], at: usize) -> Option<(u32, usize)>
     requires { byte_at body.now at ≡ 0x5C }

@@ -4,8 +4,8 @@
 //!
 //! - `test_body`, `test_utf8_body`: whether bytes are the body of a string, or the fault; the second for bytes known to be
 //!   UTF-8
-//! - `Scalars`, `scalar_count`, `equal`, `compare`, `compare_scalars`, `unescape`: the scalars that a body spells; their number,
-//!   equality, order (the second reads no further than the bodies agree) and text
+//! - `Scalars`, `scalar_count`, `equal`, `compare`, `compare_scalars`, `unescape`: the scalars that a body spells; their
+//!   number, equality, order (the second reads no further than the bodies agree) and text
 //! - `plain_text`: that text without a copy, of a body with no escape
 //! - `spells`, `compare_text`: whether a body spells a text; their order
 //! - `is_plain`, `spells_known`: whether each byte of a text stands for itself; `spells` for a text of which that may be

@@ -25,13 +25,13 @@ pub fn is_plain(body: &[u8]) -> bool
     !has_special(body)
 }
 
-// Whether neither body is much longer than the other. To read a long one for each of many short ones would cost the square of
-// a line.
+/// Whether neither body is much longer than the other. To read a long one for each of many short ones would cost the square of
+/// a line.
 fn are_alike_long(a: &[u8], b: &[u8]) -> bool {
     a.len() / 4 <= b.len().max(16) && b.len() / 4 <= a.len().max(16)
 }
 
-// Whether each character of both stands for itself, as far as that is told by reading little more than the shorter one.
+/// Whether each character of both stands for itself, as far as that is told by reading little more than the shorter one.
 fn are_plain(a: &[u8], b: &[u8]) -> bool
     ensures first { IsTrue result → ArePlain a.now 0 (length a.now) }
     ensures second { IsTrue result → ArePlain b.now 0 (length b.now) }
@@ -76,7 +76,7 @@ pub fn equal(a: &[u8], b: &[u8]) -> bool
     compare_scalars(a, b).is_eq()
 }
 
-// The order of a body and a text, scalar by scalar.
+/// The order of a body and a text, scalar by scalar.
 fn compare_text_scalars(body: &[u8], text: &str) -> Ordering
     requires { IsText body.now }
     ensures { result ≡ slice_cmp nat_cmp (points_of body.now) (chars text.now) }
@@ -96,7 +96,7 @@ pub fn compare_text(body: &[u8], text: &str) -> Ordering
     compare_text_scalars(body, text)
 }
 
-// Whether a body spells the scalars of a text, scalar by scalar.
+/// Whether a body spells the scalars of a text, scalar by scalar.
 fn spells_by_scalars(body: &[u8], text: &str) -> bool
     requires { IsText body.now }
     ensures { result ≡ text_equal (chars text.now) (points_of body.now) }
@@ -104,8 +104,8 @@ fn spells_by_scalars(body: &[u8], text: &str) -> bool
     compare_text_scalars(body, text).is_eq()
 }
 
-// Whether a body begins with an escape, or with the first byte of a text. A body that begins otherwise spells another text; most
-// names of a line are passed by here.
+/// Whether a body begins with an escape, or with the first byte of a text. A body that begins otherwise spells another text;
+/// most names of a line are passed by here.
 #[inline(always)]
 fn begins_alike(body: &[u8], text: &str) -> bool
     requires { IsText body.now }
@@ -117,8 +117,8 @@ fn begins_alike(body: &[u8], text: &str) -> bool
     body[0] == b'\\' || body[0] == text.as_bytes()[0]
 }
 
-// Whether a body may spell a text, by its length and its first byte. An escape is longer than what it stands for, so a body that is
-// no longer spells the text only where it is its bytes.
+/// Whether a body may spell a text, by its length and its first byte. An escape is longer than what it stands for, so a body
+/// that is no longer spells the text only where it is its bytes.
 #[inline(always)]
 fn may_spell(body: &[u8], text: &str) -> bool
     requires { IsText body.now }
@@ -132,7 +132,7 @@ fn may_spell(body: &[u8], text: &str) -> bool
     }
 }
 
-// Whether a body that is these bytes, or is longer, spells the scalars of a text.
+/// Whether a body that is these bytes, or is longer, spells the scalars of a text.
 #[inline(never)]
 fn spells_in_full(body: &[u8], text: &str) -> bool
     requires body { IsText body.now }
@@ -153,8 +153,8 @@ pub fn spells(body: &[u8], text: &str) -> bool
     may_spell(body, text) && spells_in_full(body, text)
 }
 
-/// Whether a body spells the scalars of a text, of which it may be known that each byte stands for itself. Then a body that is these
-/// bytes is not searched for an escape.
+/// Whether a body spells the scalars of a text, of which it may be known that each byte stands for itself. Then a body that is
+/// these bytes is not searched for an escape.
 #[inline(always)]
 pub fn spells_known(body: &[u8], text: &str, plain: bool) -> bool
     requires body { IsText body.now }
@@ -170,7 +170,7 @@ pub fn spells_known(body: &[u8], text: &str, plain: bool) -> bool
     spells_in_full(body, text)
 }
 
-// How many characters some bytes have.
+/// How many characters some bytes have.
 fn char_count(text: &[u8]) -> usize
     ensures { result ≡ count_by begins_character text.now }
 {
@@ -179,7 +179,7 @@ fn char_count(text: &[u8]) -> usize
         .count()
 }
 
-// All scalars up to the next escape, or the one that it stands for: how many, and the position after it.
+/// All scalars up to the next escape, or the one that it stands for: how many, and the position after it.
 fn count_some(body: &[u8], at: usize) -> (usize, usize)
     requires inside { at < length body.now }
     requires text { IsTrue (is_text_from body.now at) }
@@ -222,7 +222,7 @@ pub fn plain_text(body: &[u8]) -> Option<&str>
     Some(unsafe { str::from_utf8_unchecked(body) })
 }
 
-// The text that a body spells, scalar by scalar.
+/// The text that a body spells, scalar by scalar.
 fn unescape_scalars(alloc: Global, body: &[u8]) -> Result<String, AllocError>
     requires { IsText body.now }
     ensures { IfOk result (λ text. chars (string_bytes text) ≡ points_of body.now) }

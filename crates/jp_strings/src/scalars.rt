@@ -9,7 +9,7 @@ ghost use Rattle.jp_strings.specs.Points.{IsText, points_of, is_text_from, GoesO
 use crate::escape::{is_high_surrogate, read_escape};
 use std::str;
 
-// The scalar of the two halves of a surrogate pair.
+/// The scalar of the two halves of a surrogate pair.
 fn pair_value(high: u32, low: u32) -> u32
     requires high { IsTrue (is_high_half high) }
     requires low { IsTrue (is_low_half low) }
@@ -18,7 +18,7 @@ fn pair_value(high: u32, low: u32) -> u32
     0x10000 + (high - 0xD800) * 0x400 + (low - 0xDC00)
 }
 
-// The character that begins at a position.
+/// The character that begins at a position.
 fn char_at(body: &[u8], at: usize) -> char
     requires inside { at < length body.now }
     requires utf8 { IsUtf8 (drop at body.now) }
@@ -28,7 +28,7 @@ fn char_at(body: &[u8], at: usize) -> char
     text.chars().next().unwrap()
 }
 
-// The scalar that a character that begins with no backslash stands for, and the position after it.
+/// The scalar that a character that begins with no backslash stands for, and the position after it.
 fn plain_scalar_at(body: &[u8], at: usize) -> (char, usize)
     requires inside { at < length body.now }
     requires text { IsTrue (is_text_from body.now at) }
@@ -39,7 +39,7 @@ fn plain_scalar_at(body: &[u8], at: usize) -> (char, usize)
     (scalar, at + scalar.len_utf8())
 }
 
-// The scalar that one or two escapes stand for, and the position after them.
+/// The scalar that one or two escapes stand for, and the position after them.
 pub(crate) fn escaped_scalar_at(body: &[u8], at: usize) -> (char, usize)
     requires inside { at < length body.now }
     requires text { IsTrue (is_text_from body.now at) }
@@ -55,7 +55,7 @@ pub(crate) fn escaped_scalar_at(body: &[u8], at: usize) -> (char, usize)
     }
 }
 
-// The scalar that is spelled at a position, and the position after it.
+/// The scalar that is spelled at a position, and the position after it.
 fn scalar_at(body: &[u8], at: usize) -> (char, usize)
     requires inside { at < length body.now }
     requires text { IsTrue (is_text_from body.now at) }

@@ -5,7 +5,7 @@ use std::alloc::{AllocError, Global};
 use std::cmp::Ordering;
 use std::test::Fail;
 
-// A body of `size` letters with an escape after the first `position`.
+/// A body of `size` letters with an escape after the first `position`.
 fn body_with(
     alloc: Global,
     size: usize,

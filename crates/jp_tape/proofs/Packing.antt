@@ -1,5 +1,5 @@
--- What is packed comes back: in a line of fewer than 2 ^ 10 bytes each half of a word has 10 bits at most, and so one word holds
--- the six halves of a node; in one of fewer than 2 ^ 21 bytes each has 21 bits at most, and two words hold them.
+-- What is packed comes back: in a line of fewer than 2 ^ 10 bytes each half of a word has 10 bits at most, and so one word
+-- holds the six halves of a node; in one of fewer than 2 ^ 21 bytes each has 21 bits at most, and two words hold them.
 use Rattle.std.proofs.Common.{◌≡◌, ◌⊎◌, inl, inr, ℕ, suc, ◌+◌, ◌*◌, ◌/◌, ◌%◌, ◌<◌, ◌≤◌, ◌^◌, List, [], ◌∷◌, ◌++◌, ◌-◌, length, take, drop, slice_range, get_or, sym, ◌∙◌, ap, subst, refl, arith, All, append_assoc, length-drop, length-append}
 use Rattle.std.proofs.Math.Seq.{drop-cons}
 use Rattle.std.proofs.lemmas.List.{take_all}

@@ -52,8 +52,8 @@ pub record HasRoom (b : Builder) (node_count name_count : ℕ) : Type 0 where
   pub words : length b.words.items + 3 * node_count ≤ vec_capacity b.words
   pub names : length b.names.items + name_count ≤ vec_capacity b.names
 
--- the marks ahead of a turn, and room for so many values that are to come, each with a name. A turn after a value is one after a
--- bracket, where a token may begin, and a name may be kept before the first of those values is read.
+-- the marks ahead of a turn, and room for so many values that are to come, each with a name. A turn after a value is one after
+-- a bracket, where a token may begin, and a name may be kept before the first of those values is read.
 abbrev pub IsAheadOf : List ℕ → ℕ → Turn → List ℕ → Builder → Type 0
 IsAheadOf line n (turns.Value label at) marks b = IsNext line at marks × HasRoom b n n
 IsAheadOf line n (turns.After at) marks b = IsAhead line at marks × HasRoom b n (suc n) × (may_begin line at ≡ true)

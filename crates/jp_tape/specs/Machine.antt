@@ -193,7 +193,8 @@ turn_left line (turns.After at) = suc (length line - at)
 turn_left line (turns.TooDeep at flag) = 0
 turn_left line turns.End = 0
 
--- a value begins in the line, or the turn is at a place of it or at its end, and three words at most are written for a byte that was read
+-- a value begins in the line, or the turn is at a place of it or at its end, and three words at most are written for a byte
+-- that was read
 abbrev pub IsWithin : List ℕ → Turn → Builder → Type 0
 IsWithin line (turns.Value label at) b = (at < length line) × (length b.words.items ≤ 3 * at)
 IsWithin line (turns.After at) b = (at ≤ length line) × (length b.words.items ≤ 3 * at)

@@ -18,7 +18,8 @@ pub record Leads (line : List ℕ) (x : State) : Type 0 where
   pub forth : (whole : Tree) → Text line whole → Completes line x whole
   pub back : (whole : Tree) → Completes line x whole → Text line whole
 
--- a value begins at this place, in open containers of these kinds; where its depth is at least this, the line nests too deep (profile)
+-- a value begins at this place, in open containers of these kinds; where its depth is at least this, the line nests too deep
+-- (profile)
 pub record IsValueNext (line : List ℕ) (at : ℕ) (objects : List Bool) (least : ℕ) : Type 0 where
   pub frames : List Frame
   pub own : Option Name

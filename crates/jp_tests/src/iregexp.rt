@@ -4,7 +4,7 @@ use jp_iregexp::{Pattern, laws};
 use std::alloc::{AllocError, Global};
 use std::test::Fail;
 
-// Whether the whole text matches; `None` if the first text is not a pattern.
+/// Whether the whole text matches; `None` if the first text is not a pattern.
 fn matches(alloc: Global, pattern: &str, text: &str) -> Result<Option<bool>, AllocError> {
     match Pattern::parse(alloc, pattern)? {
         None => Ok(None),
@@ -12,7 +12,7 @@ fn matches(alloc: Global, pattern: &str, text: &str) -> Result<Option<bool>, All
     }
 }
 
-// Whether some part of the text matches; `None` if the first text is not a pattern.
+/// Whether some part of the text matches; `None` if the first text is not a pattern.
 fn occurs(alloc: Global, pattern: &str, text: &str) -> Result<Option<bool>, AllocError> {
     match Pattern::parse(alloc, pattern)? {
         None => Ok(None),
@@ -20,7 +20,7 @@ fn occurs(alloc: Global, pattern: &str, text: &str) -> Result<Option<bool>, Allo
     }
 }
 
-// A text so many times.
+/// A text so many times.
 fn repeated(alloc: Global, text: &str, count: usize) -> Result<String, AllocError> {
     let mut all = String::new(alloc);
     for _ in 0..count {
@@ -73,7 +73,7 @@ fn counts_are_exact(rt: HostRuntime) -> Result<(), Fail> {
     Ok(())
 }
 
-// Texts that are not patterns, one per line.
+/// Texts that are not patterns, one per line.
 const NO_PATTERNS: &str = r"[z-a]
 \p{Lx}
 \p{}
@@ -239,8 +239,8 @@ fn runs_of_a_class_take_one_pass(rt: HostRuntime) -> Result<(), Fail> {
     Ok(())
 }
 
-// Whether the pattern answers for the text as a pattern that has one choice more. The text does not hold that choice, and its
-// 64 states are more than one word takes, so it is matched position by position.
+/// Whether the pattern answers for the text as a pattern that has one choice more. The text does not hold that choice, and its
+/// 64 states are more than one word takes, so it is matched position by position.
 fn answers_as_by_positions(alloc: Global, pattern: &str, text: &str) -> Result<bool, AllocError> {
     let mut longer = String::from_str(alloc, pattern)?;
     longer.push_str("|\u{10FFFF}{64}")?;
@@ -324,7 +324,7 @@ fn exact_counts_of_a_class_take_one_pass(rt: HostRuntime) -> Result<(), Fail> {
     Ok(())
 }
 
-// A pattern of few states answers as one that is matched position by position.
+/// A pattern of few states answers as one that is matched position by position.
 #[test]
 fn counts_under_stars_answer_as_small_patterns_do(rt: HostRuntime) -> Result<(), Fail> {
     for size in [0usize, 1, 64, 130] {

@@ -10,7 +10,7 @@ mod examples;
 mod paths;
 mod places;
 
-// What the parser says of a text: nothing where it is a query.
+/// What the parser says of a text: nothing where it is a query.
 fn fault_of(alloc: Global, text: &[u8]) -> Option<ParseFault> {
     match parse(alloc, text) {
         Ok(_) => None,
@@ -18,7 +18,7 @@ fn fault_of(alloc: Global, text: &[u8]) -> Option<ParseFault> {
     }
 }
 
-// A command line has no line feed, so it cannot be a blank in a script's query.
+/// A command line has no line feed, so it cannot be a blank in a script's query.
 #[test]
 fn line_feeds_are_blanks_of_the_grammar(rt: HostRuntime) {
     let texts: [&[u8]; 11] = [

@@ -59,8 +59,8 @@ fn place_of_call(
 ///
 /// # Errors
 ///
-/// `Fault` with the first fault of the text, as `parse` and [`check`] tell it, and its place: for a function that is unknown, or
-/// does not fit where it stands, its name; for the other faults as [`jp_query::place_of_fault`] says. `Memory` where memory
+/// `Fault` with the first fault of the text, as `parse` and [`check`] tell it, and its place: for a function that is unknown,
+/// or does not fit where it stands, its name; for the other faults as [`jp_query::place_of_fault`] says. `Memory` where memory
 /// ran out.
 pub fn read_query(alloc: Global, text: &[u8]) -> Result<Checked, Refusal>
     ensures read { IfOk result (λ c. query_of text.now ≡ query (checked_view c)) }

@@ -80,7 +80,7 @@ fn comparable_typed(side: &Comparable) -> bool
     }
 }
 
-// Whether the call is well-typed, and allowed where a type is wanted.
+/// Whether the call is well-typed, and allowed where a type is wanted.
 #[cycle(typing)]
 fn call_typed(call: &Call, wanted: Kind) -> bool
     ensures { result ≡ (call_serves (kind_view wanted) (call_view call.now) && call_typed (call_view call.now)) }
@@ -94,7 +94,7 @@ fn call_typed(call: &Call, wanted: Kind) -> bool
     }
 }
 
-// Whether there are as many arguments as parameters, and each can stand for its own.
+/// Whether there are as many arguments as parameters, and each can stand for its own.
 #[cycle(typing)]
 fn arguments_typed(arguments: &[Argument], parameters: &[Kind]) -> bool
     ensures { result ≡ arguments_typed (arguments_view arguments.now) (map kind_view parameters.now) }

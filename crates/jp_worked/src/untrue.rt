@@ -20,15 +20,16 @@ pub fn edits_of_two_lines_may_not_be_exchanged()
     ensures longer_first { written_by framings.Lines 6 [] (codes "aa\nbb\n") (codes "replace 2 bbb\nreplace 1 a\n") ≡ codes "error: size\nreplaced 1\n" }
 {}
 
-/// It is not so that the lines of two files that are joined are the lines of both: a byte order mark is dropped at the front of a
-/// file alone.
+/// It is not so that the lines of two files that are joined are the lines of both: a byte order mark is dropped at the front of
+/// a file alone.
 pub fn files_that_are_joined_may_have_other_lines()
     ensures first { written (codes "1\n") (codes "query $\n") ≡ codes "1\t$\t1\n= 1\n" }
     ensures second { written (0xEF ∷ 0xBB ∷ 0xBF ∷ codes "2\n") (codes "query $\n") ≡ codes "1\t$\t2\n= 1\n" }
     ensures joined { written (codes "1\n" ++ 0xEF ∷ 0xBB ∷ 0xBF ∷ codes "2\n") (codes "query $\n") ≡ codes "1\t$\t1\n2\t!grammar\n= 1\n" }
 {}
 
-/// It is not so that the rows of `$..*` stand in the order of the line: the children of a node come before those of its children.
+/// It is not so that the rows of `$..*` stand in the order of the line: the children of a node come before those of its
+/// children.
 pub fn rows_may_go_back_in_the_line()
     ensures { written (codes "[[1],2]\n") (codes "query $..*\n") ≡ codes "1\t$[0]\t[1]\n1\t$[1]\t2\n1\t$[0][0]\t1\n= 3\n" }
 {}

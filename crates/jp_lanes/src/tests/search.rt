@@ -26,7 +26,7 @@ fn the_first_special_byte_is_found(rt: HostRuntime) -> Result<(), Fail> {
     Ok(())
 }
 
-// Whether the special byte at each position of a text of that length is found, and none if there is none.
+/// Whether the special byte at each position of a text of that length is found, and none if there is none.
 fn each_position_is_found(alloc: Global, size: usize) -> Result<bool, AllocError> {
     let mut bytes = Vec::new(alloc);
     for _ in 0..size {
@@ -54,8 +54,8 @@ fn a_special_byte_is_found_in_short_texts(rt: HostRuntime) -> Result<(), Fail> {
     Ok(())
 }
 
-// Whether a reverse solidus or a control character at each position of a text of that length is found, from the front and from
-// the position behind it.
+/// Whether a reverse solidus or a control character at each position of a text of that length is found, from the front and from
+/// the position behind it.
 fn each_escape_is_found(alloc: Global, size: usize) -> Result<bool, AllocError> {
     let mut bytes = Vec::new(alloc);
     for _ in 0..size {

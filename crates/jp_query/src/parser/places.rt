@@ -44,7 +44,8 @@ fn byte_of(text: &str, left: usize) -> usize {
     place
 }
 
-/// The byte past which a text is too large: the bracket past the limit, if so many are opened before it, or the last one allowed.
+/// The byte past which a text is too large: the bracket past the limit, if so many are opened before it, or the last one
+/// allowed.
 fn past_size(text: &[u8], before: usize) -> usize {
     let mut room = MAX_OPENED.saturating_sub(before);
     for (at, byte) in text.iter().enumerate() {
@@ -178,8 +179,8 @@ pub fn place_of_condition_fault(
     Grammar::Condition.find(alloc, text, fault)
 }
 
-/// The byte at which the name of the function begins that is number `number`, from 0, in a text that is a query or a condition: the
-/// text's length where there are fewer.
+/// The byte at which the name of the function begins that is number `number`, from 0, in a text that is a query or a condition:
+/// the text's length where there are fewer.
 ///
 /// # Errors
 ///

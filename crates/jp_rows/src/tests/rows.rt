@@ -68,8 +68,8 @@ fn around_name(
 
 #[test]
 fn long_paths_are_written_piece_by_piece(rt: HostRuntime) -> Result<(), Fail> {
-    // The shortest of these names leave room for all of each row, longer ones for what stands before a value, and the longest for
-    // neither.
+    // The shortest of these names leave room for all of each row, longer ones for what stands before a value, and the longest
+    // for neither.
     for letters in 92..=132 {
         let line = around_name(rt.alloc(), b"{\"", letters, b"\":[0]}")?;
         let mut want = around_name(rt.alloc(), b"1\t$\t{\"", letters, b"\":[0]}\n")?;

@@ -1,5 +1,5 @@
-//! What is left of a line once it nests too deep. It has no tape then: all there is to find out is whether it is JSON, and for that
-//! it is enough to know of each open container whether it is an object.
+//! What is left of a line once it nests too deep. It has no tape then: all there is to find out is whether it is JSON, and for
+//! that it is enough to know of each open container whether it is an object.
 
 ghost use Rattle.std.specs.Prelude.{◌≡◌, ◌<◌, ◌≤◌, ℕ, length, IfOk, IfErr, IfSome, IfNone};
 ghost use Rattle.jp_model.specs.Json.Places.{Has, byte_at};

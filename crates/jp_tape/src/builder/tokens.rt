@@ -71,7 +71,8 @@ fn closing_quote(line: &[u8], marks: &[u32], from: usize) -> Option<usize>
     Some(marks[1] as usize)
 }
 
-/// Whether each byte between the quotes at `from` and `last` stands for itself. Before the first escape of the line, at `escape`, that is known.
+/// Whether each byte between the quotes at `from` and `last` stands for itself. Before the first escape of the line, at
+/// `escape`, that is known.
 #[inline(always)]
 fn is_plain_between(line: &[u8], escape: usize, from: usize, last: usize) -> bool
     requires order { from < last }

@@ -6,7 +6,7 @@ use jp_types::check_condition;
 use std::alloc::Global;
 use std::test::Fail;
 
-// What is said of a condition's text: nothing where it is one, and its types fit.
+/// What is said of a condition's text: nothing where it is one, and its types fit.
 fn fault_of(alloc: Global, text: &[u8]) -> Option<ParseFault> {
     match parse_condition(alloc, text) {
         Ok(condition) => match check_condition(condition) {

@@ -6,7 +6,7 @@ use jp_types::{Refusal, read_condition, read_query};
 use std::alloc::Global;
 use std::test::Fail;
 
-// The fault of a text as a query, and its place.
+/// The fault of a text as a query, and its place.
 fn fault_of_query(alloc: Global, text: &[u8]) -> Option<Refusal> {
     match read_query(alloc, text) {
         Ok(_) => None,
@@ -14,7 +14,7 @@ fn fault_of_query(alloc: Global, text: &[u8]) -> Option<Refusal> {
     }
 }
 
-// The same as a condition.
+/// The same as a condition.
 fn fault_of_condition(alloc: Global, text: &[u8]) -> Option<Refusal> {
     match read_condition(alloc, text) {
         Ok(_) => None,
@@ -22,7 +22,7 @@ fn fault_of_condition(alloc: Global, text: &[u8]) -> Option<Refusal> {
     }
 }
 
-// A fault at a place.
+/// A fault at a place.
 fn fault_at(fault: QueryFault, place: usize, expected: Option<Expected>) -> Option<Refusal> {
     Some(Refusal::Fault(FaultPlace {
         fault,

@@ -1,5 +1,5 @@
--- The row was put together, and is written as a whole. Else what stands before the bytes of the value, those bytes, and the line
--- feed follow one another.
+-- The row was put together, and is written as a whole. Else what stands before the bytes of the value, those bytes, and the
+-- line feed follow one another.
 use Rattle.std.proofs.Common.{◌≡◌, subst}
 use Rattle.jp_model.specs.Devices.{Writes}
 use Rattle.jp_model.specs.Rows.{line_feed, source}
