@@ -13,8 +13,10 @@ use jp_types::{Checked, check};
 use std::alloc::{AllocError, Global};
 use std::process::ExitCode;
 
+/// The titles of the items that cost more than 20.
 const QUERY: &[u8] = b"$.items[?@.price > 20].title";
 
+/// The texts over which the query is evaluated. The second breaks off.
 const TEXTS: [&[u8]; 3] = [
     b"{\"items\":[{\"title\":\"Mug\",\"price\":9.95},{\"title\":\"Lamp\",\"price\":45.60}]}",
     b"{\"items\":[{\"title\":\"Desk\",\"price\":2.5e2}",
@@ -91,6 +93,7 @@ fn print_all(rt: &HostRuntime) -> Result<(), Fault> {
     Ok(())
 }
 
+/// Exits with 1 if the query is refused, or memory.
 fn main(rt: HostRuntime) -> ExitCode {
     match print_all(&rt) {
         Ok(()) => ExitCode::from(0),

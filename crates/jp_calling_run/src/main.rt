@@ -12,9 +12,11 @@ use jp_model::{Framing, RunFault, Setup, Watched};
 use std::alloc::Global;
 use std::io::{self, Write};
 
+/// Three lines, of which the second is not a JSON text.
 const COLLECTION: &[u8] =
     b"{\"title\":\"Moby Dick\",\"price\":8.99}\n{\"title\":\n{\"title\":\"Emma\"}\n";
 
+/// Two commands, one in a line.
 const SCRIPT: &[u8] = b"query $.title\ncheck\n";
 
 /// What the commands of a script answer over a collection. For each command a flag tells whether a growth was refused in it,
@@ -41,6 +43,7 @@ fn answers(
     }
 }
 
+/// Writes the answers to the standard output, or, if the run stops, says why and ends in an error.
 fn main(rt: HostRuntime) -> io::Result<()> {
     let setup = Setup {
         framing: Framing::Lines,

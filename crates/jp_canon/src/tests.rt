@@ -9,6 +9,7 @@ use jp_model::{Framing, is_blank};
 use jp_tape::{BuildFault, Cursor, Tape, build};
 use std::alloc::{AllocError, Global};
 
+/// Why a test stops: a line is refused, or memory.
 #[derive(Debug, Drop)]
 enum Fail {
     Fault(BuildFault),
@@ -27,6 +28,7 @@ impl From<AllocError> for Fail {
     }
 }
 
+/// The tape of a line. What `build` does not take, a blank line or one of 4 GiB and more, is told as refused memory.
 fn read(alloc: Global, line: &[u8]) -> Result<Tape, BuildFault>
     ensures { IfOk result (λ tape. IsTapeOf tape line.now) }
 {

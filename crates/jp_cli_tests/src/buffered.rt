@@ -6,8 +6,10 @@ use jp_model::Watched;
 use std::alloc::Global;
 use std::test::Fail;
 
+/// A sequence of one text, behind its record separator.
 const SEQUENCE: &[u8] = b"\x1e{\"a\":1}\n";
 
+/// What `query $.a` answers over it.
 const ROWS: &[u8] = b"\x1e1\t$['a']\t1\n= 1\n";
 
 /// The end of a run over a sequence, and what its writer took.

@@ -17,6 +17,7 @@ pub(crate) struct Cutting {
 }
 
 impl Cutting {
+    /// Gives the bytes, at most `most` a call. Call number `fails_in`, from 1, fails.
     pub(crate) fn new(
         alloc: Global,
         bytes: &[u8],
@@ -65,6 +66,7 @@ pub(crate) struct Endless {
 }
 
 impl Endless {
+    /// Gives the bytes from the first one on.
     pub(crate) fn new(bytes: &'static [u8]) -> Endless {
         Endless { bytes, next: 0 }
     }
@@ -98,6 +100,7 @@ pub(crate) struct Taking {
 }
 
 impl Taking {
+    /// Takes at most `most` bytes a call. Call number `fails_in`, from 1, fails, and number `takes_none_in` takes nothing.
     pub(crate) fn new(alloc: Global, most: usize, fails_in: u64, takes_none_in: u64) -> Taking {
         Taking {
             held: Vec::new(alloc),

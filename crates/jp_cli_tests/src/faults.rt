@@ -9,10 +9,13 @@ use jp_model::{Framing, RunFault, Setup, Watched};
 use std::alloc::Global;
 use std::test::Fail;
 
+/// A collection of one line.
 const COLLECTION: &[u8] = b"{\"a\":1}\n";
 
+/// What `query $.a` answers over it.
 const OUTPUT: &[u8] = b"1\t$['a']\t1\n= 1\n";
 
+/// A collection of lines, with at most so many bytes in it and so many in the script.
 pub(super) const fn setup(most: u32, script_most: u32) -> Setup
     ensures { result.framing ≡ framings.Lines }
 {

@@ -7,6 +7,7 @@ use jp_model::{RunFault, Watched};
 use std::alloc::Global;
 use std::test::Fail;
 
+/// A collection of one line, without a line feed.
 const COLLECTION: &[u8] = b"{\"a\":1}";
 
 /// How the run of a script ended, and what it wrote, where each device fails in one of its calls.

@@ -33,6 +33,7 @@ fn faults_of_loads_come_in_order(rt: HostRuntime) -> Result<(), Fail> {
     Ok(())
 }
 
+/// The store of these bytes, in which at most `most` are allowed.
 fn loaded(alloc: Global, framing: Framing, most: u32, bytes: &[u8]) -> Result<Store, Fail> {
     let mut reader = Watched::new(Cutting::new(alloc, bytes, 100, NEVER)?);
     match Store::load(alloc, framing, most, &mut reader) {

@@ -29,6 +29,7 @@ fn is_named(node: Cursor<'_>, name: &str, plain: bool) -> bool
     }
 }
 
+/// Whether a node is an object, which alone has members.
 #[inline(always)]
 fn is_object(node: Cursor<'_>) -> bool
     ensures { result ≡ false → kind_of (value_of (node_of node.entry).tree) ≡ kinds.Object → ⊥ }
@@ -81,6 +82,7 @@ pub(crate) fn skip_siblings(first: Option<Cursor<'_>>, count: u32) -> Option<Cur
     next
 }
 
+/// Whether a node is an array, which alone has elements.
 pub(crate) fn is_array(node: Cursor<'_>) -> bool
     ensures { IsTrue result ↔ (kind_of (value_of (node_of node.entry).tree) ≡ kinds.Array) }
 {

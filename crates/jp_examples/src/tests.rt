@@ -6,6 +6,7 @@ use crate::parsing::parse;
 use jp_model::{Framing, RunFault};
 use std::test::Fail;
 
+/// Two examples in which no line is malformed. The second is a name alone.
 const WELL_FORMED: &str = "# A comment.
 
 == a name, and its lines
@@ -125,6 +126,7 @@ type Differing = (
     (u64, Option<&'static str>, Option<&'static str>),
 );
 
+/// They differ in the bytes of a line, in its line feed, or by a line that one of them lacks.
 const DIFFERENCES: [Differing; 6] = [
     (b"a\nb\nc\n", b"a\nx\ty\nc\n", (2, Some("b"), Some("x\ty"))),
     (b"a\n", b"a", (1, Some("a"), Some("a«no line feed»"))),

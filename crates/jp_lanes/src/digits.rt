@@ -8,6 +8,7 @@ ghost use Rattle.jp_lanes.specs.First.{IsFirst, is_other};
 use crate::widths::QUARTER;
 use std::simd::prelude::*;
 
+/// Whether a byte is an ASCII digit.
 fn is_digit(byte: u8) -> bool
     ensures { result ≡ is_digit_byte byte }
 {

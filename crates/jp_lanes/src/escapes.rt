@@ -7,6 +7,7 @@ ghost use Rattle.jp_lanes.specs.First.{IsFirst, is_escape as is_escape_byte};
 use crate::widths::{BLOCK, QUARTER, SIXTEENTH};
 use std::simd::prelude::*;
 
+/// Whether a byte is a reverse solidus, or a control character below 0x20.
 fn is_escape(byte: u8) -> bool
     ensures { result ≡ is_escape_byte byte }
 {

@@ -6,6 +6,7 @@ ghost use Rattle.jp_lanes.specs.Search.{HasSpecial, IsFirstSpecial, is_special a
 use crate::widths::{BLOCK, EIGHTH, QUARTER, SIXTEENTH};
 use std::simd::prelude::*;
 
+/// Whether a byte has to be escaped: a quotation mark, a reverse solidus or a control character (RFC 8259, section 7).
 fn is_special(byte: u8) -> bool
     ensures { result ≡ is_special_byte byte }
 {
@@ -131,7 +132,7 @@ pub fn has_special(bytes: &[u8]) -> bool
     first_special_plainly(bytes, 0) < bytes.len()
 }
 
-/// Whether the N bytes at a position are the same.
+/// Whether two runs have the same N bytes at a position.
 #[inline(always)]
 fn equal_blocks<const N: usize>(a: &[u8], b: &[u8], at: usize) -> bool
     requires few { N ≤ 64 }
@@ -144,7 +145,7 @@ fn equal_blocks<const N: usize>(a: &[u8], b: &[u8], at: usize) -> bool
     first.simd_ne(second).to_bitmask() == 0
 }
 
-/// Whether the first N bytes are the same, and the last N, which may be some of them.
+/// Whether two runs have the same first N bytes, and the same last N, which may be some of them.
 #[inline(always)]
 fn equal_ends<const N: usize>(a: &[u8], b: &[u8]) -> bool
     requires few { N ≤ 64 }
@@ -156,7 +157,7 @@ fn equal_ends<const N: usize>(a: &[u8], b: &[u8]) -> bool
     equal_blocks::<N>(a, b, 0) && equal_blocks::<N>(a, b, a.len() - N)
 }
 
-/// Whether as many bytes are the same, where they are few: most names of a line are.
+/// Whether two runs of one length are equal, where they are short: most names of a line are.
 #[inline(always)]
 fn equal_few(a: &[u8], b: &[u8]) -> bool
     requires size { length a.now ≡ length b.now }

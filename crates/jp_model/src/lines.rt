@@ -8,6 +8,7 @@ ghost use Rattle.jp_model.specs.declared.Framing.TheVariants as framings;
 use memchr::memchr;
 use std::marker::Model;
 
+/// U+FEFF in UTF-8.
 const BYTE_ORDER_MARK: &[u8] = b"\xEF\xBB\xBF";
 
 /// The bytes after a byte order mark at the front, or all (RFC 8259, section 8.1).

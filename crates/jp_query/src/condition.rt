@@ -19,6 +19,7 @@ impl Condition {
     ghost use Rattle.jp_query.specs.Conditions.{condition_view};
     ghost use Rattle.jp_query.specs.Sound.{logical_has_sound_literals};
 
+    /// Takes an expression that is known to be well-formed (RFC 9535, section 2.1).
     pub(crate) fn new(expression: Logical) -> Condition
         requires { ∥ IsWellFormed (filter_by (logical_view expression)) ∥₁ }
         ensures { condition_view result ≡ logical_view expression }

@@ -17,6 +17,7 @@ impl Query {
     ghost use Rattle.jp_query.specs.Queries.{query_view};
     ghost use Rattle.jp_query.specs.Sound.{has_sound_literals};
 
+    /// Takes segments that are known to be well-formed (RFC 9535, section 2.1).
     pub(crate) fn new(segments: Vec<Segment>) -> Query
         requires { ∥ IsWellFormed (segments_view segments.items) ∥₁ }
         ensures { query_view result ≡ segments_view segments.items }

@@ -71,6 +71,7 @@ fn write_scalar<W: Write>(scalar: char, out: &mut Watched<W>) -> Result<(), Writ
     }
 }
 
+/// Whether a byte of a body is printed as it stands: it is neither a reverse solidus nor an apostrophe (RFC 9535, section 2.7).
 fn is_unescaped_byte(byte: u8) -> bool
     ensures { result ≡ byte_stands_unescaped byte }
 {

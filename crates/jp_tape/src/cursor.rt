@@ -28,7 +28,7 @@ pub struct Cursor<'a> {
     line: &'a [u8],
     /// How many bits each half of a word has. It has four bytes, so that it is copied together with the place.
     bits: u32,
-    /// It comes last: what is copied sixteen bytes at a time is then not what was just written.
+    // It comes last: what is copied sixteen bytes at a time is then not what was just written.
     place: u32,
     ghost spelled_line: { is_spelled line.now ≡ true },
     ghost words_are: { words_in bits words.now ≡ tape_words (spelled line.now) },

@@ -12,6 +12,7 @@ use jp_masks::line_marks;
 use jp_model::{Framing, LineFault, Span, is_blank};
 use std::alloc::{AllocError, Global};
 
+/// Why a test stops: a line is refused, or memory.
 #[derive(Debug, Drop)]
 enum Fail {
     Fault(BuildFault),
@@ -30,6 +31,7 @@ impl From<AllocError> for Fail {
     }
 }
 
+/// The tape of a line. What `build` does not take, a blank line or one of 4 GiB and more, is told as refused memory.
 fn read(alloc: Global, line: &[u8], framing: Framing) -> Result<Tape, BuildFault>
     ensures { IfOk result (λ tape. IsTapeOf tape line.now) }
 {
@@ -97,6 +99,7 @@ fn in_one(head: u64, span: u64, label: u64) -> u64 {
         .wrapping_add(label.wrapping_mul(1 << 20))
 }
 
+/// The fault of a line, or `None` where it has a tape or memory is refused.
 fn fault(alloc: Global, line: &[u8], framing: Framing) -> Option<LineFault> {
     match read(alloc, line, framing) {
         Err(BuildFault::Line(fault)) => Some(fault),
@@ -105,10 +108,12 @@ fn fault(alloc: Global, line: &[u8], framing: Framing) -> Option<LineFault> {
     }
 }
 
+/// Whether a line of a collection has a tape.
 fn has_tape(alloc: Global, line: &[u8]) -> bool {
     read(alloc, line, Framing::Lines).is_ok()
 }
 
+/// Whether a line of a collection is refused with this fault.
 fn is_refused(alloc: Global, line: &[u8], wanted: LineFault) -> bool {
     fault(alloc, line, Framing::Lines) == Some(wanted)
 }
@@ -224,6 +229,7 @@ fn ends_of_texts_are_seen(rt: HostRuntime) {
     assert!(rt; read(alloc, b"12", Framing::Lines).is_ok());
 }
 
+/// A JSON text of which no shorter beginning is one.
 const WHOLE: [u8; 29] = *b"{\"a\":[{\"b\":1},{\"b\":2}],\"b\":3}";
 
 #[test]

@@ -25,6 +25,7 @@ pub(crate) fn segments_known(segments: &[Segment]) -> bool
     true
 }
 
+/// Whether each function that the filters among the selectors name is one of the five.
 #[cycle(names)]
 fn selectors_known(selectors: &[Selector]) -> bool
     ensures { result ≡ selectors_pass (selectors_view selectors.now) names }
@@ -41,6 +42,7 @@ fn selectors_known(selectors: &[Selector]) -> bool
     true
 }
 
+/// Whether each function that a logical expression names is one of the five.
 #[cycle(names)]
 pub(crate) fn logical_known(condition: &Logical) -> bool
     ensures { result ≡ logical_passes (logical_view condition.now) names }
@@ -57,6 +59,7 @@ pub(crate) fn logical_known(condition: &Logical) -> bool
     }
 }
 
+/// Whether each function that the operands of `||` or `&&` name is one of the five.
 #[cycle(names)]
 fn logicals_known(parts: &[Logical]) -> bool
     ensures { result ≡ logicals_pass (logicals_view parts.now) names }
@@ -69,6 +72,7 @@ fn logicals_known(parts: &[Logical]) -> bool
     true
 }
 
+/// Whether each function that a side of a comparison names is one of the five.
 #[cycle(names)]
 fn comparable_known(side: &Comparable) -> bool
     ensures { result ≡ comparable_passes (comparable_view side.now) names }
@@ -80,6 +84,7 @@ fn comparable_known(side: &Comparable) -> bool
     }
 }
 
+/// Whether the function of a call is one of the five, and so is each that its arguments name.
 #[cycle(names)]
 fn call_known(call: &Call) -> bool
     ensures { result ≡ call_passes (call_view call.now) names }
@@ -87,6 +92,7 @@ fn call_known(call: &Call) -> bool
     signature_of(&call.name).is_some() && arguments_known(&call.arguments)
 }
 
+/// Whether each function that the arguments name is one of the five.
 #[cycle(names)]
 fn arguments_known(arguments: &[Argument]) -> bool
     ensures { result ≡ arguments_pass (arguments_view arguments.now) names }

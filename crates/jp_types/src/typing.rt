@@ -25,6 +25,7 @@ pub(crate) fn segments_typed(segments: &[Segment]) -> bool
     true
 }
 
+/// Whether the filters among the selectors are well-typed.
 #[cycle(typing)]
 fn selectors_typed(selectors: &[Selector]) -> bool
     ensures { result ≡ selectors_typed (selectors_view selectors.now) }
@@ -41,6 +42,7 @@ fn selectors_typed(selectors: &[Selector]) -> bool
     true
 }
 
+/// Whether a logical expression is well-typed: a function that is a test has to give LogicalType or NodesType.
 #[cycle(typing)]
 pub(crate) fn logical_typed(condition: &Logical) -> bool
     ensures { result ≡ logical_typed (logical_view condition.now) }
@@ -57,6 +59,7 @@ pub(crate) fn logical_typed(condition: &Logical) -> bool
     }
 }
 
+/// Whether the operands of `||` or `&&` are well-typed.
 #[cycle(typing)]
 fn logicals_typed(parts: &[Logical]) -> bool
     ensures { result ≡ logicals_typed (logicals_view parts.now) }
@@ -69,6 +72,7 @@ fn logicals_typed(parts: &[Logical]) -> bool
     true
 }
 
+/// Whether a side of a comparison is well-typed: a function there has to give ValueType.
 #[cycle(typing)]
 fn comparable_typed(side: &Comparable) -> bool
     ensures { result ≡ comparable_typed (comparable_view side.now) }
@@ -122,6 +126,7 @@ pub(crate) fn fits(argument: &Argument, parameter: Kind) -> bool
     }
 }
 
+/// Whether an argument is well-typed, and can stand for a parameter of this type.
 #[cycle(typing)]
 fn argument_typed(argument: &Argument, parameter: Kind) -> bool
     ensures { result ≡ argument_typed (argument_view argument.now) (kind_view parameter) }

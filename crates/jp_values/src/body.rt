@@ -11,6 +11,7 @@ pub(crate) struct Body<'a> {
 }
 
 impl<'a> Body<'a> {
+    /// Takes bytes that are known to be a body, and to spell no lone surrogate.
     pub fn new(bytes: &'a [u8]) -> Body<'a>
         requires { IsText bytes.now }
         ensures { result.bytes.now ≡ bytes.now }

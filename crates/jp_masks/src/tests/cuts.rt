@@ -175,6 +175,7 @@ fn scan_pieces(
     Ok(marks)
 }
 
+/// The text in pieces of one length: of few bytes, and of about a block.
 fn each_size(
     rt: &impl Abort,
     alloc: Global,

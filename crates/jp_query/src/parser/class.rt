@@ -23,6 +23,7 @@ pub(crate) enum Class {
     FunctionScalar,
 }
 
+/// Whether a scalar may begin a member name shorthand (RFC 9535, section 2.5.1.1: name-first).
 fn is_name_first(c: char) -> bool
     ensures { result ≡ is_name_first c }
 {

@@ -73,6 +73,7 @@ pub struct Builder {
     pub(super) later: Option<LineFault>,
 }
 
+/// The fault of a line that is not a JSON text (RFC 8259, section 2).
 pub(super) const GRAMMAR: BuildFault = BuildFault::Line(LineFault::Grammar);
 
 /// Room is made for so many turns of the walk at once, or for fewer where fewer marks are to come. Room for a whole line at

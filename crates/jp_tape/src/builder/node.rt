@@ -8,6 +8,7 @@ use crate::Kind;
 use crate::word::code;
 use jp_model::Span;
 
+/// The kind of a container: an object, or else an array.
 pub(super) fn container_kind(is_object: bool) -> Kind
     ensures { code_of result ≡ container_code (container_if is_object) }
 {

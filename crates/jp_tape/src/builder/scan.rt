@@ -7,6 +7,7 @@ ghost use Rattle.jp_model.specs.Json.Marks.{may_begin};
 ghost use Rattle.jp_tape.specs.Places.{in_number, Ended, Stops};
 ghost use Rattle.jp_tape.specs.Ahead.{IsAhead, IsNext, first_or};
 
+/// Whether a byte is white space: a space, tab, line feed or carriage return (RFC 8259, section 2).
 fn is_white_byte(byte: u8) -> bool
     ensures { result ≡ is_white byte }
 {
@@ -14,12 +15,14 @@ fn is_white_byte(byte: u8) -> bool
     byte <= b' ' && (byte == b' ' || byte == b'\t' || byte == b'\n' || byte == b'\r')
 }
 
+/// Whether a byte is an ASCII digit.
 fn is_digit_byte(byte: u8) -> bool
     ensures { result ≡ is_digit byte }
 {
     byte >= b'0' && byte <= b'9'
 }
 
+/// Whether a byte occurs in numbers: a digit, a point, an `e` of either case, or a sign (RFC 8259, section 6).
 fn is_number_byte(byte: u8) -> bool
     ensures { result ≡ in_number byte }
 {

@@ -6,6 +6,7 @@ use jp_decimal::Decimal;
 use jp_model::{Framing, Span};
 use std::alloc::{AllocError, Global};
 
+/// An object, an array in it, and an empty object in that.
 const LINE: [u8; 25] = *b"{\"a\":[1,\"x\",{}],\"b\":null}";
 
 #[test]

@@ -5,6 +5,7 @@ use crate::{Cursor, Kind};
 use jp_model::{Framing, LineFault, Span};
 use std::alloc::{AllocError, Global};
 
+/// So many opening brackets of arrays, and behind them so many closing ones.
 fn nested(alloc: Global, opened: usize, closed: usize) -> Result<Vec<u8>, AllocError> {
     let mut line = Vec::new(alloc);
     for _ in 0..opened {

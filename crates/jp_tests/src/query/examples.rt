@@ -158,6 +158,7 @@ fn push_path(alloc: Global, path: &Path, out: &mut Vec<u8>) -> Result<(), AllocE
     Ok(())
 }
 
+/// A literal: a text between bars, and any other as a query spells it.
 fn push_literal(literal: &Literal, out: &mut Vec<u8>) -> Result<(), AllocError> {
     match literal {
         Literal::Null => Ok(out.extend_from_slice(b"null")?),
@@ -184,6 +185,7 @@ fn push_call(alloc: Global, call: &Call, out: &mut Vec<u8>) -> Result<(), AllocE
     Ok(())
 }
 
+/// A side of a comparison: a literal, a singular query or a call.
 fn push_side(alloc: Global, side: &Comparable, out: &mut Vec<u8>) -> Result<(), AllocError> {
     match side {
         Comparable::Constant(literal) => push_literal(literal, out),
@@ -192,6 +194,7 @@ fn push_side(alloc: Global, side: &Comparable, out: &mut Vec<u8>) -> Result<(), 
     }
 }
 
+/// A comparison operator as a query spells it.
 fn operator(op: CompareOp) -> &'static str {
     match op {
         CompareOp::Equal => "==",
@@ -217,6 +220,7 @@ fn push_simple(alloc: Global, expression: &Logical, out: &mut Vec<u8>) -> Result
     }
 }
 
+/// Expressions without parts, a comma after each.
 fn push_parts(alloc: Global, parts: &[Logical], out: &mut Vec<u8>) -> Result<(), AllocError> {
     for part in parts {
         push_simple(alloc, part, out)?;

@@ -14,7 +14,7 @@ fn fault_of_query(alloc: Global, text: &[u8]) -> Option<Refusal> {
     }
 }
 
-/// The same as a condition.
+/// The fault of a text as a condition, and its place.
 fn fault_of_condition(alloc: Global, text: &[u8]) -> Option<Refusal> {
     match read_condition(alloc, text) {
         Ok(_) => None,
@@ -22,7 +22,7 @@ fn fault_of_condition(alloc: Global, text: &[u8]) -> Option<Refusal> {
     }
 }
 
-/// A fault at a place.
+/// A refusal for a fault at a place, and what is expected there.
 fn fault_at(fault: QueryFault, place: usize, expected: Option<Expected>) -> Option<Refusal> {
     Some(Refusal::Fault(FaultPlace {
         fault,
