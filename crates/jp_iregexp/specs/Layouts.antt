@@ -1,4 +1,4 @@
--- The states of a program's parts (Glushkov 1961).
+-- The states of a pattern's parts, by Glushkov's construction.
 use Rattle.std.specs.Prelude.{ℕ, ◌≡◌, ◌<◌, ◌≤◌, ◌==◌, ◌-◌, if◌then◌else◌, Bool, List, length, bit_or, Option, None, Some}
 use Rattle.std.specs.Int.{bit_at}
 use Rattle.jp_iregexp.specs.declared.automaton.State.{State as ProgramState}

@@ -189,6 +189,7 @@ fn has_end(set: u64) -> bool
     (set >> 63) & 1 == 1
 }
 
+/// For each state, in order, the set of states that wait after it.
 fn words_after(alloc: Global, states: &[State]) -> Result<Vec<u64>, AllocError>
     ensures { IfOk result (λ words. words.items ≡ map (λ p. p.after) states.now) }
 {
@@ -200,7 +201,7 @@ fn words_after(alloc: Global, states: &[State]) -> Result<Vec<u64>, AllocError>
     Ok(words)
 }
 
-// The states after which only the one with the next number waits. They are numbered as they are read, so most are.
+/// The states after which only the one with the next number waits. They are numbered as they are read, so most are.
 fn chained(after: &[u64]) -> u64
     requires { length after.now ≤ 63 }
     ensures { (p : ℕ) → HasState result p ↔ IsTrue (is_chained after.now p) }
@@ -214,7 +215,7 @@ fn chained(after: &[u64]) -> u64
     all
 }
 
-// Whether the word has the next number alone.
+/// Whether the word has the state with the next number alone.
 fn is_link(word: u64, number: usize) -> bool
     requires { number < 63 }
     ensures { result ≡ is_link word number }
@@ -222,7 +223,7 @@ fn is_link(word: u64, number: usize) -> bool
     word == 1 << (number + 1)
 }
 
-// By ASCII scalar the states that wait for it.
+/// By ASCII scalar the states that wait for it.
 fn ascii_masks(alloc: Global, states: &[State]) -> Result<Vec<u64>, AllocError>
     requires { length states.now ≤ 63 }
     ensures masks { IfOk result (λ masks. AreMasks (map state_of states.now) masks.items) }
@@ -237,6 +238,7 @@ fn ascii_masks(alloc: Global, states: &[State]) -> Result<Vec<u64>, AllocError>
     Ok(masks)
 }
 
+/// By state the ASCII scalars that it waits for.
 fn ascii_sets(alloc: Global, states: &[State]) -> Result<Vec<u128>, AllocError>
     ensures { IfOk result (λ sets. AreSets (map state_of states.now) sets.items) }
 {
@@ -248,7 +250,7 @@ fn ascii_sets(alloc: Global, states: &[State]) -> Result<Vec<u128>, AllocError>
     Ok(sets)
 }
 
-// The states that wait for a scalar.
+/// The states that wait for the ASCII scalar with this code.
 fn having(_states: &[State], sets: &[u128], code: u8) -> u64
     requires few { length sets.now ≤ 63 }
     requires sets { AreSets (map state_of _states.now) sets.now }
@@ -264,7 +266,7 @@ fn having(_states: &[State], sets: &[u128], code: u8) -> u64
     all
 }
 
-// What waits after any of the states that are ready: each of them is asked.
+/// What waits after any of the states that are ready: each of them is asked.
 #[inline(always)]
 fn behind_each(after: &[u64], ready: u64) -> u64
     ensures { (q : ℕ) → HasState result q ↔ WaitsBehind after.now ready q }
@@ -278,6 +280,7 @@ fn behind_each(after: &[u64], ready: u64) -> u64
     next
 }
 
+/// The states that wait after the one with this number. None do where there is no such state.
 #[inline(always)]
 fn word_after(after: &[u64], number: usize) -> u64
     ensures { result ≡ get_or after.now number 0 }
@@ -288,7 +291,7 @@ fn word_after(after: &[u64], number: usize) -> u64
     }
 }
 
-// What waits after the scalar: each state that waits is asked.
+/// What waits after the scalar: each state that waits is asked.
 fn asked_step(states: &[State], waiting: u64, scalar: char) -> u64
     ensures { IsStep (map state_of states.now) waiting scalar result }
 {
@@ -303,7 +306,7 @@ fn asked_step(states: &[State], waiting: u64, scalar: char) -> u64
     next
 }
 
-// What waits after a state, where it passes.
+/// What waits after the state with this number, or `None` where no such state waits for the scalar.
 fn asked(states: &[State], number: usize, scalar: char) -> Option<u64>
     ensures some { IfSome result (λ behind. IsPassed (map state_of states.now) number scalar behind) }
     ensures none { result ≡ None → (behind : ℕ) → IsPassed (map state_of states.now) number scalar behind → ⊥ }

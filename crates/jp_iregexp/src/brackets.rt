@@ -20,6 +20,7 @@ pub(crate) enum Next<'a> {
     End(&'a [char]),
 }
 
+/// What the text begins with: an item, the hyphen that comes last, or the bracket that closes the class.
 fn read_next(text: &[char]) -> Option<Next<'_>>
     ensures { (steps : ℕ) → read_items (suc steps) text.now ≡ after_next steps result }
 {
@@ -38,6 +39,7 @@ fn read_next(text: &[char]) -> Option<Next<'_>>
     }
 }
 
+/// The hyphen that was read in front of the text, where the bracket that closes the class comes next.
 fn read_last_hyphen(text: &[char]) -> Option<Next<'_>>
     ensures { (steps : ℕ) → last_hyphen text.now ≡ after_next steps result }
 {
@@ -53,8 +55,7 @@ fn read_last_hyphen(text: &[char]) -> Option<Next<'_>>
     }
 }
 
-// The items so far with those up to the bracket that closes, of which there are fewer than `limit`, and what is
-// after it.
+/// The items so far with those up to the bracket that closes, of which there are fewer than `limit`, and what is after it.
 fn read_more(
     mut items: Vec<Item>,
     limit: usize,
@@ -80,7 +81,7 @@ fn read_more(
     Ok(None)
 }
 
-// The item that comes first, where a hyphen stands for itself.
+/// The item that comes first, where a hyphen stands for itself.
 fn read_first(text: &[char]) -> Option<(Item, &[char])>
     ensures { option_map (λ p. (item_of p.0, p.1.now)) result ≡ first_of text.now }
 {
@@ -96,7 +97,7 @@ fn read_first(text: &[char]) -> Option<(Item, &[char])>
     }
 }
 
-// A hyphen or an item, and more items.
+/// The class of the items up to the bracket that closes, of which there is at least one, and what is after it.
 fn read_in_brackets(
     alloc: Global,
     negated: bool,

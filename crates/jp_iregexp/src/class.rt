@@ -35,6 +35,7 @@ pub(crate) enum Class {
     Members { negated: bool, items: Vec<Item> },
 }
 
+/// Whether the general category of a scalar is the one that is named, or in the group that is named.
 pub(crate) fn has_property(property: Property, scalar: char) -> bool
     ensures { result ≡ in_property (property_of property) scalar }
 {
@@ -45,6 +46,7 @@ pub(crate) fn has_property(property: Property, scalar: char) -> bool
     }
 }
 
+/// Whether a scalar is one of those that the item stands for.
 fn is_in_item(item: Item, scalar: char) -> bool
     ensures { result ≡ in_item scalar (item_of item) }
 {
@@ -55,6 +57,7 @@ fn is_in_item(item: Item, scalar: char) -> bool
     }
 }
 
+/// Whether a scalar is in the union of the items.
 fn has_some_item(items: &[Item], scalar: char) -> bool
     ensures { result ≡ list_any (in_item scalar) (map item_of items.now) }
 {
@@ -67,6 +70,7 @@ fn has_some_item(items: &[Item], scalar: char) -> bool
 }
 
 impl Class {
+    /// A class of the same scalars, with items of its own.
     pub(crate) fn copy(&self, alloc: Global) -> Result<Class, AllocError>
         ensures { IfOk result (λ class. class_of class ≡ class_of self.now) }
     {

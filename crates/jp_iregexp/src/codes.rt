@@ -21,6 +21,7 @@ pub(crate) fn codes_of(class: &Class) -> u128
     }
 }
 
+/// The ASCII scalars in the union of the items.
 fn codes_of_items(items: &[Item]) -> u128
     ensures { AreCodes (λ scalar. list_any (in_item scalar) (map item_of items.now)) result }
 {
@@ -31,6 +32,7 @@ fn codes_of_items(items: &[Item]) -> u128
     all
 }
 
+/// The ASCII scalars of a range, those with a property, or those without it.
 fn codes_of_item(item: Item) -> u128
     ensures { AreCodes (λ scalar. in_item scalar (item_of item)) result }
 {
@@ -41,6 +43,7 @@ fn codes_of_item(item: Item) -> u128
     }
 }
 
+/// The ASCII scalars from the first to the last, both included.
 fn codes_of_range(first: char, last: char) -> u128
     ensures { AreCodes (λ scalar. nat_le first scalar && nat_le scalar last) result }
 {
@@ -51,7 +54,7 @@ fn codes_of_range(first: char, last: char) -> u128
     }
 }
 
-// The scalars up to this one.
+/// The ASCII scalars up to this one, which is included.
 fn up_to(last: u32) -> u128
     ensures { AreCodes (λ scalar. nat_le scalar last) result }
 {
@@ -62,6 +65,7 @@ fn up_to(last: u32) -> u128
     }
 }
 
+/// The ASCII scalars with the property. Each of the 128 is tried.
 fn codes_of_property(property: Property) -> u128
     ensures { AreCodes (in_property (property_of property)) result }
 {

@@ -6,10 +6,10 @@ ghost use Rattle.jp_iregexp.specs.Tokens.{count_of_pair};
 
 use crate::items::cut;
 
-// No bound is above this one.
+/// No bound is above this one.
 const GREATEST: u32 = 999_999_999;
 
-// The value of a bound.
+/// The value of a bound, or `None` where the scalars spell none.
 fn bound(digits: &[char]) -> Option<u32>
     ensures { result ≡ bound_value digits.now }
 {
@@ -30,7 +30,7 @@ fn bound(digits: &[char]) -> Option<u32>
     Some(value)
 }
 
-// The bounds that are between braces, the second not below the first: the least number, and how many may follow.
+/// The bounds that are between braces, the second not below the first: the least number, and how many may follow.
 fn bounds(inside: &[char]) -> Option<(u32, Option<u32>)>
     ensures { option_map count_of_pair result ≡ count_in inside.now (up_to 0x2C inside.now) }
 {

@@ -1,5 +1,5 @@
-//! Parts whose texts all have one length. Their turns are doubled: what so many turns reach from everywhere, twice, is what twice
-//! as many reach.
+//! Parts whose texts all have one length. Their turns are doubled: what so many turns reach from everywhere, twice, is what
+//! twice as many reach.
 
 ghost use Rattle.std.specs.Prelude.{◌≡◌, ◌^◌, ◌*◌, ◌<◌, ◌≤◌, IfOk};
 ghost use Rattle.std.specs.Option.{IfSome};
@@ -11,7 +11,7 @@ use crate::node::Node;
 use crate::positions::PositionSet;
 use std::alloc::{AllocError, Global};
 
-// No length is above this one.
+/// No length is above this one.
 const LONGEST: usize = 1 << 31;
 
 /// The length of each text of the part, if they have one.
@@ -43,6 +43,7 @@ pub(crate) fn common_length(node: &Node) -> Option<usize>
     }
 }
 
+/// The sum of the parts' lengths, if each of them has one and the sum is not above `LONGEST`.
 #[cycle(length)]
 fn sequence_length(parts: &[Node]) -> Option<usize>
     ensures is { IfSome result (λ n. HaveLength (Language (sequence_list parts.now)) n) }
@@ -59,6 +60,7 @@ fn sequence_length(parts: &[Node]) -> Option<usize>
     Some(length)
 }
 
+/// The length that each of the branches has, if it is the same.
 #[cycle(length)]
 fn choice_length(parts: &[Node]) -> Option<usize>
     ensures is { IfSome result (λ n. HaveLength (Language (choice_list parts.now)) n) }

@@ -17,6 +17,7 @@ pub(crate) struct Group {
 }
 
 impl Group {
+    /// A group of which nothing was read.
     #[tactic(auto, using(crate::proofs::Built::first_push))]
     pub(crate) fn new(alloc: Global) -> Group
         ensures { group_of result ≡ fresh }
@@ -40,7 +41,7 @@ impl Group {
         Ok(())
     }
 
-    // The atom is a piece, as no quantifier follows it.
+    /// The atom, where there is one, becomes a piece, as no quantifier follows it.
     #[tactic(auto, using(crate::proofs::Built::first_push))]
     fn end_piece(&mut self) -> Result<(), AllocError>
         ensures pieces { OnOk result (latest_first self.new.pieces.items ≡ with_atom (atom_of self.old.atom) (latest_first self.old.pieces.items)) }

@@ -30,7 +30,7 @@ impl Groups {
         }
     }
 
-    // A group begins.
+    /// A group begins, and is the innermost one.
     #[tactic(auto, using(crate::proofs::Built::latest_group))]
     fn open(&mut self, alloc: Global) -> Result<(), AllocError>
         ensures { OnOk result (groups_of self.new ≡ record { now = fresh; around = (groups_of self.old).now ∷ (groups_of self.old).around }) }
@@ -40,7 +40,7 @@ impl Groups {
         Ok(())
     }
 
-    // The innermost group ends, and whether it is in another one.
+    /// The innermost group ends, and whether it is in another one.
     #[tactic(auto, using(crate::proofs::Built::latest_group))]
     fn close(&mut self, alloc: Global) -> Result<bool, AllocError>
         ensures { IfOk result (λ stands. close_group (whole_of (groups_of self.old).now) (groups_of self.old).around ≡ (if stands then Some (groups_of self.new) else None)) }

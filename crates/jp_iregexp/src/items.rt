@@ -8,7 +8,7 @@ use crate::class::Item;
 use crate::escapes::{escaped, is_plain_in_class};
 use crate::names::find_property;
 
-// The position of the first scalar that is `stop`.
+/// The position of the first scalar that is `stop`.
 fn position_of(stop: char, text: &[char]) -> Option<usize>
     ensures found { (at : ℕ) → result ≡ Some at → up_to stop text.now ≡ Some (take at text.now, drop (at + 1) text.now) }
     ensures within { (at : ℕ) → result ≡ Some at → at < length text.now }
@@ -32,7 +32,7 @@ pub(crate) fn cut(stop: char, text: &[char]) -> Option<(&[char], &[char])>
     }
 }
 
-// The property in the braces after `\p` or `\P`.
+/// The property in the braces after `\p` or `\P`.
 fn read_braces(negated: bool, text: &[char]) -> Option<(Item, &[char])>
     ensures { option_map (λ p. (item_of p.0, p.1.now)) result ≡ read_category negated text.now }
 {
@@ -72,7 +72,7 @@ pub(crate) fn read_escaped(text: &[char]) -> Option<(Item, &[char])>
     }
 }
 
-// A scalar, an escape or a property.
+/// The item of one scalar, escape or property, and what follows it.
 fn read_one(text: &[char]) -> Option<(Item, &[char])>
     ensures { option_map (λ p. (item_of p.0, p.1.now)) result ≡ read_item text.now }
 {
@@ -90,7 +90,7 @@ fn read_one(text: &[char]) -> Option<(Item, &[char])>
     }
 }
 
-// The range from one scalar to another, which does not end below its start.
+/// The range from one scalar to another, which does not end below its start.
 fn span(first: Item, last: Item) -> Option<Item>
     ensures { (rest : List ℕ) → option_map (λ item. (item_of item, rest)) result ≡ to_span (item_of first) rest (item_of last) }
 {
@@ -106,7 +106,7 @@ fn span(first: Item, last: Item) -> Option<Item>
     }
 }
 
-// What follows the scalar that begins a range, or the item itself where no range follows.
+/// The range that the item begins, or the item itself where no range follows, and what is after it.
 fn read_range_end(item: Item, text: &[char]) -> Option<(Item, &[char])>
     ensures { option_map (λ p. (item_of p.0, p.1.now)) result ≡ read_span (item_of item) text.now }
 {

@@ -1,6 +1,6 @@
-//! The states of a pattern's parts (Glushkov 1961): a state for each class, numbered as they are read. Each part says once which of
-//! its states take a first scalar, which take a last one, and whether it can be empty. Parts are put together by links: what
-//! follows a part waits after its last states.
+//! The states of a pattern's parts, by Glushkov's construction: a state for each class, numbered as they are read. Each part
+//! says once which of its states take a first scalar, which take a last one, and whether it can be empty. Parts are put
+//! together by links: what follows a part waits after its last states.
 
 ghost use Rattle.std.specs.Prelude.{◌≡◌, ◌<◌, ◌^◌, ◌&&◌, ◌||◌, ◌-◌, IfOk, bit_or, map, true, Some, None};
 ghost use Rattle.std.specs.Option.{IfSome};
@@ -45,7 +45,7 @@ impl Part {
     }
 }
 
-// The states of a part, and those beyond it too where the part can be empty.
+/// The states of a part, and those beyond it too where the part can be empty.
 fn through(has_empty: bool, states: u64, beyond: u64) -> u64
     ensures { result ≡ through has_empty states beyond }
 {
@@ -77,6 +77,7 @@ impl Layout {
         }
     }
 
+    /// Lays a class out as one more state, after which nothing waits yet.
     fn class(&mut self, alloc: Global, class: &Class) -> Result<Option<Part>, AllocError>
         ensures { IfOk result (λ found. IfSome found (λ p. LaidOnto (map state_of self.old.states.items) (map state_of self.new.states.items) (Language (one_of (class_of class.now))) p.first p.last p.has_empty)) }
     {
@@ -93,6 +94,7 @@ impl Layout {
         }))
     }
 
+    /// Lays the parts out one after another: the first states of each wait after the last ones of those before it.
     #[cycle(layout)]
     fn sequence(&mut self, alloc: Global, parts: &[Node]) -> Result<Option<Part>, AllocError>
         ensures { IfOk result (λ found. IfSome found (λ p. LaidOnto (map state_of self.old.states.items) (map state_of self.new.states.items) (Language (sequence_list parts.now)) p.first p.last p.has_empty)) }
@@ -107,6 +109,7 @@ impl Layout {
         Ok(Some(all))
     }
 
+    /// Lays the branches out, with no link from one to another.
     #[cycle(layout)]
     fn choice(&mut self, alloc: Global, parts: &[Node]) -> Result<Option<Part>, AllocError>
         ensures { IfOk result (λ found. IfSome found (λ p. LaidOnto (map state_of self.old.states.items) (map state_of self.new.states.items) (Language (choice_list parts.now)) p.first p.last p.has_empty)) }
@@ -124,6 +127,7 @@ impl Layout {
         Ok(Some(all))
     }
 
+    /// Lays out the turns of a part: those in front, which each text has, and then the last ones.
     #[cycle(layout)]
     fn repeated(
         &mut self,
@@ -143,7 +147,7 @@ impl Layout {
         Ok(Some(self.joined(front, back)))
     }
 
-    // The turns that `turns_in_front` leaves.
+    /// Lays out the turns that `turns_in_front` leaves.
     #[cycle(layout)]
     fn last_turns(
         &mut self,
@@ -160,7 +164,7 @@ impl Layout {
         }
     }
 
-    // So many turns. They end where a turn has no state, and is the empty text or none.
+    /// Lays out exactly so many turns. They end where a turn has no state, and is the empty text or none.
     #[cycle(layout)]
     fn exact(&mut self, alloc: Global, body: &Node, count: u32) -> Result<Option<Part>, AllocError>
         ensures { IfOk result (λ found. IfSome found (λ p. LaidOnto (map state_of self.old.states.items) (map state_of self.new.states.items) (Repeats (Language (tree_of body.now)) count) p.first p.last p.has_empty)) }
@@ -178,7 +182,7 @@ impl Layout {
         Ok(Some(all))
     }
 
-    // Up to so many turns. They end where a turn has no state.
+    /// Lays out up to so many turns. They end where a turn has no state.
     #[cycle(layout)]
     fn up_to(&mut self, alloc: Global, body: &Node, most: u32) -> Result<Option<Part>, AllocError>
         ensures { IfOk result (λ found. IfSome found (λ p. LaidOnto (map state_of self.old.states.items) (map state_of self.new.states.items) (RepeatsWithin (Language (tree_of body.now)) 0 (Some most)) p.first p.last p.has_empty)) }
@@ -200,7 +204,7 @@ impl Layout {
         Ok(Some(all))
     }
 
-    // Any number of turns, or at least one where `least` is not 0: after the last states the first ones wait again.
+    /// Lays out any number of turns, or at least one where `least` is not 0: after the last states the first ones wait again.
     #[cycle(layout)]
     fn any(&mut self, alloc: Global, body: &Node, least: u32) -> Result<Option<Part>, AllocError>
         ensures { IfOk result (λ found. IfSome found (λ p. LaidOnto (map state_of self.old.states.items) (map state_of self.new.states.items) (RepeatsWithin (Language (tree_of body.now)) (least - (least - 1)) None) p.first p.last p.has_empty)) }
@@ -215,7 +219,7 @@ impl Layout {
         }))
     }
 
-    // The one part and then the other.
+    /// Links the one part to the other, and gives the two as one part.
     fn joined(&mut self, one: Part, other: Part) -> Part
         ensures linked { AreLinked one.last other.first (map state_of self.old.states.items) (map state_of self.new.states.items) }
         ensures first { result.first ≡ through one.has_empty one.first other.first }
@@ -230,7 +234,7 @@ impl Layout {
         }
     }
 
-    // After each of the last states the first ones wait too.
+    /// After each of the last states the first ones wait too.
     fn link(&mut self, last: u64, first: u64)
         ensures { AreLinked last first (map state_of self.old.states.items) (map state_of self.new.states.items) }
     {
@@ -241,6 +245,7 @@ impl Layout {
         }
     }
 
+    /// After the state with this number, where there is one, the first ones wait too.
     fn link_one(&mut self, number: usize, first: u64)
         requires { number < 64 }
         ensures { AreLinked (2 ^ number) first (map state_of self.old.states.items) (map state_of self.new.states.items) }
@@ -251,7 +256,7 @@ impl Layout {
     }
 }
 
-// How many of the turns come in front of the last ones: those are the further ones, or any number of them with one of the least.
+/// How many turns come in front of the last ones: those are the further ones, or any number of them with one of the least.
 fn turns_in_front(least: u32, further: Option<u32>) -> u32
     ensures { result ≡ turns_in_front least further }
 {

@@ -10,7 +10,7 @@ use crate::class::Property;
 use crate::class::Property::{Category, Group};
 use unicode::properties::{GeneralCategory, GeneralCategoryGroup};
 
-// The letters of a name, and what it names.
+/// The properties that a pattern can name, each after the letters of its name.
 static PROPERTIES: [(char, Option<char>, Property); 36] = [
     ('L', None, Group(GeneralCategoryGroup::Letter)),
     ('L', Some('l'), Category(GeneralCategory::LowercaseLetter)),
@@ -62,7 +62,7 @@ static PROPERTIES: [(char, Option<char>, Property); 36] = [
     ('C', Some('o'), Category(GeneralCategory::PrivateUse)),
 ];
 
-// Whether a name has these letters.
+/// Whether a name has these letters.
 fn is_spelled(first: char, second: Option<char>, name: &[char]) -> bool
     ensures { result ≡ text_equal (letters_of first second) name.now }
 {
@@ -73,7 +73,7 @@ fn is_spelled(first: char, second: Option<char>, name: &[char]) -> bool
     }
 }
 
-// What a table has under a name.
+/// What a table has under a name.
 fn find_in(table: &[(char, Option<char>, Property)], name: &[char]) -> Option<Property>
     ensures { option_map property_of result ≡ look_up (map entry_of table.now) name.now }
 {

@@ -11,16 +11,17 @@ use crate::node::Node;
 use crate::token::next_token;
 use std::alloc::{AllocError, Global};
 
-// So many scalars `(` a pattern may have.
+/// So many scalars `(` a pattern may have.
 const MOST_PARENTHESES: usize = 256;
 
+/// How many scalars `(` the text has, wherever they are.
 fn parentheses(text: &[char]) -> usize
     ensures { result ≡ count_by (λ c. c == 0x28) text.now }
 {
     text.iter().filter(|scalar| **scalar == '(').count()
 }
 
-// The pattern that the tokens of a text stand for. Each token takes a scalar, so there are no more of them.
+/// The pattern that the tokens of a text stand for. Each token takes a scalar, so there are no more of them.
 fn read_tokens(alloc: Global, text: &[char]) -> Result<Option<Node>, AllocError>
     ensures { IfOk result (λ found. option_map tree_of found ≡ option_and_then pattern_of_tokens (tokens_of text.now)) }
 {

@@ -20,9 +20,9 @@ pub struct Pattern {
 }
 
 impl Pattern {
-    /// The pattern that a text spells, or `None` where it is no pattern (RFC 9485, section 3). By the choices of the profile these
-    /// are none: a range that ends below its start, `{n,m}` with `n` above `m`, a bound above 999,999,999, and more than 256
-    /// scalars `(`, wherever they are. If memory is refused, the answer is an error.
+    /// The pattern that a text spells, or `None` where it is no pattern (RFC 9485, section 3). By the choices of the profile
+    /// these are none: a range that ends below its start, `{n,m}` with `n` above `m`, a bound above 999,999,999, and more than
+    /// 256 scalars `(`, wherever they are. If memory is refused, the answer is an error.
     pub fn parse(alloc: Global, text: &str) -> Result<Option<Pattern>, AllocError>
         ensures { IfOk result (λ found. option_map pattern_view found ≡ pattern_of (chars text.now)) }
     {
@@ -60,13 +60,14 @@ impl Pattern {
     }
 }
 
+/// The scalars that the UTF-8 of a text encodes, in order.
 fn scalars_of(alloc: Global, text: &str) -> Result<Vec<char>, AllocError>
     ensures { IfOk result (λ scalars. scalars.items ≡ chars text.now) }
 {
     text.chars().collect(alloc)
 }
 
-// Whether the whole text is in the set of a tree. Few patterns have no automaton.
+/// Whether the whole text is in the set of a tree. Few patterns have no automaton.
 #[inline(never)]
 fn matches_by_tree(alloc: Global, compiled: &Compiled, text: &str) -> Result<bool, AllocError>
     requires { compiled.now.automaton ≡ None }
@@ -79,7 +80,7 @@ fn matches_by_tree(alloc: Global, compiled: &Compiled, text: &str) -> Result<boo
     Ok(reached.contains(scalars.len()))
 }
 
-// Whether some part of the text is in the set of a tree.
+/// Whether some part of the text is in the set of a tree.
 #[inline(never)]
 fn occurs_by_tree(alloc: Global, compiled: &Compiled, text: &str) -> Result<bool, AllocError>
     requires { compiled.now.automaton ≡ None }

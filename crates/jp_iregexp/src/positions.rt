@@ -89,6 +89,7 @@ impl PositionSet {
         self.window.high()
     }
 
+    /// A set of the same positions, with words of its own.
     pub(crate) fn copy(&self, alloc: Global) -> Result<PositionSet>
         ensures { IfOk result (λ set. (p : ℕ) → Has set p ↔ Has self.now p) }
     {
@@ -97,12 +98,14 @@ impl PositionSet {
         })
     }
 
+    /// Whether a position is in the set.
     pub(crate) fn contains(&self, p: usize) -> bool
         ensures { IsTrue result ↔ Has self.now p }
     {
         (self.window.word(p / 64) >> (p % 64)) & 1 == 1
     }
 
+    /// One more position, which the set may have already.
     pub(crate) fn insert(&mut self, p: usize) -> Result<()>
         requires { p < 2 ^ 63 }
         ensures same { OnOk result (Has self.new p) }
@@ -113,6 +116,7 @@ impl PositionSet {
         Ok(())
     }
 
+    /// The positions of the other set are put into this one.
     pub(crate) fn add_all(&mut self, other: &PositionSet) -> Result<()>
         ensures old { OnOk result ((q : ℕ) → Has self.old q → Has self.new q) }
         ensures added { OnOk result ((q : ℕ) → Has other.now q → Has self.new q) }
@@ -157,6 +161,7 @@ impl PositionSet {
         Ok(set)
     }
 
+    /// Whether both sets keep the same words, and so the same positions. Equal sets may differ in the words that are 0.
     pub(crate) fn is_same(&self, other: &PositionSet) -> bool
         ensures { IsTrue result → (p : ℕ) → Has self.now p ↔ Has other.now p }
     {
@@ -164,7 +169,7 @@ impl PositionSet {
     }
 }
 
-// A word's bits up to this one, which may follow the word.
+/// A word's bits up to this one, which may follow the word.
 fn first_bits(last: usize) -> u64
     ensures within { (i : ℕ) → i < 64 → bit_at result i ≡ 1 → i ≤ last }
     ensures each { (i : ℕ) → i < 64 → i ≤ last → bit_at result i ≡ 1 }

@@ -43,7 +43,7 @@ pub(crate) fn count_ends(
     Ok(out)
 }
 
-// The run before the next position, where the run before the scalar was this long.
+/// The run before the next position, where the run before the scalar was this long.
 fn next_run(passes: bool, run: usize) -> usize
     requires { run < 2 ^ 63 }
     ensures goes_on { passes ≡ true → result ≡ run + 1 }
@@ -107,7 +107,7 @@ pub(crate) fn window_ends(
     Ok(out)
 }
 
-// The room at a position, where the scalar before it had this much.
+/// The room at a position, where the scalar before it had this much.
 fn next_room(starts: &PositionSet, p: usize, passes: bool, full: usize, room: usize) -> usize
     ensures begins { Has starts.now p → result ≡ full }
     ensures goes_on { (Has starts.now p → ⊥) → passes ≡ true → result ≡ room - 1 }

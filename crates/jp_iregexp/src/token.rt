@@ -24,7 +24,7 @@ pub(crate) enum Token {
     Count(u32, Option<u32>),
 }
 
-// The class of one item.
+/// The token of a class that has one item, and what follows it.
 fn class_of_one(
     alloc: Global,
     item: Item,
@@ -42,7 +42,7 @@ fn class_of_one(
     )))
 }
 
-// A token that is none of the single scalars with a meaning.
+/// The token that begins with this scalar, which is none of the single scalars with a meaning, and what follows it.
 fn read_longer(
     alloc: Global,
     first: char,

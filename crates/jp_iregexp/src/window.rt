@@ -14,6 +14,7 @@ pub(crate) struct Window {
 }
 
 impl Window {
+    /// A window of which no word is kept: each is 0.
     pub(crate) fn empty(alloc: Global) -> Window
         ensures { result.words.items ≡ [] }
     {
@@ -23,6 +24,7 @@ impl Window {
         }
     }
 
+    /// A window of the same words, in memory of its own.
     pub(crate) fn copy(&self, alloc: Global) -> Result<Window, AllocError>
         ensures { IfOk result (λ window. (w : ℕ) → word_of window.first window.words.items w ≡ word_of self.now.first self.now.words.items w) }
     {
@@ -32,6 +34,7 @@ impl Window {
         })
     }
 
+    /// Whether both keep the same words, from the same one on.
     pub(crate) fn is_same(&self, other: &Window) -> bool
         ensures { IsTrue result → (w : ℕ) → word_of self.now.first self.now.words.items w ≡ word_of other.now.first other.now.words.items w }
     {
@@ -81,7 +84,7 @@ impl Window {
         Ok(())
     }
 
-    // Room for a word.
+    /// Makes room for a word: it is kept, and so are those between it and the others.
     fn cover(&mut self, w: usize) -> Result<(), AllocError>
         requires { w < 2 ^ 57 }
         ensures same { OnOk result ((v : ℕ) → word_of self.new.first self.new.words.items v ≡ word_of self.old.first self.old.words.items v) }
@@ -101,7 +104,7 @@ impl Window {
         Ok(())
     }
 
-    // Words in front of the first one.
+    /// Puts words that are 0 in front, so that the words are kept from this one on.
     fn lower(&mut self, first: usize) -> Result<(), AllocError>
         requires { first ≤ self.old.first }
         ensures same { OnOk result ((v : ℕ) → word_of self.new.first self.new.words.items v ≡ word_of self.old.first self.old.words.items v) }
