@@ -1,10 +1,12 @@
 //! Reading a query (RFC 9535, section 2 and appendix A).
 
+mod calls;
 mod class;
 mod conditions;
 mod expression;
 mod failure;
 mod literals;
+mod logical;
 mod numbers;
 mod parsed;
 mod places;

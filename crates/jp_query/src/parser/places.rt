@@ -4,7 +4,7 @@ ghost use Rattle.std.specs.Prelude.{◌≡◌, ◌≤◌, IfOk};
 ghost use Rattle.jp_query.specs.Places.{IsPlace};
 
 use super::failure::{Failure, Stop};
-use super::queries::logical;
+use super::logical::logical;
 use super::scalars::skip_blanks;
 use super::tokens::Tokens;
 use super::{MAX_BYTES, MAX_DEPTH, MAX_OPENED, query_segments, to_scalars};
