@@ -23,5 +23,6 @@ mod OneFilter
 mod Outcomes
 mod Quotes
 mod Runs
+mod Segments
 mod Spellings
 mod Texts

@@ -131,14 +131,14 @@ fn next_segment(
     Ok(Some((Segment::Child(selectors), rest)))
 }
 
-/// Segments as a list, as many as there are.
+/// Segments, as many as there are (RFC 9535, section 2.1.1).
 #[cycle(query)]
-fn segment_list(
+pub(crate) fn segments(
     alloc: Global,
     text: &[char],
     depth: u32,
 ) -> Result<(Vec<Segment>, &[char]), Failure>
-    ensures { Gives (λ x. (map segment_view x.0.items, x.1.now)) result (all_of (next_segment clamp (logical_at clamp depth)) text.now) }
+    ensures { Gives (λ x. (segments_view x.0.items, x.1.now)) result (segments_at clamp (logical_at clamp depth) text.now) }
 {
     let mut all = Vec::new(alloc);
     let mut rest = text;
@@ -150,17 +150,4 @@ fn segment_list(
         rest = others;
     }
     Ok((all, rest))
-}
-
-/// Segments, as many as there are (RFC 9535, section 2.1.1).
-#[cycle(query)]
-#[tactic(auto, unfolding(crate::specs::Reading::Queries::segments_at))]
-pub(crate) fn segments(
-    alloc: Global,
-    text: &[char],
-    depth: u32,
-) -> Result<(Vec<Segment>, &[char]), Failure>
-    ensures { Gives (λ x. (segments_view x.0.items, x.1.now)) result (segments_at clamp (logical_at clamp depth) text.now) }
-{
-    segment_list(alloc, text, depth)
 }

@@ -6,9 +6,10 @@ use Rattle.jp_query.specs.Reading.Scalars.{all_of, with_front}
 use Rattle.jp_query.specs.Reading.Queries.{next_selector, next_segment, next_argument, next_basic, next_and, logical_at}
 use Rattle.jp_query.specs.View.{selector_view, segment_view, logical_view, argument_view}
 use Rattle.jp_query.proofs.Loop.{goes_on, fails, stops, is_done}
+use Rattle.jp_query.proofs.Segments.{segments_fail, segments_given}
 use Rattle.jp_query.proofs.parser.+query.Goals as goal
 use Rattle.jp_query.proofs.parser.+query.Goals.{queries::more_selectors-else-loop-test, queries::more_selectors-then-loop-test+in_ok-one+in_default}
-use Rattle.jp_query.proofs.parser.+query.Goals.{queries::segment_list-else-loop-test, queries::segment_list-then-loop-test+in_ok-one+in_default}
+use Rattle.jp_query.proofs.parser.+query.Goals.{queries::segments-else-loop-test, queries::segments-then-loop-test+in_ok-one+in_default}
 use Rattle.jp_query.proofs.parser.+query.Goals.{calls::more_arguments-else-loop-test, calls::more_arguments-then-loop-test+in_ok-one+in_default}
 use Rattle.jp_query.proofs.parser.+query.Goals.{logical::more_basics-else-loop-test, logical::more_basics-then-loop-test+in_ok-one+in_default}
 use Rattle.jp_query.proofs.parser.+query.Goals.{logical::more_conjunctions-else-loop-test, logical::more_conjunctions-then-loop-test+in_ok-one+in_default}
@@ -30,21 +31,21 @@ queries::more_selectors-returns t c = elim c.loop-test.branch [
   | queries::more_selectors-then-loop-test+in_ok-one+in_default w ↦ stops (next_selector clamp (logical_at clamp c.args.depth)) (map selector_view c.loop.all.items) (length c.args.text.now) c.loop.counter c.loop.rest.now (with_front (map selector_view c.args.found.items) (all_of (next_selector clamp (logical_at clamp c.args.depth)) c.args.text.now)) w.loop-test.true (rw w.in_default.is at w.in_ok-one.ensures) c.loop.invariant
 ]
 
-pub queries::segment_list-returns-in_err-one : goal.queries::segment_list-returns-in_err-one
-queries::segment_list-returns-in_err-one t c =
+pub queries::segments-returns-in_err-one : goal.queries::segments-returns-in_err-one
+queries::segments-returns-in_err-one t c =
     let p = err_from_is_err_and c.from_residual.result c.from_residual.ensures.1 in
-    rw (p.1, p.2) (fails (next_segment clamp (logical_at clamp c.args.depth)) (map segment_view c.loop.all.items) (length c.args.text.now) c.loop.counter c.loop.rest.now (all_of (next_segment clamp (logical_at clamp c.args.depth)) c.args.text.now) c.in_err-one.field-0.0 c.loop-test.true c.in_err-one.ensures c.loop.invariant)
+    rw (p.1, p.2) (segments_fail clamp (logical_at clamp c.args.depth) c.args.text.now c.in_err-one.field-0.0 (fails (next_segment clamp (logical_at clamp c.args.depth)) (map segment_view c.loop.all.items) (length c.args.text.now) c.loop.counter c.loop.rest.now (all_of (next_segment clamp (logical_at clamp c.args.depth)) c.args.text.now) c.in_err-one.field-0.0 c.loop-test.true c.in_err-one.ensures c.loop.invariant))
 
-pub queries::segment_list-loop-preserved : goal.queries::segment_list-loop-preserved
-queries::segment_list-loop-preserved t c =
+pub queries::segments-loop-preserved : goal.queries::segments-loop-preserved
+queries::segments-loop-preserved t c =
     let e : map segment_view c.push.new.self.items ≡ map segment_view c.loop.all.items ++ segment_view c.in-Some.one ∷ [] = rw c.in_ok-push.ensures.items (map_push _ c.loop.all.items c.in-Some.one) in
     let one : next_segment clamp (logical_at clamp c.args.depth) c.loop.rest.now ≡ Some (Some (segment_view c.in-Some.one, c.in-Some.others.now)) = rw c.in-Some.is at c.in_ok-one.ensures in
     rw e (goes_on (next_segment clamp (logical_at clamp c.args.depth)) (map segment_view c.loop.all.items) (length c.args.text.now) c.loop.counter c.loop.rest.now (all_of (next_segment clamp (logical_at clamp c.args.depth)) c.args.text.now) (segment_view c.in-Some.one) c.in-Some.others.now c.loop-test.true one c.loop.invariant)
 
-pub queries::segment_list-returns : goal.queries::segment_list-returns
-queries::segment_list-returns t c = elim c.loop-test.branch [
-  | queries::segment_list-else-loop-test w ↦ is_done (next_segment clamp (logical_at clamp c.args.depth)) (map segment_view c.loop.all.items) (length c.args.text.now) c.loop.counter c.loop.rest.now (all_of (next_segment clamp (logical_at clamp c.args.depth)) c.args.text.now) w.loop-test.false c.loop.invariant
-  | queries::segment_list-then-loop-test+in_ok-one+in_default w ↦ stops (next_segment clamp (logical_at clamp c.args.depth)) (map segment_view c.loop.all.items) (length c.args.text.now) c.loop.counter c.loop.rest.now (all_of (next_segment clamp (logical_at clamp c.args.depth)) c.args.text.now) w.loop-test.true (rw w.in_default.is at w.in_ok-one.ensures) c.loop.invariant
+pub queries::segments-returns : goal.queries::segments-returns
+queries::segments-returns t c = elim c.loop-test.branch [
+  | queries::segments-else-loop-test w ↦ segments_given clamp (logical_at clamp c.args.depth) c.args.text.now (map segment_view c.loop.all.items) c.loop.rest.now (is_done (next_segment clamp (logical_at clamp c.args.depth)) (map segment_view c.loop.all.items) (length c.args.text.now) c.loop.counter c.loop.rest.now (all_of (next_segment clamp (logical_at clamp c.args.depth)) c.args.text.now) w.loop-test.false c.loop.invariant)
+  | queries::segments-then-loop-test+in_ok-one+in_default w ↦ segments_given clamp (logical_at clamp c.args.depth) c.args.text.now (map segment_view c.loop.all.items) c.loop.rest.now (stops (next_segment clamp (logical_at clamp c.args.depth)) (map segment_view c.loop.all.items) (length c.args.text.now) c.loop.counter c.loop.rest.now (all_of (next_segment clamp (logical_at clamp c.args.depth)) c.args.text.now) w.loop-test.true (rw w.in_default.is at w.in_ok-one.ensures) c.loop.invariant)
 ]
 
 pub calls::more_arguments-returns-in_err-one : goal.calls::more_arguments-returns-in_err-one

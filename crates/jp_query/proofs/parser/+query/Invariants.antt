@@ -26,11 +26,8 @@ decreases-queries::descendants l = 32 * l.depth + 5
 abbrev pub decreases-queries::next_segment : goal.decreases-queries::next_segment
 decreases-queries::next_segment l = 32 * l.depth + 6
 
-abbrev pub decreases-queries::segment_list : goal.decreases-queries::segment_list
-decreases-queries::segment_list l = 32 * l.depth + 7
-
 abbrev pub decreases-queries::segments : goal.decreases-queries::segments
-decreases-queries::segments l = 32 * l.depth + 8
+decreases-queries::segments l = 32 * l.depth + 7
 
 abbrev pub decreases-logical::closed : goal.decreases-logical::closed
 decreases-logical::closed l = 32 * l.depth + 1
@@ -97,8 +94,8 @@ abbrev pub invariant-queries::more_selectors-loop : goal.invariant-queries::more
 invariant-queries::more_selectors-loop l = with_front (map selector_view l.all.items) (many (next_selector clamp (logical_at clamp l.depth)) (length l.text - l.counter) l.rest) ≡ with_front (map selector_view l.fn.found.items) (all_of (next_selector clamp (logical_at clamp l.depth)) l.text)
 
 -- what was read so far, and then what is still read
-abbrev pub invariant-queries::segment_list-loop : goal.invariant-queries::segment_list-loop
-invariant-queries::segment_list-loop l = with_front (map segment_view l.all.items) (many (next_segment clamp (logical_at clamp l.depth)) (length l.text - l.counter) l.rest) ≡ all_of (next_segment clamp (logical_at clamp l.depth)) l.text
+abbrev pub invariant-queries::segments-loop : goal.invariant-queries::segments-loop
+invariant-queries::segments-loop l = with_front (map segment_view l.all.items) (many (next_segment clamp (logical_at clamp l.depth)) (length l.text - l.counter) l.rest) ≡ all_of (next_segment clamp (logical_at clamp l.depth)) l.text
 
 -- what was read so far, and then what is still read
 abbrev pub invariant-calls::more_arguments-loop : goal.invariant-calls::more_arguments-loop
