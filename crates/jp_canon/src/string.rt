@@ -1,39 +1,11 @@
 //! Strings in canonical form (RFC 8785, section 3.2.2.2).
 
-ghost use Rattle.std.specs.Prelude.{◌≡◌, ◌++◌, ◌/◌, ◌%◌, ◌<◌, ◌∷◌, [], OnOk, codes, flat_map};
+ghost use Rattle.std.specs.Prelude.{◌≡◌, ◌++◌, OnOk, flat_map};
 ghost use Rattle.jp_canon.specs.Canonical.{character_text, string_text};
-ghost use Rattle.jp_model.specs.Meaning.Paths.{hex_digit as hex_digit_of};
 ghost use Rattle.jp_strings.specs.Points.{IsText, points_of};
 
-use jp_strings::{Scalars, is_plain};
+use jp_strings::{Scalars, control_escape, is_plain};
 use std::alloc::AllocError;
-
-/// A hexadecimal digit, in lower case.
-fn hex_digit(value: u8) -> u8
-    requires { value < 16 }
-    ensures { result ≡ hex_digit_of value }
-{
-    if value < 10 {
-        b'0' + value
-    } else {
-        b'a' + (value - 10)
-    }
-}
-
-/// The escape of a control character that has no letter.
-fn control_escape(control: u8) -> [u8; 6]
-    requires { control < 32 }
-    ensures { result ≡ codes "\\u00" ++ hex_digit_of (control / 16) ∷ hex_digit_of (control % 16) ∷ [] }
-{
-    [
-        b'\\',
-        b'u',
-        b'0',
-        b'0',
-        hex_digit(control / 16),
-        hex_digit(control % 16),
-    ]
-}
 
 /// Appends a scalar, by its shortest escape where it has to be escaped.
 fn append_character(scalar: char, text: &mut Vec<u8>) -> Result<(), AllocError>

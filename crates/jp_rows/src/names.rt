@@ -1,11 +1,11 @@
 //! The steps of normalized paths (RFC 9535, section 2.7).
 
-ghost use Rattle.std.specs.Prelude.{◌≡◌, ◌/◌, ◌%◌, ◌<◌, ◌∷◌, ◌++◌, [], false, is_err, chars, codes, encode_utf8_all};
+ghost use Rattle.std.specs.Prelude.{◌≡◌, ◌++◌, false, is_err, chars, encode_utf8_all};
 ghost use Rattle.std.specs.List.{list_all};
 ghost use Rattle.jp_model.specs.Devices.{Writes};
 ghost use Rattle.jp_model.specs.Steps.{name_step, index_step};
 ghost use Rattle.jp_model.specs.Meaning.Nodes.{step_to};
-ghost use Rattle.jp_model.specs.Meaning.Paths.{hex_digit as hex_digit_of, name_scalar, step_text};
+ghost use Rattle.jp_model.specs.Meaning.Paths.{name_scalar, step_text};
 ghost use Rattle.jp_strings.specs.Points.{IsText, points_of};
 ghost use Rattle.jp_tape.specs.Cursors.{name_of, index_of};
 ghost use Rattle.jp_rows.specs.Names.{IsOfText, name_text, scalars_of, stands_unescaped as byte_stands_unescaped};
@@ -13,36 +13,9 @@ ghost use Rattle.jp_rows.specs.Names.{IsOfText, name_text, scalars_of, stands_un
 use crate::whole::{WriteFault, write_whole};
 use itoa::Buffer;
 use jp_model::Watched;
-use jp_strings::Scalars;
+use jp_strings::{Scalars, control_escape};
 use jp_tape::Cursor;
 use std::io::Write;
-
-/// A hexadecimal digit, in lower case (RFC 9535, section 2.7: normal-hexchar).
-fn hex_digit(value: u8) -> u8
-    requires { value < 16 }
-    ensures { result ≡ hex_digit_of value }
-{
-    if value < 10 {
-        b'0' + value
-    } else {
-        b'a' + (value - 10)
-    }
-}
-
-/// The escape of a control character that has no letter.
-fn control_escape(control: u8) -> [u8; 6]
-    requires { control < 32 }
-    ensures { result ≡ codes "\\u00" ++ hex_digit_of (control / 16) ∷ hex_digit_of (control % 16) ∷ [] }
-{
-    [
-        b'\\',
-        b'u',
-        b'0',
-        b'0',
-        hex_digit(control / 16),
-        hex_digit(control % 16),
-    ]
-}
 
 /// A name or a string: by its scalars, or by its body in a JSON text.
 #[derive(Clone, Copy)]

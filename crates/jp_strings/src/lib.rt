@@ -10,9 +10,11 @@
 //! - `spells`, `compare_text`: whether a body spells a text; their order
 //! - `is_plain`, `spells_known`: whether each byte of a text stands for itself; `spells` for a text of which that may be
 //!   known
+//! - `control_escape`: the escape `\u00XX` that a control character is written as
 #![tactic(auto)]
 
 mod checks;
+mod control;
 mod escape;
 mod fault;
 pub mod laws;
@@ -20,6 +22,7 @@ mod order;
 mod scalars;
 
 pub use checks::{test_body, test_utf8_body};
+pub use control::control_escape;
 pub use fault::StringFault;
 pub use order::{
     compare, compare_scalars, compare_text, equal, is_plain, plain_text, scalar_count, spells,

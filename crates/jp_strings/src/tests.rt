@@ -133,6 +133,12 @@ fn plain_texts_are_spelled(rt: HostRuntime) -> Result<(), Fail> {
 }
 
 #[test]
+fn control_characters_are_escaped(rt: HostRuntime) {
+    assert_eq!(rt; &control_escape(0x0B), b"\\u000b");
+    assert_eq!(rt; &control_escape(0x1F), b"\\u001f");
+}
+
+#[test]
 fn scalars_are_yielded(rt: HostRuntime) -> Result<(), Fail> {
     let body: &[u8] = b"x\\ud83d\\ude00\xc3\xa9\\/";
     test_body(body)?;
