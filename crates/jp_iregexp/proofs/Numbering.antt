@@ -1,5 +1,6 @@
 -- The numbers of tables, and what is kept in them, of parts in a row and in a list.
 use Rattle.std.proofs.Common.{◌≡◌, ◌==◌, ℕ, suc, ◌+◌, ◌<◌, ◌≤◌, List, [], ◌∷◌, ◌++◌, length, take, drop, get_or, Option, Some, None, option_and_then, Bool, true, false, if◌then◌else◌, arith, refl, sym, ◌∙◌, ap, Global, Vec}
+use Rattle.std.specs.Option.{is_some}
 use Rattle.std.proofs.lemmas.Bool.{eqb-true}
 use Rattle.std.proofs.lemmas.List.{take-append-drop}
 use Rattle.std.proofs.lemmas.Option.{none-some, option_and_then_some}
@@ -51,6 +52,11 @@ next_behind first middle last parts i part l is whole front =
     let split : list_behind first parts ≡ list_behind middle (drop i parts) = ap (list_behind first) (sym (take-append-drop i parts)) ∙ behind_append first (take i parts) (drop i parts) ∙ ap (option_and_then (λ due. list_behind due (drop i parts))) front in
     let rest : list_behind middle (part ∷ drop (i + 1) parts) ≡ Some last = ap (list_behind middle) (sym (drop_item parts i part l is)) ∙ sym split ∙ whole in
     option_and_then_some (λ due. list_behind due (drop (i + 1) parts)) (numbers_behind middle part) last rest (λ due e _. (due, e))
+
+-- a part has its numbers, where there is one behind them
+pub last_behind : (o : Option ℕ) → is_some o ≡ true → (last : ℕ) × o ≡ Some last
+last_behind None e = absurd (cc)
+last_behind (Some last) e = (last, refl)
 
 -- ---- numbers do not fall
 

@@ -117,6 +117,13 @@ ends_nothing text set over = record {
   complete = λ p q h r. subst (λ x. Has set x) (nothing_only text p q r) h;
 }
 
+pub ends_none : (Member : List ℕ → Type 0) (text : List ℕ) (starts ends : PositionSet) → ((p : ℕ) → ¬ (Has starts p)) → ((q : ℕ) → ¬ (Has ends q)) → AreEnds Member text starts ends
+ends_none Member text starts ends none out = record {
+  over = record { within = λ q h. absurd (out q h) };
+  sound = λ q h. absurd (out q h);
+  complete = λ p q h r. absurd (none p h);
+}
+
 pub ends_then : {First Second : List ℕ → Type 0} (text : List ℕ) (starts middle ends : PositionSet) → AreEnds First text starts middle → AreEnds Second text middle ends → AreEnds (Splits First Second) text starts ends
 ends_then {First} {Second} text starts middle ends a b = record {
   over = b.over;

@@ -1,11 +1,11 @@
 -- The loops of the matcher: what is reached so far, and what is left to do.
-use Rattle.std.proofs.Common.{◌≡◌, ℕ, zero, suc, ◌+◌, ◌-◌, ◌<◌, ◌≤◌, ◌⊎◌, inl, inr, List, [], ◌∷◌, length, drop, arith, sym, subst, Some, None}
+use Rattle.std.proofs.Common.{◌≡◌, ℕ, zero, suc, ◌+◌, ◌-◌, ◌<◌, ◌≤◌, ◌⊎◌, inl, inr, List, [], ◌∷◌, length, drop, arith, sym, subst, Some}
 use Rattle.jp_iregexp.specs.declared.node.Node.{Node}
 use Rattle.jp_iregexp.specs.Nodes.{tree_of, sequence_list, choice_list}
 use Rattle.jp_iregexp.specs.declared.positions.PositionSet.{PositionSet}
 use Rattle.jp_iregexp.specs.Positions.{Has, IsSetOver, Reach, ReachFrom, AreEnds}
 use Rattle.jp_model.specs.Pattern.Language.{Language, Splits, Repeats, RepeatsWithin}
-use Rattle.jp_iregexp.proofs.Reaching.{ends_nothing, ends_then, ends_same, AreSame, same_over, same_starts, same_ends, Fronts, ends_repeats_closed, ends_within_closed, ends_up_to_one, one_more, one_fewer, cut, uncut, within_join, within_split, reach_map}
+use Rattle.jp_iregexp.proofs.Reaching.{ends_nothing, ends_then, ends_same, AreSame, same_over, same_starts, same_ends, Fronts, ends_repeats_closed, ends_within_closed, ends_up_to_one, one_more, one_fewer, within_join, within_split, reach_map}
 
 -- whatever the rest of the work reaches from here is what the whole reaches from the starts
 pub record Continues (Rest Whole : List ℕ → Type 0) (text : List ℕ) (starts reached : PositionSet) : Type 0 where
@@ -155,14 +155,6 @@ times_some Member least further text starts reached ends a b =
     let whole : least + further - least ≡ further = omega arith in
     ends_same text starts ends (within_join least (Some (least + further)) (omega arith)) (λ x _ r. within_split least (Some (least + further)) x r)
     (ends_then text starts reached ends a (subst (λ n. AreEnds (RepeatsWithin Member 0 (Some n)) text reached ends) (sym whole) b))
-
--- as many turns as the text has scalars are any number of turns
-pub any_number : (Member : List ℕ → Type 0) (text : List ℕ) (starts ends : PositionSet) → AreEnds (RepeatsWithin Member 0 (Some (length text))) text starts ends → AreEnds (RepeatsWithin Member 0 None) text starts ends
-any_number Member text starts ends a = ends_same text starts ends (uncut (length text)) (cut (length text)) a
-
-pub times_none : (Member : List ℕ → Type 0) (least : ℕ) (text : List ℕ) (starts reached ends : PositionSet) → AreEnds (Repeats Member least) text starts reached → AreEnds (RepeatsWithin Member 0 None) text reached ends → AreEnds (RepeatsWithin Member least None) text starts ends
-times_none Member least text starts reached ends a b =
-    ends_same text starts ends (within_join least None tt) (λ x _ r. within_split least None x r) (ends_then text starts reached ends a b)
 
 pub exact_start : (Member : List ℕ → Type 0) (count : ℕ) (text : List ℕ) (starts reached : PositionSet) → IsSetOver (length text) starts → AreSame reached starts → Continues (Repeats Member (count - 0)) (Repeats Member count) text starts reached
 exact_start Member count text starts reached over e =

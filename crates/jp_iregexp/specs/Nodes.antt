@@ -30,6 +30,11 @@ abbrev pub most_of : ℕ → Option ℕ → Option ℕ
 most_of least None = None
 most_of least (Some further) = Some (least + further)
 
+-- so many further turns; without a bound, as many as a text of this length has scalars
+abbrev pub turns_of : ℕ → Option ℕ → ℕ
+turns_of len None = len
+turns_of len (Some further) = further
+
 abbrev mutual
   pub tree_of : Node → Pattern
   tree_of (ClassNode c) = one_of (class_of c)

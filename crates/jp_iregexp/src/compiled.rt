@@ -1,7 +1,7 @@
 //! A pattern's tree, and its automaton where it has one.
 
-ghost use Rattle.std.specs.Prelude.{◌≡◌, IfOk, map, Some, None};
-ghost use Rattle.std.specs.Option.{IfSome};
+ghost use Rattle.std.specs.Prelude.{◌≡◌, true, IfOk, map, None};
+ghost use Rattle.std.specs.Option.{IfSome, is_some};
 ghost use Rattle.jp_iregexp.specs.States.{Accepts};
 ghost use Rattle.jp_iregexp.specs.Layouts.{state_of};
 ghost use Rattle.jp_iregexp.specs.Nodes.{tree_of};
@@ -13,14 +13,15 @@ use crate::node::Node;
 use crate::numbers::with_numbers;
 use std::alloc::{AllocError, Global};
 
-/// A tree and its automaton, which it has where it is small enough. In another one the tables are numbered.
+/// A tree and its automaton, which it has where it is small enough. In another one the tables are numbered, and it is known
+/// whether a match makes them.
 #[derive(Drop)]
 pub(crate) struct Compiled {
     pub(crate) root: Node,
     pub(crate) automaton: Option<Automaton>,
-    pub(crate) tables: usize,
+    pub(crate) keeps_tables: bool,
     ghost same: { ∥ IfSome automaton (λ a. Accepts (map state_of a.states.items) a.starts (tree_of root)) ∥₁ },
-    ghost numbered: { automaton ≡ None → numbers_behind 0 root ≡ Some tables },
+    ghost numbered: { automaton ≡ None → is_some (numbers_behind 0 root) ≡ true },
 }
 
 impl Compiled {
@@ -33,14 +34,14 @@ impl Compiled {
             return Ok(Compiled {
                 root,
                 automaton,
-                tables: 0,
+                keeps_tables: false,
             });
         }
-        let (root, tables) = with_numbers(alloc, &root)?;
+        let (root, keeps_tables) = with_numbers(alloc, &root)?;
         Ok(Compiled {
             root,
             automaton: None,
-            tables,
+            keeps_tables,
         })
     }
 }

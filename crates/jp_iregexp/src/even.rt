@@ -12,18 +12,19 @@ use crate::positions::PositionSet;
 use std::alloc::{AllocError, Global};
 
 /// No length is above this one.
-const LONGEST: usize = 1 << 31;
+pub(crate) const LONGEST: usize = 1 << 31;
 
-/// The length of each text of the part, if they have one.
+/// The length of each text of the part, if they have one, and it is not above `longest`.
 #[cycle(length)]
-pub(crate) fn common_length(node: &Node) -> Option<usize>
+pub(crate) fn common_length(node: &Node, longest: usize) -> Option<usize>
+    requires { longest ≤ 2 ^ 31 }
     ensures is { IfSome result (λ n. HaveLength (Language (tree_of node.now)) n) }
-    ensures small { IfSome result (λ n. n ≤ 2 ^ 31) }
+    ensures small { IfSome result (λ n. n ≤ longest) }
 {
     match node {
-        Node::Class(_) => Some(1),
-        Node::Sequence(parts) => sequence_length(parts.as_slice()),
-        Node::Choice(parts) => choice_length(parts.as_slice()),
+        Node::Class(_) => (longest > 0).then_some(1),
+        Node::Sequence(parts) => sequence_length(parts.as_slice(), longest),
+        Node::Choice(parts) => choice_length(parts.as_slice(), longest),
         Node::Repeated {
             body,
             least,
@@ -33,9 +34,9 @@ pub(crate) fn common_length(node: &Node) -> Option<usize>
             if *further != Some(0) {
                 return None;
             }
-            let once = common_length(body)?;
+            let once = common_length(body, longest)?;
             let length = once * *least as usize;
-            if length > LONGEST {
+            if length > longest {
                 return None;
             }
             Some(length)
@@ -43,17 +44,18 @@ pub(crate) fn common_length(node: &Node) -> Option<usize>
     }
 }
 
-/// The sum of the parts' lengths, if each of them has one and the sum is not above `LONGEST`.
+/// The sum of the parts' lengths, if each of them has one and the sum is not above `longest`.
 #[cycle(length)]
-fn sequence_length(parts: &[Node]) -> Option<usize>
+fn sequence_length(parts: &[Node], longest: usize) -> Option<usize>
+    requires { longest ≤ 2 ^ 31 }
     ensures is { IfSome result (λ n. HaveLength (Language (sequence_list parts.now)) n) }
-    ensures small { IfSome result (λ n. n ≤ 2 ^ 31) }
+    ensures small { IfSome result (λ n. n ≤ longest) }
 {
     let mut length = 0;
     for part in parts {
-        let next = common_length(part)?;
+        let next = common_length(part, longest)?;
         length += next;
-        if length > LONGEST {
+        if length > longest {
             return None;
         }
     }
@@ -62,13 +64,14 @@ fn sequence_length(parts: &[Node]) -> Option<usize>
 
 /// The length that each of the branches has, if it is the same.
 #[cycle(length)]
-fn choice_length(parts: &[Node]) -> Option<usize>
+fn choice_length(parts: &[Node], longest: usize) -> Option<usize>
+    requires { longest ≤ 2 ^ 31 }
     ensures is { IfSome result (λ n. HaveLength (Language (choice_list parts.now)) n) }
-    ensures small { IfSome result (λ n. n ≤ 2 ^ 31) }
+    ensures small { IfSome result (λ n. n ≤ longest) }
 {
     let mut common = None;
     for part in parts {
-        let next = common_length(part)?;
+        let next = common_length(part, longest)?;
         if let Some(length) = common {
             if length != next {
                 return None;

@@ -1,22 +1,22 @@
 //! Which positions a part of a pattern reaches.
 
-ghost use Rattle.std.specs.Prelude.{◌<◌, ◌≤◌, ◌^◌, Some, None, IfOk};
+ghost use Rattle.std.specs.Prelude.{◌≡◌, ◌<◌, ◌≤◌, ◌+◌, ◌*◌, ◌^◌, ◌⊎◌, length, Some, IfOk};
 ghost use Rattle.jp_iregexp.specs.Evens.{HaveLength};
 ghost use Rattle.jp_iregexp.specs.Positions.{AreEnds, AreStarts};
 ghost use Rattle.jp_model.specs.Pattern.Language.{Language, Repeats, RepeatsWithin};
 ghost use Rattle.jp_iregexp.specs.Tables.{Kept, KeptList, KeptTurns};
-ghost use Rattle.jp_iregexp.specs.Nodes.{most_of, tree_of, class_of, sequence_list, choice_list};
+ghost use Rattle.jp_iregexp.specs.Nodes.{turns_of, tree_of, class_of, sequence_list, choice_list};
 ghost use Rattle.jp_model.specs.Pattern.Tree.{one_of, times};
 
 use crate::Result;
 use crate::class::Class;
-use crate::even::{common_length, doubled};
+use crate::even::{LONGEST, common_length, doubled};
 use crate::node::Node;
 use crate::positions::PositionSet;
 use crate::runs::{count_ends, run_ends, window_ends};
 use std::alloc::Global;
 
-// One scalar of the class.
+/// The positions behind one scalar of the class, from each of the starts.
 fn class_ends(
     alloc: Global,
     class: &Class,
@@ -37,6 +37,18 @@ fn class_ends(
     Ok(out)
 }
 
+/// How many turns of a part may follow `least * once` of them, where it is taken from `once` up to `most` times in each of
+/// `least` turns and up to `further` more. What goes beyond the greatest number is left out, as no text is as long.
+fn joined(once: u32, most: usize, least: u32, further: usize) -> usize
+    requires once { once ≤ 1 }
+    requires most { once ≤ most }
+    ensures fits { least * once + result ≤ (least + further) * most }
+    ensures enough { ((least + further) * most ≤ least * once + result) ⊎ (2 ^ 63 ≤ result) }
+{
+    let turns = (least as usize).saturating_add(further);
+    turns.saturating_mul(most) - (least * once) as usize
+}
+
 /// A text, and by number the tables that are kept of it.
 #[derive(Drop)]
 pub(crate) struct Matcher<'a> {
@@ -53,6 +65,9 @@ impl Matcher<'_> {
         requires kept { Kept self.now.text.now self.now.tables.items node.now }
         ensures { IfOk result (λ out. AreEnds (Language (tree_of node.now)) self.now.text.now starts.now out) }
     {
+        if !starts.has_any() {
+            return Ok(PositionSet::empty(self.alloc));
+        }
         match node {
             Node::Class(class) => class_ends(self.alloc, class, self.text, starts),
             Node::Sequence(parts) => self.sequence_ends(parts.as_slice(), starts),
@@ -62,11 +77,11 @@ impl Matcher<'_> {
                 least,
                 further,
                 table,
-            } => self.repeated_ends(body, *table, *least, *further, starts),
+            } => self.repeated_ends(body, *table, *least, self.turns(*further), starts),
         }
     }
 
-    // The parts one after another.
+    /// The positions where the parts one after another end.
     #[cycle(ends)]
     fn sequence_ends(&self, parts: &[Node], starts: &PositionSet) -> Result<PositionSet>
         requires starts { AreStarts self.now.text.now starts.now }
@@ -75,12 +90,15 @@ impl Matcher<'_> {
     {
         let mut reached = starts.copy(self.alloc)?;
         for part in parts {
+            if !reached.has_any() {
+                return Ok(reached);
+            }
             reached = self.ends(part, &reached)?;
         }
         Ok(reached)
     }
 
-    // One of the parts.
+    /// The positions where one of the parts ends.
     #[cycle(ends)]
     fn choice_ends(&self, parts: &[Node], starts: &PositionSet) -> Result<PositionSet>
         requires starts { AreStarts self.now.text.now starts.now }
@@ -95,66 +113,55 @@ impl Matcher<'_> {
         Ok(all)
     }
 
-    // The part `least` times, and up to so many further times.
+    /// The part `least` times, and up to so many times more. Where all of it is another part that is taken any number of times
+    /// from none or from one on, turns of turns are turns of that part.
     #[cycle(ends)]
     fn repeated_ends(
         &self,
         body: &Node,
         table: Option<usize>,
         least: u32,
-        further: Option<u32>,
+        further: usize,
         starts: &PositionSet,
     ) -> Result<PositionSet>
         requires starts { AreStarts self.now.text.now starts.now }
         requires kept { KeptTurns self.now.text.now self.now.tables.items body.now table }
-        ensures { IfOk result (λ out. AreEnds (Language (times (tree_of body.now) least (most_of least further))) self.now.text.now starts.now out) }
+        ensures { IfOk result (λ out. AreEnds (Language (times (tree_of body.now) least (Some (least + further)))) self.now.text.now starts.now out) }
     {
+        match body {
+            Node::Sequence(parts) | Node::Choice(parts) => {
+                if let [part] = parts.as_slice() {
+                    return self.repeated_ends(part, table, least, further, starts);
+                }
+            }
+            Node::Repeated {
+                body: part,
+                least: once,
+                further: more,
+                table,
+            } if *once <= 1 => {
+                let most = *once as usize + self.turns(*more);
+                let further = joined(*once, most, least, further);
+                return self.repeated_ends(part, *table, least * *once, further, starts);
+            }
+            _ => {}
+        }
         let reached = self.exact_turns(body, table, least, starts)?;
+        self.further_turns(body, table, further, &reached)
+    }
+
+    /// As many of the further turns as reach anything new: without a bound, as many as the text has scalars.
+    fn turns(&self, further: Option<u32>) -> usize
+        ensures turns { result ≡ turns_of (length self.now.text.now) further }
+        ensures small { length self.now.text.now < 2 ^ 63 → result < 2 ^ 63 }
+    {
         match further {
-            Some(further) => self.up_to_turns(body, table, further, &reached),
-            None => self.any_turns(body, table, &reached),
+            Some(further) => further as usize,
+            None => self.text.len(),
         }
     }
 
-    // The part up to so many times. Scalars of a class take one pass.
-    #[cycle(ends)]
-    fn up_to_turns(
-        &self,
-        body: &Node,
-        table: Option<usize>,
-        most: u32,
-        starts: &PositionSet,
-    ) -> Result<PositionSet>
-        requires starts { AreStarts self.now.text.now starts.now }
-        requires kept { KeptTurns self.now.text.now self.now.tables.items body.now table }
-        ensures { IfOk result (λ out. AreEnds (RepeatsWithin (Language (tree_of body.now)) 0 (Some most)) self.now.text.now starts.now out) }
-    {
-        match body {
-            Node::Class(class) => window_ends(self.alloc, class, self.text, most, starts),
-            _ => self.further_turns(body, table, most as usize, starts),
-        }
-    }
-
-    // The part any number of times. Scalars of a class take one pass; of another part, more turns than the text has scalars reach
-    // nothing new.
-    #[cycle(ends)]
-    fn any_turns(
-        &self,
-        body: &Node,
-        table: Option<usize>,
-        starts: &PositionSet,
-    ) -> Result<PositionSet>
-        requires starts { AreStarts self.now.text.now starts.now }
-        requires kept { KeptTurns self.now.text.now self.now.tables.items body.now table }
-        ensures { IfOk result (λ out. AreEnds (RepeatsWithin (Language (tree_of body.now)) 0 None) self.now.text.now starts.now out) }
-    {
-        match body {
-            Node::Class(class) => run_ends(self.alloc, class, self.text, starts),
-            _ => self.further_turns(body, table, self.text.len(), starts),
-        }
-    }
-
-    // The part so many times. Scalars of a class take one pass.
+    /// The part exactly so many times. Scalars of a class take one pass.
     #[cycle(ends)]
     fn exact_turns(
         &self,
@@ -170,7 +177,7 @@ impl Matcher<'_> {
         if let Node::Class(class) = body {
             return count_ends(self.alloc, class, self.text, count, starts);
         }
-        match common_length(body) {
+        match common_length(body, self.text.len().min(LONGEST)) {
             Some(length) if length > 0 && count > 1 => {
                 self.even_turns(body, table, length, count, starts)
             }
@@ -178,8 +185,8 @@ impl Matcher<'_> {
         }
     }
 
-    // So many turns of a part whose texts all have this length: the ends of one turn are found once, from each position that the turns
-    // may come to.
+    /// So many turns of a part whose texts all have this length: the ends of one turn are found once, from each position that
+    /// the turns may come to.
     #[cycle(ends)]
     fn even_turns(
         &self,
@@ -208,7 +215,7 @@ impl Matcher<'_> {
         starts.moved_within(self.alloc, distance, &all)
     }
 
-    // So many turns. They stop where one changes nothing, as where nothing is reached any more.
+    /// So many turns. They stop where one changes nothing, as where nothing is reached any more.
     #[cycle(ends)]
     fn counted_turns(
         &self,
@@ -232,9 +239,31 @@ impl Matcher<'_> {
         Ok(reached)
     }
 
-    // The part up to so many times. A turn starts from what the one before it added, and they stop where one adds nothing.
+    /// The part up to so many times. Scalars of a class take one pass.
     #[cycle(ends)]
     fn further_turns(
+        &self,
+        body: &Node,
+        table: Option<usize>,
+        most: usize,
+        starts: &PositionSet,
+    ) -> Result<PositionSet>
+        requires starts { AreStarts self.now.text.now starts.now }
+        requires kept { KeptTurns self.now.text.now self.now.tables.items body.now table }
+        ensures { IfOk result (λ out. AreEnds (RepeatsWithin (Language (tree_of body.now)) 0 (Some most)) self.now.text.now starts.now out) }
+    {
+        match body {
+            Node::Class(class) if most < self.text.len() => {
+                window_ends(self.alloc, class, self.text, most, starts)
+            }
+            Node::Class(class) => run_ends(self.alloc, class, self.text, starts),
+            _ => self.added_turns(body, table, most, starts),
+        }
+    }
+
+    /// The part up to so many times. A turn starts from what the one before it added, and they stop where one adds nothing.
+    #[cycle(ends)]
+    fn added_turns(
         &self,
         body: &Node,
         table: Option<usize>,
@@ -259,7 +288,7 @@ impl Matcher<'_> {
         Ok(reached)
     }
 
-    // The part once.
+    /// The part once: by its table, if it was made.
     #[cycle(ends)]
     fn one_turn(
         &self,

@@ -1,62 +1,49 @@
-//! Turns in turns. Where a part that takes turns is in another one, the turns of the outer one repeat those of the inner one, and
-//! their numbers multiply. Turns end where they reach nothing new, after no more of them than the text has scalars, so one in
-//! another one costs no more than a table of the inner one's ends would. Where more are in one another, each part under one of
-//! them has a number, under which a match keeps such a table. A class takes one pass, and parts of one length are doubled.
+//! Turns in turns. Where a part that takes turns is in another one, the turns of the outer one repeat those of the inner one,
+//! and their numbers multiply. Turns end where they reach nothing new, after no more of them than the text has scalars, so one
+//! in another one costs no more than a table of the inner one's ends would. Where more are in one another, a match keeps such a
+//! table of each part that is under one of them and has turns in it, by the number of that part. A class takes one pass, parts
+//! of one length are doubled, and turns that are all of a turn are taken together with it: none of them counts.
 
-ghost use Rattle.std.specs.Prelude.{◌≡◌, map, IfOk, IfSome, Some};
+ghost use Rattle.std.specs.Prelude.{◌≡◌, map, true, is_some, IfOk, IfSome, Some};
 ghost use Rattle.jp_iregexp.specs.Nodes.{tree_of};
 ghost use Rattle.jp_iregexp.specs.Numbers.{next_of, numbers_behind, list_behind};
 
 use crate::Result;
-use crate::even::common_length;
+use crate::even::{LONGEST, common_length};
 use crate::node::Node;
 use std::alloc::Global;
 
-// So many parts that take turns may be in one another without a table.
+/// The largest number of parts that take turns in one another without tables.
 const MOST_LEVELS: usize = 2;
 
-/// The part with the numbers of its tables, and how many there are.
-pub(crate) fn with_numbers(alloc: Global, root: &Node) -> Result<(Node, usize)>
+/// The part with the numbers of its tables, and whether a match makes them.
+pub(crate) fn with_numbers(alloc: Global, root: &Node) -> Result<(Node, bool)>
     ensures same { IfOk result (λ made. tree_of made.0 ≡ tree_of root.now) }
-    ensures numbered { IfOk result (λ made. numbers_behind 0 made.0 ≡ Some made.1) }
+    ensures numbered { IfOk result (λ made. is_some (numbers_behind 0 made.0) ≡ true) }
 {
-    let mut numbers = Numbers {
-        are_needed: needs_tables(root, MOST_LEVELS),
-        next: 0,
-    };
+    let mut numbers = Numbers { next: 0, levels: 0 };
     let made = numbers.part(alloc, root)?;
-    Ok((made, numbers.next))
+    Ok((made, numbers.levels > MOST_LEVELS))
 }
 
-// Whether more parts than this that take turns are in one another.
-fn needs_tables(node: &Node, levels: usize) -> bool {
-    match node {
+/// Whether so many turns of a part, and up to so many further ones, are taken one after another.
+fn takes_turns(body: &Node, further: Option<u32>) -> bool {
+    match body.only() {
         Node::Class(_) => false,
-        Node::Sequence(parts) | Node::Choice(parts) => {
-            for part in parts {
-                if needs_tables(part, levels) {
-                    return true;
-                }
-            }
-            false
-        }
-        Node::Repeated { body, .. } => {
-            if matches!(**body, Node::Class(_)) || common_length(node).is_some() {
-                return needs_tables(body, levels);
-            }
-            levels == 0 || needs_tables(body, levels - 1)
-        }
+        part if part.is_joined() => false,
+        part => further != Some(0) || common_length(part, LONGEST).is_none(),
     }
 }
 
-/// Whether tables are needed, and the number of the next one.
+/// The number of the next table, and how many parts that take turns are in one another in what was numbered last.
 #[derive(Drop)]
 struct Numbers {
-    are_needed: bool,
     next: usize,
+    levels: usize,
 }
 
 impl Numbers {
+    /// The part with the numbers of its tables.
     #[cycle(number)]
     fn part(&mut self, alloc: Global, node: &Node) -> Result<Node>
         ensures same { IfOk result (λ made. tree_of made ≡ tree_of node.now) }
@@ -64,6 +51,7 @@ impl Numbers {
     {
         match node {
             Node::Class(class) => {
+                self.levels = 0;
                 let copy = class.copy(alloc)?;
                 Ok(Node::Class(copy))
             }
@@ -83,6 +71,9 @@ impl Numbers {
             } => {
                 let body = self.part(alloc, body)?;
                 let table = self.table(&body);
+                if takes_turns(&body, *further) {
+                    self.levels = self.levels.saturating_add(1);
+                }
                 Ok(Node::Repeated {
                     body: Box::new(alloc, body)?,
                     least: *least,
@@ -93,24 +84,28 @@ impl Numbers {
         }
     }
 
+    /// The parts with the numbers of their tables.
     #[cycle(number)]
     fn parts(&mut self, alloc: Global, parts: &[Node]) -> Result<Vec<Node>>
         ensures same { IfOk result (λ made. map tree_of made.items ≡ map tree_of parts.now) }
         ensures numbered { IfOk result (λ made. list_behind self.old.next made.items ≡ Some self.new.next) }
     {
         let mut made = Vec::new(alloc);
+        let mut levels = 0;
         for part in parts {
             let numbered = self.part(alloc, part)?;
+            levels = levels.max(self.levels);
             made.push(numbered)?;
         }
+        self.levels = levels;
         Ok(made)
     }
 
-    // The number of the table of a part, if one that takes turns is in it.
+    /// The number of the table of a part that was numbered last, if turns are taken in it one after another.
     fn table(&mut self, body: &Node) -> Option<usize>
         ensures { next_of self.old.next result ≡ Some self.new.next }
     {
-        if !self.are_needed || !needs_tables(body, 0) {
+        if self.levels == 0 || body.only().is_joined() {
             return None;
         }
         let number = self.next;

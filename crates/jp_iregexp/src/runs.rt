@@ -84,14 +84,15 @@ pub(crate) fn window_ends(
     alloc: Global,
     class: &Class,
     text: &[char],
-    most: u32,
+    most: usize,
     starts: &PositionSet,
 ) -> Result<PositionSet, AllocError>
-    requires { AreStarts text.now starts.now }
+    requires starts { AreStarts text.now starts.now }
+    requires most { most < 2 ^ 63 }
     ensures { IfOk result (λ out. AreEnds (RepeatsWithin (Language (one_of (class_of class.now))) 0 (Some most)) text.now starts.now out) }
 {
     let mut out = starts.copy(alloc)?;
-    let full = most as usize + 1;
+    let full = most + 1;
     let low = starts.low();
     let high = starts.high();
     let mut room = next_room(starts, low, false, full, 0);

@@ -30,15 +30,14 @@ pub(crate) fn reach(
         text,
         tables: Vec::new(alloc),
     };
-    if compiled.tables == 0 {
-        return matcher.ends(&compiled.root, starts);
+    if compiled.keeps_tables {
+        matcher.prepare(&compiled.root)?;
     }
-    matcher.prepare(&compiled.root)?;
     matcher.ends(&compiled.root, starts)
 }
 
 impl Matcher<'_> {
-    // Makes the tables of a part.
+    /// Makes the tables of a part.
     #[cycle(prepare)]
     fn prepare(&mut self, node: &Node) -> Result<()>
         requires fits { length self.old.text.now < 2 ^ 63 }
@@ -63,6 +62,7 @@ impl Matcher<'_> {
         }
     }
 
+    /// Makes the tables of parts, one after another.
     #[cycle(prepare)]
     fn prepare_parts(&mut self, parts: &[Node]) -> Result<()>
         requires fits { length self.old.text.now < 2 ^ 63 }
@@ -78,7 +78,7 @@ impl Matcher<'_> {
         Ok(())
     }
 
-    // The ends of a part from each position.
+    /// The ends of a part from each position.
     fn rows(&self, body: &Node) -> Result<Vec<PositionSet>>
         requires fits { length self.now.text.now < 2 ^ 63 }
         requires kept { Kept self.now.text.now self.now.tables.items body.now }

@@ -1,4 +1,4 @@
-use Rattle.std.proofs.Common.{rules, ◌≡◌, ◌≤◌, ◌+◌, ◌*◌, ◌^◌, ℕ, List, take, Option, Some, None, arith, sym, ◌∙◌, ap, subst}
+use Rattle.std.proofs.Common.{rules, ◌≡◌, ◌≤◌, ◌+◌, ◌*◌, ℕ, List, take, Option, Some, None, arith, sym, ◌∙◌, ap, subst}
 use Rattle.std.specs.Option.{IfSome}
 use Rattle.jp_model.specs.Pattern.Language.{Language}
 use Rattle.jp_model.specs.Pattern.Tree.{Pattern, times}
@@ -21,8 +21,8 @@ common_length-returns-in-Choice-clause-is t c =
     let tree : tree_of c.args.node.now ≡ choice_list c.as_slice-in-Choice.result.now = ap tree_of c.in-Choice.is ∙ tree_of_Choice c.in-Choice.parts ∙ ap choice_list (sym c.as_slice-in-Choice.ensures.value) in
     subst (λ (r : Pattern). IfSome c.choice_length.result (λ n. HaveLength (Language r) n)) (sym tree) c.choice_length.ensures.is
 
-pub common_length-returns-else-length-gt-LONGEST-clause-is : goal.common_length-returns-else-length-gt-LONGEST-clause-is
-common_length-returns-else-length-gt-LONGEST-clause-is t c =
+pub common_length-returns-else-length-longest-clause-is : goal.common_length-returns-else-length-longest-clause-is
+common_length-returns-else-length-longest-clause-is t c =
     let body : Node = c.in-Repeated.body.value in
     let least = c.in-Repeated.least in
     let once = c.in_ok-once-in-Repeated.once in
@@ -42,7 +42,7 @@ sequence_length-loop-part-preserved t c =
     record {
       is = subst (λ ps. HaveLength (Language (sequence_list ps)) (l.length + next)) (sym cut)
           (λ x h. splits_length (Language (sequence_list before)) (Language (tree_of part)) l.length next l.invariant.is c.in_ok-next.ensures.is x (sequence_fewer before part x h));
-      small = omega (arith, c.if-length-gt-LONGEST.false);
+      small = omega (arith, c.if-length-longest.false);
     }
 
 pub choice_length-loop-part-preserved : goal.choice_length-loop-part-preserved
@@ -56,12 +56,12 @@ choice_length-loop-part-preserved t c =
     let on : (common : Option ℕ) → common ≡ Some next → ((n : ℕ) → l.common ≡ Some n → n ≡ next) → record {
       is : IfSome common (λ n. HaveLength (Language (choice_list (take (l.part-index + 1) parts))) n);
       none : common ≡ None → (x : List ℕ) → Language (choice_list (take (l.part-index + 1) parts)) x → ⊥;
-      small : IfSome common (λ n. n ≤ 2 ^ 31);
+      small : IfSome common (λ n. n ≤ c.args.longest);
     } = (λ common e same. record {
       is = subst (λ (o : Option ℕ). IfSome o (λ n. HaveLength (Language (choice_list (take (l.part-index + 1) parts))) n)) (sym e)
           (subst (λ ps. HaveLength (Language (choice_list ps)) next) (sym cut) (choice_length before part l.common next l.invariant.is l.invariant.none same c.in_ok-next.ensures.is));
       none = λ none. absurd (cc);
-      small = subst (λ (o : Option ℕ). IfSome o (λ n. n ≤ 2 ^ 31)) (sym e) c.in_ok-next.ensures.small;
+      small = subst (λ (o : Option ℕ). IfSome o (λ n. n ≤ c.args.longest)) (sym e) c.in_ok-next.ensures.small;
     }) in
     elim c.match-common.branch [
       | choice_length-in-Some+else-length-next w ↦ on c.match-common.common w.common-is (λ n e. let at : n ≡ w.in-Some.length = cc in omega (arith, at, w.if-length-next.false))

@@ -1,4 +1,4 @@
-use Rattle.std.proofs.Common.{◌≡◌, ◌≤◌, ◌^◌, List, ℕ, take, None}
+use Rattle.std.proofs.Common.{◌≡◌, ◌≤◌, List, ℕ, take, None}
 use Rattle.std.specs.Option.{IfSome}
 use Rattle.jp_model.specs.Pattern.Language.{Language}
 use Rattle.jp_iregexp.specs.Evens.{HaveLength}
@@ -9,8 +9,8 @@ abbrev pub invariant-choice_length-loop-part : goal.invariant-choice_length-loop
 invariant-choice_length-loop-part l = record {
   is : IfSome l.common (λ n. HaveLength (Language (choice_list (take l.part-index l.parts))) n);
   none : l.common ≡ None → (x : List ℕ) → Language (choice_list (take l.part-index l.parts)) x → ⊥;
-  small : IfSome l.common (λ n. n ≤ 2 ^ 31);
+  small : IfSome l.common (λ n. n ≤ l.longest);
 }
 
 abbrev pub invariant-sequence_length-loop-part : goal.invariant-sequence_length-loop-part
-invariant-sequence_length-loop-part l = record { is : HaveLength (Language (sequence_list (take l.part-index l.parts))) l.length; small : l.length ≤ 2 ^ 31 }
+invariant-sequence_length-loop-part l = record { is : HaveLength (Language (sequence_list (take l.part-index l.parts))) l.length; small : l.length ≤ l.longest }

@@ -14,8 +14,8 @@ loop-p-init c =
     let full = c.args.most + 1 in
     let low = c.low-low in
     let e = c.next_room-room.ensures in
-    window_start P text starts c.in_ok-out.out full low.result c.next_room-room.result (omega arith) low.ensures c.requires.over c.in_ok-out.ensures
-    (first_room P text starts full low.result c.next_room-room.result low.ensures c.requires.over e.begins (λ n. e.ends n refl))
+    window_start P text starts c.in_ok-out.out full low.result c.next_room-room.result (omega arith) low.ensures c.requires.starts.over c.in_ok-out.ensures
+    (first_room P text starts full low.result c.next_room-room.result low.ensures c.requires.starts.over e.begins (λ n. e.ends n refl))
 
 pub loop-p-preserved : goal.loop-p-preserved
 loop-p-preserved c =

@@ -1,14 +1,15 @@
-use Rattle.std.proofs.Common.{◌≡◌, ℕ, List, get_or, Vec, Global, ◌<◌, ◌+◌, ◌*◌, ◌-◌, ◌≤◌, ◌↔◌, inl, inr, refl, Option, Some, None, IfOk, length, arith, rules, sym, ◌∙◌, ap, subst}
+use Rattle.std.proofs.Common.{◌≡◌, ℕ, List, get_or, Vec, Global, ◌<◌, ◌+◌, ◌*◌, ◌-◌, ◌≤◌, ◌↔◌, inl, inr, refl, Some, None, IfOk, length, drop, arith, rules, sym, ◌∙◌, ap, subst}
 use Rattle.jp_iregexp.specs.declared.node.Node.{Node, the_lemmas}
 use Rattle.jp_iregexp.specs.declared.positions.PositionSet.{PositionSet}
 use Rattle.jp_model.specs.Pattern.Language.{Language, Repeats, RepeatsWithin}
-use Rattle.jp_model.specs.Pattern.Tree.{Pattern}
+use Rattle.jp_model.specs.Pattern.Tree.{Pattern, times}
 use Rattle.jp_iregexp.specs.Positions.{Has, AreEnds}
 use Rattle.jp_iregexp.proofs.Evens.{even_ends, even_none}
 use Rattle.jp_iregexp.specs.Nodes.{most_of, tree_of, sequence_list, choice_list}
 use Rattle.jp_iregexp.proofs.Parts.{tree_of_Sequence, tree_of_Choice, drop_item, drop_past, if_ok_map}
-use Rattle.jp_iregexp.proofs.Turns.{continue_start, sequence_step, sequence_end, gather_step, gather_end, exact_start, exact_step, exact_exit, exact_end, further_start, further_step, further_exit, further_end, front_start, front_step, times_some, times_none, any_number}
-use Rattle.jp_iregexp.proofs.Reaching.{same_over}
+use Rattle.jp_iregexp.proofs.Turns.{continue_start, sequence_step, sequence_end, gather_step, gather_end, exact_start, exact_step, exact_exit, exact_end, further_start, further_step, further_exit, further_end, front_start, front_step, times_some}
+use Rattle.jp_iregexp.proofs.Joined.{joined_ends, turns_ends, bounded_ends, only_kept, only_ends}
+use Rattle.jp_iregexp.proofs.Reaching.{ends_none, same_over}
 use Rattle.jp_iregexp.proofs.Rows.{table_ends}
 use Rattle.jp_iregexp.specs.Tables.{AreInRows, IsKept, IsTable, Kept, KeptList}
 use Rattle.jp_iregexp.proofs.Keeping.{kept_at, from_Sequence, from_Choice}
@@ -88,8 +89,8 @@ counted_turns-returns t c =
     let member = Language (tree_of c.args.body.now) in
     exact_end member (Repeats member c.args.count) c.args.self.now.text.now c.args.starts.now c.loop-turn.reached c.loop-turn.reached c.args.count c.loop-turn.turn (omega arith) c.loop-turn.invariant
 
-pub further_turns-loop-turn-init : goal.further_turns-loop-turn-init
-further_turns-loop-turn-init t c =
+pub added_turns-loop-turn-init : goal.added_turns-loop-turn-init
+added_turns-loop-turn-init t c =
     let member = Language (tree_of c.args.body.now) in
     let reached = c.in_ok-reached.reached in
     record {
@@ -98,8 +99,8 @@ further_turns-loop-turn-init t c =
       inside = same_over (length c.args.self.now.text.now) c.args.starts.now c.in_ok-frontier.frontier c.in_ok-frontier.ensures c.requires.starts.over;
     }
 
-pub further_turns-loop-turn-preserved : goal.further_turns-loop-turn-preserved
-further_turns-loop-turn-preserved t c =
+pub added_turns-loop-turn-preserved : goal.added_turns-loop-turn-preserved
+added_turns-loop-turn-preserved t c =
     let member = Language (tree_of c.args.body.now) in
     let l = c.loop-turn in
     let i = l.invariant in
@@ -116,49 +117,19 @@ further_turns-loop-turn-preserved t c =
       inside = record { within = λ q h. c.in_ok-next.ensures.over.within q (f.sound q h) };
     }
 
-pub further_turns-returns-then-not-has_any : goal.further_turns-returns-then-not-has_any
-further_turns-returns-then-not-has_any t c =
+pub added_turns-returns-then-not-has_any : goal.added_turns-returns-then-not-has_any
+added_turns-returns-then-not-has_any t c =
     let member = Language (tree_of c.args.body.now) in
     let l = c.loop-turn in
     let i = l.invariant in
     further_exit member (RepeatsWithin member 0 (Some c.args.most)) c.args.self.now.text.now c.args.starts.now l.reached c.in_ok-next.next l.frontier c.args.most l.turn i.continues i.fronts c.in_ok-next.ensures
     (λ q h. elim (c.in_ok-fresh.ensures.complete q h) [ inl n ↦ absurd (let some = c.has_any.ensures.none q n in let none = c.if-not-has_any.true in cc) | inr o ↦ o ])
 
-pub further_turns-returns : goal.further_turns-returns
-further_turns-returns t c =
+pub added_turns-returns : goal.added_turns-returns
+added_turns-returns t c =
     let member = Language (tree_of c.args.body.now) in
     let l = c.loop-turn in
     further_end member (RepeatsWithin member 0 (Some c.args.most)) c.args.self.now.text.now c.args.starts.now l.reached l.reached c.args.most l.turn (omega arith) l.invariant.continues
-
-pub any_turns-returns-in_default : goal.any_turns-returns-in_default
-any_turns-returns-in_default t c =
-    let member = Language (tree_of c.args.body.now) in
-    let text = c.args.self.now.text.now in
-    let starts = c.args.starts.now in
-    if_ok_map (λ (out : PositionSet). AreEnds (RepeatsWithin member 0 (Some (length text))) text starts out) (λ (out : PositionSet). AreEnds (RepeatsWithin member 0 None) text starts out) c.further_turns.result
-    (λ out b. any_number member text starts out b) c.further_turns.ensures
-
-pub repeated_ends-returns-in-Some : goal.repeated_ends-returns-in-Some
-repeated_ends-returns-in-Some t c =
-    let member = Language (tree_of c.args.body.now) in
-    let text = c.args.self.now.text.now in
-    let starts = c.args.starts.now in
-    let reached = c.in_ok-reached.reached in
-    let least = c.args.least in
-    subst (λ (m : Option ℕ). IfOk c.up_to_turns.result (λ (out : PositionSet). AreEnds (RepeatsWithin member least (most_of least m)) text starts out)) (sym c.in-Some.is)
-    (if_ok_map (λ (out : PositionSet). AreEnds (RepeatsWithin member 0 (Some c.in-Some.further)) text reached out) (λ (out : PositionSet). AreEnds (RepeatsWithin member least (Some (least + c.in-Some.further))) text starts out) c.up_to_turns.result
-    (λ out b. times_some member least c.in-Some.further text starts reached out c.in_ok-reached.ensures b) c.up_to_turns.ensures)
-
-pub repeated_ends-returns : goal.repeated_ends-returns
-repeated_ends-returns t c =
-    let member = Language (tree_of c.args.body.now) in
-    let text = c.args.self.now.text.now in
-    let starts = c.args.starts.now in
-    let reached = c.in_ok-reached.reached in
-    let least = c.args.least in
-    subst (λ (m : Option ℕ). IfOk c.any_turns.result (λ (out : PositionSet). AreEnds (RepeatsWithin member least (most_of least m)) text starts out)) (sym c.in-None.is)
-    (if_ok_map (λ (out : PositionSet). AreEnds (RepeatsWithin member 0 None) text reached out) (λ (out : PositionSet). AreEnds (RepeatsWithin member least None) text starts out) c.any_turns.result
-    (λ out b. times_none member least text starts reached out c.in_ok-reached.ensures b) c.any_turns.ensures)
 
 pub choice_ends-ends-requires : goal.choice_ends-ends-requires
 choice_ends-ends-requires t c =
@@ -198,3 +169,79 @@ one_turn-returns-in-Some-get t c =
     let table : IsTable member text c.as_slice.result.now = subst (λ (x : List PositionSet). IsTable member text x) (sym c.as_slice.ensures.value) (kept rows inside is) in
     if_ok_map (λ (out : PositionSet). AreInRows c.as_slice.result.now c.args.starts.now out) (λ (out : PositionSet). AreEnds member text c.args.starts.now out) c.ends_in.result
     (λ out a. table_ends member text c.as_slice.result.now c.args.starts.now out table c.requires.starts.over a) c.ends_in.ensures
+
+pub ends-returns-in-Repeated : goal.ends-returns-in-Repeated
+ends-returns-in-Repeated t c =
+    let n = c.in-Repeated in
+    let text = c.args.self.now.text.now in
+    let starts = c.args.starts.now in
+    let member = Language (tree_of c.deref.result.now) in
+    let tree : tree_of c.args.node.now ≡ times (tree_of c.deref.result.now) n.least (most_of n.least n.further) = ap tree_of n.is ∙ ap (λ b. times (tree_of b) n.least (most_of n.least n.further)) (sym c.deref.ensures) in
+    subst (λ (r : Pattern). IfOk c.repeated_ends.result (λ (out : PositionSet). AreEnds (Language r) text starts out)) (sym tree)
+    (if_ok_map (λ (out : PositionSet). AreEnds (RepeatsWithin member n.least (Some (n.least + c.turns.result))) text starts out) (λ (out : PositionSet). AreEnds (RepeatsWithin member n.least (most_of n.least n.further)) text starts out) c.repeated_ends.result
+    (λ out a. turns_ends member n.least n.further text starts out (subst (λ k. AreEnds (RepeatsWithin member n.least (Some (n.least + k))) text starts out) c.turns.ensures.turns a)) c.repeated_ends.ensures)
+
+pub further_turns-returns-in-Class-2 : goal.further_turns-returns-in-Class-2
+further_turns-returns-in-Class-2 t c =
+    let member = Language (tree_of c.args.body.now) in
+    let text = c.args.self.now.text.now in
+    let starts = c.args.starts.now in
+    let most = c.args.most in
+    if_ok_map (λ (out : PositionSet). AreEnds (RepeatsWithin member 0 None) text starts out) (λ (out : PositionSet). AreEnds (RepeatsWithin member 0 (Some most)) text starts out) c.run_ends.result
+    (λ out a. bounded_ends member most text starts out c.if-most-self.false a)
+    (subst (λ (n : Node). IfOk c.run_ends.result (λ (out : PositionSet). AreEnds (RepeatsWithin (Language (tree_of n)) 0 None) text starts out)) (sym c.in-Class-2.is) c.run_ends.ensures)
+
+pub repeated_ends-returns-in-Repeated : goal.repeated_ends-returns-in-Repeated
+repeated_ends-returns-in-Repeated t c =
+    let n = c.in-Repeated in
+    let text = c.args.self.now.text.now in
+    let starts = c.args.starts.now in
+    let least = c.args.least in
+    let further = c.args.further in
+    let added = c.joined-further.result in
+    let member = Language (tree_of c.deref.result.now) in
+    let tree : tree_of c.args.body.now ≡ times (tree_of c.deref.result.now) n.once (most_of n.once n.more) = ap tree_of n.is ∙ ap (λ b. times (tree_of b) n.once (most_of n.once n.more)) (sym c.deref.ensures) in
+    subst (λ (r : Pattern). IfOk c.repeated_ends.result (λ (out : PositionSet). AreEnds (RepeatsWithin (Language r) least (Some (least + further))) text starts out)) (sym tree)
+    (if_ok_map (λ (out : PositionSet). AreEnds (RepeatsWithin member (least * n.once) (Some (least * n.once + added))) text starts out) (λ (out : PositionSet). AreEnds (RepeatsWithin (RepeatsWithin member n.once (most_of n.once n.more)) least (Some (least + further))) text starts out) c.repeated_ends.result
+    (λ out a. joined_ends member n.once n.more least further added (n.once + c.turns.result) text starts out c.if-once-le1.true (ap (λ k. n.once + k) c.turns.ensures.turns) c.requires.starts.fits c.joined-further.ensures.fits c.joined-further.ensures.enough a) c.repeated_ends.ensures)
+
+pub repeated_ends-repeated_ends-requires-in-len1 : goal.repeated_ends-repeated_ends-requires-in-len1
+repeated_ends-repeated_ends-requires-in-len1 t c =
+    let low = c.in-len1.len_at_least in
+    let high = c.in-len1.len_below in
+    let kept = only_kept c.args.body.now c.part-item.result c.in-Sequence.parts c.as_slice.result.now c.in-Sequence.is c.as_slice.ensures.value (omega (arith, low, high)) c.part-item.is c.args.self.now.text.now c.args.self.now.tables.items c.args.table c.requires.kept in
+    (search (rules, the_lemmas), (search rules, kept))
+
+pub repeated_ends-returns-in-len1 : goal.repeated_ends-returns-in-len1
+repeated_ends-returns-in-len1 t c =
+    let text = c.args.self.now.text.now in
+    let starts = c.args.starts.now in
+    let least = c.args.least in
+    let most = Some (least + c.args.further) in
+    let low = c.in-len1.len_at_least in
+    let high = c.in-len1.len_below in
+    if_ok_map (λ (out : PositionSet). AreEnds (RepeatsWithin (Language (tree_of c.part-item.result)) least most) text starts out) (λ (out : PositionSet). AreEnds (RepeatsWithin (Language (tree_of c.args.body.now)) least most) text starts out) c.repeated_ends-in-len1.result
+    (λ out a. only_ends c.args.body.now c.part-item.result c.in-Sequence.parts c.as_slice.result.now c.in-Sequence.is c.as_slice.ensures.value (omega (arith, low, high)) c.part-item.is least most text starts out a) c.repeated_ends-in-len1.ensures
+
+pub repeated_ends-returns : goal.repeated_ends-returns
+repeated_ends-returns t c =
+    let member = Language (tree_of c.args.body.now) in
+    let text = c.args.self.now.text.now in
+    let starts = c.args.starts.now in
+    let reached = c.in_ok-reached.reached in
+    let least = c.args.least in
+    let further = c.args.further in
+    if_ok_map (λ (out : PositionSet). AreEnds (RepeatsWithin member 0 (Some further)) text reached out) (λ (out : PositionSet). AreEnds (RepeatsWithin member least (Some (least + further))) text starts out) c.further_turns.result
+    (λ out b. times_some member least further text starts reached out c.in_ok-reached.ensures b) c.further_turns.ensures
+
+pub ends-returns-then-not-has_any : goal.ends-returns-then-not-has_any
+ends-returns-then-not-has_any t c =
+    ends_none (Language (tree_of c.args.node.now)) c.args.self.now.text.now c.args.starts.now c.empty.result
+    (λ p h. let some = c.has_any.ensures.none p h in let none = c.if-not-has_any.true in cc) c.empty.ensures
+
+pub sequence_ends-returns-then-not-has_any : goal.sequence_ends-returns-then-not-has_any
+sequence_ends-returns-then-not-has_any t c =
+    let text = c.args.self.now.text.now in
+    let reached = c.loop-part.reached in
+    let none : (p : ℕ) → ¬ (Has reached p) = λ p h. (let some = c.has_any.ensures.none p h in let no = c.if-not-has_any.true in cc) in
+    c.loop-part.invariant.rest reached (ends_none (Language (sequence_list (drop c.loop-part.part-index c.args.parts.now))) text reached reached none none)

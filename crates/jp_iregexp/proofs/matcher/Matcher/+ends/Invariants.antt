@@ -15,8 +15,8 @@ invariant-choice_ends-loop-part l = Gathers (drop l.part-index l.parts) l.parts 
 abbrev pub invariant-counted_turns-loop-turn : goal.invariant-counted_turns-loop-turn
 invariant-counted_turns-loop-turn l = Continues (Repeats (Language (tree_of l.body)) (l.count - l.turn)) (Repeats (Language (tree_of l.body)) l.count) l.self.text.now l.starts l.reached
 
-abbrev pub invariant-further_turns-loop-turn : goal.invariant-further_turns-loop-turn
-invariant-further_turns-loop-turn l = record {
+abbrev pub invariant-added_turns-loop-turn : goal.invariant-added_turns-loop-turn
+invariant-added_turns-loop-turn l = record {
   continues : Continues (RepeatsWithin (Language (tree_of l.body)) 0 (Some (l.most - l.turn))) (RepeatsWithin (Language (tree_of l.body)) 0 (Some l.most)) l.self.text.now l.starts l.reached;
   fronts : Fronts (Language (tree_of l.body)) l.self.text.now l.reached l.frontier;
   inside : IsSetOver (length l.self.text.now) l.frontier;
