@@ -285,6 +285,8 @@ def long_texts(checks):
     for function, pattern, is_found in cases:
         script = f"query $[?{function}(@,'{pattern}')]\n"
         checks.check(f"{function} of {pattern} on a million scalars", answered(f'["{long}"]\n', script), (0, row if is_found else "= 0\n"))
+    longer = "a" * 10 * MILLION
+    checks.check("search of (aa){999} on ten million scalars", answered(f'["{longer}"]\n', "query $[?search(@,'(aa){999}')]\n"), (0, rows([(1, "$[0]")], f'"{longer}"')))
     shorter = "a" * 50_000
     script = "query $[?match(@,'.{99999}')]\nquery $[?search(@,'.{99999}')]\n"
     checks.check("a count beyond the text", answered(f'["{shorter}"]\n', script), (0, "= 0\n= 0\n"))
@@ -297,8 +299,10 @@ def long_texts(checks):
 
 def turns_in_turns(checks):
     """Parts that take turns in one another, on texts that are long for them."""
-    cases = [(10_000, "((a?){999}){999}b", False), (200_000, "(a|b){99999}b", False), (200_000, "(a|b){200000}", True),
-             (1_000, "(" * 250 + "a{64}b?" + ")*" * 250, False), (1_000, "(" * 250 + "a{64}b?" + "){0,2}" * 250, False)]
+    deep = "(" * 250 + "a{64}b?"
+    cases = [(100_000, "((a?){999}){999}b", False), (200_000, "(a|b){99999}b", False), (200_000, "(a|b){200000}", True),
+             (MILLION, deep + ")*" * 250, True), (100_000, deep + "){0,2}" * 250, False), (1_000, deep + "c)*" + ")*d?" * 249, False),
+             (1_000, "(" * 240 + "x" * 39_000 + "){1}" * 240 + "(((a*)b*)*c)*", False), (1_000, "(" * 240 + "x" * 39_000 + "){2}a" * 240, False)]
     for length, pattern, matches in cases:
         text = "a" * length
         stated = rows([(1, "$[0]")], f'"{text}"') if matches else "= 0\n"

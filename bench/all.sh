@@ -18,7 +18,7 @@ cat << TEXT
 # Benchmarks
 
 Made on $(date -u '+%Y-%m-%d') by \`bench/all.sh\`, in one run, on a machine with $(nproc) processors
-($(sed -n 's/^model name[^:]*: //p' /proc/cpuinfo | head -1), $(uname -sr)), beside
+($(sed -n 's/^model name[^:]*: //p' /proc/cpuinfo | head -1), $(uname -sr)) and a load of $(cut -d ' ' -f 1 /proc/loadavg) as it began, beside
 $(jq --version 2> /dev/null || echo 'no jq'), $(gojq --version 2> /dev/null | head -1 || echo 'no gojq'), sqlite3 $(sqlite3 --version 2> /dev/null | cut -d ' ' -f 1) and simdjson $(dpkg-query -W -f '${Version}' libsimdjson-dev 2> /dev/null || echo 'of none').
 Times are seconds by the clock, those of edits seconds of the processor; of each program, jpq too, the shortest of ${RUNS:-3} runs.
 A virtual machine goes up and down by half within a run, so what stands in brackets is rough.

@@ -43,7 +43,7 @@ _jpgrep() {
     COMPREPLY=()
     [[ $word == -* ]] || return 0
     help=$("$1" --help 2> /dev/null | sed -n '/^Options/,/^$/s/^  *\(-[^<]*\).*/\1/p' | grep -o -E -- '(^|[ ,])--?[a-zA-Z-]+')
-    mapfile -t COMPREPLY < <(compgen -W "${help//,/ }" -- "$word")
+    mapfile -t COMPREPLY < <(compgen -W "${help//,/ }" -- "$word" | sort -u)
 }
 complete -o default -F _jpq jpq
 complete -o default -F _jpgrep jpgrep
