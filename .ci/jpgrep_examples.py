@@ -216,7 +216,10 @@ def beside_jpq(room):
         rows = [row.split(b"\t", 1) for row in answer.stdout.splitlines() if not row.startswith(b"= ")]
         stated = b"".join(b"%s:%s\n" % (line, rest) for line, rest in rows if rest[:1] != b"!")
         refused = b"".join(b"jpgrep: lines:%s: %s\n" % (line, rest[1:]) for line, rest in rows if rest[:1] == b"!")
-        check(f"collection {number} with {query}", ended(["-onp", query, "lines"], room), (stated, refused, 2 if refused else 0 if stated else 1))
+        rows, messages, status = ended(["-onp", query, "lines"], room)
+        # A note that the line itself was probably meant is a matter of its own examples.
+        messages = b"".join(line for line in messages.splitlines(True) if not line.startswith(b"jpgrep: note: "))
+        check(f"collection {number} with {query}", (rows, messages, status), (stated, refused, 2 if refused else 0 if stated else 1))
 
 
 def canonical(value):

@@ -1,6 +1,6 @@
-"""Runs the program on hostile texts and at its limits, and tells whether each run ended as stated.
+"""Runs the programs on hostile texts and at their limits, and tells whether each run ended as stated.
 
-    limits.py PROGRAM FOLDER
+    limits.py JPQ JPGREP FOLDER
 
 FOLDER is for files. Every run has the usual stack of 8 MB, and a time within which it has to end: what costs the square of its
 input does not. What needs more memory than the machine has free is left out, and told.
@@ -11,7 +11,7 @@ import subprocess
 import sys
 import time
 
-PROGRAM, FOLDER = sys.argv[1:]
+PROGRAM, FILTER, FOLDER = sys.argv[1:]
 MILLION = 1_000_000
 MOST_BYTES = 2**32 - 1
 SECONDS = 60
@@ -366,6 +366,37 @@ def filters_from_the_root(checks):
         checks.check(f"a filter of the last element of many, {query}", answered(f"{many}\n", f"query {query}\n"), (0, "= 0\n"))
 
 
+def filters_of_many_roots(checks):
+    """Queries from the root within one another are answered one by one: none is walked within another, so a stack of a megabyte is
+    enough for what has no more of them than reading the query takes."""
+    def nested(times):
+        return ("$" + ".*" * 80 + "[?") * times + "$" + "]" * times
+
+    elements = "[" + ",".join(["1"] * 1000) + "]"
+    for line in ("[" * 512 + "]" * 512, elements):
+        grows_with_its_input(checks, "filters of many roots", lambda size: (answered(line + "\n", f"query {nested(size)}.zz\n"), (0, "= 0\n")), 95)
+        limit = lambda: resource.setrlimit(resource.RLIMIT_STACK, (2**20, 2**20))
+        lines, script = file_of("lines", line + "\n"), file_of("script", f"query {nested(60)}.zz\n")
+        run = subprocess.run([PROGRAM, lines, "--script", script], capture_output=True, timeout=SECONDS, preexec_fn=limit)
+        checks.check("filters of many roots with a stack of a megabyte", (run.returncode, run.stdout), (0, b"= 0\n"))
+
+
+def questions_of_a_filter(checks):
+    """Where jpgrep shows no nodes, one is enough: lines, counts and names take the time and the memory of a condition, although the
+    query selects some million nodes of nested arrays."""
+    limit = lambda: resource.setrlimit(resource.RLIMIT_AS, (2**26, 2**26))
+    for depth, steps in ((200, 4), (200, 6), (512, 3), (512, 4)):
+        line = "[" * depth + "]" * depth
+        lines = file_of("lines", line + "\n")
+        for option, written in (("-c", "1\n"), ("-q", ""), ("-l", lines + "\n"), ("-h", line + "\n")):
+            words = [FILTER, option, "$" + "..*" * steps, lines]
+            before = seconds_so_far()
+            run = subprocess.run(words, capture_output=True, timeout=SECONDS, preexec_fn=limit)
+            name = f"jpgrep {option} of {steps} descents in {depth} arrays"
+            checks.check(name, (run.returncode, run.stdout.decode()), (0, written))
+            checks.check(f"seconds of {name}", seconds_so_far() - before <= 0.5, True)
+
+
 def conditions_of_the_root(checks):
     """What a filter asks of the root is answered once in a line, beside whatever it asks of each child."""
     text, numbers = "ab" * 200_000, list(range(20_000))
@@ -500,7 +531,7 @@ def main():
                  texts_of_backslashes, texts_of_each_form_of_tape, lines_behind_long_ones, objects_of_many_members,
                  many_lines, lines_of_one_key, edits_of_many_lines, texts_of_numbers, texts_of_names, queries, patterns,
                  long_texts, turns_in_turns, long_numbers, objects_turned, large_objects, filters_from_the_root,
-                 conditions_of_the_root, texts_from_the_root, counts_of_many_nodes, dead_ends, indexes_of_one_array,
+                 filters_of_many_roots, questions_of_a_filter, conditions_of_the_root, texts_from_the_root, counts_of_many_nodes, dead_ends, indexes_of_one_array,
                  checks_of_many_lines, queries_of_one_line, devices, sizes):
         part(checks)
     print(f"{checks.passed} passed, {checks.failed} failed")

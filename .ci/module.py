@@ -120,8 +120,8 @@ def places():
     try:
         log.query("$.items[?@.price = 90]")
     except jpq.QueryRefusal as refusal:
-        shows("where a query goes wrong", (True, "                   ^"),
-              (refusal.place.startswith("jpgrep: query: syntax: "), refusal.place.splitlines()[-1]))
+        shows("where a query goes wrong", (True, ["                   ^", "  help: equality is =="]),
+              (refusal.place.startswith("jpgrep: query: syntax: "), refusal.place.splitlines()[-2:]))
     log.close()
 
 

@@ -86,8 +86,8 @@ class QueryRefusal(Refusal):
 
     @property
     def place(self):
-        """Where the query goes wrong, as jpgrep shows it: the words for it, the query, and a caret below the place. None where
-        there is no jpgrep on the path, or it finds no fault."""
+        """Where the query goes wrong, as jpgrep shows it: the words for it, the query, a caret below the place, and what was
+        probably meant, where jpgrep knows that. None where there is no jpgrep on the path, or it finds no fault."""
         query = self.command.partition(b" ")[2].replace(b"\r", b" ")
         try:
             said = subprocess.run(["jpgrep", "--check", "-e", query], stdin=subprocess.DEVNULL, capture_output=True).stderr

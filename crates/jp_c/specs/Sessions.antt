@@ -1,7 +1,7 @@
 -- What the calls of a handle answer, and what they leave.
 use Rattle.std.specs.Prelude.{◌≡◌, ℕ, ◌≤◌, min, List, [], ◌++◌, length, take, drop, Bool, Option, Some, None}
 use Rattle.jp_model.specs.declared.Setup.{Setup}
-use Rattle.jp_model.specs.Devices.{Begins}
+use Rattle.jp_devices.specs.Devices.{Begins}
 use Rattle.jp_model.specs.Script.Commands.{command_of, command_lines}
 use Rattle.jp_model.specs.Script.Headline.{BeginsLines, MayLoad, loaded, output}
 use Rattle.jp_model.specs.Script.Machine.{OnlyForMemory, run_commands}

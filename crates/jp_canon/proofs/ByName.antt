@@ -18,7 +18,7 @@ use Rattle.jp_model.specs.Json.Tree.{Tree, node, null, boolean, number, string, 
 use Rattle.jp_model.specs.Meaning.Compare.{text_less}
 use Rattle.jp_model.proofs.Reader.Lexical.{clash}
 use Rattle.jp_tape.proofs.Repeated.{same_repeated}
-use Rattle.jp_tape.specs.Spots.{children_in}
+use Rattle.jp_nodes.specs.Spots.{children_in}
 
 -- a member is one of a list
 abbrev pub IsIn : Member → List Member → Type 0

@@ -9,9 +9,9 @@ use Rattle.jp_values.specs.declared.member.Member.{Member}
 use Rattle.jp_values.specs.ByName.{points}
 use Rattle.jp_canon.specs.Members.{with_text, IsWithin, AppendsMembers}
 use Rattle.jp_model.specs.Json.Tree.{Tree, Children, no_child, child, Name}
-use Rattle.jp_tape.specs.declared.cursor.Cursor.{Cursor}
-use Rattle.jp_tape.specs.Cursors.{node_of, name_of, children_from, children_after}
-use Rattle.jp_tape.specs.Words.{node_count, children_node_count}
+use Rattle.jp_nodes.specs.declared.cursor.Cursor.{Cursor}
+use Rattle.jp_nodes.specs.Cursors.{node_of, name_of, children_from, children_after}
+use Rattle.jp_nodes.specs.Words.{node_count, children_node_count}
 
 -- the members in front of the rest were listed
 pub record Listed (old now : List Member) (rest whole : Children) : Type 0 where

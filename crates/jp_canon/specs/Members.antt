@@ -3,8 +3,8 @@ use Rattle.std.specs.Prelude.{◌≡◌, ℕ, ◌≤◌, ◌∷◌, ◌++◌, Li
 use Rattle.jp_canon.specs.Canonical as canonical
 use Rattle.jp_canon.specs.Canonical.{canonical_text, string_text, member_texts, by_name}
 use Rattle.jp_model.specs.Json.Tree.{Children}
-use Rattle.jp_tape.specs.Cursors.{node_of}
-use Rattle.jp_tape.specs.Words.{node_count, children_node_count}
+use Rattle.jp_nodes.specs.Cursors.{node_of}
+use Rattle.jp_nodes.specs.Words.{node_count, children_node_count}
 use Rattle.jp_values.specs.ByName.{points, by_name as name_order}
 use Rattle.jp_values.specs.declared.member.Member.{Member}
 

@@ -18,7 +18,5 @@ mod layout;
 mod members;
 mod printer;
 mod string;
-#[cfg(test)]
-mod tests;
 
 pub use printer::Printer;

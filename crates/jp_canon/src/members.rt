@@ -4,10 +4,10 @@ ghost use Rattle.std.specs.Prelude.{◌≡◌, ◌≤◌, OnOk};
 ghost use Rattle.std.specs.Vec.{vec_len};
 ghost use Rattle.jp_canon.specs.Members.{AppendsMembers, AppendsByName, SortsFrom};
 ghost use Rattle.jp_model.specs.Json.Tree.{value_of};
-ghost use Rattle.jp_tape.specs.Cursors.{node_of};
-ghost use Rattle.jp_tape.specs.Spots.{children_in};
+ghost use Rattle.jp_nodes.specs.Cursors.{node_of};
+ghost use Rattle.jp_nodes.specs.Spots.{children_in};
 
-use jp_tape::Cursor;
+use jp_nodes::Cursor;
 use jp_values::Member;
 use std::alloc::AllocError;
 

@@ -4,13 +4,13 @@ ghost use Rattle.std.specs.Prelude.{◌≡◌, ◌++◌, ◌∷◌, [], map, OnO
 ghost use Rattle.jp_canon.specs.Canonical.{canonical_text, bracketed, element_texts, member_texts, by_name};
 ghost use Rattle.jp_canon.specs.Members.{text_of};
 ghost use Rattle.jp_model.specs.Json.Tree.{array as array_of, object as object_of, value_of};
-ghost use Rattle.jp_tape.specs.Cursors.{node_of};
-ghost use Rattle.jp_tape.specs.Spots.{children_in};
+ghost use Rattle.jp_nodes.specs.Cursors.{node_of};
+ghost use Rattle.jp_nodes.specs.Spots.{children_in};
 
 use crate::layout::append_number;
 use crate::members::append_by_name;
 use crate::string::append_string;
-use jp_tape::{Cursor, Kind};
+use jp_nodes::{Cursor, Kind};
 use jp_values::Member;
 use std::alloc::{AllocError, Global};
 

@@ -4,8 +4,8 @@ use Rattle.std.proofs.Math.Seq.{take-append_seam}
 use Rattle.std.specs.Io.KnownBytes.{Keeps}
 use Rattle.std.specs.Prelude.{Option}
 use Rattle.jp_model.specs.declared.Setup.{Setup}
-use Rattle.jp_model.specs.Devices.{Device, Received, Begins}
-use Rattle.jp_model.proofs.Devices.{received_kept, received_more, received_none}
+use Rattle.jp_devices.specs.Devices.{Device, Received, Begins}
+use Rattle.jp_devices.proofs.Devices.{received_kept, received_more, received_none}
 use Rattle.jp_model.specs.Query.Status.{QueryStatus}
 use Rattle.jp_model.specs.Script.Commands.{Command}
 use Rattle.jp_model.specs.Script.Headline.{Answered, AnsweredInPart}

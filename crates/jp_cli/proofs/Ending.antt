@@ -6,19 +6,18 @@ use Rattle.std.specs.Io.KnownBytes.{Consumes, IsAtEnd}
 use Rattle.jp_model.specs.declared.Setup.{Setup}
 use Rattle.jp_model.specs.declared.RunFault.{RunFault}
 use Rattle.jp_model.specs.declared.RunFault.TheVariants as faults
-use Rattle.jp_model.specs.Devices.{Came, Device, Gave, Received, Begins}
+use Rattle.jp_devices.specs.Devices.{Came, Device, Gave, Received, Begins}
 use Rattle.jp_cli.specs.Passed.{given_since}
 use Rattle.std.proofs.Math.Seq.{drop-append_seam}
 use Rattle.jp_model.specs.Lines.{text_lines, closed_lines, lines_so_far}
 use Rattle.jp_model.specs.Query.Status.{QueryStatus}
-use Rattle.jp_model.specs.Script.Commands.{without_final_cr, command_lines, closed_command_lines}
+use Rattle.jp_model.specs.Script.Commands.{without_final_cr, command_lines, closed_command_lines, command_of}
 use Rattle.jp_model.specs.Script.Headline.{GivenToRun, WasLoaded, lines_within, loaded, Answered, AnsweredInPart, AnsweredFirst, RunEnded, RunStopped}
 use Rattle.jp_model.specs.Script.Machine.{State, Outcome, step, step_unless, run_commands, OnlyForMemory}
-use Rattle.jp_model.specs.Script.Commands.{command_of}
 use Rattle.jp_cli.specs.Commands.{asked_in}
 use Rattle.jp_cli.specs.Runs.{Progress, Ran, RanFirst, ScriptStopped}
 use Rattle.jp_cli.specs.Sessions.{HasRun, HasRunFirst, HasStopped}
-use Rattle.jp_model.proofs.Devices.{came_so}
+use Rattle.jp_devices.proofs.Devices.{came_so}
 
 module _ (query_of : List ℕ → QueryStatus) (setup : Setup) where
   -- lines as they came ask for what they ask without their final CR

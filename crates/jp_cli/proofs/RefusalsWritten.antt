@@ -4,8 +4,8 @@ use Rattle.std.specs.Prelude.{Option, Some, None, count_by, cond, suc, if◌then
 use Rattle.std.proofs.lemmas.List.{take_more, length-take-le, length-map}
 use Rattle.std.proofs.lemmas.List.Sums.{sum_by-cons}
 use Rattle.std.proofs.Math.Seq.{take-add}
-use Rattle.jp_rows.proofs.Chains.{Part, both_received, part_more, part_behind}
-use Rattle.jp_model.specs.Devices.{Device, Received}
+use Rattle.jp_devices.proofs.Chains.{Part, both_received, part_more, part_behind}
+use Rattle.jp_devices.specs.Devices.{Device, Received}
 use Rattle.jp_model.specs.declared.Framing.{Framing}
 use Rattle.jp_model.specs.Json.Reader.{status_of}
 use Rattle.jp_model.specs.Json.Status.{LineStatus, blank, refused, parsed}

@@ -3,7 +3,7 @@ use Rattle.std.proofs.Common.{◌≡◌, ℕ, ◌+◌, List, true, false, subst,
 use Rattle.std.specs.Prelude.{Result, Ok, Err, Option, OnOk}
 use Rattle.std.proofs.lemmas.Bool.{false≢true}
 use Rattle.jp_model.specs.declared.Setup.{Setup}
-use Rattle.jp_model.specs.Devices.{Device, Writes}
+use Rattle.jp_devices.specs.Devices.{Device, Writes}
 use Rattle.jp_model.specs.Query.Status.{QueryStatus}
 use Rattle.jp_model.specs.Script.Commands.{Command, MayWantMemory}
 use Rattle.jp_model.specs.Script.Machine.{State, error, step}

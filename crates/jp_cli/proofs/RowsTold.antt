@@ -4,7 +4,7 @@ use Rattle.std.specs.Prelude.{count_by, cond, Option, Result, All}
 use Rattle.std.proofs.lemmas.List.{length-append, take-append-drop}
 use Rattle.std.proofs.lemmas.List.Sums.{sum_by-append}
 use Rattle.jp_model.specs.declared.Framing.{Framing}
-use Rattle.jp_model.specs.Devices.{Device, Writes}
+use Rattle.jp_devices.specs.Devices.{Device, Writes}
 use Rattle.jp_model.specs.Plans.{opened}
 use Rattle.jp_model.specs.Query.Status.{QueryStatus, query}
 use Rattle.jp_model.specs.Query.Syntax.{Segments}
@@ -12,7 +12,7 @@ use Rattle.jp_model.specs.Rows as model
 use Rattle.jp_model.specs.Script.Commands.{query_line}
 use Rattle.jp_model.specs.Script.Machine.{row_text, rows_text, is_node, count_line, text_or_nothing, query_answer}
 use Rattle.jp_store.specs.Collections.{statuses_in}
-use Rattle.jp_store.specs.declared.view.LineView.{LineView}
+use Rattle.jp_lines.specs.declared.view.LineView.{LineView}
 use Rattle.jp_plan.specs.ByLine.{Found, at_place, of_fault, expanded, found_row, node_at, AreInTurn, IsOfItsLine}
 use Rattle.jp_plan.specs.declared.rows.LineRows.{LineRows}
 use Rattle.jp_plan.specs.declared.rows.LineRows.TheVariants as by_line

@@ -5,14 +5,14 @@ use Rattle.std.proofs.Math.Seq.{take-suc}
 use Rattle.std.proofs.lemmas.Grind.{flat_map-append}
 use Rattle.jp_model.specs.declared.Framing.{Framing}
 use Rattle.jp_model.specs.declared.LineFault.{LineFault}
-use Rattle.jp_model.specs.Devices.{Device, Received}
+use Rattle.jp_devices.specs.Devices.{Device, Received}
 use Rattle.jp_model.specs.Meaning.Nodes.{Node}
 use Rattle.jp_model.specs.Rows.{node_text, refusal_text}
-use Rattle.jp_rows.proofs.Chains.{Part, both_received, part_more, part_behind}
-use Rattle.jp_store.specs.declared.view.LineView.{LineView}
-use Rattle.jp_store.specs.Views.{text_of_view}
-use Rattle.jp_tape.specs.Cursors.{line_of, node_of, place_of}
-use Rattle.jp_tape.specs.declared.cursor.Cursor.{Cursor}
+use Rattle.jp_devices.proofs.Chains.{Part, both_received, part_more, part_behind}
+use Rattle.jp_lines.specs.declared.view.LineView.{LineView}
+use Rattle.jp_lines.specs.Views.{text_of_view}
+use Rattle.jp_nodes.specs.Cursors.{line_of, node_of, place_of}
+use Rattle.jp_nodes.specs.declared.cursor.Cursor.{Cursor}
 use Rattle.jp_plan.specs.ByLine.{at_place, expanded, node_at, AreInTurn}
 use Rattle.jp_plan.proofs.ByLine.{found_at}
 use Rattle.jp_plan.specs.declared.rows.LineRows.{LineRows}

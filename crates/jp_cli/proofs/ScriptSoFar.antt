@@ -9,12 +9,12 @@ use Rattle.std.specs.Io.KnownBytes.{Consumes, Keeps}
 use Rattle.jp_model.specs.declared.Setup.{Setup}
 use Rattle.jp_model.specs.declared.RunFault.{RunFault}
 use Rattle.jp_model.specs.declared.RunFault.TheVariants as faults
-use Rattle.jp_model.specs.Devices.{Device, Gave, HasEnded, Came, CameShort, GaveUpTo, one_more, Received, Begins}
+use Rattle.jp_devices.specs.Devices.{Device, Gave, HasEnded, Came, CameShort, GaveUpTo, one_more, Received, Begins}
 use Rattle.jp_model.specs.Lines.{text_lines, closed_lines, open_line, line_unless_empty, lines_so_far}
 use Rattle.jp_model.specs.Query.Status.{QueryStatus}
 use Rattle.jp_model.specs.Script.Commands.{Command}
 use Rattle.jp_model.specs.Script.Headline.{Answered, AnsweredInPart}
-use Rattle.jp_model.proofs.Devices.{or_false, or_true, came_so, CameToEnd, goes_on, came_whole, gave_kept, gave_more}
+use Rattle.jp_devices.proofs.Devices.{or_false, or_true, came_so, CameToEnd, goes_on, came_whole, gave_kept, gave_more}
 use Rattle.jp_model.proofs.Pieces.{closed-append, open-append}
 use Rattle.jp_cli.specs.Runs.{Progress, MayAnswer, Ran, RanFirst, StoppedIn, ScriptStopped}
 use Rattle.jp_cli.proofs.Answering.{ran_answered, ran_more, ran_kept, ran_in_part, answered_more, part_more, part_of_line, ran_first, first_more}

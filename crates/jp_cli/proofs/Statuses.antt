@@ -6,15 +6,14 @@ use Rattle.std.proofs.lemmas.Option.{slice_get-map, slice_get-get_or, get_or_fro
 use Rattle.jp_model.specs.declared.LineFault.{LineFault}
 use Rattle.jp_model.specs.Json.Reader.{status_of}
 use Rattle.jp_model.specs.Json.Status.{LineStatus, blank, refused, parsed}
-use Rattle.jp_model.specs.Script.Machine.{text_or_nothing}
+use Rattle.jp_model.specs.Script.Machine.{text_or_nothing, refusals_from}
 use Rattle.jp_store.specs.Collections.{Collection, line_status, statuses_in}
-use Rattle.jp_store.specs.Views.{status_kind}
-use Rattle.jp_store.specs.declared.Status.{Status}
-use Rattle.jp_store.specs.declared.Status.TheVariants as told
+use Rattle.jp_lines.specs.Views.{status_kind}
+use Rattle.jp_lines.specs.declared.Status.{Status}
+use Rattle.jp_lines.specs.declared.Status.TheVariants as told
 use Rattle.jp_model.specs.declared.Framing.{Framing}
-use Rattle.jp_model.specs.Devices.{Device, Received}
-use Rattle.jp_model.specs.Script.Machine.{refusals_from}
-use Rattle.jp_model.proofs.Devices.{received_none}
+use Rattle.jp_devices.specs.Devices.{Device, Received}
+use Rattle.jp_devices.proofs.Devices.{received_none}
 
 -- the status of a line stands at its index
 pub status_at : (c : Collection) (i : ℕ) (d : LineStatus) → i < length c.state.lines → get_or (statuses_in c) i d ≡ line_status (i + 1) c

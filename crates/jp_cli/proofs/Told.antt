@@ -7,7 +7,7 @@ use Rattle.std.specs.Io.KnownBytes.{Consumes, IsAtEnd}
 use Rattle.jp_model.specs.declared.Setup.{Setup}
 use Rattle.jp_model.specs.declared.RunFault.{RunFault}
 use Rattle.jp_model.specs.declared.RunFault.TheVariants as faults
-use Rattle.jp_model.specs.Devices.{Came, Device, GaveUpTo}
+use Rattle.jp_devices.specs.Devices.{Came, Device, GaveUpTo}
 use Rattle.jp_model.specs.Lines.{closed_lines, line_unless_empty, lines_so_far, open_line, text_lines}
 use Rattle.jp_model.specs.Query.Status.{QueryStatus}
 use Rattle.jp_model.specs.Script.Commands.{Command, command_lines, without_final_cr}

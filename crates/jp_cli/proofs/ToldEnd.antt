@@ -1,18 +1,17 @@
 -- How the program ends, by how its run ended: what a buffer took is what the writer behind it took, and then what it holds.
-use Rattle.std.proofs.Common.{◌≡◌, ◌∙◌, ℕ, List, [], ◌++◌, take, take_all, append-nil, sym, ap, subst, refl, le_refl, le_trans, le-add_right}
-use Rattle.std.proofs.Common.{Bool, true, false, Option, Some, Result, Ok, Err, MatchResult, inl, inr}
+use Rattle.std.proofs.Common.{◌≡◌, ◌∙◌, ℕ, List, [], ◌++◌, take, take_all, append-nil, sym, ap, subst, refl, le_refl, le_trans, le-add_right, Bool, true, false, Option, Some, Result, Ok, Err, MatchResult, inl, inr}
 use Rattle.std.specs.Prelude.{OnOk}
 use Rattle.std.specs.Io.Buffered.{writer_buffer, writer_contents, writer_inner}
 use Rattle.std.specs.declared.io.buffered.BufWriter.{BufWriter}
 use Rattle.jp_model.specs.declared.Setup.{Setup}
 use Rattle.jp_model.specs.declared.RunFault.{RunFault}
 use Rattle.jp_model.specs.declared.RunFault.TheVariants as faults
-use Rattle.jp_model.specs.Devices.{Came, CameUpTo, Device, GaveUpTo, HasEnded, Received}
+use Rattle.jp_devices.specs.Devices.{Came, CameUpTo, Device, GaveUpTo, HasEnded, Received}
 use Rattle.jp_model.specs.Query.Status.{QueryStatus}
 use Rattle.jp_model.specs.Script.Commands.{Command, command_lines, command_lines_so_far}
 use Rattle.jp_model.specs.Script.Headline.{GivenToRun, RunEnded, RunStopped, AnsweredInPart, loaded}
 use Rattle.jp_model.specs.Script.Machine.{run_commands}
-use Rattle.jp_model.proofs.Devices.{or_true}
+use Rattle.jp_devices.proofs.Devices.{or_true}
 use Rattle.jp_cli.specs.declared.end.End.{End}
 use Rattle.jp_devices.specs.Buffered.{Took, untold}
 use Rattle.jp_cli.specs.Buffered.{ProgramEnded, end_told}

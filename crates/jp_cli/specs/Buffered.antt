@@ -5,7 +5,7 @@ use Rattle.jp_model.specs.declared.Setup.{Setup}
 use Rattle.jp_model.specs.declared.RunFault.{RunFault}
 use Rattle.jp_model.specs.declared.RunFault.TheVariants as faults
 use Rattle.jp_devices.specs.Buffered.{Took, untold}
-use Rattle.jp_model.specs.Devices.{Device}
+use Rattle.jp_devices.specs.Devices.{Device}
 use Rattle.jp_model.specs.Query.Status.{QueryStatus}
 use Rattle.jp_model.specs.Script.Commands.{Command}
 use Rattle.jp_model.specs.Script.Headline.{GivenToRun, RunEnded, RunStopped, OnlyReadScript, is_read_collection}

@@ -2,8 +2,8 @@
 use Rattle.std.specs.Prelude.{ℕ, Bool, true, false, List}
 use Rattle.jp_model.specs.declared.Framing.{Framing}
 use Rattle.jp_model.specs.Rows as rows
-use Rattle.jp_store.specs.Views.{text_of_view}
-use Rattle.jp_store.specs.declared.view.LineView.{LineView}
+use Rattle.jp_lines.specs.Views.{text_of_view}
+use Rattle.jp_lines.specs.declared.view.LineView.{LineView}
 use Rattle.jp_plan.specs.ByLine.{Found, at_place, of_fault, node_at}
 
 -- the text of the row of the node at a place, on the line of that number

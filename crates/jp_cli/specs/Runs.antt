@@ -3,7 +3,7 @@ use Rattle.std.specs.Prelude.{◌≡◌, ℕ, ◌+◌, ◌≤◌, List, [], ◌�
 use Rattle.jp_model.specs.declared.Setup.{Setup}
 use Rattle.jp_model.specs.declared.RunFault.{RunFault}
 use Rattle.jp_model.specs.declared.RunFault.TheVariants as faults
-use Rattle.jp_model.specs.Devices.{Device, Begins, Came, CameUpTo, CameShort, Received, Writes}
+use Rattle.jp_devices.specs.Devices.{Device, Begins, Came, CameUpTo, CameShort, Received, Writes}
 use Rattle.jp_model.specs.Lines.{closed_lines, lines_so_far}
 use Rattle.jp_model.specs.Plans.{opened}
 use Rattle.jp_model.specs.Query.Status.{QueryStatus, refused_query, query}

@@ -3,7 +3,7 @@ use Rattle.std.specs.Prelude.{◌≡◌, ℕ, ◌≤◌, List, Bool, Option, len
 use Rattle.jp_model.specs.declared.RunFault.{RunFault}
 use Rattle.jp_model.specs.declared.RunFault.TheVariants as faults
 use Rattle.jp_model.specs.declared.Setup.{Setup}
-use Rattle.jp_model.specs.Devices.{Begins, Came, CameShort, CameUpTo, Device, Received}
+use Rattle.jp_devices.specs.Devices.{Begins, Came, CameShort, CameUpTo, Device, Received}
 use Rattle.jp_model.specs.Query.Status.{QueryStatus}
 use Rattle.jp_model.specs.Script.Commands.{Command, closed_command_lines, command_lines}
 use Rattle.jp_model.specs.Script.Headline.{Answered, AnsweredFirst, AnsweredInPart, BeginsLines, lines_within}

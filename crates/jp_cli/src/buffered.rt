@@ -2,7 +2,7 @@
 
 ghost use Rattle.std.specs.Prelude.{◌≡◌, true, false, IfOk, OnErr};
 ghost use Rattle.jp_devices.specs.Buffered.{untold};
-ghost use Rattle.jp_model.specs.Devices.{GaveUpTo};
+ghost use Rattle.jp_devices.specs.Devices.{GaveUpTo};
 ghost use Rattle.jp_model.specs.Script.Commands.{command_of};
 ghost use Rattle.jp_model.specs.Script.Headline.{GivenToRun, RunEnded};
 ghost use Rattle.jp_query.specs.Status.{query_of};

@@ -1,7 +1,7 @@
 //! What `check` answers: the refused lines, and how many lines there are.
 
 ghost use Rattle.std.specs.Prelude.{◌≡◌, ◌≤◌, [], ◌∷◌, false, is_err, length};
-ghost use Rattle.jp_model.specs.Devices.{Writes};
+ghost use Rattle.jp_devices.specs.Devices.{Writes};
 ghost use Rattle.jp_model.specs.Script.Machine.{check_answer, refusals_from};
 ghost use Rattle.jp_store.specs.Collections.{line_status, statuses_in};
 

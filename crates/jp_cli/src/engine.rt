@@ -1,7 +1,7 @@
 //! The run of a script over a collection.
 
 ghost use Rattle.std.specs.Prelude.{◌≡◌, ◌+◌, ◌≤◌, true, false, OnOk, IfSome, MatchResult};
-ghost use Rattle.jp_model.specs.Devices.{GaveUpTo, HasEnded};
+ghost use Rattle.jp_devices.specs.Devices.{GaveUpTo, HasEnded};
 ghost use Rattle.jp_model.specs.Script.Headline.{GivenToRun, RunEnded, RunStopped, is_write_fault, is_read_collection, OnlyReadScript};
 ghost use Rattle.jp_model.specs.Script.Commands.{command_of};
 ghost use Rattle.jp_query.specs.Status.{query_of};

@@ -4,10 +4,10 @@ ghost use Rattle.jp_model.specs.Script.Commands.{explain_line};
 ghost use Rattle.jp_query.specs.Status.{query_of};
 ghost use Rattle.jp_cli.specs.Runs.{RepliesTo, setup_of};
 
-use crate::query::read_query;
 use crate::reply::{Reply, refuse_query};
 use crate::session::Session;
 use jp_plan::Plan;
+use jp_query::read_query;
 use std::alloc::AllocError;
 
 impl Session {

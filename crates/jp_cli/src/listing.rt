@@ -1,16 +1,16 @@
 //! What `indexes` answers: the paths of the indexes, in the order in which they were made.
 
 ghost use Rattle.std.specs.Prelude.{◌≡◌, false, is_err};
-ghost use Rattle.jp_model.specs.Devices.{Writes};
+ghost use Rattle.jp_devices.specs.Devices.{Writes};
 ghost use Rattle.jp_model.specs.Meaning.Paths.{path_text};
 ghost use Rattle.jp_model.specs.Script.Machine.{indexes_answer, said};
-ghost use Rattle.jp_query.specs.SingularPaths.{path_steps};
+ghost use Rattle.jp_syntax.specs.SingularPaths.{path_steps};
 ghost use Rattle.jp_cli.specs.Listed.{listed};
 
 use jp_model::Watched;
-use jp_query::SingularPath;
 use jp_rows::{QueryPart, WriteFault, write_count, write_whole};
 use jp_store::Store;
+use jp_syntax::SingularPath;
 use std::io::Write;
 
 /// Writes a path as a line.

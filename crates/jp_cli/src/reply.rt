@@ -1,13 +1,13 @@
 //! Answers without rows: fixed words, a number after them, or a text that was made for it.
 
 ghost use Rattle.std.specs.Prelude.{◌≡◌, ◌++◌, false, is_err, codes};
-ghost use Rattle.jp_model.specs.Devices.{Writes};
+ghost use Rattle.jp_devices.specs.Devices.{Writes};
 ghost use Rattle.jp_model.specs.Script.Machine.{error, query_fault_word};
 ghost use Rattle.jp_cli.specs.Replies.{answered_text};
-ghost use Rattle.jp_cli.specs.Refusals.{TellsRefusal};
+ghost use Rattle.jp_cli.specs.Refusals.{RepliesToRefusal};
 
-use crate::query::Refusal;
 use jp_model::{QueryFault, Watched};
+use jp_query::Refusal;
 use jp_rows::{WriteFault, write_numbered, write_whole};
 use std::alloc::AllocError;
 use std::io::Write;
@@ -39,10 +39,10 @@ fn refusal_line(fault: QueryFault) -> &'static [u8]
 
 /// Reports why a text gives no query.
 pub(crate) fn refuse_query(refusal: Refusal) -> Result<Reply, AllocError>
-    ensures { TellsRefusal refusal result }
+    ensures { RepliesToRefusal refusal result }
 {
     match refusal {
-        Refusal::Query(fault) => Ok(Reply::Fixed(refusal_line(fault))),
+        Refusal::Fault(found) => Ok(Reply::Fixed(refusal_line(found.fault))),
         Refusal::Memory => Err(AllocError),
     }
 }

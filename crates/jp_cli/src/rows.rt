@@ -1,7 +1,7 @@
 //! What `query` answers: the rows of the selected nodes and of the refused lines, and how many nodes there are.
 
 ghost use Rattle.std.specs.Prelude.{◌≡◌, ◌+◌, ◌^◌, ◌<◌, ◌≤◌, ◌++◌, ℕ, List, length, false, is_err, All, IfOk, flat_map, count_by};
-ghost use Rattle.jp_model.specs.Devices.{Writes};
+ghost use Rattle.jp_devices.specs.Devices.{Writes};
 ghost use Rattle.jp_model.specs.Plans.{opened as opened_lines};
 ghost use Rattle.jp_model.specs.Rows.{rows as rows_of};
 ghost use Rattle.jp_model.specs.Script.Commands.{query_line};
@@ -14,11 +14,11 @@ ghost use Rattle.jp_plan.specs.ByLine.{found_in, found_rows, IsInTurn, IsPlaceIn
 ghost use Rattle.jp_cli.specs.Found.{place_text, found_text, is_found_node};
 ghost use Rattle.jp_cli.specs.Runs.{AnswersOne, Adds, most_lines, progress_of, setup_of};
 
-use crate::query::read_query;
 use crate::reply::{refuse_query, write_refused_growth, write_reply};
 use crate::session::Session;
 use jp_model::{Framing, Watched};
 use jp_plan::{LineRows, Plan, Rows, laws};
+use jp_query::read_query;
 use jp_rows::{WriteFault, write_count, write_node, write_refusal};
 use jp_store::{LineView, Opened, Store};
 use jp_types::Checked;

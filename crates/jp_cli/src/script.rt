@@ -3,7 +3,7 @@
 ghost use Rattle.std.specs.Prelude.{◌≡◌, ℕ, ◌+◌, ◌*◌, ◌^◌, ◌<◌, ◌≤◌, ◌++◌, ◌||◌, [], ◌∷◌, true, false, length, take, List, OnOk, IfErr, is_err, MatchResult};
 ghost use Rattle.std.specs.Io.{ReadsAtMost};
 ghost use Rattle.std.specs.Io.KnownBytes.{ReadConsumes};
-ghost use Rattle.jp_model.specs.Devices.{Came, GaveUpTo, Grew, HasEnded, Writes, one_more, read_failed, read_ended};
+ghost use Rattle.jp_devices.specs.Devices.{Came, GaveUpTo, Grew, HasEnded, Writes, one_more, read_failed, read_ended};
 ghost use Rattle.jp_model.specs.Lines.{HasNoSeparator, text_lines, closed_lines, lines_so_far, open_line};
 ghost use Rattle.jp_model.specs.Script.Headline.{is_write_fault, OnlyReadScript};
 ghost use Rattle.jp_cli.specs.Commands.{asked_in};

@@ -1,7 +1,7 @@
 //! A collection that is held, over which scripts are run.
 
 ghost use Rattle.std.specs.Prelude.{◌≡◌, ◌+◌, ◌≤◌, true, false, IfSome, OnOk, MatchResult};
-ghost use Rattle.jp_model.specs.Devices.{Came, GaveUpTo, HasEnded};
+ghost use Rattle.jp_devices.specs.Devices.{Came, GaveUpTo, HasEnded};
 ghost use Rattle.jp_model.specs.Script.Commands.{command_lines, command_of};
 ghost use Rattle.jp_model.specs.Script.Headline.{OnlyReadScript, is_write_fault, lines_within};
 ghost use Rattle.jp_query.specs.Status.{query_of};

@@ -8,9 +8,8 @@ use Rattle.jp_decimal.specs.declared.key.KeySize.{KeySize}
 use Rattle.jp_decimal.specs.declared.key.DecimalKey.{DecimalKey}
 use Rattle.jp_decimal.specs.declared.key.DecimalKey.TheVariants.{Negative, Zero, Positive}
 use Rattle.jp_model.specs.Characters.{digits_value}
-use Rattle.jp_model.specs.Json.Numbers.{AreDigits, signed}
+use Rattle.jp_model.specs.Json.Numbers.{AreDigits, signed, number_order, smaller}
 use Rattle.jp_decimal.specs.Values.{Number, order}
-use Rattle.jp_model.specs.Json.Numbers.{number_order, smaller}
 use Rattle.jp_decimal.specs.Keys.{IsSignedSizeOf, IsKeyOf, key_order, size_key_order}
 use Rattle.jp_model.proofs.Reader.Numbers.{digits_found}
 use Rattle.jp_decimal.proofs.Law.{lower_position}

@@ -7,12 +7,11 @@ use Rattle.std.proofs.lemmas.Int.{ints}
 use Rattle.std.proofs.lemmas.List.{get_or_past}
 use Rattle.std.proofs.Math.Nat.{one-le-pow, mul-pos}
 use Rattle.jp_model.specs.Characters.{is_digit, digits_value}
-use Rattle.jp_model.specs.Json.Numbers.{AreDigits}
+use Rattle.jp_model.specs.Json.Numbers.{AreDigits, smaller}
 use Rattle.jp_decimal.specs.declared.parts.Magnitude.{Magnitude}
 use Rattle.jp_decimal.specs.declared.measured.Measured.{Measured}
 use Rattle.jp_decimal.specs.Magnitudes.{digits, unsigned_mantissa, exponent_behind, power_above, BeginsWithZeros, EndsWithZeros}
 use Rattle.jp_decimal.specs.Values.{size_order}
-use Rattle.jp_model.specs.Json.Numbers.{smaller}
 use Rattle.jp_model.proofs.Reader.Numbers.{digits_found}
 use Rattle.jp_decimal.proofs.Law.{digits_append, lower_position, same_position_less, same_position_equal}
 

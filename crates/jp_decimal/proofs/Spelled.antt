@@ -2,15 +2,13 @@
 use Rattle.std.proofs.Common.{◌≡◌, ◌≢◌, ℕ, suc, nat_lt, ◌-◌, ◌<◌, ◌≤◌, Bool, true, false, ◌==◌, List, [], ◌∷◌, ◌++◌, length, drop, get_or, sym, ◌∙◌, ap, ap₂, subst, refl, arith, ℤ, pos, ◌-ℤ◌, Option, Some, None}
 use Rattle.std.proofs.lemmas.Bool.Decides.{nat_tests}
 use Rattle.jp_model.specs.Characters.{is_digit, digits_value}
-use Rattle.jp_model.specs.Json.Numbers.{Sign, Exponent, AreDigits, AreSomeDigits, sign_bytes, is_minus, exponent_bytes, without_leading_zeros, signed}
-use Rattle.jp_model.specs.Json.Numbers.{Numeral, IsInt, fraction_bytes, minus_bytes}
+use Rattle.jp_model.specs.Json.Numbers.{Sign, Exponent, AreDigits, AreSomeDigits, sign_bytes, is_minus, exponent_bytes, without_leading_zeros, signed, Numeral, IsInt, fraction_bytes, minus_bytes, IsNumeral, numeral_bytes, head_of, numeral_of}
 use Rattle.jp_decimal.proofs.Signs.{number_of}
 use Rattle.jp_decimal.specs.declared.parts.Magnitude.{Magnitude}
 use Rattle.jp_decimal.specs.declared.fault.NumberFault.{NumberFault}
 use Rattle.jp_decimal.specs.declared.fault.NumberFault.TheVariants.{Shape, Exponent as TooLong}
 use Rattle.jp_decimal.specs.Steps.{SpellsExponent, ExponentIs, letter, RefusesExponent, SpellsBehindInt, RefusesBehindInt, SpellsUnsigned, MagnitudeIs, RefusesUnsigned}
 use Rattle.jp_decimal.specs.Reading.{SpellsNumeral, ReadsAs, RefusesNumber}
-use Rattle.jp_model.specs.Json.Numbers.{IsNumeral, numeral_bytes, head_of, numeral_of}
 use Rattle.jp_model.proofs.Reader.Numbers.{parts_read}
 use Rattle.jp_decimal.proofs.ReadDigits.{digit_in, without_zeros_value}
 

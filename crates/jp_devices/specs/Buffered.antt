@@ -2,7 +2,7 @@
 use Rattle.std.specs.Prelude.{◌≡◌, ℕ, List, ◌++◌, false, Option, None}
 use Rattle.std.specs.Io.Buffered.{writer_buffer, writer_inner}
 use Rattle.std.specs.declared.io.buffered.BufWriter.{BufWriter}
-use Rattle.jp_model.specs.Devices.{Begins, Device}
+use Rattle.jp_devices.specs.Devices.{Begins, Device}
 
 -- a writer that does not tell its bytes: what its writes took is known alone
 abbrev pub untold : {W : Type 0} → W → Option (List ℕ)

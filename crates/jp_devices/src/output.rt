@@ -5,8 +5,8 @@ ghost use Rattle.std.specs.Io.Buffered.{writer_inner};
 ghost use Rattle.std.specs.Io.KnownBytes.{Keeps};
 ghost use Rattle.jp_devices.specs.Buffered.{Took, filled};
 
-use jp_model::Watched;
-use jp_rows::write_whole;
+use crate::watched::Watched;
+use crate::whole::write_whole;
 use std::io;
 use std::io::{BufWriter, Write};
 

@@ -11,9 +11,9 @@ use Rattle.jp_model.specs.Query.Syntax as syntax
 use Rattle.jp_model.specs.Query.Syntax.{Call, call, Arguments, no_arguments, argument}
 use Rattle.jp_model.specs.Query.Typing.{Kind, value_kind, nodes_kind, logical_kind, Signature, result_serves, takes, call_serves, call_typed, arguments_typed, argument_typed}
 use Rattle.jp_model.proofs.Seek.{text_same}
-use Rattle.jp_query.specs.View.{argument_view, arguments_view, call_view}
-use Rattle.jp_query.specs.declared.tree.Argument.{Argument}
-use Rattle.jp_query.specs.declared.tree.Call.{Call as TreeCall}
+use Rattle.jp_syntax.specs.View.{argument_view, arguments_view, call_view}
+use Rattle.jp_syntax.specs.declared.tree.Argument.{Argument}
+use Rattle.jp_syntax.specs.declared.tree.Call.{Call as TreeCall}
 use Rattle.jp_eval.proofs.Views.{call_viewed}
 use Rattle.jp_eval.specs.Questions.{passing_name}
 

@@ -7,8 +7,8 @@ use Rattle.jp_model.specs.Meaning.Selecting.{selected, select, truth}
 use Rattle.jp_model.specs.Meaning.Slices.{is_name, is_index, normal, upward, downward}
 use Rattle.jp_model.specs.Query.Syntax.{Selector, name_selector, wildcard_selector, index_selector, slice_selector, filter_selector, Selectors, no_selectors, selector}
 use Rattle.jp_model.specs.Steps.{Step, same_int}
-use Rattle.jp_tape.specs.declared.cursor.Cursor.{Cursor}
-use Rattle.jp_tape.specs.Cursors.{nodes_from}
+use Rattle.jp_nodes.specs.declared.cursor.Cursor.{Cursor}
+use Rattle.jp_nodes.specs.Cursors.{nodes_from}
 
 pub none_first : (first : Option Cursor) → is_some first ≡ false → nodes_from first ≡ []
 none_first None e = refl

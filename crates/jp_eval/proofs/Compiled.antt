@@ -1,20 +1,20 @@
 -- What the parts of a compiled query mean, and those of the query that they are made of, one level deep.
 use Rattle.std.proofs.Common.{◌≡◌, ◌∙◌, ℕ, ℤ, Bool, sym, ap, Vec, Global, Box, Option}
 use Rattle.jp_model.specs.Query.Syntax as syntax
-use Rattle.jp_query.specs.View.{segment_view, selectors_view, selector_view, logicals_view, logical_view, comparable_view, call_view, path_view, op_view, literal_view, argument_step, comparable_step, logical_step, segment_step, selector_step, call_step, path_step}
-use Rattle.jp_query.specs.declared.tree.Call.{Call}
-use Rattle.jp_query.specs.declared.tree.Path.{Path}
-use Rattle.jp_query.specs.declared.tree.CompareOp.{CompareOp}
-use Rattle.jp_query.specs.declared.tree.Comparable.{fold-roll-Comparable}
-use Rattle.jp_query.specs.declared.tree.Comparable.TheVariants as comparables
-use Rattle.jp_query.specs.declared.tree.Literal.{Literal}
-use Rattle.jp_query.specs.declared.tree.Selector.{Selector, fold-roll-Selector}
-use Rattle.jp_query.specs.declared.tree.Selector.TheVariants as selectors
-use Rattle.jp_query.specs.declared.tree.Segment.{fold-roll-Segment}
-use Rattle.jp_query.specs.declared.tree.Segment.TheVariants as segments
-use Rattle.jp_query.specs.declared.tree.Logical.{Logical, fold-roll-Logical}
-use Rattle.jp_query.specs.declared.tree.Logical.TheVariants as logicals
-use Rattle.jp_query.specs.declared.tree.Argument.TheOpen.{Logical-F, Selector-F, Segment-F, Comparable-F}
+use Rattle.jp_syntax.specs.View.{segment_view, selectors_view, selector_view, logicals_view, logical_view, comparable_view, call_view, path_view, op_view, literal_view, argument_step, comparable_step, logical_step, segment_step, selector_step, call_step, path_step}
+use Rattle.jp_syntax.specs.declared.tree.Call.{Call}
+use Rattle.jp_syntax.specs.declared.tree.Path.{Path}
+use Rattle.jp_syntax.specs.declared.tree.CompareOp.{CompareOp}
+use Rattle.jp_syntax.specs.declared.tree.Comparable.{fold-roll-Comparable}
+use Rattle.jp_syntax.specs.declared.tree.Comparable.TheVariants as comparables
+use Rattle.jp_syntax.specs.declared.tree.Literal.{Literal}
+use Rattle.jp_syntax.specs.declared.tree.Selector.{Selector, fold-roll-Selector}
+use Rattle.jp_syntax.specs.declared.tree.Selector.TheVariants as selectors
+use Rattle.jp_syntax.specs.declared.tree.Segment.{fold-roll-Segment}
+use Rattle.jp_syntax.specs.declared.tree.Segment.TheVariants as segments
+use Rattle.jp_syntax.specs.declared.tree.Logical.{Logical, fold-roll-Logical}
+use Rattle.jp_syntax.specs.declared.tree.Logical.TheVariants as logicals
+use Rattle.jp_syntax.specs.declared.tree.Argument.TheOpen.{Logical-F, Selector-F, Segment-F, Comparable-F}
 use Rattle.jp_eval.specs.Calls.{length_call, count_call, value_call}
 use Rattle.jp_eval.specs.Roots.{logical_from_root, side_from_root}
 use Rattle.jp_eval.specs.Programs.{Table, argument_of, here, logical_at, side_at, choice_step, condition_step, test_step, operand_step, spelled_step, sought_step, found_step, step_step, choice_view, condition_view, test_view, operand_view, spelled_view, sought_view, found_view, step_view, steps_view, choices_view, conditions_view}

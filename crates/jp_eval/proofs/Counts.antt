@@ -5,8 +5,8 @@ use Rattle.std.proofs.lemmas.List.{length-map, map-append, drop_at, take_all}
 use Rattle.jp_model.specs.Json.Tree.{value_of}
 use Rattle.jp_model.specs.Meaning.Nodes.{Node}
 use Rattle.jp_model.specs.Meaning.Functions.{single_value}
-use Rattle.jp_tape.specs.declared.cursor.Cursor.{Cursor}
-use Rattle.jp_tape.specs.Cursors.{node_of}
+use Rattle.jp_nodes.specs.declared.cursor.Cursor.{Cursor}
+use Rattle.jp_nodes.specs.Cursors.{node_of}
 use Rattle.jp_eval.specs.Found.{Adds}
 use Rattle.jp_eval.specs.Tallies.{Tally, is_counted, tallied, tally}
 use Rattle.jp_eval.specs.declared.frame.Frame.{Frame}

@@ -3,10 +3,10 @@ use Rattle.std.proofs.Common.{◌≡◌, ℕ, zero, suc, ◌-◌, List, [], ◌�
 use Rattle.std.specs.Prelude.{slice_get}
 use Rattle.std.proofs.lemmas.List.{drop_at}
 use Rattle.jp_model.specs.Meaning.Selecting.{nodes, segment_nodes}
-use Rattle.jp_tape.specs.declared.cursor.Cursor.{Cursor}
-use Rattle.jp_tape.specs.Cursors.{line_of, node_of, place_of}
-use Rattle.jp_tape.specs.Spots.{Spot}
-use Rattle.jp_tape.proofs.Cursors.{same_spot}
+use Rattle.jp_nodes.specs.declared.cursor.Cursor.{Cursor}
+use Rattle.jp_nodes.specs.Cursors.{line_of, node_of, place_of}
+use Rattle.jp_nodes.specs.Spots.{Spot}
+use Rattle.jp_nodes.proofs.Cursors.{same_spot}
 use Rattle.jp_eval.specs.Answers.{AreAllDead, AreDeadEnds, IsDeadEnd, table_in, tree_in}
 use Rattle.jp_eval.specs.Frames.{EndsWith}
 use Rattle.jp_eval.specs.Places.{HasPlace}

@@ -3,10 +3,10 @@ use Rattle.std.proofs.Common.{◌≡◌, ℕ, ◌+◌, ◌-◌, ◌<◌, ◌≤�
 use Rattle.std.proofs.lemmas.List.{get_or-take, get_or-drop}
 use Rattle.std.proofs.lemmas.Option.{get_or_from_slice_get}
 use Rattle.jp_model.specs.Meaning.Nodes.{Node, root_node, subtree}
-use Rattle.jp_tape.specs.declared.cursor.Cursor.{Cursor}
-use Rattle.jp_tape.specs.Tapes.{spelled}
-use Rattle.jp_tape.specs.Cursors.{line_of, place_of, root_of, node_of}
-use Rattle.jp_tape.proofs.Cursors.{node_at, subtree-range, at_root}
+use Rattle.jp_nodes.specs.declared.cursor.Cursor.{Cursor}
+use Rattle.jp_nodes.specs.Tapes.{spelled}
+use Rattle.jp_nodes.specs.Cursors.{line_of, place_of, root_of, node_of}
+use Rattle.jp_nodes.proofs.Cursors.{node_at, subtree-range, at_root}
 use Rattle.jp_eval.proofs.Lists.{item_at}
 
 node_in : (a c : Cursor) → line_of a ≡ line_of c → place_of a ≤ place_of c → place_of c < place_of a + length (subtree (node_of a)) → get_or (subtree (node_of a)) (place_of c - place_of a) (node_of c) ≡ node_of c

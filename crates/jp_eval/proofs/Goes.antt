@@ -6,8 +6,8 @@ use Rattle.jp_model.specs.Json.Tree.{Tree}
 use Rattle.jp_model.specs.Meaning.Nodes.{Node}
 use Rattle.jp_model.specs.Meaning.Selecting.{nodes}
 use Rattle.jp_model.specs.Query.Syntax.{Segments}
-use Rattle.jp_tape.specs.declared.cursor.Cursor.{Cursor}
-use Rattle.jp_tape.specs.Cursors.{line_of, node_of}
+use Rattle.jp_nodes.specs.declared.cursor.Cursor.{Cursor}
+use Rattle.jp_nodes.specs.Cursors.{line_of, node_of}
 use Rattle.jp_eval.specs.Found.{Adds}
 use Rattle.jp_eval.specs.Answers.{AreAllDead}
 use Rattle.jp_eval.specs.Frames.{AreKept, Pushes, Lends}

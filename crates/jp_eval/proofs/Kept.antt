@@ -2,8 +2,8 @@
 use Rattle.std.proofs.Common.{◌≡◌, ℕ, List, [], ◌++◌, sym, ◌∙◌, ap, subst, append_assoc, append-nil, Option, Some, None}
 use Rattle.std.specs.Prelude.{IfSome}
 use Rattle.std.proofs.lemmas.List.Elements.{All-nil, All-append}
-use Rattle.jp_tape.specs.declared.cursor.Cursor.{Cursor}
-use Rattle.jp_tape.specs.Cursors.{line_of}
+use Rattle.jp_nodes.specs.declared.cursor.Cursor.{Cursor}
+use Rattle.jp_nodes.specs.Cursors.{line_of}
 use Rattle.jp_eval.specs.Found.{Adds}
 
 pub adds_none : (line : List ℕ) (old new : List Cursor) → new ≡ old → Adds line old new
@@ -15,11 +15,3 @@ adds_more {line} {old} {mid} {new} a b = record {
   is = b.is ∙ (ap (λ l. l ++ b.others) a.is ∙ append_assoc old a.others b.others);
   of_line = All-append (λ c. line_of c ≡ line) a.others b.others a.of_line b.of_line;
 }
-
--- the next child is of the same line
-pub line_on : (r : Option Cursor) (a b : List ℕ) → IfSome r (λ c. line_of c ≡ a) → a ≡ b → IfSome r (λ c. line_of c ≡ b)
-line_on None a b h e = tt
-line_on (Some c) a b h e = h ∙ e
-
-pub line_of_some : (r : Option Cursor) (c : Cursor) (a : List ℕ) → r ≡ Some c → IfSome r (λ c. line_of c ≡ a) → line_of c ≡ a
-line_of_some r c a e h = subst (λ (o : Option Cursor). IfSome o (λ d. line_of d ≡ a)) e h

@@ -4,15 +4,10 @@ pub mod Lists
 pub mod Nodelists
 pub mod Kept
 pub mod Goes
-pub mod Walks
-pub mod Members
-pub mod Elements
 pub mod Views
 pub mod Called
 pub mod Descendants
 pub mod Counts
-pub mod NoMembers
-pub mod Slices
 pub mod Meanings
 pub mod Compiled
 pub mod FromRoot

@@ -2,8 +2,8 @@
 use Rattle.std.proofs.Common.{◌≡◌, ◌∙◌, ◌&&◌, Bool, true, List, [], ◌∷◌, map, ap, ap₂, sym, refl}
 use Rattle.std.proofs.lemmas.Bool.{and_parts}
 use Rattle.jp_model.specs.Query.Syntax.{Origin, root, current, CompareOp, Segments, Logical, or_all, and_all, negated, compare, exists, test, logical, Comparable, single, result, Argument, no_arguments, argument, path, call}
-use Rattle.jp_query.specs.View.{logicals_of, origin_view, path_view, segments_view}
-use Rattle.jp_query.specs.declared.tree.Path.{Path as TreePath}
+use Rattle.jp_syntax.specs.View.{logicals_of, origin_view, path_view, segments_view}
+use Rattle.jp_syntax.specs.declared.tree.Path.{Path as TreePath}
 use Rattle.jp_eval.specs.Calls.{length_call, count_call, value_call}
 use Rattle.jp_eval.specs.Programs.{argument_of, here}
 use Rattle.jp_eval.specs.Questions.{passing_name, question_view}

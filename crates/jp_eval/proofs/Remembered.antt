@@ -2,10 +2,10 @@
 use Rattle.std.proofs.Common.{◌≡◌, ◌∙◌, ℕ, Bool, List, Option, Some, ◌⊎◌, inl, inr, subst, sym}
 use Rattle.std.specs.Prelude.{slice_get}
 use Rattle.jp_model.specs.Meaning.Selecting.{truth}
-use Rattle.jp_tape.specs.declared.cursor.Cursor.{Cursor}
-use Rattle.jp_tape.specs.Cursors.{line_of, node_of, place_of}
-use Rattle.jp_tape.specs.Spots.{Spot}
-use Rattle.jp_tape.proofs.Cursors.{same_spot}
+use Rattle.jp_nodes.specs.declared.cursor.Cursor.{Cursor}
+use Rattle.jp_nodes.specs.Cursors.{line_of, node_of, place_of}
+use Rattle.jp_nodes.specs.Spots.{Spot}
+use Rattle.jp_nodes.proofs.Cursors.{same_spot}
 use Rattle.jp_eval.specs.Answers.{AreTruths, tree_in}
 use Rattle.jp_eval.specs.Programs.{Meant, logical_or_none}
 use Rattle.jp_eval.specs.declared.frame.Run.{Run}

@@ -2,8 +2,8 @@
 use Rattle.std.proofs.Common.{◌≡◌, ◌∙◌, ◌<◌, ℕ, List, Option, Some, Result, Ok, Err, Vec, Global, ap, subst, sym}
 use Rattle.std.specs.Prelude.{OnOk, slice_get}
 use Rattle.jp_model.specs.Meaning.Selecting.{compared_value, truth}
-use Rattle.jp_tape.specs.declared.cursor.Cursor.{Cursor}
-use Rattle.jp_tape.specs.Cursors.{line_of, node_of}
+use Rattle.jp_nodes.specs.declared.cursor.Cursor.{Cursor}
+use Rattle.jp_nodes.specs.Cursors.{line_of, node_of}
 use Rattle.jp_eval.specs.Answers.{IsAnswer, IsRunOf, slots_in, table_in}
 use Rattle.jp_eval.specs.Frames.{AreKept, IsFrameFor, Lends}
 use Rattle.jp_eval.specs.Found.{Adds}

@@ -3,17 +3,17 @@ use Rattle.std.proofs.Common.{◌≡◌, ◌∙◌, sym, ap}
 use Rattle.std.specs.Prelude.{string_bytes}
 use Rattle.std.specs.Str.{chars}
 use Rattle.jp_model.specs.Query.Syntax as syntax
-use Rattle.jp_query.specs.View.{call_view, path_view, arguments_view, argument_view, segments_view, origin_view, logical_view, comparable_view, op_view, literal_view, argument_step, comparable_step, logical_step, segment_step, selector_step, call_step, path_step}
-use Rattle.jp_query.specs.declared.tree.Call.{Call, fold_out-Call}
-use Rattle.jp_query.specs.declared.tree.Path.{Path, fold_out-Path}
-use Rattle.jp_query.specs.declared.tree.CompareOp.{CompareOp}
-use Rattle.jp_query.specs.declared.tree.Comparable.{Comparable}
-use Rattle.jp_query.specs.declared.tree.Argument.{fold-roll-Argument}
-use Rattle.jp_query.specs.declared.tree.Argument.TheVariants as arguments
-use Rattle.jp_query.specs.declared.tree.Literal.{Literal}
-use Rattle.jp_query.specs.declared.tree.Logical.{Logical, fold-roll-Logical}
-use Rattle.jp_query.specs.declared.tree.Logical.TheVariants as logicals
-use Rattle.jp_query.specs.declared.tree.Argument.TheOpen.{Argument-F, Logical-F}
+use Rattle.jp_syntax.specs.View.{call_view, path_view, arguments_view, argument_view, segments_view, origin_view, logical_view, comparable_view, op_view, literal_view, argument_step, comparable_step, logical_step, segment_step, selector_step, call_step, path_step}
+use Rattle.jp_syntax.specs.declared.tree.Call.{Call, fold_out-Call}
+use Rattle.jp_syntax.specs.declared.tree.Path.{Path, fold_out-Path}
+use Rattle.jp_syntax.specs.declared.tree.CompareOp.{CompareOp}
+use Rattle.jp_syntax.specs.declared.tree.Comparable.{Comparable}
+use Rattle.jp_syntax.specs.declared.tree.Argument.{fold-roll-Argument}
+use Rattle.jp_syntax.specs.declared.tree.Argument.TheVariants as arguments
+use Rattle.jp_syntax.specs.declared.tree.Literal.{Literal}
+use Rattle.jp_syntax.specs.declared.tree.Logical.{Logical, fold-roll-Logical}
+use Rattle.jp_syntax.specs.declared.tree.Logical.TheVariants as logicals
+use Rattle.jp_syntax.specs.declared.tree.Argument.TheOpen.{Argument-F, Logical-F}
 
 pub path_viewed : (p : Path) → path_view p ≡ syntax.path (origin_view p.origin) (segments_view p.segments.items)
 path_viewed p = fold_out-Path syntax.Argument syntax.Comparable syntax.Logical syntax.Segment syntax.Selector syntax.Call syntax.Path argument_step comparable_step logical_step segment_step selector_step call_step path_step p

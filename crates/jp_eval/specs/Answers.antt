@@ -2,8 +2,8 @@
 use Rattle.std.specs.Prelude.{◌≡◌, ◌-◌, ◌∷◌, [], ℕ, suc, Bool, List, Option, Some, drop, length, option_map, slice_get, take, true}
 use Rattle.jp_model.specs.Json.Tree as tree
 use Rattle.jp_model.specs.Meaning.Selecting.{compared_value, nodes, truth}
-use Rattle.jp_tape.specs.declared.cursor.Cursor.{Cursor}
-use Rattle.jp_tape.specs.Cursors.{line_of, node_of, place_of}
+use Rattle.jp_nodes.specs.declared.cursor.Cursor.{Cursor}
+use Rattle.jp_nodes.specs.Cursors.{line_of, node_of, place_of}
 use Rattle.jp_eval.specs.Functions.{pattern_in}
 use Rattle.jp_eval.specs.Programs.{Meant, Table, logical_or_none, side_or_none, steps_view, table_of}
 use Rattle.jp_eval.specs.Places.{HasPlace}

@@ -1,7 +1,7 @@
 -- The calls of functions whose answer is a value (RFC 9535, sections 2.4.4, 2.4.5 and 2.4.8).
 use Rattle.std.specs.Prelude.{codes}
 use Rattle.jp_model.specs.Query.Syntax.{Argument, Call, call, argument, no_arguments, nodes_argument, Path}
-use Rattle.jp_query.specs.View.{argument_view, path_view}
+use Rattle.jp_syntax.specs.View.{argument_view, path_view}
 use Rattle.jp_eval.specs.declared.calls.ValueCall.{ValueCall}
 use Rattle.jp_eval.specs.declared.calls.ValueCall.TheVariants as calls
 

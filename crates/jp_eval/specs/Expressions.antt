@@ -5,7 +5,7 @@ use Rattle.jp_model.specs.Meaning.Nodes.{Node}
 use Rattle.jp_model.specs.Meaning.Selecting.{some_true, each_true}
 use Rattle.jp_model.specs.Query.Limits.{Tests}
 use Rattle.jp_model.specs.Query.Syntax.{Logicals}
-use Rattle.jp_query.specs.Sound.{is_sound}
+use Rattle.jp_syntax.specs.Sound.{is_sound}
 
 -- each literal can be read
 abbrev pub readable : Tests

@@ -1,18 +1,8 @@
 -- What is found, and what is added to a list of cursors.
-use Rattle.std.specs.Prelude.{◌≡◌, ℕ, List, [], ◌∷◌, ◌++◌, All, Option, Some, None}
-use Rattle.jp_model.specs.Meaning.Nodes.{Node}
-use Rattle.jp_tape.specs.declared.cursor.Cursor.{Cursor}
-use Rattle.jp_tape.specs.Cursors.{line_of, node_of}
+use Rattle.std.specs.Prelude.{◌≡◌, ℕ, List, ◌++◌}
+use Rattle.jp_nodes.specs.declared.cursor.Cursor.{Cursor}
+use Rattle.jp_children.specs.Found.{AreOf}
 use Rattle.jp_eval.specs.declared.frame.Frame.{Frame}
-
--- the node of a cursor, where there is one
-abbrev pub node_list : Option Cursor → List Node
-node_list None = []
-node_list (Some c) = node_of c ∷ []
-
--- the cursors are of this line
-abbrev pub AreOf : List ℕ → List Cursor → Type 0
-AreOf line list = All (λ c. line_of c ≡ line) list
 
 -- behind the old cursors stand others, of this line
 pub record Adds (line : List ℕ) (old new : List Cursor) : Type 0 where

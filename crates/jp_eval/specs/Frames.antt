@@ -3,8 +3,8 @@ use Rattle.std.specs.Prelude.{◌≡◌, ◌++◌, ℕ, List, [], Option, Some, 
 use Rattle.jp_model.specs.Json.Tree.{Tree}
 use Rattle.jp_model.specs.Meaning.Nodes.{Node}
 use Rattle.jp_model.specs.Meaning.Selecting.{nodes}
-use Rattle.jp_tape.specs.declared.cursor.Cursor.{Cursor}
-use Rattle.jp_tape.specs.Cursors.{line_of}
+use Rattle.jp_nodes.specs.declared.cursor.Cursor.{Cursor}
+use Rattle.jp_nodes.specs.Cursors.{line_of}
 use Rattle.jp_eval.specs.Answers.{AreAllDead, IsAnswer, slots_in, table_in, tree_in}
 use Rattle.jp_eval.specs.Found.{Adds}
 use Rattle.jp_eval.specs.Programs.{Table, steps_view}

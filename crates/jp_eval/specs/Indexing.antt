@@ -1,8 +1,8 @@
 -- What is known of the elements of one array while several are selected by their indexes.
 use Rattle.std.specs.Prelude.{◌≡◌, IfSome}
 use Rattle.jp_model.specs.Meaning.Nodes.{child_count}
-use Rattle.jp_tape.specs.Cursors.{line_of, node_of}
-use Rattle.jp_eval.specs.Walks.{IsAt}
+use Rattle.jp_nodes.specs.Cursors.{line_of, node_of}
+use Rattle.jp_children.specs.Walks.{IsAt}
 use Rattle.jp_eval.specs.declared.indexing.Elements.{Elements}
 
 -- the count is that of its children, and the child that was found last is the one at its position

@@ -3,7 +3,7 @@ use Rattle.std.specs.Prelude.{List, map, chars, string_bytes}
 use Rattle.jp_model.specs.Query.Singular.{step_selector}
 use Rattle.jp_model.specs.Query.Syntax.{Segment, Segments, child_segment, no_selectors, selector}
 use Rattle.jp_model.specs.Steps as model
-use Rattle.jp_query.specs.View.{segments_of}
+use Rattle.jp_syntax.specs.View.{segments_of}
 use Rattle.jp_eval.specs.declared.question.Key.{Key}
 use Rattle.jp_eval.specs.declared.question.Key.TheVariants as keys
 

@@ -3,7 +3,6 @@ pub mod Found
 pub mod Expressions
 pub mod Functions
 pub mod Constants
-pub mod Walks
 pub mod Roots
 pub mod Calls
 pub mod Tallies
@@ -11,7 +10,6 @@ pub mod Programs
 pub mod Compiled
 pub mod Answers
 pub mod Frames
-pub mod Steps
 pub mod Questions
 pub mod Indexing
 pub mod Keys

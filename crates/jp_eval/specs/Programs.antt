@@ -1,7 +1,7 @@
 -- What a compiled query means: the segments that it was made of. The meaning of slots is given by a table.
 use Rattle.std.specs.Prelude.{◌≡◌, ℕ, List, [], ◌∷◌, ◌++◌, map, Option, Some, None, slice_get}
 use Rattle.jp_model.specs.Query.Syntax as syntax
-use Rattle.jp_query.specs.View.{segments_of, selectors_of, logicals_of, literal_view, op_view}
+use Rattle.jp_syntax.specs.View.{segments_of, selectors_of, logicals_of, literal_view, op_view}
 use Rattle.jp_model.specs.Query.Singular.{step_selector}
 use Rattle.jp_eval.specs.Calls.{length_call, count_call, value_call}
 use Rattle.jp_eval.specs.Keys.{key_view, key_segment, keys_view}
@@ -168,6 +168,7 @@ conditions_view table ls = logicals_of (map (condition_view table) ls)
 -- what a slot asks, where what those before it ask is seen already
 abbrev pub slot_view : Table → Slot → Meant
 slot_view table (slots.Test test) = expression (test_view table test)
+slot_view table (slots.OfNode test) = expression (test_view table test)
 slot_view table (slots.Value found) = side (found_view table found)
 
 -- the table that some slots make behind those of another one

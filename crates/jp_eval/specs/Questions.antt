@@ -4,7 +4,7 @@ use Rattle.jp_model.specs.Meaning.Compare.{compared}
 use Rattle.jp_model.specs.Meaning.Functions.{in_pattern, literal_value, single_value}
 use Rattle.jp_model.specs.Meaning.Nodes.{Node}
 use Rattle.jp_model.specs.Query.Syntax as syntax
-use Rattle.jp_query.specs.View.{literal_view, op_view}
+use Rattle.jp_syntax.specs.View.{literal_view, op_view}
 use Rattle.jp_eval.specs.Functions.{passing}
 use Rattle.jp_eval.specs.declared.question.Question.{Question}
 use Rattle.jp_eval.specs.declared.question.Question.TheVariants as questions

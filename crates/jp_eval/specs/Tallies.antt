@@ -1,8 +1,8 @@
 -- What a frame has once some nodes are added.
 use Rattle.std.specs.Prelude.{ℕ, ◌+◌, Bool, true, false, ◌==◌, List, ◌++◌, length, map, take}
 use Rattle.jp_model.specs.Meaning.Nodes.{Node}
-use Rattle.jp_tape.specs.declared.cursor.Cursor.{Cursor}
-use Rattle.jp_tape.specs.Cursors.{node_of}
+use Rattle.jp_nodes.specs.declared.cursor.Cursor.{Cursor}
+use Rattle.jp_nodes.specs.Cursors.{node_of}
 use Rattle.jp_eval.specs.declared.frame.Frame.{Frame}
 
 -- the nodes that a frame has, and how many it counted

@@ -11,28 +11,11 @@ ghost use Rattle.jp_eval.specs.Programs.{found_view, logical_at, no_logical, no_
 use crate::Result;
 use crate::frame::{Answer, Frame, Run, Walk};
 use crate::functions::{read_passes, read_pattern};
-use crate::program::{Found, Slot, Step, Test};
+use crate::program::{Found, Slot, Test};
 use jp_values::Value;
 
 impl<'p, 'a> Run<'p, 'a> {
-    /// Makes room for answers. There is none yet where the query goes one step to children: each of its filters is met once
-    /// then, and one that asks of several children makes room itself.
-    #[inline(always)]
-    pub(crate) fn begin(self, steps: &[Step], frame: &mut Frame<'a>) -> Result<()>
-        requires { AreKept self frame.old.answers.items }
-        ensures kept { AreKept self.entry frame.new.answers.items }
-        ensures found { frame.new.found ≡ frame.old.found }
-        ensures count { frame.new.count ≡ frame.old.count }
-        ensures dead { frame.new.dead_ends ≡ frame.old.dead_ends }
-    {
-        match steps {
-            [Step::One(_) | Step::Child(_)] => Ok(()),
-            _ => self.prepare(frame),
-        }
-    }
-
-    /// Makes room for the answers that the part at hand refers to, where it may ask for one of them again. What is asked once
-    /// is not kept.
+    /// Makes room for the answers that the part at hand refers to.
     #[inline(never)]
     pub(crate) fn prepare(self, frame: &mut Frame<'a>) -> Result<()>
         requires { AreKept self frame.old.answers.items }
@@ -80,6 +63,7 @@ impl<'p, 'a> Run<'p, 'a> {
     {
         match self.slot_at(position) {
             Some((inner, Slot::Test(test))) => Some((inner, test)),
+            Some((inner, Slot::OfNode(test))) => Some((inner, test)),
             _ => None,
         }
     }
@@ -125,6 +109,31 @@ impl<'p, 'a> Run<'p, 'a> {
 }
 
 impl<'r, 'a> Walk<'r, 'a> {
+    /// Answers what the slots ask of the root, in their order. Each refers only to those before it, which are answered then: so
+    /// no walk from the root begins within another, and the stack does not grow with the query.
+    pub(crate) fn answer_slots(self, frame: &mut Frame<'a>) -> Result<()>
+        requires { AreKept self.run.now frame.old.answers.items }
+        ensures { Lends self.entry frame.old frame.new result }
+    {
+        self.run.prepare(frame)?;
+        for position in 0..self.run.known {
+            self.answer_slot(position, frame)?;
+        }
+        Ok(())
+    }
+
+    /// Answers what the slot at a position asks of the root.
+    fn answer_slot(self, position: usize, frame: &mut Frame<'a>) -> Result<()>
+        requires { AreKept self.run.now frame.old.answers.items }
+        ensures { Lends self.entry frame.old frame.new result }
+    {
+        match self.run.slots.get(position) {
+            Some(Slot::Test(_)) => self.holds_once(position, frame).map(|_truth| ()),
+            Some(Slot::Value(_)) => self.value_once(position, frame).map(|_value| ()),
+            _ => Ok(()),
+        }
+    }
+
     /// Whether what a slot asks of the root holds. It is asked once.
     #[cycle(eval)]
     #[inline(never)]
@@ -195,7 +204,7 @@ impl<'r, 'a> Walk<'r, 'a> {
         if let Some(Answer::Pattern(read)) = self.run.kept_at(position, frame) {
             return read_passes(self.run.alloc, read, whole, text);
         }
-        let value = self.find_at_root(position, frame)?;
+        let value = self.value_once(position, frame)?;
         let read = Box::new(self.run.alloc, read_pattern(self.run.alloc, value)?)?;
         let passes = read_passes(self.run.alloc, &read, whole, text)?;
         self.run.keep_at(position, Answer::Pattern(read), frame);

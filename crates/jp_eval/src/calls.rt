@@ -3,11 +3,11 @@
 ghost use Rattle.std.specs.Prelude.{◌≡◌, ◌&&◌, true};
 ghost use Rattle.jp_model.specs.Query.Syntax.{argument, call as syntax_call, no_arguments};
 ghost use Rattle.jp_model.specs.Query.Typing.{call_serves, call_typed, logical_kind, value_kind};
-ghost use Rattle.jp_query.specs.View.{argument_view, call_view};
+ghost use Rattle.jp_syntax.specs.View.{argument_view, call_view};
 ghost use Rattle.jp_eval.specs.Calls.{called};
 ghost use Rattle.jp_eval.specs.Questions.{passing_name};
 
-use jp_query::{Argument, Call, Path};
+use jp_syntax::{Argument, Call, Path};
 
 /// A call whose answer is a value, by its function.
 pub(crate) enum ValueCall<'c> {

@@ -6,7 +6,7 @@ ghost use Rattle.jp_eval.specs.Programs.{Table, Means, slot_view, table_of, step
 ghost use Rattle.jp_eval.specs.Roots.{logical_from_root, side_from_root};
 ghost use Rattle.jp_model.specs.Query.Limits.{segments_pass, segment_passes, selectors_pass, selector_passes, logical_passes};
 ghost use Rattle.jp_model.specs.Query.Typing.{segments_typed, segment_typed, selectors_typed, selector_typed, logical_typed};
-ghost use Rattle.jp_query.specs.View.{segments_view, segment_view, selectors_view, selector_view, logical_view};
+ghost use Rattle.jp_syntax.specs.View.{segments_view, segment_view, selectors_view, selector_view, logical_view};
 
 use crate::Result;
 use crate::constants::{compile_key, compile_member_name};
@@ -14,7 +14,7 @@ use crate::program::{Choice, Condition, Found, Slot, Sought, Step, Test};
 use crate::question::Key;
 use crate::roots::logical_asks_root;
 use crate::ways::Ways;
-use jp_query::{Logical, Origin, Segment, Selector};
+use jp_syntax::{Logical, Origin, Segment, Selector};
 use std::alloc::Global;
 
 /// What compiles a query, and the slots of what it has come upon that is asked once.
@@ -60,7 +60,7 @@ impl Compiler {
     fn add_known(&mut self, test: Test) -> Result<Condition>
         ensures { IfOk result (λ condition. Means self.old.slots.items self.new.slots.items (λ (table : Table). condition_view table condition) (test_view (table_of self.old.slots.items) test)) }
     {
-        let position = self.add_slot(Slot::Test(test))?;
+        let position = self.add_slot(Slot::OfNode(test))?;
         Ok(Condition::Known(position))
     }
 

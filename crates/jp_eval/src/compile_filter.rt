@@ -10,7 +10,7 @@ ghost use Rattle.jp_eval.specs.Roots.{argument_asks_root, argument_from, asks_fr
 ghost use Rattle.jp_model.specs.Query.Limits.{logical_passes, logicals_pass, comparable_passes, path_passes, call_passes, argument_passes};
 ghost use Rattle.jp_model.specs.Query.Syntax.{compare, exists, result as call_result, single, test as call_test};
 ghost use Rattle.jp_model.specs.Query.Typing.{logical_typed, logicals_typed, comparable_typed, path_typed, call_typed, call_serves, argument_typed, logical_kind, value_kind};
-ghost use Rattle.jp_query.specs.View.{op_view, logicals_of, logicals_view, logical_view, comparable_view, path_view, call_view, argument_view, origin_view};
+ghost use Rattle.jp_syntax.specs.View.{op_view, logicals_of, logicals_view, logical_view, comparable_view, path_view, call_view, argument_view, origin_view};
 
 use crate::Result;
 use crate::calls::{ValueCall, pattern_call, value_call};
@@ -20,7 +20,7 @@ use crate::program::{Condition, Found, Operand, Sought, Spelled, Test};
 use crate::question::Question;
 use crate::roots::{becomes_slot, call_asks_root, logical_asks_root, path_asks_root};
 use crate::ways::{Ways, count_again};
-use jp_query::{Argument, Call, Comparable, CompareOp, Logical, Origin, Path};
+use jp_syntax::{Argument, Call, Comparable, CompareOp, Logical, Origin, Path};
 
 impl Compiler {
     /// The conditions of the parts of an expression, in their order.

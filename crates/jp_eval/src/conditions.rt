@@ -5,8 +5,8 @@ ghost use Rattle.jp_model.specs.Meaning.Compare.{compared};
 ghost use Rattle.jp_model.specs.Meaning.Functions.{in_pattern};
 ghost use Rattle.jp_model.specs.Meaning.Selecting.{truth as truth_of, compared_value, given_by};
 ghost use Rattle.jp_model.specs.Query.Syntax.{current, path};
-ghost use Rattle.jp_query.specs.View.{op_view};
-ghost use Rattle.jp_tape.specs.Cursors.{node_of};
+ghost use Rattle.jp_syntax.specs.View.{op_view};
+ghost use Rattle.jp_nodes.specs.Cursors.{node_of};
 ghost use Rattle.jp_eval.specs.Expressions.{all_are};
 ghost use Rattle.jp_eval.specs.Frames.{table_at, tree_at, reached, IsFrameFor, Lends};
 ghost use Rattle.jp_eval.specs.Functions.{passing};
@@ -19,8 +19,8 @@ use crate::frame::{Frame, Walk};
 use crate::functions::{read_passes, read_pattern};
 use crate::program::{Condition, Operand, Sought, Spelled, Step, Test};
 use crate::question::{Key, Question, follow_keys};
-use jp_query::CompareOp;
-use jp_tape::Cursor;
+use jp_nodes::Cursor;
+use jp_syntax::CompareOp;
 use jp_values::compare_in;
 
 impl<'r, 'a> Walk<'r, 'a> {

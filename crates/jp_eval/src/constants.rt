@@ -4,16 +4,16 @@ ghost use Rattle.std.specs.Prelude.{◌≡◌, true, IfOk, IfSome, option_map, s
 ghost use Rattle.jp_decimal.specs.Decimals.{numeral_number};
 ghost use Rattle.jp_eval.specs.Constants.{is_read_as};
 ghost use Rattle.jp_eval.specs.Keys.{key_segment, keys_view};
-ghost use Rattle.jp_query.specs.Sound.{is_sound};
-ghost use Rattle.jp_query.specs.View.{literal_view, segments_view, segment_view};
+ghost use Rattle.jp_syntax.specs.Sound.{is_sound};
+ghost use Rattle.jp_syntax.specs.View.{literal_view, segments_view, segment_view};
 
 use crate::Result;
 use crate::functions::read_pattern;
 use crate::leaves::{Constant, LiteralPattern, MemberName};
 use crate::question::Key;
 use jp_decimal::{Decimal, Numeral};
-use jp_query::{Literal, Segment, Selector};
 use jp_strings::is_plain;
+use jp_syntax::{Literal, Segment, Selector};
 use jp_values::Value;
 use std::alloc::Global;
 

@@ -2,7 +2,7 @@
 //! that a second way to such a node is not walked again.
 
 ghost use Rattle.std.specs.Prelude.{◌≡◌, ◌<◌, ◌∷◌, [], length, true};
-ghost use Rattle.jp_tape.specs.Cursors.{line_of, node_of};
+ghost use Rattle.jp_nodes.specs.Cursors.{line_of, node_of};
 ghost use Rattle.jp_eval.specs.Answers.{AreAllDead, AreDeadEnds, IsDeadEnd};
 ghost use Rattle.jp_eval.specs.Frames.{reached, Finds, IsFrameFor};
 
@@ -10,7 +10,7 @@ use crate::Result;
 use crate::frame::{Frame, Run, Walk};
 use crate::places::Places;
 use crate::program::Step;
-use jp_tape::Cursor;
+use jp_nodes::Cursor;
 
 /// The dead ends of a line take at most so many bytes for each of its nodes, and `SHARED` beside. What conditions answered of
 /// its nodes takes as much.

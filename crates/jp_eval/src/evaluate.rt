@@ -1,21 +1,23 @@
 //! What queries select (RFC 9535, sections 2.1 to 2.5).
 
-ghost use Rattle.std.specs.Prelude.{◌≡◌, ◌++◌, [], ◌∷◌, true, map, IfOk, OnOk, OnErr};
+ghost use Rattle.std.specs.Prelude.{◌≡◌, ◌==◌, ◌++◌, [], ◌∷◌, not, true, length, map, IfOk, OnOk, OnErr};
 ghost use Rattle.jp_model.specs.Meaning.Selecting.{nodes};
 ghost use Rattle.jp_model.specs.Query.Typing.{segments_typed};
-ghost use Rattle.jp_query.specs.Sound.{has_sound_literals};
-ghost use Rattle.jp_query.specs.View.{segments_view};
-ghost use Rattle.jp_tape.specs.Cursors.{line_of, place_of, node_of};
+ghost use Rattle.jp_syntax.specs.Sound.{has_sound_literals};
+ghost use Rattle.jp_syntax.specs.View.{segments_view};
+ghost use Rattle.jp_nodes.specs.Cursors.{line_of, place_of, node_of};
 ghost use Rattle.jp_eval.specs.Compiled.{program_view};
-ghost use Rattle.jp_eval.specs.Found.{Adds, AreOf, found_in};
+ghost use Rattle.jp_eval.specs.Found.{Adds, found_in};
+ghost use Rattle.jp_children.specs.Found.{AreOf};
+ghost use Rattle.jp_eval.specs.Tallies.{tally};
 
 use crate::compile::Compiler;
 use crate::dead_ends::room_of;
 use crate::frame::{ALL, Frame, Run, Walk};
 use crate::program::{Slot, Step};
 use crate::ways::count_again;
-use jp_query::Segment;
-use jp_tape::Cursor;
+use jp_nodes::Cursor;
+use jp_syntax::Segment;
 use std::alloc::{AllocError, Global};
 
 /// A compiled query: segments, with all that is the same for each line found beforehand. Each query from the root within its
@@ -48,6 +50,39 @@ impl Program {
         })
     }
 
+    /// Adds what the steps select from a node, as long as fewer nodes than `most` were found. No query from the root was answered
+    /// before.
+    #[inline(always)]
+    fn push_up_to<'a>(
+        &self,
+        most: usize,
+        alloc: Global,
+        start: Cursor<'a>,
+        root: Cursor<'a>,
+        frame: &mut Frame<'a>,
+    ) -> Result<(), AllocError>
+        requires line { line_of start ≡ line_of root }
+        requires root { place_of root ≡ 0 }
+        requires answers { frame.old.answers.items ≡ [] }
+        requires dead { frame.old.dead_ends.items ≡ [] }
+        ensures kept { Adds (line_of root.entry) frame.old.found.items frame.new.found.items }
+        ensures told { OnOk result (tally most frame.new [] ≡ tally most frame.old (nodes (program_view self.now) (node_of start.entry ∷ []) (node_of root.entry).tree)) }
+    {
+        let run = Run {
+            alloc,
+            slots: &self.slots,
+            known: self.slots.len(),
+            steps: &self.steps,
+            again: self.again,
+            first: start.place(),
+            room: room_of(root),
+            root: &root,
+        };
+        let walk = Walk { run: &run, most };
+        walk.answer_slots(frame)?;
+        walk.push_steps(start, &self.steps, frame)
+    }
+
     /// Adds what the steps select from a node. No query from the root was answered before.
     #[inline(always)]
     fn push_all<'a>(
@@ -64,22 +99,31 @@ impl Program {
         ensures kept { Adds (line_of root.entry) frame.old.found.items frame.new.found.items }
         ensures ok { OnOk result (map node_of frame.new.found.items ≡ map node_of frame.old.found.items ++ nodes (program_view self.now) (node_of start.entry ∷ []) (node_of root.entry).tree) }
     {
-        let run = Run {
-            alloc,
-            slots: &self.slots,
-            known: self.slots.len(),
-            steps: &self.steps,
-            again: self.again,
-            first: start.place(),
-            room: room_of(root),
-            root: &root,
-        };
-        run.begin(&self.steps, frame)?;
-        let walk = Walk {
-            run: &run,
-            most: ALL,
-        };
-        walk.push_steps(start, &self.steps, frame)
+        self.push_up_to(ALL, alloc, start, root, frame)
+    }
+
+    /// Whether the nodelist that `run` adds has a node. It stops at the first. The frame lends its room from line to line; what
+    /// it had found is forgotten, and it has found nothing then.
+    ///
+    /// If memory is refused, the answer is `AllocError`, and the frame can be lent again.
+    pub fn selects_in<'a>(
+        &self,
+        alloc: Global,
+        start: Cursor<'a>,
+        root: Cursor<'a>,
+        frame: &mut Frame<'a>,
+    ) -> Result<bool, AllocError>
+        requires line { line_of start ≡ line_of root }
+        requires root { place_of root ≡ 0 }
+        ensures ok { IfOk result (λ some. some ≡ not (length (nodes (program_view self.now) (node_of start.entry ∷ []) (node_of root.entry).tree) == 0)) }
+        ensures none { found_in frame.new ≡ [] }
+    {
+        frame.forget();
+        let result = self.push_up_to(1, alloc, start, root, frame);
+        let some = !frame.found.is_empty();
+        frame.found.clear();
+        result?;
+        Ok(some)
     }
 
     /// Finds the nodelist that `run` adds, in a frame that lends its room from line to line: `found` of it is the nodelist

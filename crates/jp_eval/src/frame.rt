@@ -1,13 +1,13 @@
 //! What an evaluation carries with it.
 
 ghost use Rattle.std.specs.Prelude.{◌≡◌};
-ghost use Rattle.jp_tape.specs.Cursors.{place_of};
+ghost use Rattle.jp_nodes.specs.Cursors.{place_of};
 
 use crate::Result;
 use crate::places::Places;
 use crate::program::{Slot, Step};
 use jp_iregexp::Pattern;
-use jp_tape::Cursor;
+use jp_nodes::Cursor;
 use jp_values::Value;
 use std::alloc::{AllocError, Global};
 
@@ -73,7 +73,7 @@ pub struct Frame<'a> {
 impl<'a> Frame<'a> {
     ghost use Rattle.std.specs.Prelude.{◌∷◌, [], List, OnOk, true};
     ghost use Rattle.jp_model.specs.Meaning.Nodes.{Node};
-    ghost use Rattle.jp_tape.specs.Cursors.{line_of, node_of};
+    ghost use Rattle.jp_nodes.specs.Cursors.{line_of, node_of};
     ghost use Rattle.jp_eval.specs.Found.{Adds, found_in};
     ghost use Rattle.jp_eval.specs.Tallies.{tally};
 

@@ -4,7 +4,7 @@ ghost use Rattle.std.specs.Prelude.{◌≡◌, length, Some, IfOk, IsTrue, optio
 ghost use Rattle.std.specs.Str.{chars};
 ghost use Rattle.jp_model.specs.Json.Tree.{value_of};
 ghost use Rattle.jp_model.specs.Meaning.Functions.{length_of as length_of_value};
-ghost use Rattle.jp_tape.specs.Cursors.{node_of};
+ghost use Rattle.jp_nodes.specs.Cursors.{node_of};
 ghost use Rattle.jp_eval.specs.Functions.{passing, pattern_in, passes_as_string, passes_where_read};
 ghost use Rattle.jp_iregexp.specs.Trees.{pattern_view};
 ghost use Rattle.jp_strings.specs.Points.{IsText, points_of};
@@ -12,9 +12,9 @@ ghost use Rattle.jp_values.specs.Values.{value_view, is_sound_value};
 
 use crate::Result;
 use jp_iregexp::Pattern;
-use jp_query::Literal;
+use jp_nodes::{Cursor, Kind};
 use jp_strings::{plain_text, scalar_count, unescape};
-use jp_tape::{Cursor, Kind};
+use jp_syntax::Literal;
 use jp_values::Value;
 use std::alloc::Global;
 

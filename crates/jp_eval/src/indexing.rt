@@ -3,16 +3,16 @@
 ghost use Rattle.std.specs.Prelude.{◌≡◌, IfSome};
 ghost use Rattle.jp_model.specs.Meaning.Nodes.{child_count as count_of};
 ghost use Rattle.jp_model.specs.Meaning.Slices.{indexed, normal as normal_of};
-ghost use Rattle.jp_tape.specs.Cursors.{line_of, node_of};
-ghost use Rattle.jp_eval.specs.Found.{node_list};
+ghost use Rattle.jp_nodes.specs.Cursors.{line_of, node_of};
+ghost use Rattle.jp_children.specs.Found.{node_list};
 ghost use Rattle.jp_eval.specs.Indexing.{AreKnown};
 ghost use Rattle.jp_eval.specs.Keys.{key_view};
-ghost use Rattle.jp_eval.specs.Steps.{step_nodes};
-ghost use Rattle.jp_eval.specs.Walks.{IsAt};
+ghost use Rattle.jp_children.specs.Steps.{step_nodes};
+ghost use Rattle.jp_children.specs.Walks.{IsAt};
 
-use crate::children::{is_array, normal, skip_siblings};
 use crate::question::Key;
-use jp_tape::Cursor;
+use jp_children::{is_array, normal, skip_siblings};
+use jp_nodes::Cursor;
 
 /// The elements of a node that several indexes select. They are counted once, and an element that is not before the last one is
 /// looked for from there.

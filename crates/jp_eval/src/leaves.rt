@@ -5,18 +5,18 @@ ghost use Rattle.jp_decimal.specs.Decimals.{numeral_number};
 ghost use Rattle.jp_eval.specs.Constants.{is_read_as};
 ghost use Rattle.jp_eval.specs.Functions.{pattern_in};
 ghost use Rattle.jp_iregexp.specs.Trees.{pattern_view};
-ghost use Rattle.jp_eval.specs.Found.{node_list};
+ghost use Rattle.jp_children.specs.Found.{node_list};
 ghost use Rattle.jp_model.specs.Meaning.Compare.{compared};
 ghost use Rattle.jp_model.specs.Meaning.Functions.{literal_value, single_value};
-ghost use Rattle.jp_query.specs.Sound.{is_sound};
-ghost use Rattle.jp_query.specs.View.{literal_view, op_view};
+ghost use Rattle.jp_syntax.specs.Sound.{is_sound};
+ghost use Rattle.jp_syntax.specs.View.{literal_view, op_view};
 ghost use Rattle.jp_strings.specs.Plain.{ArePlain};
 ghost use Rattle.jp_values.specs.Values.{value_view, is_sound_value};
 
 use jp_decimal::Numeral;
 use jp_iregexp::Pattern;
-use jp_query::{CompareOp, Literal};
-use jp_tape::Cursor;
+use jp_nodes::Cursor;
+use jp_syntax::{CompareOp, Literal};
 use jp_values::{Value, compare, compare_with_number, compare_with_text};
 
 /// A value that is written in the query, and can be read. A number was read.

@@ -3,6 +3,7 @@
 //! Public calls:
 //!
 //! - `Program::compile`, `Program::run`, `Program::run_in`: a query, compiled once and run for each line
+//! - `Program::selects_in`: whether it selects a node
 //! - `Frame`: what lends its room from line to line
 //! - `Predicate::compile`, `Predicate::holds_in`: a logical expression, compiled once and asked of nodes
 //! - `eval_from`, `truth`: the nodelist of segments; whether an expression holds of a node
@@ -11,7 +12,6 @@
 
 mod answers;
 mod calls;
-mod children;
 mod compile;
 mod compile_filter;
 mod conditions;
@@ -29,7 +29,6 @@ mod question;
 mod roots;
 mod select;
 mod slicing;
-mod steps;
 mod truths;
 mod values;
 mod ways;
@@ -39,5 +38,5 @@ type Result<T> = std::result::Result<T, std::alloc::AllocError>;
 
 pub use evaluate::{Program, eval_from};
 pub use frame::Frame;
+pub use jp_children::follow;
 pub use predicate::{Predicate, truth};
-pub use steps::follow;

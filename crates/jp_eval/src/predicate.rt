@@ -3,17 +3,17 @@
 ghost use Rattle.std.specs.Prelude.{◌≡◌, true, IfOk};
 ghost use Rattle.jp_model.specs.Meaning.Selecting.{truth as truth_of};
 ghost use Rattle.jp_model.specs.Query.Typing.{logical_typed};
-ghost use Rattle.jp_query.specs.Sound.{logical_has_sound_literals};
-ghost use Rattle.jp_query.specs.View.{logical_view};
-ghost use Rattle.jp_tape.specs.Cursors.{line_of, place_of, node_of};
+ghost use Rattle.jp_syntax.specs.Sound.{logical_has_sound_literals};
+ghost use Rattle.jp_syntax.specs.View.{logical_view};
+ghost use Rattle.jp_nodes.specs.Cursors.{line_of, place_of, node_of};
 ghost use Rattle.jp_eval.specs.Compiled.{predicate_view};
 
 use crate::compile::Compiler;
 use crate::dead_ends::room_of;
 use crate::frame::{ALL, Frame, Run, Walk};
 use crate::program::{Condition, Slot};
-use jp_query::{Logical, Origin};
-use jp_tape::Cursor;
+use jp_nodes::Cursor;
+use jp_syntax::{Logical, Origin};
 use std::alloc::{AllocError, Global};
 
 /// A compiled logical expression (RFC 9535, section 2.3.5), with all that is the same for each node found beforehand.
@@ -65,11 +65,11 @@ impl Predicate {
             room: room_of(root),
             root: &root,
         };
-        run.prepare(frame)?;
         let walk = Walk {
             run: &run,
             most: ALL,
         };
+        walk.answer_slots(frame)?;
         walk.holds(node, &self.condition, frame)
     }
 }

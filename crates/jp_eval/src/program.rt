@@ -18,7 +18,7 @@
 
 use crate::leaves::{Constant, LiteralPattern};
 use crate::question::{Key, Question};
-use jp_query::CompareOp;
+use jp_syntax::CompareOp;
 
 /// A step from nodes to nodes (RFC 9535, section 2.5).
 #[cycle(program)]
@@ -126,6 +126,10 @@ pub(crate) enum Found {
 /// What a filter asks once: of the root, once in a line, or of a node, once of each. It refers only to slots before it.
 #[derive(Drop)]
 pub(crate) enum Slot {
+    /// Whether a test holds of the root.
     Test(Test),
+    /// Which value is found at the root.
     Value(Found),
+    /// Whether a test holds of a node.
+    OfNode(Test),
 }

@@ -3,18 +3,18 @@
 ghost use Rattle.std.specs.Prelude.{◌≡◌, ◌∷◌, [], IfOk, IfSome};
 ghost use Rattle.jp_model.specs.Json.Tree.{Tree};
 ghost use Rattle.jp_model.specs.Meaning.Selecting.{nodes as nodes_of};
-ghost use Rattle.jp_eval.specs.Found.{node_list};
+ghost use Rattle.jp_children.specs.Found.{node_list};
 ghost use Rattle.jp_eval.specs.Keys.{key_view, keys_view};
 ghost use Rattle.jp_eval.specs.Questions.{answered};
-ghost use Rattle.jp_eval.specs.Steps.{step_nodes};
-ghost use Rattle.jp_tape.specs.Cursors.{line_of, node_of};
+ghost use Rattle.jp_children.specs.Steps.{step_nodes};
+ghost use Rattle.jp_nodes.specs.Cursors.{line_of, node_of};
 
 use crate::Result;
-use crate::children::{find_element, find_member};
 use crate::functions::read_passes;
 use crate::leaves::{Constant, LiteralPattern, MemberName};
-use jp_query::CompareOp;
-use jp_tape::Cursor;
+use jp_children::{find_element, find_member};
+use jp_nodes::Cursor;
+use jp_syntax::CompareOp;
 use jp_values::Value;
 use std::alloc::Global;
 

@@ -1,11 +1,11 @@
 //! What asks nothing of the current node, so that it is answered once in a line.
 
 ghost use Rattle.std.specs.Prelude.{◌≡◌, true, false};
-ghost use Rattle.jp_query.specs.View.{argument_view, call_view, comparable_view, logical_view, logicals_view, origin_view, path_view};
+ghost use Rattle.jp_syntax.specs.View.{argument_view, call_view, comparable_view, logical_view, logicals_view, origin_view, path_view};
 ghost use Rattle.jp_eval.specs.Roots.{argument_asks_root, asks_from, call_asks_root, is_root, logical_asks_root, logicals_ask_root, path_asks_root, side_asks_root};
 ghost use Rattle.jp_model.specs.Query.Syntax.{current};
 
-use jp_query::{Argument, Call, Comparable, Logical, Origin, Path};
+use jp_syntax::{Argument, Call, Comparable, Logical, Origin, Path};
 
 /// Whether a query within a filter begins at the root (RFC 9535, section 2.3.5.1).
 pub(crate) fn path_asks_root(path: &Path) -> bool

@@ -6,19 +6,19 @@
 ghost use Rattle.std.specs.Prelude.{◌≡◌, [], ◌∷◌, IfSome, filter, flat_map};
 ghost use Rattle.jp_model.specs.Meaning.Nodes.{children, subtree};
 ghost use Rattle.jp_model.specs.Meaning.Selecting.{segment_nodes, selected, select, truth as truth_of};
-ghost use Rattle.jp_tape.specs.Cursors.{line_of, node_of};
+ghost use Rattle.jp_nodes.specs.Cursors.{line_of, node_of};
 ghost use Rattle.jp_eval.specs.Answers.{AreAllDead};
-ghost use Rattle.jp_eval.specs.Found.{node_list};
+ghost use Rattle.jp_children.specs.Found.{node_list};
 ghost use Rattle.jp_eval.specs.Frames.{table_at, tree_at, reached, AreKept, EndsWith, IsFrameAt, Pushes};
 ghost use Rattle.jp_eval.specs.Indexing.{AreKnown};
 ghost use Rattle.jp_eval.specs.Programs.{step_view, choices_view, choice_view, condition_view};
 
 use crate::Result;
-use crate::children::Slice;
 use crate::frame::{Frame, Walk};
 use crate::indexing::Elements;
 use crate::program::{Choice, Condition, Step};
-use jp_tape::Cursor;
+use jp_children::Slice;
+use jp_nodes::Cursor;
 
 impl<'r, 'a> Walk<'r, 'a> {
     /// Adds what the steps select from a node, as long as fewer nodes than `most` were found. Where none is left, that is the

@@ -3,17 +3,17 @@
 ghost use Rattle.std.specs.Prelude.{map};
 ghost use Rattle.jp_model.specs.Meaning.Nodes.{children_where};
 ghost use Rattle.jp_model.specs.Meaning.Slices.{is_index, sliced};
-ghost use Rattle.jp_tape.specs.Cursors.{line_of, node_of};
+ghost use Rattle.jp_nodes.specs.Cursors.{line_of, node_of};
 ghost use Rattle.jp_eval.specs.Answers.{AreAllDead};
-ghost use Rattle.jp_eval.specs.Found.{AreOf};
+ghost use Rattle.jp_children.specs.Found.{AreOf};
 ghost use Rattle.jp_eval.specs.Frames.{reached, AreKept, EndsWith, IsFrameAt, Pushes};
-ghost use Rattle.jp_eval.specs.Walks.{rises};
+ghost use Rattle.jp_children.specs.Walks.{rises};
 
 use crate::Result;
-use crate::children::{Rising, Slice, find_falling};
 use crate::frame::{Frame, Walk};
 use crate::program::Step;
-use jp_tape::Cursor;
+use jp_children::{Rising, Slice, find_falling};
+use jp_nodes::Cursor;
 
 impl<'r, 'a> Walk<'r, 'a> {
     /// Adds what the steps select from each element of a slice, in the order in which it selects them.

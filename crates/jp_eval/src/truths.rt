@@ -2,7 +2,7 @@
 
 ghost use Rattle.std.specs.Prelude.{◌≡◌, ◌⊎◌, ℕ, Bool, Some, IfOk, IfSome, slice_get};
 ghost use Rattle.jp_model.specs.Meaning.Selecting.{truth as truth_of};
-ghost use Rattle.jp_tape.specs.Cursors.{line_of, node_of};
+ghost use Rattle.jp_nodes.specs.Cursors.{line_of, node_of};
 ghost use Rattle.jp_eval.specs.Answers.{AreTruths, table_in, tree_in};
 ghost use Rattle.jp_eval.specs.Frames.{AreKept, IsFrameFor, Lends, table_at, tree_at};
 ghost use Rattle.jp_eval.specs.Programs.{logical_at};
@@ -10,7 +10,7 @@ ghost use Rattle.jp_eval.specs.Programs.{logical_at};
 use crate::Result;
 use crate::dead_ends::room_of;
 use crate::frame::{Answer, Frame, Run, Walk};
-use jp_tape::Cursor;
+use jp_nodes::Cursor;
 
 /// Puts in what is true or false of the node at a place. If memory is refused, the answer is `AllocError`, and it may not be
 /// in.

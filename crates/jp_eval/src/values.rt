@@ -3,9 +3,9 @@
 ghost use Rattle.std.specs.Prelude.{◌≡◌, ◌∷◌, [], length, IfOk};
 ghost use Rattle.jp_model.specs.Meaning.Functions.{single_value as single_value_of};
 ghost use Rattle.jp_model.specs.Meaning.Selecting.{compared_value};
-ghost use Rattle.jp_tape.specs.Cursors.{node_of};
+ghost use Rattle.jp_nodes.specs.Cursors.{node_of};
 ghost use Rattle.jp_eval.specs.Answers.{IsValue};
-ghost use Rattle.jp_eval.specs.Found.{node_list};
+ghost use Rattle.jp_children.specs.Found.{node_list};
 ghost use Rattle.jp_eval.specs.Frames.{table_at, tree_at, reached, IsFrameFor, Lends};
 ghost use Rattle.jp_eval.specs.Programs.{operand_view, sought_view, found_view};
 
@@ -14,7 +14,7 @@ use crate::frame::{COUNTED, Frame, Walk};
 use crate::functions::length_of;
 use crate::program::{Found, Operand, Sought, Step};
 use crate::question::follow_keys;
-use jp_tape::Cursor;
+use jp_nodes::Cursor;
 use jp_values::Value;
 
 /// The value of a node, or Nothing if there is none.

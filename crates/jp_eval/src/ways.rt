@@ -3,7 +3,7 @@
 ghost use Rattle.std.specs.Prelude.{◌≤◌, length};
 
 use crate::program::{Choice, Step};
-use jp_query::Segment;
+use jp_syntax::Segment;
 
 /// How the nodes lie that steps go on from.
 #[derive(Clone, Copy)]

@@ -2,10 +2,10 @@
 use Rattle.std.proofs.Common.{◌≡◌, ◌∙◌, ◌-◌, ℕ, List, [], ◌++◌, sym, ap, subst, append-nil, arith, Bool, true, false, Option, Result, Ok, Err, IsErr}
 use Rattle.std.specs.Prelude.{IfErr, IsErrAnd, OnOk}
 use Rattle.jp_model.specs.declared.Framing.{Framing}
-use Rattle.jp_model.specs.Devices.{Device, Received, Writes}
+use Rattle.jp_devices.specs.Devices.{Device, Received, Writes}
 use Rattle.jp_model.specs.Lines.{is_framed, without_byte_order_mark}
 use Rattle.jp_masks.specs.Found.{lines_in}
-use Rattle.jp_rows.proofs.Chains.{ends_in_part}
+use Rattle.jp_devices.proofs.Chains.{ends_in_part}
 use Rattle.jp_grep.specs.Cuts.{EndsBetween, text_of}
 use Rattle.jp_grep.specs.Faults.{is_framing_fault, is_inner_fault}
 use Rattle.jp_grep.specs.Positions.{IsAt}
@@ -15,7 +15,7 @@ use Rattle.jp_grep.specs.Streams.{closed_in}
 use Rattle.jp_grep.specs.Watching.{answered_of}
 use Rattle.jp_grep.specs.declared.fault.SearchFault.{SearchFault}
 use Rattle.jp_grep.specs.declared.fault.SearchFault.TheVariants as faults
-use Rattle.jp_grep.specs.declared.form.Form.{Form}
+use Rattle.jp_form.specs.declared.form.Form.{Form}
 use Rattle.jp_grep.specs.declared.progress.Progress.{Progress}
 use Rattle.jp_grep.specs.declared.question.Question.{Question}
 use Rattle.jp_grep.proofs.Counted.{none_up_to}

@@ -5,7 +5,7 @@ use Rattle.std.proofs.lemmas.List.{drop_more, drop_all, take_more, length-take-l
 use Rattle.jp_grep.specs.Rows.{line_message, line_rows, messages_from, output_from, refused_count, refused_line, selected_count, selected_line}
 use Rattle.jp_grep.specs.Streams.{up_to}
 use Rattle.jp_grep.specs.Watching.{answered_of}
-use Rattle.jp_grep.specs.declared.form.Form.{Form}
+use Rattle.jp_form.specs.declared.form.Form.{Form}
 use Rattle.jp_grep.specs.declared.question.Question.{Question}
 use Rattle.jp_grep.proofs.Counted.{count-append, count_one, messages-append, messages_one, next_up_to, none_up_to, output-append, output_one}
 

@@ -3,7 +3,7 @@ use Rattle.std.proofs.Common.{◌≡◌, ◌∙◌, ◌++◌, ◌∷◌, [], Lis
 use Rattle.std.specs.Prelude.{if◌then◌else◌}
 use Rattle.jp_grep.specs.Held.{Holds, has_none}
 use Rattle.jp_grep.specs.Tables.{cell_text, joined, separator}
-use Rattle.jp_grep.specs.declared.form.Table.{Table}
+use Rattle.jp_form.specs.declared.form.Table.{Table}
 use Rattle.jp_grep.specs.declared.table.TableRow.{TableRow}
 
 -- a cell more is parted from those before it

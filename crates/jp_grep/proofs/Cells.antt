@@ -8,8 +8,8 @@ use Rattle.jp_model.specs.Rows.{line_feed}
 use Rattle.jp_grep.specs.ReadBack.{Read, cell_ends, in_bare, in_front, in_quoted, behind_quote, read_commas, read_row, read_tabs, row_ends, with_byte}
 use Rattle.jp_grep.specs.Tables.{cell_text, joined, quoted_byte, quoted_cell, separator, tabs_byte, wants_quotes}
 use Rattle.jp_grep.proofs.PlainBytes.{differs}
-use Rattle.jp_grep.specs.declared.form.Table.{Table}
-use Rattle.jp_grep.specs.declared.form.Table.TheVariants as tables
+use Rattle.jp_form.specs.declared.form.Table.{Table}
+use Rattle.jp_form.specs.declared.form.Table.TheVariants as tables
 
 -- bytes of a cell in front of what else is read
 abbrev pub with_bytes : List ℕ → Read → Read

@@ -4,7 +4,7 @@ use Rattle.std.specs.Prelude.{zero, suc, count_by, cond}
 use Rattle.std.proofs.lemmas.List.Sums.{sum_by-append, sum_by-cons}
 use Rattle.jp_grep.specs.Rows.{line_message, line_rows, messages_from, output_from}
 use Rattle.jp_grep.specs.Streams.{up_to}
-use Rattle.jp_grep.specs.declared.form.Form.{Form}
+use Rattle.jp_form.specs.declared.form.Form.{Form}
 use Rattle.jp_grep.specs.declared.question.Question.{Question}
 
 module _ (test : List ℕ → Bool) where

@@ -6,7 +6,7 @@ use Rattle.jp_model.specs.declared.Framing.TheVariants as framings
 use Rattle.jp_model.specs.Lines.{HasNoSeparator, before_last_piece, closed_lines, closed_pieces, first_piece, is_blank, is_separator, line_unless_empty, open_line, open_piece, pieces, sequence_texts, without_empty}
 use Rattle.jp_model.proofs.Pieces.{before_last-append, closed-append, closed_clear, open_clear, open-separator, pieces_clear, pieces_some}
 use Rattle.jp_masks.specs.Found.{lines_in}
-use Rattle.jp_store.proofs.Parts.{lines_parted, pieces_are, pieces_parted, sequence_parted}
+use Rattle.jp_lines.proofs.Parts.{lines_parted, pieces_are, pieces_parted, sequence_parted}
 use Rattle.jp_grep.specs.Cuts.{EndsBetween, HasNoEnd}
 use Rattle.jp_grep.specs.Streams.{closed_in}
 

@@ -4,6 +4,8 @@ pub mod Cut
 pub mod Position
 pub mod Counted
 pub mod Written
+pub mod Putting
+pub mod Selecting
 pub mod Celled
 pub mod PlainBytes
 pub mod Cells
@@ -11,4 +13,3 @@ pub mod Batched
 pub mod Ends
 pub mod Advancing
 pub mod SoFar
-pub mod Program

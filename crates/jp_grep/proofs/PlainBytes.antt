@@ -6,8 +6,8 @@ use Rattle.std.proofs.lemmas.Bool.Decides.{eqb_tells}
 use Rattle.std.proofs.lemmas.List.Concat.{flat_map-cons}
 use Rattle.jp_lanes.specs.Search.{is_special}
 use Rattle.jp_grep.specs.Tables.{byte_text, bytes_text}
-use Rattle.jp_grep.specs.declared.form.Table.{Table}
-use Rattle.jp_grep.specs.declared.form.Table.TheVariants as tables
+use Rattle.jp_form.specs.declared.form.Table.{Table}
+use Rattle.jp_form.specs.declared.form.Table.TheVariants as tables
 
 -- a byte that does not pass a test is none that does
 pub differs : (test : ℕ → Bool) (byte special : ℕ) → test special ≡ true → test byte ≡ false → (byte == special) ≡ false

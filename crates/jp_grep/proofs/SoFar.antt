@@ -2,11 +2,11 @@
 use Rattle.std.proofs.Common.{◌≡◌, ◌∙◌, ◌+◌, ◌-◌, ◌<◌, ◌^◌, ℕ, List, [], ◌++◌, length, refl, sym, ap, ap₂, subst, append_assoc, append-nil, length-append, arith, Bool, true, false, ◌||◌, ◌&&◌, eqb, ltb, Option, Result, Ok, Err, inl, inr}
 use Rattle.std.specs.Prelude.{IsErrAnd, MatchResult, not}
 use Rattle.std.proofs.lemmas.Bool.{eq-eqb, lt-ltb, ne_eqb}
-use Rattle.jp_model.specs.Devices.{Came, Device, HasEnded, Received, has_no_room, one_more_where}
+use Rattle.jp_devices.specs.Devices.{Came, Device, HasEnded, Received, has_no_room, one_more_where}
 use Rattle.jp_model.specs.Lines.{is_framed, lines}
-use Rattle.jp_model.proofs.Devices.{CameToEnd, came_so, was_ended}
+use Rattle.jp_devices.proofs.Devices.{CameToEnd, came_so, was_ended}
 use Rattle.jp_masks.specs.Found.{lines_in}
-use Rattle.jp_rows.proofs.Chains.{Part, both_received, part_more}
+use Rattle.jp_devices.proofs.Chains.{Part, both_received, part_more}
 use Rattle.jp_grep.specs.Cuts.{text_of}
 use Rattle.jp_grep.specs.Faults.{is_framing_fault, is_input_fault, is_read_fault}
 use Rattle.jp_grep.specs.Positions.{IsAt}
@@ -16,7 +16,7 @@ use Rattle.jp_grep.specs.Streams.{lines_come, up_to}
 use Rattle.jp_grep.specs.Watching.{Answered, AnsweredInPart, SearchStopped, SearchedLines, answered, answered_of}
 use Rattle.jp_grep.specs.declared.fault.SearchFault.{SearchFault}
 use Rattle.jp_grep.specs.declared.fault.SearchFault.TheVariants as faults
-use Rattle.jp_grep.specs.declared.form.Form.{Form}
+use Rattle.jp_form.specs.declared.form.Form.{Form}
 use Rattle.jp_grep.specs.declared.progress.Progress.{Progress}
 use Rattle.jp_grep.specs.declared.question.Question.{Question}
 use Rattle.jp_grep.specs.declared.stream.Stream.{Stream}

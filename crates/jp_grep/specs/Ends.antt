@@ -1,5 +1,5 @@
 -- How a run ends (profile).
-use Rattle.std.specs.Prelude.{◌≡◌, ◌&&◌, ◌||◌, ℕ, Bool, true, if◌then◌else◌, ltb, Result, MatchResult}
+use Rattle.std.specs.Prelude.{◌≡◌, ◌&&◌, ◌||◌, not, ℕ, Bool, true, if◌then◌else◌, ltb, Result, MatchResult}
 use Rattle.jp_grep.specs.declared.fault.SearchFault.{SearchFault}
 use Rattle.jp_grep.specs.declared.progress.Counts.{Counts}
 
@@ -8,8 +8,9 @@ use Rattle.jp_grep.specs.declared.progress.Counts.{Counts}
 abbrev pub status_of : Bool → Bool → Bool → ℕ
 status_of quiet selected failed = if quiet && selected then 0 else if failed then 2 else if selected then 0 else 1
 
--- what is known behind a search: whether a line was selected so far, and whether anything was refused or failed
-abbrev pub NotesSearch : Result Counts SearchFault → Bool → Bool → Bool → Bool → Type 0
-NotesSearch result selected0 failed0 selected1 failed1 = MatchResult result
-    (λ counts. (selected1 ≡ (selected0 || ltb 0 counts.selected)) × (failed1 ≡ (failed0 || ltb 0 counts.refused)))
+-- what is known after a search: whether a line was selected so far, and whether anything was refused or failed. With `-s` a
+-- refused line is passed over, as a blank one is.
+abbrev pub NotesSearch : Bool → Result Counts SearchFault → Bool → Bool → Bool → Bool → Type 0
+NotesSearch silent result selected0 failed0 selected1 failed1 = MatchResult result
+    (λ counts. (selected1 ≡ (selected0 || ltb 0 counts.selected)) × (failed1 ≡ (failed0 || (not silent && ltb 0 counts.refused))))
     (λ fault. (selected1 ≡ selected0) × (failed1 ≡ true))

@@ -1,7 +1,7 @@
 -- The row of a table while it is made.
 use Rattle.std.specs.Prelude.{◌≡◌, ℕ, List, [], ◌∷◌, Bool, true, false}
 use Rattle.jp_grep.specs.Tables.{joined}
-use Rattle.jp_grep.specs.declared.form.Table.{Table}
+use Rattle.jp_form.specs.declared.form.Table.{Table}
 use Rattle.jp_grep.specs.declared.table.TableRow.{TableRow}
 
 -- no cell stands in a row

@@ -8,10 +8,10 @@ use Rattle.jp_model.specs.Query.Syntax.{Segments}
 use Rattle.jp_model.specs.Rows.{Row, node_row, refusal_row, line_feed, source, tab, status_rows as query_rows}
 use Rattle.jp_grep.specs.Matching.{conditions_of, queries_of}
 use Rattle.jp_grep.specs.Rows.{line_rows}
-use Rattle.jp_grep.specs.declared.form.Form.{Form}
-use Rattle.jp_grep.specs.declared.form.Shown.TheVariants as shown
-use Rattle.jp_grep.specs.declared.form.Spelling.TheVariants as spellings
-use Rattle.jp_grep.specs.declared.form.Summary.{Summary}
+use Rattle.jp_form.specs.declared.form.Form.{Form}
+use Rattle.jp_form.specs.declared.form.Shown.TheVariants as shown
+use Rattle.jp_form.specs.declared.form.Spelling.TheVariants as spellings
+use Rattle.jp_form.specs.declared.form.Summary.{Summary}
 use Rattle.jp_grep.specs.declared.question.Question.{Question}
 
 -- values with their paths and the numbers of their lines, as `-onp` prints them

@@ -9,10 +9,9 @@ pub mod Watching
 pub mod Cuts
 pub mod Progress
 pub mod Faults
+pub mod Holding
 pub mod Positions
 pub mod Searching
-pub mod Words
 pub mod Laws
 pub mod ReadBack
-pub mod Command
 pub mod Ends

@@ -12,10 +12,14 @@ use Rattle.jp_grep.specs.declared.question.Question.{Question}
 abbrev pub selected_by : Segments → Tree → List Node
 selected_by query t = nodes query (root_node t ∷ []) t
 
+-- there is a node
+abbrev pub has_nodes : List Node → Bool
+has_nodes nodes = not (length nodes == 0)
+
 -- a query selects a node
 abbrev pub selects : List Segments → Tree → Bool
 selects [] t = false
-selects (query ∷ rest) t = not (length (selected_by query t) == 0) || selects rest t
+selects (query ∷ rest) t = has_nodes (selected_by query t) || selects rest t
 
 -- each condition holds, where both `@` and `$` are the value of the line (RFC 9535, section 2.3.5)
 abbrev pub all_hold : List Logical → Tree → Bool
@@ -32,6 +36,10 @@ conditions_of question = map predicate_view question.conditions.items
 -- a value matches: each condition holds, and some query selects a node
 abbrev pub matches : Question → Tree → Bool
 matches question t = all_hold (conditions_of question) t && selects (queries_of question) t
+
+-- the nodes of a value are asked for: the conditions hold, or inverted, it does not match
+abbrev pub wants_nodes : Question → Tree → Bool
+wants_nodes question t = if question.inverted then not (matches question t) else all_hold (conditions_of question) t
 
 -- A line is selected where it has a value that matches, or, inverted, one that does not. One that is blank or refused never is.
 abbrev pub is_selected : Question → LineStatus → Bool

@@ -2,8 +2,8 @@
 use Rattle.std.specs.Prelude.{◌≡◌, ℕ, List, [], ◌∷◌, ◌++◌, Bool, true, false, ◌==◌, if◌then◌else◌}
 use Rattle.jp_model.specs.Rows.{line_feed}
 use Rattle.jp_grep.specs.Tables.{joined}
-use Rattle.jp_grep.specs.declared.form.Table.{Table}
-use Rattle.jp_grep.specs.declared.form.Table.TheVariants as tables
+use Rattle.jp_form.specs.declared.form.Table.{Table}
+use Rattle.jp_form.specs.declared.form.Table.TheVariants as tables
 
 -- what is read of a row: what is left of a cell, the cells behind it, and the bytes behind the row
 pub record Read : Type 0 where

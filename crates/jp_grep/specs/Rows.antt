@@ -14,13 +14,13 @@ use Rattle.jp_canon.specs.Canonical.{canonical_text}
 use Rattle.jp_grep.specs.Matching.{is_selected, nodes_of, queries_of}
 use Rattle.jp_grep.specs.Spelled.{plain, spelled}
 use Rattle.jp_grep.specs.Tables.{table_row}
-use Rattle.jp_grep.specs.declared.form.Form.{Form}
-use Rattle.jp_grep.specs.declared.form.Shown.{Shown}
-use Rattle.jp_grep.specs.declared.form.Shown.TheVariants as shown
-use Rattle.jp_grep.specs.declared.form.Spelling.{Spelling}
-use Rattle.jp_grep.specs.declared.form.Spelling.TheVariants as spellings
-use Rattle.jp_grep.specs.declared.form.Summary.{Summary}
-use Rattle.jp_grep.specs.declared.form.Summary.TheVariants as summaries
+use Rattle.jp_form.specs.declared.form.Form.{Form}
+use Rattle.jp_form.specs.declared.form.Shown.{Shown}
+use Rattle.jp_form.specs.declared.form.Shown.TheVariants as shown
+use Rattle.jp_form.specs.declared.form.Spelling.{Spelling}
+use Rattle.jp_form.specs.declared.form.Spelling.TheVariants as spellings
+use Rattle.jp_form.specs.declared.form.Summary.{Summary}
+use Rattle.jp_form.specs.declared.form.Summary.TheVariants as summaries
 use Rattle.jp_grep.specs.declared.question.Question.{Question}
 
 -- the name of the stream in front of a row
@@ -67,6 +67,11 @@ shown_rows shown.Nothing question form n line t = []
 shown_rows shown.Line question form n line t = row form n (line_text form.spelling form.framing line t)
 shown_rows (shown.Values paths) question form n line t = node_rows form paths n line (nodes_of (queries_of question) t)
 shown_rows (shown.Cells table) question form n line t = table_row table (queries_of question) form n line t
+
+-- the same but for the rows of values, of which there may be many
+abbrev pub row_at_once : Shown → Question → Form → ℕ → List ℕ → Tree → List ℕ
+row_at_once (shown.Values paths) question form n line t = []
+row_at_once shown question form n line t = shown_rows shown question form n line t
 
 -- what is written of a line
 abbrev pub status_rows : Question → Form → ℕ → List ℕ → LineStatus → List ℕ

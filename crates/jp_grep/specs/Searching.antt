@@ -1,6 +1,6 @@
 -- What the steps of a search come to.
 use Rattle.std.specs.Prelude.{◌≡◌, ℕ, ◌+◌, ◌<◌, ◌≤◌, ◌^◌, List, [], ◌++◌, length, true, false, Option, Result, OnOk, IfErr}
-use Rattle.jp_model.specs.Devices.{Device, Received, Writes}
+use Rattle.jp_devices.specs.Devices.{Device, Received, Writes}
 use Rattle.jp_model.specs.Lines.{is_framed, without_byte_order_mark}
 use Rattle.jp_grep.specs.Faults.{is_framing_fault}
 use Rattle.jp_grep.specs.Positions.{IsAt}
@@ -8,7 +8,7 @@ use Rattle.jp_grep.specs.Rows.{messages_from, output_from, refused_count, select
 use Rattle.jp_grep.specs.Streams.{closed_in}
 use Rattle.jp_grep.specs.Watching.{answered_of}
 use Rattle.jp_grep.specs.declared.fault.SearchFault.{SearchFault}
-use Rattle.jp_grep.specs.declared.form.Form.{Form}
+use Rattle.jp_form.specs.declared.form.Form.{Form}
 use Rattle.jp_grep.specs.declared.progress.Progress.{Progress}
 use Rattle.jp_grep.specs.declared.question.Question.{Question}
 use Rattle.jp_grep.specs.declared.stream.Stream.{Stream}

@@ -3,13 +3,13 @@ use Rattle.std.specs.Prelude.{â„•, List, Bool, true, false, encode_utf8_all, ifâ
 use Rattle.std.specs.Option.{option_map_or}
 use Rattle.jp_model.specs.Json.Tree.{Tree, value_of}
 use Rattle.jp_model.specs.Rows.{source}
-use Rattle.jp_tape.specs.Contents.{text_in}
-use Rattle.jp_tape.specs.Kinds.{kind_of}
-use Rattle.jp_tape.specs.declared.Kind.{Kind}
-use Rattle.jp_tape.specs.declared.Kind.TheVariants as kinds
+use Rattle.jp_nodes.specs.Contents.{text_in}
+use Rattle.jp_nodes.specs.Kinds.{kind_of}
+use Rattle.jp_nodes.specs.declared.Kind.{Kind}
+use Rattle.jp_nodes.specs.declared.Kind.TheVariants as kinds
 use Rattle.jp_canon.specs.Canonical.{canonical_text}
-use Rattle.jp_grep.specs.declared.form.Spelling.{Spelling}
-use Rattle.jp_grep.specs.declared.form.Spelling.TheVariants as spellings
+use Rattle.jp_form.specs.declared.form.Spelling.{Spelling}
+use Rattle.jp_form.specs.declared.form.Spelling.TheVariants as spellings
 
 -- a string by its characters in UTF-8, where each escape gives what it stands for (RFC 8259, section 7), and any other value as
 -- its line spells it

@@ -7,11 +7,11 @@ use Rattle.jp_model.specs.Query.Syntax.{Segments}
 use Rattle.jp_model.specs.Rows.{line_feed}
 use Rattle.jp_grep.specs.Matching.{selected_by}
 use Rattle.jp_grep.specs.Spelled.{cell_of}
-use Rattle.jp_grep.specs.declared.form.Form.{Form}
-use Rattle.jp_grep.specs.declared.form.Shown.{Shown}
-use Rattle.jp_grep.specs.declared.form.Shown.TheVariants as shown
-use Rattle.jp_grep.specs.declared.form.Table.{Table}
-use Rattle.jp_grep.specs.declared.form.Table.TheVariants as tables
+use Rattle.jp_form.specs.declared.form.Form.{Form}
+use Rattle.jp_form.specs.declared.form.Shown.{Shown}
+use Rattle.jp_form.specs.declared.form.Shown.TheVariants as shown
+use Rattle.jp_form.specs.declared.form.Table.{Table}
+use Rattle.jp_form.specs.declared.form.Table.TheVariants as tables
 
 -- what parts two cells
 abbrev pub separator : Table → ℕ

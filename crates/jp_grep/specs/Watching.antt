@@ -1,12 +1,12 @@
 -- What passed in a search, by the fault that it answers.
 use Rattle.std.specs.Prelude.{◌≡◌, ℕ, ◌-◌, List, [], ◌++◌, true, false, Option, ◌⊎◌}
-use Rattle.jp_model.specs.Devices.{Begins, Came, Device, Received}
+use Rattle.jp_devices.specs.Devices.{Begins, Came, Device, Received}
 use Rattle.jp_model.specs.Lines.{is_framed}
 use Rattle.jp_grep.specs.Rows.{messages_from, output_from, refused_count, selected_count, selected_line, summary_of}
 use Rattle.jp_grep.specs.Streams.{lines_come, up_to}
 use Rattle.jp_grep.specs.declared.fault.SearchFault.{SearchFault}
 use Rattle.jp_grep.specs.declared.fault.SearchFault.TheVariants as faults
-use Rattle.jp_grep.specs.declared.form.Form.{Form}
+use Rattle.jp_form.specs.declared.form.Form.{Form}
 use Rattle.jp_grep.specs.declared.progress.Counts.{Counts}
 use Rattle.jp_grep.specs.declared.question.Question.{Question}
 

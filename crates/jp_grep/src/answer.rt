@@ -1,32 +1,38 @@
 //! The answer of lines: rows of those that are selected, messages on those that are refused.
 
-ghost use Rattle.std.specs.Prelude.{◌≡◌, ◌+◌, ◌<◌, ◌≤◌, ◌∷◌, ◌++◌, [], List, ℕ, false, length, IfOk, OnOk};
-ghost use Rattle.jp_model.specs.Devices.{Writes};
+ghost use Rattle.std.specs.Prelude.{◌≡◌, ◌∷◌, ◌++◌, [], List, ℕ, false, map, IfOk, OnOk, if◌then◌else◌};
+ghost use Rattle.jp_devices.specs.Devices.{Writes};
 ghost use Rattle.jp_model.specs.Json.Status.{parsed};
-ghost use Rattle.jp_store.specs.Batches.{IsBatch, IsBatchLine, texts_of};
-ghost use Rattle.jp_store.specs.Views.{text_of_view, tree_of_view};
+ghost use Rattle.jp_nodes.specs.Cursors.{node_of};
+ghost use Rattle.jp_children.specs.Found.{AreOf};
+ghost use Rattle.jp_lines.specs.Batches.{IsBatch, IsBatchLine, texts_of};
+ghost use Rattle.jp_lines.specs.Views.{text_of_view, tree_of_view};
 ghost use Rattle.jp_eval.specs.Compiled.{program_view};
 ghost use Rattle.jp_grep.specs.Held.{Holds};
-ghost use Rattle.jp_grep.specs.Matching.{is_selected, nodes_of, queries_of, selected_by};
+ghost use Rattle.jp_grep.specs.Holding.{Puts, TellsOfBoth, TellsOfWriter};
+ghost use Rattle.jp_grep.specs.Faults.{IsToldOf, is_input_fault};
+ghost use Rattle.jp_grep.specs.Matching.{has_nodes, is_selected, nodes_of, queries_of, selected_by, selects, wants_nodes};
 ghost use Rattle.jp_grep.specs.Progress.{says_refused, says_selected};
-ghost use Rattle.jp_grep.specs.Rows.{line_message, line_rows, line_text, messages_from, node_rows, output_from, refused_count, refused_line, row, selected_count, selected_line, shown_rows, status_rows, whole};
+ghost use Rattle.jp_grep.specs.Rows.{line_message, line_rows, line_text, messages_from, node_rows, output_from, refusal, refused_line, row, row_at_once, selected_line, status_rows, whole};
+ghost use Rattle.jp_grep.specs.Searching.{Answers, GoesOnBy, IsUnderWay};
 ghost use Rattle.jp_grep.specs.Spelled.{spelled};
 ghost use Rattle.jp_grep.specs.Tables.{nodes_cell, table_row};
-ghost use Rattle.jp_grep.specs.Faults.{IsToldOf, is_input_fault, is_report_fault, is_write_fault};
 ghost use Rattle.jp_grep.specs.Watching.{answered_of};
 
 use crate::fault::SearchFault;
-use crate::form::{Form, Shown, Spelling, Table};
+use crate::outlet::Outlet;
 use crate::progress::{Progress, Verdict};
-use crate::question::Question;
+use crate::question::{Question, find_nodes};
 use crate::room::Room;
-use crate::rows::{write_refusal, write_row, write_values};
+use crate::rows::{add_front, add_refusal, add_row, add_value};
 use crate::spelling::Speller;
 use itoa::Buffer;
 use jp_eval::Program;
-use jp_model::{Framing, Watched};
+use jp_form::{Form, Shown, Spelling, Table};
+use jp_lines::{Batch, BatchLine, LineState, LineView};
+use jp_model::{Framing, LineFault, Watched};
+use jp_nodes::Cursor;
 use jp_rows::write_whole;
-use jp_store::{Batch, BatchLine, LineState, LineView};
 use std::alloc::{AllocError, Global};
 use std::io::Write;
 
@@ -38,6 +44,19 @@ pub(crate) struct Answerer<'q> {
     pub(crate) form: &'q Form<'q>,
 }
 
+/// What comes of a line that has a value.
+fn verdict_of(selected: bool) -> Verdict
+    ensures selected { says_selected result ≡ selected }
+    ensures refused { says_refused result ≡ false }
+{
+    if selected {
+        Verdict::Selected
+    } else {
+        Verdict::Passed
+    }
+}
+
+// How the row of a line is made.
 impl<'q> Answerer<'q> {
     /// The bytes of a line as it is printed: all, and in a sequence those from the first of its value to the last.
     fn printed<'r>(self, line: LineView<'r>, text: &'r [u8]) -> &'r [u8]
@@ -50,180 +69,262 @@ impl<'q> Answerer<'q> {
         }
     }
 
-    /// Writes the row of a line whose value is spelled so.
-    fn write_spelled_line<'r, W: Write>(
+    /// Adds the row of a line whose value is spelled so.
+    fn add_spelled_line<'r>(
         self,
         spelling: Spelling,
         number: u64,
         line: LineView<'r>,
-        speller: &mut Speller,
-        out: &mut Watched<W>,
-    ) -> Result<(), SearchFault>
-        requires working { out.old.failed ≡ false }
-        ensures row { Writes W.contents out.old out.new result (row self.entry.form.now number (spelled spelling (text_of_view line.entry) (tree_of_view line.entry))) }
-        ensures fault { IsToldOf is_write_fault result out.new.failed }
-        ensures others { IsToldOf is_report_fault result false }
-        ensures inner { IsToldOf is_input_fault result false }
-        ensures after { out.new.after ≡ out.old.after }
+        room: &mut Room<'r>,
+    ) -> Result<(), AllocError>
+        ensures { OnOk result (room.new.row.items ≡ room.old.row.items ++ row self.entry.form.now number (spelled spelling (text_of_view line.entry) (tree_of_view line.entry))) }
     {
-        if speller.spell(spelling, line.root()).is_err() {
-            return Err(SearchFault::Memory);
-        }
-        write_row(self.form, number, &speller.text, out)
+        add_front(self.form, number, &mut room.row)?;
+        room.speller.append(spelling, line.root(), &mut room.row)?;
+        room.row.extend_from_slice(b"\n")
     }
 
-    /// Writes the row of a line.
-    fn write_line<'r, W: Write>(
+    /// Adds the row of a line.
+    fn add_line<'r>(
         self,
         number: u64,
         line: LineView<'r>,
         text: &'r [u8],
-        speller: &mut Speller,
-        out: &mut Watched<W>,
-    ) -> Result<(), SearchFault>
-        requires text { text_of_view line ≡ text.now }
-        requires working { out.old.failed ≡ false }
-        ensures row { Writes W.contents out.old out.new result (row self.entry.form.now number (line_text self.entry.form.now.spelling self.entry.form.now.framing text.now (tree_of_view line.entry))) }
-        ensures fault { IsToldOf is_write_fault result out.new.failed }
-        ensures others { IsToldOf is_report_fault result false }
-        ensures inner { IsToldOf is_input_fault result false }
-        ensures after { out.new.after ≡ out.old.after }
+        room: &mut Room<'r>,
+    ) -> Result<(), AllocError>
+        requires { text_of_view line ≡ text.now }
+        ensures { OnOk result (room.new.row.items ≡ room.old.row.items ++ row self.entry.form.now number (line_text self.entry.form.now.spelling self.entry.form.now.framing text.now (tree_of_view line.entry))) }
     {
         match self.form.spelling {
-            Spelling::Source => write_row(self.form, number, self.printed(line, text), out),
-            Spelling::Text => self.write_spelled_line(Spelling::Text, number, line, speller, out),
-            Spelling::Canonical => {
-                self.write_spelled_line(Spelling::Canonical, number, line, speller, out)
-            }
+            Spelling::Source => add_row(self.form, number, self.printed(line, text), &mut room.row),
+            Spelling::Text => self.add_spelled_line(Spelling::Text, number, line, room),
+            Spelling::Canonical => self.add_spelled_line(Spelling::Canonical, number, line, room),
         }
     }
 
-    /// Writes a row for each node that the queries select, query by query.
-    fn write_nodes<'r, W: Write>(
-        self,
-        paths: bool,
-        number: u64,
-        line: LineView<'r>,
-        text: &[u8],
-        room: &mut Room<'r>,
-        out: &mut Watched<W>,
-    ) -> Result<(), SearchFault>
-        requires text { text_of_view line ≡ text.now }
-        requires working { out.old.failed ≡ false }
-        ensures rows { Writes W.contents out.old out.new result (node_rows self.entry.form.now paths number text.now (nodes_of (queries_of self.entry.question.now) (tree_of_view line.entry))) }
-        ensures fault { IsToldOf is_write_fault result out.new.failed }
-        ensures others { IsToldOf is_report_fault result false }
-        ensures inner { IsToldOf is_input_fault result false }
-        ensures after { out.new.after ≡ out.old.after }
-    {
-        for query in &self.question.queries {
-            if query
-                .run_in(self.alloc, line.root(), line.root(), &mut room.frame)
-                .is_err()
-            {
-                return Err(SearchFault::Memory);
-            }
-            let nodes = room.frame.found();
-            write_values(
-                self.form,
-                paths,
-                number,
-                text,
-                nodes,
-                &mut room.speller,
-                out,
-            )?;
-        }
-        Ok(())
-    }
-
-    /// Adds the cell of a query to the row of a line.
+    /// Adds the cell of a query to the cells of a line, and tells whether it selects a node.
     fn add_cell<'r>(
         self,
         table: Table,
         query: &Program,
         line: LineView<'r>,
         room: &mut Room<'r>,
-    ) -> Result<(), AllocError>
-        ensures { (cells : List (List ℕ)) → Holds table room.old.row cells → OnOk result (Holds table room.new.row
+    ) -> Result<bool, AllocError>
+        ensures cell { (cells : List (List ℕ)) → Holds table room.old.cells cells → OnOk result (Holds table room.new.cells
             (cells ++ nodes_cell (text_of_view line.entry) (selected_by (program_view query.now) (tree_of_view line.entry)) ∷ [])) }
+        ensures some { IfOk result (λ some. some ≡ has_nodes (selected_by (program_view query.now) (tree_of_view line.entry))) }
+        ensures row { room.new.row ≡ room.old.row }
     {
-        query.run_in(self.alloc, line.root(), line.root(), &mut room.frame)?;
-        match room.frame.found().first() {
-            Some(node) => room.speller.spell_cell(*node)?,
-            None => room.speller.clear(),
+        let some = find_nodes(query, self.alloc, line, &mut room.frame)?;
+        room.cell.clear();
+        if let Some(node) = room.frame.found().first() {
+            room.speller.append_cell(*node, &mut room.cell)?;
         }
-        room.row.add(table, &room.speller.text)
+        room.cells.add(table, &room.cell)?;
+        Ok(some)
     }
 
-    /// Makes the row of a table. If memory is refused, it is to be forgotten.
+    /// Makes the cells of a line, and tells whether a query selects a node.
     fn make_cells<'r>(
         self,
         table: Table,
         number: u64,
         line: LineView<'r>,
         room: &mut Room<'r>,
-    ) -> Result<(), AllocError>
-        ensures { OnOk result (room.new.row.text.items ≡ table_row table (queries_of self.entry.question.now) self.entry.form.now number (text_of_view line.entry) (tree_of_view line.entry)) }
+    ) -> Result<bool, AllocError>
+        ensures cells { OnOk result (room.new.cells.text.items ≡ table_row table (queries_of self.entry.question.now) self.entry.form.now number (text_of_view line.entry) (tree_of_view line.entry)) }
+        ensures some { IfOk result (λ some. some ≡ selects (queries_of self.entry.question.now) (tree_of_view line.entry)) }
+        ensures row { room.new.row ≡ room.old.row }
     {
         let mut digits = Buffer::new();
         let digits = digits.format(number).as_bytes();
-        room.row
+        room.cells
             .begin(table, self.form, self.form.name.as_bytes(), digits)?;
+        let mut some = false;
         for query in &self.question.queries {
-            self.add_cell(table, query, line, room)?;
+            some |= self.add_cell(table, query, line, room)?;
         }
-        room.row.end()
+        room.cells.end()?;
+        Ok(some)
     }
 
-    /// Writes the row of a table.
-    fn write_cells<'r, W: Write>(
+    /// Whether the nodes of a line are asked for: whether the conditions hold, or inverted, whether it does not match.
+    fn wants_nodes<'r>(self, line: LineView<'r>, room: &mut Room<'r>) -> Result<bool, AllocError>
+        ensures wanted { IfOk result (λ wanted. wanted ≡ wants_nodes self.entry.question.now (tree_of_view line.entry)) }
+        ensures row { room.new.row ≡ room.old.row }
+    {
+        if self.question.inverted {
+            return Ok(!self.question.matches(self.alloc, line, &mut room.frame)?);
+        }
+        self.question.all_hold(self.alloc, line, &mut room.frame)
+    }
+
+    /// Makes the row of a line of which the cells are shown, where it is selected. The queries are asked once.
+    fn make_table_row<'r>(
         self,
         table: Table,
         number: u64,
         line: LineView<'r>,
         room: &mut Room<'r>,
-        out: &mut Watched<W>,
-    ) -> Result<(), SearchFault>
-        requires working { out.old.failed ≡ false }
-        ensures row { Writes W.contents out.old out.new result (table_row table (queries_of self.entry.question.now) self.entry.form.now number (text_of_view line.entry) (tree_of_view line.entry)) }
-        ensures fault { IsToldOf is_write_fault result out.new.failed }
-        ensures others { IsToldOf is_report_fault result false }
-        ensures inner { IsToldOf is_input_fault result false }
-        ensures after { out.new.after ≡ out.old.after }
+    ) -> Result<Verdict, AllocError>
+        ensures refused { IfOk result (λ verdict. says_refused verdict ≡ false) }
+        ensures selected { IfOk result (λ verdict. says_selected verdict ≡ is_selected self.entry.question.now (parsed (tree_of_view line.entry))) }
+        ensures row { OnOk result (room.new.row.items ≡ room.old.row.items ++ (if is_selected self.entry.question.now (parsed (tree_of_view line.entry))
+            then table_row table (queries_of self.entry.question.now) self.entry.form.now number (text_of_view line.entry) (tree_of_view line.entry) else [])) }
     {
-        if self.make_cells(table, number, line, room).is_err() {
-            return Err(SearchFault::Memory);
+        if !self.wants_nodes(line, room)? {
+            return Ok(Verdict::Passed);
         }
-        match write_whole(&room.row.text, out) {
-            Ok(()) => Ok(()),
-            Err(_) => Err(SearchFault::Write),
+        let some = self.make_cells(table, number, line, room)?;
+        if !some && !self.question.inverted {
+            return Ok(Verdict::Passed);
         }
+        room.row.extend_from_slice(&room.cells.text)?;
+        Ok(Verdict::Selected)
     }
 
-    /// Writes what is shown of a selected line.
-    fn write_shown<'r, W: Write>(
+    /// Makes the row of a line of which nothing or the line is shown, where it is selected.
+    fn make_line_row<'r>(
+        self,
+        shown: bool,
+        number: u64,
+        line: LineView<'r>,
+        text: &'r [u8],
+        room: &mut Room<'r>,
+    ) -> Result<Verdict, AllocError>
+        requires text { text_of_view line ≡ text.now }
+        ensures refused { IfOk result (λ verdict. says_refused verdict ≡ false) }
+        ensures selected { IfOk result (λ verdict. says_selected verdict ≡ is_selected self.entry.question.now (parsed (tree_of_view line.entry))) }
+        ensures row { OnOk result (room.new.row.items ≡ room.old.row.items ++ (if is_selected self.entry.question.now (parsed (tree_of_view line.entry))
+            then (if shown then row self.entry.form.now number (line_text self.entry.form.now.spelling self.entry.form.now.framing text.now (tree_of_view line.entry)) else []) else [])) }
+    {
+        let matches = self.question.matches(self.alloc, line, &mut room.frame)?;
+        if matches == self.question.inverted {
+            return Ok(Verdict::Passed);
+        }
+        if shown {
+            self.add_line(number, line, text, room)?;
+        }
+        Ok(Verdict::Selected)
+    }
+
+    /// Makes the row of a line that has a value, where it is selected, unless the values are shown that the queries select.
+    fn make_row<'r>(
         self,
         number: u64,
         line: LineView<'r>,
         text: &'r [u8],
         room: &mut Room<'r>,
+    ) -> Result<Verdict, AllocError>
+        requires text { text_of_view line ≡ text.now }
+        ensures refused { IfOk result (λ verdict. says_refused verdict ≡ false) }
+        ensures selected { IfOk result (λ verdict. says_selected verdict ≡ is_selected self.entry.question.now (parsed (tree_of_view line.entry))) }
+        ensures row { OnOk result (room.new.row.items ≡ (if is_selected self.entry.question.now (parsed (tree_of_view line.entry))
+            then row_at_once self.entry.form.now.shown self.entry.question.now self.entry.form.now number text.now (tree_of_view line.entry) else [])) }
+    {
+        room.row.clear();
+        match self.form.shown {
+            Shown::Nothing | Shown::Values { .. } => {
+                self.make_line_row(false, number, line, text, room)
+            }
+            Shown::Line => self.make_line_row(true, number, line, text, room),
+            Shown::Cells(table) => self.make_table_row(table, number, line, room),
+        }
+    }
+}
+
+// How lines are answered.
+impl<'q> Answerer<'q> {
+    /// Puts a row for each of some nodes of a line.
+    fn put_values<'r, W: Write>(
+        self,
+        paths: bool,
+        number: u64,
+        text: &[u8],
+        nodes: &[Cursor<'r>],
+        speller: &mut Speller,
+        row: &mut Vec<u8>,
+        outlet: &mut Outlet,
         out: &mut Watched<W>,
     ) -> Result<(), SearchFault>
+        requires lines { AreOf text.now nodes.now }
+        requires working { out.old.failed ≡ false }
+        ensures rows { Puts W.contents out.old out.new outlet.old.held.items outlet.new.held.items result (node_rows self.entry.form.now paths number text.now (map node_of nodes.now)) }
+        ensures tells { TellsOfWriter result out.old out.new }
+    {
+        for node in nodes {
+            row.clear();
+            if add_value(self.form, paths, number, *node, speller, row).is_err() {
+                return Err(SearchFault::Memory);
+            }
+            outlet.put(row, out)?;
+        }
+        Ok(())
+    }
+
+    /// Puts a row for each node that the queries select, query by query, and tells whether there is one.
+    fn put_nodes<'r, W: Write>(
+        self,
+        paths: bool,
+        number: u64,
+        line: LineView<'r>,
+        text: &[u8],
+        room: &mut Room<'r>,
+        outlet: &mut Outlet,
+        out: &mut Watched<W>,
+    ) -> Result<bool, SearchFault>
         requires text { text_of_view line ≡ text.now }
         requires working { out.old.failed ≡ false }
-        ensures rows { Writes W.contents out.old out.new result (shown_rows self.entry.form.now.shown self.entry.question.now self.entry.form.now number text.now (tree_of_view line.entry)) }
-        ensures fault { IsToldOf is_write_fault result out.new.failed }
-        ensures others { IsToldOf is_report_fault result false }
-        ensures inner { IsToldOf is_input_fault result false }
-        ensures after { out.new.after ≡ out.old.after }
+        ensures rows { Puts W.contents out.old out.new outlet.old.held.items outlet.new.held.items result (node_rows self.entry.form.now paths number text.now (nodes_of (queries_of self.entry.question.now) (tree_of_view line.entry))) }
+        ensures some { IfOk result (λ some. some ≡ selects (queries_of self.entry.question.now) (tree_of_view line.entry)) }
+        ensures tells { TellsOfWriter result out.old out.new }
     {
-        match self.form.shown {
-            Shown::Nothing => Ok(()),
-            Shown::Line => self.write_line(number, line, text, &mut room.speller, out),
-            Shown::Values { paths } => self.write_nodes(paths, number, line, text, room, out),
-            Shown::Cells(table) => self.write_cells(table, number, line, room, out),
+        let mut some = false;
+        for query in &self.question.queries {
+            let Ok(found) = find_nodes(query, self.alloc, line, &mut room.frame) else {
+                return Err(SearchFault::Memory);
+            };
+            some |= found;
+            self.put_values(
+                paths,
+                number,
+                text,
+                room.frame.found(),
+                &mut room.speller,
+                &mut room.row,
+                outlet,
+                out,
+            )?;
         }
+        Ok(some)
+    }
+
+    /// Answers a line of which the values are shown that the queries select. These are asked once.
+    fn answer_nodes<'r, W: Write>(
+        self,
+        paths: bool,
+        number: u64,
+        line: LineView<'r>,
+        text: &[u8],
+        room: &mut Room<'r>,
+        outlet: &mut Outlet,
+        out: &mut Watched<W>,
+    ) -> Result<Verdict, SearchFault>
+        requires text { text_of_view line ≡ text.now }
+        requires working { out.old.failed ≡ false }
+        ensures refused { IfOk result (λ verdict. says_refused verdict ≡ false) }
+        ensures selected { IfOk result (λ verdict. says_selected verdict ≡ is_selected self.entry.question.now (parsed (tree_of_view line.entry))) }
+        ensures rows { Puts W.contents out.old out.new outlet.old.held.items outlet.new.held.items result (if is_selected self.entry.question.now (parsed (tree_of_view line.entry))
+            then node_rows self.entry.form.now paths number text.now (nodes_of (queries_of self.entry.question.now) (tree_of_view line.entry)) else []) }
+        ensures tells { TellsOfWriter result out.old out.new }
+    {
+        match self.wants_nodes(line, room) {
+            Ok(true) => {}
+            Ok(false) => return Ok(Verdict::Passed),
+            Err(_) => return Err(SearchFault::Memory),
+        }
+        let some = self.put_nodes(paths, number, line, text, room, outlet, out)?;
+        Ok(verdict_of(some || self.question.inverted))
     }
 
     /// Answers a line that has a value.
@@ -233,27 +334,54 @@ impl<'q> Answerer<'q> {
         line: LineView<'r>,
         text: &'r [u8],
         room: &mut Room<'r>,
+        outlet: &mut Outlet,
         out: &mut Watched<W>,
     ) -> Result<Verdict, SearchFault>
         requires text { text_of_view line ≡ text.now }
         requires working { out.old.failed ≡ false }
         ensures refused { IfOk result (λ verdict. says_refused verdict ≡ false) }
         ensures selected { IfOk result (λ verdict. says_selected verdict ≡ is_selected self.entry.question.now (parsed (tree_of_view line.entry))) }
-        ensures rows { Writes W.contents out.old out.new result (status_rows self.entry.question.now self.entry.form.now number text.now (parsed (tree_of_view line.entry))) }
-        ensures fault { IsToldOf is_write_fault result out.new.failed }
-        ensures others { IsToldOf is_report_fault result false }
-        ensures inner { IsToldOf is_input_fault result false }
-        ensures after { out.new.after ≡ out.old.after }
+        ensures rows { Puts W.contents out.old out.new outlet.old.held.items outlet.new.held.items result (status_rows self.entry.question.now self.entry.form.now number text.now (parsed (tree_of_view line.entry))) }
+        ensures tells { TellsOfWriter result out.old out.new }
     {
-        let Ok(matches) = self.question.matches(self.alloc, line, &mut room.frame) else {
+        if let Shown::Values { paths } = self.form.shown {
+            return self.answer_nodes(paths, number, line, text, room, outlet, out);
+        }
+        let Ok(verdict) = self.make_row(number, line, text, room) else {
             return Err(SearchFault::Memory);
         };
-        if matches == self.question.inverted {
-            return Ok(Verdict::Passed);
+        outlet.put(&room.row, out)?;
+        Ok(verdict)
+    }
+
+    /// Tells of a refused line, where messages are wanted. The rows of the lines before it are written first.
+    fn tell<'r, W: Write, E: Write>(
+        self,
+        number: u64,
+        fault: LineFault,
+        room: &mut Room<'r>,
+        outlet: &mut Outlet,
+        out: &mut Watched<W>,
+        messages: &mut Watched<E>,
+    ) -> Result<(), SearchFault>
+        requires writes { out.old.failed ≡ false }
+        requires reports { messages.old.failed ≡ false }
+        ensures rows { Puts W.contents out.old out.new outlet.old.held.items outlet.new.held.items result [] }
+        ensures message { Writes E.contents messages.old messages.new result (refusal self.entry.form.now.silent self.entry.form.now.name.now number fault) }
+        ensures tells { TellsOfBoth result out.old out.new messages.old messages.new }
+        ensures others { IsToldOf is_input_fault result false }
+    {
+        if self.form.silent {
+            return Ok(());
         }
-        match self.write_shown(number, line, text, room, out) {
-            Ok(()) => Ok(Verdict::Selected),
-            Err(fault) => Err(fault),
+        room.row.clear();
+        if add_refusal(self.form, number, fault, &mut room.row).is_err() {
+            return Err(SearchFault::Memory);
+        }
+        outlet.write_held(out)?;
+        match write_whole(&room.row, messages) {
+            Ok(()) => Ok(()),
+            Err(_) => Err(SearchFault::Report),
         }
     }
 
@@ -263,6 +391,7 @@ impl<'q> Answerer<'q> {
         number: u64,
         line: BatchLine<'r>,
         room: &mut Room<'r>,
+        outlet: &mut Outlet,
         out: &mut Watched<W>,
         messages: &mut Watched<E>,
     ) -> Result<Verdict, SearchFault>
@@ -271,65 +400,82 @@ impl<'q> Answerer<'q> {
         requires reports { messages.old.failed ≡ false }
         ensures selected { IfOk result (λ verdict. says_selected verdict ≡ selected_line self.entry.question.now self.entry.form.now.framing line.entry.text.now) }
         ensures refused { IfOk result (λ verdict. says_refused verdict ≡ refused_line self.entry.form.now.framing line.entry.text.now) }
-        ensures rows { Writes W.contents out.old out.new result (line_rows self.entry.question.now self.entry.form.now number line.entry.text.now) }
+        ensures rows { Puts W.contents out.old out.new outlet.old.held.items outlet.new.held.items result (line_rows self.entry.question.now self.entry.form.now number line.entry.text.now) }
         ensures messages { Writes E.contents messages.old messages.new result (line_message self.entry.form.now number line.entry.text.now) }
-        ensures write_fault { IsToldOf is_write_fault result out.new.failed }
-        ensures report_fault { IsToldOf is_report_fault result messages.new.failed }
-        ensures inner { IsToldOf is_input_fault result false }
-        ensures after { out.new.after ≡ out.old.after }
-        ensures messages_after { messages.new.after ≡ messages.old.after }
+        ensures tells { TellsOfBoth result out.old out.new messages.old messages.new }
+        ensures others { IsToldOf is_input_fault result false }
     {
         match line.state {
             LineState::Blank => Ok(Verdict::Passed),
             LineState::Refused(fault) => {
-                match write_refusal(self.form, number, fault, messages) {
-                    Ok(()) => Ok(Verdict::Refused),
-                    Err(_) => Err(SearchFault::Report),
-                }
+                self.tell(number, fault, room, outlet, out, messages)?;
+                Ok(Verdict::Refused)
             }
-            LineState::Tree(view) => self.answer_value(number, view, line.text, room, out),
+            LineState::Tree(view) => self.answer_value(number, view, line.text, room, outlet, out),
         }
     }
 
-    /// Answers the lines of a piece in turn, up to the last one that is wanted.
-    pub(crate) fn answer_batch<W: Write, E: Write>(
+    /// Answers the lines of a piece in turn, up to the last one that is wanted. Of their rows the last may be held.
+    fn answer_lines<W: Write, E: Write>(
         self,
         batch: Batch<'_>,
         progress: &mut Progress,
+        outlet: &mut Outlet,
         out: &mut Watched<W>,
         messages: &mut Watched<E>,
     ) -> Result<(), SearchFault>
         requires read { IsBatch batch }
         requires framing { batch.framing ≡ self.form.now.framing }
-        requires wanted { progress.old.counts.selected ≤ self.form.now.most }
-        requires fewer_selected { progress.old.counts.selected < progress.old.number }
-        requires fewer_refused { progress.old.counts.refused < progress.old.number }
+        requires under_way { IsUnderWay self.form.now progress.old }
         requires writes { out.old.failed ≡ false }
         requires reports { messages.old.failed ≡ false }
-        ensures rows { Writes W.contents out.old out.new result (output_from self.entry.question.now self.entry.form.now progress.old.number (answered_of self.entry.question.now self.entry.form.now progress.old.counts.selected (texts_of batch.entry))) }
+        ensures rows { Puts W.contents out.old out.new outlet.old.held.items outlet.new.held.items result (output_from self.entry.question.now self.entry.form.now progress.old.number (answered_of self.entry.question.now self.entry.form.now progress.old.counts.selected (texts_of batch.entry))) }
         ensures messages { Writes E.contents messages.old messages.new result (messages_from self.entry.form.now progress.old.number (answered_of self.entry.question.now self.entry.form.now progress.old.counts.selected (texts_of batch.entry))) }
-        ensures number { OnOk result (progress.new.number ≡ progress.old.number + length (answered_of self.entry.question.now self.entry.form.now progress.old.counts.selected (texts_of batch.entry))) }
-        ensures selected { OnOk result (progress.new.counts.selected ≡ progress.old.counts.selected + selected_count self.entry.question.now self.entry.form.now.framing (answered_of self.entry.question.now self.entry.form.now progress.old.counts.selected (texts_of batch.entry))) }
-        ensures refused { OnOk result (progress.new.counts.refused ≡ progress.old.counts.refused + refused_count self.entry.form.now.framing (answered_of self.entry.question.now self.entry.form.now progress.old.counts.selected (texts_of batch.entry))) }
-        ensures fewer_selected { OnOk result (progress.new.counts.selected < progress.new.number) }
-        ensures fewer_refused { OnOk result (progress.new.counts.refused < progress.new.number) }
-        ensures wanted { OnOk result (progress.new.counts.selected ≤ self.entry.form.now.most) }
-        ensures write_fault { IsToldOf is_write_fault result out.new.failed }
-        ensures report_fault { IsToldOf is_report_fault result messages.new.failed }
+        ensures progress { OnOk result (GoesOnBy self.entry.question.now self.entry.form.now progress.old progress.new (answered_of self.entry.question.now self.entry.form.now progress.old.counts.selected (texts_of batch.entry))) }
+        ensures tells { TellsOfBoth result out.old out.new messages.old messages.new }
         ensures others { IsToldOf is_input_fault result false }
-        ensures after { out.new.after ≡ out.old.after }
-        ensures messages_after { messages.new.after ≡ messages.old.after }
     {
         let mut room = Room::new(self.alloc);
         for index in 0..batch.line_count() {
             if progress.counts.selected == self.form.most {
                 return Ok(());
             }
-            match self.answer_line(progress.number, batch.line(index), &mut room, out, messages) {
+            let line = batch.line(index);
+            match self.answer_line(progress.number, line, &mut room, outlet, out, messages) {
                 Ok(verdict) => progress.pass(verdict)?,
                 Err(fault) => return Err(fault),
             }
         }
         Ok(())
+    }
+
+    /// Answers the lines of a piece, up to the last one that is wanted, and writes their rows. Where a line could not be
+    /// answered, the rows of those before it are written.
+    pub(crate) fn answer_batch<W: Write, E: Write>(
+        self,
+        batch: Batch<'_>,
+        progress: &mut Progress,
+        outlet: &mut Outlet,
+        out: &mut Watched<W>,
+        messages: &mut Watched<E>,
+    ) -> Result<(), SearchFault>
+        requires read { IsBatch batch }
+        requires framing { batch.framing ≡ self.form.now.framing }
+        requires under_way { IsUnderWay self.form.now progress.old }
+        requires writes { out.old.failed ≡ false }
+        requires reports { messages.old.failed ≡ false }
+        ensures answers { Answers W.contents E.contents self.entry.question.now self.entry.form.now progress.old progress.new out.old out.new messages.old messages.new result (texts_of batch.entry) }
+        ensures tells { TellsOfBoth result out.old out.new messages.old messages.new }
+        ensures others { IsToldOf is_input_fault result false }
+    {
+        outlet.clear();
+        let answered = self.answer_lines(batch, progress, outlet, out, messages);
+        if out.failed() || messages.failed() {
+            return answered;
+        }
+        match outlet.write_held(out) {
+            Ok(()) => answered,
+            Err(fault) => Err(fault),
+        }
     }
 }

@@ -1,15 +1,15 @@
 //! What stands above the rows of a table.
 
 ghost use Rattle.std.specs.Prelude.{◌≡◌, false, map, IfOk};
-ghost use Rattle.jp_model.specs.Devices.{Writes};
+ghost use Rattle.jp_devices.specs.Devices.{Writes};
 ghost use Rattle.jp_grep.specs.Faults.{IsToldOf, is_input_fault, is_report_fault, is_write_fault};
 ghost use Rattle.jp_grep.specs.Tables.{header_row, header_text};
 
 use crate::fault::SearchFault;
-use crate::form::{Form, Shown, Table};
+use crate::outlet::write_bytes;
 use crate::table::TableRow;
+use jp_form::{Form, Shown, Table};
 use jp_model::Watched;
-use jp_rows::write_whole;
 use std::alloc::{AllocError, Global};
 use std::io::Write;
 
@@ -56,8 +56,5 @@ pub(crate) fn write_header<W: Write>(
     let Ok(row) = make_header(alloc, table, form, queries) else {
         return Err(SearchFault::Memory);
     };
-    match write_whole(&row.text, out) {
-        Ok(()) => Ok(()),
-        Err(_) => Err(SearchFault::Write),
-    }
+    write_bytes(&row.text, out)
 }

@@ -1,13 +1,17 @@
 //! What a line is asked.
 
-ghost use Rattle.std.specs.Prelude.{◌≡◌, [], ◌∷◌, ◌++◌, IfOk, OnErr, OnOk};
+ghost use Rattle.std.specs.Prelude.{◌≡◌, [], ◌∷◌, ◌++◌, map, IfOk, OnErr, OnOk};
 ghost use Rattle.jp_types.specs.Checks.{checked_view};
 ghost use Rattle.jp_types.specs.CheckedConditions.{checked_condition_view};
-ghost use Rattle.jp_store.specs.Views.{tree_of_view};
-ghost use Rattle.jp_grep.specs.Matching.{all_hold, conditions_of, matches, queries_of, selects};
+ghost use Rattle.jp_nodes.specs.Cursors.{node_of};
+ghost use Rattle.jp_eval.specs.Compiled.{program_view};
+ghost use Rattle.jp_eval.specs.Found.{found_in};
+ghost use Rattle.jp_children.specs.Found.{AreOf};
+ghost use Rattle.jp_lines.specs.Views.{text_of_view, tree_of_view};
+ghost use Rattle.jp_grep.specs.Matching.{all_hold, conditions_of, has_nodes, matches, queries_of, selected_by, selects};
 
 use jp_eval::{Frame, Predicate, Program};
-use jp_store::LineView;
+use jp_lines::LineView;
 use jp_types::{Checked, CheckedCondition};
 use std::alloc::{AllocError, Global};
 
@@ -17,6 +21,33 @@ pub struct Question {
     pub(crate) queries: Vec<Program>,
     pub(crate) conditions: Vec<Predicate>,
     pub(crate) inverted: bool,
+}
+
+/// Finds the nodes of a line that a query selects, and tells whether there is one. The frame has them then.
+pub(crate) fn find_nodes<'a>(
+    query: &Program,
+    alloc: Global,
+    line: LineView<'a>,
+    frame: &mut Frame<'a>,
+) -> Result<bool, AllocError>
+    ensures some { IfOk result (λ some. some ≡ has_nodes (selected_by (program_view query.now) (tree_of_view line.entry))) }
+    ensures nodes { OnOk result (map node_of (found_in frame.new) ≡ selected_by (program_view query.now) (tree_of_view line.entry)) }
+    ensures lines { AreOf (text_of_view line.entry) (found_in frame.new) }
+{
+    query.run_in(alloc, line.root(), line.root(), frame)?;
+    Ok(!frame.found().is_empty())
+}
+
+/// Whether a query selects a node of a line. It stops at the first.
+fn has_node<'a>(
+    query: &Program,
+    alloc: Global,
+    line: LineView<'a>,
+    frame: &mut Frame<'a>,
+) -> Result<bool, AllocError>
+    ensures { IfOk result (λ some. some ≡ has_nodes (selected_by (program_view query.now) (tree_of_view line.entry))) }
+{
+    query.selects_in(alloc, line.root(), line.root(), frame)
 }
 
 impl Question {
@@ -66,7 +97,7 @@ impl Question {
     }
 
     /// Whether each condition holds of a line's value. It stops at the first that does not.
-    fn all_hold<'a>(
+    pub(crate) fn all_hold<'a>(
         &self,
         alloc: Global,
         line: LineView<'a>,
@@ -92,8 +123,7 @@ impl Question {
         ensures { IfOk result (λ answer. answer ≡ selects (queries_of self.now) (tree_of_view line.entry)) }
     {
         for query in &self.queries {
-            query.run_in(alloc, line.root(), line.root(), frame)?;
-            if !frame.found().is_empty() {
+            if has_node(query, alloc, line, frame)? {
                 return Ok(true);
             }
         }

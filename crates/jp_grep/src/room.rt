@@ -5,12 +5,15 @@ use crate::table::TableRow;
 use jp_eval::Frame;
 use std::alloc::Global;
 
-/// The nodes that are found, a value as it is spelled, and the row of a table.
+/// The nodes that are found, what spells values, the row that is made, and where it is one of a table its cells.
 #[derive(Drop)]
 pub(crate) struct Room<'r> {
     pub(crate) frame: Frame<'r>,
     pub(crate) speller: Speller,
-    pub(crate) row: TableRow,
+    pub(crate) row: Vec<u8>,
+    pub(crate) cells: TableRow,
+    /// The cell that is made.
+    pub(crate) cell: Vec<u8>,
 }
 
 impl<'r> Room<'r> {
@@ -19,7 +22,9 @@ impl<'r> Room<'r> {
         Room {
             frame: Frame::new(alloc),
             speller: Speller::new(alloc),
-            row: TableRow::new(alloc),
+            row: Vec::new(alloc),
+            cells: TableRow::new(alloc),
+            cell: Vec::new(alloc),
         }
     }
 }

@@ -1,7 +1,7 @@
 //! A run: the files in turn, and the two writers, each behind a buffer that is written out at the end.
 
 ghost use Rattle.std.specs.Prelude.{◌≡◌, ◌&&◌, ◌||◌, false, true, not, is_err, map, IfOk, MatchResult};
-ghost use Rattle.jp_model.specs.Devices.{Came, GaveUpTo, Writes};
+ghost use Rattle.jp_devices.specs.Devices.{Came, GaveUpTo, Writes};
 ghost use Rattle.jp_devices.specs.Buffered.{Took, filled, untold};
 ghost use Rattle.jp_grep.specs.Ends.{NotesSearch, status_of};
 ghost use Rattle.jp_grep.specs.Faults.{IsToldOf, is_input_fault, is_read_fault, is_report_fault, is_write_fault};
@@ -9,13 +9,12 @@ ghost use Rattle.jp_grep.specs.Tables.{header_text};
 ghost use Rattle.jp_grep.specs.Watching.{SearchStopped, Searched};
 
 use crate::fault::SearchFault;
-use crate::form::Form;
 use crate::header::write_header;
-use crate::options::Options;
 use crate::progress::Counts;
 use crate::question::Question;
 use crate::searching::search;
 use jp_devices::{flush_written, write_out};
+use jp_form::Form;
 use jp_model::Watched;
 use std::alloc::{AllocError, Global};
 use std::io::{BufWriter, Read, Write};
@@ -56,7 +55,7 @@ pub struct Finished<W, E> {
 }
 
 impl<'q, W: Write + Drop, E: Write + Drop> Run<'q, W, E> {
-    /// A run in which no file was searched yet.
+    /// A run in which no file was searched yet; under `-q` it is a quiet one, which a selected line decides.
     ///
     /// # Errors
     ///
@@ -64,14 +63,14 @@ impl<'q, W: Write + Drop, E: Write + Drop> Run<'q, W, E> {
     pub fn new(
         alloc: Global,
         question: &'q Question,
-        options: &Options<'_>,
+        quiet: bool,
         rows: Watched<W>,
         messages: Watched<E>,
     ) -> Result<Run<'q, W, E>, AllocError>
         ensures rows { IfOk result (λ run. (filled run.rows.device ≡ rows) × (run.rows.failed ≡ false)) }
         ensures messages { IfOk result (λ run. (filled run.messages.device ≡ messages) × (run.messages.failed ≡ false)) }
         ensures question { IfOk result (λ run. run.question.now ≡ question.now) }
-        ensures notes { IfOk result (λ run. (run.quiet ≡ options.now.quiet) × (run.selected ≡ false) × (run.failed ≡ false)) }
+        ensures notes { IfOk result (λ run. (run.quiet ≡ quiet) × (run.selected ≡ false) × (run.failed ≡ false)) }
     {
         let (Ok(rows), Ok(messages)) = (
             BufWriter::new(alloc, rows),
@@ -82,7 +81,7 @@ impl<'q, W: Write + Drop, E: Write + Drop> Run<'q, W, E> {
         Ok(Run {
             alloc,
             question,
-            quiet: options.quiet,
+            quiet,
             rows: Watched::new(rows),
             messages: Watched::new(messages),
             selected: false,
@@ -95,6 +94,13 @@ impl<'q, W: Write + Drop, E: Write + Drop> Run<'q, W, E> {
         ensures { result ≡ (not self.now.rows.failed && not self.now.messages.failed) }
     {
         !self.rows.failed() && !self.messages.failed()
+    }
+
+    /// Whether a line was selected so far.
+    pub fn has_selected(&self) -> bool
+        ensures { result ≡ self.now.selected }
+    {
+        self.selected
     }
 
     /// Whether no further file matters, since a selected line ends the run under `-q`.
@@ -148,7 +154,7 @@ impl<'q, W: Write + Drop, E: Write + Drop> Run<'q, W, E> {
         ensures report_fault { IsToldOf is_report_fault result self.new.messages.failed }
         ensures after { input.new.after ≡ input.old.after }
         ensures early { input.new.early ≡ input.old.early }
-        ensures notes { NotesSearch result self.old.selected self.old.failed self.new.selected self.new.failed }
+        ensures notes { NotesSearch form.now.silent result self.old.selected self.old.failed self.new.selected self.new.failed }
         ensures same { (self.new.question ≡ self.old.question) × (self.new.quiet ≡ self.old.quiet) }
     {
         let found = search(
@@ -162,7 +168,7 @@ impl<'q, W: Write + Drop, E: Write + Drop> Run<'q, W, E> {
         match found {
             Ok(counts) => {
                 self.selected |= counts.selected > 0;
-                self.failed |= counts.refused > 0;
+                self.failed |= !form.silent && counts.refused > 0;
             }
             Err(_) => self.failed = true,
         }

@@ -1,24 +1,27 @@
 //! A search: the lines of a stream, each answered as it comes.
 
 ghost use Rattle.std.specs.Prelude.{◌≡◌, ◌+◌, ◌<◌, ◌≤◌, ◌^◌, ◌||◌, [], length, take, false, IfErr, MatchResult, OnOk, true};
-ghost use Rattle.jp_model.specs.Devices.{Came, GaveUpTo, Received};
+ghost use Rattle.jp_devices.specs.Devices.{Came, GaveUpTo, Received, Writes};
 ghost use Rattle.jp_model.specs.Lines.{is_framed};
 ghost use Rattle.jp_masks.specs.Found.{lines_in};
 ghost use Rattle.jp_grep.specs.Cuts.{text_of};
 ghost use Rattle.jp_grep.specs.Faults.{IsToldOf, is_framing_fault, is_input_fault, is_read_fault, is_report_fault, is_write_fault};
+ghost use Rattle.jp_grep.specs.Holding.{TellsOfWriter};
+ghost use Rattle.jp_grep.specs.Rows.{summary_of};
 ghost use Rattle.jp_grep.specs.Searching.{Advances, Answers, IsUnderWay};
 ghost use Rattle.jp_grep.specs.Watching.{SearchStopped, Searched, SearchedLines};
 
 use crate::answer::Answerer;
 use crate::fault::SearchFault;
-use crate::form::Form;
+use crate::outlet::{Outlet, write_bytes};
 use crate::progress::{Counts, Progress};
 use crate::question::Question;
-use crate::rows::write_summary;
+use crate::rows::add_summary;
 use crate::stream::{Stream, find_end};
 use jp_devices::flush_written;
+use jp_form::Form;
+use jp_lines::BatchRoom;
 use jp_model::Watched;
-use jp_store::BatchRoom;
 use std::alloc::Global;
 use std::io::{Read, Write};
 
@@ -55,6 +58,7 @@ fn flush_all<W: Write, E: Write>(
 struct Searcher {
     stream: Stream,
     room: BatchRoom,
+    outlet: Outlet,
     progress: Progress,
 }
 
@@ -90,7 +94,7 @@ impl Searcher {
         let Ok(batch) = self.room.read(framing, text) else {
             return Err(SearchFault::Memory);
         };
-        answerer.answer_batch(batch, &mut self.progress, out, messages)
+        answerer.answer_batch(batch, &mut self.progress, &mut self.outlet, out, messages)
     }
 
     /// Holds the bytes that came, and answers the lines that end among them.
@@ -154,6 +158,7 @@ fn search_lines<R: Read, W: Write, E: Write>(
     let mut searcher = Searcher {
         stream: Stream::new(answerer.alloc, answerer.form.framing),
         room: BatchRoom::new(answerer.alloc),
+        outlet: Outlet::new(answerer.alloc),
         progress: Progress::new(),
     };
     let mut buffer = [0; PIECE];
@@ -173,6 +178,23 @@ fn search_lines<R: Read, W: Write, E: Write>(
         searcher.answer_piece(answerer, &buffer[..count], out, messages)?;
     }
     Err(SearchFault::Size)
+}
+
+/// Writes what stands behind the rows of a stream, of which so many lines were selected.
+fn write_summary<W: Write>(
+    answerer: Answerer<'_>,
+    count: u64,
+    out: &mut Watched<W>,
+) -> Result<(), SearchFault>
+    requires working { out.old.failed ≡ false }
+    ensures text { Writes W.contents out.old out.new result (summary_of answerer.entry.form.now.summary answerer.entry.form.now count) }
+    ensures tells { TellsOfWriter result out.old out.new }
+{
+    let mut text = Vec::new(answerer.alloc);
+    if add_summary(answerer.form, count, &mut text).is_err() {
+        return Err(SearchFault::Memory);
+    }
+    write_bytes(&text, out)
 }
 
 /// Searches a stream: reads it piece by piece, and answers each line as it comes. A row is written for each selected line, and
@@ -221,8 +243,6 @@ pub fn search<R: Read, W: Write, E: Write>(
         form,
     };
     let counts = search_lines(answerer, input, out, messages)?;
-    if write_summary(form, counts.selected, out).is_err() {
-        return Err(SearchFault::Write);
-    }
+    write_summary(answerer, counts.selected, out)?;
     Ok(counts)
 }

@@ -6,8 +6,8 @@ ghost use Rattle.jp_grep.specs.Cuts.{EndsBetween, HasNoEnd, text_of};
 ghost use Rattle.jp_grep.specs.Faults.{is_framing_fault, is_inner_fault};
 
 use crate::fault::SearchFault;
+use jp_lines::{is_framed_text, separator};
 use jp_model::{Framing, without_byte_order_mark};
-use jp_store::{is_framed_text, separator};
 use memchr::memrchr;
 use std::alloc::Global;
 

@@ -6,7 +6,7 @@ ghost use Rattle.jp_model.specs.Rows.{line_feed};
 ghost use Rattle.jp_grep.specs.Held.{Holds};
 ghost use Rattle.jp_grep.specs.Tables.{byte_text, bytes_text, cell_text, front_cells, joined, quoted_cell, separator, wants_quotes};
 
-use crate::form::{Form, Table};
+use jp_form::{Form, Table};
 use jp_lanes::first_special;
 use std::alloc::{AllocError, Global};
 

@@ -5,8 +5,8 @@ ghost use Rattle.std.specs.Option.{is_some};
 ghost use Rattle.std.specs.Vec.{vec_capacity, vec_len};
 ghost use Rattle.jp_model.specs.Numbered.{numbers_where};
 ghost use Rattle.jp_model.specs.Steps.{Step};
-ghost use Rattle.jp_query.specs.SingularPaths.{path_steps};
-ghost use Rattle.jp_tape.specs.Cursors.{root_of};
+ghost use Rattle.jp_syntax.specs.SingularPaths.{path_steps};
+ghost use Rattle.jp_nodes.specs.Cursors.{root_of};
 ghost use Rattle.jp_index.specs.Entries.{Entry, entry_in};
 ghost use Rattle.jp_index.specs.LineSetViews.{numbers_of};
 
@@ -17,8 +17,8 @@ use crate::line_set::LineSet;
 use crate::order::sort_by_key;
 use crate::reading::read_root;
 use crate::slot::Slot;
-use jp_query::SingularPath;
-use jp_tape::Cursor;
+use jp_nodes::Cursor;
+use jp_syntax::SingularPath;
 use std::alloc::{AllocError, Global};
 
 /// An index in the making. The lines are added one by one from the first, and their keys are sorted once, at the end.

@@ -5,7 +5,7 @@ ghost use Rattle.std.specs.Option.{ForSome, is_some};
 ghost use Rattle.std.specs.List.Sorted.{IsPartitionPoint};
 ghost use Rattle.std.specs.Ordering.{is_le};
 ghost use Rattle.std.specs.declared.cmp.Ordering.TheVariants.{Less};
-ghost use Rattle.jp_query.specs.View.{op_view};
+ghost use Rattle.jp_syntax.specs.View.{op_view};
 ghost use Rattle.jp_index.specs.ByKey.{line_order, Ascend, AreByKey, but};
 ghost use Rattle.jp_index.specs.Cells.{key_at};
 ghost use Rattle.jp_index.specs.Chunks.{IsChunk, IsSpare, begins_by, chunk_at, lines_before, lines_behind, lines_in, with_chunk};
@@ -15,7 +15,7 @@ use crate::comparing::{compare_lines, is_in_front, key_of_line};
 use crate::edge::Edge;
 use crate::order::{find_line, position_of, run_of};
 use crate::slot::Slot;
-use jp_query::CompareOp;
+use jp_syntax::CompareOp;
 use jp_values::Key;
 use std::alloc::{AllocError, Global};
 

@@ -1,9 +1,9 @@
 //! Where the keys that compare so with a key begin and end, in the order of keys.
 
 ghost use Rattle.std.specs.Prelude.{◌≡◌};
-ghost use Rattle.jp_query.specs.View.{op_view};
+ghost use Rattle.jp_syntax.specs.View.{op_view};
 
-use jp_query::CompareOp;
+use jp_syntax::CompareOp;
 
 /// A position in the order of keys, told by one of them: in front of the keys that equal it, after them, in front of all keys
 /// of its kind, after all of these.

@@ -3,7 +3,7 @@
 ghost use Rattle.std.specs.Prelude.{◌≡◌, ℕ, ◌<◌, ◌≤◌, true, false, Contains, IfSome, OnOk, IsPermutation, None, length, filter, slice_index_or};
 ghost use Rattle.std.specs.List.Sorted.{IsPartitionPoint, IsSortedBy};
 ghost use Rattle.std.specs.Ordering.{is_lt};
-ghost use Rattle.jp_query.specs.View.{op_view};
+ghost use Rattle.jp_syntax.specs.View.{op_view};
 ghost use Rattle.jp_index.specs.ByKey.{line_order, Ascend, IsPositionOf};
 ghost use Rattle.jp_index.specs.Cells.{key_at};
 ghost use Rattle.jp_index.specs.Edges.{in_front, is_between};
@@ -11,7 +11,7 @@ ghost use Rattle.jp_index.specs.Edges.{in_front, is_between};
 use crate::comparing::{compare_lines, is_in_front};
 use crate::edge::Edge;
 use crate::slot::Slot;
-use jp_query::CompareOp;
+use jp_syntax::CompareOp;
 use jp_values::Key;
 use std::alloc::AllocError;
 

@@ -1,9 +1,8 @@
 -- The first byte of a kind, by a mask that tells of each of some bytes whether it is of that kind.
-use Rattle.std.proofs.Common.{◌≡◌, ℕ, zero, suc, ◌+◌, ◌-◌, ◌*◌, ◌/◌, ◌%◌, ◌^◌, ◌<◌, ◌≤◌, Bool, true, false, not, cond, ◌||◌, eqb, List, [], ◌∷◌, map, length, take, drop, get_or, sym, ◌∙◌, ap, ap₂, refl, arith, bit_or, inl, inr}
+use Rattle.std.proofs.Common.{◌≡◌, ℕ, zero, suc, ◌+◌, ◌-◌, ◌*◌, ◌/◌, ◌%◌, ◌^◌, ◌<◌, ◌≤◌, Bool, true, false, not, cond, ◌||◌, eqb, List, [], ◌∷◌, map, length, take, drop, get_or, sym, ◌∙◌, ap, ap₂, refl, arith, bit_or, inl, inr, shr-shr}
 use lib.Lanes.{mask_l, zip2, top, chunk}
 use lib.Count.{count_trailing_zeros}
 use Rattle.std.specs.List.{prefix_len}
-use Rattle.std.proofs.Common.{shr-shr}
 use Rattle.std.proofs.lemmas.Simd.{zip2_of_maps, map-map, mask_l-mod, none_from_empty_mask, first_set_mask_l, run_in_chunk_le, run_in_chunk_fails, run_in_chunk_stops, length-chunk}
 use Rattle.std.proofs.lemmas.Bool.{ne_eqb, cond-false, cases_lt}
 use Rattle.std.proofs.lemmas.List.{length-map, drop-map, drop-take, drop-drop}

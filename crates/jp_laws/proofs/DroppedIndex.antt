@@ -8,7 +8,7 @@ use Rattle.jp_model.specs.Query.Status.{QueryStatus}
 use Rattle.jp_model.specs.Script.Commands.{index_line, drop_line}
 use Rattle.jp_model.specs.Script.Machine.{State, drop_answer, has_path, index_answer, index_path, step, without_path}
 use Rattle.jp_model.specs.Steps.{Step, steps_equal}
-use Rattle.jp_query.specs.StepEquality.{steps_equal_equiv}
+use Rattle.jp_syntax.specs.StepEquality.{steps_equal_equiv}
 
 taken_away : (p : List Step) (paths : List (List Step)) → has_path p paths ≡ false → without_path p (paths ++ p ∷ []) ≡ paths
 taken_away p [] h = ap (λ b. if b then [] else p ∷ []) (steps_equal_equiv.refl p)

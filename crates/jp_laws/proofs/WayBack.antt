@@ -2,7 +2,7 @@
 use Rattle.std.proofs.Common.{◌≡◌, ℕ, ◌+◌, ◌≤◌, List, [], ◌∷◌, ◌++◌, length, map, flat_map, filter, Bool, true, false, cond, nat_lt, chars, Option, Some, None, refl, sym, ap, subst, ◌∙◌, append-nil, arith}
 use Rattle.std.proofs.lemmas.Bool.{and_from, le-leb}
 use Rattle.std.proofs.lemmas.Slice.Eq.{bytes_eq-Decides}
-use Rattle.jp_model.specs.Json.Faults.{has_duplicate}
+use Rattle.jp_model.specs.Json.Faults.{has_duplicate, depth, has_surrogate, has_long_exponent, is_truncated}
 use Rattle.jp_model.specs.Json.Tree.{Tree, Value, null, boolean, number, string, container, Children, no_child, child, Name, value_of}
 use Rattle.jp_model.specs.Meaning.Nodes.{Node, root_node, child_of, children, step_to, steps_from, steps_in, subtree}
 use Rattle.jp_model.specs.Meaning.Selecting.{nodes, selected, select}
@@ -13,7 +13,6 @@ use Rattle.jp_model.specs.Steps.{Step, name_step, index_step, same_int}
 use Rattle.jp_model.specs.declared.Framing.{Framing}
 use Rattle.jp_model.specs.declared.LineFault.{LineFault}
 use Rattle.jp_model.specs.declared.LineFault.TheVariants.{Truncated, Depth, Surrogate, Number, Duplicate}
-use Rattle.jp_model.specs.Json.Faults.{depth, has_surrogate, has_long_exponent, is_truncated}
 use Rattle.jp_model.specs.Json.Spelling.{Text}
 use Rattle.jp_model.specs.Json.Status.{parsed, HasStatus}
 use Rattle.jp_model.specs.Meaning.Paths.{path_text}

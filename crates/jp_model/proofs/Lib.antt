@@ -9,7 +9,5 @@ pub mod Opened
 pub mod Rows
 pub mod Reader
 pub mod LineSteps
-pub mod Devices
-mod Walks
 pub mod LowestBit
 pub mod Digits

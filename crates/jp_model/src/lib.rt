@@ -6,18 +6,13 @@
 //!   word in its row or error line
 //! - `Lines`, `without_byte_order_mark`, `is_blank`: the lines of a collection; its bytes after a mark at the front; whether a
 //!   line is white space alone
-//! - `Watched`: a device, one call of it for each `read`, `read_after`, `write` and `flush`; proofs see the bytes that its
-//!   reads gave and those that its writes took. `failed`, `ended` and `unflushed` say whether a call failed, a read came to the
-//!   end, bytes are unflushed; `calls` counts all calls, `after` those after a failure, reads after the end, and reads into no
-//!   room, and `early` reads while a writer has bytes unflushed
+//! - `Watched`: a device whose calls are watched, as `jp_devices` has it
 #![tactic(auto)]
 
 pub mod laws;
 mod lines;
-mod passed;
 #[cfg(test)]
 mod tests;
-mod watched;
 pub mod worked;
 
 ghost use Rattle.std.specs.Prelude.{◌≡◌};
@@ -26,8 +21,8 @@ ghost use Rattle.jp_model.specs.Lines.{is_blank as is_blank_line};
 ghost use Rattle.jp_model.specs.Rows.{line_fault_word};
 ghost use Rattle.jp_model.specs.Script.Machine.{query_fault_word};
 
+pub use jp_devices::Watched;
 pub use lines::{Lines, without_byte_order_mark};
-pub use watched::Watched;
 
 /// Where a value, or the body of a name, is in its line.
 #[derive(Clone, Copy, Debug, PartialEq, Eq)]

@@ -1,10 +1,10 @@
 //! Worked examples of the smaller definitions. What a script writes over a collection, from bytes to bytes, is computed in
-//! `jp_worked`, where the texts of queries are read.
+//! `test_definitions`, where the texts of queries are read.
 
 ghost use Rattle.std.specs.Prelude.{◌≡◌, [], ◌∷◌, ◌++◌, pos, Some, None, true, false, take, codes};
 ghost use Rattle.std.specs.declared.cmp.Ordering.TheVariants.{Equal};
 ghost use Rattle.jp_model.specs.declared.LineFault.TheVariants.{Utf8, Grammar, Truncated, Surrogate, Number, Duplicate};
-ghost use Rattle.jp_model.specs.Devices.{Begins};
+ghost use Rattle.jp_devices.specs.Devices.{Begins};
 ghost use Rattle.jp_model.specs.Json.Marks.{marks};
 ghost use Rattle.jp_model.specs.Json.Numbers.{numeral_of, is_long_exponent, mantissa, scale, number_equal, number_order};
 ghost use Rattle.jp_model.specs.Json.Reader.{is_numeral, body_at, spanned, tree_of, status_of};

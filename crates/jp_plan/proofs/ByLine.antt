@@ -16,14 +16,14 @@ use Rattle.jp_model.specs.Rows as model
 use Rattle.jp_model.specs.Rows.{status_rows}
 use Rattle.jp_model.specs.Steps.{Step}
 use Rattle.jp_store.specs.Collections.{Collection, line_text}
-use Rattle.jp_store.specs.Views.{text_of_view, status_kind}
-use Rattle.jp_store.specs.declared.Status.TheVariants as told
-use Rattle.jp_store.specs.declared.view.LineView.{LineView}
-use Rattle.jp_tape.specs.Cursors.{line_of, place_of, node_of, root_of, spot_of}
-use Rattle.jp_tape.specs.Spots.{spot_at}
-use Rattle.jp_tape.specs.Tapes.{spelled}
-use Rattle.jp_tape.specs.declared.cursor.Cursor.{Cursor}
-use Rattle.jp_eval.specs.Found.{AreOf}
+use Rattle.jp_lines.specs.Views.{text_of_view, status_kind}
+use Rattle.jp_lines.specs.declared.Status.TheVariants as told
+use Rattle.jp_lines.specs.declared.view.LineView.{LineView}
+use Rattle.jp_nodes.specs.Cursors.{line_of, place_of, node_of, root_of, spot_of}
+use Rattle.jp_nodes.specs.Spots.{spot_at}
+use Rattle.jp_nodes.specs.Tapes.{spelled}
+use Rattle.jp_nodes.specs.declared.cursor.Cursor.{Cursor}
+use Rattle.jp_children.specs.Found.{AreOf}
 use Rattle.jp_plan.specs.Behind.{segments_behind}
 use Rattle.jp_plan.specs.ByLine.{Found, at_place, of_fault, expanded, found_row, node_at, IsPlaceIn, AreInTurn, IsOfItsLine}
 use Rattle.jp_plan.specs.Found.{row_view, rows_view, IsOnItsLine, AreOnTheirLines}

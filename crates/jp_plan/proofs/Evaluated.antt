@@ -11,7 +11,7 @@ use Rattle.jp_model.specs.Query.Syntax.{Segment, child_segment, Segments, no_seg
 use Rattle.jp_model.specs.Query.Typing.{segments_typed}
 use Rattle.jp_model.proofs.Seek.{segment_is}
 use Rattle.jp_model.proofs.Steps.{step_same}
-use Rattle.jp_query.specs.Sound.{has_sound_literals}
+use Rattle.jp_syntax.specs.Sound.{has_sound_literals}
 use Rattle.jp_plan.specs.Behind.{is_of_step, segments_behind}
 
 of_step : (g : Segment) (s : Step) (o : Option Step) → singular_step g ≡ o → is_of_step s o ≡ true → g ≡ child_segment (selector (step_selector s) no_selectors)

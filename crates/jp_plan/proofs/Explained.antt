@@ -13,8 +13,8 @@ use Rattle.jp_model.specs.Plans.{Guard, explain, guard_of, guard_text, is_opened
 use Rattle.jp_model.specs.Query.Syntax.{CompareOp, equal, not_equal, less, less_equal, greater, greater_equal, Segments, segment_list}
 use Rattle.jp_model.specs.Rows.{line_feed}
 use Rattle.jp_model.specs.Steps.{Step}
-use Rattle.jp_query.specs.Sound.{is_sound}
-use Rattle.jp_query.specs.View.{literal_view}
+use Rattle.jp_syntax.specs.Sound.{is_sound}
+use Rattle.jp_syntax.specs.View.{literal_view}
 use Rattle.jp_store.specs.Collections.{Collection, statuses_in}
 use Rattle.jp_plan.specs.Behind.{segments_behind}
 use Rattle.jp_plan.specs.Passing.{guard_status, seek_status}

@@ -7,7 +7,7 @@ use Rattle.jp_model.specs.Plans.{longer, seek_of}
 use Rattle.jp_plan.specs.Behind.{are_of_steps}
 use Rattle.std.proofs.lemmas.List.{at_drop_more}
 use Rattle.std.proofs.lemmas.Option.{get_or_from_slice_get}
-use Rattle.jp_query.specs.StepEquality.{steps_equal_equiv}
+use Rattle.jp_syntax.specs.StepEquality.{steps_equal_equiv}
 use Rattle.jp_plan.specs.Paths.{are_as_many, is_better, is_indexed}
 
 pub there_is : {A : Type 0} (xs : List A) (k : ℕ) → k < length xs → (x : A) × (slice_get xs k ≡ Some x)

@@ -7,8 +7,8 @@ use Rattle.jp_model.specs.Plans.{Guard, guard_on, conjunct_guard, first_guard, c
 use Rattle.jp_model.specs.Query.Singular.{singular_steps}
 use Rattle.jp_model.specs.Query.Syntax.{CompareOp, Literal, Segment, child_segment, descendant_segment, Segments, no_segments, segment, Selectors, Logical, or_all, and_all, negated, compare, exists, test, Logicals, no_logicals, logical, segment_list}
 use Rattle.jp_model.specs.Steps.{Step, steps_equal}
-use Rattle.jp_query.specs.Sound.{is_sound, has_sound_literals, logical_has_sound_literals}
-use Rattle.jp_query.specs.View.{literal_view, op_view}
+use Rattle.jp_syntax.specs.Sound.{is_sound, has_sound_literals, logical_has_sound_literals}
+use Rattle.jp_syntax.specs.View.{literal_view, op_view}
 use Rattle.jp_store.specs.Collections.{Collection}
 use Rattle.jp_plan.specs.Paths.{guard_at, guard_of_steps}
 use Rattle.jp_plan.specs.Routes.{IsRouteOf}

@@ -11,7 +11,7 @@ use Rattle.jp_model.specs.Json.Numbers.{Numeral, Exponent, Sign, no_sign, plus_s
 use Rattle.jp_model.specs.Json.Reader.{is_int, is_exponent, is_numeral}
 use Rattle.jp_model.specs.Query.Syntax.{number_literal}
 use Rattle.jp_model.proofs.Seek.{text_same}
-use Rattle.jp_query.specs.Sound.{is_sound}
+use Rattle.jp_syntax.specs.Sound.{is_sound}
 
 digit_ascii : (d : ℕ) → is_digit d ≡ true → d < 128
 digit_ascii d h = grind (arith, nat_tests)

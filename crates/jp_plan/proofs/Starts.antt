@@ -8,7 +8,7 @@ use Rattle.jp_model.specs.Steps.{Step}
 use Rattle.std.specs.Prelude.{Result, Ok, Err, OnOk}
 use Rattle.jp_index.specs.Entries.{Entry, entries_at, entries_of, entry_of, status_entry}
 use Rattle.jp_store.specs.Collections.{Collection, statuses_in, line_status}
-use Rattle.jp_store.specs.Views.{status_kind}
+use Rattle.jp_lines.specs.Views.{status_kind}
 use Rattle.jp_plan.specs.Passing.{seek_status, is_told_tree, IsLineOf}
 use Rattle.jp_plan.proofs.Entries.{collection_entry, one_entry, no_entry}
 

@@ -10,7 +10,7 @@ use Rattle.jp_model.specs.Query.Singular.{singular_step}
 use Rattle.jp_model.specs.Query.Syntax.{Segment, child_segment, descendant_segment, Segments, no_segments, segment, segment_list, Selector, name_selector, wildcard_selector, index_selector, slice_selector, filter_selector, Selectors, no_selectors, selector, selector_list}
 use Rattle.jp_model.specs.Rows.{line_feed}
 use Rattle.jp_model.specs.Steps.{Step}
-use Rattle.jp_query.specs.View.{segments_of, selectors_of}
+use Rattle.jp_syntax.specs.View.{segments_of, selectors_of}
 use Rattle.jp_plan.specs.Behind.{is_of_step, segments_behind}
 use Rattle.jp_plan.specs.Walks.{name_alone, walk_begins, walk_ends, parts_text}
 

@@ -3,9 +3,9 @@ use Rattle.std.specs.Prelude.{◌≡◌, ℕ, ◌-◌, ◌≤◌, ◌<◌, List,
 use Rattle.jp_model.specs.declared.LineFault.{LineFault}
 use Rattle.jp_model.specs.Meaning.Nodes.{Node, root_node, subtree}
 use Rattle.jp_model.specs.Rows as model
-use Rattle.jp_store.specs.Views.{text_of_view, tree_of_view}
-use Rattle.jp_store.specs.declared.view.LineView.{LineView}
-use Rattle.jp_tape.specs.Spots.{spot_at}
+use Rattle.jp_lines.specs.Views.{text_of_view, tree_of_view}
+use Rattle.jp_lines.specs.declared.view.LineView.{LineView}
+use Rattle.jp_nodes.specs.Spots.{spot_at}
 use Rattle.jp_plan.specs.declared.rows.LineRows.{LineRows}
 use Rattle.jp_plan.specs.declared.rows.LineRows.TheVariants as by_line
 use Rattle.jp_plan.specs.declared.rows.Rows.{Rows}

@@ -1,8 +1,8 @@
 -- The rows of an answer.
 use Rattle.std.specs.Prelude.{◌≡◌, ℕ, ◌-◌, List, All, map, Some, slice_get}
 use Rattle.jp_model.specs.Rows as model
-use Rattle.jp_tape.specs.Cursors.{line_of, node_of}
-use Rattle.jp_tape.specs.declared.cursor.Cursor.{Cursor}
+use Rattle.jp_nodes.specs.Cursors.{line_of, node_of}
+use Rattle.jp_nodes.specs.declared.cursor.Cursor.{Cursor}
 use Rattle.jp_plan.specs.declared.answer.Row.{Row}
 use Rattle.jp_plan.specs.declared.answer.Row.TheVariants as found
 

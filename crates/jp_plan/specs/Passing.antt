@@ -5,8 +5,8 @@ use Rattle.jp_model.specs.Plans as plans
 use Rattle.jp_model.specs.Plans.{seek_passes, guard_passes}
 use Rattle.jp_model.specs.Steps.{Step}
 use Rattle.jp_store.specs.Collections.{Collection}
-use Rattle.jp_store.specs.declared.Status.{Status}
-use Rattle.jp_store.specs.declared.Status.TheVariants as told
+use Rattle.jp_lines.specs.declared.Status.{Status}
+use Rattle.jp_lines.specs.declared.Status.TheVariants as told
 
 -- a line with a tree in which the seek, if any, has a node
 abbrev pub seek_status : Option (List Step) → LineStatus → Bool

@@ -4,8 +4,8 @@ use Rattle.jp_model.specs.Query.Syntax.{Segments}
 use Rattle.jp_model.specs.Query.Typing.{segments_typed}
 use Rattle.jp_model.specs.Plans.{leading_steps, seek_of, guard_of}
 use Rattle.jp_model.specs.Steps.{Step}
-use Rattle.jp_query.specs.View.{segments_view}
-use Rattle.jp_query.specs.Sound.{has_sound_literals}
+use Rattle.jp_syntax.specs.View.{segments_view}
+use Rattle.jp_syntax.specs.Sound.{has_sound_literals}
 use Rattle.jp_store.specs.Collections.{Collection}
 use Rattle.jp_plan.specs.Behind.{segments_behind}
 use Rattle.jp_plan.specs.Paths.{path_at, guard_at}

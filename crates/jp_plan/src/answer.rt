@@ -9,10 +9,10 @@ ghost use Rattle.jp_model.specs.Query.Singular.{steps_query};
 ghost use Rattle.jp_model.specs.Rows.{status_rows};
 ghost use Rattle.jp_model.specs.Script.Machine.{is_refused_status};
 ghost use Rattle.jp_eval.specs.Compiled.{program_view};
-ghost use Rattle.jp_query.specs.View.{segments_view};
-ghost use Rattle.jp_tape.specs.Cursors.{line_of, node_of};
+ghost use Rattle.jp_syntax.specs.View.{segments_view};
+ghost use Rattle.jp_nodes.specs.Cursors.{line_of, node_of};
 ghost use Rattle.jp_store.specs.Collections.{line_status};
-ghost use Rattle.jp_store.specs.Views.{text_of_view, tree_of_view};
+ghost use Rattle.jp_lines.specs.Views.{text_of_view, tree_of_view};
 ghost use Rattle.jp_plan.specs.ByLine.{found_rows, IsInTurn, AreOfTheirLines};
 ghost use Rattle.jp_plan.specs.Found.{rows_view, AreOnTheirLines};
 ghost use Rattle.jp_plan.specs.Passing.{seek_status, IsLineOf};
@@ -27,8 +27,8 @@ use crate::rows::Rows;
 use crate::turn::{Turn, behind_first, next_turn};
 use jp_eval::{Frame, Program};
 use jp_model::LineFault;
+use jp_nodes::Cursor;
 use jp_store::{LineView, Opened, Status};
-use jp_tape::Cursor;
 use std::alloc::AllocError;
 
 /// A row, with the number of its line, from 1.

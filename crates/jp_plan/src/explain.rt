@@ -2,8 +2,8 @@
 
 ghost use Rattle.std.specs.Prelude.{◌≡◌, ◌++◌, ◌<◌, true, codes, decimal, length, OnOk, IfOk, IfSome};
 ghost use Rattle.jp_model.specs.Plans.{guard_text, scan_text, seek_text, told};
-ghost use Rattle.jp_query.specs.Sound.{is_sound};
-ghost use Rattle.jp_query.specs.View.{literal_view};
+ghost use Rattle.jp_syntax.specs.Sound.{is_sound};
+ghost use Rattle.jp_syntax.specs.View.{literal_view};
 ghost use Rattle.jp_plan.specs.Paths.{guard_at, path_at as steps_at};
 ghost use Rattle.jp_plan.specs.Planned.{explained, lines_opened};
 ghost use Rattle.jp_plan.specs.PlanViews.{plan_of};

@@ -4,12 +4,12 @@ ghost use Rattle.std.specs.Prelude.{◌≡◌, ◌<◌, false, length, slice_get
 ghost use Rattle.jp_model.specs.Query.Singular.{singular_steps};
 ghost use Rattle.jp_model.specs.Query.Syntax.{compare};
 ghost use Rattle.jp_model.specs.Plans.{mirrored, is_guard_operator, guard_on, conjunct_guard, first_guard, conjuncts, segment_conjuncts, guard_of};
-ghost use Rattle.jp_query.specs.View.{comparable_view, op_view, literal_view, logical_view, path_view, segments_view, segment_view};
+ghost use Rattle.jp_syntax.specs.View.{comparable_view, op_view, literal_view, logical_view, path_view, segments_view, segment_view};
 ghost use Rattle.jp_plan.specs.Paths.{guard_at, is_indexed, path_guard};
 
 use crate::singular::spells;
-use jp_query::{Comparable, CompareOp, Literal, Logical, Origin, Path, Segment, Selector};
 use jp_store::Store;
+use jp_syntax::{Comparable, CompareOp, Literal, Logical, Origin, Path, Segment, Selector};
 
 /// A comparison of the path of an index with a literal.
 #[derive(Clone, Copy)]

@@ -3,8 +3,8 @@
 ghost use Rattle.std.specs.Prelude.{◌≡◌, ◌<◌, true, length, filter, All, Some, IfOk};
 ghost use Rattle.jp_model.specs.Numbered.{numbers_where};
 ghost use Rattle.jp_model.specs.Plans.{is_guard_operator, is_tree};
-ghost use Rattle.jp_query.specs.Sound.{is_sound};
-ghost use Rattle.jp_query.specs.View.{literal_view, op_view};
+ghost use Rattle.jp_syntax.specs.Sound.{is_sound};
+ghost use Rattle.jp_syntax.specs.View.{literal_view, op_view};
 ghost use Rattle.jp_store.specs.Collections.{line_status, statuses_in};
 ghost use Rattle.jp_plan.specs.Paths.{guard_at, path_at};
 ghost use Rattle.jp_plan.specs.PlanViews.{plan_of};

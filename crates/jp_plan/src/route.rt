@@ -3,8 +3,8 @@
 ghost use Rattle.std.specs.Prelude.{◌≡◌, ◌<◌, true, Some, length, IfSome};
 ghost use Rattle.jp_model.specs.Plans.{leading_steps, seek_of};
 ghost use Rattle.jp_model.specs.Query.Typing.{segments_typed};
-ghost use Rattle.jp_query.specs.View.{segments_view};
-ghost use Rattle.jp_query.specs.Sound.{has_sound_literals};
+ghost use Rattle.jp_syntax.specs.View.{segments_view};
+ghost use Rattle.jp_syntax.specs.Sound.{has_sound_literals};
 ghost use Rattle.jp_plan.specs.Behind.{segments_behind};
 ghost use Rattle.jp_plan.specs.Paths.{path_at};
 ghost use Rattle.jp_plan.specs.Routes.{IsRouteOf, steps_or_none};
@@ -12,8 +12,8 @@ ghost use Rattle.jp_plan.specs.Routes.{IsRouteOf, steps_or_none};
 use crate::guard::{Guard, find_guard};
 use crate::seek::find_seek;
 use crate::singular::behind;
-use jp_query::Segment;
 use jp_store::Store;
+use jp_syntax::Segment;
 
 /// The indexes that a query is answered by. It is found without memory.
 #[derive(Clone, Copy)]

@@ -1,15 +1,15 @@
 //! The rows of a query by line.
 
 ghost use Rattle.std.specs.Prelude.{◌≡◌, ◌++◌, ◌-◌, ◌∷◌, ℕ, List, [], All, Some, map, slice_get, IfOk, OnOk};
-ghost use Rattle.jp_store.specs.Views.{text_of_view};
-ghost use Rattle.jp_tape.specs.Cursors.{line_of, place_of};
+ghost use Rattle.jp_lines.specs.Views.{text_of_view};
+ghost use Rattle.jp_nodes.specs.Cursors.{line_of, place_of};
 ghost use Rattle.jp_plan.specs.ByLine.{at_place, of_fault, found_in, found_row, found_rows, IsInTurn, IsPlaceIn, IsOfItsLine, AreOfTheirLines};
 ghost use Rattle.jp_plan.specs.Found.{rows_view, AreOnTheirLines};
 
 use crate::answer::Row;
 use jp_model::LineFault;
+use jp_nodes::Cursor;
 use jp_store::LineView;
-use jp_tape::Cursor;
 use std::alloc::{AllocError, Global};
 
 /// The rows of a line, with its number, from 1.

@@ -2,13 +2,13 @@
 
 ghost use Rattle.std.specs.Prelude.{◌≡◌, ◌<◌, length, map, IfSome};
 ghost use Rattle.jp_model.specs.Plans.{leading_steps, seek_of};
-ghost use Rattle.jp_query.specs.View.{segments_view};
+ghost use Rattle.jp_syntax.specs.View.{segments_view};
 ghost use Rattle.jp_plan.specs.Paths.{are_as_many, is_better, path_at};
-ghost use Rattle.jp_query.specs.SingularPaths.{step_view};
+ghost use Rattle.jp_syntax.specs.SingularPaths.{step_view};
 
 use crate::singular::begins;
-use jp_query::{Segment, Step};
 use jp_store::Store;
+use jp_syntax::{Segment, Step};
 
 /// Whether steps are at least as many as those of the path of an index, if there is one.
 fn are_as_many(steps: &[Step], store: &Store, best: Option<u32>) -> bool

@@ -4,13 +4,13 @@ ghost use Rattle.std.specs.Prelude.{◌≡◌, ◌++◌, OnOk, IfOk, MatchOption
 ghost use Rattle.jp_model.specs.Plans.{segment_text, segments_text};
 ghost use Rattle.jp_model.specs.Query.Singular.{selector_step, singular_step};
 ghost use Rattle.jp_model.specs.Query.Syntax.{child_segment, descendant_segment, segment_list};
-ghost use Rattle.jp_query.specs.View.{segment_view, segments_view, selector_view, selectors_view};
+ghost use Rattle.jp_syntax.specs.View.{segment_view, segments_view, selector_view, selectors_view};
 ghost use Rattle.jp_plan.specs.Paths.{alone};
 ghost use Rattle.jp_plan.specs.Walks.{name_alone, option_step_text, part_text};
 
 use crate::text::push_decimal;
-use jp_query::{Segment, Selector, singular_selector};
 use jp_rows::QueryPart;
+use jp_syntax::{Segment, Selector, singular_selector};
 use std::alloc::AllocError;
 
 /// The name that a selector selects, if it selects by name.

@@ -4,11 +4,11 @@ ghost use Rattle.std.specs.Prelude.{◌≡◌, map};
 ghost use Rattle.jp_model.specs.Query.Singular.{selector_step, singular_step, singular_steps};
 ghost use Rattle.jp_model.specs.Plans.{leading_steps};
 ghost use Rattle.jp_model.specs.Steps.{is_prefix};
-ghost use Rattle.jp_query.specs.SingularPaths.{step_view};
-ghost use Rattle.jp_query.specs.View.{segment_view, segments_view, selector_view};
+ghost use Rattle.jp_syntax.specs.SingularPaths.{step_view};
+ghost use Rattle.jp_syntax.specs.View.{segment_view, segments_view, selector_view};
 ghost use Rattle.jp_plan.specs.Behind.{is_of_step, are_of_steps, segments_behind, rest_view};
 
-use jp_query::{Segment, Selector, Step, singular_selector};
+use jp_syntax::{Segment, Selector, Step, singular_selector};
 
 /// Whether the selector is that of this step.
 fn is_selector_of(selector: &Selector, step: &Step) -> bool

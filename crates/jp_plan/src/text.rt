@@ -2,12 +2,12 @@
 
 ghost use Rattle.std.specs.Prelude.{◌≡◌, ◌++◌, OnOk, decimal, encode_utf8_all, true};
 ghost use Rattle.jp_model.specs.Meaning.Paths.{literal_text, op_text as op_scalars};
-ghost use Rattle.jp_query.specs.Sound.{is_sound};
-ghost use Rattle.jp_query.specs.View.{literal_view, op_view};
+ghost use Rattle.jp_syntax.specs.Sound.{is_sound};
+ghost use Rattle.jp_syntax.specs.View.{literal_view, op_view};
 
 use itoa::Buffer;
-use jp_query::{CompareOp, Literal};
 use jp_rows::QueryPart;
+use jp_syntax::{CompareOp, Literal};
 use std::alloc::AllocError;
 
 /// Appends a number in decimal to a text.

@@ -5,7 +5,7 @@ use Rattle.jp_model.specs.Characters.{is_lower}
 use Rattle.jp_model.specs.Query.Limits.{is_opener}
 use Rattle.jp_model.specs.Query.Spelling.{Blanks, no_bound, bound, double_quoted, single_quoted, IsOrigin, at_mark, dollar_mark, Negation, no_negation, negation, FunctionName, IsSegments, segments_end, segments_go_on, IsSegment, child_brackets, child_wildcard, child_name, descendant_brackets, descendant_wildcard, descendant_name, IsBrackets, brackets, IsMoreSelectors, selectors_end, selectors_go_on, IsSelector, quoted_name, wildcard_mark, index_int, slice_parts, filter_mark, IsLogical, some_and, IsMoreOr, or_ends, or_goes_on, IsAnd, some_basic, IsMoreAnd, and_ends, and_goes_on, IsBasic, parens, comparison, query_test, call_test, IsQuery, filter_query, IsComparable, literal_side, singular_side, call_side, IsCall, call_without, call_with, IsMoreArguments, arguments_end, arguments_go_on, IsArgument, literal_argument, query_argument, call_argument, logical_argument, SpellsQuery, query, or_of, and_of, is_alone}
 use Rattle.jp_model.specs.Query.Syntax.{CompareOp, Origin, Segment, child_segment, descendant_segment, Segments, segment, Selector, Selectors, selector, Logical, negated, exists, test, Logicals, no_logicals, logical, Comparable, Argument, Arguments, argument, Path, path, Call, call}
-use Rattle.jp_query.specs.View.{segments_of, selectors_of, logicals_of, arguments_of}
+use Rattle.jp_syntax.specs.View.{segments_of, selectors_of, logicals_of, arguments_of}
 use Rattle.jp_query.specs.Integers.{map_ints, segment_ints, selectors_ints, selector_ints, logical_ints, logicals_ints, comparable_ints, path_ints, call_ints, arguments_ints, argument_ints}
 use Rattle.jp_query.specs.Reading.Scalars.{Item, many, skip_blanks, call_start, after}
 use Rattle.jp_query.specs.Reading.Literals.{operator_at, origin_at, begins_without_literal}

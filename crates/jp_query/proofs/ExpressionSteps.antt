@@ -4,7 +4,7 @@ use Rattle.std.proofs.lemmas.Bool.{eqb-true, or_left, or_right, or_cases}
 use Rattle.jp_model.specs.Characters.{is_lower}
 use Rattle.jp_model.specs.Query.Spelling.{Blanks, IsLiteral, IsOp, equal_op, not_equal_op, less_equal_op, greater_equal_op, less_op, greater_op, IsOrigin, at_mark, dollar_mark, SingularSegments, Negation, no_negation, negation, or_of, and_of, negated_if, is_alone}
 use Rattle.jp_model.specs.Query.Syntax.{CompareOp, Origin, Literal, Segments, Logical, negated, compare, exists, test, Comparable, constant, single, result, Argument, constant_argument, no_arguments, path, Call, call}
-use Rattle.jp_query.specs.View.{logicals_of, arguments_of}
+use Rattle.jp_syntax.specs.View.{logicals_of, arguments_of}
 use Rattle.jp_query.specs.Integers.{map_ints}
 use Rattle.jp_query.specs.Reading.Scalars.{Reader, skip_blanks, many, call_start}
 use Rattle.jp_query.specs.Reading.Numbers.{is_int_first}

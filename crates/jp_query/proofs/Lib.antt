@@ -13,11 +13,10 @@ pub mod Complete
 pub mod IntegerChanges
 pub mod Statuses
 pub mod SoundNumbers
-pub mod SingularWalk
-pub mod SameSteps
 -- Lemmas of the parser.
 mod Digits
 mod Exponents
+mod Faults
 mod Loop
 mod OneFilter
 mod Outcomes

@@ -5,16 +5,17 @@ use Rattle.jp_model.specs.Query.Limits.{Tests, is_oversized, has_exact_integers,
 use Rattle.jp_model.specs.Query.Status.{TextSpells}
 use Rattle.jp_model.specs.Query.Syntax as syntax
 use Rattle.jp_query.specs.ConditionOutcome.{MeantInFilter}
-use Rattle.jp_query.specs.Conditions.{GivesCondition, IsFirstConditionFault, condition_view}
-use Rattle.jp_query.specs.Filters.{SpellsCondition, filter_by, in_filter}
+use Rattle.jp_query.specs.Conditions.{GivesCondition, IsFirstConditionFault}
+use Rattle.jp_syntax.specs.Queries.{condition_view}
+use Rattle.jp_syntax.specs.Filters.{SpellsCondition, filter_by, in_filter}
 use Rattle.jp_query.specs.Integers.{clamp, logical_ints, map_ints}
 use Rattle.jp_query.specs.Status.{read_text}
-use Rattle.jp_query.specs.View.{segments_view, selectors_view}
-use Rattle.jp_query.specs.declared.condition.Condition.{Condition}
+use Rattle.jp_syntax.specs.View.{segments_view, selectors_view}
+use Rattle.jp_syntax.specs.declared.condition.Condition.{Condition}
 use Rattle.jp_query.specs.declared.fault.ParseFault.{ParseFault}
 use Rattle.jp_query.specs.declared.fault.ParseFault.TheVariants as parse_faults
-use Rattle.jp_query.specs.declared.tree.Segment.{Segment}
-use Rattle.jp_query.specs.declared.tree.Selector.{Selector}
+use Rattle.jp_syntax.specs.declared.tree.Segment.{Segment}
+use Rattle.jp_syntax.specs.declared.tree.Selector.{Selector}
 use Rattle.jp_query.proofs.IntegerChanges.{clamp_keeps, clamp_tells}
 use Rattle.jp_query.proofs.Outcomes.{exact_spells, not_exact, not_small}
 use Rattle.jp_query.proofs.Statuses.{text_complete, text_sound}

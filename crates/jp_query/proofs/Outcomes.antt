@@ -9,13 +9,13 @@ use Rattle.jp_model.specs.Query.Syntax.{Segments}
 use Rattle.jp_query.specs.Integers.{clamp, map_ints}
 use Rattle.jp_query.specs.Answers.{GivesQuery, IsFirstFault, TellsStatus}
 use Rattle.jp_query.specs.Outcome.{Passes, FaultMet, Meant}
-use Rattle.jp_query.specs.Queries.{query_view}
+use Rattle.jp_syntax.specs.Queries.{query_view}
 use Rattle.jp_query.specs.Reading.Queries.{query_at}
 use Rattle.jp_query.specs.Status.{read_text, query_of, status_by}
-use Rattle.jp_query.specs.WellFormed.{IsWellFormed}
+use Rattle.jp_syntax.specs.WellFormed.{IsWellFormed}
 use Rattle.jp_query.specs.declared.fault.ParseFault.{ParseFault}
 use Rattle.jp_query.specs.declared.fault.ParseFault.TheVariants as parse_faults
-use Rattle.jp_query.specs.declared.query.Query.{Query}
+use Rattle.jp_syntax.specs.declared.query.Query.{Query}
 use Rattle.jp_query.proofs.IntegerChanges.{clamp_keeps, clamp_tells, map_itself}
 use Rattle.jp_query.proofs.Statuses.{text_complete, text_sound, one_status}
 

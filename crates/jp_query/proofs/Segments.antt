@@ -4,7 +4,7 @@ use Rattle.jp_model.specs.Query.Syntax.{Segment}
 use Rattle.jp_query.specs.Parsing.{Fails}
 use Rattle.jp_query.specs.Reading.Queries.{Expression, next_segment, segments_at}
 use Rattle.jp_query.specs.Reading.Scalars.{Reader, all_of}
-use Rattle.jp_query.specs.View.{segments_of}
+use Rattle.jp_syntax.specs.View.{segments_of}
 use Rattle.jp_query.specs.declared.parser.failure.Failure.{Failure}
 use Rattle.jp_query.specs.declared.parser.failure.Failure.TheVariants as failures
 

@@ -12,8 +12,8 @@ use Rattle.jp_model.specs.Query.Limits.{is_oversized, Tests, literal_small, segm
 use Rattle.jp_model.specs.Query.Spelling.{Front, Blanks, IsLiteral, number_spelled, string_spelled, true_spelled, false_spelled, null_spelled, bracketed_name, pointed_name, bracketed_index, SingularSegments, singular_end, singular_goes_on, IsSegments, segments_end, segments_go_on, IsSegment, child_brackets, child_wildcard, child_name, descendant_brackets, descendant_wildcard, descendant_name, IsBrackets, brackets, IsMoreSelectors, selectors_end, selectors_go_on, IsSelector, quoted_name, wildcard_mark, index_int, slice_parts, filter_mark, IsLogical, some_and, IsMoreOr, or_ends, or_goes_on, IsAnd, some_basic, IsMoreAnd, and_ends, and_goes_on, IsBasic, parens, comparison, query_test, call_test, IsQuery, filter_query, IsComparable, literal_side, singular_side, call_side, IsCall, call_without, call_with, IsMoreArguments, arguments_end, arguments_go_on, IsArgument, literal_argument, query_argument, call_argument, logical_argument, SpellsQuery, query, or_of, and_of, negated_if}
 use Rattle.jp_model.specs.Query.Syntax.{Literal, Segment, Segments, Selector, Selectors, Logical, exists, test, Logicals, no_logicals, logical, Comparable, Argument, Arguments, Path, Call}
 use Rattle.jp_model.proofs.Reader.Numbers.{parts_read}
-use Rattle.jp_query.specs.Sound.{is_sound, has_sound_literals}
-use Rattle.jp_query.specs.WellFormed.{IsWellFormed}
+use Rattle.jp_syntax.specs.Sound.{is_sound, has_sound_literals}
+use Rattle.jp_syntax.specs.WellFormed.{IsWellFormed}
 use Rattle.jp_query.proofs.Shrinks.{blanks_shrink, function_shrinks, op_shrinks, origin_shrinks, negation_shrinks, segment_shrinks, selector_shrinks, and_shrinks, basic_shrinks, comparable_shrinks, argument_shrinks}
 
 digits_pass : (ds : List ℕ) → AreDigits ds → list_all is_digit ds ≡ true

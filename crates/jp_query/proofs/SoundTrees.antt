@@ -5,7 +5,7 @@ use Rattle.jp_model.specs.Query.Spelling as s
 use Rattle.jp_model.specs.Query.Spelling.{Blanks, Int, Bound, StepPart, SingularSegment, SingularSegments, Negation, no_negation, negation, IsOrigin, IsSegments, IsSegment, IsBrackets, IsMoreSelectors, IsSelector, IsLogical, some_and, IsMoreOr, or_ends, or_goes_on, IsAnd, some_basic, IsMoreAnd, and_ends, and_goes_on, IsBasic, parens, comparison, query_test, call_test, IsQuery, IsComparable, IsCall, IsMoreArguments, IsArgument, SpellsQuery, or_of, and_of, negated_if, is_alone}
 use Rattle.jp_model.specs.Query.Syntax as syntax
 use Rattle.jp_model.specs.Query.Syntax.{CompareOp, Origin, Segment, child_segment, descendant_segment, Segments, Selector, name_selector, wildcard_selector, index_selector, slice_selector, filter_selector, Selectors, selector, Logical, exists, compare, test, Logicals, Comparable, constant, single, result, Argument, constant_argument, nodes_argument, condition, result_argument, argument, Path, path, Call, call}
-use Rattle.jp_query.specs.View.{segments_of, selectors_of, logicals_of, arguments_of}
+use Rattle.jp_syntax.specs.View.{segments_of, selectors_of, logicals_of, arguments_of}
 use Rattle.jp_query.specs.Integers.{bound_ints, map_ints, segment_ints, selectors_ints, selector_ints, logical_ints, logicals_ints, comparable_ints, call_ints, arguments_ints, argument_ints}
 use Rattle.jp_query.specs.Reading.Scalars.{Reader, choose, after, after_blanks, skip_blanks, begins, many, shorthand, call_start}
 use Rattle.jp_query.specs.Reading.Numbers.{int_at, is_int_first}

@@ -4,7 +4,7 @@ use Rattle.std.proofs.lemmas.Bool.{eqb-true, or_left, or_cases}
 use Rattle.jp_model.specs.Characters.{is_digit}
 use Rattle.jp_model.specs.Query.Spelling.{Blanks, Shorthand, Int, Bound, no_bound, bound, StepPart, no_step_part, colon_alone, step_part, StringLiteral, double_quoted, single_quoted, SingularSegment, bracketed_name, pointed_name, bracketed_index, SingularSegments, singular_end, singular_goes_on, is_name_first, is_name_scalar}
 use Rattle.jp_model.specs.Query.Syntax.{Segment, child_segment, descendant_segment, Segments, segment, Selector, name_selector, wildcard_selector, index_selector, slice_selector, filter_selector, no_selectors, selector}
-use Rattle.jp_query.specs.View.{segments_of, selectors_of}
+use Rattle.jp_syntax.specs.View.{segments_of, selectors_of}
 use Rattle.jp_query.specs.Integers.{bound_ints, map_ints, segment_ints}
 use Rattle.jp_query.specs.Reading.Scalars.{Read, Reader, after, skip_blanks, begins, many, many_after}
 use Rattle.jp_query.specs.Reading.Numbers.{is_int_first}

@@ -4,11 +4,11 @@ use Rattle.jp_model.specs.declared.QueryFault.{QueryFault}
 use Rattle.jp_model.specs.declared.QueryFault.TheVariants as faults
 use Rattle.jp_model.specs.Query.Status.{refused_query, fault_of_query, RefusesQuery}
 use Rattle.jp_model.specs.Query.Syntax.{Segments}
-use Rattle.jp_query.specs.Queries.{query_view}
+use Rattle.jp_syntax.specs.Queries.{query_view}
 use Rattle.jp_query.specs.Status.{status_by, query_of}
 use Rattle.jp_query.specs.declared.fault.ParseFault.{ParseFault}
 use Rattle.jp_query.specs.declared.fault.ParseFault.TheVariants as parse_faults
-use Rattle.jp_query.specs.declared.query.Query.{Query}
+use Rattle.jp_syntax.specs.declared.query.Query.{Query}
 
 -- a fault that comes before those of functions and types
 abbrev pub is_early : QueryFault → Bool

@@ -4,12 +4,12 @@ use Rattle.jp_model.specs.declared.QueryFault.{QueryFault}
 use Rattle.jp_model.specs.declared.QueryFault.TheVariants as faults
 use Rattle.jp_model.specs.Query.Limits.{is_oversized, has_exact_integers, has_small_exponents}
 use Rattle.jp_model.specs.Query.Syntax.{Logical}
-use Rattle.jp_query.specs.Conditions.{condition_view}
-use Rattle.jp_query.specs.Filters.{filter_by}
+use Rattle.jp_syntax.specs.Queries.{condition_view}
+use Rattle.jp_syntax.specs.Filters.{filter_by}
 use Rattle.jp_query.specs.Integers.{clamp}
 use Rattle.jp_query.specs.Outcome.{IsRead, Passes}
 use Rattle.jp_query.specs.Status.{read_text}
-use Rattle.jp_query.specs.declared.condition.Condition.{Condition}
+use Rattle.jp_syntax.specs.declared.condition.Condition.{Condition}
 use Rattle.jp_query.specs.declared.fault.ParseFault.{ParseFault}
 use Rattle.jp_query.specs.declared.fault.ParseFault.TheVariants as parse_faults
 

@@ -6,15 +6,11 @@ use Rattle.jp_model.specs.Query.Limits.{is_oversized}
 use Rattle.jp_model.specs.Query.Status.{fault_of_query}
 use Rattle.jp_model.specs.Query.Syntax.{Logical}
 use Rattle.jp_query.specs.Answers.{is_early}
-use Rattle.jp_query.specs.Filters.{SpellsCondition, filter_by, in_filter}
-use Rattle.jp_query.specs.View.{logical_view}
-use Rattle.jp_query.specs.declared.condition.Condition.{Condition}
+use Rattle.jp_syntax.specs.Filters.{SpellsCondition, filter_by, in_filter}
+use Rattle.jp_syntax.specs.Queries.{condition_view}
+use Rattle.jp_syntax.specs.declared.condition.Condition.{Condition}
 use Rattle.jp_query.specs.declared.fault.ParseFault.{ParseFault}
 use Rattle.jp_query.specs.declared.fault.ParseFault.TheVariants as parse_faults
-
--- the expression
-abbrev pub condition_view : Condition → Logical
-condition_view c = logical_view c.expression
 
 -- the text spells an expression whose first fault is this
 abbrev pub ConditionHasFault : List ℕ → Option QueryFault → Type 0

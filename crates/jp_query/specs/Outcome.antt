@@ -5,11 +5,11 @@ use Rattle.jp_model.specs.declared.QueryFault.TheVariants as faults
 use Rattle.jp_model.specs.Query.Limits.{is_oversized, has_exact_integers, has_small_exponents}
 use Rattle.jp_model.specs.Query.Syntax.{Segments}
 use Rattle.jp_query.specs.Integers.{clamp}
-use Rattle.jp_query.specs.Queries.{query_view}
+use Rattle.jp_syntax.specs.Queries.{query_view}
 use Rattle.jp_query.specs.Status.{read_text}
 use Rattle.jp_query.specs.declared.fault.ParseFault.{ParseFault}
 use Rattle.jp_query.specs.declared.fault.ParseFault.TheVariants as parse_faults
-use Rattle.jp_query.specs.declared.query.Query.{Query}
+use Rattle.jp_syntax.specs.declared.query.Query.{Query}
 
 -- a tree is read from a text that is not too large
 abbrev pub IsRead : List ℕ → Segments → Type 0

@@ -8,7 +8,7 @@ use Rattle.jp_query.specs.Reading.Scalars.{Reader, ◌>>=◌, choose, after, beg
 use Rattle.jp_query.specs.Reading.Numbers.{is_int_first, is_positive_digit}
 use Rattle.jp_query.specs.Reading.Strings.{string_at}
 use Rattle.jp_query.specs.Reading.Queries.{Expression, slice_behind, index_or_slice}
-use Rattle.jp_query.specs.View.{logical_view}
+use Rattle.jp_syntax.specs.View.{logical_view}
 use Rattle.jp_query.specs.declared.parser.failure.Failure.{Failure}
 use Rattle.jp_query.specs.declared.parser.failure.Failure.TheVariants as failures
 use Rattle.jp_query.specs.declared.parser.class.Class.{Class}

@@ -6,9 +6,9 @@ ghost use Rattle.jp_model.specs.Query.Spelling.{SpellsQuery};
 ghost use Rattle.jp_model.specs.Query.Status.{QueryStatus, TextSpells, HasQueryStatus};
 ghost use Rattle.jp_model.specs.Query.Syntax.{Segments};
 ghost use Rattle.jp_query.specs.Integers.{clamp, map_ints};
-ghost use Rattle.jp_query.specs.Sound.{has_sound_literals};
+ghost use Rattle.jp_syntax.specs.Sound.{has_sound_literals};
 ghost use Rattle.jp_query.specs.Status.{query_of, read_text};
-ghost use Rattle.jp_query.specs.WellFormed.{IsWellFormed};
+ghost use Rattle.jp_syntax.specs.WellFormed.{IsWellFormed};
 
 /// The scalars of a query spell one syntax tree alone (RFC 9535, section 2.1.1).
 pub fn one_tree()

@@ -4,10 +4,10 @@ ghost use Rattle.std.specs.Prelude.{◌≡◌, ◌==◌, ◌≤◌, nat_lt, leng
 ghost use Rattle.jp_model.specs.Json.Numbers.{head_of, leading_digits, leading_sign, behind_sign, leading_fraction, leading_exponent, minus_bytes, fraction_bytes, without_leading_zeros, exponent_digits, numeral_of, is_long_exponent};
 ghost use Rattle.jp_model.specs.Query.Limits.{bound_passes, segments_pass, segment_passes, selector_passes, logical_passes, comparable_passes, path_passes, call_passes, argument_passes};
 ghost use Rattle.jp_query.specs.Limits.{limit_tests};
-ghost use Rattle.jp_query.specs.View.{literal_view, segments_view, segment_view, selector_view, logical_view, comparable_view, path_view, call_view, argument_view};
+ghost use Rattle.jp_syntax.specs.View.{literal_view, segments_view, segment_view, selector_view, logical_view, comparable_view, path_view, call_view, argument_view};
 
 use crate::limit::Limit;
-use crate::tree::{Argument, Call, Comparable, Literal, Logical, Path, Segment, Selector};
+use jp_syntax::{Argument, Call, Comparable, Literal, Logical, Path, Segment, Selector};
 
 /// The greatest exact integer (RFC 7493, section 2.2).
 const MAX_EXACT: i64 = 9_007_199_254_740_991;

@@ -24,21 +24,20 @@ ghost use Rattle.jp_model.specs.Query.Syntax.{Segments};
 ghost use Rattle.jp_query.specs.Answers.{GivesQuery, IsFirstFault, TellsStatus};
 ghost use Rattle.jp_query.specs.Integers.{clamp};
 ghost use Rattle.jp_query.specs.Parsing.{Gives};
-ghost use Rattle.jp_query.specs.Queries.{query_view};
+ghost use Rattle.jp_syntax.specs.Queries.{query_view};
 ghost use Rattle.jp_query.specs.Reading.Queries.{query_at};
 ghost use Rattle.jp_query.specs.Outcome.{IsRead, Meant};
 ghost use Rattle.jp_query.specs.Status.{read_text};
-ghost use Rattle.jp_query.specs.View.{segments_view};
+ghost use Rattle.jp_syntax.specs.View.{segments_view};
 
 use crate::expected::Expected;
 use crate::fault::ParseFault;
 use crate::limit::Limit;
 use crate::limits::segments_pass;
-use crate::query::Query;
-use crate::tree::Segment;
 pub use conditions::parse_condition;
 use failure::{Failure, Stop};
 use jp_model::QueryFault;
+use jp_syntax::{Query, Segment};
 pub use places::{
     FaultPlace, character_at, place_of_condition_fault, place_of_fault, place_of_function,
 };

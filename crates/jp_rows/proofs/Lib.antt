@@ -1,5 +1,4 @@
-mod Transfers
-pub mod Chains
+-- Lemmas of rows.
 mod Printed
 mod Turns
 mod Plain

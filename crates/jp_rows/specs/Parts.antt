@@ -2,7 +2,7 @@
 use Rattle.std.specs.Prelude.{ℕ, List, chars, encode_utf8_all}
 use Rattle.jp_model.specs.Meaning.Paths.{path_text, quoted, step_text}
 use Rattle.jp_model.specs.Steps.{index_step, name_step}
-use Rattle.jp_query.specs.SingularPaths.{path_steps}
+use Rattle.jp_syntax.specs.SingularPaths.{path_steps}
 use Rattle.jp_rows.specs.declared.singular.QueryPart.{QueryPart}
 use Rattle.jp_rows.specs.declared.singular.QueryPart.TheVariants as parts
 

@@ -2,19 +2,19 @@
 
 ghost use Rattle.std.specs.Prelude.{◌≡◌, ◌++◌, false, is_err, chars, encode_utf8_all};
 ghost use Rattle.std.specs.List.{list_all};
-ghost use Rattle.jp_model.specs.Devices.{Writes};
+ghost use Rattle.jp_devices.specs.Devices.{Writes};
 ghost use Rattle.jp_model.specs.Steps.{name_step, index_step};
 ghost use Rattle.jp_model.specs.Meaning.Nodes.{step_to};
 ghost use Rattle.jp_model.specs.Meaning.Paths.{name_scalar, step_text};
 ghost use Rattle.jp_strings.specs.Points.{IsText, points_of};
-ghost use Rattle.jp_tape.specs.Cursors.{name_of, index_of};
+ghost use Rattle.jp_nodes.specs.Cursors.{name_of, index_of};
 ghost use Rattle.jp_rows.specs.Names.{IsOfText, name_text, scalars_of, stands_unescaped as byte_stands_unescaped};
 
-use crate::whole::{WriteFault, write_whole};
 use itoa::Buffer;
+use jp_devices::{WriteFault, write_whole};
 use jp_model::Watched;
+use jp_nodes::Cursor;
 use jp_strings::{Scalars, control_escape};
-use jp_tape::Cursor;
 use std::io::Write;
 
 /// A name or a string: by its scalars, or by its body in a JSON text.

@@ -1,18 +1,18 @@
 //! Rows, and the numbers in them.
 
 ghost use Rattle.std.specs.Prelude.{◌≡◌, ◌++◌, false, is_err, decimal};
-ghost use Rattle.jp_model.specs.Devices.{Writes};
+ghost use Rattle.jp_devices.specs.Devices.{Writes};
 ghost use Rattle.jp_model.specs.Meaning.Paths.{path_text};
 ghost use Rattle.jp_model.specs.Rows.{row_start as row_start_of, tab, node_text, refusal_text};
-ghost use Rattle.jp_tape.specs.Cursors.{line_of, node_of};
+ghost use Rattle.jp_nodes.specs.Cursors.{line_of, node_of};
 ghost use Rattle.jp_model.specs.Script.Machine.{count_line};
 
 use crate::path::write_path;
 use crate::short::RowEnd;
-use crate::whole::{WriteFault, write_whole};
 use itoa::Buffer;
+use jp_devices::{WriteFault, write_whole};
 use jp_model::{Framing, LineFault, Watched};
-use jp_tape::Cursor;
+use jp_nodes::Cursor;
 use std::io::Write;
 
 /// What a row begins with (RFC 7464, section 2.2).

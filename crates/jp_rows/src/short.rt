@@ -9,12 +9,12 @@ ghost use Rattle.jp_model.specs.Meaning.Nodes.{step_to};
 ghost use Rattle.jp_model.specs.Meaning.Paths.{step_text, path_text};
 ghost use Rattle.jp_model.specs.Rows.{row_start as row_start_of, tab, node_text};
 ghost use Rattle.jp_strings.specs.Points.{IsText, points_of};
-ghost use Rattle.jp_tape.specs.Cursors.{line_of, name_of, index_of, node_of};
+ghost use Rattle.jp_nodes.specs.Cursors.{line_of, name_of, index_of, node_of};
 
 use crate::names::needs_no_escape;
 use crate::rows::row_start;
 use jp_model::{Framing, Span};
-use jp_tape::Cursor;
+use jp_nodes::Cursor;
 use std::marker::Model;
 
 /// The most bytes of a short row.

@@ -1,16 +1,16 @@
 //! Parts of a singular query's text: written, and appended to a text.
 
 ghost use Rattle.std.specs.Prelude.{◌≡◌, ◌++◌, chars, false, is_err, encode_utf8_all, take, IsOk, IsErr, OnOk, OnErr};
-ghost use Rattle.jp_model.specs.Devices.{Writes};
+ghost use Rattle.jp_devices.specs.Devices.{Writes};
 ghost use Rattle.jp_model.specs.Meaning.Paths.{path_text, quoted, step_text};
 ghost use Rattle.jp_model.specs.Steps.{index_step, name_step};
-ghost use Rattle.jp_query.specs.SingularPaths.{path_steps, step_view};
+ghost use Rattle.jp_syntax.specs.SingularPaths.{path_steps, step_view};
 ghost use Rattle.jp_rows.specs.Parts.{part_text};
 
 use crate::names::{Name, write_between, write_index_step};
-use crate::whole::{WriteFault, write_whole};
+use jp_devices::{WriteFault, write_whole};
 use jp_model::Watched;
-use jp_query::{SingularPath, Step};
+use jp_syntax::{SingularPath, Step};
 use std::alloc::AllocError;
 use std::io::Write;
 use std::mem;
@@ -78,7 +78,11 @@ pub fn write_steps<W: Write>(path: &SingularPath, out: &mut Watched<W>) -> Resul
 }
 
 /// Removes what was written after the first bytes of a text, where not all could be written.
-fn settle(held: usize, written: Result<(), WriteFault>, out: &mut Vec<u8>) -> Result<(), AllocError>
+pub(crate) fn settle(
+    held: usize,
+    written: Result<(), WriteFault>,
+    out: &mut Vec<u8>,
+) -> Result<(), AllocError>
     ensures ok { OnOk result (IsOk written × (out.new.items ≡ out.old.items)) }
     ensures err { OnErr result (IsErr written × (out.new.items ≡ take held out.old.items)) }
 {

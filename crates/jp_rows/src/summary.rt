@@ -1,11 +1,11 @@
 //! Lines that end with numbers: what a change answers, and what sums up a collection.
 
 ghost use Rattle.std.specs.Prelude.{◌≡◌, ◌++◌, false, is_err, decimal, codes};
-ghost use Rattle.jp_model.specs.Devices.{Writes};
+ghost use Rattle.jp_devices.specs.Devices.{Writes};
 ghost use Rattle.jp_model.specs.Script.Machine.{said};
 
-use crate::whole::{WriteFault, write_whole};
 use itoa::Buffer;
+use jp_devices::{WriteFault, write_whole};
 use jp_model::Watched;
 use std::io::Write;
 

@@ -8,8 +8,8 @@ use Rattle.jp_model.specs.Json.Reader.{status_of}
 use Rattle.jp_model.specs.Steps.{Step}
 use Rattle.jp_model.specs.Script.Machine.{statuses}
 use Rattle.jp_index.specs.Entries.{entries_of, entry_in, status_entry}
-use Rattle.jp_store.specs.Stored.{stored_text}
-use Rattle.jp_store.specs.declared.line.Line.{Line}
+use Rattle.jp_lines.specs.Stored.{stored_text}
+use Rattle.jp_lines.specs.declared.line.Line.{Line}
 use Rattle.jp_store.proofs.Renewed.{from-append}
 
 module _ (p : List Step) (f : Framing) (bytes : List ℕ) (lines : List Line) (i : ℕ) (line : Line) (within : i < length lines) (is : line ≡ get_or lines i line) where

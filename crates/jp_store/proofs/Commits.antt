@@ -15,9 +15,10 @@ use Rattle.jp_store.specs.Edits.{AreEdited, AreSame}
 use Rattle.jp_model.specs.Numbered.{numbers_where}
 use Rattle.jp_index.specs.Numbered.{with_number}
 use Rattle.jp_index.specs.LineSetViews.{numbers_of}
-use Rattle.jp_store.specs.Stored.{told_of, AreCounted, IsKept, IsOver, IsRead, is_fault_status, is_tree_status, told_tree, path_of, stored_text}
+use Rattle.jp_store.specs.Stored.{AreCounted, IsKept, IsOver, path_of}
+use Rattle.jp_lines.specs.Stored.{told_of, IsRead, is_fault_status, is_tree_status, told_tree, stored_text}
 use Rattle.jp_store.specs.declared.counts.Counts.{Counts}
-use Rattle.jp_store.specs.declared.line.Line.{Line}
+use Rattle.jp_lines.specs.declared.line.Line.{Line}
 use Rattle.jp_store.proofs.Edited.{edited_over, edited_paths, held_more, same_over, same_paths}
 use Rattle.jp_store.proofs.Kept.{entry_is, told_is_fault, told_is_tree}
 use Rattle.jp_index.proofs.Numbered.{lines_more, lines_set}

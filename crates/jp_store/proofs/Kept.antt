@@ -9,11 +9,11 @@ use Rattle.jp_model.specs.Plans.{is_tree}
 use Rattle.jp_model.specs.Steps.{Step}
 use Rattle.jp_index.specs.Entries.{entry_in, status_entry}
 use Rattle.jp_model.specs.Script.Machine.{text_or_nothing, is_refused_status}
-use Rattle.jp_store.specs.Stored.{IsRead, IsTold, stored_text, told_of, is_tree_status, is_fault_status, told_tree}
-use Rattle.jp_store.specs.Views.{status_kind}
-use Rattle.jp_store.specs.declared.Status.{Status}
-use Rattle.jp_store.specs.declared.Status.TheVariants as told
-use Rattle.jp_store.specs.declared.line.Line.{Line}
+use Rattle.jp_lines.specs.Stored.{IsRead, IsTold, stored_text, told_of, is_tree_status, is_fault_status, told_tree}
+use Rattle.jp_lines.specs.Views.{status_kind}
+use Rattle.jp_lines.specs.declared.Status.{Status}
+use Rattle.jp_lines.specs.declared.Status.TheVariants as told
+use Rattle.jp_lines.specs.declared.line.Line.{Line}
 
 -- what is told of a line is its status
 pub is_told : (f : Framing) (status : Status) (text : List ℕ) → IsTold f status text → status ≡ status_kind (status_of f text)

@@ -8,8 +8,5 @@ pub mod Counted
 pub mod Edited
 pub mod Commits
 pub mod Replaced
-pub mod Parts
-pub mod LinesRead
-pub mod Sizes
 pub mod Measured
 pub mod Loaded

@@ -7,10 +7,11 @@ use Rattle.jp_model.specs.declared.Framing.{Framing}
 use Rattle.jp_model.specs.Json.Reader.{status_of}
 use Rattle.jp_model.specs.Plans.{is_tree}
 use Rattle.jp_model.specs.Script.Machine.{bytes_held, statuses, is_refused_status}
-use Rattle.jp_store.specs.declared.line.Line.{Line}
+use Rattle.jp_lines.specs.declared.line.Line.{Line}
 use Rattle.jp_store.specs.declared.counts.Counts.{Counts}
 use Rattle.jp_model.specs.Numbered.{numbers_where}
-use Rattle.jp_store.specs.Stored.{told_of, AreCounted, IsRead, stored_text, is_tree_status, is_fault_status}
+use Rattle.jp_store.specs.Stored.{AreCounted}
+use Rattle.jp_lines.specs.Stored.{told_of, IsRead, stored_text, is_tree_status, is_fault_status}
 use Rattle.jp_index.specs.Numbered.{with_number}
 use Rattle.jp_store.proofs.Kept.{told_is_fault, told_is_tree}
 use Rattle.jp_index.proofs.Numbered.{lines_more}

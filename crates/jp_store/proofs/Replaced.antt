@@ -12,11 +12,12 @@ use Rattle.jp_index.specs.declared.index.ValueIndex.{ValueIndex}
 use Rattle.jp_store.specs.Collections.{Collection, replaced}
 use Rattle.jp_store.specs.Edits.{RefusesText}
 use Rattle.jp_store.specs.Faults.{RefusesEdit, edit_fault, has_separator, replace_fault}
-use Rattle.jp_store.specs.Stored.{IsKept, stored_text}
+use Rattle.jp_store.specs.Stored.{IsKept}
+use Rattle.jp_lines.specs.Stored.{stored_text}
 use Rattle.jp_store.specs.declared.EditFault.{EditFault}
 use Rattle.jp_store.specs.declared.EditFault.TheVariants as edits
 use Rattle.jp_store.specs.declared.counts.Counts.{Counts}
-use Rattle.jp_store.specs.declared.line.Line.{Line}
+use Rattle.jp_lines.specs.declared.line.Line.{Line}
 use Rattle.jp_store.proofs.Commits.{held_least}
 
 -- a collection of these lines

@@ -2,8 +2,6 @@
 pub mod Collections
 pub mod Faults
 pub mod Loads
-pub mod Views
 pub mod Stored
 pub mod Edits
 pub mod Collected
-pub mod Batches

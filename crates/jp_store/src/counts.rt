@@ -3,8 +3,8 @@
 ghost use Rattle.std.specs.Prelude.{◌≡◌, ◌+◌, ◌<◌, ◌≤◌, ◌^◌, OnOk, cond};
 ghost use Rattle.jp_index.specs.Numbered.{with_number};
 
-use crate::line::Line;
 use jp_index::LineSet;
+use jp_lines::Line;
 use std::alloc::AllocError;
 
 /// What is counted of all lines, so that an edit reads no line but its own.
@@ -20,7 +20,7 @@ pub(crate) struct Counts {
 
 impl Counts {
     ghost use Rattle.jp_index.specs.LineSetViews.{numbers_of, room_in};
-    ghost use Rattle.jp_store.specs.Stored.{told_of, is_fault_status, is_tree_status};
+    ghost use Rattle.jp_lines.specs.Stored.{told_of, is_fault_status, is_tree_status};
 
     /// Makes room for the lines up to one. The counts stay, also after an `Err`.
     pub(crate) fn reserve(&mut self, number: u32) -> Result<(), AllocError>

@@ -10,43 +10,21 @@
 //!   which adds one to the count
 //! - `add_index`, `IndexFault`, `drop_index`, `Missing`, `index_count`, `index`, `path_at`: the indexes and their paths, in the
 //!   order in which they were made
-//! - `BatchRoom::read`, `Batch`, `BatchLine`, `LineState`: the lines of a piece of a stream, each read, where no collection is
-//!   held
-//! - `separator`, `is_framed_text`: the byte that separates lines; what may stand before the first separator
 //! - `append`, `replace`, `EditFault`: a line added at the end, or put in the place of line n, in the text and in every index
 #![tactic(auto)]
 
-mod batch;
 mod collection;
 mod counts;
 mod edits;
-mod framing;
 mod indexes;
-mod line;
-mod loading;
 mod measuring;
-mod reading;
+mod opened;
 mod store;
-mod text;
-mod view;
 
-pub use batch::{Batch, BatchLine, BatchRoom, LineState};
-pub use framing::{is_framed_text, separator};
+pub use jp_lines::{LineView, Status};
 pub use jp_model::Framing;
-use jp_model::LineFault;
+pub use opened::Opened;
 pub use store::Store;
-pub use view::{LineView, Opened};
-
-/// What a line is.
-#[derive(Clone, Copy, Debug, PartialEq, Eq)]
-pub enum Status {
-    /// White space alone, or nothing.
-    Blank,
-    /// No text that is taken.
-    Refused(LineFault),
-    /// A text, which has a tree.
-    Tree,
-}
 
 /// Why a collection is not loaded.
 #[derive(Clone, Copy, Debug, PartialEq, Eq)]

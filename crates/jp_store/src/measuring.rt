@@ -3,12 +3,12 @@
 ghost use Rattle.std.specs.Prelude.{ℕ, List, ◌<◌, ◌^◌, All, map, length, IfOk};
 ghost use Rattle.jp_model.specs.declared.Framing.{Framing};
 ghost use Rattle.jp_model.specs.Script.Machine.{bytes_held};
-ghost use Rattle.jp_store.specs.Stored.{AreCounted, IsRead, stored_text};
+ghost use Rattle.jp_store.specs.Stored.{AreCounted};
+ghost use Rattle.jp_lines.specs.Stored.{IsRead, stored_text};
 
 use crate::counts::Counts;
-use crate::line::Line;
-use crate::text::text_of;
 use jp_index::LineSet;
+use jp_lines::{Line, text_of};
 use std::alloc::{AllocError, Global};
 
 /// What is counted of all lines, by one pass over them.

@@ -1,18 +1,18 @@
 //! The lines of a collection and the indexes over them.
 
 ghost use Rattle.std.specs.Prelude.{◌≡◌, ◌+◌, ◌<◌, ◌≤◌, ◌^◌, true, false, List, length, count_by, slice_get, Some, None, is_ok, IfOk, MatchOption, MatchResult};
-ghost use Rattle.jp_model.specs.Devices.{Came, GaveUpTo};
+ghost use Rattle.jp_devices.specs.Devices.{Came, GaveUpTo};
 ghost use Rattle.jp_model.specs.Json.Status.{parsed};
 ghost use Rattle.jp_model.specs.Lines.{is_framed};
 ghost use Rattle.jp_model.specs.Plans.{is_tree};
 ghost use Rattle.jp_model.specs.Script.Machine.{has_node, has_path, is_refused_status};
 ghost use Rattle.jp_model.specs.Steps.{Step};
-ghost use Rattle.jp_query.specs.SingularPaths.{path_steps};
+ghost use Rattle.jp_syntax.specs.SingularPaths.{path_steps};
 ghost use Rattle.jp_store.specs.Collections.{statuses_in, line_text, line_status, loaded, with_lines, with_index, without_index, appended, replaced, metered};
 ghost use Rattle.jp_model.specs.Numbered.{numbers_where};
 ghost use Rattle.jp_store.specs.Loads.{LoadStopped, is_read_fault};
 ghost use Rattle.jp_store.specs.Faults.{RefusesIndex, index_fault, RefusesEdit, append_fault, replace_fault};
-ghost use Rattle.jp_store.specs.Views.{status_kind, text_of_view, tree_of_view};
+ghost use Rattle.jp_lines.specs.Views.{status_kind, text_of_view, tree_of_view};
 ghost use Rattle.jp_index.specs.Entries.{entries_of};
 ghost use Rattle.jp_index.specs.Indexes.{IsIndexOf};
 ghost use Rattle.jp_index.specs.Numbered.{IsFirstBehind};
@@ -20,19 +20,15 @@ ghost use Rattle.jp_index.specs.Numbered.{IsFirstBehind};
 use crate::collection::{CollectionFault, read_collection};
 use crate::counts::Counts;
 use crate::edits::{root_of_line, test_edit};
-use crate::framing::is_framed_text;
 use crate::indexes::{build_index, edit_indexes, has_index, remove_index};
-use crate::line::Line;
-use crate::loading::read_lines;
 use crate::measuring::measure;
-use crate::reading::read_edited;
-use crate::text::{tape_of, text_of};
-use crate::view::{LineView, Opened};
+use crate::opened::Opened;
 use crate::{EditFault, IndexFault, LoadFault, Missing, Status};
 use jp_index::{ValueIndex, laws};
+use jp_lines::{Line, LineView, is_framed_text, read_edited, read_lines, tape_of, text_of};
 use jp_model::{Framing, Watched};
-use jp_query::SingularPath;
-use jp_tape::Cursor;
+use jp_nodes::Cursor;
+use jp_syntax::SingularPath;
 use std::alloc::{AllocError, Global};
 use std::io::Read;
 use std::marker::Model;
@@ -58,7 +54,8 @@ impl Model for Store {
 
     ghost Value = { Collection };
 
-    ghost use Rattle.jp_store.specs.Stored.{IsKept, stored_text, path_of};
+    ghost use Rattle.jp_store.specs.Stored.{IsKept, path_of};
+    ghost use Rattle.jp_lines.specs.Stored.{stored_text};
 
     ghost view = { λ s. record { framing = s.framing; most = s.most; state = record { lines = map (stored_text s.bytes.items) s.lines.items; paths = map path_of s.indexes.items }; is_metered = s.is_metered } };
 
@@ -204,10 +201,7 @@ impl Store {
         }
         opened.count += 1;
         let text = text_of(&self.bytes, line);
-        Some(LineView {
-            words: tape_of(&self.tapes, line, text),
-            line: text,
-        })
+        Some(LineView::new(tape_of(&self.tapes, line, text), text))
     }
 
     /// Makes an index of a path, the last one, and answers in how many lines the path has a node.

@@ -4,7 +4,7 @@ use Rattle.std.proofs.Math.Seq.{take-append_seam}
 use Rattle.jp_model.specs.Json.Tree.{Tree, node, Value, null, boolean, number, string, container, Children, no_child, child, Name, count_children, joined}
 use Rattle.jp_model.specs.Json.Faults.{depth, greatest_depth, name_has_lone_surrogate, has_surrogate, children_have_surrogate, has_long_exponent, children_have_long_exponent, name_points, names, has_duplicate, children_have_duplicate}
 use Rattle.jp_tape.specs.declared.builder.machine.Open.{Open}
-use Rattle.jp_tape.specs.Words.{node_count, value_node_count, children_node_count, label_word, words_from, words_below, children_words}
+use Rattle.jp_nodes.specs.Words.{node_count, value_node_count, children_node_count, label_word, words_from, words_below, children_words}
 use Rattle.jp_tape.specs.Machine.{Frame, open_count, open_words, open_names, opens, open_of, next_parent, next_index, no_container, open_depth, open_surrogate, open_long, open_duplicate}
 
 -- ---- tests

@@ -15,7 +15,8 @@ use Rattle.jp_tape.specs.declared.builder.machine.Turn.TheVariants as turns
 use Rattle.jp_tape.specs.declared.builder.tokens.Label.{Label}
 use Rattle.jp_tape.specs.Machine.{Labelled, first_fault, held}
 use Rattle.jp_tape.specs.Names.{spelled_name, spelled_names, IsKept, AreKept}
-use Rattle.jp_tape.specs.Reading.{body_of, body_word, FoundLabel}
+use Rattle.jp_tape.specs.Reading.{body_of, FoundLabel}
+use Rattle.jp_nodes.specs.Words.{body_word}
 use Rattle.jp_strings.specs.Plain.{ArePlain}
 use Rattle.jp_strings.specs.Points.{is_text_from, points_of}
 use Rattle.jp_tape.proofs.Bodies.{plain_between}

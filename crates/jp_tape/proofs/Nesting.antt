@@ -13,7 +13,8 @@ use Rattle.jp_tape.specs.declared.builder.machine.Turn.TheVariants as turns
 use Rattle.jp_tape.specs.declared.builder.tokens.Label.{Label}
 use Rattle.jp_tape.specs.declared.builder.tokens.Scalar.{Scalar}
 use Rattle.jp_tape.specs.Places.{Stops}
-use Rattle.jp_tape.specs.Reading.{container_if, FoundScalar, NoValue, FoundLabel, NoLabel}
+use Rattle.jp_tape.specs.Reading.{FoundScalar, NoValue, FoundLabel, NoLabel}
+use Rattle.jp_nodes.specs.Kinds.{container_if}
 use Rattle.jp_tape.specs.Machine.{Frame, State, Value_at, After_value, Finished, Completes, Alike, IsStuck, BuilderStands, WalkReached, flags_of, no_container, opens, open_of, open_depth, is_object}
 use Rattle.jp_tape.specs.declared.builder.nesting.Next.{Next}
 use Rattle.jp_tape.specs.declared.builder.nesting.Next.TheVariants as nexts

@@ -16,11 +16,12 @@ use Rattle.jp_model.proofs.Reader.Scans.{then_from, reads_whole}
 use Rattle.jp_model.proofs.Reader.Numbers.{number_whole}
 use Rattle.jp_model.proofs.Reader.Bodies.{body_whole}
 use Rattle.jp_model.proofs.Reader.Whole.{value_whole}
-use Rattle.jp_tape.specs.declared.Kind.TheVariants as kinds
+use Rattle.jp_nodes.specs.declared.Kind.TheVariants as kinds
 use Rattle.jp_tape.specs.declared.builder.tokens.Scalar.{Scalar}
 use Rattle.jp_tape.specs.Places.{Ended}
-use Rattle.jp_tape.specs.Reading.{code_of, FoundScalar, NoValue}
-use Rattle.jp_tape.specs.Words.{boolean_code}
+use Rattle.jp_tape.specs.Reading.{FoundScalar, NoValue}
+use Rattle.jp_nodes.specs.Kinds.{code_of}
+use Rattle.jp_nodes.specs.Words.{boolean_code}
 
 -- ---- what the first byte tells of a value
 

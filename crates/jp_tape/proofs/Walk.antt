@@ -19,11 +19,12 @@ use Rattle.jp_model.proofs.Reader.Leads.{starts_inside}
 use Rattle.jp_tape.specs.Names.{spelled_name, spelled_names, IsKept, AreKept}
 use Rattle.jp_tape.specs.declared.builder.kept.KeptName.{KeptName}
 use Rattle.jp_tape.specs.Places.{Stops}
-use Rattle.jp_tape.specs.Reading.{body_of, body_word, code_of, container_if, FoundScalar, NoValue, NoLabel, OnFault}
+use Rattle.jp_tape.specs.Reading.{body_of, FoundScalar, NoValue, NoLabel, OnFault}
+use Rattle.jp_nodes.specs.Words.{body_word, kind_code, nodes_below, label_word, children_words, children_node_count, head_word, span_word, container_code}
+use Rattle.jp_nodes.specs.Kinds.{code_of, container_if}
 use Rattle.jp_model.specs.declared.LineFault.TheVariants as line_faults
 use Rattle.jp_tape.specs.declared.builder.BuildFault.{BuildFault}
 use Rattle.jp_tape.specs.declared.builder.BuildFault.TheVariants as faults
-use Rattle.jp_tape.specs.Words.{kind_code, nodes_below, label_word, children_words, children_node_count, head_word, span_word, container_code}
 use Rattle.jp_tape.specs.Machine.{Frame, State, Value_at, After_value, Finished, Alike, IsStuck, Keeps, BuilderStands, GoesOn, BuilderSteps, NoBuilderStep, Labelled, IsCounted, IsClosed, IsInnermost, first_fault, held, no_container, next_parent, next_index, open_count, open_words, open_names, opens, open_of, open_depth, open_surrogate, open_long, open_duplicate, is_object}
 use Rattle.jp_tape.proofs.Steps.{scalar_step, no_value_step, empty_step, enter_step, enter_stuck, entered, comma_step, comma_stuck, close_step, neither_stuck, grown, end_step, no_end_stuck}
 use Rattle.jp_tape.proofs.Held.{or_false, or_swap, left_false, right_false, open_length, with_child, outer_names, next_label, next_words, grown_tail, grown_length, grown_few, joined_count, third, innermost_is, outer_is, outer_count, parent_place, child_index, flat_depth, root_depth, not_too_deep, grown_depth, closed_depth, grown_surrogate, grown_long, grown_duplicate, grown_names}

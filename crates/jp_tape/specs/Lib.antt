@@ -1,11 +1,4 @@
--- What the contracts of the tape speak of.
-pub mod Words
-pub mod Kinds
-pub mod Contents
-pub mod Spots
-pub mod Forms
-pub mod Tapes
-pub mod Cursors
+-- What the contracts of the builder speak of.
 pub mod Places
 pub mod Names
 pub mod Keys

@@ -10,9 +10,10 @@ use Rattle.jp_tape.specs.declared.builder.machine.Open.{Open}
 use Rattle.jp_tape.specs.declared.builder.machine.Builder.{Builder}
 use Rattle.jp_tape.specs.declared.builder.machine.Turn.{Turn}
 use Rattle.jp_tape.specs.declared.builder.machine.Turn.TheVariants as turns
-use Rattle.jp_tape.specs.Words.{children_node_count, label_word, words_from, children_words, tape_words, head_word, container_code, span_word}
+use Rattle.jp_nodes.specs.Words.{children_node_count, label_word, words_from, children_words, tape_words, head_word, container_code, span_word, body_word}
 use Rattle.jp_tape.specs.declared.builder.tokens.Label.{Label}
-use Rattle.jp_tape.specs.Reading.{body_word, container_if, FoundLabel}
+use Rattle.jp_tape.specs.Reading.{FoundLabel}
+use Rattle.jp_nodes.specs.Kinds.{container_if}
 use Rattle.jp_tape.specs.Names.{spelled_names, AreKept}
 
 -- a container that is open: where it begins, its own name, and its children so far

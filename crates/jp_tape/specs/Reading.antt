@@ -5,15 +5,14 @@ use Rattle.jp_model.specs.declared.LineFault.TheVariants as line_faults
 use Rattle.jp_model.specs.Json.Tree.{Tree, node, Value, Container, array, object, Name, span}
 use Rattle.jp_model.specs.Json.Faults.{value_depth, value_has_surrogate, value_has_long_exponent, value_has_duplicate, name_has_lone_surrogate}
 use Rattle.jp_model.specs.Json.Spelling.{Spells, SpellsValue, SpellsLabel}
-use Rattle.jp_tape.specs.declared.Kind.{Kind}
-use Rattle.jp_tape.specs.declared.Kind.TheVariants as kinds
 use Rattle.jp_tape.specs.declared.builder.BuildFault.{BuildFault}
 use Rattle.jp_tape.specs.declared.builder.BuildFault.TheVariants as faults
 use Rattle.jp_tape.specs.declared.builder.tokens.Scalar.{Scalar}
 use Rattle.jp_tape.specs.declared.builder.tokens.Label.{Label}
 use Rattle.jp_strings.specs.Plain.{ArePlain}
 use Rattle.jp_tape.specs.Places.{Ended, Stops, IsUnescaped}
-use Rattle.jp_tape.specs.Words.{kind_code, nodes_below, words_below, span_word}
+use Rattle.jp_nodes.specs.Kinds.{code_of}
+use Rattle.jp_nodes.specs.Words.{kind_code, nodes_below, words_below, span_word}
 
 -- a line that can be read: it is UTF-8, has at most 4,294,967,295 bytes, and no escape before this place
 pub record IsReadable (line : List ℕ) (escape : ℕ) : Type 0 where
@@ -21,30 +20,10 @@ pub record IsReadable (line : List ℕ) (escape : ℕ) : Type 0 where
   pub room : length line < 2 ^ 32
   pub unescaped : IsUnescaped line escape
 
--- the number of a kind
-abbrev pub code_of : Kind → ℕ
-code_of kinds.Null = 0
-code_of kinds.False = 1 * 2 ^ 32
-code_of kinds.True = 2 * 2 ^ 32
-code_of kinds.Number = 3 * 2 ^ 32
-code_of kinds.Text = 4 * 2 ^ 32
-code_of kinds.Array = 5 * 2 ^ 32
-code_of kinds.Object = 5 * 2 ^ 32 + 1
-
--- the array's or the object's
-abbrev pub container_if : Bool → Container
-container_if true = object
-container_if false = array
-
 -- where the body of a name stands
 abbrev pub body_of : Option Name → Option Span
 body_of None = None
 body_of (Some name) = Some name.body
-
--- the third word of a node
-abbrev pub body_word : ℕ → Option Span → ℕ
-body_word index None = index
-body_word index (Some body) = span_word body
 
 -- a value that is no container stands there, and no other one can
 pub record FoundScalar (line : List ℕ) (from : ℕ) (r : Scalar) : Type 0 where

@@ -2,14 +2,13 @@
 
 ghost use Rattle.std.specs.Prelude.{◌≡◌, ◌<◌, ◌↔◌, ◌^◌, ◌++◌, ℕ, List, false, length, IfOk, IfErr, OnOk, OnErr, IsTrue, IsUtf8};
 ghost use Rattle.jp_model.specs.Lines.{is_blank};
-ghost use Rattle.jp_model.specs.Json.Faults.{is_truncated as truncated};
 ghost use Rattle.jp_model.specs.Json.Marks.{marks as marks_of};
 ghost use Rattle.jp_model.specs.Json.Tree.{Tree};
 ghost use Rattle.jp_model.specs.Json.Spelling.{Text};
 ghost use Rattle.jp_model.specs.Json.Status.{HasStatus, parsed, fault_of_tree};
-ghost use Rattle.jp_tape.specs.Tapes.{spelled, IsTapeOf};
-ghost use Rattle.jp_tape.specs.Words.{tape_words};
-ghost use Rattle.jp_tape.specs.Forms.{compact_node, three_halves, in_one, in_two, nodes_by, packed, IsAmong};
+ghost use Rattle.jp_nodes.specs.Tapes.{spelled, IsTapeOf};
+ghost use Rattle.jp_nodes.specs.Words.{tape_words};
+ghost use Rattle.jp_nodes.specs.Forms.{IsAmong};
 ghost use Rattle.jp_tape.specs.Machine.{IsFinished};
 ghost use Rattle.jp_tape.specs.Refusals.{IsRefused};
 
@@ -21,18 +20,16 @@ mod keys;
 mod machine;
 mod names;
 mod nesting;
-mod node;
 mod numbers;
 mod scan;
 mod tokens;
 mod values;
 
-use crate::tape::{COMPACT, MEDIUM, Tape, half_bits};
-use crate::word::{Word, has_open_end, kind_of_head};
 use jp_model::{Framing, LineFault};
+use jp_nodes::{Tape, append_tape, is_truncated, tapes_are_of_lines};
 pub use machine::Builder;
 use machine::walk;
-use std::alloc::{AllocError, Global};
+use std::alloc::Global;
 
 /// Why a line has no tape.
 #[derive(Clone, Copy, Debug, PartialEq, Eq)]
@@ -41,22 +38,6 @@ pub enum BuildFault {
     Line(LineFault),
     /// Out of memory.
     Memory,
-}
-
-/// Whether a text of a sequence may have lost its end: it is a number, true, false or null, and no byte follows it.
-fn is_truncated(words: &[u64], line: &[u8], framing: Framing) -> bool
-    requires room { length line.now < 2 ^ 32 }
-    requires text { (t : Tree) × Text line.now t × (words.now ≡ tape_words t) }
-    ensures { (t : Tree) → Text line.now t → words.now ≡ tape_words t → result ≡ truncated framing line.now t }
-{
-    match framing {
-        Framing::Lines => false,
-        Framing::Sequence => {
-            let kind = kind_of_head(Word::split(words[0]));
-            let end = Word::split(words[1]).low;
-            has_open_end(kind) && end as usize == line.len()
-        }
-    }
 }
 
 /// The first fault of a line that was read.
@@ -72,84 +53,7 @@ fn fault_of(builder: &Builder, line: &[u8], framing: Framing) -> Option<LineFaul
     }
 }
 
-/// The three words of a node in one, where each half of them has at most 10 bits.
-#[inline(always)]
-#[tactic(auto, unfolding(crate::specs::Forms::compact_node))]
-fn compact(head: u64, span: u64, label: u64) -> u64
-    ensures { result ≡ compact_node head span label }
-{
-    head.wrapping_add(span.wrapping_mul(1 << 10))
-        .wrapping_add(label.wrapping_mul(1 << 20))
-}
-
-/// Three halves in a word, where each has at most 21 bits.
-#[inline(always)]
-#[tactic(auto, unfolding(crate::specs::Forms::three_halves))]
-fn join_halves(head: u64, span: u64, label: u64) -> u64
-    ensures { result ≡ three_halves head span label }
-{
-    head.wrapping_add(span.wrapping_mul(1 << 21))
-        .wrapping_add(label.wrapping_mul(1 << 42))
-}
-
-/// Appends the nodes of these words, three to a node, each in one word.
-fn append_compact(words: &[u64], tapes: &mut Vec<u64>) -> Result<(), AllocError>
-    ensures added { OnOk result (tapes.new.items ≡ tapes.old.items ++ nodes_by in_one words.now) }
-    ensures same { OnErr result (tapes.new.items ≡ tapes.old.items) }
-{
-    let count = words.len() / 3;
-    tapes.reserve(count)?;
-    for place in 0..count {
-        let node = compact(words[3 * place], words[3 * place + 1], words[3 * place + 2]);
-        tapes.push_reserved(node);
-    }
-    Ok(())
-}
-
-/// Appends the nodes of these words, three to a node, each in two words.
-fn append_medium(words: &[u64], tapes: &mut Vec<u64>) -> Result<(), AllocError>
-    ensures added { OnOk result (tapes.new.items ≡ tapes.old.items ++ nodes_by in_two words.now) }
-    ensures same { OnErr result (tapes.new.items ≡ tapes.old.items) }
-{
-    let count = words.len() / 3;
-    tapes.reserve(2 * count)?;
-    for place in 0..count {
-        let (head, span, label) = (words[3 * place], words[3 * place + 1], words[3 * place + 2]);
-        let highs = join_halves(head >> 32, span >> 32, label >> 32);
-        let lows = join_halves(head % (1 << 32), span % (1 << 32), label % (1 << 32));
-        tapes.push_reserved(highs);
-        tapes.push_reserved(lows);
-    }
-    Ok(())
-}
-
-/// Appends words as they are. The first of all are handed over with their memory.
-fn append_wide(words: &mut Vec<u64>, tapes: &mut Vec<u64>) -> Result<(), AllocError>
-    ensures added { OnOk result (tapes.new.items ≡ tapes.old.items ++ words.old.items) }
-    ensures same { OnErr result (tapes.new.items ≡ tapes.old.items) }
-{
-    if tapes.is_empty() {
-        std::mem::swap(words, tapes);
-        return Ok(());
-    }
-    tapes.extend_from_slice(words)
-}
-
 impl Builder {
-    /// Appends the words of the line that was read, with so many bits to a half.
-    fn append_words(&mut self, bits: u32, tapes: &mut Vec<u64>) -> Result<(), AllocError>
-        ensures added { OnOk result (tapes.new.items ≡ tapes.old.items ++ packed bits self.old.words.items) }
-        ensures same { OnErr result (tapes.new.items ≡ tapes.old.items) }
-    {
-        if bits == COMPACT {
-            append_compact(&self.words, tapes)
-        } else if bits == MEDIUM {
-            append_medium(&self.words, tapes)
-        } else {
-            append_wide(&mut self.words, tapes)
-        }
-    }
-
     /// Reads a line, or finds its first fault. The words are then those of the line's tape.
     fn read(
         &mut self,
@@ -170,6 +74,7 @@ impl Builder {
             return Err(BuildFault::Line(LineFault::Utf8));
         }
         walk(self, line, marks)?;
+        tapes_are_of_lines();
         match fault_of(self, line, framing) {
             Some(fault) => Err(BuildFault::Line(fault)),
             None => Ok(()),
@@ -201,9 +106,8 @@ impl Builder {
         ensures same { OnErr result (tapes.new.items ≡ tapes.old.items) }
     {
         self.read(line, marks, is_utf8, framing)?;
-        let nodes = (self.words.len() / 3) as u32;
-        match self.append_words(half_bits(line), tapes) {
-            Ok(()) => Ok(nodes),
+        match append_tape(&mut self.words, line, tapes) {
+            Ok(nodes) => Ok(nodes),
             Err(_) => Err(BuildFault::Memory),
         }
     }
@@ -235,10 +139,9 @@ pub fn build(
 {
     let mut builder = Builder::new(alloc);
     builder.read(line, marks, is_utf8, framing)?;
-    let bits = half_bits(line);
-    let mut words = Vec::new(alloc);
-    match builder.append_words(bits, &mut words) {
-        Ok(()) => Ok(Tape { words, bits }),
+    tapes_are_of_lines();
+    match Tape::of_words(alloc, &mut builder.words, line) {
+        Ok(tape) => Ok(tape),
         Err(_) => Err(BuildFault::Memory),
     }
 }

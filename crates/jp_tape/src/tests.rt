@@ -1,7 +1,7 @@
 //! Tapes and faults of lines by hand, and walks over tapes.
 
 ghost use Rattle.std.specs.Prelude.{IfOk};
-ghost use Rattle.jp_tape.specs.Tapes.{IsTapeOf};
+ghost use Rattle.jp_nodes.specs.Tapes.{IsTapeOf};
 
 mod cursors;
 mod limits;
@@ -93,6 +93,18 @@ fn nodes_behind(alloc: Global, before: &[u8], line: &[u8]) -> Result<Vec<Seen>, 
     Ok(nodes_of(alloc, Cursor::of_words(words, line))?)
 }
 
+/// The words of the tape of a line, as they are in memory.
+fn words_of(alloc: Global, line: &[u8]) -> Result<Vec<u64>, Fail> {
+    if is_blank(line) || line.len() > 0xffff_ffff {
+        return Err(Fail::Memory);
+    }
+    let marks = line_marks(alloc, line)?;
+    let is_utf8 = std::str::from_utf8(line).is_ok();
+    let mut tapes = Vec::new(alloc);
+    let _nodes = Builder::new(alloc).append(line, &marks, is_utf8, Framing::Lines, &mut tapes)?;
+    Ok(tapes)
+}
+
 /// The three words of a node in one, as a short line has them.
 fn in_one(head: u64, span: u64, label: u64) -> u64 {
     head.wrapping_add(span.wrapping_mul(1 << 10))
@@ -120,7 +132,7 @@ fn is_refused(alloc: Global, line: &[u8], wanted: LineFault) -> bool {
 
 #[test]
 fn nodes_stand_in_order(rt: HostRuntime) -> Result<(), Fail> {
-    let tape = read(rt.alloc(), b"{\"a\":[1,true]}", Framing::Lines)?;
+    let words = words_of(rt.alloc(), b"{\"a\":[1,true]}")?;
     let nodes = [
         in_one((5 + 3) * 4294967296 + 1, 14, 0),
         in_one(
@@ -131,7 +143,7 @@ fn nodes_stand_in_order(rt: HostRuntime) -> Result<(), Fail> {
         in_one(3 * 4294967296 + 2, 6 * 4294967296 + 7, 0),
         in_one(2 * 4294967296 + 2, 8 * 4294967296 + 12, 1),
     ];
-    assert!(rt; tape.words.as_slice() == nodes.as_slice());
+    assert!(rt; words.as_slice() == nodes.as_slice());
     Ok(())
 }
 

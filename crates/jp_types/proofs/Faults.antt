@@ -1,16 +1,14 @@
 -- The first fault of a query that some text within the limits spells.
-use Rattle.std.proofs.Common.{◌≡◌, ℕ, List, Bool, true, false, cond, not, IsFalse, Some, None, refl}
+use Rattle.std.proofs.Common.{◌≡◌, Bool, true, false, Some, None, refl}
 use Rattle.std.proofs.lemmas.Bool.{true_from_ne_false}
 use Rattle.std.proofs.lemmas.Grind.{not_there}
-use Rattle.jp_model.specs.declared.QueryFault.{QueryFault}
 use Rattle.jp_model.specs.declared.QueryFault.TheVariants as faults
-use Rattle.jp_model.specs.Query.Limits.{is_oversized, has_exact_integers, has_small_exponents, knows_functions, logical_passes}
+use Rattle.jp_model.specs.Query.Limits.{has_exact_integers, has_small_exponents, knows_functions, logical_passes}
 use Rattle.jp_model.specs.Query.Status.{fault_of_query}
 use Rattle.jp_model.specs.Query.Syntax.{Logical, Segments}
 use Rattle.jp_model.specs.Query.Typing.{logical_typed, segments_typed}
-use Rattle.jp_query.specs.Conditions.{RefusesCondition}
-use Rattle.jp_query.specs.Filters.{SpellsCondition, filter_by, in_filter}
-use Rattle.jp_query.specs.WellFormed.{IsWellFormed}
+use Rattle.jp_syntax.specs.Filters.{filter_by}
+use Rattle.jp_syntax.specs.WellFormed.{IsWellFormed}
 use Rattle.jp_types.specs.Checks.{names}
 
 -- it is exact, and its exponents are small
@@ -37,22 +35,3 @@ filter_typed l false e = rw e refl
 pub filter_known : (l : Logical) (b : Bool) → logical_passes l names ≡ b → knows_functions (filter_by l) ≡ b
 filter_known l true e = rw e refl
 filter_known l false e = rw e refl
-
--- a tree has no fault of the size or of the grammar of its text
-module _ (fault : QueryFault) where
-  tree_fault : (exact small known typed : Bool) → cond (not exact) (Some faults.Integer) (cond (not small) (Some faults.Number) (cond (not known) (Some faults.Function) (cond (not typed) (Some faults.Types) None))) ≡ Some fault
-      → (fault ≡ faults.Size → ⊥) × (fault ≡ faults.Syntax → ⊥)
-  tree_fault false small known typed h = ((λ e. cc), (λ e. cc))
-  tree_fault true false known typed h = ((λ e. cc), (λ e. cc))
-  tree_fault true true false typed h = ((λ e. cc), (λ e. cc))
-  tree_fault true true true false h = ((λ e. cc), (λ e. cc))
-  tree_fault true true true true h = ((λ e. cc), (λ e. cc))
-
--- a fault of the tree that a condition's text spells refuses the text
-pub refuses_condition : (text : List ℕ) (l : Logical) (fault : QueryFault) → IsFalse (is_oversized (in_filter text)) → SpellsCondition text l → fault_of_query (filter_by l) ≡ Some fault → RefusesCondition text fault
-refuses_condition text l faults.Size sized spelled h = absurd ((tree_fault faults.Size (has_exact_integers (filter_by l)) (has_small_exponents (filter_by l)) (knows_functions (filter_by l)) (segments_typed (filter_by l)) h).0 refl)
-refuses_condition text l faults.Syntax sized spelled h = absurd ((tree_fault faults.Syntax (has_exact_integers (filter_by l)) (has_small_exponents (filter_by l)) (knows_functions (filter_by l)) (segments_typed (filter_by l)) h).1 refl)
-refuses_condition text l faults.Integer sized spelled h = (sized, l, spelled, h)
-refuses_condition text l faults.Number sized spelled h = (sized, l, spelled, h)
-refuses_condition text l faults.Function sized spelled h = (sized, l, spelled, h)
-refuses_condition text l faults.Types sized spelled h = (sized, l, spelled, h)

@@ -1,6 +1,6 @@
 -- A condition that was checked.
 use Rattle.jp_model.specs.Query.Syntax.{Logical}
-use Rattle.jp_query.specs.Conditions.{condition_view}
+use Rattle.jp_syntax.specs.Queries.{condition_view}
 use Rattle.jp_types.specs.declared.condition.CheckedCondition.{CheckedCondition}
 
 -- its expression

@@ -3,7 +3,7 @@ use Rattle.std.specs.Prelude.{true, is_some}
 use Rattle.jp_model.specs.Query.Limits.{Tests}
 use Rattle.jp_model.specs.Query.Syntax.{Segments}
 use Rattle.jp_model.specs.Query.Typing.{signature_of}
-use Rattle.jp_query.specs.Queries.{query_view}
+use Rattle.jp_syntax.specs.Queries.{query_view}
 use Rattle.jp_types.specs.declared.checked.Checked.{Checked}
 
 -- each function is one of the five (RFC 9535, section 2.4)

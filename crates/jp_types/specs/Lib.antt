@@ -1,5 +1,4 @@
 -- What the contracts of typing speak of.
 pub mod CheckedConditions
 pub mod Checks
-pub mod Reading
 pub mod Signatures

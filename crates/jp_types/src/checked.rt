@@ -3,9 +3,9 @@
 ghost use Rattle.std.specs.Prelude.{◌≡◌, true};
 ghost use Rattle.jp_model.specs.Query.Limits.{knows_functions};
 ghost use Rattle.jp_model.specs.Query.Typing.{segments_typed};
-ghost use Rattle.jp_query.specs.Queries.{query_view};
+ghost use Rattle.jp_syntax.specs.Queries.{query_view};
 
-use jp_query::{Query, Segment};
+use jp_syntax::{Query, Segment};
 
 /// A query that is well-typed (RFC 9535, section 2.4.3).
 #[derive(Drop)]
@@ -16,8 +16,8 @@ pub struct Checked {
 }
 
 impl Checked {
-    ghost use Rattle.jp_query.specs.Sound.{has_sound_literals};
-    ghost use Rattle.jp_query.specs.View.{segments_view};
+    ghost use Rattle.jp_syntax.specs.Sound.{has_sound_literals};
+    ghost use Rattle.jp_syntax.specs.View.{segments_view};
     ghost use Rattle.jp_types.specs.Checks.{checked_view};
 
     /// A query whose functions are known and whose types fit.

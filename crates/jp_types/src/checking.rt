@@ -2,9 +2,8 @@
 
 ghost use Rattle.std.specs.Prelude.{◌≡◌, MatchResult, Some, None};
 ghost use Rattle.jp_model.specs.Query.Status.{fault_of_query};
-ghost use Rattle.jp_query.specs.Conditions.{condition_view};
-ghost use Rattle.jp_query.specs.Filters.{filter_by};
-ghost use Rattle.jp_query.specs.Queries.{query_view};
+ghost use Rattle.jp_syntax.specs.Queries.{condition_view, query_view};
+ghost use Rattle.jp_syntax.specs.Filters.{filter_by};
 ghost use Rattle.jp_types.specs.CheckedConditions.{checked_condition_view};
 ghost use Rattle.jp_types.specs.Checks.{checked_view};
 
@@ -13,7 +12,7 @@ use crate::condition::CheckedCondition;
 use crate::names::{logical_known, segments_known};
 use crate::typing::{logical_typed, segments_typed};
 use jp_model::QueryFault;
-use jp_query::{Condition, Query};
+use jp_syntax::{Condition, Query};
 
 /// Checks the types of a query (RFC 9535, section 2.4.3). It allocates nothing.
 ///

@@ -2,9 +2,9 @@
 
 ghost use Rattle.std.specs.Prelude.{◌≡◌, true};
 ghost use Rattle.jp_model.specs.Query.Typing.{logical_typed};
-ghost use Rattle.jp_query.specs.Conditions.{condition_view};
+ghost use Rattle.jp_syntax.specs.Queries.{condition_view};
 
-use jp_query::{Condition, Logical};
+use jp_syntax::{Condition, Logical};
 
 /// A logical expression that stands alone and is well-typed (RFC 9535, section 2.4.3).
 #[derive(Drop)]
@@ -14,8 +14,8 @@ pub struct CheckedCondition {
 }
 
 impl CheckedCondition {
-    ghost use Rattle.jp_query.specs.Sound.{logical_has_sound_literals};
-    ghost use Rattle.jp_query.specs.View.{logical_view};
+    ghost use Rattle.jp_syntax.specs.Sound.{logical_has_sound_literals};
+    ghost use Rattle.jp_syntax.specs.View.{logical_view};
     ghost use Rattle.jp_types.specs.CheckedConditions.{checked_condition_view};
 
     /// A condition whose types fit.

@@ -2,11 +2,11 @@
 
 ghost use Rattle.std.specs.Prelude.{◌≡◌};
 ghost use Rattle.jp_model.specs.Query.Limits.{segments_pass, selectors_pass, logical_passes, logicals_pass, comparable_passes, call_passes, arguments_pass};
-ghost use Rattle.jp_query.specs.View.{segments_view, selectors_view, logical_view, logicals_view, comparable_view, call_view, arguments_view};
+ghost use Rattle.jp_syntax.specs.View.{segments_view, selectors_view, logical_view, logicals_view, comparable_view, call_view, arguments_view};
 ghost use Rattle.jp_types.specs.Checks.{names};
 
 use crate::signature::signature_of;
-use jp_query::{Argument, Call, Comparable, Logical, Segment, Selector};
+use jp_syntax::{Argument, Call, Comparable, Logical, Segment, Selector};
 
 /// Whether each function that the segments name is one of the five.
 #[cycle(names)]

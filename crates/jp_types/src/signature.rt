@@ -6,7 +6,7 @@ ghost use Rattle.jp_types.specs.Signatures.{kind_view, signature_view};
 
 /// A type of arguments and results (RFC 9535, section 2.4.1).
 #[derive(Clone, Copy, Debug, PartialEq, Eq)]
-pub(crate) enum Kind {
+pub enum Kind {
     /// A value, or nothing.
     Value,
     /// Nodes.
@@ -18,7 +18,7 @@ pub(crate) enum Kind {
 impl Kind {
     /// Whether a result of this type is allowed where a type is wanted: nodes also where a truth is (RFC 9535, section
     /// 2.4.2).
-    pub(crate) fn serves(self, wanted: Kind) -> bool
+    pub fn serves(self, wanted: Kind) -> bool
         ensures { result ≡ serves (kind_view self) (kind_view wanted) }
     {
         match (self, wanted) {
@@ -31,15 +31,17 @@ impl Kind {
     }
 }
 
-/// The types of a function's parameters, and of its result.
+/// The types of a function's parameters, and of its result (RFC 9535, section 2.4.1).
 #[derive(Clone, Copy)]
-pub(crate) struct Signature {
-    pub(crate) parameters: &'static [Kind],
-    pub(crate) answer: Kind,
+pub struct Signature {
+    /// One for each parameter, in order.
+    pub parameters: &'static [Kind],
+    /// Of the result.
+    pub answer: Kind,
 }
 
 /// The types of the function of a name, where it is one of the five (RFC 9535, sections 2.4.4 to 2.4.8).
-pub(crate) fn signature_of(name: &str) -> Option<Signature>
+pub fn signature_of(name: &str) -> Option<Signature>
     ensures { option_map signature_view result ≡ signature_of (chars name.now) }
 {
     if name == "length" {

@@ -2,11 +2,11 @@
 
 ghost use Rattle.std.specs.Prelude.{◌≡◌, ◌&&◌, map};
 ghost use Rattle.jp_model.specs.Query.Typing.{segments_typed, selectors_typed, logical_typed, logicals_typed, comparable_typed, call_typed, call_serves, arguments_typed, argument_typed};
-ghost use Rattle.jp_query.specs.View.{segments_view, selectors_view, logical_view, logicals_view, comparable_view, call_view, arguments_view, argument_view};
+ghost use Rattle.jp_syntax.specs.View.{segments_view, selectors_view, logical_view, logicals_view, comparable_view, call_view, arguments_view, argument_view};
 ghost use Rattle.jp_types.specs.Signatures.{fits, kind_view};
 
 use crate::signature::{Kind, signature_of};
-use jp_query::{Argument, Call, Comparable, Logical, Segment, Selector, is_singular};
+use jp_syntax::{Argument, Call, Comparable, Logical, Segment, Selector, is_singular};
 
 /// Whether the segments are well-typed.
 #[cycle(typing)]
@@ -114,8 +114,8 @@ fn arguments_typed(arguments: &[Argument], parameters: &[Kind]) -> bool
     true
 }
 
-/// Whether an argument may stand for a parameter, whatever the functions in it give.
-pub(crate) fn fits(argument: &Argument, parameter: Kind) -> bool
+/// Whether an argument may stand for a parameter of this type, whatever the functions in it give (RFC 9535, section 2.4.3).
+pub fn fits(argument: &Argument, parameter: Kind) -> bool
     ensures { result ≡ fits (argument_view argument.now) (kind_view parameter) }
 {
     match argument {

@@ -10,7 +10,7 @@ use Rattle.jp_decimal.specs.Values.{Number, order}
 use Rattle.jp_model.specs.Json.Tree.{Value, null, boolean, number, string, container, array, object}
 use Rattle.jp_model.specs.Meaning.Compare.{compared, values_equal, value_less}
 use Rattle.jp_model.specs.Query.Syntax.{CompareOp, equal, not_equal, less, less_equal, greater, greater_equal}
-use Rattle.jp_tape.specs.Contents.{number_in, text_in}
+use Rattle.jp_nodes.specs.Contents.{number_in, text_in}
 use Rattle.jp_values.specs.Constants.{holds_at, holds_apart, compared_with_number, compared_with_text}
 use Rattle.jp_values.proofs.Leaves.{text_less_is}
 

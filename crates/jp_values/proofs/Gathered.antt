@@ -12,8 +12,8 @@ use Rattle.std.proofs.lemmas.Map.Text.{is_eq-slice_cmp}
 use Rattle.std.proofs.lemmas.Slice.Eq.{bytes_eq-Decides}
 use Rattle.jp_model.specs.Json.Faults.{names, has_repeated}
 use Rattle.jp_model.specs.Json.Tree.{Value, Children, no_child, value_of, Name}
-use Rattle.jp_tape.specs.declared.cursor.Cursor.{Cursor}
-use Rattle.jp_tape.specs.Cursors.{node_of, name_of, children_from, children_after}
+use Rattle.jp_nodes.specs.declared.cursor.Cursor.{Cursor}
+use Rattle.jp_nodes.specs.Cursors.{node_of, name_of, children_from, children_after}
 use Rattle.jp_values.specs.declared.member.Member.{Member}
 use Rattle.jp_values.specs.Members.{has_name, member_named, EndsWith}
 use Rattle.jp_values.specs.ByName.{points, by_name, AreMembers, AreByName}

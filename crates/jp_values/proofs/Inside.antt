@@ -4,10 +4,10 @@ use Rattle.std.specs.Prelude.{option_map}
 use Rattle.jp_model.specs.Characters.{text_equal}
 use Rattle.jp_model.specs.Json.Tree.{Tree, Value, null, boolean, number, string, container, array, object, Children, no_child, child, node, value_of, Name}
 use Rattle.jp_model.specs.Meaning.Compare.{values_equal, members_within, member_passes}
-use Rattle.jp_tape.specs.declared.Kind.TheVariants as kinds
-use Rattle.jp_tape.specs.declared.cursor.Cursor.{Cursor}
-use Rattle.jp_tape.specs.Cursors.{node_of, name_of, children_from, children_after}
-use Rattle.jp_tape.specs.Kinds.{kind_of}
+use Rattle.jp_nodes.specs.declared.Kind.TheVariants as kinds
+use Rattle.jp_nodes.specs.declared.cursor.Cursor.{Cursor}
+use Rattle.jp_nodes.specs.Cursors.{node_of, name_of, children_from, children_after}
+use Rattle.jp_nodes.specs.Kinds.{kind_of}
 use Rattle.jp_values.specs.Members.{member_named}
 use Rattle.jp_values.specs.Scalars.{scalar_in, scalars_equal}
 

@@ -15,7 +15,7 @@ use Rattle.jp_model.proofs.Reader.Scans.{reads_whole}
 use Rattle.jp_decimal.specs.Reading.{RefusesNumber}
 use Rattle.jp_decimal.specs.declared.fault.NumberFault.{NumberFault}
 use Rattle.jp_decimal.specs.declared.fault.NumberFault.TheVariants.{Shape, Exponent}
-use Rattle.jp_query.specs.Sound.{is_sound}
+use Rattle.jp_syntax.specs.Sound.{is_sound}
 use Rattle.std.specs.Cmp.Lexicographic.{slice_cmp}
 use Rattle.std.specs.Ordering.{nat_cmp, is_lt}
 use Rattle.std.proofs.lemmas.Bool.Decides.{nat_tests}

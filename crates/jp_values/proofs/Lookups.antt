@@ -7,7 +7,7 @@ use Rattle.jp_model.specs.Characters.{text_equal}
 use Rattle.jp_model.specs.Json.Faults.{names, has_repeated, has_duplicate}
 use Rattle.jp_model.specs.Json.Tree.{Tree, Value, null, boolean, number, string, container, Children, no_child, child, node, value_of, Name, joined}
 use Rattle.jp_model.proofs.Reader.Lexical.{clash}
-use Rattle.jp_tape.specs.Spots.{children_in}
+use Rattle.jp_nodes.specs.Spots.{children_in}
 use Rattle.jp_values.specs.Members.{has_name, member_named, EndsWith}
 
 -- ---- the last of some children

@@ -6,9 +6,9 @@ use Rattle.jp_model.specs.Json.Tree.{Value, value_of, null, boolean, number, str
 use Rattle.jp_model.specs.Meaning.Compare.{values_equal, both_equal}
 use Rattle.jp_model.specs.Meaning.Functions.{literal_value, counted}
 use Rattle.jp_model.specs.Query.Syntax.{Literal, null_literal, false_literal, true_literal, number_literal, string_literal}
-use Rattle.jp_query.specs.View.{literal_view}
-use Rattle.jp_tape.specs.declared.cursor.Cursor.{Cursor}
-use Rattle.jp_tape.specs.Cursors.{node_of}
+use Rattle.jp_syntax.specs.View.{literal_view}
+use Rattle.jp_nodes.specs.declared.cursor.Cursor.{Cursor}
+use Rattle.jp_nodes.specs.Cursors.{node_of}
 use Rattle.jp_values.specs.declared.value.Value.{Value as Side}
 use Rattle.jp_values.specs.declared.value.Value.TheVariants as sides
 use Rattle.jp_values.specs.Scalars.{scalar_in, scalars_equal}

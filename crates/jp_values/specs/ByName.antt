@@ -6,7 +6,7 @@ use Rattle.std.specs.Cmp.{IsTotalOrder, on_total}
 use Rattle.std.specs.Cmp.Lexicographic.{slice_cmp, nat_list_cmp_total}
 use Rattle.jp_model.specs.Json.Tree.{Value, Children, value_of}
 use Rattle.jp_strings.specs.Points.{points_of}
-use Rattle.jp_tape.specs.Cursors.{node_of, children_after}
+use Rattle.jp_nodes.specs.Cursors.{node_of, children_after}
 use Rattle.jp_values.specs.declared.member.Member.{Member}
 use Rattle.jp_values.specs.Members.{member_named, EndsWith}
 

@@ -2,8 +2,8 @@
 use Rattle.std.specs.Prelude.{◌≡◌, ℕ, Bool, false, List, Option, Some, None, if◌then◌else◌}
 use Rattle.jp_model.specs.Characters.{text_equal}
 use Rattle.jp_model.specs.Json.Tree.{Value, Children, no_child, child, node, value_of, Name, joined}
-use Rattle.jp_tape.specs.declared.cursor.Cursor.{Cursor}
-use Rattle.jp_tape.specs.Cursors.{node_of}
+use Rattle.jp_nodes.specs.declared.cursor.Cursor.{Cursor}
+use Rattle.jp_nodes.specs.Cursors.{node_of}
 
 -- a member has this name (RFC 8259, section 8.3)
 abbrev pub has_name : List ℕ → Option Name → Bool

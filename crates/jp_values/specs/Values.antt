@@ -3,9 +3,9 @@ use Rattle.std.specs.Prelude.{Bool, true, Option, Some, None}
 use Rattle.jp_decimal.specs.Decimals.{number_of}
 use Rattle.jp_model.specs.Json.Tree as tree
 use Rattle.jp_model.specs.Meaning.Functions.{literal_value, counted}
-use Rattle.jp_query.specs.Sound.{is_sound}
-use Rattle.jp_query.specs.View.{literal_view}
-use Rattle.jp_tape.specs.Cursors.{node_of}
+use Rattle.jp_syntax.specs.Sound.{is_sound}
+use Rattle.jp_syntax.specs.View.{literal_view}
+use Rattle.jp_nodes.specs.Cursors.{node_of}
 use Rattle.jp_values.specs.declared.value.Value.{Value}
 use Rattle.jp_values.specs.declared.value.Value.TheVariants as values
 use Rattle.jp_values.specs.Scalars.{scalar_in}

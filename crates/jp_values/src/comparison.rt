@@ -3,16 +3,16 @@
 ghost use Rattle.std.specs.Prelude.{◌≡◌, IsTrue, IfOk};
 ghost use Rattle.jp_model.specs.Json.Tree.{value_of};
 ghost use Rattle.jp_model.specs.Meaning.Compare.{value_less, both_equal as both_equal_values, is_less as is_less_value, compared};
-ghost use Rattle.jp_query.specs.View.{op_view};
-ghost use Rattle.jp_tape.specs.Cursors.{node_of};
+ghost use Rattle.jp_syntax.specs.View.{op_view};
+ghost use Rattle.jp_nodes.specs.Cursors.{node_of};
 ghost use Rattle.jp_values.specs.Values.{value_view, is_sound_value};
 
 use crate::equality::equal;
 use crate::equality_in::equal_in;
 use crate::scalar::Scalar;
 use crate::value::Value;
-use jp_query::CompareOp;
-use jp_tape::Cursor;
+use jp_nodes::Cursor;
+use jp_syntax::CompareOp;
 use std::alloc::{AllocError, Global};
 
 /// Whether the value of the first node is less: both are numbers or both strings, numbers by their exact value and

@@ -3,14 +3,14 @@
 ghost use Rattle.std.specs.Prelude.{◌≡◌, chars};
 ghost use Rattle.jp_decimal.specs.Decimals.{number_of};
 ghost use Rattle.jp_model.specs.Json.Tree.{value_of};
-ghost use Rattle.jp_query.specs.View.{op_view};
-ghost use Rattle.jp_tape.specs.Cursors.{node_of};
+ghost use Rattle.jp_syntax.specs.View.{op_view};
+ghost use Rattle.jp_nodes.specs.Cursors.{node_of};
 ghost use Rattle.jp_values.specs.Constants.{holds_at, holds_apart as holds_apart_at, compared_with_number, compared_with_text};
 
 use jp_decimal::{Decimal, laws};
-use jp_query::CompareOp;
+use jp_nodes::Cursor;
 use jp_strings::{compare_text, spells};
-use jp_tape::Cursor;
+use jp_syntax::CompareOp;
 use std::cmp::Ordering;
 
 /// Whether an operator holds where the first side is so ordered against the second.

@@ -4,12 +4,12 @@ ghost use Rattle.std.specs.Prelude.{◌≡◌, ◌<◌, IfSome, ◌&&◌};
 ghost use Rattle.jp_model.specs.Json.Tree.{value_of};
 ghost use Rattle.jp_model.specs.Meaning.Compare.{values_equal, elements_equal, members_within};
 ghost use Rattle.jp_strings.specs.Points.{IsText, points_of};
-ghost use Rattle.jp_tape.specs.Cursors.{node_of, name_of, children_from, children_after};
-ghost use Rattle.jp_tape.specs.Spots.{children_in};
+ghost use Rattle.jp_nodes.specs.Cursors.{node_of, name_of, children_from, children_after};
+ghost use Rattle.jp_nodes.specs.Spots.{children_in};
 ghost use Rattle.jp_values.specs.Members.{has_name, member_named, EndsWith, found_value};
 
 use crate::scalar::Scalar;
-use jp_tape::{Cursor, Kind};
+use jp_nodes::{Cursor, Kind};
 
 /// Whether a node is a member of this name, which is compared by its scalars.
 pub(crate) fn is_named(member: Cursor<'_>, name: &[u8]) -> bool

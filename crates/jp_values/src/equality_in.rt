@@ -4,12 +4,12 @@ ghost use Rattle.std.specs.Prelude.{◌≡◌, IfOk, nat_eq};
 ghost use Rattle.std.specs.Option.{is_some};
 ghost use Rattle.jp_model.specs.Json.Tree.{value_of, count_children};
 ghost use Rattle.jp_model.specs.Meaning.Compare.{values_equal, elements_equal, members_within};
-ghost use Rattle.jp_tape.specs.Cursors.{node_of};
-ghost use Rattle.jp_tape.specs.Spots.{children_in};
+ghost use Rattle.jp_nodes.specs.Cursors.{node_of};
+ghost use Rattle.jp_nodes.specs.Spots.{children_in};
 
 use crate::members::Searched;
 use crate::scalar::Scalar;
-use jp_tape::{Cursor, Kind};
+use jp_nodes::{Cursor, Kind};
 use std::alloc::{AllocError, Global};
 
 /// How many members two objects have, where both have equally many. It goes no further than the smaller one.

@@ -3,17 +3,17 @@
 ghost use Rattle.std.specs.Prelude.{◌≡◌, IsTrue, IfOk, MatchOption, None};
 ghost use Rattle.jp_model.specs.Json.Tree.{value_of};
 ghost use Rattle.jp_model.specs.Meaning.Functions.{literal_value};
-ghost use Rattle.jp_query.specs.View.{literal_view};
-ghost use Rattle.jp_tape.specs.Cursors.{node_of};
+ghost use Rattle.jp_syntax.specs.View.{literal_view};
+ghost use Rattle.jp_nodes.specs.Cursors.{node_of};
 ghost use Rattle.jp_values.specs.Keys.{IsKeyOf};
 ghost use Rattle.jp_values.specs.Scalars.{scalar_in};
-ghost use Rattle.jp_query.specs.Sound.{is_sound};
+ghost use Rattle.jp_syntax.specs.Sound.{is_sound};
 
 use crate::key::Key;
 use jp_decimal::Decimal;
-use jp_query::Literal;
+use jp_nodes::{Cursor, Kind};
 use jp_strings::unescape;
-use jp_tape::{Cursor, Kind};
+use jp_syntax::Literal;
 use std::alloc::{AllocError, Global};
 
 /// The key of a node's value. Arrays and objects have none, and all else has one.

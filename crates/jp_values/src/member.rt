@@ -4,8 +4,8 @@ ghost use Rattle.std.specs.Prelude.{◌≡◌, IsTrue, length};
 ghost use Rattle.jp_strings.specs.Plain.{ArePlain};
 ghost use Rattle.jp_strings.specs.Points.{IsText, is_text_from};
 
+use jp_nodes::Cursor;
 use jp_strings::is_plain;
-use jp_tape::Cursor;
 
 /// A member of an object, with the body of its name. Members are ordered by the scalars of their names (RFC 9535, section
 /// 2.3.5.2.2). Whether the name is plain is found once, so that names are compared no further than they agree.

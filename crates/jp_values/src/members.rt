@@ -5,15 +5,15 @@ ghost use Rattle.std.specs.Ordering.{is_eq};
 ghost use Rattle.std.specs.Cmp.{eq_by_cmp_equiv, partial_equiv_from_equiv, po};
 ghost use Rattle.jp_model.specs.Json.Tree.{Children, value_of};
 ghost use Rattle.jp_strings.specs.Points.{IsText, points_of};
-ghost use Rattle.jp_tape.specs.Cursors.{node_of, children_from, children_after};
-ghost use Rattle.jp_tape.specs.Spots.{children_in};
+ghost use Rattle.jp_nodes.specs.Cursors.{node_of, children_from, children_after};
+ghost use Rattle.jp_nodes.specs.Spots.{children_in};
 ghost use Rattle.jp_values.specs.Members.{member_named, found_value, EndsWith};
 ghost use Rattle.jp_values.specs.ByName.{points, by_name, names_total, AreMembers, AreByName, AreKept};
 
 use crate::equality::{find_member, is_named};
 use crate::member::Member;
+use jp_nodes::Cursor;
 use jp_strings::compare_scalars;
-use jp_tape::Cursor;
 use std::alloc::{AllocError, Global};
 use std::cmp::Ordering;
 

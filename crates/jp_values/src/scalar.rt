@@ -4,10 +4,10 @@ ghost use Rattle.std.specs.Prelude.{◌≡◌, IsTrue, Some};
 ghost use Rattle.jp_model.specs.Json.Tree.{value_of};
 ghost use Rattle.jp_model.specs.Meaning.Compare.{is_less as is_less_value};
 ghost use Rattle.jp_model.specs.Meaning.Functions.{literal_value};
-ghost use Rattle.jp_tape.specs.Cursors.{node_of};
-ghost use Rattle.jp_query.specs.View.{literal_view};
+ghost use Rattle.jp_nodes.specs.Cursors.{node_of};
+ghost use Rattle.jp_syntax.specs.View.{literal_view};
 ghost use Rattle.jp_values.specs.Scalars.{scalar_view, scalar_in, scalars_equal};
-ghost use Rattle.jp_query.specs.Sound.{is_sound};
+ghost use Rattle.jp_syntax.specs.Sound.{is_sound};
 ghost use Rattle.jp_values.specs.Values.{is_sound_value, value_view, scalar_side};
 
 use crate::body::Body;
@@ -15,8 +15,8 @@ use crate::number::Number;
 use crate::text::Text;
 use crate::value::Value;
 use jp_decimal::Decimal;
-use jp_query::Literal;
-use jp_tape::{Cursor, Kind};
+use jp_nodes::{Cursor, Kind};
+use jp_syntax::Literal;
 
 /// A value that is neither an array nor an object.
 #[derive(Drop)]

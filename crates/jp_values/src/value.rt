@@ -4,8 +4,8 @@ ghost use Rattle.std.specs.Prelude.{◌≡◌};
 ghost use Rattle.jp_values.specs.Values.{value_view, is_sound_value};
 
 use jp_decimal::Decimal;
-use jp_query::Literal;
-use jp_tape::Cursor;
+use jp_nodes::Cursor;
+use jp_syntax::Literal;
 
 /// A side of a comparison: a value, or Nothing (RFC 9535, sections 2.3.5.1 and 2.4.1).
 #[derive(Clone, Copy)]

@@ -1,48 +1,57 @@
 //! The question that the program's words ask.
 
-use crate::patterns::{warn_of_condition, warn_of_segments};
+use crate::note::meant_condition;
+use crate::patterns::Warner;
 use crate::refusal::{Refusal, Text};
-use jp_grep::{Options, Question};
-use jp_query::is_singular;
-use jp_types::{read_condition, read_query};
+use jp_grep::Question;
+use jp_options::Options;
+use jp_query::{read_condition, read_query};
+use jp_syntax::is_singular;
 
-/// Adds a query, and warns of its patterns that are none unless all messages are silent. One that is a column of a table
-/// selects no more than one node of any line.
-fn add_query<'a>(
-    rt: &HostRuntime,
-    question: &mut Question,
-    text: &'a str,
-    options: &Options<'_>,
-) -> Result<(), Refusal<'a>> {
-    match read_query(rt.alloc(), text.as_bytes()) {
-        Ok(query) => {
-            if options.is_table() && !is_singular(query.segments()) {
-                return Err(Refusal::NotSingular(text));
-            }
-            if !options.silent {
-                warn_of_segments(rt, query.segments())?;
-            }
-            Ok(question.add_query(rt.alloc(), &query)?)
-        }
-        Err(refusal) => Err(Refusal::of(Text::Query(text), refusal)),
-    }
+/// The question that is read, what is warned of, and the condition that its first such query probably means.
+#[derive(Drop)]
+struct Reader<'r, 'a> {
+    rt: &'r HostRuntime,
+    question: Question,
+    warner: Warner<'r>,
+    meant: Option<&'a str>,
 }
 
-/// Adds a condition, likewise.
-fn add_condition<'a>(
-    rt: &HostRuntime,
-    question: &mut Question,
-    text: &'a str,
-    silent: bool,
-) -> Result<(), Refusal<'a>> {
-    match read_condition(rt.alloc(), text.as_bytes()) {
-        Ok(condition) => {
-            if !silent {
-                warn_of_condition(rt, condition.expression())?;
+/// The question, whether a pattern of it is not valid, and the condition that a filter of it probably means.
+#[derive(Drop)]
+pub(crate) struct Asked<'a> {
+    pub(crate) question: Question,
+    pub(crate) has_warnings: bool,
+    pub(crate) meant: Option<&'a str>,
+}
+
+impl<'r, 'a> Reader<'r, 'a> {
+    /// Adds a query, and warns of its patterns. One that is a column of a table selects no more than one node of any line.
+    fn add_query(&mut self, text: &'a str, is_column: bool) -> Result<(), Refusal<'a>> {
+        match read_query(self.rt.alloc(), text.as_bytes()) {
+            Ok(query) => {
+                if is_column && !is_singular(query.segments()) {
+                    return Err(Refusal::NotSingular(text));
+                }
+                self.warner.read_segments(query.segments())?;
+                if self.meant.is_none() {
+                    self.meant = meant_condition(text, query.segments());
+                }
+                Ok(self.question.add_query(self.rt.alloc(), &query)?)
             }
-            Ok(question.add_condition(rt.alloc(), &condition)?)
+            Err(refusal) => Err(Refusal::of(Text::Query(text), refusal)),
         }
-        Err(refusal) => Err(Refusal::of(Text::Condition(text), refusal)),
+    }
+
+    /// Adds a condition, and warns of its patterns.
+    fn add_condition(&mut self, text: &'a str) -> Result<(), Refusal<'a>> {
+        match read_condition(self.rt.alloc(), text.as_bytes()) {
+            Ok(condition) => {
+                self.warner.read_condition(condition.expression())?;
+                Ok(self.question.add_condition(self.rt.alloc(), &condition)?)
+            }
+            Err(refusal) => Err(Refusal::of(Text::Condition(text), refusal)),
+        }
     }
 }
 
@@ -50,13 +59,22 @@ fn add_condition<'a>(
 pub(crate) fn read_question<'a>(
     rt: &HostRuntime,
     options: &Options<'a>,
-) -> Result<Question, Refusal<'a>> {
-    let mut question = Question::new(rt.alloc(), options.inverted);
+) -> Result<Asked<'a>, Refusal<'a>> {
+    let mut reader = Reader {
+        rt,
+        question: Question::new(rt.alloc(), options.inverted),
+        warner: Warner::new(rt),
+        meant: None,
+    };
     for text in options.queries() {
-        add_query(rt, &mut question, text, options)?;
+        reader.add_query(text, options.is_table())?;
     }
     for text in &options.conditions {
-        add_condition(rt, &mut question, text, options.silent)?;
+        reader.add_condition(text)?;
     }
-    Ok(question)
+    Ok(Asked {
+        has_warnings: reader.warner.has_warned,
+        meant: reader.meant,
+        question: reader.question,
+    })
 }

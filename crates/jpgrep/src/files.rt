@@ -2,11 +2,12 @@
 
 use crate::output::{Output, RegularFile};
 use jp_devices::StandardInput;
-use jp_grep::{Finished, Options, Question, Run, SearchFault, Shown};
+use jp_grep::{Finished, Question, Run, SearchFault, Shown};
 use jp_model::Watched;
+use jp_options::Options;
 use std::alloc::AllocError;
 use std::fs;
-use std::io::{Read, Stderr};
+use std::io::{ErrorKind, Read, Stderr};
 
 /// What goes through the files.
 #[derive(Drop)]
@@ -16,6 +17,15 @@ struct Searcher<'q> {
     run: Run<'q, Output, Stderr>,
     /// The file that more than one row may be added to.
     output: Option<RegularFile>,
+}
+
+/// How a search of all files ended.
+#[derive(Clone, Copy)]
+pub(crate) struct Searched {
+    /// The exit status.
+    pub(crate) status: u8,
+    /// Whether a line was selected.
+    pub(crate) has_selected: bool,
 }
 
 /// Whether the files that follow are to be searched.
@@ -40,13 +50,19 @@ fn message_of(fault: SearchFault) -> &'static str {
 pub(crate) const CANNOT_WRITE: &str = "cannot write";
 
 /// What is said of a word whose file cannot be opened.
-fn unopened_message(word: &str) -> &'static str {
-    if word.starts_with('$') {
-        "cannot open (a query is given by -e)"
-    } else {
-        "cannot open"
+fn unopened_message(word: &str, error: ErrorKind) -> &'static str {
+    match error {
+        ErrorKind::NotFound if word.starts_with('$') => {
+            "cannot open: no such file (a query is given by -e)"
+        }
+        ErrorKind::NotFound => "cannot open: no such file",
+        ErrorKind::PermissionDenied => "cannot open: permission denied",
+        _ => "cannot open",
     }
 }
+
+/// What is said of a directory, which has no lines.
+const IS_DIRECTORY: &str = "cannot read: is a directory";
 
 /// What is said of the file that the rows go to: it would be read without end.
 const IS_OUTPUT: &str = "input file is also the output";
@@ -127,10 +143,14 @@ impl<'q> Searcher<'q> {
         match fs::open(self.rt, word) {
             Ok(file) => {
                 let metadata = file.metadata();
+                if matches!(&metadata, Ok(found) if found.is_dir()) {
+                    self.tell(word, IS_DIRECTORY);
+                    return Next::GoOn;
+                }
                 self.search_other(word, file, RegularFile::of(metadata))
             }
-            Err(_) => {
-                self.tell(word, unopened_message(word));
+            Err(error) => {
+                self.tell(word, unopened_message(word, error.kind()));
                 Next::GoOn
             }
         }
@@ -138,8 +158,9 @@ impl<'q> Searcher<'q> {
 
     /// Ends the run, tells of rows or messages that were not written, and gives the exit status. A pipe that nobody reads any
     /// more is no news.
-    fn end(self) -> u8 {
+    fn end(self) -> Searched {
         let rt = self.rt;
+        let has_selected = self.run.has_selected();
         let finished = self.run.finish();
         let unwritten = finished.rows.failed() || finished.messages.failed();
         let Finished { status, rows, .. } = finished;
@@ -147,7 +168,10 @@ impl<'q> Searcher<'q> {
         if unwritten && !output.is_unread() {
             let _ = eprintln!(rt; "jpgrep: {CANNOT_WRITE}");
         }
-        status
+        Searched {
+            status,
+            has_selected,
+        }
     }
 }
 
@@ -176,12 +200,12 @@ pub(crate) fn search_files(
     rt: &HostRuntime,
     options: &Options<'_>,
     question: &Question,
-) -> Result<u8, AllocError> {
+) -> Result<Searched, AllocError> {
     let files = options.files();
     let stdin = StandardInput::find(rt, files.is_empty() || files.contains(&"-"));
     let rows = Watched::new(Output::new(rt));
     let messages = Watched::new(rt.stderr());
-    let run = Run::new(rt.alloc(), question, options, rows, messages)?;
+    let run = Run::new(rt.alloc(), question, options.quiet, rows, messages)?;
     let output = find_output(rt, options);
     let mut searcher = Searcher {
         rt,

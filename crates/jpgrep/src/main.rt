@@ -4,28 +4,44 @@
 mod asked;
 mod excerpt;
 mod files;
+mod help;
+mod note;
 mod output;
 mod patterns;
 mod refusal;
+mod unknown;
 
 use crate::asked::read_question;
 use crate::files::{CANNOT_WRITE, search_files};
+use crate::note::tell_note;
 use crate::refusal::Refusal;
+use crate::unknown::find_foreign;
 use clap::Error;
 use clap::error::ErrorKind;
 use jp_devices::refuse_word;
-use jp_grep::{Options, read_words};
+use jp_options::{Options, read_words};
+use std::alloc::AllocError;
 use std::process::ExitCode;
 use std::{env, io};
 
 /// The exit status where help, the version, or a check of good queries was asked for.
 const TOLD: u8 = 0;
 
+/// The exit status where a check of good queries warned of something.
+const WARNED: u8 = 1;
+
 /// The exit status where something was refused or failed.
 const FAULT: u8 = 2;
 
-/// Prints the help or the version, or says why the words are refused, and gives the exit status.
-fn tell_words(rt: &HostRuntime, error: &Error) -> u8 {
+/// Prints the help or the version, or says why the words are refused, and gives the exit status. Of an option of grep or jq it
+/// says what to do instead.
+fn tell_words(rt: &HostRuntime, words: &[&str], error: &Error) -> u8 {
+    if error.kind() == ErrorKind::UnknownArgument {
+        if let Some((word, instead)) = find_foreign(words) {
+            let _ = eprintln!(rt; "jpgrep: no option '{word}': {instead}");
+            return FAULT;
+        }
+    }
     match error.print(rt) {
         Ok(()) if error.exit_code() == 0 => TOLD,
         Err(fault) if fault.kind() != io::ErrorKind::BrokenPipe => {
@@ -36,13 +52,32 @@ fn tell_words(rt: &HostRuntime, error: &Error) -> u8 {
     }
 }
 
+/// Tells of the condition that a filter probably means, unless messages are suppressed.
+fn tell_meant(
+    rt: &HostRuntime,
+    options: &Options<'_>,
+    meant: Option<&str>,
+) -> Result<(), AllocError> {
+    match meant {
+        Some(condition) if !options.silent && !options.quiet && !options.inverted => {
+            tell_note(rt, condition)
+        }
+        _ => Ok(()),
+    }
+}
+
 /// Reads the question, searches the files, and gives the exit status.
 fn answer<'a>(rt: &HostRuntime, options: &Options<'a>) -> Result<u8, Refusal<'a>> {
-    let question = read_question(rt, options)?;
+    let asked = read_question(rt, options)?;
     if options.checks {
-        return Ok(TOLD);
+        tell_meant(rt, options, asked.meant)?;
+        return Ok(if asked.has_warnings { WARNED } else { TOLD });
     }
-    Ok(search_files(rt, options, &question)?)
+    let searched = search_files(rt, options, &asked.question)?;
+    if !searched.has_selected {
+        tell_meant(rt, options, asked.meant)?;
+    }
+    Ok(searched.status)
 }
 
 /// Does what the words ask for, and gives the exit status.
@@ -64,7 +99,7 @@ fn run_words(rt: &HostRuntime, words: &[&str]) -> u8 {
             Refusal::Memory.tell(rt);
             FAULT
         }
-        Err(error) => tell_words(rt, &error),
+        Err(error) => tell_words(rt, words, &error),
     }
 }
 
@@ -78,6 +113,9 @@ fn run_arguments(rt: &HostRuntime) -> u8 {
         }
         Err(_) => {
             refuse_word(rt, "jpgrep");
+            let _ = eprintln!(rt;
+                "jpgrep: a file of such a name is read from standard input: jpgrep QUERY < NAME"
+            );
             return FAULT;
         }
     };

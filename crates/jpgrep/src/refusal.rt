@@ -2,6 +2,7 @@
 
 use crate::excerpt::Excerpt;
 use crate::files::tell_memory;
+use crate::help::{function_at, help_with};
 use jp_model::QueryFault;
 use jp_query::FaultPlace;
 use std::alloc::AllocError;
@@ -20,6 +21,22 @@ impl<'a> Text<'a> {
     pub(crate) fn text(self) -> &'a str {
         match self {
             Text::Query(text) | Text::Condition(text) => text,
+        }
+    }
+
+    /// The bytes that it has at most. A condition is read between `$[?` and `]`, within the limits of a query.
+    fn most_bytes(self) -> usize {
+        match self {
+            Text::Query(_) => 65_535,
+            Text::Condition(_) => 65_531,
+        }
+    }
+
+    /// The bytes `(` and `[` that it has at most, together.
+    fn most_brackets(self) -> usize {
+        match self {
+            Text::Query(_) => 512,
+            Text::Condition(_) => 511,
         }
     }
 
@@ -49,17 +66,6 @@ impl<'a> From<AllocError> for Refusal<'a> {
     }
 }
 
-/// The name of the function at a byte of a text.
-fn function_at(text: &str, place: usize) -> &str {
-    match text.get(place..) {
-        Some(rest) => match rest.split_once('(') {
-            Some((name, _)) => name,
-            None => rest,
-        },
-        None => "",
-    }
-}
-
 /// Says what is wrong, shows the text, and points at the place.
 fn tell_fault(rt: &HostRuntime, text: Text<'_>, found: FaultPlace) -> Result<(), AllocError> {
     let word = text.word();
@@ -71,9 +77,7 @@ fn tell_fault(rt: &HostRuntime, text: Text<'_>, found: FaultPlace) -> Result<(),
         (QueryFault::Syntax, None) => eprintln!(rt; "jpgrep: {word}: syntax"),
         (QueryFault::Integer, _) => eprintln!(rt; "jpgrep: {word}: integer beyond 2^53 - 1"),
         (QueryFault::Number, _) => eprintln!(rt; "jpgrep: {word}: exponent of more than 15 digits"),
-        (QueryFault::Size, _) => {
-            eprintln!(rt; "jpgrep: {word}: more than 65535 bytes, or than 512 brackets")
-        }
+        (QueryFault::Size, _) => return tell_size(rt, text, found.place),
         (QueryFault::Function, _) => eprintln!(rt; "jpgrep: {word}: unknown function '{name}'"),
         (QueryFault::Types, _) => {
             eprintln!(rt;
@@ -81,11 +85,33 @@ fn tell_fault(rt: &HostRuntime, text: Text<'_>, found: FaultPlace) -> Result<(),
             )
         }
     };
-    let excerpt = Excerpt::around(rt.alloc(), text.text(), found.place)?;
+    point_at(rt, text, found.place)?;
+    if let Some(help) = help_with(text, found) {
+        let _ = eprintln!(rt; "  help: {help}");
+    }
+    Ok(())
+}
+
+/// Shows the text around a place, and points at it.
+fn point_at(rt: &HostRuntime, text: Text<'_>, place: usize) -> Result<(), AllocError> {
+    let excerpt = Excerpt::around(rt.alloc(), text.text(), place)?;
     let line = excerpt.line.as_str();
     let indent = excerpt.indent.as_str();
     let _ = eprintln!(rt; "  {line}\n  {indent}^");
     Ok(())
+}
+
+/// Says which limit a text is past: that of its bytes, where no place means anything, or that of its brackets.
+fn tell_size(rt: &HostRuntime, text: Text<'_>, place: usize) -> Result<(), AllocError> {
+    let word = text.word();
+    let most = text.most_bytes();
+    if text.text().len() > most {
+        let _ = eprintln!(rt; "jpgrep: {word}: more than {most} bytes");
+        return Ok(());
+    }
+    let most = text.most_brackets();
+    let _ = eprintln!(rt; "jpgrep: {word}: more than {most} brackets and parentheses");
+    point_at(rt, text, place)
 }
 
 /// Says that a query is no column of a table, and shows it.
@@ -101,10 +127,10 @@ fn tell_not_singular(rt: &HostRuntime, text: &str) -> Result<(), AllocError> {
 
 impl<'a> Refusal<'a> {
     /// The refusal of a text.
-    pub(crate) fn of(text: Text<'a>, refusal: jp_types::Refusal) -> Refusal<'a> {
+    pub(crate) fn of(text: Text<'a>, refusal: jp_query::Refusal) -> Refusal<'a> {
         match refusal {
-            jp_types::Refusal::Fault(found) => Refusal::Fault(text, found),
-            jp_types::Refusal::Memory => Refusal::Memory,
+            jp_query::Refusal::Fault(found) => Refusal::Fault(text, found),
+            jp_query::Refusal::Memory => Refusal::Memory,
         }
     }
 

@@ -3,7 +3,7 @@ use Rattle.std.specs.Prelude.{◌≡◌, ℕ, ◌+◌, ◌≤◌, Bool, true, fa
 use Rattle.jp_model.specs.declared.Setup.{Setup}
 use Rattle.jp_model.specs.declared.RunFault.{RunFault}
 use Rattle.jp_model.specs.declared.RunFault.TheVariants as faults
-use Rattle.jp_model.specs.Devices.{Device, Came, CameUpTo, CameShort, Received, Begins}
+use Rattle.jp_devices.specs.Devices.{Device, Came, CameUpTo, CameShort, Received, Begins}
 use Rattle.jp_model.specs.Lines.{lines, is_framed}
 use Rattle.jp_model.specs.Query.Status.{QueryStatus}
 use Rattle.jp_model.specs.Script.Commands.{Command, command_lines, closed_command_lines, command_lines_so_far}

@@ -3,7 +3,7 @@
 use Rattle.std.specs.Prelude.{ℕ, zero, suc, ℤ, List, [], ◌∷◌, Bool, true, false, ◌&&◌, Option, Some, None, cond}
 use Rattle.jp_model.specs.Query.Spelling.{or_of, and_of, is_alone}
 use Rattle.jp_model.specs.Query.Syntax.{CompareOp, Origin, Segment, child_segment, descendant_segment, Segments, Selector, name_selector, wildcard_selector, index_selector, slice_selector, filter_selector, no_selectors, selector, Logical, negated, compare, exists, test, Logicals, Comparable, constant, single, result, Argument, constant_argument, nodes_argument, condition, result_argument, no_arguments, path, Call, call}
-use Rattle.jp_query.specs.View.{segments_of, selectors_of, logicals_of, arguments_of}
+use Rattle.jp_syntax.specs.View.{segments_of, selectors_of, logicals_of, arguments_of}
 use Rattle.jp_query.specs.Reading.Scalars.{Reader, Item, is_item, ◌>>=◌, choose, after, after_blanks, skip_blanks, begins, all_of, shorthand, call_start}
 use Rattle.jp_query.specs.Reading.Numbers.{is_int_first, int_at}
 use Rattle.jp_query.specs.Reading.Strings.{string_at}

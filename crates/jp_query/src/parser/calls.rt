@@ -8,7 +8,7 @@ ghost use Rattle.jp_query.specs.Integers.{clamp};
 ghost use Rattle.jp_query.specs.Parsing.{Gives};
 ghost use Rattle.jp_query.specs.Reading.Queries.{argument_at, next_argument, arguments_at, call_behind, comparable_at, logical_at};
 ghost use Rattle.jp_query.specs.Reading.Scalars.{all_of, with_front};
-ghost use Rattle.jp_query.specs.View.{comparable_view, argument_view, call_view};
+ghost use Rattle.jp_syntax.specs.View.{comparable_view, argument_view, call_view};
 
 use super::expression::{argument_of, call_of, side_of, single_of};
 use super::failure::{Failure, Stop};
@@ -17,7 +17,7 @@ use super::logical::logical;
 use super::scalars::{after_blanks, call_start, skip_blanks, to_text};
 use super::selectors::{one, singular};
 use crate::expected::Expected;
-use crate::tree::{Argument, Call, Comparable};
+use jp_syntax::{Argument, Call, Comparable};
 use std::alloc::Global;
 
 /// An argument of a function (RFC 9535, section 2.4).

@@ -6,19 +6,19 @@ ghost use Rattle.std.specs.Prelude.{◌≡◌, [], ◌∷◌, true, IsFalse, IfE
 ghost use Rattle.jp_model.specs.Query.Limits.{is_oversized, has_exact_integers, has_small_exponents};
 ghost use Rattle.jp_model.specs.Query.Syntax as syntax;
 ghost use Rattle.jp_query.specs.ConditionOutcome.{MeantInFilter};
-ghost use Rattle.jp_query.specs.Conditions.{GivesCondition, IsFirstConditionFault, condition_view};
-ghost use Rattle.jp_query.specs.Filters.{SpellsCondition, filter_by, in_filter};
+ghost use Rattle.jp_query.specs.Conditions.{GivesCondition, IsFirstConditionFault};
+ghost use Rattle.jp_syntax.specs.Queries.{condition_view};
+ghost use Rattle.jp_syntax.specs.Filters.{SpellsCondition, filter_by, in_filter};
 ghost use Rattle.jp_query.specs.Outcome.{IsRead};
-ghost use Rattle.jp_query.specs.View.{logical_view, segments_view, selectors_view};
+ghost use Rattle.jp_syntax.specs.View.{logical_view, segments_view, selectors_view};
 
 use super::failure::Failure;
 use super::{is_oversized, read};
-use crate::condition::Condition;
 use crate::fault::ParseFault;
 use crate::limit::Limit;
 use crate::limits::logical_passes;
-use crate::tree::{Logical, Segment, Selector};
 use jp_model::QueryFault;
+use jp_syntax::{Condition, Logical, Segment, Selector};
 use std::alloc::{AllocError, Global};
 
 /// The text of the query in whose only filter a text stands.

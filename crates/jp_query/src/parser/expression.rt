@@ -6,10 +6,10 @@ ghost use Rattle.jp_model.specs.Query.Syntax.{exists, path, single, test, result
 ghost use Rattle.jp_query.specs.Connectives.{joined_by};
 ghost use Rattle.jp_query.specs.Parsing.{parsed_view};
 ghost use Rattle.jp_query.specs.Reading.Queries.{argument_of};
-ghost use Rattle.jp_query.specs.View.{origin_view, segments_view, logicals_view, arguments_view, logical_view, comparable_view, argument_view, call_view};
+ghost use Rattle.jp_syntax.specs.View.{origin_view, segments_view, logicals_view, arguments_view, logical_view, comparable_view, argument_view, call_view};
 
 use super::parsed::Parsed;
-use crate::tree::{Argument, Call, Comparable, Logical, Origin, Path, Segment};
+use jp_syntax::{Argument, Call, Comparable, Logical, Origin, Path, Segment};
 use std::alloc::{AllocError, Global};
 
 /// The test that a query selects a node.

@@ -4,7 +4,7 @@ ghost use Rattle.std.specs.Prelude.{◌≡◌, option_map};
 ghost use Rattle.jp_query.specs.Parsing.{Gives};
 ghost use Rattle.jp_query.specs.Reading.Scalars.{begins};
 ghost use Rattle.jp_query.specs.Reading.Literals.{is_any_quote, word_at, literal_at, operator_at, origin_at, begins_without_literal};
-ghost use Rattle.jp_query.specs.View.{literal_view, op_view, origin_view};
+ghost use Rattle.jp_syntax.specs.View.{literal_view, op_view, origin_view};
 
 use super::failure::Failure;
 use super::numbers::{begins_number, number_bytes};
@@ -12,7 +12,7 @@ use super::scalars::{after, after_all, call_start};
 use super::stops::at_word;
 use super::strings::string;
 use crate::expected::Expected;
-use crate::tree::{CompareOp, Literal, Origin};
+use jp_syntax::{CompareOp, Literal, Origin};
 use std::alloc::Global;
 
 /// `true`, `false` or `null`, and what is left.

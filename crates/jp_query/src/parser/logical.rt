@@ -8,7 +8,7 @@ ghost use Rattle.jp_query.specs.Integers.{clamp};
 ghost use Rattle.jp_query.specs.Parsing.{Gives, parsed_view};
 ghost use Rattle.jp_query.specs.Reading.Queries.{closed_at, comparison_behind, query_behind, call_or_comparison, literal_comparison, test_at, negated_at, plain_at, basic_at, next_basic, and_at, next_and, logical_at};
 ghost use Rattle.jp_query.specs.Reading.Scalars.{all_of};
-ghost use Rattle.jp_query.specs.View.{logical_view, comparable_view, op_view, origin_view};
+ghost use Rattle.jp_syntax.specs.View.{logical_view, comparable_view, op_view, origin_view};
 
 use super::calls::{call, comparable};
 use super::expression::{Connective, exists_of, joined, not_of, side_of, single_of, test_of};
@@ -20,7 +20,7 @@ use super::scalars::{after, after_blanks, call_start, skip_blanks};
 use super::selectors::singular;
 use super::stops::{at_operator, at_word, behind_condition};
 use crate::expected::Expected;
-use crate::tree::{Comparable, CompareOp, Logical, Origin};
+use jp_syntax::{Comparable, CompareOp, Logical, Origin};
 use std::alloc::Global;
 
 /// An expression and a parenthesis after it, after the first parenthesis (RFC 9535, section 2.3.5.1).

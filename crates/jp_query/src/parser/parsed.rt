@@ -1,6 +1,6 @@
 //! An expression that was read.
 
-use crate::tree::Logical;
+use jp_syntax::Logical;
 
 /// An expression, and whether it is a query or a call alone, with neither `!` nor parentheses.
 #[derive(Drop)]

@@ -8,7 +8,7 @@ ghost use Rattle.jp_query.specs.Integers.{clamp};
 ghost use Rattle.jp_query.specs.Parsing.{Gives};
 ghost use Rattle.jp_query.specs.Reading.Queries.{selector_at, next_selector, brackets_at, descendant_at, next_segment, segments_at, logical_at};
 ghost use Rattle.jp_query.specs.Reading.Scalars.{all_of, with_front};
-ghost use Rattle.jp_query.specs.View.{selector_view, segment_view, segments_view};
+ghost use Rattle.jp_syntax.specs.View.{selector_view, segment_view, segments_view};
 
 use super::failure::{Failure, Stop};
 use super::logical::logical;
@@ -16,7 +16,7 @@ use super::scalars::{after, after_blanks, skip_blanks};
 use super::selectors::{dotted, one, simple_selector};
 use super::stops::behind_selectors;
 use crate::expected::Expected;
-use crate::tree::{Segment, Selector};
+use jp_syntax::{Segment, Selector};
 use std::alloc::Global;
 
 /// A selector (RFC 9535, section 2.3).

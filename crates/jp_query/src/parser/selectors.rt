@@ -5,14 +5,14 @@ ghost use Rattle.jp_query.specs.Integers.{clamp};
 ghost use Rattle.jp_query.specs.Parsing.{Gives, simple_selector};
 ghost use Rattle.jp_query.specs.Reading.Queries.{bound_at, step_at, slice_behind, index_or_slice, singular_behind, singular_segment, next_singular, singular_at, dotted};
 ghost use Rattle.jp_query.specs.Reading.Scalars.{all_of};
-ghost use Rattle.jp_query.specs.View.{selector_view, segment_view, segments_view};
+ghost use Rattle.jp_syntax.specs.View.{selector_view, segment_view, segments_view};
 
 use super::failure::{Failure, Stop};
 use super::numbers::{begins_number, int};
 use super::scalars::{after, after_blanks, shorthand, skip_blanks};
 use super::strings::string;
 use crate::expected::Expected;
-use crate::tree::{Segment, Selector};
+use jp_syntax::{Segment, Selector};
 use std::alloc::{AllocError, Global};
 
 /// Blanks and an integer, if there is an integer, and what is left.

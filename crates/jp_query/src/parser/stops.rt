@@ -8,8 +8,7 @@ use super::scalars::{begins_with, run};
 use super::selectors::singular_segment;
 use super::strings::escape;
 use crate::expected::Expected;
-use crate::paths::is_singular;
-use crate::tree::{Comparable, Logical, Selector};
+use jp_syntax::{Comparable, Logical, Selector, is_singular};
 use std::alloc::Global;
 
 /// Where no literal and no function begins. A word that goes on to the end may become one.

@@ -7,7 +7,8 @@ ghost use Rattle.jp_model.specs.Json.Spelling.{opening};
 ghost use Rattle.jp_model.specs.Json.Status.{IsNoText};
 ghost use Rattle.jp_tape.specs.Places.{Stops};
 ghost use Rattle.jp_tape.specs.Ahead.{HasRoom, IsAhead, IsAheadOf, IsNext, IsPassed, first_or, name_marks};
-ghost use Rattle.jp_tape.specs.Reading.{IsReadable, container_if, FoundLabel, IsPlainLabel, NoLabel, OnFault};
+ghost use Rattle.jp_tape.specs.Reading.{IsReadable, FoundLabel, IsPlainLabel, NoLabel, OnFault};
+ghost use Rattle.jp_nodes.specs.Kinds.{container_if};
 ghost use Rattle.jp_tape.specs.Names.{AreKept};
 ghost use Rattle.jp_tape.specs.Machine.{BuilderSteps, NoBuilderStep, WalkReached, IsWithin, IsBehind, IsSettled, Labelled, IsCounted, IsClosed, BuilderHolds};
 ghost use Rattle.jp_tape.specs.declared.builder.machine.Open.{Open};
@@ -17,10 +18,10 @@ use super::BuildFault;
 use super::kept::KeptName;
 use super::machine::{Builder, GRAMMAR, MOST_DEPTH, Open, Turn, closing_of, note};
 use super::names::has_equal;
-use super::node::{container_kind, head, label_to_word, span_to_word, write_node};
 use super::scan::{is_at, is_byte, marks_behind, next_token};
 use super::tokens::{Label, name_at, no_name};
 use jp_model::LineFault;
+use jp_nodes::node::{container_kind, head, label_to_word, span_to_word, write_node};
 
 /// Leaves the innermost container.
 #[inline(always)]

@@ -7,7 +7,8 @@ ghost use Rattle.jp_model.specs.Json.Spelling.{opening};
 ghost use Rattle.jp_model.specs.Json.Status.{IsNoText};
 ghost use Rattle.jp_tape.specs.Places.{Stops};
 ghost use Rattle.jp_tape.specs.Ahead.{IsAhead, IsNext, IsPassed};
-ghost use Rattle.jp_tape.specs.Reading.{IsReadable, container_if, FoundScalar, NoValue, FoundLabel, NoLabel, OnFault};
+ghost use Rattle.jp_tape.specs.Reading.{IsReadable, FoundScalar, NoValue, FoundLabel, NoLabel, OnFault};
+ghost use Rattle.jp_nodes.specs.Kinds.{container_if};
 ghost use Rattle.jp_tape.specs.Nesting.{IsValueNext, IsValueBehind, IsReached, AreMarksOf, IsWithin, IsPast, IsSettled, NestsTooDeep};
 ghost use Rattle.jp_tape.specs.declared.builder.tokens.Label.{Label};
 

@@ -14,9 +14,9 @@ ghost use Rattle.jp_strings.specs.Plain.{ArePlain};
 
 use super::numbers::number_end;
 use super::scan::{is_byte, marks_behind, next_token, word_end};
-use crate::Kind;
 use jp_lanes::first_special;
 use jp_model::Span;
+use jp_nodes::Kind;
 use jp_strings::{StringFault, test_utf8_body};
 
 /// The end of a string, and whether a surrogate stands alone in it.

@@ -10,9 +10,9 @@ ghost use Rattle.jp_tape.specs.declared.builder.machine.Turn.TheVariants as turn
 
 use super::BuildFault;
 use super::machine::{Builder, GRAMMAR, Turn, note};
-use super::node::{head, span_to_word, write_node};
 use super::scan::{is_byte, marks_behind, next_token, skip_white};
 use super::tokens::{Scalar, scalar_at, text_at};
+use jp_nodes::node::{head, span_to_word, write_node};
 
 impl Builder {
     /// Writes the node of a value that has no children.

@@ -1,8 +1,8 @@
 -- The names of an object differ, so its members have one order.
 use Rattle.std.proofs.Common.{◌≡◌, length, arith}
 use Rattle.jp_canon.proofs.ByName.{names_distinct, appended_by_name}
-use Rattle.jp_tape.specs.Cursors.{node_of}
-use Rattle.jp_tape.proofs.Cursors.{sound}
+use Rattle.jp_nodes.specs.Cursors.{node_of}
+use Rattle.jp_nodes.proofs.Cursors.{sound}
 use Rattle.jp_canon.proofs.members.append_by_name.Goals as goal
 
 pub returns : goal.returns

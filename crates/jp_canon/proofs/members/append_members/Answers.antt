@@ -4,9 +4,9 @@ use Rattle.jp_values.specs.declared.member.Member.{Member}
 use Rattle.jp_canon.proofs.Listed.{Listed, listed_none, listed_named, listed_nameless, listed_all}
 use Rattle.jp_model.specs.Json.Tree.{Children, value_of}
 use Rattle.jp_strings.specs.Points.{points_of}
-use Rattle.jp_tape.specs.declared.cursor.Cursor.{Cursor}
-use Rattle.jp_tape.specs.Cursors.{node_of, children_from, children_after}
-use Rattle.jp_tape.specs.Spots.{children_in}
+use Rattle.jp_nodes.specs.declared.cursor.Cursor.{Cursor}
+use Rattle.jp_nodes.specs.Cursors.{node_of, children_from, children_after}
+use Rattle.jp_nodes.specs.Spots.{children_in}
 use Rattle.jp_canon.proofs.members.append_members.Goals.{in-Some-name+in_ok-push, in_default-name}
 use Rattle.jp_canon.proofs.members.append_members.Goals as goal
 

@@ -2,8 +2,8 @@
 use Rattle.std.proofs.Common.{length}
 use Rattle.jp_canon.proofs.Listed.{Listed}
 use Rattle.jp_model.specs.Json.Tree.{value_of}
-use Rattle.jp_tape.specs.Cursors.{node_of, children_from, nodes_from}
-use Rattle.jp_tape.specs.Spots.{children_in}
+use Rattle.jp_nodes.specs.Cursors.{node_of, children_from, nodes_from}
+use Rattle.jp_nodes.specs.Spots.{children_in}
 use Rattle.jp_canon.proofs.members.append_members.Given as goal
 
 abbrev pub invariant-loop-next : goal.invariant-loop-next

@@ -6,11 +6,11 @@ use Rattle.jp_canon.specs.Members.{IsWithin}
 use Rattle.jp_canon.proofs.Joined.{joined_from, turn_joined}
 use Rattle.jp_canon.proofs.Printed.{one_within, turn_printed, all_printed}
 use Rattle.jp_model.specs.Json.Tree.{Children, value_of}
-use Rattle.jp_tape.specs.declared.cursor.Cursor.{Cursor}
-use Rattle.jp_tape.specs.Cursors.{node_of, children_from, children_after}
-use Rattle.jp_tape.specs.Spots.{children_in}
-use Rattle.jp_tape.specs.Words.{children_node_count}
-use Rattle.jp_tape.proofs.Places.{count-in, some_node}
+use Rattle.jp_nodes.specs.declared.cursor.Cursor.{Cursor}
+use Rattle.jp_nodes.specs.Cursors.{node_of, children_from, children_after}
+use Rattle.jp_nodes.specs.Spots.{children_in}
+use Rattle.jp_nodes.specs.Words.{children_node_count}
+use Rattle.jp_nodes.proofs.Places.{count-in, some_node}
 use Rattle.jp_tape.proofs.Repeated.{text_is}
 use Rattle.jp_canon.proofs.printer.+value.Goals as goal
 

@@ -5,9 +5,9 @@ use Rattle.jp_canon.specs.Canonical.{element_texts}
 use Rattle.jp_canon.specs.Members.{text_of}
 use Rattle.jp_canon.proofs.Joined.{joined_from}
 use Rattle.jp_model.specs.Json.Tree.{value_of}
-use Rattle.jp_tape.specs.Cursors.{node_of, children_from}
-use Rattle.jp_tape.specs.Spots.{children_in}
-use Rattle.jp_tape.specs.Words.{node_count, children_node_count}
+use Rattle.jp_nodes.specs.Cursors.{node_of, children_from}
+use Rattle.jp_nodes.specs.Spots.{children_in}
+use Rattle.jp_nodes.specs.Words.{node_count, children_node_count}
 use Rattle.jp_canon.proofs.printer.+value.Given as goal
 
 abbrev pub decreases-append_array : goal.decreases-append_array

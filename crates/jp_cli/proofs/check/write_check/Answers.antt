@@ -1,7 +1,7 @@
 -- The summary stands behind the rows.
 use Rattle.std.proofs.Common.{subst, refl}
-use Rattle.jp_model.specs.Devices.{Writes}
-use Rattle.jp_rows.proofs.Chains.{ends_behind}
+use Rattle.jp_devices.specs.Devices.{Writes}
+use Rattle.jp_devices.proofs.Chains.{ends_behind}
 use Rattle.jp_cli.proofs.RefusalsWritten.{refusals_fit, check_text}
 use Rattle.jp_cli.proofs.check.write_check.Goals as goal
 

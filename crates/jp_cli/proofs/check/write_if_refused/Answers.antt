@@ -1,7 +1,7 @@
 -- A refused line has one row.
 use Rattle.std.proofs.Common.{sym, subst, refl, [], ◌∷◌, append-nil}
 use Rattle.jp_model.specs.declared.Framing.{Framing}
-use Rattle.jp_model.specs.Devices.{Writes}
+use Rattle.jp_devices.specs.Devices.{Writes}
 use Rattle.jp_model.specs.Rows.{refusal_text}
 use Rattle.jp_model.specs.Script.Machine.{refusals_from}
 use Rattle.jp_cli.proofs.Statuses.{nothing_of_blank, nothing_of_tree, told_refused}

@@ -1,6 +1,6 @@
 -- The rows so far are written, and no write failed.
 use Rattle.std.proofs.Common.{◌≡◌, ◌-◌, ◌≤◌, false, length, take}
-use Rattle.jp_model.specs.Devices.{Received}
+use Rattle.jp_devices.specs.Devices.{Received}
 use Rattle.jp_model.specs.Script.Machine.{refusals_from}
 use Rattle.jp_store.specs.Collections.{statuses_in}
 use Rattle.jp_cli.proofs.check.write_refusals.Given as goal

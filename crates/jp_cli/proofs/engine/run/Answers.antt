@@ -1,7 +1,7 @@
 -- Where the collection was not loaded, no byte of the script came and none was written; else the run ends as the script does.
 use Rattle.std.proofs.Common.{◌∙◌, ◌||◌, ◌≡◌, true, sym, ap, subst, inl}
 use Rattle.jp_model.specs.Script.Headline.{GivenToRun, RunEnded, WasStarved, lines_within}
-use Rattle.jp_model.proofs.Devices.{nothing_came, or_true, received_none}
+use Rattle.jp_devices.proofs.Devices.{nothing_came, or_true, received_none}
 use Rattle.std.specs.Prelude.{MatchResult}
 use Rattle.jp_model.specs.declared.Setup.{Setup}
 use Rattle.jp_cli.specs.Runs.{setup_of, setup_with, state_of}

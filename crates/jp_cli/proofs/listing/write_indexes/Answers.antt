@@ -1,8 +1,8 @@
 -- The count stands behind the paths.
 use Rattle.std.proofs.Common.{subst, ℕ}
-use Rattle.jp_model.specs.Devices.{Writes}
+use Rattle.jp_devices.specs.Devices.{Writes}
 use Rattle.jp_model.specs.Script.Machine.{count_line}
-use Rattle.jp_rows.proofs.Chains.{ends_behind}
+use Rattle.jp_devices.proofs.Chains.{ends_behind}
 use Rattle.jp_cli.proofs.listing.write_indexes.Goals as goal
 
 pub returns-in-Ok-clause-text : goal.returns-in-Ok-clause-text

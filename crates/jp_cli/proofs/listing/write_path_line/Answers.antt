@@ -1,8 +1,8 @@
 -- The line feed follows the path.
 use Rattle.jp_model.specs.Meaning.Paths.{path_text}
 use Rattle.jp_model.specs.Rows.{line_feed}
-use Rattle.jp_query.specs.SingularPaths.{path_steps}
-use Rattle.jp_rows.proofs.Chains.{ends_behind}
+use Rattle.jp_syntax.specs.SingularPaths.{path_steps}
+use Rattle.jp_devices.proofs.Chains.{ends_behind}
 use Rattle.jp_cli.proofs.listing.write_path_line.Goals as goal
 
 pub returns-clause-text : goal.returns-clause-text

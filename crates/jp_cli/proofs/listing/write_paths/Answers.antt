@@ -2,11 +2,11 @@
 use Rattle.std.proofs.Common.{◌≡◌, ◌∙◌, ℕ, List, sym, subst, arith, get_or}
 use Rattle.std.proofs.lemmas.List.{take_all}
 use Rattle.std.proofs.lemmas.Option.{get_or_from_slice_get}
-use Rattle.jp_model.specs.Devices.{Received}
+use Rattle.jp_devices.specs.Devices.{Received}
 use Rattle.jp_model.specs.Meaning.Paths.{path_text}
 use Rattle.jp_model.specs.Script.Machine.{said}
 use Rattle.jp_model.specs.Steps.{Step}
-use Rattle.jp_query.specs.SingularPaths.{path_steps}
+use Rattle.jp_syntax.specs.SingularPaths.{path_steps}
 use Rattle.jp_cli.specs.Listed.{listed}
 use Rattle.jp_cli.proofs.RowsWritten.{row_written, row_in_part}
 use Rattle.jp_cli.proofs.listing.write_paths.Goals as goal

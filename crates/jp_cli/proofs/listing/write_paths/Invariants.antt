@@ -1,6 +1,6 @@
 -- The paths so far are written, and no write failed.
 use Rattle.std.proofs.Common.{◌≡◌, false, take}
-use Rattle.jp_model.specs.Devices.{Received}
+use Rattle.jp_devices.specs.Devices.{Received}
 use Rattle.jp_cli.specs.Listed.{listed}
 use Rattle.jp_cli.proofs.listing.write_paths.Given as goal
 

@@ -1,8 +1,8 @@
 -- One row more is written, or a beginning of it.
 use Rattle.std.proofs.Common.{◌∙◌, ℕ, List, get_or, sym, subst}
 use Rattle.std.proofs.lemmas.Grind.{get_or_default_zero}
-use Rattle.jp_rows.proofs.Chains.{Part}
-use Rattle.jp_model.specs.Devices.{Received}
+use Rattle.jp_devices.proofs.Chains.{Part}
+use Rattle.jp_devices.specs.Devices.{Received}
 use Rattle.jp_cli.specs.Found.{place_text}
 use Rattle.jp_cli.proofs.RowsWritten.{row_written, row_in_part, placed}
 use Rattle.jp_cli.proofs.rows.write_nodes.Goals as goal

@@ -1,6 +1,6 @@
 -- The rows so far are written, and no write failed.
 use Rattle.std.proofs.Common.{◌≡◌, false, flat_map, take}
-use Rattle.jp_model.specs.Devices.{Received}
+use Rattle.jp_devices.specs.Devices.{Received}
 use Rattle.jp_cli.specs.Found.{place_text}
 use Rattle.jp_cli.proofs.rows.write_nodes.Given as goal
 

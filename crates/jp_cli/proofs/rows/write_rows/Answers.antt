@@ -1,6 +1,6 @@
 -- The rows of one line more are written, or a beginning of them.
 use Rattle.std.proofs.Common.{◌∙◌, ◌+◌, ◌∷◌, ℕ, List, drop, flat_map, ap, sym, subst, Bor}
-use Rattle.jp_rows.proofs.Chains.{ends_in_part}
+use Rattle.jp_devices.proofs.Chains.{ends_in_part}
 use Rattle.jp_plan.specs.ByLine.{found_in}
 use Rattle.jp_plan.specs.declared.rows.LineRows.{LineRows}
 use Rattle.jp_plan.proofs.ByLine.{line_next}

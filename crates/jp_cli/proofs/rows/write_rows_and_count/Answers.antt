@@ -1,9 +1,9 @@
 -- The count stands behind the rows: each place is that of one node.
 use Rattle.std.proofs.Common.{◌≡◌, subst, ℕ, arith}
 use Rattle.std.specs.Prelude.{count_by}
-use Rattle.jp_model.specs.Devices.{Writes}
+use Rattle.jp_devices.specs.Devices.{Writes}
 use Rattle.jp_model.specs.Script.Machine.{count_line}
-use Rattle.jp_rows.proofs.Chains.{ends_behind}
+use Rattle.jp_devices.proofs.Chains.{ends_behind}
 use Rattle.jp_plan.specs.ByLine.{found_in}
 use Rattle.jp_cli.specs.Found.{is_found_node}
 use Rattle.jp_cli.proofs.RowsTold.{places_counted}

@@ -3,9 +3,9 @@ use Rattle.std.proofs.Common.{◌≡◌, ◌∙◌, ℕ, Bool, true, false, List
 use Rattle.std.specs.Str.{IsUtf8}
 use Rattle.jp_model.specs.Query.Syntax as syntax
 use Rattle.jp_model.specs.Query.Typing.{logical_kind}
-use Rattle.jp_query.specs.View.{arguments_view}
-use Rattle.jp_query.specs.declared.tree.Argument.{Argument}
-use Rattle.jp_query.specs.declared.tree.Call.{Call}
+use Rattle.jp_syntax.specs.View.{arguments_view}
+use Rattle.jp_syntax.specs.declared.tree.Argument.{Argument}
+use Rattle.jp_syntax.specs.declared.tree.Call.{Call}
 use Rattle.jp_eval.specs.Questions.{passing_name}
 use Rattle.jp_eval.proofs.Called.{fits, is_search, two_called, two_taken, word_is, word_is_not}
 use Rattle.jp_eval.proofs.Lists.{two_items}

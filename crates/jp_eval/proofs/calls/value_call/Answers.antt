@@ -6,9 +6,9 @@ use Rattle.std.specs.Str.{IsUtf8}
 use Rattle.jp_model.specs.Characters.{text_equal}
 use Rattle.jp_model.specs.Query.Syntax as syntax
 use Rattle.jp_model.specs.Query.Typing.{nodes_kind, value_kind, argument_typed}
-use Rattle.jp_query.specs.View.{argument_view, arguments_view, call_view}
-use Rattle.jp_query.specs.declared.tree.Argument.{Argument}
-use Rattle.jp_query.specs.declared.tree.Call.{Call}
+use Rattle.jp_syntax.specs.View.{argument_view, arguments_view, call_view}
+use Rattle.jp_syntax.specs.declared.tree.Argument.{Argument}
+use Rattle.jp_syntax.specs.declared.tree.Call.{Call}
 use Rattle.jp_eval.proofs.Called.{fits, answers_no_nodes, is_value, nodes_given, one_called, one_taken, word_is, word_is_not}
 use Rattle.jp_eval.proofs.Lists.{one_item}
 use Rattle.jp_eval.proofs.Views.{call_viewed, condition_viewed, constant_viewed, nodes_viewed, result_viewed}

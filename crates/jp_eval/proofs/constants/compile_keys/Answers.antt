@@ -3,8 +3,8 @@ use Rattle.std.proofs.Common.{◌≡◌, ◌∙◌, ℕ, ◌+◌, ◌++◌, [], 
 use Rattle.std.specs.Prelude.{IfSome}
 use Rattle.std.proofs.lemmas.List.{drop_all}
 use Rattle.jp_model.specs.Query.Syntax as syntax
-use Rattle.jp_query.specs.View.{segment_view, segments_of}
-use Rattle.jp_query.specs.declared.tree.Segment.{Segment}
+use Rattle.jp_syntax.specs.View.{segment_view, segments_of}
+use Rattle.jp_syntax.specs.declared.tree.Segment.{Segment}
 use Rattle.jp_eval.specs.Keys.{key_segment}
 use Rattle.jp_eval.specs.declared.question.Key.{Key}
 use Rattle.jp_eval.proofs.Lists.{item_at}

@@ -1,6 +1,6 @@
 -- The keys so far, and the segments that are left, are all.
 use Rattle.std.proofs.Common.{◌≡◌, ◌++◌, drop, map}
-use Rattle.jp_query.specs.View.{segment_view}
+use Rattle.jp_syntax.specs.View.{segment_view}
 use Rattle.jp_eval.specs.Keys.{key_segment}
 use Rattle.jp_eval.proofs.constants.compile_keys.Given as goal
 

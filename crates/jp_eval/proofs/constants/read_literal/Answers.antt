@@ -4,9 +4,9 @@ use Rattle.jp_decimal.specs.Decimals.{number_of, numeral_number}
 use Rattle.jp_decimal.specs.Reading.{ReadsAs}
 use Rattle.jp_decimal.specs.Values.{Number}
 use Rattle.jp_model.specs.Query.Syntax.{number_literal}
-use Rattle.jp_query.specs.declared.tree.Literal.{Literal}
-use Rattle.jp_query.specs.View.{literal_view}
-use Rattle.jp_query.specs.Sound.{is_sound}
+use Rattle.jp_syntax.specs.declared.tree.Literal.{Literal}
+use Rattle.jp_syntax.specs.View.{literal_view}
+use Rattle.jp_syntax.specs.Sound.{is_sound}
 use Rattle.jp_values.proofs.Leaves.{literal_short}
 use Rattle.jp_eval.specs.Constants.{is_read_as}
 use Rattle.jp_eval.proofs.Literals.{read_as}

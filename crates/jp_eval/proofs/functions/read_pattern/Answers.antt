@@ -6,8 +6,8 @@ use Rattle.jp_model.specs.Json.Tree.{Value, null, boolean, number, string, conta
 use Rattle.jp_model.specs.Pattern.Tree.{Pattern}
 use Rattle.jp_model.specs.Pattern.Reading.{pattern_of}
 use Rattle.jp_strings.specs.Points.{points_of}
-use Rattle.jp_tape.specs.Contents.{text_in}
-use Rattle.jp_tape.specs.Cursors.{node_of}
+use Rattle.jp_nodes.specs.Contents.{text_in}
+use Rattle.jp_nodes.specs.Cursors.{node_of}
 use Rattle.jp_values.specs.declared.value.Value.{Value as Side}
 use Rattle.jp_eval.specs.Functions.{pattern_in}
 use Rattle.jp_iregexp.specs.Trees.{pattern_view}

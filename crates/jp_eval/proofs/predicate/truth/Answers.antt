@@ -3,7 +3,7 @@ use Rattle.std.proofs.Common.{subst}
 use Rattle.std.specs.Prelude.{◌≡◌, IfOk}
 use Rattle.jp_model.specs.Meaning.Selecting.{truth}
 use Rattle.jp_model.specs.Query.Syntax.{Logical}
-use Rattle.jp_tape.specs.Cursors.{node_of}
+use Rattle.jp_nodes.specs.Cursors.{node_of}
 use Rattle.jp_eval.proofs.predicate.truth.Goals as goal
 
 pub returns : goal.returns

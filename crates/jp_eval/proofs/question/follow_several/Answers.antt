@@ -3,8 +3,8 @@ use Rattle.std.proofs.Common.{◌≡◌, ◌∙◌, ◌+◌, List, [], ◌∷◌
 use Rattle.std.proofs.lemmas.List.{drop_all}
 use Rattle.jp_model.proofs.Seek.{no_nodes}
 use Rattle.jp_model.specs.Meaning.Selecting.{nodes}
-use Rattle.jp_tape.specs.Cursors.{node_of}
-use Rattle.jp_tape.specs.declared.cursor.Cursor.{Cursor}
+use Rattle.jp_nodes.specs.Cursors.{node_of}
+use Rattle.jp_nodes.specs.declared.cursor.Cursor.{Cursor}
 use Rattle.jp_eval.specs.Keys.{keys_view}
 use Rattle.jp_eval.specs.declared.question.Key.{Key}
 use Rattle.jp_eval.proofs.Following.{key_follows}

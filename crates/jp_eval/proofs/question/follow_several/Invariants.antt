@@ -2,7 +2,7 @@
 use Rattle.std.proofs.Common.{◌≡◌, [], ◌∷◌, drop}
 use Rattle.jp_model.specs.Json.Tree.{Tree}
 use Rattle.jp_model.specs.Meaning.Selecting.{nodes}
-use Rattle.jp_tape.specs.Cursors.{node_of}
+use Rattle.jp_nodes.specs.Cursors.{node_of}
 use Rattle.jp_eval.specs.Keys.{keys_view}
 use Rattle.jp_eval.proofs.question.follow_several.Given as goal
 

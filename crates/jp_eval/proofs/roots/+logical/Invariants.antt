@@ -1,6 +1,6 @@
 -- All expressions ask the root alone where those that are left do.
 use Rattle.std.proofs.Common.{◌≡◌, drop}
-use Rattle.jp_query.specs.View.{logicals_view}
+use Rattle.jp_syntax.specs.View.{logicals_view}
 use Rattle.jp_eval.specs.Roots.{logicals_ask_root}
 use Rattle.jp_eval.proofs.roots.+logical.Given as goal
 

@@ -1,6 +1,6 @@
 -- All arguments ask the root alone where those that are left do.
 use Rattle.std.proofs.Common.{◌≡◌, drop}
-use Rattle.jp_query.specs.View.{arguments_view}
+use Rattle.jp_syntax.specs.View.{arguments_view}
 use Rattle.jp_eval.specs.Roots.{arguments_ask_root}
 use Rattle.jp_eval.proofs.roots.+roots.Given as goal
 

@@ -13,8 +13,8 @@ use Rattle.jp_model.specs.Rows.{node_row, source, status_rows as query_rows}
 use Rattle.jp_grep.specs.Laws.{numbered_values, row_with_colon}
 use Rattle.jp_grep.specs.Matching.{all_hold, conditions_of, matches, nodes_of, queries_of, selected_by, selects}
 use Rattle.jp_grep.specs.Rows.{node_rows, path_front, row, status_rows}
-use Rattle.jp_grep.specs.declared.form.Form.{Form}
-use Rattle.jp_grep.specs.declared.form.Summary.{Summary}
+use Rattle.jp_form.specs.declared.form.Form.{Form}
+use Rattle.jp_form.specs.declared.form.Summary.{Summary}
 use Rattle.jp_grep.specs.declared.question.Question.{Question}
 use Rattle.jp_grep.proofs.laws.rows_are_those_of_a_query.Goals as goal
 

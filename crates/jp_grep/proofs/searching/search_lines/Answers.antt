@@ -2,8 +2,8 @@
 use Rattle.std.proofs.Common.{◌≡◌, ◌∙◌, ◌<◌, ◌||◌, ℕ, List, [], ◌++◌, length, take, append-nil, sym, ap, subst, refl, arith, true, false, Bool, Ok, Err}
 use Rattle.std.proofs.lemmas.List.{take_all}
 use Rattle.jp_model.specs.Lines.{is_framed}
-use Rattle.jp_model.specs.Devices.{Gave, one_more_where}
-use Rattle.jp_model.proofs.Devices.{came_so, came_whole, gave_kept, gave_more, gave_none, goes_on, or_false}
+use Rattle.jp_devices.specs.Devices.{Gave, one_more_where}
+use Rattle.jp_devices.proofs.Devices.{came_so, came_whole, gave_kept, gave_more, gave_none, goes_on, or_false}
 use Rattle.std.proofs.KnownBytes.{Consumes-nil}
 use Rattle.jp_masks.specs.Found.{lines_in}
 use Rattle.jp_grep.specs.Cuts.{text_of}
@@ -18,8 +18,8 @@ loop-read-init g c = record {
     [],
     [],
     gave_none g.R.Read.remaining c.args.input.now c.args.input.now refl (Consumes-nil (g.R.Read.remaining c.args.input.now.device)),
-    at_start c.args.answerer.question.now c.args.answerer.form.now g.W.Write.contents g.E.Write.contents c.new.result c.new-3.result c.args.out.now c.args.messages.now c.new.ensures.framing c.new.ensures.held c.new.ensures.first
-        c.new-3.ensures.number c.new-3.ensures.selected c.new-3.ensures.refused,
+    at_start c.args.answerer.question.now c.args.answerer.form.now g.W.Write.contents g.E.Write.contents c.new.result c.new-4.result c.args.out.now c.args.messages.now c.new.ensures.framing c.new.ensures.held c.new.ensures.first
+        c.new-4.ensures.number c.new-4.ensures.selected c.new-4.ensures.refused,
   );
   room = refl;
   reads = c.requires.reads;

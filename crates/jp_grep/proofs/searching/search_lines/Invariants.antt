@@ -1,6 +1,6 @@
 -- Of the bytes that came the lines that ended are answered, as far as they are wanted.
 use Rattle.std.proofs.Common.{◌≡◌, ℕ, List, length, false}
-use Rattle.jp_model.specs.Devices.{Gave}
+use Rattle.jp_devices.specs.Devices.{Gave}
 use Rattle.jp_grep.specs.Searching.{HasAnswered}
 use Rattle.jp_grep.proofs.searching.search_lines.Given as goal
 

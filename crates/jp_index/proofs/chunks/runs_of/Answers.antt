@@ -1,7 +1,7 @@
 -- One chunk more.
 use Rattle.std.proofs.Common.{◌≡◌, ◌∙◌, ◌++◌, List, ap, ap₂, filter, subst, sym, ℕ}
 use Rattle.std.proofs.lemmas.List.{take_all}
-use Rattle.jp_query.specs.View.{op_view}
+use Rattle.jp_syntax.specs.View.{op_view}
 use Rattle.jp_index.specs.ByKey.{Ascend}
 use Rattle.jp_index.specs.Cells.{key_at}
 use Rattle.jp_index.specs.Chunks.{lines_in}

@@ -1,6 +1,6 @@
 -- Those of the chunks so far.
 use Rattle.std.proofs.Common.{◌≡◌, take, filter}
-use Rattle.jp_query.specs.View.{op_view}
+use Rattle.jp_syntax.specs.View.{op_view}
 use Rattle.jp_index.specs.ByKey.{Ascend}
 use Rattle.jp_index.specs.Cells.{key_at}
 use Rattle.jp_index.specs.Chunks.{lines_in}

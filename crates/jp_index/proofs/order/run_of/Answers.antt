@@ -1,5 +1,5 @@
 -- Those between the two edges.
-use Rattle.jp_query.specs.View.{op_view}
+use Rattle.jp_syntax.specs.View.{op_view}
 use Rattle.jp_index.specs.Cells.{key_at}
 use Rattle.jp_index.proofs.Runs.{run_is}
 use Rattle.jp_index.proofs.order.run_of.Goals as goal

@@ -3,8 +3,8 @@ use Rattle.std.proofs.Common.{◌∙◌, ◌++◌, ℕ, List, ap, codes, encode_
 use Rattle.jp_model.specs.Meaning.Paths.{literal_text, op_text, path_text}
 use Rattle.jp_model.specs.Plans.{guard_text}
 use Rattle.jp_model.specs.Rows.{line_feed}
-use Rattle.jp_query.specs.SingularPaths.{path_steps}
-use Rattle.jp_query.specs.View.{literal_view, op_view}
+use Rattle.jp_syntax.specs.SingularPaths.{path_steps}
+use Rattle.jp_syntax.specs.View.{literal_view, op_view}
 use Rattle.jp_plan.specs.Paths.{guard_at, guard_of_steps}
 use Rattle.jp_plan.proofs.Explained.{more, guard_pieces}
 use Rattle.jp_plan.proofs.Walks.{ends}

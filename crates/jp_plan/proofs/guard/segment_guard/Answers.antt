@@ -1,7 +1,7 @@
 -- A filter beside another selector gives no guard.
 use Rattle.std.proofs.Common.{◌≡◌, ◌∙◌, sym, ap, arith}
 use Rattle.jp_model.specs.Plans.{first_guard, only_filter, segment_conjuncts}
-use Rattle.jp_query.specs.View.{segment_view, selectors_view}
+use Rattle.jp_syntax.specs.View.{segment_view, selectors_view}
 use Rattle.std.proofs.lemmas.Grind.{common_steps}
 use Rattle.jp_eval.proofs.Compiled.{child_seen, descendant_seen}
 use Rattle.jp_plan.proofs.Guards.{not_alone}

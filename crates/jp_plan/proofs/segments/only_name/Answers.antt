@@ -1,7 +1,7 @@
 -- One selector stands alone, and no other number of them does.
 use Rattle.std.proofs.Common.{◌≡◌, List, None, Some, MatchOption, chars, sym, subst}
-use Rattle.jp_query.specs.View.{selector_view, selectors_view}
-use Rattle.jp_query.specs.declared.tree.Selector.{Selector}
+use Rattle.jp_syntax.specs.View.{selector_view, selectors_view}
+use Rattle.jp_syntax.specs.declared.tree.Selector.{Selector}
 use Rattle.jp_plan.specs.Walks.{name_alone}
 use Rattle.jp_plan.proofs.Guards.{alone}
 use Rattle.jp_plan.proofs.Walks.{not_alone}

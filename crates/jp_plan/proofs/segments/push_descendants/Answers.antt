@@ -3,7 +3,7 @@ use Rattle.std.proofs.Common.{◌≡◌, ◌∙◌, ◌++◌, ap, append_assoc, 
 use Rattle.jp_model.specs.Plans.{segment_text}
 use Rattle.jp_model.specs.Query.Syntax.{descendant_segment}
 use Rattle.jp_model.specs.Rows.{line_feed}
-use Rattle.jp_query.specs.View.{selector_view, selectors_view}
+use Rattle.jp_syntax.specs.View.{selector_view, selectors_view}
 use Rattle.jp_plan.proofs.Walks.{descent_counted, selectors_counted, ends}
 use Rattle.jp_plan.proofs.segments.push_descendants.Goals as goal
 

@@ -3,7 +3,7 @@ use Rattle.std.proofs.Common.{◌≡◌, ◌∙◌, ◌++◌, [], ap, append-nil
 use Rattle.std.proofs.lemmas.List.{at_drop_all}
 use Rattle.jp_model.specs.Plans.{segments_text}
 use Rattle.jp_model.specs.Query.Syntax.{segment_list}
-use Rattle.jp_query.specs.View.{segment_view, segments_view}
+use Rattle.jp_syntax.specs.View.{segment_view, segments_view}
 use Rattle.jp_plan.specs.Walks.{parts_text, walk_ends}
 use Rattle.jp_plan.proofs.Walks.{segments_listed, tells}
 use Rattle.jp_plan.proofs.segments.push_segments.Goals as goal

@@ -1,6 +1,6 @@
 -- What is told so far, and then the segments that are left, is the text of all.
 use Rattle.std.proofs.Common.{◌≡◌, ◌++◌, drop, false, map}
-use Rattle.jp_query.specs.View.{segment_view}
+use Rattle.jp_syntax.specs.View.{segment_view}
 use Rattle.jp_plan.specs.Walks.{parts_text}
 use Rattle.jp_plan.proofs.segments.push_segments.Given as goal
 

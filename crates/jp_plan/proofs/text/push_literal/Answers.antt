@@ -2,8 +2,8 @@
 use Rattle.std.proofs.Common.{◌≡◌, ◌∙◌, [], ap, append-nil, encode_utf8_all, sym, true}
 use Rattle.jp_model.specs.Meaning.Paths.{literal_text}
 use Rattle.jp_model.specs.Query.Syntax.{number_literal}
-use Rattle.jp_query.specs.Sound.{is_sound}
-use Rattle.jp_query.specs.View.{literal_view}
+use Rattle.jp_syntax.specs.Sound.{is_sound}
+use Rattle.jp_syntax.specs.View.{literal_view}
 use Rattle.jp_plan.proofs.Spelled.{number_encoded}
 use Rattle.jp_plan.proofs.Walks.{ends}
 use Rattle.jp_plan.proofs.text.push_literal.Goals as goal

@@ -1,7 +1,7 @@
 use Rattle.std.proofs.Common.{◌≡◌, drop}
 use Rattle.jp_model.specs.Query.Limits.{segments_pass}
 use Rattle.jp_query.specs.Limits.{limit_tests}
-use Rattle.jp_query.specs.View.{segments_view}
+use Rattle.jp_syntax.specs.View.{segments_view}
 use Rattle.jp_query.proofs.limits.segments_pass.Given as goal
 
 -- all passes where what is left does

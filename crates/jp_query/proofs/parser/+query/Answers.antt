@@ -4,15 +4,11 @@ use Rattle.std.proofs.lemmas.List.{map_push}
 use Rattle.jp_query.specs.Integers.{clamp}
 use Rattle.jp_query.specs.Reading.Scalars.{all_of, with_front}
 use Rattle.jp_query.specs.Reading.Queries.{next_selector, next_segment, next_argument, next_basic, next_and, logical_at}
-use Rattle.jp_query.specs.View.{selector_view, segment_view, logical_view, argument_view}
+use Rattle.jp_syntax.specs.View.{selector_view, segment_view, logical_view, argument_view}
 use Rattle.jp_query.proofs.Loop.{goes_on, fails, stops, is_done}
 use Rattle.jp_query.proofs.Segments.{segments_fail, segments_given}
 use Rattle.jp_query.proofs.parser.+query.Goals as goal
-use Rattle.jp_query.proofs.parser.+query.Goals.{queries::more_selectors-else-loop-test, queries::more_selectors-then-loop-test+in_ok-one+in_default}
-use Rattle.jp_query.proofs.parser.+query.Goals.{queries::segments-else-loop-test, queries::segments-then-loop-test+in_ok-one+in_default}
-use Rattle.jp_query.proofs.parser.+query.Goals.{calls::more_arguments-else-loop-test, calls::more_arguments-then-loop-test+in_ok-one+in_default}
-use Rattle.jp_query.proofs.parser.+query.Goals.{logical::more_basics-else-loop-test, logical::more_basics-then-loop-test+in_ok-one+in_default}
-use Rattle.jp_query.proofs.parser.+query.Goals.{logical::more_conjunctions-else-loop-test, logical::more_conjunctions-then-loop-test+in_ok-one+in_default}
+use Rattle.jp_query.proofs.parser.+query.Goals.{queries::more_selectors-else-loop-test, queries::more_selectors-then-loop-test+in_ok-one+in_default, queries::segments-else-loop-test, queries::segments-then-loop-test+in_ok-one+in_default, calls::more_arguments-else-loop-test, calls::more_arguments-then-loop-test+in_ok-one+in_default, logical::more_basics-else-loop-test, logical::more_basics-then-loop-test+in_ok-one+in_default, logical::more_conjunctions-else-loop-test, logical::more_conjunctions-then-loop-test+in_ok-one+in_default}
 
 pub queries::more_selectors-returns-in_err-one : goal.queries::more_selectors-returns-in_err-one
 queries::more_selectors-returns-in_err-one t c =

@@ -2,7 +2,7 @@ use Rattle.std.proofs.Common.{◌≡◌, ◌+◌, ◌-◌, ◌*◌, map, length}
 use Rattle.jp_query.specs.Integers.{clamp}
 use Rattle.jp_query.specs.Reading.Scalars.{many, all_of, with_front}
 use Rattle.jp_query.specs.Reading.Queries.{next_selector, next_segment, next_argument, next_basic, next_and, logical_at}
-use Rattle.jp_query.specs.View.{selector_view, segment_view, logical_view, argument_view}
+use Rattle.jp_syntax.specs.View.{selector_view, segment_view, logical_view, argument_view}
 use Rattle.jp_query.proofs.parser.+query.Given as goal
 
 abbrev pub decreases-logical::logical : goal.decreases-logical::logical

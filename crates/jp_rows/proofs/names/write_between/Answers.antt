@@ -1,6 +1,6 @@
 -- The name follows the first mark, and the other mark follows it.
 use Rattle.jp_rows.specs.Names.{name_text, scalars_of}
-use Rattle.jp_rows.proofs.Chains.{both_received, part_more, part_behind, ends_behind, ends_in_part}
+use Rattle.jp_devices.proofs.Chains.{both_received, part_more, part_behind, ends_behind, ends_in_part}
 use Rattle.jp_rows.proofs.names.write_between.Goals as goal
 
 pub returns-in_err-write_whole-clause-text : goal.returns-in_err-write_whole-clause-text

@@ -3,7 +3,7 @@ use Rattle.std.proofs.Common.{◌≡◌, ◌∙◌, ◌++◌, ◌∷◌, [], sym
 use Rattle.jp_strings.specs.Points.{points_of}
 use Rattle.jp_strings.specs.Scalars.{scalars_left}
 use Rattle.jp_rows.specs.Names.{name_text}
-use Rattle.jp_rows.proofs.Chains.{both_received, part_more, part_behind, ends_in_part}
+use Rattle.jp_devices.proofs.Chains.{both_received, part_more, part_behind, ends_in_part}
 use Rattle.jp_rows.proofs.Printed.{name-push, name-parts}
 use Rattle.jp_rows.proofs.Plain.{plain_name}
 use Rattle.jp_rows.proofs.names.write_body.Goals as goal

@@ -1,6 +1,6 @@
 -- What is written so far is the text of the scalars that were read.
 use Rattle.std.proofs.Common.{◌≡◌, ◌++◌, false}
-use Rattle.jp_model.specs.Devices.{Received}
+use Rattle.jp_devices.specs.Devices.{Received}
 use Rattle.jp_strings.specs.Points.{points_of}
 use Rattle.jp_strings.specs.Scalars.{scalars_left}
 use Rattle.jp_rows.specs.Names.{name_text}

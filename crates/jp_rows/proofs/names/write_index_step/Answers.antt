@@ -3,7 +3,7 @@ use Rattle.std.proofs.Common.{◌≡◌, ℕ, ℤ, List, codes, sym, subst, rule
 use Rattle.std.proofs.lemmas.Int.{ints}
 use Rattle.std.specs.Fmt.{signed_decimal}
 use Rattle.std.specs.Str.{IsAscii}
-use Rattle.jp_rows.proofs.Chains.{both_received, part_more, part_behind, ends_behind, ends_in_part}
+use Rattle.jp_devices.proofs.Chains.{both_received, part_more, part_behind, ends_behind, ends_in_part}
 use Rattle.jp_rows.proofs.Printed.{indexed}
 use Rattle.jp_rows.proofs.names.write_index_step.Goals as goal
 

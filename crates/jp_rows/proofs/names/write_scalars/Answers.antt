@@ -3,7 +3,7 @@ use Rattle.std.proofs.Common.{◌≡◌, ◌∙◌, ◌+◌, ◌++◌, ◌∷◌
 use Rattle.std.proofs.lemmas.Iterator.{YieldsList-from_chars}
 use Rattle.std.proofs.lemmas.Iterator.Consumers.{YieldsList-turn, YieldsList-end, YieldsList-so_far}
 use Rattle.jp_rows.specs.Names.{name_text}
-use Rattle.jp_rows.proofs.Chains.{both_received, part_more, part_behind, ends_in_part}
+use Rattle.jp_devices.proofs.Chains.{both_received, part_more, part_behind, ends_in_part}
 use Rattle.jp_rows.proofs.Printed.{name-push, name-parts}
 use Rattle.jp_rows.proofs.Turns.{around, all_read}
 use Rattle.jp_rows.proofs.names.write_scalars.Goals as goal

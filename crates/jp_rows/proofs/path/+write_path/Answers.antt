@@ -1,11 +1,11 @@
 -- The path of a node is that of its parent, and then the step to the node.
 use Rattle.std.proofs.Common.{◌≡◌, ◌++◌, ◌∷◌, [], List, ℕ, sym, ◌∙◌, ap, subst, encode_utf8_all}
-use Rattle.jp_model.specs.Devices.{Writes}
+use Rattle.jp_devices.specs.Devices.{Writes}
 use Rattle.jp_model.specs.Meaning.Nodes.{step_to}
 use Rattle.jp_model.specs.Meaning.Paths.{step_text, path_text}
-use Rattle.jp_tape.specs.declared.cursor.Cursor.{Cursor}
-use Rattle.jp_tape.specs.Cursors.{node_of, name_of, index_of}
-use Rattle.jp_rows.proofs.Chains.{part_more, ends_behind, ends_in_part}
+use Rattle.jp_nodes.specs.declared.cursor.Cursor.{Cursor}
+use Rattle.jp_nodes.specs.Cursors.{node_of, name_of, index_of}
+use Rattle.jp_devices.proofs.Chains.{part_more, ends_behind, ends_in_part}
 use Rattle.jp_rows.proofs.Printed.{path-push}
 use Rattle.jp_rows.proofs.path.+write_path.Goals as goal
 

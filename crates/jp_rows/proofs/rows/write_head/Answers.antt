@@ -1,8 +1,8 @@
 -- What was put together is the text. Else the start of the row, the path, and the tab follow one another.
 use Rattle.jp_model.specs.Rows.{tab}
 use Rattle.jp_model.specs.Meaning.Paths.{path_text}
-use Rattle.jp_tape.specs.Cursors.{node_of}
-use Rattle.jp_rows.proofs.Chains.{both_received, part_more, part_behind, ends_behind, ends_in_part}
+use Rattle.jp_nodes.specs.Cursors.{node_of}
+use Rattle.jp_devices.proofs.Chains.{both_received, part_more, part_behind, ends_behind, ends_in_part}
 use Rattle.jp_rows.proofs.rows.write_head.Goals as goal
 
 pub returns-in_err-write_path-clause-text : goal.returns-in_err-write_path-clause-text

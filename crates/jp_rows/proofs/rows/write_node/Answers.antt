@@ -1,10 +1,10 @@
 -- The row was put together, and is written as a whole. Else what stands before the bytes of the value, those bytes, and the
 -- line feed follow one another.
 use Rattle.std.proofs.Common.{◌≡◌, subst}
-use Rattle.jp_model.specs.Devices.{Writes}
+use Rattle.jp_devices.specs.Devices.{Writes}
 use Rattle.jp_model.specs.Rows.{line_feed, source}
-use Rattle.jp_tape.specs.Cursors.{line_of, node_of}
-use Rattle.jp_rows.proofs.Chains.{both_received, part_more, part_behind, ends_behind, ends_in_part}
+use Rattle.jp_nodes.specs.Cursors.{line_of, node_of}
+use Rattle.jp_devices.proofs.Chains.{both_received, part_more, part_behind, ends_behind, ends_in_part}
 use Rattle.jp_rows.proofs.Ends.{alone}
 use Rattle.jp_rows.proofs.rows.write_node.Goals as goal
 

@@ -1,7 +1,7 @@
 -- The start of the row, the mark, the word of the fault, and the line feed follow one another.
 use Rattle.std.proofs.Common.{◌≡◌, ◌∙◌, codes}
 use Rattle.jp_model.specs.Rows.{line_feed, line_fault_word}
-use Rattle.jp_rows.proofs.Chains.{both_received, part_more, part_behind, ends_behind, ends_in_part}
+use Rattle.jp_devices.proofs.Chains.{both_received, part_more, part_behind, ends_behind, ends_in_part}
 use Rattle.jp_rows.proofs.rows.write_refusal.Goals as goal
 
 pub returns-in_err-write_whole-clause-text : goal.returns-in_err-write_whole-clause-text

@@ -1,7 +1,7 @@
 -- The start, the number, and the tab follow one another.
 use Rattle.std.proofs.Common.{◌≡◌, ◌∙◌, decimal}
 use Rattle.jp_model.specs.Rows.{tab}
-use Rattle.jp_rows.proofs.Chains.{both_received, part_more, part_behind, ends_behind, ends_in_part}
+use Rattle.jp_devices.proofs.Chains.{both_received, part_more, part_behind, ends_behind, ends_in_part}
 use Rattle.jp_rows.proofs.rows.write_start.Goals as goal
 
 pub returns-in_err-write_whole-2-clause-text : goal.returns-in_err-write_whole-2-clause-text

@@ -2,9 +2,9 @@
 use Rattle.std.proofs.Common.{◌≡◌, ◌∙◌, ◌+◌, ◌∷◌, ◌++◌, List, ℕ, ap, drop, encode_utf8_all, map, sym, take}
 use Rattle.jp_model.specs.Meaning.Paths.{path_text, steps_text}
 use Rattle.jp_model.specs.Steps as model
-use Rattle.jp_query.specs.SingularPaths.{step_view, path_steps}
-use Rattle.jp_query.specs.declared.paths.Step.{Step}
-use Rattle.jp_rows.proofs.Chains.{both_received, part_more, part_behind, ends_in_part}
+use Rattle.jp_syntax.specs.SingularPaths.{step_view, path_steps}
+use Rattle.jp_syntax.specs.declared.paths.Step.{Step}
+use Rattle.jp_devices.proofs.Chains.{both_received, part_more, part_behind, ends_in_part}
 use Rattle.jp_rows.proofs.Printed.{path-push, path-parts}
 use Rattle.jp_rows.proofs.Turns.{map_around, map_push}
 use Rattle.jp_rows.proofs.singular.write_steps.Goals as goal

@@ -1,6 +1,6 @@
 -- The digits follow the words.
 use Rattle.std.proofs.Common.{◌≡◌, ◌∙◌, decimal}
-use Rattle.jp_rows.proofs.Chains.{ends_behind}
+use Rattle.jp_devices.proofs.Chains.{ends_behind}
 use Rattle.jp_rows.proofs.summary.write_counted.Goals as goal
 
 pub returns-clause-text : goal.returns-clause-text

@@ -1,7 +1,7 @@
 -- The line feed follows the number.
 use Rattle.std.proofs.Common.{◌++◌, decimal}
 use Rattle.jp_model.specs.Rows.{line_feed}
-use Rattle.jp_rows.proofs.Chains.{ends_behind, ends_in_part, part_more}
+use Rattle.jp_devices.proofs.Chains.{ends_behind, ends_in_part, part_more}
 use Rattle.jp_rows.proofs.summary.write_numbered.Goals as goal
 
 pub returns-clause-text : goal.returns-clause-text

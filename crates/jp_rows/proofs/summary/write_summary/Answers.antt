@@ -1,7 +1,7 @@
 -- The pieces follow one another.
 use Rattle.std.proofs.Common.{◌++◌, codes, sym, subst}
-use Rattle.jp_model.specs.Devices.{Writes}
-use Rattle.jp_rows.proofs.Chains.{part_more, part_behind, ends_behind, ends_in_part}
+use Rattle.jp_devices.specs.Devices.{Writes}
+use Rattle.jp_devices.proofs.Chains.{part_more, part_behind, ends_behind, ends_in_part}
 use Rattle.jp_rows.proofs.Summaries.{counted, summary_is}
 use Rattle.jp_rows.proofs.summary.write_summary.Goals as goal
 

@@ -1,7 +1,7 @@
 -- One line after another is counted.
 use Rattle.std.proofs.Common.{◌≡◌, ◌∙◌, ◌+◌, ap, ap₂, sym, arith, length, cond, List, ℕ}
 use Rattle.jp_index.specs.Numbered.{with_number}
-use Rattle.jp_store.specs.Stored.{told_of, is_tree_status, is_fault_status}
+use Rattle.jp_lines.specs.Stored.{told_of, is_tree_status, is_fault_status}
 use Rattle.jp_store.proofs.Measured.{held_more, held_part, trees_few, trees_more, refused_more, all_counted}
 use Rattle.jp_store.proofs.measuring.measure.Goals as goal
 

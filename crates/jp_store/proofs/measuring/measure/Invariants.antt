@@ -2,7 +2,8 @@
 use Rattle.std.proofs.Common.{◌≡◌, ◌<◌, ℕ, List, length, map, take, All}
 use Rattle.jp_model.specs.declared.Framing.{Framing}
 use Rattle.jp_index.specs.LineSetViews.{room_in}
-use Rattle.jp_store.specs.Stored.{AreCounted, IsRead, stored_text}
+use Rattle.jp_store.specs.Stored.{AreCounted}
+use Rattle.jp_lines.specs.Stored.{IsRead, stored_text}
 use Rattle.jp_store.proofs.measuring.measure.Given as goal
 
 abbrev pub invariant-loop-line : goal.invariant-loop-line

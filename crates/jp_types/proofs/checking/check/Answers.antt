@@ -1,7 +1,7 @@
 use Rattle.std.proofs.Common.{◌≡◌, ◌∙◌, sym, ap, true, false}
 use Rattle.jp_model.specs.Query.Limits.{knows_functions}
 use Rattle.jp_model.specs.Query.Typing.{segments_typed}
-use Rattle.jp_query.specs.Queries.{query_view}
+use Rattle.jp_syntax.specs.Queries.{query_view}
 use Rattle.jp_types.proofs.Known.{segments_known}
 use Rattle.jp_types.proofs.Faults.{unknown_fault, types_fault, no_fault}
 use Rattle.jp_types.proofs.checking.check.Goals as goal

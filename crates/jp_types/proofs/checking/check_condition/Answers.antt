@@ -1,8 +1,8 @@
 use Rattle.std.proofs.Common.{◌≡◌, ◌∙◌, sym, ap, true, false}
 use Rattle.jp_model.specs.Query.Limits.{knows_functions, logical_passes}
 use Rattle.jp_model.specs.Query.Typing.{logical_typed, segments_typed}
-use Rattle.jp_query.specs.Conditions.{condition_view}
-use Rattle.jp_query.specs.Filters.{filter_by}
+use Rattle.jp_syntax.specs.Queries.{condition_view}
+use Rattle.jp_syntax.specs.Filters.{filter_by}
 use Rattle.jp_types.specs.Checks.{names}
 use Rattle.jp_types.proofs.Known.{segments_known}
 use Rattle.jp_types.proofs.Faults.{filter_known, filter_typed, unknown_fault, types_fault, no_fault}

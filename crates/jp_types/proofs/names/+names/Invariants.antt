@@ -1,7 +1,7 @@
 -- What is left decides.
 use Rattle.std.proofs.Common.{◌≡◌, drop}
 use Rattle.jp_model.specs.Query.Limits.{segments_pass, selectors_pass, logicals_pass, arguments_pass}
-use Rattle.jp_query.specs.View.{segments_view, selectors_view, logicals_view, arguments_view}
+use Rattle.jp_syntax.specs.View.{segments_view, selectors_view, logicals_view, arguments_view}
 use Rattle.jp_types.specs.Checks.{names}
 use Rattle.jp_types.proofs.names.+names.Given as goal
 

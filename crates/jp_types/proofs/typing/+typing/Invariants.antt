@@ -1,7 +1,7 @@
 -- What is left decides.
 use Rattle.std.proofs.Common.{◌≡◌, drop, map}
 use Rattle.jp_model.specs.Query.Typing.{segments_typed, selectors_typed, logicals_typed, arguments_typed}
-use Rattle.jp_query.specs.View.{segments_view, selectors_view, logicals_view, arguments_view}
+use Rattle.jp_syntax.specs.View.{segments_view, selectors_view, logicals_view, arguments_view}
 use Rattle.jp_types.specs.Signatures.{kind_view}
 use Rattle.jp_types.proofs.typing.+typing.Given as goal
 

@@ -1,7 +1,7 @@
 use Rattle.std.proofs.Common.{◌∙◌, ap₂}
 use Rattle.jp_model.specs.Json.Tree.{value_of}
 use Rattle.jp_model.specs.Meaning.Compare.{is_less}
-use Rattle.jp_tape.specs.Cursors.{node_of}
+use Rattle.jp_nodes.specs.Cursors.{node_of}
 use Rattle.jp_values.proofs.Leaves.{scalars_less}
 use Rattle.jp_values.proofs.comparison.less.Goals as goal
 

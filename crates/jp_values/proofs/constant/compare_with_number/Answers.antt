@@ -1,8 +1,8 @@
 use Rattle.std.proofs.Common.{◌∙◌, ap, sym}
 use Rattle.jp_decimal.specs.Decimals.{number_of}
 use Rattle.jp_model.specs.Json.Tree.{value_of}
-use Rattle.jp_query.specs.View.{op_view}
-use Rattle.jp_tape.specs.Cursors.{node_of}
+use Rattle.jp_syntax.specs.View.{op_view}
+use Rattle.jp_nodes.specs.Cursors.{node_of}
 use Rattle.jp_values.specs.Constants.{holds_at}
 use Rattle.jp_values.proofs.Constants.{number_at, apart_from_number}
 use Rattle.jp_values.proofs.constant.compare_with_number.Goals as goal

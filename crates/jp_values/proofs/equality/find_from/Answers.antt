@@ -1,8 +1,8 @@
 use Rattle.std.proofs.Common.{◌≡◌, sym, ◌∙◌, ap, subst, refl, Option}
 use Rattle.jp_model.specs.Json.Tree.{Children}
 use Rattle.jp_strings.specs.Points.{points_of}
-use Rattle.jp_tape.specs.declared.cursor.Cursor.{Cursor}
-use Rattle.jp_tape.specs.Cursors.{node_of, name_of, children_from, children_after}
+use Rattle.jp_nodes.specs.declared.cursor.Cursor.{Cursor}
+use Rattle.jp_nodes.specs.Cursors.{node_of, name_of, children_from, children_after}
 use Rattle.jp_values.specs.Members.{member_named, EndsWith}
 use Rattle.jp_values.proofs.Lookups.{ends_here, ends_behind, other_member, first_member}
 use Rattle.jp_values.proofs.equality.find_from.Goals as goal

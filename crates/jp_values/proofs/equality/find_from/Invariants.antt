@@ -1,6 +1,6 @@
 use Rattle.std.proofs.Common.{◌≡◌, length}
 use Rattle.jp_strings.specs.Points.{points_of}
-use Rattle.jp_tape.specs.Cursors.{children_from, nodes_from}
+use Rattle.jp_nodes.specs.Cursors.{children_from, nodes_from}
 use Rattle.jp_values.specs.Members.{member_named, EndsWith}
 use Rattle.jp_values.proofs.equality.find_from.Given as goal
 

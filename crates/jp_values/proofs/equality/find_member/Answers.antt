@@ -1,9 +1,9 @@
 use Rattle.std.proofs.Common.{sym}
 use Rattle.jp_model.specs.Json.Tree.{value_of}
 use Rattle.jp_strings.specs.Points.{points_of}
-use Rattle.jp_tape.specs.Cursors.{node_of, children_from}
-use Rattle.jp_tape.specs.Spots.{children_in}
-use Rattle.jp_tape.proofs.Cursors.{sound}
+use Rattle.jp_nodes.specs.Cursors.{node_of, children_from}
+use Rattle.jp_nodes.specs.Spots.{children_in}
+use Rattle.jp_nodes.proofs.Cursors.{sound}
 use Rattle.jp_values.proofs.Lookups.{found_in_whole, names_distinct, ends_trans}
 use Rattle.jp_values.proofs.equality.find_member.Goals as goal
 

@@ -2,20 +2,19 @@ use Rattle.std.proofs.Common.{rules, ◌≡◌, ◌&&◌, true, false, sym, ◌�
 use Rattle.jp_model.specs.Json.Tree.{Children, value_of}
 use Rattle.jp_model.specs.Meaning.Compare.{members_within}
 use Rattle.jp_strings.specs.Points.{points_of}
-use Rattle.jp_tape.specs.declared.cursor.Cursor.{Cursor}
-use Rattle.jp_tape.specs.declared.Kind.TheVariants as kinds
-use Rattle.jp_tape.specs.Cursors.{node_of, name_of, children_from, children_after}
-use Rattle.jp_tape.specs.Spots.{children_in}
-use Rattle.jp_tape.specs.Words.{children_node_count}
-use Rattle.jp_tape.proofs.Places.{count-in, some_node}
+use Rattle.jp_nodes.specs.declared.cursor.Cursor.{Cursor}
+use Rattle.jp_nodes.specs.declared.Kind.TheVariants as kinds
+use Rattle.jp_nodes.specs.Cursors.{node_of, name_of, children_from, children_after}
+use Rattle.jp_nodes.specs.Spots.{children_in}
+use Rattle.jp_nodes.specs.Words.{children_node_count}
+use Rattle.jp_nodes.proofs.Places.{count-in, some_node}
 use Rattle.jp_values.specs.declared.members.Searched.{Searched}
 use Rattle.jp_values.specs.ByName.{AreKept}
 use Rattle.jp_values.specs.Members.{EndsWith, found_value, member_named}
 use Rattle.jp_values.specs.Scalars.{scalars_equal}
 use Rattle.jp_values.proofs.Inside.{leaves_equal, none_found, one_found, members_unnamed}
 use Rattle.jp_values.proofs.Lookups.{ends_here}
-use Rattle.jp_values.proofs.equality_in.+equality_in.Goals.{equal_in-in_default-via-in-Array+in_default, equal_in-in_default-via-in-Object+in_default, equal_in-in_default-via-in_default}
-use Rattle.jp_values.proofs.equality_in.+equality_in.Goals.{has_members_in-in-Some-name+in_ok-found+in-Some-2+in_ok-equal_in+else-not-branch, has_members_in-in_default-name}
+use Rattle.jp_values.proofs.equality_in.+equality_in.Goals.{equal_in-in_default-via-in-Array+in_default, equal_in-in_default-via-in-Object+in_default, equal_in-in_default-via-in_default, has_members_in-in-Some-name+in_ok-found+in-Some-2+in_ok-equal_in+else-not-branch, has_members_in-in_default-name}
 use Rattle.jp_values.proofs.equality_in.+equality_in.Goals as goal
 
 array_or_object : kinds.Array ≡ kinds.Object → ⊥

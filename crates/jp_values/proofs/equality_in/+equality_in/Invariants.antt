@@ -1,9 +1,9 @@
 use Rattle.std.proofs.Common.{◌≡◌, ◌<◌, ◌+◌, ◌*◌}
 use Rattle.jp_model.specs.Json.Tree.{value_of}
 use Rattle.jp_model.specs.Meaning.Compare.{elements_equal, members_within}
-use Rattle.jp_tape.specs.Cursors.{node_of, children_from}
-use Rattle.jp_tape.specs.Spots.{children_in}
-use Rattle.jp_tape.specs.Words.{node_count, children_node_count}
+use Rattle.jp_nodes.specs.Cursors.{node_of, children_from}
+use Rattle.jp_nodes.specs.Spots.{children_in}
+use Rattle.jp_nodes.specs.Words.{node_count, children_node_count}
 use Rattle.jp_values.specs.Members.{EndsWith}
 use Rattle.jp_values.specs.ByName.{AreKept}
 use Rattle.jp_values.proofs.equality_in.+equality_in.Given as goal

@@ -1,7 +1,7 @@
 use Rattle.std.proofs.Common.{◌≡◌, nat_eq}
 use Rattle.jp_model.specs.Json.Tree.{value_of, count_children}
-use Rattle.jp_tape.specs.Cursors.{node_of, children_from}
-use Rattle.jp_tape.specs.Spots.{children_in}
+use Rattle.jp_nodes.specs.Cursors.{node_of, children_from}
+use Rattle.jp_nodes.specs.Spots.{children_in}
 use Rattle.jp_values.proofs.equality_in.common_count.Given as goal
 
 abbrev pub invariant-loop-left_next : goal.invariant-loop-left_next

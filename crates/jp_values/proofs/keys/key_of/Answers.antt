@@ -1,8 +1,8 @@
 use Rattle.std.proofs.Common.{◌∙◌, sym, ap, List, ℕ}
 use Rattle.jp_model.specs.Json.Tree.{value_of, string}
 use Rattle.jp_strings.specs.Points.{points_of}
-use Rattle.jp_tape.specs.Cursors.{node_of}
-use Rattle.jp_tape.proofs.Contents.{text_is}
+use Rattle.jp_nodes.specs.Cursors.{node_of}
+use Rattle.jp_nodes.proofs.Contents.{text_is}
 use Rattle.jp_values.proofs.keys.key_of.Goals as goal
 
 pub returns-in_ok-unescape-in-Some-text : goal.returns-in_ok-unescape-in-Some-text

@@ -1,5 +1,5 @@
 use Rattle.std.proofs.Common.{ap}
-use Rattle.jp_query.specs.View.{literal_view}
+use Rattle.jp_syntax.specs.View.{literal_view}
 use Rattle.jp_values.proofs.Leaves.{spelling_is_read, spelling_short}
 use Rattle.jp_values.proofs.keys.key_of_literal.Goals as goal
 

@@ -2,10 +2,10 @@
 use Rattle.std.proofs.Common.{◌∙◌, List, ℕ, Some, sym, ap, subst, Option}
 use Rattle.jp_model.specs.Json.Tree.{Children, value_of}
 use Rattle.jp_strings.specs.Points.{points_of}
-use Rattle.jp_tape.specs.declared.cursor.Cursor.{Cursor}
-use Rattle.jp_tape.specs.Cursors.{node_of, children_from, children_after}
-use Rattle.jp_tape.specs.Spots.{children_in}
-use Rattle.jp_tape.proofs.Cursors.{sound}
+use Rattle.jp_nodes.specs.declared.cursor.Cursor.{Cursor}
+use Rattle.jp_nodes.specs.Cursors.{node_of, children_from, children_after}
+use Rattle.jp_nodes.specs.Spots.{children_in}
+use Rattle.jp_nodes.proofs.Cursors.{sound}
 use Rattle.jp_values.specs.declared.member.Member.{Member}
 use Rattle.jp_values.proofs.Lookups.{names_distinct}
 use Rattle.jp_values.proofs.Gathered.{Gathered, gathered_none, gathered_named, gathered_nameless, gathered_all}

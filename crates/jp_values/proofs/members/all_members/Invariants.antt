@@ -1,7 +1,7 @@
 use Rattle.std.proofs.Common.{length}
 use Rattle.jp_model.specs.Json.Tree.{value_of}
-use Rattle.jp_tape.specs.Cursors.{node_of, children_from, nodes_from}
-use Rattle.jp_tape.specs.Spots.{children_in}
+use Rattle.jp_nodes.specs.Cursors.{node_of, children_from, nodes_from}
+use Rattle.jp_nodes.specs.Spots.{children_in}
 use Rattle.jp_values.proofs.Gathered.{Gathered}
 use Rattle.jp_values.proofs.members.all_members.Given as goal
 

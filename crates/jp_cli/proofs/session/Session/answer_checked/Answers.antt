@@ -3,7 +3,7 @@ use Rattle.std.proofs.Common.{ℕ, ◌++◌, subst, sym, refl, true}
 use Rattle.std.specs.Prelude.{flat_map, count_by}
 use Rattle.jp_query.specs.Status.{query_of}
 use Rattle.jp_model.specs.declared.Framing.{Framing}
-use Rattle.jp_model.specs.Devices.{Writes}
+use Rattle.jp_devices.specs.Devices.{Writes}
 use Rattle.jp_model.specs.Script.Commands.{query_line}
 use Rattle.jp_model.specs.Script.Machine.{count_line}
 use Rattle.jp_types.specs.Checks.{checked_view}

@@ -2,8 +2,8 @@
 use Rattle.std.proofs.Common.{◌≡◌, ◌+◌, ◌++◌, ◌∷◌, [], append-nil, take, get_or, arith, refl, sym, ap, ◌∙◌, subst, if◌then◌else◌}
 use Rattle.jp_model.specs.declared.Setup.{Setup}
 use Rattle.std.proofs.Math.Seq.{take-append_seam}
-use Rattle.jp_model.proofs.Devices.{received_more}
-use Rattle.jp_model.specs.Devices.{Begins}
+use Rattle.jp_devices.proofs.Devices.{received_more}
+use Rattle.jp_devices.specs.Devices.{Begins}
 use Rattle.jp_cli.proofs.Answering.{begins_within, ran_none, ran_more, ran_answered, stopped_within}
 use Rattle.jp_model.proofs.Pieces.{closed_clear, open_clear, later_lines, closed_later, closed_through, closed_at_separator, open_at_separator, closed_at_other, open_at_other}
 use Rattle.jp_cli.specs.Runs.{MayAnswer, Ran, progress_of, setup_of}

@@ -10,8 +10,8 @@ pub returns-in-Err-clause-ran : goal.returns-in-Err-clause-ran
 returns-in-Err-clause-ran g c =
     let state = c.args.self.now.store.state in
     replied query_of (setup_of c.args.self.now) (query_line c.args.text.now) g.W.Write.contents c.args.out.now c.write_reply.new.out c.write_reply.result c.refuse_query.result state state c.args.self.now.opened
-    (none_opened (setup_of c.args.self.now) state c.args.text.now c.in-Err.refusal c.refuse_query.result c.in-Err.ensures.err c.refuse_query.ensures)
-    (query_refused (setup_of c.args.self.now) state c.args.text.now c.in-Err.refusal c.refuse_query.result c.in-Err.ensures.err c.refuse_query.ensures) c.write_reply.ensures.text
+    (none_opened (setup_of c.args.self.now) state c.args.text.now c.in-Err.refusal c.refuse_query.result c.in-Err.ensures.refused c.refuse_query.ensures)
+    (query_refused (setup_of c.args.self.now) state c.args.text.now c.in-Err.refusal c.refuse_query.result c.in-Err.ensures.refused c.refuse_query.ensures) c.write_reply.ensures.text
 
 pub returns-in-Ok-clause-ran : goal.returns-in-Ok-clause-ran
-returns-in-Ok-clause-ran g c = c.answer_checked.ensures.ran c.args.text.now c.in-Ok.ensures.ok
+returns-in-Ok-clause-ran g c = c.answer_checked.ensures.ran c.args.text.now c.in-Ok.ensures.read

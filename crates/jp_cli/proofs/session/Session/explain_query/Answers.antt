@@ -10,9 +10,9 @@ pub returns-in_ok-explain-in-Ok : goal.returns-in_ok-explain-in-Ok
 returns-in_ok-explain-in-Ok c =
     let state = c.args.self.now.store.state in (
       c.in_ok-explain-in-Ok.ensures ∙ (ap explained c.in_ok-new-in-Ok.ensures
-          ∙ ap (explain_answer c.args.self.now.store.framing state) (sym c.in-Ok.ensures.ok)),
+          ∙ ap (explain_answer c.args.self.now.store.framing state) (sym c.in-Ok.ensures.read)),
       refl,
     )
 
 pub returns-in-Err : goal.returns-in-Err
-returns-in-Err c = explain_refused (setup_of c.args.self.now) c.args.self.now.store.state c.args.text.now c.in-Err.refusal c.refuse_query.result c.in-Err.ensures.err c.refuse_query.ensures
+returns-in-Err c = explain_refused (setup_of c.args.self.now) c.args.self.now.store.state c.args.text.now c.in-Err.refusal c.refuse_query.result c.in-Err.ensures.refused c.refuse_query.ensures

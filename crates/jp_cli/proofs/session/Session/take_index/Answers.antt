@@ -1,6 +1,6 @@
 -- There is no such index.
 use Rattle.std.proofs.Common.{sym, ap, ◌∙◌, option_map}
-use Rattle.jp_query.specs.SingularPaths.{path_steps}
+use Rattle.jp_syntax.specs.SingularPaths.{path_steps}
 use Rattle.jp_query.specs.Status.{query_of}
 use Rattle.jp_cli.specs.Runs.{setup_of}
 use Rattle.jp_cli.proofs.Dropped.{missing}

@@ -1,7 +1,7 @@
 -- What the run put into the buffer went to the writer behind it, or is left in the buffer.
 use Rattle.std.proofs.Common.{◌∙◌, sym, ap}
 use Rattle.std.specs.Io.Buffered.{writer_buffer, writer_inner}
-use Rattle.jp_model.specs.Devices.{Device}
+use Rattle.jp_devices.specs.Devices.{Device}
 use Rattle.jp_model.specs.Script.Commands.{command_of}
 use Rattle.jp_query.specs.Status.{query_of}
 use Rattle.jp_cli.specs.Buffered.{program_setup}

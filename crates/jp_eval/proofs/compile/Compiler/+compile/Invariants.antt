@@ -5,7 +5,7 @@ use Rattle.jp_eval.specs.Programs.{Table, Means, step_view, choice_view, conditi
 use Rattle.jp_eval.specs.Roots.{asks_from, logical_from, logicals_ask_root}
 use Rattle.jp_model.specs.Query.Limits.{segments_pass, selectors_pass, logicals_pass}
 use Rattle.jp_model.specs.Query.Typing.{segments_typed, selectors_typed, logicals_typed}
-use Rattle.jp_query.specs.View.{origin_view, segments_view, segment_view, selectors_view, selector_view, logicals_view, logical_view, comparable_view, path_view, call_view, argument_view}
+use Rattle.jp_syntax.specs.View.{origin_view, segments_view, segment_view, selectors_view, selector_view, logicals_view, logical_view, comparable_view, path_view, call_view, argument_view}
 use Rattle.jp_eval.proofs.Sizes.{size_of_segments, size_of_segment, size_of_selectors, size_of_selector, size_of_logical, size_of_logicals, size_of_comparable, size_of_path, size_of_call, size_of_argument}
 use Rattle.jp_eval.proofs.compile.Compiler.+compile.Given as goal
 

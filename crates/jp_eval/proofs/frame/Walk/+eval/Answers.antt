@@ -10,18 +10,18 @@ use Rattle.jp_model.specs.Meaning.Functions.{in_pattern, literal_value}
 use Rattle.jp_model.specs.Query.Syntax as syntax
 use Rattle.jp_model.specs.Query.Syntax.{Segments}
 use Rattle.jp_model.proofs.Seek.{no_nodes}
-use Rattle.jp_tape.specs.declared.cursor.Cursor.{Cursor}
-use Rattle.jp_tape.specs.Cursors.{line_of, place_of, node_of, nodes_from, nodes_after}
+use Rattle.jp_nodes.specs.declared.cursor.Cursor.{Cursor}
+use Rattle.jp_nodes.specs.Cursors.{line_of, place_of, node_of, nodes_from, nodes_after}
 use Rattle.jp_values.specs.Values.{value_view, is_sound_value}
 use Rattle.jp_eval.specs.Answers.{IsAnswer, IsValue, table_in, tree_in, slot_truth, slot_value}
-use Rattle.jp_eval.specs.Found.{node_list}
+use Rattle.jp_children.specs.Found.{node_list}
 use Rattle.jp_eval.specs.Frames.{Pushes}
 use Rattle.jp_iregexp.specs.Trees.{pattern_view}
 use Rattle.jp_iregexp.specs.declared.pattern.Pattern.{Pattern}
 use Rattle.jp_eval.specs.Functions.{passing, pattern_in}
 use Rattle.jp_eval.specs.Programs.{Table, logical_at, side_at, step_view, steps_view, choices_view, choice_view, condition_view, test_view, operand_view, spelled_view, sought_view, found_view}
 use Rattle.jp_eval.specs.Tallies.{tally}
-use Rattle.jp_eval.specs.Walks.{IsAt, rises}
+use Rattle.jp_children.specs.Walks.{IsAt, rises}
 use Rattle.jp_eval.specs.declared.frame.Answer.{Answer}
 use Rattle.jp_eval.specs.declared.frame.Frame.{Frame}
 use Rattle.jp_eval.specs.declared.frame.Run.{Run}
@@ -36,7 +36,7 @@ use Rattle.jp_eval.specs.declared.program.Spelled.TheVariants as spellings
 use Rattle.jp_eval.specs.declared.program.Sought.{Sought}
 use Rattle.jp_eval.specs.declared.program.Sought.TheVariants as things
 use Rattle.jp_eval.specs.declared.program.Found.{Found}
-use Rattle.jp_query.specs.View.{literal_view}
+use Rattle.jp_syntax.specs.View.{literal_view}
 use Rattle.std.proofs.Math.Logic.{∥∥₁_elim}
 use Rattle.jp_eval.proofs.Childless.{none_first, none_selected}
 use Rattle.jp_eval.proofs.Compiled.{child_is, descendant_is, found_is, literal_is, once_is, passes_is, slice_is, sought_once, spelled_is}
@@ -47,13 +47,14 @@ use Rattle.jp_eval.proofs.Entered.{once_found, once_given, once_told}
 use Rattle.jp_eval.proofs.FromRoot.{logical_size, side_size}
 use Rattle.jp_eval.proofs.Given.{given_size, given_so, passes_told}
 use Rattle.jp_eval.proofs.Goes.{Goes, begins, dead_as, lent_first, others_are, goes_past, goes_lent, is_done, is_full, filter_taken, filter_passed, filter_all, filter_none, nothing_added}
-use Rattle.jp_eval.proofs.Kept.{adds_more, line_on, line_of_some}
+use Rattle.jp_eval.proofs.Kept.{adds_more}
+use Rattle.jp_children.proofs.Lines.{line_on, line_of_some}
 use Rattle.jp_eval.proofs.Lists.{item_at}
 use Rattle.jp_eval.proofs.Patterns.{told, one_proof}
 use Rattle.jp_eval.proofs.Runs.{frame_in, kept_back, kept_in, lent_back, lent_from, lent_room}
 use Rattle.jp_eval.proofs.Sizes.{size_of_argument, size_of_comparable, size_of_logical, size_of_segment, size_of_selectors}
-use Rattle.jp_eval.proofs.Slices.{none_risen}
-use Rattle.jp_eval.proofs.Walks.{chosen_from, chosen_here, passed_here, at_next, index_fits}
+use Rattle.jp_children.proofs.Slices.{none_risen}
+use Rattle.jp_children.proofs.Walks.{chosen_from, chosen_here, passed_here, at_next, index_fits}
 use Rattle.std.proofs.lemmas.List.{drop_all}
 use mir.Val.{to_z, of_z}
 use Rattle.jp_eval.proofs.frame.Walk.+eval.Goals as goal

@@ -4,15 +4,15 @@ use Rattle.std.specs.Prelude.{IfSome}
 use Rattle.jp_model.specs.Meaning.Nodes.{Node, children, children_where, subtree}
 use Rattle.jp_model.specs.Meaning.Selecting.{nodes, selected, truth}
 use Rattle.jp_model.specs.Meaning.Slices.{is_index}
-use Rattle.jp_tape.specs.Cursors.{line_of, place_of, node_of, nodes_from}
+use Rattle.jp_nodes.specs.Cursors.{line_of, place_of, node_of, nodes_from}
 use Rattle.jp_eval.specs.Answers.{table_in, tree_in}
 use Rattle.jp_eval.specs.Expressions.{all_are}
 use Rattle.jp_eval.specs.Frames.{AreKept}
 use Rattle.jp_eval.specs.Indexing.{AreKnown}
 use Rattle.jp_eval.specs.Programs.{logical_at, side_at, step_view, steps_view, choices_view, choice_view, conditions_view, condition_view, test_view, operand_view, spelled_view, sought_view, found_view}
-use Rattle.jp_eval.specs.Walks.{IsAt, rises}
+use Rattle.jp_children.specs.Walks.{IsAt, rises}
 use Rattle.jp_eval.proofs.Goes.{Goes}
-use Rattle.jp_eval.proofs.Walks.{chosen_from}
+use Rattle.jp_children.proofs.Walks.{chosen_from}
 use Rattle.jp_eval.proofs.Sizes.{size_of_segments, size_of_segment, size_of_selectors, size_of_selector, size_of_logical, size_of_logicals, size_of_comparable, size_of_argument}
 use Rattle.jp_eval.proofs.frame.Walk.+eval.Given as goal
 
@@ -116,7 +116,7 @@ abbrev pub decreases-value_once : goal.decreases-value_once
 decreases-value_once l = size_of_comparable (side_at (table_in l.self.run.now) l.position) + 2
 
 abbrev pub decreases-passes_once : goal.decreases-passes_once
-decreases-passes_once l = size_of_comparable (side_at (table_in l.self.run.now) l.position) + 2
+decreases-passes_once l = size_of_comparable (side_at (table_in l.self.run.now) l.position) + 3
 
 abbrev pub invariant-are_all-loop-part : goal.invariant-are_all-loop-part
 invariant-are_all-loop-part l =

@@ -6,12 +6,12 @@ use mir.Val.{to_z, of_z}
 use Rattle.jp_model.specs.Steps.{same_int}
 use Rattle.jp_model.specs.Meaning.Nodes.{children_where, child_count}
 use Rattle.jp_model.specs.Meaning.Slices.{is_index, indexed, normal}
-use Rattle.jp_tape.specs.Cursors.{line_of, node_of}
-use Rattle.jp_tape.specs.declared.cursor.Cursor.{Cursor}
-use Rattle.jp_tape.proofs.Cursors.{standing}
-use Rattle.jp_eval.specs.Walks.{IsAt}
-use Rattle.jp_eval.proofs.Elements.{none_outside, nth_is, whole_again}
-use Rattle.jp_eval.proofs.NoMembers.{no_elements, nameless}
+use Rattle.jp_nodes.specs.Cursors.{line_of, node_of}
+use Rattle.jp_nodes.specs.declared.cursor.Cursor.{Cursor}
+use Rattle.jp_nodes.proofs.Cursors.{standing}
+use Rattle.jp_children.specs.Walks.{IsAt}
+use Rattle.jp_children.proofs.Elements.{none_outside, nth_is, whole_again}
+use Rattle.jp_children.proofs.NoMembers.{no_elements, nameless}
 use Rattle.jp_eval.proofs.indexing.Elements.find.Goals as goal
 use Rattle.jp_eval.proofs.indexing.Elements.find.Goals.{then-position-lt0-via-then-position-lt0, then-position-lt0-via-else-position-lt0+then-position-gt4294967295}
 

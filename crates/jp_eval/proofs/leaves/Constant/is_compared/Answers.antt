@@ -6,11 +6,11 @@ use Rattle.jp_decimal.specs.Values.{Number}
 use Rattle.jp_model.specs.Json.Tree.{Value, value_of}
 use Rattle.jp_model.specs.Meaning.Compare.{compared}
 use Rattle.jp_model.specs.Meaning.Functions.{literal_value, single_value}
-use Rattle.jp_query.specs.View.{literal_view, op_view}
-use Rattle.jp_tape.specs.Cursors.{node_of}
-use Rattle.jp_tape.specs.declared.cursor.Cursor.{Cursor}
+use Rattle.jp_syntax.specs.View.{literal_view, op_view}
+use Rattle.jp_nodes.specs.Cursors.{node_of}
+use Rattle.jp_nodes.specs.declared.cursor.Cursor.{Cursor}
 use Rattle.jp_values.specs.Constants.{compared_with_number}
-use Rattle.jp_eval.specs.Found.{node_list}
+use Rattle.jp_children.specs.Found.{node_list}
 use Rattle.jp_eval.proofs.Literals.{has_value}
 use Rattle.jp_eval.specs.declared.leaves.Constant.{Constant}
 use Rattle.jp_eval.proofs.leaves.Constant.is_compared.Goals as goal

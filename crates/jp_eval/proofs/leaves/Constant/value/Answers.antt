@@ -4,7 +4,7 @@ use Rattle.std.specs.Prelude.{option_map}
 use Rattle.jp_decimal.specs.Decimals.{numeral_number}
 use Rattle.jp_decimal.specs.Values.{Number}
 use Rattle.jp_model.specs.Json.Tree.{Value, number}
-use Rattle.jp_query.specs.View.{literal_view}
+use Rattle.jp_syntax.specs.View.{literal_view}
 use Rattle.jp_eval.proofs.Literals.{has_value}
 use Rattle.jp_eval.specs.declared.leaves.Constant.{Constant}
 use Rattle.jp_eval.proofs.leaves.Constant.value.Goals as goal

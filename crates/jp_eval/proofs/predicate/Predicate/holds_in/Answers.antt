@@ -2,15 +2,15 @@
 use Rattle.std.proofs.Common.{◌≡◌, ◌∙◌, Bool, List, ap, subst, take}
 use Rattle.std.specs.Prelude.{IfOk}
 use Rattle.jp_model.specs.Meaning.Selecting.{truth}
-use Rattle.jp_tape.specs.Cursors.{node_of}
+use Rattle.jp_nodes.specs.Cursors.{node_of}
 use Rattle.jp_eval.specs.Programs.{Table, condition_view, table_of}
 use Rattle.jp_eval.specs.declared.program.Slot.{Slot}
 use Rattle.jp_eval.proofs.Answered.{none_in}
 use Rattle.jp_eval.proofs.Tables.{all_known}
 use Rattle.jp_eval.proofs.predicate.Predicate.holds_in.Goals as goal
 
-pub prepare-requires : goal.prepare-requires
-prepare-requires c position answer is = absurd ((none_in c.forget.new.self.answers.items c.forget.ensures.answers).none position answer is)
+pub answer_slots-requires : goal.answer_slots-requires
+answer_slots-requires c position answer is = absurd ((none_in c.forget.new.self.answers.items c.forget.ensures.answers).none position answer is)
 
 pub returns : goal.returns
 returns c =

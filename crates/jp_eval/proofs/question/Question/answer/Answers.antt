@@ -4,9 +4,9 @@ use Rattle.std.specs.Prelude.{IfOk}
 use Rattle.std.proofs.Math.Logic.{∥∥₁_elim}
 use Rattle.jp_model.specs.Json.Tree.{Value}
 use Rattle.jp_model.specs.Meaning.Functions.{in_pattern, single_value, literal_value}
-use Rattle.jp_query.specs.View.{literal_view}
-use Rattle.jp_tape.specs.declared.cursor.Cursor.{Cursor}
-use Rattle.jp_eval.specs.Found.{node_list}
+use Rattle.jp_syntax.specs.View.{literal_view}
+use Rattle.jp_nodes.specs.declared.cursor.Cursor.{Cursor}
+use Rattle.jp_children.specs.Found.{node_list}
 use Rattle.jp_eval.specs.Functions.{passing}
 use Rattle.jp_eval.specs.Questions.{answered}
 use Rattle.jp_eval.specs.declared.leaves.LiteralPattern.{LiteralPattern}

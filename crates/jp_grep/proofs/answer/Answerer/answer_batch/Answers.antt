@@ -1,183 +1,46 @@
--- One line is answered behind the others.
-use Rattle.std.proofs.Common.{◌≡◌, ◌∙◌, ◌<◌, ◌≤◌, ◌+◌, ℕ, ap, sym, subst, length, refl, arith, true, false, Bool}
-use Rattle.std.specs.Prelude.{cond}
-use Rattle.std.proofs.lemmas.List.{length-take-le}
-use Rattle.std.proofs.lemmas.Option.{get_or_from_slice_get}
-use Rattle.jp_model.specs.Devices.{Received}
-use Rattle.jp_rows.proofs.Chains.{Part, both_received, ends_in_part}
-use Rattle.jp_store.specs.Batches.{texts_of}
-use Rattle.jp_grep.specs.Rows.{line_message, line_rows, messages_from, output_from, refused_count, selected_count}
-use Rattle.jp_grep.proofs.Batched.{at_end, enough, goes_on, messages_around, messages_more, refused_more, rows_around, rows_more, selected_more}
-use Rattle.jp_grep.proofs.Written.{part_next, part_so_far}
+-- What is held is written behind the lines, or a beginning of it was.
+use Rattle.std.proofs.Common.{◌≡◌, ◌∙◌, [], List, ℕ, sym, subst, true, IsErr}
+use Rattle.jp_lines.specs.Batches.{texts_of}
+use Rattle.jp_grep.specs.Faults.{is_report_fault, is_write_fault}
+use Rattle.jp_grep.specs.Holding.{Puts}
+use Rattle.jp_grep.specs.Rows.{output_from}
+use Rattle.jp_grep.specs.Watching.{answered_of}
+use Rattle.jp_grep.proofs.Putting.{err_told, lost_at_err, part_of_puts, part_of_writes, part_written}
+use Rattle.jp_grep.proofs.answer.Answerer.answer_batch.Goals.{then-failed-via-then-failed, then-failed-via-else-failed+then-failed-2}
 use Rattle.jp_grep.proofs.answer.Answerer.answer_batch.Goals as goal
 
--- the counts go on by one at most
-one_fewer : (before after number next : ℕ) (b : Bool) → after ≡ before + cond b 1 0 → next ≡ number + 1 → before < number → after < next
-one_fewer before after number next true e k l = omega (arith, e, k, l)
-one_fewer before after number next false e k l = omega (arith, e, k, l)
-
-one_wanted : (before after most : ℕ) (b : Bool) → after ≡ before + cond b 1 0 → before < most → after ≤ most
-one_wanted before after most true e l = omega (arith, e, l)
-one_wanted before after most false e l = omega (arith, e, l)
-
-pub returns-then-progress-self-clause-number : goal.returns-then-progress-self-clause-number
-returns-then-progress-self-clause-number g c =
+pub returns-then-failed-clause-answers : goal.returns-then-failed-clause-answers
+returns-then-failed-clause-answers g c =
     let q = c.args.self.question.now in
     let f = c.args.self.form.now in
-    let all = texts_of c.args.batch in
-    let whole = enough q f _ _ _ _ c.if-progress-self.true c.loop-index.invariant.lines in
-    c.loop-index.invariant.number
-    ∙ ap (λ k. c.args.progress.now.number + k) (sym (length-take-le c.loop-index.index all (omega (arith, c.loop-index.auto.index-end, c.line_count-index-end.ensures))) ∙ ap length (sym whole))
-
-pub returns-then-progress-self-clause-selected : goal.returns-then-progress-self-clause-selected
-returns-then-progress-self-clause-selected g c =
-    let q = c.args.self.question.now in
-    let f = c.args.self.form.now in
-    c.loop-index.invariant.selected
-    ∙ ap (λ ls. c.args.progress.now.counts.selected + selected_count q f.framing ls) (sym (enough q f _ _ _ _ c.if-progress-self.true c.loop-index.invariant.lines))
-
-pub returns-then-progress-self-clause-refused : goal.returns-then-progress-self-clause-refused
-returns-then-progress-self-clause-refused g c =
-    let q = c.args.self.question.now in
-    let f = c.args.self.form.now in
-    c.loop-index.invariant.refused
-    ∙ ap (λ ls. c.args.progress.now.counts.refused + refused_count f.framing ls) (sym (enough q f _ _ _ _ c.if-progress-self.true c.loop-index.invariant.lines))
-
-pub returns-in_err-pass-in-Ok-clause-rows : goal.returns-in_err-pass-in-Ok-clause-rows
-returns-in_err-pass-in-Ok-clause-rows g c =
-    let q = c.args.self.question.now in
-    let f = c.args.self.form.now in
-    let all = texts_of c.args.batch in
-    let i = c.loop-index.index in
-    let line = c.line.result.text.now in
-    let within : i < length all = omega (arith, c.loop-index-test.true, c.line_count-index-end.ensures) in
-    let is = sym (get_or_from_slice_get all i line line c.line.ensures.text) in
-    let n = c.args.progress.now.number in
-    let fewer : c.loop-index.progress.counts.selected < f.most = omega (arith, c.loop-index.invariant.wanted, c.if-progress-self.false) in
-    let answered = goes_on q f all i line within is _ _ _ fewer refl c.loop-index.invariant.lines in
-    let mine = subst (λ k. Received g.W.Write.contents c.loop-index.out c.answer_line.new.out (line_rows q f k line)) c.loop-index.invariant.number c.in-Ok.ensures.rows in
-    ends_in_part c.from_residual.result _ _ _ c.from_residual.ensures.0
-    (part_next c.args.out.now c.loop-index.out c.answer_line.new.out _ (line_rows q f (n + i) line) _ _
-    (rows_around q f all i line within is n _ _ answered) c.loop-index.invariant.rows (part_so_far _ _ _ mine))
-
-pub returns-in_err-pass-in-Ok-clause-messages : goal.returns-in_err-pass-in-Ok-clause-messages
-returns-in_err-pass-in-Ok-clause-messages g c =
-    let q = c.args.self.question.now in
-    let f = c.args.self.form.now in
-    let all = texts_of c.args.batch in
-    let i = c.loop-index.index in
-    let line = c.line.result.text.now in
-    let within : i < length all = omega (arith, c.loop-index-test.true, c.line_count-index-end.ensures) in
-    let is = sym (get_or_from_slice_get all i line line c.line.ensures.text) in
-    let n = c.args.progress.now.number in
-    let fewer : c.loop-index.progress.counts.selected < f.most = omega (arith, c.loop-index.invariant.wanted, c.if-progress-self.false) in
-    let answered = goes_on q f all i line within is _ _ _ fewer refl c.loop-index.invariant.lines in
-    let mine = subst (λ k. Received g.E.Write.contents c.loop-index.messages c.answer_line.new.messages (line_message f k line)) c.loop-index.invariant.number c.in-Ok.ensures.messages in
-    ends_in_part c.from_residual.result _ _ _ c.from_residual.ensures.0
-    (part_next c.args.messages.now c.loop-index.messages c.answer_line.new.messages _ (line_message f (n + i) line) _ _
-    (messages_around q f all i line within is n _ _ answered) c.loop-index.invariant.messages (part_so_far _ _ _ mine))
-
-pub returns-in-Err-clause-rows : goal.returns-in-Err-clause-rows
-returns-in-Err-clause-rows g c =
-    let q = c.args.self.question.now in
-    let f = c.args.self.form.now in
-    let all = texts_of c.args.batch in
-    let i = c.loop-index.index in
-    let line = c.line.result.text.now in
-    let within : i < length all = omega (arith, c.loop-index-test.true, c.line_count-index-end.ensures) in
-    let is = sym (get_or_from_slice_get all i line line c.line.ensures.text) in
-    let n = c.args.progress.now.number in
-    let fewer : c.loop-index.progress.counts.selected < f.most = omega (arith, c.loop-index.invariant.wanted, c.if-progress-self.false) in
-    let answered = goes_on q f all i line within is _ _ _ fewer refl c.loop-index.invariant.lines in
-    let part = subst (λ k. Part g.W.Write.contents c.loop-index.out c.answer_line.new.out (line_rows q f k line)) c.loop-index.invariant.number c.in-Err.ensures.rows in
-    part_next c.args.out.now c.loop-index.out c.answer_line.new.out _ (line_rows q f (n + i) line) _ _
-    (rows_around q f all i line within is n _ _ answered) c.loop-index.invariant.rows part
-
-pub returns-in-Err-clause-messages : goal.returns-in-Err-clause-messages
-returns-in-Err-clause-messages g c =
-    let q = c.args.self.question.now in
-    let f = c.args.self.form.now in
-    let all = texts_of c.args.batch in
-    let i = c.loop-index.index in
-    let line = c.line.result.text.now in
-    let within : i < length all = omega (arith, c.loop-index-test.true, c.line_count-index-end.ensures) in
-    let is = sym (get_or_from_slice_get all i line line c.line.ensures.text) in
-    let n = c.args.progress.now.number in
-    let fewer : c.loop-index.progress.counts.selected < f.most = omega (arith, c.loop-index.invariant.wanted, c.if-progress-self.false) in
-    let answered = goes_on q f all i line within is _ _ _ fewer refl c.loop-index.invariant.lines in
-    let part = subst (λ k. Part g.E.Write.contents c.loop-index.messages c.answer_line.new.messages (line_message f k line)) c.loop-index.invariant.number c.in-Err.ensures.messages in
-    part_next c.args.messages.now c.loop-index.messages c.answer_line.new.messages _ (line_message f (n + i) line) _ _
-    (messages_around q f all i line within is n _ _ answered) c.loop-index.invariant.messages part
-
-pub loop-index-preserved : goal.loop-index-preserved
-loop-index-preserved g c =
-    let q = c.args.self.question.now in
-    let f = c.args.self.form.now in
-    let all = texts_of c.args.batch in
-    let i = c.loop-index.index in
-    let line = c.line.result.text.now in
-    let within : i < length all = omega (arith, c.loop-index-test.true, c.line_count-index-end.ensures) in
-    let is = sym (get_or_from_slice_get all i line line c.line.ensures.text) in
-    let n = c.args.progress.now.number in
-    let inv = c.loop-index.invariant in
-    let passed = c.in_ok-pass-in-Ok.ensures in
-    let fewer : c.loop-index.progress.counts.selected < f.most = omega (arith, inv.wanted, c.if-progress-self.false) in
-    let counted = passed.selected ∙ ap (λ b. c.loop-index.progress.counts.selected + cond b 1 0) c.in-Ok.ensures.selected in
-    let refused = passed.refused ∙ ap (λ b. c.loop-index.progress.counts.refused + cond b 1 0) c.in-Ok.ensures.refused in
-    let mine = subst (λ k. Received g.W.Write.contents c.loop-index.out c.answer_line.new.out (line_rows q f k line)) inv.number c.in-Ok.ensures.rows in
-    let told = subst (λ k. Received g.E.Write.contents c.loop-index.messages c.answer_line.new.messages (line_message f k line)) inv.number c.in-Ok.ensures.messages in
+    let said = c.answer_lines-answered.ensures in
+    let r = c.answer_lines-answered.result in
+    let now = c.answer_lines-answered.new in
+    let text = output_from q f c.args.progress.now.number (answered_of q f c.args.progress.now.counts.selected (texts_of c.args.batch)) in
+    let failed : IsErr r = elim c.then-failed.branch [
+      | then-failed-via-then-failed w ↦ err_told is_write_fault r now.out.failed said.tells.0 (sym c.failed.ensures ∙ w.if-failed.true)
+      | then-failed-via-else-failed+then-failed-2 w ↦ err_told is_report_fault r now.messages.failed said.tells.1 (sym w.failed-else-failed.ensures ∙ w.if-failed-2.true)
+    ] in
     record {
-      lines = goes_on q f all i line within is _ _ _ fewer counted inv.lines;
-      rows = subst (λ l. Received g.W.Write.contents c.args.out.now c.answer_line.new.out l) (sym (rows_more q f all i line within is n)) (both_received _ _ _ _ _ inv.rows mine);
-      messages = subst (λ l. Received g.E.Write.contents c.args.messages.now c.answer_line.new.messages l) (sym (messages_more q f all i line within is n)) (both_received _ _ _ _ _ inv.messages told);
-      number = omega (arith, passed.number, inv.number);
-      selected = omega (arith, counted, inv.selected, selected_more q f all i line within is);
-      refused = omega (arith, refused, inv.refused, refused_more q f all i line within is);
-      fewer_selected = one_fewer _ _ _ _ _ counted passed.number inv.fewer_selected;
-      fewer_refused = one_fewer _ _ _ _ _ refused passed.number inv.fewer_refused;
-      wanted = one_wanted _ _ _ _ counted fewer;
-      writes = c.in-Ok.ensures.write_fault;
-      reports = c.in-Ok.ensures.report_fault;
-      after = c.answer_line.ensures.after ∙ inv.after;
-      messages_after = c.answer_line.ensures.messages_after ∙ inv.messages_after;
+      rows = lost_at_err g.W.Write.contents r c.args.out.now now.out now.outlet.held.items text failed
+          (subst (λ (l : List ℕ). Puts g.W.Write.contents c.args.out.now now.out l now.outlet.held.items r text) c.clear.ensures said.rows);
+      messages = said.messages;
+      progress = said.progress;
     }
 
-pub returns-clause-rows : goal.returns-clause-rows
-returns-clause-rows g c =
+pub returns-in-Err-clause-answers : goal.returns-in-Err-clause-answers
+returns-in-Err-clause-answers g c =
     let q = c.args.self.question.now in
     let f = c.args.self.form.now in
-    let past : length (texts_of c.args.batch) ≤ c.loop-index.index = omega (arith, c.loop-index-test.false, c.line_count-index-end.ensures) in
-    subst (λ ls. Received g.W.Write.contents c.args.out.now c.loop-index.out (output_from q f c.args.progress.now.number ls)) (sym (at_end q f (texts_of c.args.batch) c.loop-index.index _ _ past c.loop-index.invariant.lines)) c.loop-index.invariant.rows
-
-pub returns-clause-messages : goal.returns-clause-messages
-returns-clause-messages g c =
-    let q = c.args.self.question.now in
-    let f = c.args.self.form.now in
-    let past : length (texts_of c.args.batch) ≤ c.loop-index.index = omega (arith, c.loop-index-test.false, c.line_count-index-end.ensures) in
-    subst (λ ls. Received g.E.Write.contents c.args.messages.now c.loop-index.messages (messages_from f c.args.progress.now.number ls)) (sym (at_end q f (texts_of c.args.batch) c.loop-index.index _ _ past c.loop-index.invariant.lines)) c.loop-index.invariant.messages
-
-pub returns-clause-number : goal.returns-clause-number
-returns-clause-number g c =
-    let q = c.args.self.question.now in
-    let f = c.args.self.form.now in
-    let all = texts_of c.args.batch in
-    let past : length (texts_of c.args.batch) ≤ c.loop-index.index = omega (arith, c.loop-index-test.false, c.line_count-index-end.ensures) in
-    let whole = at_end q f all c.loop-index.index _ _ past c.loop-index.invariant.lines in
-    c.loop-index.invariant.number
-    ∙ ap (λ k. c.args.progress.now.number + k) (sym (length-take-le c.loop-index.index all (omega (arith, c.loop-index.auto.index-end, c.line_count-index-end.ensures))) ∙ ap length (sym whole))
-
-pub returns-clause-selected : goal.returns-clause-selected
-returns-clause-selected g c =
-    let q = c.args.self.question.now in
-    let f = c.args.self.form.now in
-    let past : length (texts_of c.args.batch) ≤ c.loop-index.index = omega (arith, c.loop-index-test.false, c.line_count-index-end.ensures) in
-    c.loop-index.invariant.selected
-    ∙ ap (λ ls. c.args.progress.now.counts.selected + selected_count q f.framing ls) (sym (at_end q f (texts_of c.args.batch) c.loop-index.index _ _ past c.loop-index.invariant.lines))
-
-pub returns-clause-refused : goal.returns-clause-refused
-returns-clause-refused g c =
-    let q = c.args.self.question.now in
-    let f = c.args.self.form.now in
-    let past : length (texts_of c.args.batch) ≤ c.loop-index.index = omega (arith, c.loop-index-test.false, c.line_count-index-end.ensures) in
-    c.loop-index.invariant.refused
-    ∙ ap (λ ls. c.args.progress.now.counts.refused + refused_count f.framing ls) (sym (at_end q f (texts_of c.args.batch) c.loop-index.index _ _ past c.loop-index.invariant.lines))
+    let said = c.answer_lines-answered.ensures in
+    let r = c.answer_lines-answered.result in
+    let now = c.answer_lines-answered.new in
+    let text = output_from q f c.args.progress.now.number (answered_of q f c.args.progress.now.counts.selected (texts_of c.args.batch)) in
+    record {
+      rows = part_written c.args.out.now now.out c.write_held.new.out now.outlet.held.items text
+          (part_of_puts g.W.Write.contents r c.args.out.now now.out [] now.outlet.held.items text
+          (subst (λ (l : List ℕ). Puts g.W.Write.contents c.args.out.now now.out l now.outlet.held.items r text) c.clear.ensures said.rows))
+          c.in-Err.ensures.text;
+      messages = part_of_writes g.E.Write.contents r c.args.messages.now now.messages _ said.messages;
+      progress = tt;
+    }

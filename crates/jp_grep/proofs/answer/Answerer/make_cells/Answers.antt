@@ -1,14 +1,15 @@
 -- The cell of one query comes behind those of the queries before it.
-use Rattle.std.proofs.Common.{◌≡◌, ◌∙◌, ◌++◌, ◌+◌, ◌<◌, ℕ, List, [], ◌∷◌, ap, sym, subst, append_assoc, get_or, length, map, take, decimal}
+use Rattle.std.proofs.Common.{◌≡◌, ◌∙◌, ◌++◌, ◌+◌, ◌<◌, ℕ, List, [], ◌∷◌, ap, sym, subst, append_assoc, get_or, length, map, take, decimal, ◌||◌}
 use Rattle.std.proofs.lemmas.List.{map-append, take_more}
 use Rattle.jp_model.specs.Json.Tree.{Tree}
 use Rattle.jp_model.specs.Query.Syntax.{Segments}
 use Rattle.jp_eval.specs.Compiled.{program_view}
 use Rattle.jp_eval.specs.declared.evaluate.Program.{Program}
-use Rattle.jp_store.specs.Views.{text_of_view, tree_of_view}
+use Rattle.jp_lines.specs.Views.{text_of_view, tree_of_view}
 use Rattle.jp_grep.specs.Held.{Holds}
-use Rattle.jp_grep.specs.Matching.{selected_by}
+use Rattle.jp_grep.specs.Matching.{has_nodes, selected_by}
 use Rattle.jp_grep.specs.Tables.{front_cells, nodes_cell, query_cells}
+use Rattle.jp_grep.proofs.Selecting.{selects_more}
 use Rattle.jp_grep.proofs.answer.Answerer.make_cells.Goals as goal
 
 cells_more : (line : List ℕ) (t : Tree) (programs : List Program) (i : ℕ) (program : Program) → i < length programs → program ≡ get_or programs i program
@@ -34,6 +35,10 @@ loop-query-preserved c =
     let is = c.query-item.is ∙ ap (λ l. get_or l i program) queries in
     let before = query_cells (map program_view (take i programs)) line t in
     let cell = nodes_cell line (selected_by (program_view program) t) in
-    subst (λ cells. Holds c.args.table c.add_cell.new.room.row cells)
-    (append_assoc front before (cell ∷ []) ∙ ap (λ l. front ++ l) (sym (cells_more line t programs i program within is)))
-    (c.in_ok-add_cell.ensures (front ++ before) c.loop-query.invariant)
+    record {
+      cells = subst (λ cells. Holds c.args.table c.add_cell.new.room.cells cells)
+          (append_assoc front before (cell ∷ []) ∙ ap (λ l. front ++ l) (sym (cells_more line t programs i program within is)))
+          (c.in_ok-some.ensures.cell (front ++ before) c.loop-query.invariant.cells);
+      some = ap (λ b. c.loop-query.some || b) c.in_ok-some.ensures.some ∙ ap (λ b. b || has_nodes (selected_by (program_view program) t)) c.loop-query.invariant.some ∙ sym (selects_more programs i program t within is);
+      row = c.in_ok-some.ensures.row ∙ c.loop-query.invariant.row;
+    }

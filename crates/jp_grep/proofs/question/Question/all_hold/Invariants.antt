@@ -1,7 +1,7 @@
 -- Whether the conditions from here on hold decides.
 use Rattle.std.proofs.Common.{◌≡◌, map, drop}
 use Rattle.jp_eval.specs.Compiled.{predicate_view}
-use Rattle.jp_store.specs.Views.{tree_of_view}
+use Rattle.jp_lines.specs.Views.{tree_of_view}
 use Rattle.jp_grep.specs.Matching.{all_hold, conditions_of}
 use Rattle.jp_grep.proofs.question.Question.all_hold.Given as goal
 

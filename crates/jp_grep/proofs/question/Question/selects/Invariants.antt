@@ -1,7 +1,7 @@
 -- Whether a query from here on selects a node decides.
 use Rattle.std.proofs.Common.{◌≡◌, map, drop}
 use Rattle.jp_eval.specs.Compiled.{program_view}
-use Rattle.jp_store.specs.Views.{tree_of_view}
+use Rattle.jp_lines.specs.Views.{tree_of_view}
 use Rattle.jp_grep.specs.Matching.{queries_of, selects}
 use Rattle.jp_grep.proofs.question.Question.selects.Given as goal
 

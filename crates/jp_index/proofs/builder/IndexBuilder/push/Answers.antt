@@ -1,7 +1,7 @@
 -- One cell more, and its line where it has a key.
 use Rattle.std.proofs.Common.{◌≡◌, ◌∙◌, ◌+◌, ◌++◌, ◌∷◌, [], ap, sym, subst, arith, true, false, append-nil, length-append, length, if◌then◌else◌}
 use Rattle.std.specs.Prelude.{option_map}
-use Rattle.jp_tape.specs.Cursors.{root_of}
+use Rattle.jp_nodes.specs.Cursors.{root_of}
 use Rattle.jp_model.specs.Numbered.{numbers_where}
 use Rattle.jp_index.specs.Cells.{has_key}
 use Rattle.jp_index.specs.Entries.{entry_in}

@@ -1,6 +1,6 @@
 -- No line in front of the first of these chunks, and none behind the last, compares so.
 use Rattle.std.proofs.Common.{◌≡◌, ◌-◌, ◌≤◌, All, filter, take, drop, true, false, arith, subst, IfOk}
-use Rattle.jp_query.specs.View.{op_view}
+use Rattle.jp_syntax.specs.View.{op_view}
 use Rattle.jp_index.specs.ByKey.{Ascend}
 use Rattle.jp_index.specs.Cells.{key_at}
 use Rattle.jp_index.specs.Chunks.{lines_in}

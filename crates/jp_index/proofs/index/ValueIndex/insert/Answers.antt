@@ -1,6 +1,6 @@
 -- What changes is put in, for which room was made.
 use Rattle.std.proofs.Common.{subst}
-use Rattle.jp_tape.specs.Cursors.{root_of}
+use Rattle.jp_nodes.specs.Cursors.{root_of}
 use Rattle.jp_index.specs.Entries.{entry_of}
 use Rattle.jp_index.specs.Indexes.{IsChange}
 use Rattle.jp_index.proofs.index.ValueIndex.insert.Goals as goal

@@ -8,8 +8,7 @@ use Rattle.jp_masks.specs.Positions.{set_bits}
 use Rattle.jp_masks.specs.Ends.{is_end}
 use Rattle.jp_masks.specs.Machine.{is_marked, before}
 use Rattle.jp_masks.specs.declared.block.Carry.{Carry}
-use Rattle.jp_masks.specs.Sinks.{add_positions}
-use Rattle.jp_masks.specs.Sinks.{row_if}
+use Rattle.jp_masks.specs.Sinks.{add_positions, row_if}
 use Rattle.jp_masks.specs.Found.{is_last_line}
 use Rattle.jp_masks.proofs.LineMore.{known_after}
 use Rattle.jp_masks.proofs.FoundLaw.{found_all}

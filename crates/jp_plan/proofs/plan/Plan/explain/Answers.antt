@@ -4,7 +4,7 @@ use Rattle.jp_model.specs.Plans.{Guard, guard_text, scan_text, seek_text, segmen
 use Rattle.jp_model.specs.Query.Syntax.{segment_list}
 use Rattle.jp_model.specs.Steps.{Step}
 use Rattle.jp_store.specs.Collections.{statuses_in}
-use Rattle.jp_query.specs.View.{segments_view}
+use Rattle.jp_syntax.specs.View.{segments_view}
 use Rattle.jp_plan.specs.Paths.{guard_at, path_at}
 use Rattle.jp_plan.specs.PlanViews.{plan_of}
 use Rattle.jp_plan.specs.Routes.{IsRouteOf}

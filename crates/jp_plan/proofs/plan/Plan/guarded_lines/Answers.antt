@@ -5,7 +5,7 @@ use Rattle.jp_model.specs.Meaning.Functions.{literal_value}
 use Rattle.jp_model.specs.Numbered.{numbers_where}
 use Rattle.jp_model.specs.Plans as plans
 use Rattle.jp_model.specs.Steps.{Step}
-use Rattle.jp_query.specs.View.{literal_view, op_view}
+use Rattle.jp_syntax.specs.View.{literal_view, op_view}
 use Rattle.jp_index.specs.Entries.{entries_of, lines_where}
 use Rattle.jp_store.specs.Collections.{statuses_in}
 use Rattle.jp_plan.specs.Passing.{guard_status}

@@ -1,6 +1,6 @@
 -- The rows of the nodes that the rest selects from the node of the seek.
 use Rattle.std.proofs.Common.{◌≡◌, ◌∙◌, [], ◌∷◌, map, ap}
-use Rattle.jp_query.specs.View.{segments_view}
+use Rattle.jp_syntax.specs.View.{segments_view}
 use Rattle.jp_store.specs.Collections.{line_status}
 use Rattle.jp_plan.specs.Paths.{path_at}
 use Rattle.jp_plan.specs.Routes.{steps_or_none}
@@ -8,8 +8,8 @@ use Rattle.jp_plan.specs.PlanViews.{plan_of}
 use Rattle.jp_model.specs.Meaning.Nodes.{Node}
 use Rattle.jp_model.specs.Query.Syntax.{Segments}
 use Rattle.jp_model.specs.Meaning.Selecting.{nodes}
-use Rattle.jp_tape.specs.Cursors.{node_of}
-use Rattle.jp_store.specs.Views.{text_of_view, tree_of_view}
+use Rattle.jp_nodes.specs.Cursors.{node_of}
+use Rattle.jp_lines.specs.Views.{text_of_view, tree_of_view}
 use Rattle.jp_plan.specs.ByLine.{found_in}
 use Rattle.jp_plan.proofs.ByLine.{node_rows, nodes_of_line, of_view, is_there}
 use Rattle.jp_plan.proofs.Starts.{on_ok}

@@ -1,5 +1,5 @@
 -- What is behind the seek is well-typed, and its literals can be read.
-use Rattle.jp_query.specs.View.{segments_view}
+use Rattle.jp_syntax.specs.View.{segments_view}
 use Rattle.jp_plan.specs.Paths.{path_at}
 use Rattle.jp_plan.specs.Routes.{steps_or_none}
 use Rattle.jp_plan.specs.PlanViews.{plan_of}

@@ -7,7 +7,7 @@ use Rattle.jp_model.specs.Steps.{Step}
 use Rattle.jp_store.specs.Collections.{statuses_in, line_status}
 use Rattle.jp_index.specs.Entries.{entries_of}
 use Rattle.jp_plan.specs.Paths.{path_at}
-use Rattle.jp_store.specs.Views.{tree_of_view}
+use Rattle.jp_lines.specs.Views.{tree_of_view}
 use Rattle.jp_plan.specs.Passing.{seek_status}
 use Rattle.jp_plan.specs.Routes.{steps_or_none}
 use Rattle.std.proofs.lemmas.Option.{same_Some, slice_get_within}

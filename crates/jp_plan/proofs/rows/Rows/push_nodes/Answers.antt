@@ -2,9 +2,9 @@
 use Rattle.std.proofs.Common.{◌≡◌, ◌∙◌, ◌++◌, ◌∷◌, [], ℕ, List, length, map, take, ap, ap₂, sym, subst, arith, append_assoc}
 use Rattle.std.specs.Prelude.{All}
 use Rattle.std.proofs.lemmas.List.{take_all, length-map}
-use Rattle.jp_store.specs.Views.{text_of_view}
-use Rattle.jp_tape.specs.Cursors.{line_of, place_of}
-use Rattle.jp_tape.specs.declared.cursor.Cursor.{Cursor}
+use Rattle.jp_lines.specs.Views.{text_of_view}
+use Rattle.jp_nodes.specs.Cursors.{line_of, place_of}
+use Rattle.jp_nodes.specs.declared.cursor.Cursor.{Cursor}
 use Rattle.jp_plan.specs.ByLine.{expanded, AreInTurn, IsPlaceIn}
 use Rattle.jp_plan.specs.declared.rows.LineRows.{LineRows}
 use Rattle.jp_plan.specs.declared.rows.LineRows.TheVariants as by_line

@@ -1,7 +1,7 @@
 -- The places so far are those of the first nodes, behind the old ones.
 use Rattle.std.proofs.Common.{◌≡◌, ◌++◌, map, take}
 use Rattle.std.specs.Prelude.{All}
-use Rattle.jp_tape.specs.Cursors.{place_of}
+use Rattle.jp_nodes.specs.Cursors.{place_of}
 use Rattle.jp_plan.specs.ByLine.{IsPlaceIn}
 use Rattle.jp_plan.proofs.rows.Rows.push_nodes.Given as goal
 

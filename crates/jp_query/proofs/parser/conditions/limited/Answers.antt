@@ -1,11 +1,13 @@
 -- An expression within its limits was read from the whole text.
 use Rattle.std.proofs.Common.{◌≡◌, ◌∙◌, Some, ap, sym, true}
+use Rattle.std.proofs.lemmas.Bool.{and_parts}
 use Rattle.jp_model.specs.Query.Limits.{has_exact_integers, has_small_exponents}
 use Rattle.jp_model.specs.Query.Syntax as syntax
-use Rattle.jp_query.specs.Filters.{filter_by}
-use Rattle.jp_query.specs.View.{logical_view}
+use Rattle.jp_syntax.specs.Filters.{filter_by}
+use Rattle.jp_syntax.specs.View.{logical_view}
 use Rattle.jp_query.proofs.OneFilter.{filter_passes}
 use Rattle.jp_query.proofs.Outcomes.{well_formed}
+use Rattle.jp_query.proofs.SoundNumbers.{well_formed_sound}
 use Rattle.jp_query.proofs.parser.conditions.limited.Goals as goal
 
 pub new-requires : goal.new-requires
@@ -13,4 +15,5 @@ new-requires c =
     let l = logical_view c.in-Some.expression in
     let exact : has_exact_integers (filter_by l) ≡ true = filter_passes l _ true (sym c.if-not-logical_passes.ensures) in
     let small : has_small_exponents (filter_by l) ≡ true = filter_passes l _ true (sym c.if-not-logical_passes-2.ensures) in
-    ∣ well_formed c.args._whole.now (filter_by l) ((c.requires.0, c.requires.1 ∙ ap (λ (q : syntax.Segments). Some q) c.in-Some.ensures), (exact, small)) ∣₁
+    let formed = well_formed c.args._whole.now (filter_by l) ((c.requires.0, c.requires.1 ∙ ap (λ (q : syntax.Segments). Some q) c.in-Some.ensures), (exact, small)) in
+    record { well_formed = ∣ formed ∣₁; sound = (and_parts _ _ (and_parts _ _ (well_formed_sound (filter_by l) formed)).0).0 }

@@ -1,7 +1,7 @@
 -- What is answered for the whole text is answered for the condition's.
 use Rattle.std.proofs.Common.{◌≡◌, ◌∙◌, subst}
 use Rattle.jp_query.specs.ConditionOutcome.{MeantInFilter}
-use Rattle.jp_query.specs.Filters.{in_filter}
+use Rattle.jp_syntax.specs.Filters.{in_filter}
 use Rattle.jp_query.proofs.OneFilter.{condition_faults, condition_found, condition_only}
 use Rattle.jp_query.proofs.parser.conditions.parse_condition.Goals as goal
 

@@ -4,7 +4,7 @@ use Rattle.std.proofs.lemmas.List.{map_push}
 use Rattle.jp_query.specs.Integers.{clamp}
 use Rattle.jp_query.specs.Reading.Scalars.{all_of}
 use Rattle.jp_query.specs.Reading.Queries.{next_singular}
-use Rattle.jp_query.specs.View.{segment_view}
+use Rattle.jp_syntax.specs.View.{segment_view}
 use Rattle.jp_query.proofs.Loop.{goes_on, fails, stops, is_done}
 use Rattle.jp_query.proofs.parser.selectors.singular_list.Goals as goal
 use Rattle.jp_query.proofs.parser.selectors.singular_list.Goals.{else-loop-test, then-loop-test+in_ok-one+in_default}

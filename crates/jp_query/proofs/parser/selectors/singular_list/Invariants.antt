@@ -2,7 +2,7 @@ use Rattle.std.proofs.Common.{◌≡◌, ◌-◌, length, map}
 use Rattle.jp_query.specs.Integers.{clamp}
 use Rattle.jp_query.specs.Reading.Scalars.{many, all_of, with_front}
 use Rattle.jp_query.specs.Reading.Queries.{next_singular}
-use Rattle.jp_query.specs.View.{segment_view}
+use Rattle.jp_syntax.specs.View.{segment_view}
 use Rattle.jp_query.proofs.parser.selectors.singular_list.Given as goal
 
 -- what was read so far, and then what is still read

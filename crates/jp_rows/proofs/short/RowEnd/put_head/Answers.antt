@@ -2,7 +2,7 @@
 use Rattle.std.proofs.Common.{◌++◌, decimal}
 use Rattle.jp_model.specs.Rows.{row_start, tab}
 use Rattle.jp_model.specs.Meaning.Paths.{path_text}
-use Rattle.jp_tape.specs.Cursors.{node_of}
+use Rattle.jp_nodes.specs.Cursors.{node_of}
 use Rattle.jp_rows.proofs.Ends.{put_two, put_last, head_parts}
 use Rattle.jp_rows.proofs.short.RowEnd.put_head.Goals as goal
 

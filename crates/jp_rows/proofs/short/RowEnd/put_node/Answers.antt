@@ -4,7 +4,7 @@ use Rattle.jp_model.specs.declared.Span.{Span}
 use Rattle.jp_model.specs.Json.Places.{bytes_between}
 use Rattle.jp_model.specs.Meaning.Paths.{path_text}
 use Rattle.jp_model.specs.Rows.{row_start, tab, source, line_feed}
-use Rattle.jp_tape.specs.Cursors.{line_of, node_of}
+use Rattle.jp_nodes.specs.Cursors.{line_of, node_of}
 use Rattle.jp_rows.proofs.Ends.{put_two, put_last, node_parts}
 use Rattle.jp_rows.proofs.short.RowEnd.put_node.Goals as goal
 

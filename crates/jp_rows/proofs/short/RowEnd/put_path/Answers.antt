@@ -2,7 +2,7 @@
 use Rattle.std.proofs.Common.{◌∙◌, ap, encode_utf8_all}
 use Rattle.jp_model.specs.Meaning.Nodes.{step_to}
 use Rattle.jp_model.specs.Meaning.Paths.{step_text, path_text}
-use Rattle.jp_tape.specs.Cursors.{node_of, name_of, index_of}
+use Rattle.jp_nodes.specs.Cursors.{node_of, name_of, index_of}
 use Rattle.jp_rows.proofs.Ends.{one_step_more}
 use Rattle.jp_rows.proofs.Printed.{path-push}
 use Rattle.jp_rows.proofs.short.RowEnd.put_path.Goals as goal

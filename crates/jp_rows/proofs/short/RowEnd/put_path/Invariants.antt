@@ -1,7 +1,7 @@
 -- What is put so far is what the path has beyond that of a node on the way up.
 use Rattle.std.proofs.Common.{◌≡◌, ◌++◌}
 use Rattle.jp_model.specs.Meaning.Paths.{path_text}
-use Rattle.jp_tape.specs.Cursors.{node_of, place_of}
+use Rattle.jp_nodes.specs.Cursors.{node_of, place_of}
 use Rattle.jp_rows.proofs.short.RowEnd.put_path.Given as goal
 
 abbrev pub invariant-loop-parent : goal.invariant-loop-parent

@@ -1,5 +1,5 @@
 -- The body of the name is the slice that its span gives.
-use Rattle.jp_tape.specs.Cursors.{line_of, name_of, index_of}
+use Rattle.jp_nodes.specs.Cursors.{line_of, name_of, index_of}
 use Rattle.jp_rows.proofs.Named.{names_step}
 use Rattle.jp_rows.proofs.short.RowEnd.put_step.Goals as goal
 

@@ -6,12 +6,13 @@ use Rattle.std.proofs.lemmas.List.Elements.{All-append, All-cons}
 use Rattle.jp_model.specs.Json.Status.{LineStatus}
 use Rattle.jp_model.specs.Steps.{Step}
 use Rattle.jp_model.specs.Script.Machine.{has_path, has_node, statuses}
-use Rattle.jp_query.specs.SingularPaths.{path_steps}
+use Rattle.jp_syntax.specs.SingularPaths.{path_steps}
 use Rattle.jp_index.specs.Entries.{entries_of}
 use Rattle.jp_index.specs.Indexes.{IsIndexOf}
 use Rattle.jp_index.specs.declared.index.ValueIndex.{ValueIndex}
 use Rattle.jp_store.specs.Collections.{Collection, with_index, with_paths, statuses_in}
-use Rattle.jp_store.specs.Stored.{IsOver, IsRead, path_of, stored_text}
+use Rattle.jp_store.specs.Stored.{IsOver, path_of}
+use Rattle.jp_lines.specs.Stored.{IsRead, stored_text}
 use Rattle.jp_store.proofs.Counted.{entries_count, no_fault}
 use Rattle.jp_store.proofs.store.Store.add_index.Goals as goal
 

@@ -8,8 +8,9 @@ use Rattle.jp_store.specs.Collections.{Collection, appended, with_lines}
 use Rattle.jp_store.specs.Edits.{AreEdited}
 use Rattle.jp_store.specs.Faults.{append_fault}
 use Rattle.jp_index.specs.Numbered.{with_number}
-use Rattle.jp_store.specs.Stored.{told_of, IsKept, IsRead, is_fault_status, told_tree, stored_text, path_of}
-use Rattle.jp_store.specs.declared.line.Line.{Line}
+use Rattle.jp_store.specs.Stored.{IsKept, path_of}
+use Rattle.jp_lines.specs.Stored.{told_of, IsRead, is_fault_status, told_tree, stored_text}
+use Rattle.jp_lines.specs.declared.line.Line.{Line}
 use Rattle.jp_store.proofs.Commits.{few_trees, kept_same, kept_more}
 use Rattle.jp_store.proofs.Edited.{lines_fit, same_paths, edited_paths, appends}
 use Rattle.jp_store.proofs.store.Store.append.Goals as goal

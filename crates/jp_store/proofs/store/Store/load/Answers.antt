@@ -1,13 +1,14 @@
 -- The lines are those of the bytes that came, each read, and no index is there.
 use Rattle.std.proofs.Common.{◌≡◌, true, false, refl, ◌∙◌, ℕ, List, length, map, sym, ap, ap₂, subst, arith, All}
 use Rattle.std.proofs.lemmas.Bool.{false≢true}
-use Rattle.jp_model.proofs.Devices.{came_so, goes_on, came_whole, not_ended, was_ended}
+use Rattle.jp_devices.proofs.Devices.{came_so, goes_on, came_whole, not_ended, was_ended}
 use Rattle.jp_model.specs.Lines.{is_framed, lines}
 use Rattle.jp_model.specs.Steps.{Step}
 use Rattle.jp_model.specs.Script.Machine.{bytes_held, statuses}
 use Rattle.jp_index.specs.declared.index.ValueIndex.{ValueIndex}
-use Rattle.jp_store.specs.declared.line.Line.{Line}
-use Rattle.jp_store.specs.Stored.{AreCounted, IsOver, IsRead, path_of, stored_text}
+use Rattle.jp_lines.specs.declared.line.Line.{Line}
+use Rattle.jp_store.specs.Stored.{AreCounted, IsOver, path_of}
+use Rattle.jp_lines.specs.Stored.{IsRead, stored_text}
 use Rattle.jp_store.specs.Collections.{Collection}
 use Rattle.jp_store.proofs.Loaded.{few_stored}
 use Rattle.jp_store.proofs.store.Store.load.Goals as goal

@@ -6,8 +6,9 @@ use Rattle.jp_store.specs.Collections.{replaced, with_lines}
 use Rattle.jp_store.specs.Edits.{AreEdited}
 use Rattle.jp_store.specs.Faults.{RefusesEdit, replace_fault}
 use Rattle.jp_index.specs.Numbered.{with_number}
-use Rattle.jp_store.specs.Stored.{told_of, IsRead, is_fault_status, is_tree_status, told_tree, stored_text, path_of}
-use Rattle.jp_store.specs.declared.line.Line.{Line}
+use Rattle.jp_store.specs.Stored.{path_of}
+use Rattle.jp_lines.specs.Stored.{told_of, IsRead, is_fault_status, is_tree_status, told_tree, stored_text}
+use Rattle.jp_lines.specs.declared.line.Line.{Line}
 use Rattle.jp_store.proofs.Commits.{bit, kept_same, kept_set, trees_least, trees_most}
 use Rattle.jp_store.proofs.Edited.{edited_paths, same_paths}
 use Rattle.jp_store.proofs.Replaced.{nothing, others, shown, something}

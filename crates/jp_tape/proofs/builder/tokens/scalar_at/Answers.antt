@@ -2,7 +2,7 @@ use Rattle.std.proofs.Common.{true, false, ap, sym, Option, Some, None}
 use Rattle.std.specs.Option.{IfNone}
 use Rattle.std.proofs.lemmas.Option.{IfSome_then}
 use Rattle.jp_model.specs.Json.Reader.{lead_of}
-use Rattle.jp_tape.specs.Reading.{code_of}
+use Rattle.jp_nodes.specs.Kinds.{code_of}
 use Rattle.jp_tape.proofs.Ahead.{passes_solid}
 use Rattle.jp_tape.proofs.Scalars.{found_null, found_boolean, found_number, no_null, no_boolean, no_number}
 use Rattle.jp_tape.proofs.builder.tokens.scalar_at.Goals as goal

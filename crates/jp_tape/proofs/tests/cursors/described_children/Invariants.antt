@@ -1,5 +1,5 @@
 use Rattle.std.proofs.Common.{length}
-use Rattle.jp_tape.specs.Cursors.{nodes_from}
+use Rattle.jp_nodes.specs.Cursors.{nodes_from}
 use Rattle.jp_tape.proofs.tests.cursors.described_children.Given as goal
 
 abbrev pub decreases-loop-next : goal.decreases-loop-next

@@ -2,10 +2,10 @@
 use Rattle.std.proofs.Common.{◌∙◌, sym, subst, Some, Option}
 use Rattle.jp_model.specs.Json.Tree.{value_of}
 use Rattle.jp_strings.specs.Points.{points_of}
-use Rattle.jp_tape.specs.declared.cursor.Cursor.{Cursor}
-use Rattle.jp_tape.specs.Cursors.{node_of, name_of, children_from, children_after}
-use Rattle.jp_tape.specs.Spots.{children_in}
-use Rattle.jp_tape.proofs.Cursors.{sound}
+use Rattle.jp_nodes.specs.declared.cursor.Cursor.{Cursor}
+use Rattle.jp_nodes.specs.Cursors.{node_of, name_of, children_from, children_after}
+use Rattle.jp_nodes.specs.Spots.{children_in}
+use Rattle.jp_nodes.proofs.Cursors.{sound}
 use Rattle.jp_values.specs.Members.{EndsWith}
 use Rattle.jp_values.proofs.Lookups.{ends_behind, first_member, found_in_whole, names_distinct}
 use Rattle.jp_values.proofs.members.Searched.find.Goals as goal

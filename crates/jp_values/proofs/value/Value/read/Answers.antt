@@ -1,8 +1,8 @@
 use Rattle.std.proofs.Common.{◌∙◌, ap, sym, Some}
 use Rattle.jp_decimal.specs.Decimals.{number_of}
 use Rattle.jp_model.specs.Json.Tree.{Value, value_of}
-use Rattle.jp_tape.specs.Cursors.{node_of}
-use Rattle.jp_tape.proofs.Contents.{number_is}
+use Rattle.jp_nodes.specs.Cursors.{node_of}
+use Rattle.jp_nodes.proofs.Contents.{number_is}
 use Rattle.jp_values.specs.Values.{value_view}
 use Rattle.jp_values.proofs.value.Value.read.Goals as goal
 

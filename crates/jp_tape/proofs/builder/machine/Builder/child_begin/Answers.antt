@@ -3,7 +3,7 @@ use Rattle.std.proofs.lemmas.Bool.{eqb-true}
 use Rattle.std.proofs.lemmas.Option.{none-some}
 use Rattle.jp_model.specs.Json.Tree.{array}
 use Rattle.jp_tape.specs.Machine.{Labelled}
-use Rattle.jp_tape.specs.Reading.{container_if}
+use Rattle.jp_nodes.specs.Kinds.{container_if}
 use Rattle.jp_tape.proofs.Ahead.{goes_on, none_is_end, not_empty}
 use Rattle.jp_tape.proofs.Labels.{end_no_label}
 use Rattle.jp_tape.proofs.builder.machine.Builder.child_begin.Goals as goal

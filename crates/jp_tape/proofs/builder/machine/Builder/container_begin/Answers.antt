@@ -4,8 +4,8 @@ use Rattle.jp_model.specs.Json.Places.{Has, byte_at}
 use Rattle.jp_tape.specs.Ahead.{IsAhead}
 use Rattle.jp_tape.specs.declared.builder.machine.Builder.{Builder}
 use Rattle.jp_tape.specs.declared.builder.machine.Open.{Open}
-use Rattle.jp_tape.specs.Words.{head_word}
-use Rattle.jp_tape.specs.Reading.{container_if}
+use Rattle.jp_nodes.specs.Words.{head_word}
+use Rattle.jp_nodes.specs.Kinds.{container_if}
 use Rattle.jp_tape.specs.Machine.{first_fault}
 use Rattle.jp_tape.proofs.Held.{or_false}
 use Rattle.jp_tape.proofs.Ahead.{passes_structural, structural_begins, bracket_structural, closing_structural}

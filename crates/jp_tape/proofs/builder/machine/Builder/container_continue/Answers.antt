@@ -4,11 +4,10 @@ use Rattle.std.proofs.lemmas.Result.{IfOk-weaker, IfErr-weaker}
 use Rattle.jp_model.specs.Characters.{is_structural}
 use Rattle.jp_model.specs.Json.Places.{White, Has, byte_at}
 use Rattle.jp_tape.specs.Ahead.{IsAhead}
-use Rattle.jp_tape.specs.Reading.{container_if}
+use Rattle.jp_nodes.specs.Kinds.{container_if}
 use Rattle.jp_model.specs.Json.Spelling.{closing}
 use Rattle.jp_tape.proofs.Ahead.{goes_on, no_mark_there, not_empty, passes_structural, structural_begins, closing_structural}
-use Rattle.jp_tape.proofs.Walk.{on_fault}
-use Rattle.jp_tape.proofs.Walk.{is_innermost, innermost_children, innermost_place, innermost_names, innermost_kept, comma_goes_on, no_comma, no_neither, close_goes_on, end_goes_on, no_end}
+use Rattle.jp_tape.proofs.Walk.{on_fault, is_innermost, innermost_children, innermost_place, innermost_names, innermost_kept, comma_goes_on, no_comma, no_neither, close_goes_on, end_goes_on, no_end}
 use Rattle.jp_tape.proofs.builder.machine.Builder.container_continue.Goals as goal
 
 pub returns-then-next-line-clause-goes_on : goal.returns-then-next-line-clause-goes_on

@@ -3,7 +3,6 @@ use Rattle.jp_model.specs.Json.Tree.{Tree}
 use Rattle.jp_model.specs.Json.Status.{HasStatus, parsed}
 use Rattle.jp_tape.proofs.Refused.{refused_of}
 use Rattle.jp_tape.proofs.Statuses.{without_fault}
-use Rattle.jp_tape.proofs.Trees.{spelled_only, tape_made}
 use Rattle.jp_tape.proofs.builder.machine.Builder.read.Goals as goal
 
 pub returns-in-Some-clause-fault : goal.returns-in-Some-clause-fault
@@ -15,11 +14,11 @@ pub returns-in-None-clause-status : goal.returns-in-None-clause-status
 returns-in-None-clause-status c =
     let f = c.in_ok-walk.ensures.found in
     let line = c.args.line.now in
-    subst (λ (t : Tree). HasStatus c.args.framing line (parsed t)) (sym (spelled_only line f.0 f.1)) (c.requires.verdict.0 c.if-not-is_utf8.false, f.1, sym (c.in-None.ensures f.0 f.1 f.2))
+    subst (λ (t : Tree). HasStatus c.args.framing line (parsed t)) (sym (c.tapes_are_of_lines.ensures.only line f.0 f.1)) (c.requires.verdict.0 c.if-not-is_utf8.false, f.1, sym (c.in-None.ensures f.0 f.1 f.2))
 
 pub returns-in-None-clause-made : goal.returns-in-None-clause-made
 returns-in-None-clause-made c =
     let f = c.in_ok-walk.ensures.found in
     let line = c.args.line.now in
     let clean = without_fault c.args.framing line f.0 (sym (c.in-None.ensures f.0 f.1 f.2)) in
-    tape_made c.walk.new.builder.words.items line f.0 f.1 f.2.words c.requires.room clean.0 clean.1 clean.2
+    c.tapes_are_of_lines.ensures.made c.walk.new.builder.words.items line f.0 f.1 f.2.words c.requires.room clean.0 clean.1 clean.2

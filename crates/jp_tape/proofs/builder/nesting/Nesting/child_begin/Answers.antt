@@ -1,7 +1,8 @@
 use Rattle.std.proofs.Common.{sym, ap, subst, refl, None, false, true}
 use Rattle.jp_model.specs.Json.Tree.{Container}
 use Rattle.jp_tape.specs.declared.builder.tokens.Label.{Label}
-use Rattle.jp_tape.specs.Reading.{container_if, FoundLabel}
+use Rattle.jp_tape.specs.Reading.{FoundLabel}
+use Rattle.jp_nodes.specs.Kinds.{container_if}
 use Rattle.jp_tape.proofs.Labels.{found_none}
 use Rattle.jp_tape.proofs.builder.nesting.Nesting.child_begin.Goals as goal
 

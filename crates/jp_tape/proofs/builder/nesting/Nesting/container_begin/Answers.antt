@@ -2,7 +2,7 @@ use Rattle.std.proofs.Common.{ℕ, List, Bool, ◌+◌, sym, ◌∙◌, subst}
 use Rattle.jp_model.specs.Json.Places.{Has, byte_at}
 use Rattle.jp_tape.specs.Ahead.{IsAhead}
 use Rattle.jp_tape.specs.Nesting.{IsValueNext}
-use Rattle.jp_tape.specs.Reading.{container_if}
+use Rattle.jp_nodes.specs.Kinds.{container_if}
 use Rattle.jp_tape.proofs.Ahead.{passes_structural, structural_begins, bracket_structural, closing_structural}
 use Rattle.jp_tape.proofs.Nesting.{empty_behind, child_next, no_child_text}
 use Rattle.jp_tape.proofs.Walk.{on_fault}

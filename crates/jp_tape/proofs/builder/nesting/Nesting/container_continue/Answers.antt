@@ -3,7 +3,7 @@ use Rattle.jp_model.specs.Characters.{is_structural}
 use Rattle.jp_model.specs.Json.Places.{White, Has, byte_at}
 use Rattle.jp_tape.specs.Ahead.{IsAhead}
 use Rattle.jp_tape.specs.Nesting.{IsValueNext, IsValueBehind}
-use Rattle.jp_tape.specs.Reading.{container_if}
+use Rattle.jp_nodes.specs.Kinds.{container_if}
 use Rattle.jp_tape.proofs.Ahead.{passes_structural, structural_begins, closing_structural}
 use Rattle.jp_tape.proofs.Nesting.{inner, inner_kind, comma_next, no_comma_text, close_behind, neither_text, end_deep, no_end_text}
 use Rattle.jp_tape.proofs.Walk.{on_fault}

@@ -1,0 +1,9 @@
+-- Lemmas on the cut.
+mod Depth
+mod Taking
+mod Passing
+mod Holding
+mod MarkLaw
+mod Reading
+mod LineFeeds
+mod TextsLaw

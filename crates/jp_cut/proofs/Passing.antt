@@ -1,0 +1,106 @@
+-- Bytes of a piece that leave a bracket of it open.
+use Rattle.std.proofs.Common.{◌≡◌, ℕ, ◌+◌, ◌-◌, ◌<◌, ◌≤◌, Bool, true, false, ◌&&◌, eqb, List, [], ◌∷◌, ◌++◌, take, drop, arith, refl, sym, ap, ◌∙◌, append_assoc, inl, inr}
+use Rattle.std.proofs.lemmas.Bool.Decides.{eqb_tells}
+use Rattle.std.proofs.Math.Seq.{take-add}
+use Rattle.std.proofs.lemmas.List.{append-nil, take-append-drop, drop-drop}
+use Rattle.std.proofs.lemmas.List.Sums.{fold-append}
+use Rattle.std.specs.Prelude.{◌==◌, slice_range, fold, if◌then◌else◌}
+use Rattle.jp_cut.specs.Cuts.{Piece, Cut, start, take_in, cut_of}
+use Rattle.jp_cut.specs.Holding.{HasCut}
+use Rattle.jp_cut.specs.Machine.{behind, is_whole, does, nothing_open, step_at, step}
+use Rattle.jp_cut.specs.Passing.{behind_all, StaysOpen, is_inside}
+use Rattle.jp_cut.specs.declared.cutter.Cutter.{Cutter}
+use Rattle.jp_cut.specs.declared.machine.Pieces.{Pieces}
+use Rattle.jp_cut.specs.declared.machine.Known.{Known}
+use Rattle.jp_cut.specs.declared.machine.Place.{Place}
+use Rattle.jp_cut.specs.declared.machine.Place.TheVariants.{Between, Word, Text, ArrayStart, NextElement, Element}
+use Rattle.jp_cut.specs.declared.machine.Turn.TheVariants.{Kept, Last, Ended}
+use Rattle.jp_cut.proofs.Taking.{take_in-turned}
+
+-- one byte more stays open
+pub stays_more : (known : Known) (bytes : List ℕ) (byte : ℕ) → StaysOpen known bytes → 0 < (behind (behind_all known bytes) byte).depth → StaysOpen known (bytes ++ byte ∷ [])
+stays_more known [] byte stays more = (stays, more)
+stays_more known (b ∷ rest) byte stays more = (stays.0, stays_more (behind known b) rest byte stays.1 more)
+
+pub behind_all-more : (known : Known) (bytes : List ℕ) (byte : ℕ) → behind_all known (bytes ++ byte ∷ []) ≡ behind (behind_all known bytes) byte
+behind_all-more known bytes byte = fold-append behind known bytes (byte ∷ [])
+
+-- ---- such bytes are kept
+
+not_zero : (d : ℕ) → 0 < d → eqb d 0 ≡ false
+not_zero d some = elim (eqb_tells d 0) [ inl same ↦ absurd (omega (arith, same.1)) | inr other ↦ other.0 ]
+
+not_whole : (d : ℕ) (other : Bool) → 0 < d → (eqb d 0 && other) ≡ false
+not_whole d other some = ap (λ b. b && other) (not_zero d some)
+
+kept_in_text : (whole : Bool) (known : Known) → whole ≡ false → (if whole then does Last (nothing_open Between) else does Kept known) ≡ does Kept known
+kept_in_text true known e = absurd (cc)
+kept_in_text false known e = refl
+
+kept_in_element : (whole a b c : Bool) (known : Known) → whole ≡ false
+    → (if whole && a then does Ended (nothing_open NextElement) else (if whole && b then does Ended (nothing_open Between) else (if whole && c then does Last (nothing_open Between) else does Kept known))) ≡ does Kept known
+kept_in_element true a b c known e = absurd (cc)
+kept_in_element false a b c known e = refl
+
+kept_at : (place : Place) (pieces : Pieces) (known : Known) (byte : ℕ) → is_inside place ≡ true → 0 < known.depth → 0 < (behind known byte).depth → step_at place pieces known byte ≡ does Kept (behind known byte)
+kept_at Between pieces known byte e some more = absurd (cc)
+kept_at Word pieces known byte e some more = absurd (cc)
+kept_at Text pieces known byte e some more = kept_in_text (is_whole (behind known byte)) (behind known byte) (not_whole (behind known byte).depth _ more)
+kept_at ArrayStart pieces known byte e some more = absurd (cc)
+kept_at NextElement pieces known byte e some more = absurd (cc)
+kept_at Element pieces known byte e some more = kept_in_element (is_whole known) (byte == 0x2C) (byte == 0x5D) (byte == 0x7D) (behind known byte) (not_whole known.depth _ some)
+
+kept : (pieces : Pieces) (known : Known) (byte : ℕ) → is_inside known.place ≡ true → 0 < known.depth → 0 < (behind known byte).depth → step pieces known byte ≡ does Kept (behind known byte)
+unfolding step
+kept pieces known byte e some more = kept_at known.place pieces known byte e some more
+
+now_open : (known : Known) (bytes : List ℕ) → StaysOpen known bytes → 0 < known.depth
+now_open known [] stays = stays
+now_open known (b ∷ rest) stays = stays.0
+
+-- what bytes that stay open are cut into
+abbrev pub behind_kept : Cut → List ℕ → Cut
+behind_kept cut bytes = record { ended = cut.ended; begun = cut.begun ++ bytes; line_feeds = cut.line_feeds; known = behind_all cut.known bytes }
+
+kept_one : (pieces : Pieces) (cut : Cut) (byte : ℕ) → step pieces cut.known byte ≡ does Kept (behind cut.known byte) → take_in pieces cut byte ≡ behind_kept cut (byte ∷ [])
+kept_one pieces cut byte e =
+    take_in-turned pieces cut byte Kept (ap (λ x. x.turn) e)
+    ∙ ap (λ (k : Known). let made : Cut = record { ended = cut.ended; begun = cut.begun ++ byte ∷ []; line_feeds = cut.line_feeds; known = k } in made) (ap (λ x. x.known) e)
+
+kept_all : (pieces : Pieces) (cut : Cut) (bytes : List ℕ) → is_inside cut.known.place ≡ true → StaysOpen cut.known bytes → fold (take_in pieces) cut bytes ≡ behind_kept cut bytes
+kept_all pieces cut [] inside stays =
+    ap (λ (b : List ℕ). let made : Cut = record { ended = cut.ended; begun = b; line_feeds = cut.line_feeds; known = cut.known } in made) (sym (append-nil cut.begun))
+kept_all pieces cut (byte ∷ rest) inside stays =
+    ap (λ (c : Cut). fold (take_in pieces) c rest) (kept_one pieces cut byte (kept pieces cut.known byte inside stays.0 (now_open (behind cut.known byte) rest stays.1)))
+    ∙ kept_all pieces (behind_kept cut (byte ∷ [])) rest inside stays.1
+    ∙ ap (λ (b : List ℕ). let made : Cut = record { ended = cut.ended; begun = b; line_feeds = cut.line_feeds; known = behind_all (behind cut.known byte) rest } in made) (append_assoc cut.begun (byte ∷ []) rest)
+
+-- ---- and so they are of what a cutter holds
+
+-- a part, and the next
+slice_range_join : (xs : List ℕ) (a c n : ℕ) → a ≤ c → slice_range xs a c ++ take n (drop c xs) ≡ slice_range xs a (c + n)
+slice_range_join xs a c n order =
+    let parts : c + n - a ≡ (c - a) + n = omega arith in
+    let there : a + (c - a) ≡ c = omega arith in
+    sym (ap (λ k. take k (drop a xs)) parts ∙ take-add (c - a) n (drop a xs) ∙ ap (λ ys. slice_range xs a c ++ take n ys) (drop-drop (c - a) a xs ∙ ap (λ k. drop k xs) there))
+
+pub passed : (pieces : Pieces) (fed : List ℕ) (handed : List Piece) (s t : Cutter) (n : ℕ) → HasCut pieces fed handed s → is_inside s.known.place ≡ true
+    → StaysOpen s.known (take n (drop s.cut s.held.items)) → t.known ≡ behind_all s.known (take n (drop s.cut s.held.items))
+    → t.held ≡ s.held → t.cut ≡ s.cut + n → t.start ≡ s.start → t.line_feeds ≡ s.line_feeds → t.pieces ≡ s.pieces → HasCut pieces fed handed t
+unfolding cut_of
+passed pieces fed handed s t n h inside stays known held cut start_is lines p =
+    let some = take n (drop s.cut s.held.items) in
+    record {
+      cut = h.cut ++ some;
+      line_feeds = h.line_feeds;
+      are = p ∙ h.are;
+      joined = h.joined ∙ ap (λ xs. h.cut ++ xs) (sym (take-append-drop n (drop s.cut s.held.items)) ∙ ap (λ xs. some ++ xs) (drop-drop n s.cut s.held.items))
+          ∙ sym (append_assoc h.cut some (drop (s.cut + n) s.held.items)) ∙ ap (λ k. (h.cut ++ some) ++ drop k s.held.items) (sym cut) ∙ ap (λ v. (h.cut ++ some) ++ drop t.cut v.items) (sym held);
+      state = fold-append (take_in pieces) start h.cut some
+          ∙ ap (λ (c : Cut). fold (take_in pieces) c some) h.state
+          ∙ kept_all pieces (record { ended = handed; begun = slice_range s.held.items s.start s.cut; line_feeds = h.line_feeds; known = s.known }) some inside stays
+          ∙ ap (λ (b : List ℕ). let made : Cut = record { ended = handed; begun = b; line_feeds = h.line_feeds; known = behind_all s.known some } in made)
+          (slice_range_join s.held.items s.start s.cut n (omega (arith, s.order)) ∙ ap (λ k. slice_range s.held.items s.start k) (sym cut) ∙ ap (λ k. slice_range s.held.items k t.cut) (sym start_is) ∙ ap (λ v. slice_range v.items t.start t.cut) (sym held))
+          ∙ ap (λ (k : Known). let made : Cut = record { ended = handed; begun = slice_range t.held.items t.start t.cut; line_feeds = h.line_feeds; known = k } in made) (sym known);
+      counted = lines ∙ h.counted;
+    }

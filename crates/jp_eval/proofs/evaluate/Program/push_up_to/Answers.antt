@@ -1,0 +1,36 @@
+-- No answer was there, and each slot is known.
+use Rattle.std.proofs.Common.{◌≡◌, ◌∙◌, ◌∷◌, [], ap, ap₂, subst, List, take, Result, Ok, Err}
+use Rattle.std.specs.Prelude.{OnOk}
+use Rattle.jp_model.specs.Json.Tree.{Tree}
+use Rattle.jp_model.specs.Meaning.Nodes.{Node}
+use Rattle.jp_model.specs.Meaning.Selecting.{nodes}
+use Rattle.jp_nodes.specs.Cursors.{node_of}
+use Rattle.jp_eval.specs.Programs.{Table, table_of, steps_view}
+use Rattle.jp_eval.specs.Tallies.{tally}
+use Rattle.jp_eval.specs.declared.program.Slot.{Slot}
+use Rattle.jp_eval.specs.declared.program.Step.{Step}
+use Rattle.jp_eval.proofs.Answered.{none_in}
+use Rattle.jp_eval.proofs.Goes.{same_tally}
+use Rattle.jp_eval.proofs.Tables.{all_known}
+use Rattle.jp_eval.proofs.evaluate.Program.push_up_to.Goals as goal
+
+on_ok : {A E : Type 0} (r : Result A E) (P Q : Type 0) → (P → Q) → OnOk r P → OnOk r Q
+on_ok (Ok x) P Q f h = f h
+on_ok (Err e) P Q f h = tt
+
+pub answer_slots-requires : goal.answer_slots-requires
+answer_slots-requires c position answer is = absurd ((none_in c.args.frame.now.answers.items c.requires.answers).none position answer is)
+
+pub returns-clause-told : goal.returns-clause-told
+returns-clause-told c =
+    let t : Tree = (node_of c.args.root).tree in
+    let n : Node = node_of c.args.start in
+    let slots = c.args.self.now.slots in
+    let most = c.args.most in
+    let seen = λ (table : Table) (steps : List Step). nodes (steps_view table steps) (n ∷ []) t in
+    let known : Table = take c.len.result (table_of c.deref.result.now) in
+    let all : known ≡ table_of slots.items = ap (λ (l : List Slot). take c.len.result (table_of l)) c.deref.ensures.value ∙ all_known slots.items c.len.result (c.len.ensures ∙ slots.ok.0) in
+    let same : seen known c.deref-3.result.now ≡ seen (table_of slots.items) c.args.self.now.steps.items = ap₂ seen all c.deref-3.ensures.value in
+    on_ok c.push_steps.result (tally most c.push_steps.new.frame [] ≡ tally most c.answer_slots.new.frame (seen known c.deref-3.result.now))
+    (tally most c.push_steps.new.frame [] ≡ tally most c.args.frame.now (seen (table_of slots.items) c.args.self.now.steps.items))
+    (λ e. e ∙ same_tally most c.answer_slots.new.frame c.args.frame.now _ _ c.in_ok-answer_slots.ensures.same c.in_ok-answer_slots.ensures.count same) c.push_steps.ensures.told

@@ -1,0 +1,70 @@
+//! What is written of a stream, and told of it.
+
+use jp_model::Framing;
+
+/// How a value is spelled where it is printed.
+#[derive(Clone, Copy, Debug, PartialEq, Eq)]
+pub enum Spelling {
+    /// By its bytes in the line.
+    Source,
+    /// A string by its characters, where each escape gives what it stands for, and any other value by its bytes.
+    Text,
+    /// In canonical form.
+    Canonical,
+}
+
+/// What parts the cells of a table, and how a cell is written.
+#[derive(Clone, Copy, Debug, PartialEq, Eq)]
+pub enum Table {
+    /// Tabs. In a cell a tab, a line feed, a carriage return and a backslash are escaped by a backslash.
+    Tabs,
+    /// Commas. A cell with a comma, a quote, a carriage return or a line feed is quoted (RFC 4180, section 2).
+    Commas,
+}
+
+/// What a row shows of a selected line.
+#[derive(Clone, Copy, Debug, PartialEq, Eq)]
+pub enum Shown {
+    /// Nothing: no row is written.
+    Nothing,
+    /// The line.
+    Line,
+    /// Each value that the queries select, in a row of its own; with its normalized path and a tab in front where they are
+    /// wanted.
+    Values { paths: bool },
+    /// A cell for each query: empty where it selects no node, else of the first one.
+    Cells(Table),
+}
+
+/// What is written behind the rows of a stream.
+#[derive(Clone, Copy, Debug, PartialEq, Eq)]
+pub enum Summary {
+    Nothing,
+    /// How many lines are selected.
+    Count,
+    /// The name of the stream, where a line is selected.
+    NameWith,
+    /// The name of the stream, where no line is selected.
+    NameWithout,
+}
+
+/// What is written of a stream, and told of it.
+#[derive(Clone, Copy)]
+pub struct Form<'a> {
+    /// How the stream is cut into lines.
+    pub framing: Framing,
+    pub shown: Shown,
+    /// How a line or a value is spelled in its row. The cells of a table have a spelling of their own.
+    pub spelling: Spelling,
+    pub summary: Summary,
+    /// The name of the stream.
+    pub name: &'a str,
+    /// Whether the name stands in front of each row, with a colon.
+    pub named: bool,
+    /// Whether the number of the line stands in front of each row, with a colon.
+    pub numbered: bool,
+    /// Whether refused lines are passed over: nothing is told of them, and they have no part in the exit status.
+    pub silent: bool,
+    /// How many selected lines are wanted. What stands behind the last of them is not read.
+    pub most: u64,
+}

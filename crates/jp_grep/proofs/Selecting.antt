@@ -1,0 +1,68 @@
+-- Queries that are asked one after another.
+use Rattle.std.proofs.Common.{◌≡◌, ◌∙◌, ◌+◌, ◌<◌, ℕ, List, [], ◌∷◌, ◌++◌, get_or, length, map, take, refl, sym, ap, append-nil, arith, Bool, true, false, ◌||◌, ◌&&◌, flat_map, if◌then◌else◌}
+use Rattle.std.specs.Prelude.{not}
+use Rattle.std.proofs.lemmas.Bool.{ne_eqb}
+use Rattle.std.proofs.lemmas.List.{map-append, take_more}
+use Rattle.std.proofs.lemmas.List.Concat.{flat_map-cons}
+use Rattle.jp_model.specs.Json.Tree.{Tree}
+use Rattle.jp_model.specs.Meaning.Nodes.{Node}
+use Rattle.jp_model.specs.Query.Syntax.{Segments}
+use Rattle.jp_devices.proofs.Devices.{or_false}
+use Rattle.jp_eval.specs.Compiled.{program_view}
+use Rattle.jp_eval.specs.declared.evaluate.Program.{Program}
+use Rattle.jp_grep.specs.Matching.{has_nodes, nodes_of, selected_by, selects}
+
+or_assoc : (a b c : Bool) → ((a || b) || c) ≡ (a || (b || c))
+or_assoc true b c = refl
+or_assoc false b c = refl
+
+selects-append : (xs ys : List Segments) (t : Tree) → selects (xs ++ ys) t ≡ (selects xs t || selects ys t)
+selects-append [] ys t = refl
+selects-append (x ∷ xs) ys t = ap (λ b. has_nodes (selected_by x t) || b) (selects-append xs ys t) ∙ sym (or_assoc (has_nodes (selected_by x t)) (selects xs t) (selects ys t))
+
+-- one query more
+pub selects_more : (programs : List Program) (i : ℕ) (program : Program) (t : Tree) → i < length programs → program ≡ get_or programs i program
+    → selects (map program_view (take (i + 1) programs)) t ≡ (selects (map program_view (take i programs)) t || has_nodes (selected_by (program_view program) t))
+selects_more programs i program t within is =
+    ap (λ l. selects (map program_view l) t) (take_more programs i program within ∙ ap (λ p. take i programs ++ p ∷ []) (sym is))
+    ∙ ap (λ l. selects l t) (map-append program_view (take i programs) (program ∷ []))
+    ∙ selects-append (map program_view (take i programs)) (program_view program ∷ []) t
+    ∙ ap (λ b. selects (map program_view (take i programs)) t || b) (sym (or_false (has_nodes (selected_by (program_view program) t))))
+
+some_node : (n : Node) (ns : List Node) → has_nodes (n ∷ ns) ≡ true
+some_node n ns = ap not (ne_eqb (length (n ∷ ns)) 0 (λ e. omega (arith, e)))
+
+none_there : (ns : List Node) → has_nodes ns ≡ false → ns ≡ []
+none_there [] e = refl
+none_there (n ∷ ns) e = absurd (apart (sym (some_node n ns) ∙ e))
+  where
+    apart : true ≡ false → ⊥
+    apart e = cc
+
+first_false : (a b : Bool) → (a || b) ≡ false → a ≡ false
+first_false true b e = e
+first_false false b e = refl
+
+second_false : (a b : Bool) → (a || b) ≡ false → b ≡ false
+second_false true b e = absurd (apart e)
+  where
+    apart : true ≡ false → ⊥
+    apart e = cc
+second_false false b e = e
+
+-- where none selects a node there are no nodes
+pub none_selected : (queries : List Segments) (t : Tree) → selects queries t ≡ false → nodes_of queries t ≡ []
+none_selected [] t e = refl
+none_selected (query ∷ rest) t e =
+    let some = has_nodes (selected_by query t) in
+    flat_map-cons (λ (q : Segments). selected_by q t) query rest
+    ∙ ap (λ ns. ns ++ nodes_of rest t) (none_there (selected_by query t) (first_false some (selects rest t) e))
+    ∙ none_selected rest t (second_false some (selects rest t) e)
+
+-- where nodes are asked for, no row is left out, whether some is selected or none
+pub wanted_rows : (inverted holds some : Bool) (rows : List ℕ) → (some ≡ false → rows ≡ []) → (if inverted then not (holds && some) else holds) ≡ true
+    → (if (if inverted then not (holds && some) else (holds && some)) then rows else []) ≡ rows
+wanted_rows true holds some rows none wanted = ap (λ (b : Bool). if b then rows else []) wanted
+wanted_rows false true true rows none wanted = refl
+wanted_rows false true false rows none wanted = sym (none refl)
+wanted_rows false false some rows none wanted = absurd (cc)

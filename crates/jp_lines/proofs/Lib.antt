@@ -1,0 +1,4 @@
+-- Lemmas on lines that are read.
+pub mod Parts
+pub mod LinesRead
+pub mod Sizes

@@ -1,0 +1,2 @@
+-- Lemmas of the words of jpgrep.
+pub mod Program

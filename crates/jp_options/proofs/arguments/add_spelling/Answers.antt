@@ -1,0 +1,17 @@
+use Rattle.std.proofs.Common.{◌≡◌, [], ◌∷◌, codes}
+use Rattle.std.proofs.lemmas.Result.{IfOk-weaker}
+use Rattle.clap.specs.Words.{AddsArg, app_of}
+use Rattle.jp_options.specs.Command.{flag_rule, spelling_rules, with_rules, word_rule}
+use Rattle.jp_options.proofs.Program.{with_no_rules, with_one_more}
+use Rattle.jp_options.proofs.arguments.add_spelling.Goals as goal
+
+pub returns : goal.returns
+returns c =
+    let start = app_of c.args.command in
+    let e1 = with_one_more c.args.command c.in_ok-arg.field-0 c.flag.result start [] _ c.in_ok-arg.ensures c.flag.ensures.local c.flag.ensures.rule (with_no_rules start) in
+    let e2 = with_one_more c.in_ok-arg.field-0 c.in_ok-arg-2.field-0 c.flag-2.result start (flag_rule (codes "raw") 0x72 (codes "raw") ∷ []) _ c.in_ok-arg-2.ensures c.flag-2.ensures.local c.flag-2.ensures.rule e1 in
+    let e3 = with_one_more c.in_ok-arg-2.field-0 c.in_ok-arg-3.field-0 c.word_flag.result start (flag_rule (codes "raw") 0x72 (codes "raw") ∷ flag_rule (codes "canonical") 0x6A (codes "canonical") ∷ []) _ c.in_ok-arg-3.ensures c.word_flag.ensures.local c.word_flag.ensures.rule e2 in
+    let e4 = with_one_more c.in_ok-arg-3.field-0 c.in_ok-arg-4.field-0 c.word_flag-2.result start (flag_rule (codes "raw") 0x72 (codes "raw") ∷ flag_rule (codes "canonical") 0x6A (codes "canonical") ∷ word_rule (codes "tsv") ∷ []) _ c.in_ok-arg-4.ensures c.word_flag-2.ensures.local c.word_flag-2.ensures.rule e3 in
+    IfOk-weaker c.arg-5.result (AddsArg c.in_ok-arg-4.field-0 c.word_flag-3.result) (λ more. app_of more ≡ with_rules start spelling_rules)
+    (λ more adds. with_one_more c.in_ok-arg-4.field-0 more c.word_flag-3.result start (flag_rule (codes "raw") 0x72 (codes "raw") ∷ flag_rule (codes "canonical") 0x6A (codes "canonical") ∷ word_rule (codes "tsv") ∷ word_rule (codes "csv") ∷ []) _ adds c.word_flag-3.ensures.local c.word_flag-3.ensures.rule e4)
+    c.arg-5.ensures

@@ -1,0 +1,184 @@
+-- The program's words (profile), read as the crate `clap` reads words: `jpgrep [OPTION].. QUERY [FILE]..`, or with `-e QUERY`
+-- or `-w CONDITION` the files alone.
+use Rattle.std.specs.Prelude.{◌≡◌, ◌++◌, ◌&&◌, ◌||◌, not, ℕ, Bool, true, false, List, [], ◌∷◌, Option, Some, codes, if◌then◌else◌, map, option_map, unwrap_or}
+use Rattle.std.specs.Option.{option_map_or}
+use Rattle.std.specs.Str.{bytes_eq}
+use Rattle.std.specs.Str.Parse.{digits_value, without_leading_plus}
+use Rattle.clap.specs.Kinds.{or_else}
+use Rattle.clap.specs.ValueTests.{is_unsigned_in}
+use Rattle.clap.specs.Walk.{is_empty}
+use Rattle.clap.specs.Words.{App, Kinds, Row, Rule, Text, all_of, fault_of, first_of, matches_of, new_app, new_rule}
+use Rattle.clap.specs.declared.builder.action.ArgAction.TheVariants.{Append, Help, Set, SetTrue}
+use Rattle.clap.specs.declared.error.kind.ErrorKind.TheVariants.{ArgumentConflict, InvalidValue, MissingRequiredArgument}
+use Rattle.jp_model.specs.declared.Framing.TheVariants.{Lines, Sequence}
+use Rattle.jp_options.specs.declared.options.Options.{Options}
+
+-- the words that belong to no option, as many as there are
+abbrev pub words_rule : Rule
+words_rule = record (new_rule (codes "words")) { action = Some Append; value_names = 1 }
+
+-- an option with a letter and a word, which takes a value each time that it is given
+abbrev pub option_rule : Text → ℕ → Text → Rule
+option_rule id letter word = record (new_rule id) {
+  long = Some word;
+  short = Some letter;
+  action = Some Append;
+  value_names = 1;
+}
+
+-- `-m`, of which the last value counts
+abbrev pub most_rule : Rule
+most_rule = record (option_rule (codes "most") 0x6D (codes "max-count")) { action = Some Set }
+
+-- a flag with a letter and a word
+abbrev pub flag_rule : Text → ℕ → Text → Rule
+flag_rule id letter word = record (new_rule id) { long = Some word; short = Some letter; action = Some SetTrue }
+
+-- a flag with a word alone
+abbrev pub word_rule : Text → Rule
+word_rule id = record (new_rule id) { long = Some id; action = Some SetTrue }
+
+-- `--help` asks for the help, and has no letter: `-h` is another flag
+abbrev pub help_rule : Rule
+help_rule = record (new_rule (codes "help")) { long = Some (codes "help"); action = Some Help }
+
+-- which lines are selected: QUERY and FILE, `-e`, `-w`, `-v`
+abbrev pub asking_rules : List Rule
+asking_rules = words_rule
+    ∷ option_rule (codes "query") 0x65 (codes "query")
+    ∷ option_rule (codes "where") 0x77 (codes "where")
+    ∷ flag_rule (codes "invert") 0x76 (codes "invert-match")
+    ∷ []
+
+-- what is printed: `-o`, `-p`, `-c`, `-l`, `-L`, `-q`
+abbrev pub printing_rules : List Rule
+printing_rules = flag_rule (codes "only") 0x6F (codes "only-matching")
+    ∷ flag_rule (codes "path") 0x70 (codes "path")
+    ∷ flag_rule (codes "count") 0x63 (codes "count")
+    ∷ flag_rule (codes "with") 0x6C (codes "files-with-matches")
+    ∷ flag_rule (codes "without") 0x4C (codes "files-without-match")
+    ∷ flag_rule (codes "quiet") 0x71 (codes "quiet")
+    ∷ []
+
+-- how it is spelled: `-r`, `-j`, `--tsv`, `--csv`, `--header`
+abbrev pub spelling_rules : List Rule
+spelling_rules = flag_rule (codes "raw") 0x72 (codes "raw")
+    ∷ flag_rule (codes "canonical") 0x6A (codes "canonical")
+    ∷ word_rule (codes "tsv")
+    ∷ word_rule (codes "csv")
+    ∷ word_rule (codes "header")
+    ∷ []
+
+-- what stands in front, and how many lines are wanted: `-n`, `-H`, `-h`, `-m`
+abbrev pub front_rules : List Rule
+front_rules = flag_rule (codes "number") 0x6E (codes "line-number")
+    ∷ flag_rule (codes "name") 0x48 (codes "with-filename")
+    ∷ flag_rule (codes "unnamed") 0x68 (codes "no-filename")
+    ∷ most_rule
+    ∷ []
+
+-- the others: `-s`, `--check`, `--seq`, `--help`
+abbrev pub general_rules : List Rule
+general_rules = flag_rule (codes "silent") 0x73 (codes "no-messages") ∷ word_rule (codes "check") ∷ word_rule (codes "seq") ∷ help_rule ∷ []
+
+-- a command with more rules behind those that it has
+abbrev pub with_rules : App → List Rule → App
+with_rules app rules = record app { top = record app.top { rules = app.top.rules ++ rules } }
+
+-- a command that tells its version where it is asked for it, gets no flag for its help, and takes an option again that was
+-- given
+abbrev pub with_settings : App → App
+with_settings app = record app {
+  top = record app.top { has_version = true; disable_help_flag = true; args_override_self = true };
+}
+
+-- the words that the program takes
+abbrev pub program : App
+program = with_rules (with_settings (new_app (codes "jpgrep"))) (asking_rules ++ printing_rules ++ spelling_rules ++ front_rules ++ general_rules)
+
+-- what the words give each argument, the first word being the program's own name
+unfoldable pub found_in : List Text → List Row
+found_in words = matches_of program words
+
+-- the values of an argument, in their order
+abbrev pub values_in : Text → List Row → List Text
+values_in id found = unwrap_or (all_of id found) []
+
+-- a flag is given: its value is `true`
+abbrev pub is_given : Text → List Row → Bool
+is_given id found = option_map_or (λ value. bytes_eq value (codes "true")) (first_of id found) false
+
+-- a value of `-m`, if there is one, is a number that 64 bits hold: decimal digits, behind a plus or not
+abbrev pub is_count : Option Text → Bool
+is_count value = option_map_or (is_unsigned_in 0 18446744073709551615) value true
+
+-- the number that it writes
+abbrev pub count_of : Option Text → Option ℕ
+count_of value = option_map (λ word. digits_value 10 (without_leading_plus word)) value
+
+-- the options are what the words give the arguments
+pub record IsAskedBy (found : List Row) (o : Options) : Type 0 where
+  pub words : map (λ s. s.now) o.words.items ≡ values_in (codes "words") found
+  pub queries : map (λ s. s.now) o.queries.items ≡ values_in (codes "query") found
+  pub conditions : map (λ s. s.now) o.conditions.items ≡ values_in (codes "where") found
+  pub most : o.most ≡ count_of (first_of (codes "most") found)
+  pub inverted : o.inverted ≡ is_given (codes "invert") found
+  pub only_matching : o.only_matching ≡ is_given (codes "only") found
+  pub paths : o.paths ≡ is_given (codes "path") found
+  pub raw : o.raw ≡ is_given (codes "raw") found
+  pub canonical : o.canonical ≡ is_given (codes "canonical") found
+  pub tabs : o.tabs ≡ is_given (codes "tsv") found
+  pub commas : o.commas ≡ is_given (codes "csv") found
+  pub header : o.header ≡ is_given (codes "header") found
+  pub numbered : o.numbered ≡ is_given (codes "number") found
+  pub counted : o.counted ≡ is_given (codes "count") found
+  pub quiet : o.quiet ≡ is_given (codes "quiet") found
+  pub with_matches : o.with_matches ≡ is_given (codes "with") found
+  pub without_matches : o.without_matches ≡ is_given (codes "without") found
+  pub named : o.named ≡ is_given (codes "name") found
+  pub unnamed : o.unnamed ≡ is_given (codes "unnamed") found
+  pub silent : o.silent ≡ is_given (codes "silent") found
+  pub checks : o.checks ≡ is_given (codes "check") found
+  pub framing : o.framing ≡ (if is_given (codes "seq") found then Sequence else Lines)
+
+-- neither a query nor a condition was given: there is no word, no `-e` and no `-w`
+abbrev pub asks_nothing : List Row → Bool
+asks_nothing found = is_empty (values_in (codes "words") found) && is_empty (values_in (codes "query") found) && is_empty (values_in (codes "where") found)
+
+-- values are asked for, and a table
+abbrev pub asks_values : List Row → Bool
+asks_values found = is_given (codes "only") found || is_given (codes "path") found
+
+abbrev pub asks_table : List Row → Bool
+asks_table found = is_given (codes "tsv") found || is_given (codes "csv") found
+
+-- why the words of what is printed do not go together: `-r` with `-j`, `--tsv` with `--csv`, a table with what spells or
+-- selects otherwise, `--header` without a table, `-v` with what prints values; and none where they do
+abbrev pub form_conflicts : List Row → Kinds
+form_conflicts found = if is_given (codes "raw") found && is_given (codes "canonical") found then ArgumentConflict ∷ []
+    else if is_given (codes "tsv") found && is_given (codes "csv") found then ArgumentConflict ∷ []
+    else if asks_table found && (asks_values found || is_given (codes "raw") found || is_given (codes "canonical") found) then ArgumentConflict ∷ []
+    else if is_given (codes "header") found && not (asks_table found) then MissingRequiredArgument ∷ []
+    else if is_given (codes "invert") found && (asks_table found || asks_values found) then ArgumentConflict ∷ [] else []
+
+-- why the words do not go together: `-l` with `-L`, `-H` with `-h`, what is printed, no query; and none where they do
+abbrev pub conflicts_in : List Row → Kinds
+conflicts_in found = if is_given (codes "with") found && is_given (codes "without") found then ArgumentConflict ∷ []
+    else if is_given (codes "name") found && is_given (codes "unnamed") found then ArgumentConflict ∷ []
+    else or_else (form_conflicts found) (if asks_nothing found then MissingRequiredArgument ∷ [] else [])
+
+-- why the words are refused as they are read: the kinds that the error may have, and none where they are taken
+unfoldable pub parse_faults : List Text → Kinds
+parse_faults words = fault_of program words
+
+-- why the value of `-m` is refused
+abbrev pub most_faults : List Row → Kinds
+most_faults found = if is_count (first_of (codes "most") found) then [] else InvalidValue ∷ []
+
+-- why the words are refused one by one: as they are read, or behind that for the value of `-m`
+abbrev pub reading_faults : List Text → Kinds
+reading_faults words = or_else (parse_faults words) (most_faults (found_in words))
+
+-- why the words are refused: one by one, or behind that since they do not go together
+abbrev pub faults_in : List Text → Kinds
+faults_in words = or_else (reading_faults words) (conflicts_in (found_in words))

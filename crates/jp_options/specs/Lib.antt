@@ -1,0 +1,3 @@
+-- What the words of jpgrep ask for.
+pub mod Words
+pub mod Command

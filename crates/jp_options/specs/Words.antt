@@ -1,0 +1,62 @@
+-- What the program's words ask for, once they are read.
+use Rattle.std.specs.Prelude.{ℕ, List, [], ◌∷◌, length, take, drop, map, codes, Bool, ◌&&◌, ◌||◌, not, ltb, if◌then◌else◌, min, unwrap_or}
+use Rattle.jp_form.specs.declared.form.Shown.{Shown}
+use Rattle.jp_form.specs.declared.form.Shown.TheVariants as shown
+use Rattle.jp_form.specs.declared.form.Spelling.{Spelling}
+use Rattle.jp_form.specs.declared.form.Spelling.TheVariants as spellings
+use Rattle.jp_form.specs.declared.form.Summary.{Summary}
+use Rattle.jp_form.specs.declared.form.Summary.TheVariants as summaries
+use Rattle.jp_form.specs.declared.form.Table.TheVariants as tables
+use Rattle.jp_options.specs.declared.options.Options.{Options}
+
+-- the words that belong to no option, the queries of `-e`, and the conditions of `-w`
+abbrev pub words_of : Options → List (List ℕ)
+words_of o = map (λ s. s.now) o.words.items
+
+abbrev pub given_queries : Options → List (List ℕ)
+given_queries o = map (λ s. s.now) o.queries.items
+
+-- there is neither `-e` nor `-w`, so that the first word is the query
+abbrev pub begins_with_query : Options → Bool
+begins_with_query o = not (ltb 0 (length o.queries.items)) && not (ltb 0 (length o.conditions.items))
+
+-- the queries: the first word, or those of `-e`, or `$` where there is `-w` alone
+abbrev pub asked_queries : Options → List (List ℕ)
+asked_queries o = if begins_with_query o then take 1 (words_of o) else if not (ltb 0 (length o.queries.items)) then codes "$" ∷ [] else given_queries o
+
+-- the files: the words behind the query, or all of them
+abbrev pub asked_files : Options → List (List ℕ)
+asked_files o = if begins_with_query o then drop 1 (words_of o) else words_of o
+
+-- the first selected line of a file decides: nothing but that there is one is asked for
+abbrev pub first_decides : Options → Bool
+first_decides o = o.quiet || o.with_matches || o.without_matches
+
+-- how many selected lines of a file are wanted: what `-m` says, or else what 64 bits count, and no more than one where the
+-- first decides
+abbrev pub asked_most : Options → ℕ
+asked_most o =
+    let most = unwrap_or o.most 18446744073709551615 in
+    if first_decides o then min most 1 else most
+
+-- what a row shows: nothing where something else is printed, cells where `--tsv` or `--csv` asks for them, and values where
+-- `-o` or `-p` does
+abbrev pub asked_rows : Options → Shown
+asked_rows o =
+    if first_decides o || o.counted then shown.Nothing
+    else if o.tabs then shown.Cells tables.Tabs
+    else if o.commas then shown.Cells tables.Commas
+    else if o.only_matching || o.paths then shown.Values o.paths
+    else shown.Line
+
+-- how a row spells it, as `-r` and `-j` ask for
+abbrev pub asked_spelling : Options → Spelling
+asked_spelling o = if o.raw then spellings.Text else if o.canonical then spellings.Canonical else spellings.Source
+
+-- what is printed in place of rows: of `-q`, `-l`, `-L`, `-c` the first decides
+abbrev pub asked_summary : Options → Summary
+asked_summary o = if o.quiet then summaries.Nothing else if o.with_matches then summaries.NameWith else if o.without_matches then summaries.NameWithout else if o.counted then summaries.Count else summaries.Nothing
+
+-- the name of the file stands in front: as `-H` and `-h` ask for, and else where there are several
+abbrev pub asks_names : Options → Bool
+asks_names o = o.named || (not o.unnamed && ltb 1 (length (asked_files o)))

@@ -1,0 +1,282 @@
+//! The program's arguments, and what its help says of them.
+
+ghost use Rattle.std.specs.Prelude.{◌≡◌, IfOk, codes, false};
+ghost use Rattle.clap.specs.Words.{app_of, new_app, rule_of};
+ghost use Rattle.jp_options.specs.Command.{asking_rules, flag_rule, front_rules, general_rules, help_rule, most_rule, option_rule, printing_rules, program, spelling_rules, with_rules, with_settings, word_rule, words_rule};
+
+use clap::{Arg, ArgAction, Command};
+use std::alloc::{AllocError, Global};
+
+/// The program's version.
+const VERSION: &str = "0.3.0";
+
+/// What follows the options in the program's help.
+const AFTER_HELP: &str =
+    "A line is selected if its value matches: every CONDITION holds, and some QUERY (RFC 9535) selects a node.
+Lines that are blank or no JSON never match; those that are no JSON are told on standard error.
+With -e or -w every word is a FILE. With no FILE, or where FILE is -, standard input is read.
+The exit status is 0 if a line is selected, 1 if none is, and 2 if anything is refused or fails.
+
+Examples:
+  jpgrep '$[?$.level==\"error\"]' log.jsonl
+  jpgrep -w '@.level == \"error\" && @.ms > 200' log.jsonl
+  jpgrep --csv --header -e '$.time' -e '$.ms' log.jsonl
+  tail -f log.jsonl | jpgrep -or '$.msg'";
+
+/// The command whose arguments are the program's.
+pub(crate) fn program_command<'a>(alloc: Global) -> Result<Command<'a>, AllocError>
+    ensures { IfOk result (λ command. app_of command ≡ program) }
+{
+    let command = add_asking(alloc, bare_command(alloc))?;
+    let command = add_spelling(alloc, add_printing(alloc, command)?)?;
+    add_general(alloc, add_fronts(alloc, command)?)
+}
+
+/// The command without its arguments.
+fn bare_command<'a>(alloc: Global) -> Command<'a>
+    ensures { app_of result ≡ with_settings (new_app (codes "jpgrep")) }
+{
+    Command::new(alloc, "jpgrep")
+        .version(VERSION)
+        .about(
+            "Prints the lines of JSON Lines files whose values match a JSONPath query (RFC 9535)",
+        )
+        .override_usage(
+            "jpgrep [OPTIONS] <QUERY> [FILE]...\n       jpgrep [OPTIONS] (-e <QUERY> | -w <CONDITION>)... [FILE]...",
+        )
+        .after_help(AFTER_HELP)
+        .disable_help_flag(true)
+        .args_override_self(true)
+}
+
+/// A flag with a letter and a word.
+fn flag<'a>(alloc: Global, id: &'a str, short: char, long: &'a str, help: &'a str) -> Arg<'a>
+    ensures rule { rule_of result ≡ flag_rule id.entry.now short long.entry.now }
+    ensures local { result.global ≡ false }
+{
+    Arg::new(alloc, id)
+        .short(short)
+        .long(long)
+        .action(ArgAction::SetTrue)
+        .help(help)
+}
+
+/// `QUERY` and `FILE`, as many as there are.
+fn words_argument<'a>(alloc: Global) -> Arg<'a>
+    ensures rule { rule_of result ≡ words_rule }
+    ensures local { result.global ≡ false }
+{
+    Arg::new(alloc, "words")
+        .value_name("WORDS")
+        .action(ArgAction::Append)
+        .help("The query, unless -e or -w is given, and the files; - is standard input")
+}
+
+/// `-e QUERY`, as often as wanted.
+fn query_argument<'a>(alloc: Global) -> Arg<'a>
+    ensures rule { rule_of result ≡ option_rule (codes "query") 0x65 (codes "query") }
+    ensures local { result.global ≡ false }
+{
+    Arg::new(alloc, "query")
+        .short('e')
+        .long("query")
+        .value_name("QUERY")
+        .action(ArgAction::Append)
+        .help("A query; a line matches if one of them selects a node of it")
+}
+
+/// `-w CONDITION`, as often as wanted.
+fn where_argument<'a>(alloc: Global) -> Arg<'a>
+    ensures rule { rule_of result ≡ option_rule (codes "where") 0x77 (codes "where") }
+    ensures local { result.global ≡ false }
+{
+    Arg::new(alloc, "where")
+        .short('w')
+        .long("where")
+        .value_name("CONDITION")
+        .action(ArgAction::Append)
+        .help("A condition that has to hold, in which @ and $ are the line's value")
+}
+
+/// `-m NUMBER`.
+fn most_argument<'a>(alloc: Global) -> Arg<'a>
+    ensures rule { rule_of result ≡ most_rule }
+    ensures local { result.global ≡ false }
+{
+    Arg::new(alloc, "most")
+        .short('m')
+        .long("max-count")
+        .value_name("NUMBER")
+        .action(ArgAction::Set)
+        .help("Stops behind so many selected lines of each file")
+}
+
+/// A flag with a word alone.
+fn word_flag<'a>(alloc: Global, id: &'a str, help: &'a str) -> Arg<'a>
+    ensures rule { rule_of result ≡ word_rule id.entry.now }
+    ensures local { result.global ≡ false }
+{
+    Arg::new(alloc, id)
+        .long(id)
+        .action(ArgAction::SetTrue)
+        .help(help)
+}
+
+/// `--help`, which asks for the help.
+fn help_argument<'a>(alloc: Global) -> Arg<'a>
+    ensures rule { rule_of result ≡ help_rule }
+    ensures local { result.global ≡ false }
+{
+    Arg::new(alloc, "help")
+        .long("help")
+        .action(ArgAction::Help)
+        .help("Prints this help")
+}
+
+/// The words that say which lines are selected.
+fn add_asking<'a>(alloc: Global, command: Command<'a>) -> Result<Command<'a>, AllocError>
+    ensures { IfOk result (λ more. app_of more ≡ with_rules (app_of command.entry) asking_rules) }
+{
+    command
+        .arg(words_argument(alloc))?
+        .arg(query_argument(alloc))?
+        .arg(where_argument(alloc))?
+        .arg(flag(
+            alloc,
+            "invert",
+            'v',
+            "invert-match",
+            "Selects the lines with a value that does not match",
+        ))
+}
+
+/// The words that say what is printed.
+fn add_printing<'a>(alloc: Global, command: Command<'a>) -> Result<Command<'a>, AllocError>
+    ensures { IfOk result (λ more. app_of more ≡ with_rules (app_of command.entry) printing_rules) }
+{
+    command
+        .arg(flag(
+            alloc,
+            "only",
+            'o',
+            "only-matching",
+            "Prints each selected value, and not the line",
+        ))?
+        .arg(flag(
+            alloc,
+            "path",
+            'p',
+            "path",
+            "Prints the normalized path and a tab before each value; implies -o",
+        ))?
+        .arg(flag(
+            alloc,
+            "count",
+            'c',
+            "count",
+            "Prints how many lines are selected in each file",
+        ))?
+        .arg(flag(
+            alloc,
+            "with",
+            'l',
+            "files-with-matches",
+            "Prints the names of the files with a selected line",
+        ))?
+        .arg(flag(
+            alloc,
+            "without",
+            'L',
+            "files-without-match",
+            "Prints the names of the files without one",
+        ))?
+        .arg(flag(
+            alloc,
+            "quiet",
+            'q',
+            "quiet",
+            "Prints nothing, and ends at the first selected line",
+        ))
+}
+
+/// The words that say how it is spelled.
+fn add_spelling<'a>(alloc: Global, command: Command<'a>) -> Result<Command<'a>, AllocError>
+    ensures { IfOk result (λ more. app_of more ≡ with_rules (app_of command.entry) spelling_rules) }
+{
+    command
+        .arg(flag(
+            alloc,
+            "raw",
+            'r',
+            "raw",
+            "Prints a string as its text, with what its escapes stand for",
+        ))?
+        .arg(flag(
+            alloc,
+            "canonical",
+            'j',
+            "canonical",
+            "Prints values in canonical form: the same text for equal values",
+        ))?
+        .arg(word_flag(
+            alloc,
+            "tsv",
+            "Prints a row for each selected line, a cell for each query, with tabs between them",
+        ))?
+        .arg(word_flag(alloc, "csv", "The same with commas (RFC 4180)"))?
+        .arg(word_flag(
+            alloc,
+            "header",
+            "Prints the queries above the rows of --tsv or --csv",
+        ))
+}
+
+/// The words that say what stands in front, and how many lines are wanted.
+fn add_fronts<'a>(alloc: Global, command: Command<'a>) -> Result<Command<'a>, AllocError>
+    ensures { IfOk result (λ more. app_of more ≡ with_rules (app_of command.entry) front_rules) }
+{
+    command
+        .arg(flag(
+            alloc,
+            "number",
+            'n',
+            "line-number",
+            "Prints the number of the line in front",
+        ))?
+        .arg(flag(
+            alloc,
+            "name",
+            'H',
+            "with-filename",
+            "Prints the name of the file in front",
+        ))?
+        .arg(flag(
+            alloc,
+            "unnamed",
+            'h',
+            "no-filename",
+            "Prints no name of a file in front",
+        ))?
+        .arg(most_argument(alloc))
+}
+
+/// The others.
+fn add_general<'a>(alloc: Global, command: Command<'a>) -> Result<Command<'a>, AllocError>
+    ensures { IfOk result (λ more. app_of more ≡ with_rules (app_of command.entry) general_rules) }
+{
+    command
+        .arg(flag(
+            alloc,
+            "silent",
+            's',
+            "no-messages",
+            "Passes over refused lines, and suppresses messages about files",
+        ))?
+        .arg(word_flag(
+            alloc,
+            "check",
+            "Reads no file, and says where a query or a condition goes wrong",
+        ))?
+        .arg(word_flag(alloc, "seq", "The files are JSON text sequences (RFC 7464)"))?
+        .arg(help_argument(alloc))
+}

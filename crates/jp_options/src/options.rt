@@ -1,0 +1,259 @@
+//! What the program's words ask for, once they are read.
+
+ghost use Rattle.std.specs.Prelude.{◌≡◌, ◌||◌, ◌∷◌, [], List, map};
+ghost use Rattle.std.specs.Option.{option_map_or};
+ghost use Rattle.clap.specs.Words.{Row};
+ghost use Rattle.jp_options.specs.Command.{IsAskedBy, conflicts_in, form_conflicts};
+ghost use Rattle.jp_options.specs.Words.{asked_files, asked_most, asked_queries, asked_rows, asked_spelling, asked_summary, asks_names, begins_with_query};
+
+use clap::error::ErrorKind;
+use jp_form::{Form, Shown, Spelling, Summary, Table};
+use jp_model::Framing;
+
+/// What the program's words ask for.
+#[derive(Drop)]
+pub struct Options<'a> {
+    /// The words that belong to no option: the files, and before them the query where neither `-e` nor `-w` is given.
+    pub words: Vec<&'a str>,
+    /// The queries of `-e`, in their order.
+    pub queries: Vec<&'a str>,
+    /// The conditions of `-w`, in their order.
+    pub conditions: Vec<&'a str>,
+    /// `-m`: how many selected lines of each file are wanted.
+    pub most: Option<u64>,
+    /// `-v`: the lines that do not match are selected.
+    pub inverted: bool,
+    /// `-o`: the values are printed, and not the lines.
+    pub only_matching: bool,
+    /// `-p`: the path of each value is printed in front of it.
+    pub paths: bool,
+    /// `-r`: a string is printed as its text.
+    pub raw: bool,
+    /// `-j`: what is printed is in canonical form.
+    pub canonical: bool,
+    /// `--tsv`: cells between tabs are printed, and not the lines.
+    pub tabs: bool,
+    /// `--csv`: cells between commas.
+    pub commas: bool,
+    /// `--header`: the queries are printed above the cells.
+    pub header: bool,
+    /// `-n`: the number of each line is printed in front.
+    pub numbered: bool,
+    /// `-c`: how many lines are selected is printed.
+    pub counted: bool,
+    /// `-q`: nothing is printed.
+    pub quiet: bool,
+    /// `-l`: the names of the files with a selected line are printed.
+    pub with_matches: bool,
+    /// `-L`: the names of the files without one are printed.
+    pub without_matches: bool,
+    /// `-H`: the name of the file is printed in front.
+    pub named: bool,
+    /// `-h`: it is not.
+    pub unnamed: bool,
+    /// `-s`: refused lines are passed over, and no message tells of a file that cannot be read.
+    pub silent: bool,
+    /// `--check`: no file is read, and queries and conditions are looked at alone.
+    pub checks: bool,
+    /// `--seq`: the files are text sequences (RFC 7464).
+    pub framing: Framing,
+}
+
+impl<'a> Options<'a> {
+    /// Why the words of what is printed do not go together, if they do not.
+    fn form_conflict(&self) -> Option<(ErrorKind, &'static str)>
+        ensures { (found : List Row) → IsAskedBy found self.now
+            → option_map_or (λ conflict. conflict.0 ∷ []) result [] ≡ form_conflicts found }
+    {
+        let (table, values) = (self.is_table(), self.only_matching || self.paths);
+        if self.raw && self.canonical {
+            return Some((ErrorKind::ArgumentConflict, BOTH_SPELLINGS));
+        }
+        if self.tabs && self.commas {
+            return Some((ErrorKind::ArgumentConflict, BOTH_TABLES));
+        }
+        if table && (values || self.raw || self.canonical) {
+            return Some((ErrorKind::ArgumentConflict, NO_SPELLING));
+        }
+        if self.header && !table {
+            return Some((ErrorKind::MissingRequiredArgument, NO_TABLE));
+        }
+        if self.inverted && (table || values) {
+            return Some((ErrorKind::ArgumentConflict, NO_VALUES));
+        }
+        None
+    }
+
+    /// Why the words do not go together, if they do not.
+    pub(crate) fn conflict(&self) -> Option<(ErrorKind, &'static str)>
+        ensures { (found : List Row) → IsAskedBy found self.now
+            → option_map_or (λ conflict. conflict.0 ∷ []) result [] ≡ conflicts_in found }
+    {
+        if self.with_matches && self.without_matches {
+            return Some((ErrorKind::ArgumentConflict, BOTH_NAMES));
+        }
+        if self.named && self.unnamed {
+            return Some((ErrorKind::ArgumentConflict, BOTH_FRONTS));
+        }
+        if let Some(conflict) = self.form_conflict() {
+            return Some(conflict);
+        }
+        if self.words.is_empty() && self.queries.is_empty() && self.conditions.is_empty() {
+            return Some((ErrorKind::MissingRequiredArgument, NO_QUERY));
+        }
+        None
+    }
+}
+
+impl<'a> Options<'a> {
+    /// Whether the first word is the query.
+    fn begins_with_query(&self) -> bool
+        ensures { result ≡ begins_with_query self.now }
+    {
+        self.queries.is_empty() && self.conditions.is_empty()
+    }
+
+    /// The queries that the words name: those of `-e`, or the first word where there is neither `-e` nor `-w`. With `-w` alone
+    /// it is `$`.
+    pub fn queries(&self) -> &[&'a str]
+        ensures { map (λ s. s.now) result.now ≡ asked_queries self.now }
+    {
+        if self.begins_with_query() {
+            &self.words[..self.words.len().min(1)]
+        } else if self.queries.is_empty() {
+            &["$"]
+        } else {
+            &self.queries
+        }
+    }
+
+    /// Whether the rows are those of a table, in which each query is a column.
+    pub fn is_table(&self) -> bool
+        ensures { result ≡ (self.now.tabs || self.now.commas) }
+    {
+        self.tabs || self.commas
+    }
+
+    /// The files that the words name.
+    pub fn files(&self) -> &[&'a str]
+        ensures { map (λ s. s.now) result.now ≡ asked_files self.now }
+    {
+        if self.begins_with_query() {
+            &self.words[self.words.len().min(1)..]
+        } else {
+            &self.words
+        }
+    }
+
+    /// How many selected lines of each file are wanted: as many as `-m` says, or else as 64 bits count. Where the first
+    /// decides, it is no more than one.
+    pub fn most(&self) -> u64
+        ensures { result ≡ asked_most self.now }
+    {
+        let most = self.most.unwrap_or(u64::MAX);
+        if self.quiet || self.with_matches || self.without_matches {
+            most.min(1)
+        } else {
+            most
+        }
+    }
+
+    /// What a row shows: nothing where something else is printed.
+    fn shown(&self) -> Shown
+        ensures { result ≡ asked_rows self.now }
+    {
+        if self.quiet || self.with_matches || self.without_matches || self.counted {
+            Shown::Nothing
+        } else if self.tabs {
+            Shown::Cells(Table::Tabs)
+        } else if self.commas {
+            Shown::Cells(Table::Commas)
+        } else if self.only_matching || self.paths {
+            Shown::Values { paths: self.paths }
+        } else {
+            Shown::Line
+        }
+    }
+
+    /// How a row spells what it shows.
+    fn spelling(&self) -> Spelling
+        ensures { result ≡ asked_spelling self.now }
+    {
+        if self.raw {
+            Spelling::Text
+        } else if self.canonical {
+            Spelling::Canonical
+        } else {
+            Spelling::Source
+        }
+    }
+
+    /// What is printed of a file in place of rows.
+    fn summary(&self) -> Summary
+        ensures { result ≡ asked_summary self.now }
+    {
+        if self.quiet {
+            Summary::Nothing
+        } else if self.with_matches {
+            Summary::NameWith
+        } else if self.without_matches {
+            Summary::NameWithout
+        } else if self.counted {
+            Summary::Count
+        } else {
+            Summary::Nothing
+        }
+    }
+
+    /// What is written of the file with this name.
+    pub fn form<'f>(&self, name: &'f str) -> Form<'f>
+        ensures shown { result.shown ≡ asked_rows self.now }
+        ensures spelling { result.spelling ≡ asked_spelling self.now }
+        ensures summary { result.summary ≡ asked_summary self.now }
+        ensures name { result.name ≡ name.entry }
+        ensures named { result.named ≡ asks_names self.now }
+        ensures numbered { result.numbered ≡ self.now.numbered }
+        ensures silent { result.silent ≡ self.now.silent }
+        ensures framing { result.framing ≡ self.now.framing }
+        ensures most { result.most ≡ asked_most self.now }
+    {
+        Form {
+            framing: self.framing,
+            shown: self.shown(),
+            spelling: self.spelling(),
+            summary: self.summary(),
+            name,
+            named: self.named || (!self.unnamed && self.files().len() > 1),
+            numbered: self.numbered,
+            silent: self.silent,
+            most: self.most(),
+        }
+    }
+}
+
+/// What is said if `-l` is used with `-L`.
+const BOTH_NAMES: &str =
+    "the argument '--files-with-matches' cannot be used with '--files-without-match'";
+
+/// What is said if `-H` is used with `-h`.
+const BOTH_FRONTS: &str = "the argument '--with-filename' cannot be used with '--no-filename'";
+
+/// What is said if `-r` is used with `-j`.
+const BOTH_SPELLINGS: &str = "the argument '--raw' cannot be used with '--canonical'";
+
+/// What is said if `--tsv` is used with `--csv`.
+const BOTH_TABLES: &str = "the argument '--tsv' cannot be used with '--csv'";
+
+/// What is said if a table is to show values otherwise.
+const NO_SPELLING: &str =
+    "the arguments '--tsv' and '--csv' cannot be used with '--only-matching', '--path', '--raw' or '--canonical'";
+
+/// What is said if `--header` is used without a table.
+const NO_TABLE: &str = "the argument '--header' is used with '--tsv' or '--csv' alone";
+
+/// What is said if `-v` is used with what shows values.
+const NO_VALUES: &str =
+    "the argument '--invert-match' cannot be used with '--only-matching', '--path', '--tsv' or '--csv'";
+
+/// What is said if no word is a query.
+const NO_QUERY: &str = "no QUERY was given, nor '--query <QUERY>' or '--where <CONDITION>'";

@@ -1,0 +1,112 @@
+//! The program's words.
+
+ghost use Rattle.std.specs.Prelude.{◌≡◌, IfOk, OkIff, codes, map, option_map, true};
+ghost use Rattle.clap.specs.Words.{FailsBy, first_of, found_of, rows_of};
+ghost use Rattle.jp_options.specs.Command.{IsAskedBy, count_of, faults_in, found_in, is_count, is_given, reading_faults, values_in};
+
+use crate::arguments::program_command;
+use crate::options::Options;
+use clap::error::ErrorKind;
+use clap::{ArgMatches, Error};
+use jp_model::Framing;
+use std::alloc::{AllocError, Global};
+use std::num::ParseIntError;
+
+/// Reads the program's words, of which the first is its own name.
+///
+/// # Errors
+///
+/// The words are refused, they ask for help or for the version, or memory runs out: the error's kind says which.
+pub fn read_words<'a>(alloc: Global, words: &'a [&'a str]) -> Result<Options<'a>, Error>
+    ensures asked { IfOk result (IsAskedBy (found_in (map (λ w. w.now) words.entry.now))) }
+    ensures refused { FailsBy (faults_in (map (λ w. w.now) words.entry.now)) result }
+{
+    let options = parse(alloc, words)?;
+    match options.conflict() {
+        None => Ok(options),
+        Some((kind, message)) => Err(program_command(alloc)?.error(kind, message)?),
+    }
+}
+
+/// Reads the words one by one, whether or not they go together.
+fn parse<'a>(alloc: Global, words: &'a [&'a str]) -> Result<Options<'a>, Error>
+    ensures asked { IfOk result (IsAskedBy (found_in (map (λ w. w.now) words.entry.now))) }
+    ensures refused { FailsBy (reading_faults (map (λ w. w.now) words.entry.now)) result }
+{
+    let command = program_command(alloc)?;
+    let matches = command.try_get_matches_from(words)?;
+    match read_count(matches.get_str("most")) {
+        Ok(most) => Ok(read_matches(alloc, &matches, most)?),
+        Err(_) => Err(program_command(alloc)?.error(ErrorKind::InvalidValue, NO_NUMBER)?),
+    }
+}
+
+/// The number that the value of `-m` writes, if there is one.
+fn read_count(value: Option<&str>) -> Result<Option<u64>, ParseIntError>
+    ensures { OkIff result (is_count (option_map (λ s. s.now) value.entry) ≡ true) (count_of (option_map (λ s. s.now) value.entry)) }
+{
+    match value {
+        Some(word) => Ok(Some(word.parse()?)),
+        None => Ok(None),
+    }
+}
+
+/// What is said if the value of `-m` is none.
+const NO_NUMBER: &str =
+    "the value of '--max-count <NUMBER>' is no number from 0 to 18446744073709551615";
+
+/// The values of an argument, in their order.
+fn values<'a>(alloc: Global, matches: &ArgMatches<'a>, id: &str) -> Result<Vec<&'a str>, AllocError>
+    ensures { IfOk result (λ found. map (λ s. s.now) found.items ≡ values_in id.now (rows_of (found_of matches.now))) }
+{
+    Vec::from_slice(alloc, matches.get_strs(id).unwrap_or(&[]))
+}
+
+/// Whether a flag is given.
+fn is_given(matches: &ArgMatches<'_>, id: &str) -> bool
+    ensures { result ≡ is_given id.now (rows_of (found_of matches.now)) }
+{
+    match matches.get_str(id) {
+        Some(value) => value == "true",
+        None => false,
+    }
+}
+
+/// What the matches ask for.
+fn read_matches<'a>(
+    alloc: Global,
+    matches: &ArgMatches<'a>,
+    most: Option<u64>,
+) -> Result<Options<'a>, AllocError>
+    requires most { most ≡ count_of (first_of (codes "most") (rows_of (found_of matches.now))) }
+    ensures { IfOk result (IsAskedBy (rows_of (found_of matches.now))) }
+{
+    Ok(Options {
+        words: values(alloc, matches, "words")?,
+        queries: values(alloc, matches, "query")?,
+        conditions: values(alloc, matches, "where")?,
+        most,
+        inverted: is_given(matches, "invert"),
+        only_matching: is_given(matches, "only"),
+        paths: is_given(matches, "path"),
+        raw: is_given(matches, "raw"),
+        canonical: is_given(matches, "canonical"),
+        tabs: is_given(matches, "tsv"),
+        commas: is_given(matches, "csv"),
+        header: is_given(matches, "header"),
+        numbered: is_given(matches, "number"),
+        counted: is_given(matches, "count"),
+        quiet: is_given(matches, "quiet"),
+        with_matches: is_given(matches, "with"),
+        without_matches: is_given(matches, "without"),
+        named: is_given(matches, "name"),
+        unnamed: is_given(matches, "unnamed"),
+        silent: is_given(matches, "silent"),
+        checks: is_given(matches, "check"),
+        framing: if is_given(matches, "seq") {
+            Framing::Sequence
+        } else {
+            Framing::Lines
+        },
+    })
+}

@@ -1,0 +1,108 @@
+//! A text read as a query or a condition that is well-typed, or where it goes wrong.
+
+ghost use Rattle.std.specs.Prelude.{◌≡◌, IfErr, IfOk};
+ghost use Rattle.jp_model.specs.Query.Status.{query};
+ghost use Rattle.jp_query.specs.Places.{IsPlace};
+ghost use Rattle.jp_query.specs.Status.{query_of};
+ghost use Rattle.jp_types.specs.CheckedConditions.{checked_condition_view};
+ghost use Rattle.jp_types.specs.Checks.{checked_view};
+ghost use Rattle.jp_query.specs.declared.reading.Refusal.TheVariants.{Memory};
+ghost use Rattle.jp_query.specs.Refusals.{IsConditionOf, TellsConditionRefusal, TellsRefusal};
+
+use crate::fault::ParseFault;
+use crate::parser::{
+    FaultPlace, parse, parse_condition, place_of_condition_fault, place_of_fault, place_of_function,
+};
+use crate::search::Search;
+use jp_model::QueryFault;
+use jp_types::{Checked, CheckedCondition, check, check_condition};
+use std::alloc::{AllocError, Global};
+
+/// Why a text was not read.
+#[derive(Clone, Copy, Debug, PartialEq, Eq)]
+pub enum Refusal {
+    /// The text is refused: its first fault, and where it is.
+    Fault(FaultPlace),
+    /// Memory ran out.
+    Memory,
+}
+
+impl From<AllocError> for Refusal {
+    ghost from_gives = { λ _ e. e ≡ Memory };
+
+    fn from(_error: AllocError) -> Refusal {
+        Refusal::Memory
+    }
+}
+
+/// The place of a fault of functions or types: the name of the function where the search stopped.
+fn place_of_call(
+    alloc: Global,
+    text: &[u8],
+    fault: QueryFault,
+    search: &Search,
+) -> Result<FaultPlace, AllocError>
+    ensures fault { IfOk result (λ found. found.fault ≡ fault) }
+    ensures place { IfOk result (λ found. IsPlace text.now found.place) }
+{
+    let place = place_of_function(alloc, text, search.passed())?;
+    Ok(FaultPlace {
+        fault,
+        place,
+        expected: None,
+    })
+}
+
+/// The query that a text spells, where it is well-typed (RFC 9535, sections 2.1 and 2.4.3).
+///
+/// # Errors
+///
+/// `Fault` with the first fault of the text, as `parse` and [`check`] tell it, and its place: for a function that is unknown,
+/// or does not fit where it stands, its name; for the other faults as [`place_of_fault`] says. `Memory` where memory
+/// ran out.
+pub fn read_query(alloc: Global, text: &[u8]) -> Result<Checked, Refusal>
+    ensures read { IfOk result (λ c. query_of text.now ≡ query (checked_view c)) }
+    ensures refused { IfErr result (λ e. TellsRefusal text.now e) }
+{
+    let query = match parse(alloc, text) {
+        Ok(query) => query,
+        Err(ParseFault::Refused(fault)) => {
+            return Err(Refusal::Fault(place_of_fault(alloc, text, fault)?));
+        }
+        Err(ParseFault::Memory) => return Err(Refusal::Memory),
+    };
+    match check(query) {
+        Ok(checked) => Ok(checked),
+        Err((fault, query)) => {
+            let mut search = Search::new(fault == QueryFault::Function);
+            search.finds_in_segments(query.segments());
+            Err(Refusal::Fault(place_of_call(alloc, text, fault, &search)?))
+        }
+    }
+}
+
+/// The condition that a text spells by itself, where it is well-typed (RFC 9535, sections 2.3.5 and 2.4.3).
+///
+/// # Errors
+///
+/// As those of [`read_query`], with the faults that `parse_condition` and [`check_condition`] tell.
+pub fn read_condition(alloc: Global, text: &[u8]) -> Result<CheckedCondition, Refusal>
+    ensures read { IfOk result (λ c. IsConditionOf text.now (checked_condition_view c)) }
+    ensures refused { IfErr result (λ e. TellsConditionRefusal text.now e) }
+{
+    let condition = match parse_condition(alloc, text) {
+        Ok(condition) => condition,
+        Err(ParseFault::Refused(fault)) => {
+            return Err(Refusal::Fault(place_of_condition_fault(alloc, text, fault)?));
+        }
+        Err(ParseFault::Memory) => return Err(Refusal::Memory),
+    };
+    match check_condition(condition) {
+        Ok(checked) => Ok(checked),
+        Err((fault, condition)) => {
+            let mut search = Search::new(fault == QueryFault::Function);
+            search.finds_in_condition(condition.expression());
+            Err(Refusal::Fault(place_of_call(alloc, text, fault, &search)?))
+        }
+    }
+}

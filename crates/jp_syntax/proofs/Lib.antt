@@ -1,0 +1,3 @@
+-- Laws of steps and of singular queries.
+pub mod SameSteps
+mod SingularWalk

@@ -1,5 +1,0 @@
-use Rattle.jp_tape.proofs.Packed.{parent-packed}
-use Rattle.jp_tape.proofs.cursor.Cursor.up.Goals as goal
-
-pub returns : goal.returns
-returns c = let h = c.head.ensures in parent-packed c.head.result _ _ h.word h.parent h.below

@@ -1,5 +1,0 @@
-use Rattle.jp_tape.proofs.Trees.{tape_made, spelled_text, spelled_only}
-use Rattle.jp_tape.proofs.tape.tapes_are_of_lines.Goals as goal
-
-pub returns : goal.returns
-returns c = record { made = tape_made; text = λ words line h. spelled_text line h.spelled_line; only = spelled_only }
