@@ -1,5 +1,5 @@
 -- Lemmas on marks, words and lines.
-mod Bits
+pub mod Bits
 mod Windows
 mod Restart
 mod Escapes

@@ -19,8 +19,11 @@ pub const BLOCK: usize = 64;
 /// begin there.
 #[derive(Clone, Copy, Drop)]
 pub struct Carry {
+    /// Whether a reverse solidus escapes the byte.
     pub escaped: bool,
+    /// Whether a string is open.
     pub inside: bool,
+    /// Whether a token may begin at the byte.
     pub may_begin: bool,
 }
 
@@ -124,8 +127,11 @@ fn ends_of(framing: Option<Framing>, line_feeds: u64, bytes: &[u8; 64]) -> u64
 /// What one block has, and what is known after it. A byte that ends a line may be among the marks, and is none.
 #[derive(Clone, Copy, Drop)]
 pub struct Found {
+    /// The bytes at which tokens begin, and quotation marks that close a string: bit k is byte k.
     pub marks: u64,
+    /// The bytes that end a line.
     pub ends: u64,
+    /// What is known at the first byte of the next block.
     pub next: Carry,
 }
 

@@ -5,6 +5,7 @@
 //! - `line_marks`: the marks of one line
 //! - `Scanner`: the lines of a collection fed in pieces, and the marks of each
 //! - `Marks`, `LineMarks`: the lines that were found
+//! - `scan_block`: one block of 64 bytes, for whoever cuts a stream by other rules
 #![tactic(auto)]
 
 mod block;
@@ -21,6 +22,7 @@ mod scanner;
 mod tests;
 mod validity;
 
+pub use block::{Carry, Found, scan_block};
 pub use lines::{LineMarks, Marks};
 pub use one_line::line_marks;
 pub use scanner::Scanner;
