@@ -2,6 +2,7 @@
 mod Depth
 mod Taking
 mod Passing
+mod Blocks
 mod Holding
 mod MarkLaw
 mod Reading

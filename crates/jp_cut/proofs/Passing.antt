@@ -1,5 +1,5 @@
 -- Bytes of a piece that leave a bracket of it open.
-use Rattle.std.proofs.Common.{◌≡◌, ℕ, ◌+◌, ◌-◌, ◌<◌, ◌≤◌, Bool, true, false, ◌&&◌, eqb, List, [], ◌∷◌, ◌++◌, take, drop, arith, refl, sym, ap, ◌∙◌, append_assoc, inl, inr}
+use Rattle.std.proofs.Common.{◌≡◌, ℕ, ◌+◌, ◌-◌, ◌<◌, ◌≤◌, Bool, true, false, ◌&&◌, eqb, List, [], ◌∷◌, ◌++◌, length, take, drop, arith, refl, sym, ap, subst, ◌∙◌, append_assoc, inl, inr}
 use Rattle.std.proofs.lemmas.Bool.Decides.{eqb_tells}
 use Rattle.std.proofs.Math.Seq.{take-add}
 use Rattle.std.proofs.lemmas.List.{append-nil, take-append-drop, drop-drop}
@@ -8,7 +8,8 @@ use Rattle.std.specs.Prelude.{◌==◌, slice_range, fold, if◌then◌else◌}
 use Rattle.jp_cut.specs.Cuts.{Piece, Cut, start, take_in, cut_of}
 use Rattle.jp_cut.specs.Holding.{HasCut}
 use Rattle.jp_cut.specs.Machine.{behind, is_whole, does, nothing_open, step_at, step}
-use Rattle.jp_cut.specs.Passing.{behind_all, StaysOpen, is_inside}
+use Rattle.jp_cut.specs.Passing.{Passes, behind_all, StaysOpen, is_inside}
+use Rattle.jp_cut.proofs.Depth.{behind_le}
 use Rattle.jp_cut.specs.declared.cutter.Cutter.{Cutter}
 use Rattle.jp_cut.specs.declared.machine.Pieces.{Pieces}
 use Rattle.jp_cut.specs.declared.machine.Known.{Known}
@@ -103,4 +104,30 @@ passed pieces fed handed s t n h inside stays known held cut start_is lines p =
           (slice_range_join s.held.items s.start s.cut n (omega (arith, s.order)) ∙ ap (λ k. slice_range s.held.items s.start k) (sym cut) ∙ ap (λ k. slice_range s.held.items k t.cut) (sym start_is) ∙ ap (λ v. slice_range v.items t.start t.cut) (sym held))
           ∙ ap (λ (k : Known). let made : Cut = record { ended = handed; begun = slice_range t.held.items t.start t.cut; line_feeds = h.line_feeds; known = k } in made) (sym known);
       counted = lines ∙ h.counted;
+    }
+
+-- ---- passed over part by part
+
+-- a bracket is open behind such bytes
+pub still_open : (known : Known) (bytes : List ℕ) → StaysOpen known bytes → 0 < (behind_all known bytes).depth
+still_open known [] stays = stays
+still_open known (byte ∷ rest) stays = still_open (behind known byte) rest stays.1
+
+-- at most one bracket opens at each byte
+pub behind_all_le : (known : Known) (bytes : List ℕ) → (behind_all known bytes).depth ≤ known.depth + length bytes
+behind_all_le known [] = omega arith
+behind_all_le known (byte ∷ rest) = omega (arith, behind_all_le (behind known byte) rest, behind_le known byte)
+
+stays_join : (known : Known) (first second : List ℕ) → StaysOpen known first → StaysOpen (behind_all known first) second → StaysOpen known (first ++ second)
+stays_join known [] second stays more = more
+stays_join known (byte ∷ rest) second stays more = (stays.0, stays_join (behind known byte) rest second stays.1 more)
+
+-- a part, and the next
+pub passes_on : (known middle next : Known) (bytes : List ℕ) (at count : ℕ) → Passes known (take at bytes) middle → Passes middle (take count (drop at bytes)) next → Passes known (take (at + count) bytes) next
+passes_on known middle next bytes at count first second =
+    let parts = take-add at count bytes in
+    let both = stays_join known (take at bytes) (take count (drop at bytes)) first.stays (subst (λ (k : Known). StaysOpen k (take count (drop at bytes))) first.same second.stays) in
+    record {
+      stays = subst (StaysOpen known) (sym parts) both;
+      same = second.same ∙ ap (λ (k : Known). behind_all k (take count (drop at bytes))) first.same ∙ sym (fold-append behind known (take at bytes) (take count (drop at bytes))) ∙ ap (behind_all known) (sym parts);
     }

@@ -1,5 +1,5 @@
 -- Bytes of a piece that can be passed over, since a bracket of the piece stays open.
-use Rattle.std.specs.Prelude.{ℕ, ◌<◌, Bool, true, false, List, [], ◌∷◌, fold}
+use Rattle.std.specs.Prelude.{◌≡◌, ℕ, ◌<◌, Bool, true, false, List, [], ◌∷◌, fold}
 use Rattle.jp_cut.specs.declared.machine.Place.{Place}
 use Rattle.jp_cut.specs.declared.machine.Place.TheVariants.{Between, Word, Text, ArrayStart, NextElement, Element}
 use Rattle.jp_cut.specs.declared.machine.Known.{Known}
@@ -22,3 +22,8 @@ behind_all known bytes = fold behind known bytes
 abbrev pub StaysOpen : Known → List ℕ → Type 0
 StaysOpen known [] = 0 < known.depth
 StaysOpen known (byte ∷ rest) = (0 < known.depth) × StaysOpen (behind known byte) rest
+
+-- such bytes were passed over, and this is known behind them
+pub record Passes (known : Known) (bytes : List ℕ) (next : Known) : Type 0 where
+  pub stays : StaysOpen known bytes
+  pub same : next ≡ behind_all known bytes

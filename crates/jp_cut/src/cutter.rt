@@ -4,7 +4,8 @@ ghost use Rattle.std.specs.Prelude.{◌≡◌, true, false, ◌+◌, ◌-◌, �
 ghost use Rattle.jp_cut.specs.Cuts.{line_feeds_in};
 
 use crate::front::may_become_mark;
-use crate::machine::{Known, Pieces, Place, Turn, is_inside, nothing_open, pass_open, step_on};
+use crate::machine::{Known, Pieces, Place, Turn, is_inside, nothing_open, step_on};
+use crate::skipping::pass_open;
 use jp_model::without_byte_order_mark;
 use memchr::memchr;
 use std::alloc::{AllocError, Global};

@@ -10,6 +10,7 @@ mod cutter;
 mod front;
 pub mod laws;
 mod machine;
+mod skipping;
 #[cfg(test)]
 mod tests;
 pub mod worked;

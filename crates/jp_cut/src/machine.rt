@@ -1,9 +1,9 @@
 //! The machine that cuts: what is known between two bytes of a stream, and what a byte does.
 
-ghost use Rattle.std.specs.Prelude.{◌≡◌, ◌+◌, ◌<◌, ◌≤◌, length, take};
+ghost use Rattle.std.specs.Prelude.{◌≡◌, ◌<◌};
 ghost use Rattle.jp_model.specs.Characters.{is_white as is_white_byte};
 ghost use Rattle.jp_cut.specs.declared.machine.Place.TheVariants as places;
-ghost use Rattle.jp_cut.specs.Passing.{StaysOpen, behind_all, is_inside as is_inside_text};
+ghost use Rattle.jp_cut.specs.Passing.{is_inside as is_inside_text};
 ghost use Rattle.jp_cut.specs.Machine.{nothing_open as nothing_open_at, begin as begin_step, behind as known_behind, depth_behind as behind_depth, element as element_step, first_element as first_element_step, in_text as text_step, in_word as word_step, is_closing as is_closing_byte, is_opening as is_opening_byte, is_whole as has_nothing_open, next_element as next_element_step, step as step_of};
 
 /// Which pieces a stream is cut into.
@@ -119,7 +119,7 @@ fn depth_behind(depth: usize, byte: u8) -> usize
 
 /// What is known behind a byte of a piece.
 #[inline(always)]
-fn behind(known: Known, byte: u8) -> Known
+pub fn behind(known: Known, byte: u8) -> Known
     requires { known.depth < usize.MAX }
     ensures { result ≡ known_behind known byte }
 {
@@ -140,40 +140,6 @@ pub fn is_inside(place: Place) -> bool
     ensures { result ≡ is_inside_text place }
 {
     matches!(place, Place::Text | Place::Element)
-}
-
-/// What was passed over of some bytes of a piece, and what is known behind it.
-#[derive(Clone, Copy, Debug, PartialEq, Eq)]
-pub struct Passed {
-    pub len: usize,
-    pub known: Known,
-}
-
-/// Passes over bytes of a piece up to the one that closes its last bracket, or over all.
-#[inline(never)]
-pub fn pass_open(known: Known, bytes: &[u8]) -> Passed
-    requires some { 0 < known.depth }
-    requires few { known.depth + length bytes.now ≤ usize.MAX }
-    ensures within { result.len ≤ length bytes.now }
-    ensures open { StaysOpen known (take result.len bytes.now) }
-    ensures known { result.known ≡ behind_all known (take result.len bytes.now) }
-    ensures depth { result.known.depth ≤ known.depth + result.len }
-{
-    let mut now = known;
-    for (index, byte) in bytes.iter().enumerate() {
-        let next = behind(now, *byte);
-        if next.depth == 0 {
-            return Passed {
-                len: index,
-                known: now,
-            };
-        }
-        now = next;
-    }
-    Passed {
-        len: bytes.len(),
-        known: now,
-    }
 }
 
 /// Whether no bracket of the piece and no string is open.

@@ -13,5 +13,5 @@ returns-clause-read c pieces stream handed h =
     let rest = take_rest c.deref.result.now s.cut ∙ ap (λ (xs : List ℕ). drop s.cut xs) c.deref.ensures.value in
     read_on pieces stream handed s _ h c.requires c.requires
     (λ bytes cut. passed pieces bytes handed s _ n cut (sym c.is_inside.ensures ∙ c.if-not-is_inside.false)
-    (subst (λ (xs : List ℕ). StaysOpen s.known (take n xs)) rest p.open)
-    (p.known ∙ ap (λ (xs : List ℕ). behind_all s.known (take n xs)) rest) refl refl refl refl refl)
+    (subst (λ (xs : List ℕ). StaysOpen s.known (take n xs)) rest p.passes.stays)
+    (p.passes.same ∙ ap (λ (xs : List ℕ). behind_all s.known (take n xs)) rest) refl refl refl refl refl)

@@ -1,6 +1,6 @@
 use Rattle.std.proofs.Common.{◌≡◌, ◌+◌, ◌<◌, ◌≤◌, take}
 use Rattle.jp_cut.specs.Passing.{behind_all, StaysOpen}
-use Rattle.jp_cut.proofs.machine.pass_open.Given as goal
+use Rattle.jp_cut.proofs.skipping.pass_bytes.Given as goal
 
 abbrev pub invariant-loop-index : goal.invariant-loop-index
 invariant-loop-index l = record {

@@ -5,7 +5,7 @@ use Rattle.jp_cut.specs.Passing.{behind_all, StaysOpen}
 use Rattle.jp_cut.specs.declared.machine.Known.{Known}
 use Rattle.jp_cut.proofs.Depth.{behind_le}
 use Rattle.jp_cut.proofs.Passing.{stays_more, behind_all-more}
-use Rattle.jp_cut.proofs.machine.pass_open.Goals as goal
+use Rattle.jp_cut.proofs.skipping.pass_bytes.Goals as goal
 
 pub loop-index-preserved : goal.loop-index-preserved
 loop-index-preserved c =
