@@ -137,7 +137,7 @@ module _ (known : Known) (first : Carry) (bytes : List ℕ) (same : Agrees first
     bits_are : Says (bit_and marks tested) (λ i. not (known_at i).inside && test (byte_at i))
     bits_are i within =
         let tests : Says tested (λ j. test (byte_at j)) =
-            (λ j low. ap (λ w. bit w j) is ∙ says_mask (map test bytes) j low ∙ get_or-map test bytes j 0 false (omega (arith, long, low))) in
+        (λ j low. ap (λ w. bit w j) is ∙ says_mask (map test bytes) j low ∙ get_or-map test bytes j 0 false (omega (arith, long, low))) in
         says_and marks tested _ _ says tests i within
         ∙ marked_bracket (before None first bytes i) (byte_at i) (test (byte_at i)) (bracket (byte_at i))
         ∙ ap (λ b. not b && test (byte_at i)) (agrees i (omega (arith, long, within))).inside

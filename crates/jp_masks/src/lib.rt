@@ -2,7 +2,7 @@
 //!
 //! Public calls:
 //!
-//! - `line_marks`: the marks of one line
+//! - `line_marks`, `find_line_marks`: the marks of one line, in room of their own or in room that is lent
 //! - `Scanner`: the lines of a collection fed in pieces, and the marks of each
 //! - `Marks`, `LineMarks`: the lines that were found
 //! - `scan_block`: one block of 64 bytes, for whoever cuts a stream by other rules
@@ -24,5 +24,5 @@ mod validity;
 
 pub use block::{Carry, Found, scan_block};
 pub use lines::{LineMarks, Marks};
-pub use one_line::line_marks;
+pub use one_line::{find_line_marks, line_marks};
 pub use scanner::Scanner;

@@ -1,6 +1,6 @@
 //! The marks of one line.
 
-ghost use Rattle.std.specs.Prelude.{◌≡◌, ℕ, ◌+◌, ◌*◌, ◌^◌, ◌<◌, ◌≤◌, true, List, ◌++◌, map, length, flat_map, nat_lt, IfOk};
+ghost use Rattle.std.specs.Prelude.{◌≡◌, ℕ, ◌+◌, ◌*◌, ◌^◌, ◌<◌, ◌≤◌, true, List, ◌++◌, map, length, flat_map, nat_lt, IfOk, OnOk};
 ghost use Rattle.jp_model.specs.Json.Marks.{marks};
 ghost use Rattle.jp_model.specs.Json.Spelling.{Text};
 ghost use Rattle.jp_model.specs.Json.Tree.{Tree};
@@ -61,6 +61,31 @@ fn mark_block(
     Ok(found.next)
 }
 
+/// Finds the positions of the marks of one line, ascending, in the room of positions that are forgotten. They are those that
+/// `line_marks` gives.
+///
+/// # Errors
+///
+/// Memory ran out.
+pub fn find_line_marks(line: &[u8], positions: &mut Vec<u32>) -> Result<(), AllocError>
+    requires { length line.now < 2 ^ 32 }
+    ensures marks { OnOk result (positions.new.items ≡ marks line.now) }
+    ensures tokens { (t : Tree) (text : Text line.now t) → OnOk result (positions.new.items ≡ tokens line.now t text.value) }
+{
+    let (blocks, rest) = split_blocks(line);
+    positions.clear();
+    let mut known = Carry::START;
+    let mut base = 0;
+    for block in blocks {
+        known = mark_block(positions, base, known, block)?;
+        base += 64;
+    }
+    let found = scan_block(&pad(rest), None, known);
+    let last = found.marks & first_bits(rest.len());
+    positions.extend_from_slice(&block_positions(base, last))?;
+    Ok(())
+}
+
 /// The positions of the marks of one line, ascending: its unescaped quotes, and outside of strings each structural byte
 /// and each byte that begins another token. They are defined for every list of bytes, a JSON text or not; of a JSON text
 /// they are the first bytes of its tokens and the closing quotes of its strings and names (RFC 8259, section 2). A line
@@ -70,16 +95,7 @@ pub fn line_marks(alloc: Global, line: &[u8]) -> Result<Vec<u32>, AllocError>
     ensures marks { IfOk result (λ found. found.items ≡ marks line.now) }
     ensures tokens { (t : Tree) (text : Text line.now t) → IfOk result (λ found. found.items ≡ tokens line.now t text.value) }
 {
-    let (blocks, rest) = split_blocks(line);
     let mut positions = Vec::new(alloc);
-    let mut known = Carry::START;
-    let mut base = 0;
-    for block in blocks {
-        known = mark_block(&mut positions, base, known, block)?;
-        base += 64;
-    }
-    let found = scan_block(&pad(rest), None, known);
-    let last = found.marks & first_bits(rest.len());
-    positions.extend_from_slice(&block_positions(base, last))?;
+    find_line_marks(line, &mut positions)?;
     Ok(positions)
 }

@@ -1,6 +1,6 @@
 use Rattle.std.proofs.Common.{◌≡◌, ◌*◌, take, flat_map}
 use Rattle.jp_masks.specs.OneLine.{HasMarked}
-use Rattle.jp_masks.proofs.one_line.line_marks.Given as goal
+use Rattle.jp_masks.proofs.one_line.find_line_marks.Given as goal
 
 abbrev pub invariant-loop-block : goal.invariant-loop-block
 invariant-loop-block l = record {

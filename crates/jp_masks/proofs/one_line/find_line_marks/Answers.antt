@@ -6,11 +6,11 @@ use Rattle.jp_masks.specs.Machine.{is_marked, before}
 use Rattle.jp_masks.proofs.LineBlocks.{read-more, last_marked}
 use Rattle.jp_masks.proofs.Scans.{marks_are}
 use Rattle.jp_masks.proofs.TokenLaw.{marks_are_its_tokens}
-use Rattle.jp_masks.proofs.one_line.line_marks.Goals as goal
+use Rattle.jp_masks.proofs.one_line.find_line_marks.Goals as goal
 
 pub loop-block-init : goal.loop-block-init
 unfolding marks before
-loop-block-init c = record { marked = record { marked = c.new-positions.ensures.items; knows = refl; long = refl }; base = refl }
+loop-block-init c = record { marked = record { marked = c.clear.ensures.items; knows = refl; long = refl }; base = refl }
 
 pub loop-block-preserved : goal.loop-block-preserved
 loop-block-preserved c =
