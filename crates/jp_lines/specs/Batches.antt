@@ -1,6 +1,8 @@
 -- The lines of a piece of a stream, and what each is.
-use Rattle.std.specs.Prelude.{◌≡◌, ℕ, List, All, map}
+use Rattle.std.specs.Prelude.{◌≡◌, ℕ, ◌≤◌, List, All, length, map}
 use Rattle.jp_model.specs.declared.Framing.{Framing}
+use Rattle.jp_model.specs.declared.Span.{Span}
+use Rattle.jp_model.specs.Json.Places.{bytes_between}
 use Rattle.jp_model.specs.Json.Status.{blank, refused, parsed}
 use Rattle.jp_model.specs.Json.Reader.{status_of}
 use Rattle.jp_lines.specs.Stored.{IsRead, stored_text}
@@ -27,3 +29,13 @@ IsState framing text (states.Tree view) = (status_of framing text ≡ parsed (tr
 -- a line of a batch is what it is said to be
 abbrev pub IsBatchLine : Framing → BatchLine → Type 0
 IsBatchLine framing line = IsState framing line.text.now line.state
+
+-- ---- texts among some bytes
+
+-- a span is of these bytes
+abbrev pub IsSpanOf : List ℕ → Span → Type 0
+IsSpanOf bytes span = (span.start ≤ span.end) × (span.end ≤ length bytes)
+
+-- the bytes that stand there
+abbrev pub text_at : List ℕ → Span → List ℕ
+text_at bytes span = bytes_between bytes span.start span.end

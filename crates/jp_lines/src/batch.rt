@@ -1,13 +1,15 @@
 //! The lines of a piece of a stream, each read, in room that is lent from piece to piece.
 
-ghost use Rattle.std.specs.Prelude.{◌≡◌, ◌<◌, ◌^◌, IfOk, Some, length, slice_get};
+ghost use Rattle.std.specs.Prelude.{◌≡◌, ◌<◌, ◌^◌, [], All, IfOk, Some, length, map, slice_get};
 ghost use Rattle.jp_masks.specs.Found.{lines_in};
-ghost use Rattle.jp_lines.specs.Batches.{IsBatch, IsBatchLine, texts_of};
+ghost use Rattle.jp_model.specs.declared.Framing.TheVariants as framings;
+ghost use Rattle.jp_lines.specs.Batches.{IsBatch, IsBatchLine, IsSpanOf, text_at, texts_of};
 
 use crate::Status;
 use crate::line::Line;
 use crate::loading::read_piece;
 use crate::text::{tape_of, text_of};
+use crate::texts::read_texts;
 use crate::view::LineView;
 use jp_masks::Marks;
 use jp_model::{Framing, LineFault, Span};
@@ -19,6 +21,7 @@ use std::alloc::{AllocError, Global};
 pub struct BatchRoom {
     builder: Builder,
     marks: Marks,
+    positions: Vec<u32>,
     lines: Vec<Line>,
     tapes: Vec<u64>,
 }
@@ -29,9 +32,19 @@ impl BatchRoom {
         BatchRoom {
             builder: Builder::new(alloc),
             marks: Marks::new(alloc),
+            positions: Vec::new(alloc),
             lines: Vec::new(alloc),
             tapes: Vec::new(alloc),
         }
+    }
+
+    /// Forgets the lines that were read.
+    fn forget(&mut self)
+        ensures lines { self.new.lines.items ≡ [] }
+        ensures tapes { self.new.tapes.items ≡ [] }
+    {
+        self.lines.clear();
+        self.tapes.clear();
     }
 
     /// Reads the lines of a piece: its last byte ends a line, or no other byte follows it. A byte order mark in front is not
@@ -47,8 +60,7 @@ impl BatchRoom {
         ensures lines { IfOk result (λ batch. texts_of batch ≡ lines_in framing bytes.now) }
         ensures read { IfOk result (λ batch. IsBatch batch × (batch.framing ≡ framing)) }
     {
-        self.lines.clear();
-        self.tapes.clear();
+        self.forget();
         let piece = Span {
             start: 0,
             end: bytes.len() as u32,
@@ -69,9 +81,40 @@ impl BatchRoom {
             tapes: &self.tapes,
         })
     }
+
+    /// Reads the texts at some spans of the bytes, each by itself as a line of these bytes is read: a line feed is white space in
+    /// it (RFC 8259, section 2), and ends nothing.
+    ///
+    /// If memory is refused, the answer is `AllocError`, and the room can be lent again.
+    pub fn read_texts<'r>(
+        &'r mut self,
+        bytes: &'r [u8],
+        spans: &[Span],
+    ) -> Result<Batch<'r>, AllocError>
+        requires within { All (IsSpanOf bytes.now) spans.now }
+        requires room { length bytes.now < 2 ^ 32 }
+        ensures texts { IfOk result (λ batch. texts_of batch ≡ map (text_at bytes.now) spans.now) }
+        ensures read { IfOk result (λ batch. IsBatch batch × (batch.framing ≡ framings.Lines)) }
+    {
+        self.forget();
+        read_texts(
+            &mut self.builder,
+            bytes,
+            spans,
+            &mut self.positions,
+            &mut self.lines,
+            &mut self.tapes,
+        )?;
+        Ok(Batch {
+            framing: Framing::Lines,
+            bytes,
+            lines: &self.lines,
+            tapes: &self.tapes,
+        })
+    }
 }
 
-/// The lines of a piece of a stream, each read. It is given by `BatchRoom::read` alone.
+/// The lines of a piece of a stream, each read. It is given by a `BatchRoom` alone.
 #[derive(Clone, Copy)]
 pub struct Batch<'r> {
     framing: Framing,

@@ -5,8 +5,8 @@
 //! - `read_lines`, `read_edited`, `Line`, `Status`: the lines of a collection, or one line with a text of its own; what a line
 //!   is
 //! - `text_of`, `tape_of`, `LineView`: the text of such a line, the words of its tape, and both together
-//! - `BatchRoom::read`, `Batch`, `BatchLine`, `LineState`: the lines of a piece of a stream, each read, where no collection is
-//!   held
+//! - `BatchRoom`, `Batch`, `BatchLine`, `LineState`: the lines of a piece of a stream, or texts among its bytes, each read,
+//!   where no collection is held
 //! - `separator`, `is_framed_text`: the byte that separates lines; what may stand before the first separator
 #![tactic(auto)]
 
@@ -16,6 +16,7 @@ mod line;
 mod loading;
 mod reading;
 mod text;
+mod texts;
 mod view;
 
 pub use batch::{Batch, BatchLine, BatchRoom, LineState};
