@@ -1,7 +1,7 @@
-/* asks COLLECTION SCRIPT FRAMING LINES [THREADS]: opens a collection, runs a script over it by so many lines in each call, or by
- * jpq_run where LINES is 0, and writes what they answer. It ends with the first status that is not 0. With THREADS that many threads
- * do so, each with a handle of its own, and all have to read the same. Nothing here calls malloc, so that each growth is the
- * library's. */
+/* asks COLLECTION SCRIPT FRAMING LINES [THREADS]: opens a collection, runs a script over it by LINES lines in each call, and writes
+ * what they answer. Where LINES is 0 jpq_run runs the whole script, and where it is below 0 it runs the first -LINES lines and
+ * jpq_ask the others. It ends with the first status that is not 0. With THREADS that many threads do so, each with a handle of its
+ * own, and all have to read the same. Nothing here calls malloc, so that each growth is the library's. */
 #define _GNU_SOURCE
 #include <fcntl.h>
 #include <jpq.h>
@@ -41,23 +41,40 @@ static void take(jpq *handle, uint64_t *sum) {
     if (left != 0 || jpq_left(handle) != 0) _exit(92);
 }
 
+/* Where the next lines of the script end, from a place on. */
+static size_t lines_end(size_t at, long count) {
+    for (long n = 0; n < count && at < script_length; n++) {
+        const uint8_t *feed = memchr(script + at, '\n', script_length - at);
+        at = feed ? (size_t)(feed - script) + 1 : script_length;
+    }
+    return at;
+}
+
+/* Runs the first lines of the script by jpq_run, and the others over the handle that it leaves. */
+static uint32_t run_and_ask(jpq *handle, uint64_t *sum) {
+    size_t end = lines == 0 ? script_length : lines_end(0, -lines);
+    uint32_t status = jpq_run(collection, collection_length, framing, JPQ_MOST, script, end, handle);
+    /* The collection is there after the statuses that say so, and is not after the others. */
+    if ((status == JPQ_DONE && !handle->is_open) || (status > JPQ_DONE && status < JPQ_SCRIPT && handle->is_open)) _exit(99);
+    take(handle, sum);
+    if (status != JPQ_DONE || end == script_length) return status;
+    status = jpq_ask(handle, script + end, script_length - end);
+    take(handle, sum);
+    return status;
+}
+
 static uint32_t run(uint64_t *sum) {
     jpq handle = JPQ_INIT;
     memset(handle.spare, 0x5A, sizeof handle.spare);
     uint64_t spare[2];
     memcpy(spare, handle.spare, sizeof spare);
     uint32_t status;
-    if (lines == 0) {
-        status = jpq_run(collection, collection_length, framing, JPQ_MOST, script, script_length, &handle);
-        take(&handle, sum);
+    if (lines <= 0) {
+        status = run_and_ask(&handle, sum);
     } else {
         status = jpq_open(collection, collection_length, framing, JPQ_MOST, &handle);
         for (size_t at = 0; at < script_length && status == JPQ_DONE;) {
-            size_t end = at;
-            for (long n = 0; n < lines && end < script_length; n++) {
-                const uint8_t *feed = memchr(script + end, '\n', script_length - end);
-                end = feed ? (size_t)(feed - script) + 1 : script_length;
-            }
+            size_t end = lines_end(at, lines);
             status = jpq_ask(&handle, script + at, end - at);
             take(&handle, sum);
             at = end;

@@ -1,5 +1,5 @@
 -- What the numbers of a call from C stand for.
-use Rattle.std.specs.Prelude.{ℕ, zero, suc, Option, Some, None}
+use Rattle.std.specs.Prelude.{◌≡◌, ◌⊎◌, ℕ, zero, suc, Option, Some, None}
 use Rattle.jp_model.specs.declared.Framing.{Framing}
 use Rattle.jp_model.specs.declared.Framing.TheVariants as framings
 use Rattle.jp_model.specs.declared.Setup.{Setup}
@@ -13,3 +13,14 @@ framing_of (suc (suc n)) = None
 -- how scripts are run over a collection with this framing and at most so many bytes
 abbrev pub setup_of : Framing → ℕ → Setup
 setup_of framing most = record { framing = framing; most = most; script_most = 4294967295 }
+
+-- The statuses of each call: done; not open; no framing; a read that failed; too large; not framed; a script that is too large;
+-- out of memory.
+abbrev pub IsStatusOfOpen : ℕ → Type 0
+IsStatusOfOpen status = (status ≡ 0) ⊎ (status ≡ 2) ⊎ (status ≡ 11) ⊎ (status ≡ 12) ⊎ (status ≡ 13) ⊎ (status ≡ 16)
+
+abbrev pub IsStatusOfAsk : ℕ → Type 0
+IsStatusOfAsk status = (status ≡ 0) ⊎ (status ≡ 1) ⊎ (status ≡ 11) ⊎ (status ≡ 14) ⊎ (status ≡ 16)
+
+abbrev pub IsStatusOfRun : ℕ → Type 0
+IsStatusOfRun status = (status ≡ 0) ⊎ (status ≡ 2) ⊎ (status ≡ 11) ⊎ (status ≡ 12) ⊎ (status ≡ 13) ⊎ (status ≡ 14) ⊎ (status ≡ 16)

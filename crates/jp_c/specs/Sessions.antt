@@ -51,12 +51,25 @@ HasAnsweredFirst (Some old) (Some new) script = AnswersFirst old new script
 HasAnsweredFirst (Some old) None script = ⊥
 HasAnsweredFirst None new script = ⊥
 
--- The output of the script over the collection is left to be read, as the program writes it.
+-- The output of the script over the collection is left to be read, as the program writes it, and the handle has what the script
+-- made of the collection.
 abbrev pub IsRun : Setup → List ℕ → List ℕ → Option Session → Type 0
 IsRun setup collection script None = ⊥
 IsRun setup collection script (Some new) = MayLoad setup collection × (length script ≤ setup.script_most)
     × (flags : List Bool) × OnlyForMemory command_of (command_lines script) flags
+    × (setup_of new.collection ≡ setup)
+    × (state_of new.collection ≡ (run_commands query_of command_of setup (loaded setup collection) (command_lines script) flags).after)
     × (left_in new ≡ output query_of command_of setup collection script flags)
+
+-- The handle is not open, or it has what some first commands of the script made of the collection, and a beginning of what they
+-- answer is left to be read.
+abbrev pub IsRunInPart : Setup → List ℕ → List ℕ → Option Session → Type 0
+IsRunInPart setup collection script None = Unit {0}
+IsRunInPart setup collection script (Some new) = MayLoad setup collection × (first : List (List ℕ)) × BeginsLines first (command_lines script)
+    × (flags : List Bool) × OnlyForMemory command_of first flags
+    × (setup_of new.collection ≡ setup)
+    × (state_of new.collection ≡ (run_commands query_of command_of setup (loaded setup collection) first flags).after)
+    × Begins (left_in new) (run_commands query_of command_of setup (loaded setup collection) first flags).written
 
 -- the collection, its indexes and its setup are the same
 abbrev pub KeepsCollection : Option Session → Option Session → Type 0

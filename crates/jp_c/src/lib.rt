@@ -9,10 +9,10 @@
 //! - `jpq_run`: a collection is loaded and a script run over it, in one call
 #![tactic(auto)]
 
-ghost use Rattle.std.specs.Prelude.{◌≡◌, ◌≢◌, ◌<◌, ◌≤◌, false, length, Option, None, Some, IfSome};
+ghost use Rattle.std.specs.Prelude.{◌≡◌, ◌≢◌, ◌<◌, ◌≤◌, ◌⊎◌, false, true, length, Option, None, Some, IfSome};
 ghost use Rattle.jp_model.specs.Lines.{is_framed};
-ghost use Rattle.jp_c.specs.Calls.{framing_of as framing_at, setup_of};
-ghost use Rattle.jp_c.specs.Sessions.{HasAnswered, HasAnsweredFirst, IsOpened, IsRead, IsRun, left_of};
+ghost use Rattle.jp_c.specs.Calls.{IsStatusOfAsk, IsStatusOfOpen, IsStatusOfRun, framing_of as framing_at, setup_of};
+ghost use Rattle.jp_c.specs.Sessions.{HasAnswered, HasAnsweredFirst, IsOpened, IsRead, IsRun, IsRunInPart, left_of};
 
 mod answers;
 mod handle;
@@ -21,6 +21,7 @@ mod session;
 
 use handle::Jpq;
 use jp_cli::RunFault;
+use jp_lines::is_framed_text;
 use jp_model::{Framing, Watched};
 use jp_store::{LoadFault, Store};
 use session::Session;
@@ -64,8 +65,8 @@ fn framing_of(number: u32) -> Option<Framing>
 /// Loads a collection of at most so many bytes into the handle. What it had is freed.
 ///
 /// The framing is 0 for lines and 1 for a text sequence (RFC 7464), and else the status is 2. It is 12 where the collection has
-/// more bytes, 13 where bytes other than white space come before the first separator of a sequence, and 16 where a growth was
-/// refused; at each of these the handle is not open.
+/// more bytes, 13 where bytes other than white space come before the first separator of a sequence, and 16 where it is neither
+/// and a growth was refused; at each of these the handle is not open. A read that fails would be 11: of bytes in memory none does.
 #[unsafe(no_mangle)]
 pub extern "C" fn jpq_open(
     alloc: Global,
@@ -74,26 +75,31 @@ pub extern "C" fn jpq_open(
     most: u32,
     handle: &mut Jpq,
 ) -> u32
+    ensures listed { IsStatusOfOpen result }
     ensures number { framing_at framing ≡ None → result ≡ 2 }
-    ensures opened { IfSome (framing_at framing) (λ framing. result ≡ 0 → IsOpened (setup_of framing most) collection.now handle.new.session) }
     ensures no_number { result ≡ 2 → framing_at framing ≡ None }
-    ensures not_shut { result ≢ 1 }
-    ensures not_long { result ≢ 14 }
-    ensures size { result ≡ 12 → most < length collection.now }
+    ensures size { IfSome (framing_at framing) (λ framing. most < length collection.now → result ≡ 12) }
+    ensures too_long { result ≡ 12 → most < length collection.now }
+    ensures framing { IfSome (framing_at framing) (λ framing. length collection.now ≤ most → is_framed framing collection.now ≡ false → result ≡ 13) }
     ensures unframed { IfSome (framing_at framing) (λ framing. result ≡ 13 → (length collection.now ≤ most) × (is_framed framing collection.now ≡ false)) }
+    ensures opened { IfSome (framing_at framing) (λ framing. result ≡ 0 → IsOpened (setup_of framing most) collection.now handle.new.session) }
     ensures stopped { 0 < result → handle.new.session ≡ None }
 {
     drop(handle.take(alloc));
     let Some(framing) = framing_of(framing) else {
         return FRAMING_NUMBER;
     };
+    if collection.len() > most as usize {
+        return SIZE;
+    }
+    if !is_framed_text(framing, collection) {
+        return FRAMING;
+    }
     let mut collection = Watched::new(collection);
     let store = match Store::load(alloc, framing, most, &mut collection) {
         Ok(store) => store,
         Err(LoadFault::Read) => return READ,
-        Err(LoadFault::Size) => return SIZE,
-        Err(LoadFault::Framing) => return FRAMING,
-        Err(LoadFault::Memory) => return MEMORY,
+        Err(_) => return MEMORY,
     };
     match Box::new(alloc, Session::new(alloc, store)) {
         Ok(session) => {
@@ -112,9 +118,10 @@ pub extern "C" fn jpq_open(
 /// first commands were run, what they changed stays, and a beginning of their answers is left to be read.
 #[unsafe(no_mangle)]
 pub extern "C" fn jpq_ask(alloc: Global, handle: &mut Jpq, script: &[u8]) -> u32
+    ensures listed { IsStatusOfAsk result }
     ensures shut { handle.old.session ≡ None → (result ≡ 1) × (handle.new.session ≡ None) }
     ensures is_shut { result ≡ 1 → handle.old.session ≡ None }
-    ensures of_scripts { (result ≢ 2) × (result ≢ 12) × (result ≢ 13) }
+    ensures size { handle.old.session ≢ None → 4294967295 < length script.now → result ≡ 14 }
     ensures long { result ≡ 14 → (4294967295 < length script.now) × (handle.new.session ≡ handle.old.session) }
     ensures done { result ≡ 0 → HasAnswered handle.old.session handle.new.session script.now }
     ensures stopped { 1 < result → result ≢ 14 → HasAnsweredFirst handle.old.session handle.new.session script.now }
@@ -171,6 +178,9 @@ pub extern "C" fn jpq_close(alloc: Global, handle: &mut Jpq)
 }
 
 /// `jpq_open`, and then `jpq_ask`, in one call: the program's whole run. The status is that of the first that is not 0.
+///
+/// At 2, 12 and 13 the handle is not open; at 14 it has the collection, and no answer; at 16 it is not open, or some first
+/// commands were run, what they changed stays, and a beginning of their answers is left to be read.
 #[unsafe(no_mangle)]
 pub extern "C" fn jpq_run(
     alloc: Global,
@@ -180,13 +190,17 @@ pub extern "C" fn jpq_run(
     script: &[u8],
     handle: &mut Jpq,
 ) -> u32
+    ensures listed { IsStatusOfRun result }
     ensures number { framing_at framing ≡ None → result ≡ 2 }
     ensures no_number { result ≡ 2 → framing_at framing ≡ None }
-    ensures not_shut { result ≢ 1 }
-    ensures size { result ≡ 12 → most < length collection.now }
+    ensures size { IfSome (framing_at framing) (λ framing. most < length collection.now → result ≡ 12) }
+    ensures too_long { result ≡ 12 → most < length collection.now }
+    ensures framing { IfSome (framing_at framing) (λ framing. length collection.now ≤ most → is_framed framing collection.now ≡ false → result ≡ 13) }
     ensures unframed { IfSome (framing_at framing) (λ framing. result ≡ 13 → (length collection.now ≤ most) × (is_framed framing collection.now ≡ false)) }
-    ensures long { result ≡ 14 → 4294967295 < length script.now }
+    ensures shut { (result ≡ 2) ⊎ (result ≡ 12) ⊎ (result ≡ 13) → handle.new.session ≡ None }
+    ensures long { IfSome (framing_at framing) (λ framing. result ≡ 14 → (4294967295 < length script.now) × IsOpened (setup_of framing most) collection.now handle.new.session) }
     ensures done { IfSome (framing_at framing) (λ framing. result ≡ 0 → IsRun (setup_of framing most) collection.now script.now handle.new.session) }
+    ensures stopped { IfSome (framing_at framing) (λ framing. (result ≡ 11) ⊎ (result ≡ 16) → IsRunInPart (setup_of framing most) collection.now script.now handle.new.session) }
 {
     let status = jpq_open(alloc, collection, framing, most, handle);
     if status != DONE {

@@ -1,13 +1,13 @@
 //! Laws of how collections and scripts are cut.
 
-ghost use Rattle.std.specs.Prelude.{◌≡◌, ◌⊎◌, ℕ, List, [], ◌∷◌, ◌++◌, All, IsUtf8, flat_map, drop};
+ghost use Rattle.std.specs.Prelude.{◌≡◌, ◌⊎◌, ℕ, List, [], ◌∷◌, ◌++◌, All, IsUtf8, codes, flat_map, drop};
 ghost use Rattle.std.specs.List.{join_with_byte};
 ghost use Rattle.jp_model.specs.declared.Framing.TheVariants.{Lines as in_lines, Sequence as in_sequence};
 ghost use Rattle.jp_model.specs.declared.LineFault.TheVariants.{Truncated};
 ghost use Rattle.jp_model.specs.Json.Spelling.{Text};
 ghost use Rattle.jp_model.specs.Json.Tree.{Tree};
 ghost use Rattle.jp_model.specs.Json.Status.{LineStatus, refused, HasStatus};
-ghost use Rattle.jp_model.specs.Lines.{pieces, first_piece, closed_lines, open_line, HasNoSeparator, without_byte_order_mark};
+ghost use Rattle.jp_model.specs.Lines.{lines, pieces, first_piece, closed_lines, open_line, HasNoSeparator, without_byte_order_mark};
 ghost use Rattle.jp_laws.specs.Scripts.{with_line_feeds};
 
 /// Cutting is undone by joining: the pieces of a text, the empty last one included, are the text again with the separator
@@ -19,6 +19,13 @@ pub fn cutting_is_undone_by_joining()
     ensures clear { (separator : ℕ) (text : List ℕ) → All (HasNoSeparator separator) (pieces separator text) }
     ensures lines { (text : List ℕ) → with_line_feeds (closed_lines text) ++ open_line text ≡ text }
     ensures sequence { (text : List ℕ) → first_piece (pieces 0x1E text) ++ flat_map (λ piece. 0x1E ∷ piece) (drop 1 (pieces 0x1E text)) ≡ text }
+{}
+
+/// White space in front of the first record separator of a sequence belongs to no text (RFC 7464, section 2.1).
+///
+/// That it is a text in front of the others is refused here.
+pub fn white_space_before_a_sequence_is_no_text()
+    ensures { lines in_sequence (codes " \n" ++ 0x1E ∷ codes "1\n") ≡ codes "1\n" ∷ [] }
 {}
 
 /// A byte order mark at the front is all that is dropped of a collection before it is cut (RFC 8259, section 8.1).
