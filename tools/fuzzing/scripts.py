@@ -1,0 +1,132 @@
+"""What jpq answers to a script, and jpgrep to its options, over a collection."""
+
+from . import queries, texts
+from .meaning import Nodes, path_text
+
+MOST_INDEXES = 16
+
+
+class Collection:
+    """The lines of a collection, each with its root node, None where it is blank, or the word of its fault."""
+
+    def __init__(self, collection, is_sequence):
+        self.is_sequence, self.indexes = is_sequence, []
+        self.lines = [self.judged(text) for text in texts.lines(collection, is_sequence)]
+        self.front = b"\x1e" if is_sequence else b""
+
+    def judged(self, text):
+        try:
+            return text, texts.read(text, self.is_sequence)
+        except texts.Refused as refused:
+            return text, str(refused)
+
+    def refusals(self):
+        return [b"%s%d\t!%s\n" % (self.front, n, root.encode()) for n, (_, root) in enumerate(self.lines, 1) if isinstance(root, str)]
+
+    def answered(self, command):
+        """What a command line answers."""
+        word, space, argument = command.partition(b" ")
+        calls = {b"query": self.query, b"index": self.index, b"drop": self.drop, b"append": self.append, b"replace": self.replace}
+        if word in calls and space:
+            return calls[word](argument)
+        plain = {b"indexes": self.listed, b"check": self.check}
+        return plain[command]() if command in plain else b"error: command\n"
+
+    def query(self, text):
+        try:
+            segments = queries.parse(text)
+        except queries.Refused as refused:
+            return b"error: query %s\n" % str(refused).encode()
+        rows, count = [], 0
+        for n, (line, root) in enumerate(self.lines, 1):
+            if isinstance(root, str):
+                rows.append(b"%s%d\t!%s\n" % (self.front, n, root.encode()))
+            elif root:
+                found = Nodes(root).select(segments)
+                count += len(found)
+                rows += [b"%s%d\t%s\t%s\n" % (self.front, n, path_text(path).encode(), line[node.start:node.end])
+                         for path, node in found]
+        return b"".join(rows) + b"= %d\n" % count
+
+    @staticmethod
+    def steps(text):
+        """The steps of an index, or None."""
+        try:
+            segments = queries.parse(text)
+        except queries.Refused:
+            return None
+        if not queries.is_singular(("query", "$", segments, "")):
+            return None
+        return tuple(selectors[0][1] for _, selectors in segments)
+
+    def index(self, text):
+        steps = self.steps(text)
+        if steps is None:
+            return b"error: index path\n"
+        if steps in self.indexes:
+            return b"error: index exists\n"
+        if len(self.indexes) == MOST_INDEXES:
+            return b"error: index limit\n"
+        self.indexes.append(steps)
+        selected = [Nodes(root).select(queries.parse(text)) for _, root in self.lines if root and not isinstance(root, str)]
+        return b"indexed %d\n" % sum(map(len, selected))
+
+    def drop(self, text):
+        steps = self.steps(text)
+        if steps is None:
+            return b"error: index path\n"
+        if steps not in self.indexes:
+            return b"error: index missing\n"
+        self.indexes.remove(steps)
+        return b"dropped\n"
+
+    def listed(self):
+        return b"".join(path_text(steps).encode() + b"\n" for steps in self.indexes) + b"= %d\n" % len(self.indexes)
+
+    def check(self):
+        refused = self.refusals()
+        blank = sum(root is None for _, root in self.lines)
+        return b"".join(refused) + b"= %d lines, %d refused, %d blank\n" % (len(self.lines), len(refused), blank)
+
+    def is_no_line(self, text):
+        return self.is_sequence and b"\x1e" in text
+
+    def append(self, text):
+        if self.is_no_line(text):
+            return b"error: separator\n"
+        self.lines.append(self.judged(text))
+        return b"appended %d\n" % len(self.lines)
+
+    def replace(self, argument):
+        number, space, text = argument.partition(b" ")
+        if not space or not number.isdigit() or number.startswith(b"0"):
+            return b"error: command\n"
+        if int(number) > len(self.lines):
+            return b"error: line\n"
+        if self.is_no_line(text):
+            return b"error: separator\n"
+        self.lines[int(number) - 1] = self.judged(text)
+        return b"replaced %d\n" % int(number)
+
+    def run(self, script):
+        """What the commands of a script answer, line by line."""
+        commands = script.removesuffix(b"\n").split(b"\n") if script else []
+        return b"".join(self.answered(command.removesuffix(b"\r")) for command in commands if command.removesuffix(b"\r"))
+
+    def filtered(self, conditions, query, shown, is_inverted=False):
+        """What jpgrep writes of the lines of which each condition holds and the query selects a node: whole lines, values with
+        their paths, or how many there are."""
+        rows, count = [], 0
+        for n, (line, root) in enumerate(self.lines, 1):
+            if not root or isinstance(root, str):
+                continue
+            nodes = Nodes(root)
+            found = nodes.select(query) if all(nodes.holds(condition, nodes.root) for condition in conditions) else []
+            if bool(found) == is_inverted:
+                continue
+            count += 1
+            if shown == "line":
+                rows.append(b"%d:%s\n" % (n, line))
+            elif shown == "values":
+                rows += [b"%d:%s\t%s\n" % (n, path_text(path).encode(), line[node.start:node.end]) for path, node in found]
+        return b"%d\n" % count if shown == "count" else b"".join(rows)
