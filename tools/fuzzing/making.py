@@ -110,7 +110,7 @@ def basic(rng, depth):
     if kind < 2:
         return path(rng, depth)
     if kind == 2:
-        pattern = repr(rng.choice(PATTERNS)).replace("\\\\p", "\\\\p")
+        pattern = repr(rng.choice(PATTERNS))
         return "%s(%s,%s)" % (rng.choice(["match", "search"]), singular(rng), pattern)
     if kind == 3 and depth:
         return "(" + expression(rng, depth - 1) + ")"
