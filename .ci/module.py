@@ -92,20 +92,18 @@ def refusals():
 
 
 def statuses():
+    shows("absent", (FileNotFoundError, None), raised(lambda: opened("absent")))
+    shows("folder", (IsADirectoryError, None), raised(lambda: opened(".")))
     if way == "program":
-        shows("absent", (jpq.Ended, 3), raised(lambda: opened("absent")))
-        shows("folder", (jpq.Ended, 11), raised(lambda: opened(".")))
         shows("no program", (FileNotFoundError, None), raised(lambda: jpq.open(LINES, program="./absent")))
         try:
-            opened("absent")
+            opened(b"x", seq=True)
         except jpq.Ended as ended:
-            shows("message", "jpq: cannot open collection", ended.message)
+            shows("message", (13, True), (ended.status, ended.message.startswith("jpq: ")))
         log = opened(LINES)
         log._engine._process.kill()
         shows("killed", (jpq.Ended, -9), raised(log.check))
     else:
-        shows("absent", (FileNotFoundError, None), raised(lambda: opened("absent")))
-        shows("folder", (IsADirectoryError, None), raised(lambda: opened(".")))
         shows("no library", (OSError, None), raised(lambda: jpq.open(LINES, library="./absent")))
     shows("no sequence", (jpq.Ended, 13), raised(lambda: opened(LINES, seq=True)))
     with opened(written("--seq", b"")) as log:
@@ -136,6 +134,13 @@ def files():
     for kind, given in (("no bytes", b""), ("an empty bytearray", bytearray()), ("an empty buffer", io.BytesIO())):
         with opened(given) as log:
             shows(kind, 0, log.check().lines)
+    for kind, given in (("a list", [whole[:7], whole[7:]]), ("lines in turn", iter(whole.splitlines(keepends=True)))):
+        with opened(given) as log:
+            shows(kind, (5, 3), (log.check().lines, len(list(log.query("$.a")))))
+    os.mkfifo("named")
+    with subprocess.Popen(["sh", "-c", f"cat {LINES} > named"]), opened("named") as log:
+        shows("a named pipe", 5, log.check().lines)
+    os.remove("named")
     with open(LINES, "rb") as file:
         file.readline()
         with opened(file) as log:

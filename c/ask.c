@@ -1,4 +1,5 @@
 /* ask FILE COMMAND..: answers commands over a file with one JSON value per line, as `jpq FILE -c COMMAND..` does. */
+#include <errno.h>
 #include <jpq.h>
 #include <stdio.h>
 #include <stdlib.h>
@@ -18,7 +19,8 @@ static uint8_t *read_all(const char *name, size_t *length) {
 int main(int count, char **words) {
     size_t length, got;
     uint8_t *bytes = count > 1 ? read_all(words[1], &length) : NULL;
-    if (!bytes) return fprintf(stderr, "usage: ask FILE COMMAND..\n"), 3;
+    if (count < 2) return fprintf(stderr, "usage: ask FILE COMMAND..\n"), 2;
+    if (!bytes) return fprintf(stderr, "ask: %s: %s\n", words[1], strerror(errno)), 3;
     jpq log = JPQ_INIT;
     uint32_t status = jpq_open(bytes, length, JPQ_LINES, JPQ_MOST, &log);
     free(bytes); /* the handle has its own copy */

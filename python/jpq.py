@@ -32,25 +32,53 @@ import subprocess
 import tempfile
 import threading
 import weakref
+from typing import Any, BinaryIO, Iterable, Iterator, List, NamedTuple, Optional, Tuple, Union
 
 __all__ = ["open", "loads", "Log", "Row", "Rows", "Refused", "Check", "Plan", "Error", "Ended", "Refusal", "QueryRefusal",
            "IndexRefusal", "LineRefusal", "SizeRefusal", "SeparatorRefusal", "MemoryRefusal", "CommandRefusal"]
 
 
-class Row(collections.namedtuple("Row", "line path bytes")):
+# What can be opened: the name of a file, its bytes, a binary file that is open, or the parts of its bytes in turn.
+File = Union[str, "os.PathLike[str]", bytes, bytearray, memoryview, mmap.mmap, BinaryIO, Iterable[bytes]]
+Text = Union[str, bytes]
+
+
+class Row(NamedTuple):
     """A selected value: the number of its line, from 1, its normalized path, and its bytes as they stand in the file."""
 
-    __slots__ = ()
+    line: int
+    path: str
+    bytes: bytes
 
     @property
-    def value(self):
+    def value(self) -> Any:
         """What `loads` makes of the bytes."""
         return loads(self.bytes)
 
 
-Refused = collections.namedtuple("Refused", "line fault")
-Check = collections.namedtuple("Check", "lines refused blank faults")
-Plan = collections.namedtuple("Plan", "steps opened lines")
+class Refused(NamedTuple):
+    """A refused line: its number, from 1, and the word of its fault."""
+
+    line: int
+    fault: str
+
+
+class Check(NamedTuple):
+    """How many lines there are, how many of them are refused and how many blank, and which are refused."""
+
+    lines: int
+    refused: int
+    blank: int
+    faults: Tuple[Refused, ...]
+
+
+class Plan(NamedTuple):
+    """The steps of a plan, how many lines it opens, and of how many that have a value."""
+
+    steps: Tuple[str, ...]
+    opened: int
+    lines: int
+
 
 # The line that ends an answer begins so. No row does: it begins with its number (in a sequence with the byte 1E), with the `$`
 # of an index or with another word of a plan. Nor does a line within a value of a sequence, as no token of JSON begins with one
@@ -68,7 +96,7 @@ class Error(Exception):
 class Ended(Error):
     """jpq ended, or could not begin: `status` is its exit status, `message` what it said."""
 
-    def __init__(self, status, message):
+    def __init__(self, status: int, message: str) -> None:
         super().__init__(f"{message or 'jpq ended'} (status {status})")
         self.status, self.message = status, message
 
@@ -76,7 +104,7 @@ class Ended(Error):
 class Refusal(Error):
     """A command that was answered by `error:`, and changed nothing: `fault` is what follows that word."""
 
-    def __init__(self, fault, command):
+    def __init__(self, fault: str, command: bytes) -> None:
         super().__init__(f"{fault}: {command[:200].decode(errors='replace')}")
         self.fault, self.command = fault, command
 
@@ -85,7 +113,7 @@ class QueryRefusal(Refusal):
     """`query` and one of syntax, integer, function, types, size, number."""
 
     @property
-    def place(self):
+    def place(self) -> Optional[str]:
         """Where the query goes wrong, as jpgrep shows it: the words for it, the query, a caret below the place, and what was
         probably meant, where jpgrep knows that. None where there is no jpgrep on the path, or it finds no fault."""
         query = self.command.partition(b" ")[2].replace(b"\r", b" ")
@@ -124,22 +152,22 @@ REFUSALS = {"query": QueryRefusal, "index": IndexRefusal, "line": LineRefusal, "
             "separator": SeparatorRefusal, "memory": MemoryRefusal, "command": CommandRefusal}
 
 
-def open(file, *, seq=False, program=None, library=None):
+def open(file: File, *, seq: bool = False, program: Optional[str] = None, library: Optional[str] = None) -> "Log":
     """Loads a file, or with `seq` a text sequence (RFC 7464), and answers the Log.
 
-    The file is a name, bytes, or a binary file that is open, which is read from where it stands to its end. `library` is the
-    libjpq to use and `program` the jpq to run: by default the library that the environment has as JPQ_LIBRARY, or else
-    libjpq.so.0 where it is found, and else the program that the environment has as JPQ, or the one on the path. Raises Ended
-    where the file cannot be loaded, and OSError where there is no such file."""
+    The file is a name, bytes, a binary file that is open, which is read from where it stands to its end, or an iterable that
+    gives its bytes part by part. `library` is the libjpq to use and `program` the jpq to run: by default the library that the environment has as JPQ_LIBRARY, or else
+    libjpq.so.0 where it is found, and else the program that the environment has as JPQ, or the one on the path. Raises OSError
+    where the file cannot be opened or read, and Ended where what it has cannot be loaded."""
     return Log(file, seq=seq, program=program, library=library)
 
 
-def loads(value):
+def loads(value: Text) -> Any:
     """The value that bytes spell, with nothing rounded: Decimal for numbers with a point or an exponent, int for others."""
     return json.loads(value, parse_float=decimal.Decimal, parse_int=_whole)
 
 
-def _whole(digits):
+def _whole(digits: str) -> Union[int, decimal.Decimal]:
     # Python does not read an int of more than 4,300 digits
     return int(digits) if len(digits) < 4000 else decimal.Decimal(digits)
 
@@ -182,6 +210,9 @@ class _Program(_Lines):
         self._ended, self._said, copy = None, tempfile.TemporaryFile(), None
         if isinstance(file, (str, os.PathLike)):
             name = os.fspath(file)
+            # What cannot be opened is told as Python tells it. A pipe is left to the program, as its bytes come once.
+            if not _is_pipe(name):
+                builtins.open(name, "rb").close()
         else:
             copy = tempfile.TemporaryFile()
             shutil.copyfileobj(file if hasattr(file, "read") else io.BytesIO(file), copy)
@@ -303,8 +334,25 @@ class _Library(_Lines):
             self._calls.jpq_close(self._handle)
 
 
+def _is_pipe(name):
+    """Whether there is something of this name that is neither a file nor a folder."""
+    return os.path.exists(name) and not os.path.isfile(name) and not os.path.isdir(name)
+
+
+def _given(file):
+    """A file as both ways take it: a name, bytes or an open file."""
+    if isinstance(file, (str, os.PathLike)) or hasattr(file, "read"):
+        return file
+    try:
+        memoryview(file)
+    except TypeError:
+        return b"".join(file)
+    return file
+
+
 def _engine(file, seq, program, library):
     """What answers: the library where it is found, and else the program."""
+    file = _given(file)
     if program is None:
         for name in [library] if library else [os.environ.get("JPQ_LIBRARY"), "libjpq.so.0"]:
             calls = name and _Library.find(name)
@@ -319,14 +367,17 @@ class Rows:
     """The rows of an answer: iterates over the values, as Row. `refused` has the lines that were refused so far, and `count`
     how many values there are, or None until the last was read."""
 
+    refused: List[Refused]
+    count: Optional[int]
+
     def __init__(self, log):
         self.refused, self.count = [], None
         self._log, self._kept, self._end = log, collections.deque(), None
 
-    def __iter__(self):
+    def __iter__(self) -> Iterator[Row]:
         return self
 
-    def __next__(self):
+    def __next__(self) -> Row:
         while True:
             with self._log._lock:
                 row = self._next()
@@ -364,7 +415,7 @@ class Log:
     """An open file: see the calls. Each raises the Refusal of its kind where jpq answers `error:`, and Ended where jpq ended.
     """
 
-    def __init__(self, file, *, seq=False, program=None, library=None):
+    def __init__(self, file: File, *, seq: bool = False, program: Optional[str] = None, library: Optional[str] = None) -> None:
         self._lock = threading.RLock()
         self._ahead, self._asked, self._is_open, self._is_closed = None, None, False, False
         self._engine = _engine(file, seq, program, library)
@@ -374,17 +425,17 @@ class Log:
             self._engine.end()
             raise
 
-    def __enter__(self):
+    def __enter__(self) -> "Log":
         return self
 
-    def __exit__(self, kind, *_):
+    def __exit__(self, kind: Any, *_: Any) -> None:
         try:
             self.close()
         except Ended:
             if kind is None:
                 raise
 
-    def close(self):
+    def close(self) -> None:
         """Ends jpq. Raises Ended if its status is not 0. A second call does nothing."""
         with self._lock:
             if not self._is_closed:
@@ -394,39 +445,41 @@ class Log:
                 if ended.status and is_read:
                     raise ended
 
-    def query(self, query):
+    def query(self, query: Text) -> Rows:
         """The values that the query selects, as Rows."""
         return self._rows("query", _query(query))
 
-    def check(self):
+    def check(self) -> Check:
         """How many lines there are, how many refused and how many blank, and each refused one in `faults`."""
         rows = self._rows("check", None)
         for _ in rows:
             pass
-        return Check(*map(int, re.findall(rb"\d+", rows._end)), tuple(rows.refused))
+        lines, refused, blank = map(int, re.findall(rb"\d+", rows._end))
+        return Check(lines, refused, blank, tuple(rows.refused))
 
-    def index(self, path):
+    def index(self, path: Text) -> int:
         """Makes an index by the value at the path of a singular query; returns how many lines have one."""
         return int(self._one("index", _query(path)).split()[1])
 
-    def drop(self, path):
+    def drop(self, path: Text) -> None:
         """Deletes an index."""
         self._one("drop", _query(path))
 
-    def indexes(self):
+    def indexes(self) -> Tuple[str, ...]:
         """The paths of the indexes."""
         return self._lines("indexes", None)[0]
 
-    def explain(self, query):
+    def explain(self, query: Text) -> Plan:
         """How the query would be answered: the steps, how many lines it opens, and of how many."""
         steps, end = self._lines("explain", _query(query))
-        return Plan(steps, *map(int, re.findall(rb"\d+", end)))
+        opened, lines = map(int, re.findall(rb"\d+", end))
+        return Plan(steps, opened, lines)
 
-    def append(self, text):
+    def append(self, text: Text) -> int:
         """Adds a line at the end, in memory only; returns its number."""
         return int(self._one("append", text).split()[1])
 
-    def replace(self, line, text):
+    def replace(self, line: int, text: Text) -> None:
         """Replaces a line, in memory only."""
         self._one(f"replace {int(line)}", text)
 
