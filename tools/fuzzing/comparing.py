@@ -84,7 +84,7 @@ class Programs:
     def filtered(self, case):
         """What jpgrep writes."""
         options = {"line": ["-n"], "values": ["-n", "-o", "-p"], "count": ["-c"]}[case.shown]
-        words = [word for condition in case.conditions for word in ("-w", condition)]
+        words = [b"-w=" + condition for condition in case.conditions]  # one that begins with a sign is no option so
         words += ["-v"] * case.is_inverted + ["--seq"] * case.is_sequence
         return self.run(self.jpgrep, "-s", "-h", *options, *words, "-e", case.query, self.file)
 
