@@ -32,7 +32,17 @@ pub enum Expected {
     /// The second `|` of `||`.
     Or,
     /// A comparison, or the end of a condition that stands alone.
-    EndOfCondition,
+    ComparisonOrEnd,
+    /// The end of a condition that stands alone.
+    End,
+    /// A singular query in front of an operator (section 2.3.5.1).
+    SingularQuery,
+    /// A name or an index in the brackets of a singular query (section 2.3.5.1).
+    SingularSelector,
+    /// A name after a point in a singular query (section 2.3.5.1).
+    SingularName,
+    /// `]` after a name or an index in a singular query (section 2.3.5.1).
+    SingularBracket,
     /// A digit of a number (sections 2.3.3.1 and 2.3.5.1).
     Digit,
     /// An escape that is one (section 2.3.1.1).
@@ -63,7 +73,13 @@ impl Expected {
             Expected::Test => "a query, a function or '('",
             Expected::And => "'&&'",
             Expected::Or => "'||'",
-            Expected::EndOfCondition => "a comparison or the end",
+            Expected::ComparisonOrEnd => "a comparison or the end",
+            Expected::End => "the end",
+            Expected::SingularQuery => "a singular query before an operator",
+            Expected::SingularSelector =>
+                "a name in quotes or an index, since a comparison takes a singular query",
+            Expected::SingularName => "a name, since a comparison takes a singular query",
+            Expected::SingularBracket => "']', since a comparison takes a singular query",
             Expected::Digit => "a digit",
             Expected::Escape => "an escape of JSON",
             Expected::EscapedControl => "an escape in place of a control character",

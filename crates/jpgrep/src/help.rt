@@ -25,7 +25,7 @@ fn help_with_operator(before: &str, rest: &str) -> Option<&'static str> {
     if rest.starts_with("=~") {
         return Some("a pattern is asked by match or search, as in search(@.path, \"cart\")");
     }
-    if rest.starts_with('=') {
+    if rest.starts_with('=') && !rest.starts_with("==") {
         return Some(if before.ends_with("!=") {
             "inequality is !="
         } else {
@@ -122,15 +122,20 @@ fn help_with_syntax(text: Text<'_>, place: usize, expected: Expected) -> Option<
     match expected {
         Expected::Root => help_with_root(rest),
         Expected::Segment => help_with_segment(text, before, rest),
-        Expected::Name | Expected::Selector => help_with_name(rest),
+        Expected::Name | Expected::Selector | Expected::SingularName | Expected::SingularSelector =>
+            help_with_name(rest),
         Expected::Operand | Expected::Test => help_with_operand(before, rest),
         Expected::Escape => Some("in a string a backslash is written twice, as in \"[0-9]\\\\.\""),
+        Expected::SingularQuery => Some(
+            "a comparison takes names and indexes alone; of others count or value makes a value",
+        ),
         Expected::And => Some("'and' is &&"),
         Expected::Or => Some("'or' is ||"),
         Expected::ComparisonOrBracket
         | Expected::ComparisonOrParenthesis
         | Expected::Comparison
-        | Expected::EndOfCondition
+        | Expected::ComparisonOrEnd
+        | Expected::End
         | Expected::Bracket
         | Expected::Parenthesis => match help_behind_name(before, rest) {
             Some(help) => Some(help),

@@ -6,6 +6,7 @@ ghost use Rattle.jp_query.specs.Places.{IsPlace};
 use super::failure::{Failure, Stop};
 use super::logical::logical;
 use super::scalars::skip_blanks;
+use super::stops::behind_condition;
 use super::tokens::Tokens;
 use super::{MAX_BYTES, MAX_DEPTH, MAX_OPENED, query_segments, to_scalars};
 use crate::expected::Expected;
@@ -93,8 +94,14 @@ impl Grammar {
                 Ok(Stop::at_end(Expected::Segment))
             }
             Grammar::Condition => {
-                let (_, rest) = logical(alloc, skip_blanks(text), MAX_DEPTH)?;
-                Ok(Stop::at(skip_blanks(rest), Expected::EndOfCondition))
+                let (condition, rest) = logical(alloc, skip_blanks(text), MAX_DEPTH)?;
+                Ok(behind_condition(
+                    alloc,
+                    &condition.logical,
+                    skip_blanks(rest),
+                    Expected::ComparisonOrEnd,
+                    Expected::End,
+                ))
             }
         }
     }

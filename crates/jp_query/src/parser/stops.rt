@@ -4,6 +4,7 @@
 
 use super::class::Class;
 use super::failure::{Failure, Stop};
+use super::literals::operator;
 use super::scalars::{begins_with, run};
 use super::selectors::singular_segment;
 use super::strings::escape;
@@ -39,38 +40,29 @@ fn last_part(condition: &Logical) -> &Logical {
     }
 }
 
-/// What may stand behind a condition.
-enum Behind {
-    /// A comparison, since its last part is a query of one node at most or a function.
-    Comparison,
-    /// One more segment, since its last part is a comparison with a query.
-    Segment,
-    /// Neither.
-    Nothing,
-}
-
-/// What may stand behind a condition, by its last part.
-fn what_may_follow(condition: &Logical) -> Behind {
-    match last_part(last_part(condition)) {
-        Logical::Exists(path) if is_singular(&path.segments) => Behind::Comparison,
-        Logical::Test(_) => Behind::Comparison,
-        Logical::Compare {
-            right: Comparable::Single(_),
-            ..
-        } => Behind::Segment,
-        _ => Behind::Nothing,
+/// What a singular query has where some query has that.
+fn in_singular(expected: Expected) -> Expected {
+    match expected {
+        Expected::Selector => Expected::SingularSelector,
+        Expected::Name => Expected::SingularName,
+        Expected::Bracket => Expected::SingularBracket,
+        other => other,
     }
 }
 
-/// Where no segment of a singular query stands, if the text only is too short for one.
-fn at_segment(alloc: Global, text: &[char], expected: Expected) -> Stop {
+/// Behind a comparison with a query, where neither one more segment of it nor what closes the condition stands: the place in
+/// what begins as a segment, where a singular query cannot go on.
+fn at_segment(alloc: Global, text: &[char], closed: Expected) -> Stop {
     match singular_segment(alloc, text) {
-        Err(Failure::Syntax(stop)) if stop.left == 0 && !text.is_empty() => stop,
-        _ => Stop::at(text, expected),
+        Err(Failure::Syntax(stop)) if matches!(text, ['.' | '[', ..]) => Stop {
+            left: stop.left,
+            expected: in_singular(stop.expected),
+        },
+        _ => Stop::at(text, closed),
     }
 }
 
-/// Behind a condition, where neither an operator nor what closes it stands.
+/// Behind a condition, where what closes it does not stand, and where an operator does, behind a query that is not singular.
 pub(super) fn behind_condition(
     alloc: Global,
     condition: &Logical,
@@ -78,10 +70,15 @@ pub(super) fn behind_condition(
     compared: Expected,
     closed: Expected,
 ) -> Stop {
-    match what_may_follow(condition) {
-        Behind::Comparison => at_operator(text, compared),
-        Behind::Segment => at_segment(alloc, text, closed),
-        Behind::Nothing => Stop::at(text, closed),
+    match last_part(last_part(condition)) {
+        Logical::Exists(_) if operator(text).is_some() => Stop::at(text, Expected::SingularQuery),
+        Logical::Exists(path) if is_singular(&path.segments) => at_operator(text, compared),
+        Logical::Test(_) => at_operator(text, compared),
+        Logical::Compare {
+            right: Comparable::Single(_),
+            ..
+        } => at_segment(alloc, text, closed),
+        _ => Stop::at(text, closed),
     }
 }
 

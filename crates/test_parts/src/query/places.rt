@@ -155,25 +155,38 @@ fn places_of_texts_that_are_too_large(rt: HostRuntime) -> Result<(), Fail> {
 
 #[test]
 fn places_of_conditions(rt: HostRuntime) {
-    let texts: [(&str, QueryFault, usize, Option<Expected>); 9] = [
+    let texts: [(&str, QueryFault, usize, Option<Expected>); 12] = [
         ("", QueryFault::Syntax, 0, Some(Expected::Operand)),
+        (
+            "@.a == $[name]",
+            QueryFault::Syntax,
+            9,
+            Some(Expected::SingularSelector),
+        ),
+        (
+            "@..a == 1",
+            QueryFault::Syntax,
+            5,
+            Some(Expected::SingularQuery),
+        ),
+        ("1 == 1 1", QueryFault::Syntax, 7, Some(Expected::End)),
         (
             "@.a = 1",
             QueryFault::Syntax,
             4,
-            Some(Expected::EndOfCondition),
+            Some(Expected::ComparisonOrEnd),
         ),
         (
             "@.a,?@.b",
             QueryFault::Syntax,
             3,
-            Some(Expected::EndOfCondition),
+            Some(Expected::ComparisonOrEnd),
         ),
         (
             "@.a][0]",
             QueryFault::Syntax,
             3,
-            Some(Expected::EndOfCondition),
+            Some(Expected::ComparisonOrEnd),
         ),
         ("@.a == ", QueryFault::Syntax, 7, Some(Expected::Operand)),
         ("?@.a", QueryFault::Syntax, 0, Some(Expected::Operand)),
