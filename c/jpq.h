@@ -76,7 +76,7 @@ static inline const char *jpq_message(uint32_t status) {
 }
 
 /* Loads a copy of a collection of at most `most` bytes into the handle. What the handle had is freed first. JPQ_NUMBER, JPQ_SIZE,
- * JPQ_FRAMING and JPQ_MEMORY leave it shut. */
+ * JPQ_FRAMING and JPQ_MEMORY leave it shut; a collection that is too large or not framed is told as that, whatever memory there is. */
 uint32_t jpq_open(const uint8_t *collection, size_t collection_length, uint32_t framing, uint32_t most, jpq *handle);
 
 /* Runs the commands of a script over the collection, and keeps what they answer to be read. What was left of the answer before is
@@ -95,7 +95,8 @@ size_t jpq_read(jpq *handle, uint8_t *room, size_t room_length);
 /* Frees what the handle has. A second call does nothing. */
 void jpq_close(jpq *handle);
 
-/* jpq_open, and where that is done jpq_ask: a whole run of the program. */
+/* jpq_open, and where that is done jpq_ask: a whole run of the program. JPQ_NUMBER, JPQ_SIZE and JPQ_FRAMING leave the handle shut.
+ * After JPQ_SCRIPT it has the collection, and no answer. After JPQ_MEMORY it is shut, or as jpq_ask leaves it then. */
 uint32_t jpq_run(const uint8_t *collection, size_t collection_length, uint32_t framing, uint32_t most, const uint8_t *script,
                  size_t script_length, jpq *handle);
 
