@@ -62,7 +62,7 @@ fn framing_of(number: u32) -> Option<Framing>
     }
 }
 
-/// Loads a collection of at most so many bytes into the handle. What it had is freed.
+/// Loads a collection of at most `most` bytes into the handle. What it had is freed.
 ///
 /// The framing is 0 for lines and 1 for a text sequence (RFC 7464), and else the status is 2. It is 12 where the collection has
 /// more bytes, 13 where bytes other than white space come before the first separator of a sequence, and 16 where it is neither

@@ -26,8 +26,8 @@ pub struct Session {
 }
 
 impl Session {
-    /// A collection over which no command was run yet, and scripts of at most so many bytes. The store's meter goes to the
-    /// session.
+    /// A collection over which no command was run yet, and the most bytes that a script may have. The store's meter goes to
+    /// the session.
     pub fn new(alloc: Global, script_most: u32, mut store: Store) -> Session
         requires { store.is_metered ≡ false }
         ensures state { state_of result ≡ store.state }

@@ -15,7 +15,7 @@ use std::alloc::{AllocError, Global};
 /// The rows of a line, with its number, from 1.
 #[derive(Drop)]
 pub enum LineRows<'s> {
-    /// Rows of nodes: their places are the next so many.
+    /// Rows of nodes, and how many of the next places are theirs.
     Nodes {
         line: u32,
         view: LineView<'s>,

@@ -7,7 +7,7 @@ use std::io::{Read, Write};
 /// A number of calls that is not reached.
 pub(crate) const NEVER: u64 = u64::MAX;
 
-/// Gives at most so many bytes a call, and fails at one call.
+/// Gives a limited number of bytes a call, and fails at one call.
 #[derive(Drop)]
 pub(crate) struct Cutting {
     bytes: Vec<u8>,
@@ -88,7 +88,7 @@ impl Read for Endless {
     }
 }
 
-/// Takes at most so many bytes a call; one call fails, or takes nothing. It counts the flushes, of which one may fail.
+/// Takes a limited number of bytes a call; one call fails, or takes nothing. It counts the flushes, and one of them may fail.
 #[derive(Drop)]
 pub(crate) struct Taking {
     pub(crate) held: Vec<u8>,

@@ -15,7 +15,7 @@ const COLLECTION: &[u8] = b"{\"a\":1}\n";
 /// What `query $.a` answers over it.
 const OUTPUT: &[u8] = b"1\t$['a']\t1\n= 1\n";
 
-/// A collection of lines, with at most so many bytes in it and so many in the script.
+/// A collection of lines, with limits for its bytes and for those of the script.
 pub(super) const fn setup(most: u32, script_most: u32) -> Setup
     ensures { result.framing ≡ framings.Lines }
 {
@@ -166,7 +166,7 @@ fn a_run_that_ends_well_makes_no_call_too_many(rt: HostRuntime) -> Result<(), Fa
     Ok(())
 }
 
-/// Runs a script whose reads bring so many bytes each, and returns the end, the flushes, the bytes that were received, and the
+/// Runs a script whose reads bring a given number of bytes each, and returns the end, the flushes, the bytes that were received, and the
 /// calls of the writer after one that failed.
 fn flushed(
     alloc: Global,
@@ -222,7 +222,7 @@ fn answers_are_flushed_before_the_next_read(rt: HostRuntime) -> Result<(), Fail>
 
 #[test]
 fn no_read_goes_on_behind_the_byte_past_a_limit(rt: HostRuntime) -> Result<(), Fail> {
-    // The script has 30 bytes. Reads of at most so many bytes come to the byte past a limit of 15 in so many calls.
+    // The script has 30 bytes. Reads of at most N bytes come to the byte past a limit of 15 in 16 / N calls, rounded up.
     for (most, calls) in [(1, 16), (3, 6), (15, 2), (100, 1)] {
         let mut collection = Watched::new(Cutting::new(rt.alloc(), COLLECTION, 100, NEVER)?);
         let script = b"query $.a\nquery $.a\nquery $.a\n";

@@ -120,7 +120,7 @@ fn objects_have_their_members_by_name(rt: HostRuntime) -> Result<(), NoTape> {
     Ok(())
 }
 
-/// A text, one byte so many times, and another text.
+/// A text, one byte repeated, and another text.
 fn around(
     alloc: Global,
     front: &str,
@@ -164,7 +164,7 @@ fn values_may_nest_as_deep_as_they_are_read(rt: HostRuntime) -> Result<(), NoTap
     Ok(())
 }
 
-/// An object of so many members, from the least name on, or from the greatest.
+/// An object with a given number of members, from the least name on, or from the greatest.
 fn numbered(alloc: Global, count: u32, rises: bool) -> Result<Vec<u8>, AllocError> {
     let mut line = Vec::from_slice(alloc, b"{")?;
     for index in 0..count {

@@ -20,7 +20,7 @@ fn occurs(alloc: Global, pattern: &str, text: &str) -> Result<Option<bool>, Allo
     }
 }
 
-/// A text, so many times in a row.
+/// A text, repeated.
 fn repeated(alloc: Global, text: &str, count: usize) -> Result<String, AllocError> {
     let mut all = String::new(alloc);
     for _ in 0..count {

@@ -54,7 +54,7 @@ fn line_feeds_are_refused_elsewhere(rt: HostRuntime) {
     }
 }
 
-/// The front, then the part so many `times`, and then the back as often as `ends` says.
+/// The front, then the part repeated, and then the back as often as `ends` says.
 fn repeated(
     alloc: Global,
     front: &[u8],

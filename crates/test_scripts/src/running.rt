@@ -11,7 +11,7 @@ use std::io::Read;
 /// The most bytes that a read gives: few, about a block of 64 that is scanned, or all.
 const CUTS: [usize; 7] = [1, 2, 3, 63, 64, 65, usize::MAX];
 
-/// Gives at most so many bytes a read.
+/// Gives a limited number of bytes a read.
 #[derive(Drop)]
 struct Cutting<'a> {
     rest: &'a [u8],
@@ -44,7 +44,7 @@ struct Ran {
     after: u64,
 }
 
-/// Runs an example with readers that give at most so many bytes a read.
+/// Runs an example with readers that give a limited number of bytes a read.
 fn run_cut(alloc: Global, example: &Example, most: usize) -> Ran {
     let mut collection = Watched::new(Cutting::new(&example.collection, most));
     let mut script = Watched::new(Cutting::new(&example.script, most));

@@ -36,7 +36,7 @@ pub fn character_at(text: &[u8], at: usize) -> usize
     }
 }
 
-/// The byte at which so many scalars of a text are left.
+/// The byte of a text at which a number of its scalars are left.
 fn byte_of(text: &str, left: usize) -> usize {
     let mut place = text.len();
     for scalar in text.chars().rev().take(left) {
@@ -45,7 +45,7 @@ fn byte_of(text: &str, left: usize) -> usize {
     place
 }
 
-/// The byte past which a text is too large: the bracket past the limit, if so many are opened before it, or the last one
+/// The byte past which a text is too large: the bracket past the limit, if the text opens more than that, or the last one
 /// allowed.
 fn past_size(text: &[u8], before: usize) -> usize {
     let mut room = MAX_OPENED.saturating_sub(before);
