@@ -166,8 +166,8 @@ fn a_run_that_ends_well_makes_no_call_too_many(rt: HostRuntime) -> Result<(), Fa
     Ok(())
 }
 
-/// Runs a script whose reads bring a given number of bytes each, and returns the end, the flushes, the bytes that were received, and the
-/// calls of the writer after one that failed.
+/// Runs a script whose reads bring a given number of bytes each, and returns the end, the flushes, the bytes that were received,
+/// and the calls of the writer after one that failed.
 fn flushed(
     alloc: Global,
     script: &[u8],
