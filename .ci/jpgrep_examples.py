@@ -114,6 +114,13 @@ def devices(room):
     finally:
         endless.kill()
     check("endless lines and head -1", (run.stdout, run.stderr), (b'{"a":1}\n', b""))
+    for words, stated in ((["-m1", "$.a"], b'{"a":1}\n'), (["-q", "$.a"], b""), (["-l", "$.a"], b"(standard input)\n"), (["-m0", "$.a"], b"")):
+        endless = subprocess.Popen(["yes", '{"a":1}'], stdout=subprocess.PIPE)
+        try:
+            run = subprocess.run([PROGRAM, *words], stdin=endless.stdout, capture_output=True, timeout=SECONDS)
+        finally:
+            endless.kill()
+        check(f"endless lines and {words}", (run.stdout, run.stderr, run.returncode), (stated, b"", 1 if "-m0" in words else 0))
     # Lines that end about the ends of the pieces of 65,536 bytes that are read at once, and lines that are longer.
     lines = [b'"' + b"x" * (length - 2) + b'"\n' for length in (65_534, 65_535, 65_536, 3, 65_530, 200_000, 2, 131_072, 9)]
     check("lines about the ends of pieces", ended(["-n", "$"], room, b"".join(lines)),
@@ -136,7 +143,22 @@ def own_output(room):
 
 
 def first_bytes(room):
-    """A sequence whose first bytes are none is refused as they come. A byte order mark in two pieces is none the less one."""
+    """A sequence whose first bytes are none is refused as they come, and so is data of another format, whose mark may come byte by
+    byte. A byte order mark in two pieces is none the less one."""
+    gzip = b"jpgrep: (standard input): gzip data; unpack it first: zcat | jpgrep ..\n"
+    no_sequence = b"jpgrep: (standard input): bytes before first separator\n"
+    bytewise = ((["$"], b"\x1f\x8b", gzip), (["--seq", "$"], b"\x1f\x8b", gzip), (["--seq", "$"], b"\x1f\x08", no_sequence),
+                (["--seq", "$"], b"  \xef", no_sequence), (["--seq", "$"], b"\xef\xbb\xbe", no_sequence))
+    for words, pieces, stated in bytewise:
+        with subprocess.Popen([PROGRAM, *words], cwd=room, stdin=subprocess.PIPE, stdout=subprocess.PIPE, stderr=subprocess.PIPE) as run:
+            watch = threading.Timer(SECONDS, run.kill)
+            watch.start()
+            for piece in pieces:
+                run.stdin.write(bytes([piece]))
+                run.stdin.flush()
+                time.sleep(0.05)
+            check(f"{words} and the bytes {pieces.hex()} one by one", run.stderr.readline(), stated)
+            watch.cancel()
     words = [PROGRAM, "--seq", "$"]
     with subprocess.Popen(words, cwd=room, stdin=subprocess.PIPE, stdout=subprocess.PIPE, stderr=subprocess.PIPE) as run:
         watch = threading.Timer(SECONDS, run.kill)

@@ -3,11 +3,12 @@ use Rattle.std.proofs.Common.{◌≡◌, ◌∙◌, ◌-◌, ℕ, List, [], ◌+
 use Rattle.std.specs.Prelude.{IfErr, IsErrAnd, OnOk}
 use Rattle.jp_model.specs.declared.Framing.{Framing}
 use Rattle.jp_devices.specs.Devices.{Device, Received, Writes}
-use Rattle.jp_model.specs.Lines.{is_framed, without_byte_order_mark}
+use Rattle.jp_model.specs.Lines.{without_byte_order_mark}
 use Rattle.jp_masks.specs.Found.{lines_in}
 use Rattle.jp_devices.proofs.Chains.{ends_in_part}
 use Rattle.jp_grep.specs.Cuts.{EndsBetween, text_of}
-use Rattle.jp_grep.specs.Faults.{is_framing_fault, is_inner_fault}
+use Rattle.jp_grep.specs.Faults.{is_front_fault, is_inner_fault, is_input_fault}
+use Rattle.jp_grep.specs.Fronts.{AreRefused}
 use Rattle.jp_grep.specs.Positions.{IsAt}
 use Rattle.jp_grep.specs.Rows.{messages_from, output_from, selected_line}
 use Rattle.jp_grep.specs.Searching.{Answers, GoesOnBy, IsUnderWay}
@@ -19,7 +20,7 @@ use Rattle.jp_form.specs.declared.form.Form.{Form}
 use Rattle.jp_grep.specs.declared.progress.Progress.{Progress}
 use Rattle.jp_grep.specs.declared.question.Question.{Question}
 use Rattle.jp_grep.proofs.Counted.{none_up_to}
-use Rattle.jp_grep.proofs.Position.{cut_closed, grows, unframed}
+use Rattle.jp_grep.proofs.Position.{cut_closed, grows}
 use Rattle.jp_grep.proofs.Written.{none_written, part_so_far}
 
 -- ---- what is said of a result
@@ -41,22 +42,33 @@ pub whole_written : {W A E : Type 0} {contents : W → Option (List ℕ)} (r : R
 whole_written (Ok x) old new text w = w
 whole_written (Err e) old new text w = part_so_far old new text w
 
-inner_unframed : (fault : SearchFault) → is_inner_fault fault ≡ true → is_framing_fault fault ≡ true → ⊥
-inner_unframed faults.Read h e = cc
-inner_unframed faults.Framing h e = cc
-inner_unframed faults.Size h e = cc
-inner_unframed faults.Write h e = cc
-inner_unframed faults.Report h e = cc
-inner_unframed faults.Memory h e = cc
+inner_no_front : (fault : SearchFault) → is_inner_fault fault ≡ true → is_front_fault fault ≡ true → ⊥
+inner_no_front faults.Read h e = cc
+inner_no_front faults.Framing h e = cc
+inner_no_front (faults.Foreign format) h e = cc
+inner_no_front faults.Size h e = cc
+inner_no_front faults.Write h e = cc
+inner_no_front faults.Report h e = cc
+inner_no_front faults.Memory h e = cc
 
--- a fault of the search itself is none of the framing
-pub not_of_framing : (P : Type 0) (r : Result Unit SearchFault) (fault : SearchFault) → IsErrAnd r (λ e. e ≡ fault) → is_inner_fault fault ≡ true → IfErr r (λ e. is_framing_fault e ≡ true → P)
-not_of_framing P (Ok x) fault h inner = tt
-not_of_framing P (Err e) fault h inner = λ framing. absurd (inner_unframed e (ap is_inner_fault h ∙ inner) framing)
+-- a fault that is not one of what is read
+pub other_no_front : (fault : SearchFault) → false ≡ is_input_fault fault → is_front_fault fault ≡ true → ⊥
+other_no_front faults.Read h e = cc
+other_no_front faults.Framing h e = cc
+other_no_front (faults.Foreign format) h e = cc
+other_no_front faults.Size h e = cc
+other_no_front faults.Write h e = cc
+other_no_front faults.Report h e = cc
+other_no_front faults.Memory h e = cc
 
-pub inner_of_framing : (P : Type 0) (r : Result Unit SearchFault) → IfErr r (λ e. is_inner_fault e ≡ true) → IfErr r (λ e. is_framing_fault e ≡ true → P)
-inner_of_framing P (Ok x) h = tt
-inner_of_framing P (Err e) h = λ framing. absurd (inner_unframed e h framing)
+-- a fault of the search itself refuses no stream
+pub not_of_front : (P : SearchFault → Type 0) (r : Result Unit SearchFault) (fault : SearchFault) → IsErrAnd r (λ e. e ≡ fault) → is_inner_fault fault ≡ true → IfErr r (λ e. is_front_fault e ≡ true → P e)
+not_of_front P (Ok x) fault h inner = tt
+not_of_front P (Err e) fault h inner = λ front. absurd (inner_no_front e (ap is_inner_fault h ∙ inner) front)
+
+pub inner_of_front : (P : SearchFault → Type 0) (r : Result Unit SearchFault) → IfErr r (λ e. is_inner_fault e ≡ true) → IfErr r (λ e. is_front_fault e ≡ true → P e)
+inner_of_front P (Ok x) h = tt
+inner_of_front P (Err e) h = λ front. absurd (inner_no_front e h front)
 
 pub handed_on : (P : SearchFault → Type 0) (r : Result Unit SearchFault) (fault : SearchFault) → IsErrAnd r (λ e. e ≡ fault) → P fault → IfErr r P
 handed_on P (Ok x) fault h p = tt
@@ -93,17 +105,11 @@ all_first framing came held piece front rest answered first e h at = (
       ∙ sym (append-nil (answered ++ lines_in framing (text_of first (held ++ front)))),
 )
 
--- a front that is not framed
-pub front_unframed : (framing : Framing) (came held piece front rest : List ℕ) (answered : List (List ℕ)) (first : Bool) → piece ≡ front ++ rest → EndsBetween framing front rest → first ≡ true → is_framed framing (held ++ front) ≡ false
-    → IsAt framing came held answered first → (answered ≡ []) × (is_framed framing (came ++ piece) ≡ false)
-front_unframed framing came held piece front rest answered true e h f u at = (at.none, ap (λ l. is_framed framing (came ++ l)) e ∙ unframed framing came held front rest answered h at u)
-front_unframed framing came held piece front rest answered false e h f u at = absurd (cc)
-
--- where the front of a stream is held, it is no sequence if what is held and a piece are none
-pub held_unframed : (framing : Framing) (came held piece : List ℕ) (answered : List (List ℕ)) (first : Bool) → first ≡ true → is_framed framing (held ++ piece) ≡ false
-    → IsAt framing came held answered first → (answered ≡ []) × (is_framed framing (came ++ piece) ≡ false)
-held_unframed framing came held piece answered true e unframed at = (at.none, ap (λ l. is_framed framing (l ++ piece)) (sym at.same) ∙ unframed)
-held_unframed framing came held piece answered false e unframed at = absurd (cc)
+-- where the front of a stream is held, it is refused by what is held and a piece
+pub held_refused : (framing : Framing) (came held piece : List ℕ) (answered : List (List ℕ)) (first : Bool) (fault : SearchFault) → first ≡ true → AreRefused framing (held ++ piece) fault
+    → IsAt framing came held answered first → (answered ≡ []) × AreRefused framing (came ++ piece) fault
+held_refused framing came held piece answered true fault e refused at = (at.none, subst (λ l. AreRefused framing (l ++ piece) fault) at.same refused)
+held_refused framing came held piece answered false fault e refused at = absurd (cc)
 
 -- the lines are answered all the same, where a later step failed or the fault was handed on
 module _ (question : Question) (form : Form) {W E : Type 0} {rows_in : W → Option (List ℕ)} {messages_in : E → Option (List ℕ)} where

@@ -1,5 +1,7 @@
 -- Lemmas of jpgrep.
 pub mod Marked
+pub mod Formatted
+pub mod Fronted
 pub mod Cut
 pub mod Position
 pub mod Counted

@@ -1,6 +1,7 @@
 -- A byte order mark at the front of a text, and more behind it.
-use Rattle.std.proofs.Common.{◌≡◌, ℕ, List, [], ◌∷◌, ◌++◌, take, drop, Bool, true, false, refl, sym, ap, subst, ◌∙◌, ◌&&◌, if◌then◌else◌}
+use Rattle.std.proofs.Common.{◌≡◌, ℕ, List, [], ◌∷◌, ◌++◌, take, drop, Bool, true, false, refl, sym, ap, ap₂, subst, ◌∙◌, ◌&&◌, if◌then◌else◌}
 use Rattle.std.specs.Prelude.{eqb, bytes_eq}
+use Rattle.std.specs.List.{starts_with}
 use Rattle.std.proofs.lemmas.List.Elements.{All-drop}
 use Rattle.jp_model.specs.declared.Framing.{Framing}
 use Rattle.jp_model.specs.declared.Framing.TheVariants as framings
@@ -10,7 +11,7 @@ use Rattle.jp_grep.specs.Cuts.{EndsBetween}
 use Rattle.jp_grep.specs.Positions.{GoesOn}
 
 -- the mark
-abbrev Mark : List ℕ
+abbrev pub Mark : List ℕ
 Mark = 0xEF ∷ 0xBB ∷ 0xBF ∷ []
 
 more_behind : (b : Bool) (x y more : List ℕ) → (if b then x ++ more else (y ++ more)) ≡ (if b then x else y) ++ more
@@ -18,12 +19,16 @@ more_behind true x y more = refl
 more_behind false x y more = refl
 
 -- three bytes show whether it is there
-three : (a b c : ℕ) (text more : List ℕ) → GoesOn (a ∷ b ∷ c ∷ text) more
+pub three : (a b c : ℕ) (text more : List ℕ) → GoesOn (a ∷ b ∷ c ∷ text) more
 three a b c text more = more_behind (text_equal (a ∷ b ∷ c ∷ []) Mark) text (a ∷ b ∷ c ∷ text) more
 
 -- it is not there
 absent : (text : List ℕ) → text_equal (take 3 text) Mark ≡ false → without_byte_order_mark text ≡ text
 absent text e = ap (λ (b : Bool). if b then drop 3 text else text) e
+
+and_true : (a : Bool) → (a && true) ≡ a
+and_true true = refl
+and_true false = refl
 
 and_false : (a : Bool) → (a && false) ≡ false
 and_false true = refl
@@ -66,6 +71,30 @@ module _ (byte : ℕ) (first : eqb byte 0xEF ≡ false) (second : eqb byte 0xBB 
   still_ended (a ∷ []) = (a ∷ [], absent (a ∷ byte ∷ []) (at_second a []))
   still_ended (a ∷ b ∷ []) = (a ∷ b ∷ [], absent (a ∷ b ∷ byte ∷ []) (at_third a b []))
   still_ended (a ∷ b ∷ c ∷ text) = (without_byte_order_mark (a ∷ b ∷ c ∷ text), three a b c text (byte ∷ []))
+
+-- so do bytes that are no beginning of it
+pub settled_mark : (text more : List ℕ) → starts_with eqb Mark text ≡ false → GoesOn text more
+settled_mark [] more h = absurd (cc)
+settled_mark (a ∷ []) more h = by (eqb a 0xEF) refl
+  where
+    by : (v : Bool) → eqb a 0xEF ≡ v → GoesOn (a ∷ []) more
+    by true e = absurd (apart (sym (ap (λ b. b && true) e) ∙ h))
+      where
+        apart : true ≡ false → ⊥
+        apart g = cc
+    by false e = absent (a ∷ more) (ap (λ b. b && bytes_eq (take 2 more) (0xBB ∷ 0xBF ∷ [])) e) ∙ ap (λ l. l ++ more) (sym (absent (a ∷ []) (ap (λ b. b && false) e)))
+settled_mark (a ∷ b ∷ []) more h = by (eqb a 0xEF) (eqb b 0xBB) refl refl
+  where
+    either : (v w : Bool) → eqb a 0xEF ≡ v → eqb b 0xBB ≡ w → (v && w) ≡ false → GoesOn (a ∷ b ∷ []) more
+    either false w e f g = absent (a ∷ b ∷ more) (ap (λ t. t && (eqb b 0xBB && bytes_eq (take 1 more) (0xBF ∷ []))) e)
+        ∙ ap (λ l. l ++ more) (sym (absent (a ∷ b ∷ []) (ap (λ t. t && (eqb b 0xBB && false)) e)))
+    either true true e f g = absurd (cc)
+    either true false e f g = absent (a ∷ b ∷ more) (ap (λ t. eqb a 0xEF && (t && bytes_eq (take 1 more) (0xBF ∷ []))) f ∙ and_false (eqb a 0xEF))
+        ∙ ap (λ l. l ++ more) (sym (absent (a ∷ b ∷ []) (ap (λ t. eqb a 0xEF && (t && false)) f ∙ and_false (eqb a 0xEF))))
+
+    by : (v w : Bool) → eqb a 0xEF ≡ v → eqb b 0xBB ≡ w → GoesOn (a ∷ b ∷ []) more
+    by v w e f = either v w e f (ap₂ (λ (s t : Bool). s && t) (sym e) (sym f) ∙ ap (λ t. eqb a 0xEF && t) (sym (and_true (eqb b 0xBB))) ∙ h)
+settled_mark (a ∷ b ∷ c ∷ text) more h = three a b c text more
 
 -- where the last line ends in a text, a mark goes on behind it
 pub goes_on : (framing : Framing) (front rest more : List ℕ) → EndsBetween framing front rest → GoesOn front (rest ++ more)

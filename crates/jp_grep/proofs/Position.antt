@@ -1,5 +1,5 @@
 -- Which lines of the bytes that came are answered, and what is held of the others.
-use Rattle.std.proofs.Common.{◌≡◌, ◌∙◌, ℕ, List, [], ◌∷◌, ◌++◌, refl, sym, ap, subst, append_assoc, append-nil, Bool, true, false, arith}
+use Rattle.std.proofs.Common.{◌≡◌, ◌∙◌, ℕ, List, [], ◌∷◌, ◌++◌, refl, sym, ap, subst, append_assoc, append-nil, Bool, true, false, arith, inl, inr}
 use Rattle.std.proofs.lemmas.List.Elements.{All-append}
 use Rattle.jp_model.specs.declared.Framing.{Framing}
 use Rattle.jp_model.specs.declared.Framing.TheVariants as framings
@@ -7,13 +7,16 @@ use Rattle.jp_model.specs.Lines.{first_piece, is_blank, is_framed, is_separator,
 use Rattle.jp_masks.specs.Found.{lines_in}
 use Rattle.jp_grep.specs.Cuts.{EndsBetween, HasNoEnd, text_of}
 use Rattle.jp_grep.specs.Streams.{closed_in}
-use Rattle.jp_grep.specs.Positions.{IsAt, IsAtFront, IsBehind}
+use Rattle.jp_grep.specs.Formats.{format_of}
+use Rattle.jp_grep.specs.Fronts.{IsOfLines, MayGoOn}
+use Rattle.jp_grep.specs.Positions.{IsAt, IsBehind}
+use Rattle.jp_grep.proofs.Formatted.{begun_between, format_between, none_here}
 use Rattle.jp_grep.proofs.Marked.{goes_on, still_between, still_clear}
 use Rattle.jp_grep.proofs.Cut.{blank_front, closed_front, closed_grows, closed_nowhere, none_closed, parted}
 
 -- nothing came
 pub at_front : (framing : Framing) → IsAt framing [] [] [] true
-at_front framing = record { same = refl; none = refl; unended = λ k d l. absurd (omega arith) }
+at_front framing = record { same = refl; none = refl; unended = λ k d l. absurd (omega arith); front = record { format = none_here.1; framed = inl none_here.0 } }
 
 -- the lines that are answered are those that are closed
 pub closed_now : (framing : Framing) (came held : List ℕ) (answered : List (List ℕ)) (first : Bool) → IsAt framing came held answered first → closed_in framing (without_byte_order_mark came) ≡ answered
@@ -21,13 +24,15 @@ closed_now framing came held answered true h = closed_nowhere framing (without_b
 closed_now framing came held answered false h = h.closed
 
 -- bytes came in which no line ends
-pub held_more : (framing : Framing) (came held more : List ℕ) (answered : List (List ℕ)) (first : Bool) → HasNoEnd framing more → IsAt framing came held answered first → IsAt framing (came ++ more) (held ++ more) answered first
-held_more framing came held more answered true clear h = record {
+pub held_more : (framing : Framing) (came held more : List ℕ) (answered : List (List ℕ)) (first : Bool) → HasNoEnd framing more → (first ≡ true → MayGoOn framing (held ++ more)) → IsAt framing came held answered first
+    → IsAt framing (came ++ more) (held ++ more) answered first
+held_more framing came held more answered true clear goes h = record {
   same = ap (λ l. l ++ more) h.same;
   none = h.none;
   unended = All-append (λ byte. is_separator (separator_of framing) byte ≡ false) came more h.unended clear;
+  front = subst (λ l. MayGoOn framing (l ++ more)) h.same (goes refl);
 }
-held_more framing came held more answered false clear h = record {
+held_more framing came held more answered false clear goes h = record {
   mark = λ further.
       ap without_byte_order_mark (append_assoc came more further)
       ∙ h.mark (more ++ further)
@@ -39,7 +44,7 @@ held_more framing came held more answered false clear h = record {
       ∙ h.rest (more ++ further)
       ∙ ap (λ l. answered ++ lines_in framing l) (sym (append_assoc held more further));
   closed = ap (closed_in framing) (h.mark more) ∙ none_closed framing (without_byte_order_mark came) more clear ∙ h.closed;
-  framed = λ further. ap (is_framed framing) (append_assoc came more further) ∙ h.framed (more ++ further);
+  front = λ further. subst (λ l. IsOfLines framing l) (sym (append_assoc came more further)) (h.front (more ++ further));
 }
 
 framed_front : (framing : Framing) (front rest more : List ℕ) → EndsBetween framing front rest → is_framed framing (front ++ (rest ++ more)) ≡ is_framed framing front
@@ -48,13 +53,22 @@ framed_front framings.Sequence front rest more h =
     ap (λ l. is_blank (first_piece (pieces 30 l))) (goes_on framings.Sequence front rest more h)
     ∙ blank_front (without_byte_order_mark front) rest more (still_between framings.Sequence front rest h)
 
--- whether the front of a sequence is framed shows in what is in front of the cut
-pub framed_whole : (framing : Framing) (front rest : List ℕ) → EndsBetween framing front rest → is_framed framing (front ++ rest) ≡ is_framed framing front
-framed_whole framing front rest h = ap (λ l. is_framed framing (front ++ l)) (sym (append-nil rest)) ∙ framed_front framing front rest [] h
+-- where a line ended, the stream is one of lines, whatever follows
+front_lines : (framing : Framing) (front rest more : List ℕ) → EndsBetween framing front rest → MayGoOn framing (front ++ rest) → IsOfLines framing (front ++ (rest ++ more))
+front_lines framing front rest more h may = record {
+  format = format_between framing front rest more h ∙ may.format;
+  framed = elim may.framed [
+    | inl begun ↦ absurd (apart (sym begun ∙ begun_between framing front rest h))
+    | inr framed ↦ framed_front framing front rest more h ∙ sym (framed_front framing front rest framed.0 h) ∙ ap (is_framed framing) (sym (append_assoc front rest framed.0)) ∙ framed.1
+  ];
+}
+  where
+    apart : true ≡ false → ⊥
+    apart e = cc
 
 -- a line ended, the first one
-behind_first : (framing : Framing) (front rest : List ℕ) → EndsBetween framing front rest → is_framed framing front ≡ true → IsBehind framing (front ++ rest) rest (lines_in framing (without_byte_order_mark front))
-behind_first framing front rest h framed =
+behind_first : (framing : Framing) (front rest : List ℕ) → EndsBetween framing front rest → MayGoOn framing (front ++ rest) → IsBehind framing (front ++ rest) rest (lines_in framing (without_byte_order_mark front))
+behind_first framing front rest h may =
     let text = without_byte_order_mark front in
     let marked : without_byte_order_mark (front ++ rest) ≡ text ++ rest = ap (λ l. without_byte_order_mark (front ++ l)) (sym (append-nil rest)) ∙ goes_on framing front rest [] h ∙ ap (λ l. text ++ l) (append-nil rest) in
     let between = still_between framing front rest h in
@@ -62,7 +76,7 @@ behind_first framing front rest h framed =
       mark = λ more. ap without_byte_order_mark (append_assoc front rest more) ∙ goes_on framing front rest more h ∙ sym (append_assoc text rest more) ∙ sym (ap (λ l. l ++ more) marked);
       rest = λ more. ap (λ l. lines_in framing (l ++ more)) marked ∙ ap (lines_in framing) (append_assoc text rest more) ∙ parted framing text rest more between;
       closed = ap (closed_in framing) marked ∙ closed_front framing text rest between;
-      framed = λ more. ap (is_framed framing) (append_assoc front rest more) ∙ framed_front framing front rest more h ∙ framed;
+      front = λ more. subst (λ l. IsOfLines framing l) (sym (append_assoc front rest more)) (front_lines framing front rest more h may);
     }
 
 -- the cut among the bytes that came last is one of all bytes
@@ -90,21 +104,22 @@ behind_more framing came held front rest answered h at =
           ∙ parted framing (text ++ front) rest further (still_cut framing text front rest h)
           ∙ ap (λ ls. ls ++ lines_in framing (rest ++ further)) sum;
       closed = ap (closed_in framing) (at.mark more ∙ sym (append_assoc text front rest)) ∙ closed_front framing (text ++ front) rest (still_cut framing text front rest h) ∙ sum;
-      framed = λ further. ap (is_framed framing) (append_assoc came more further) ∙ at.framed (more ++ further);
+      front = λ further. subst (λ l. IsOfLines framing l) (sym (append_assoc came more further)) (at.front (more ++ further));
     }
 
 -- the bytes that came last were cut, and the lines in front of the cut were answered
 pub cut_off : (framing : Framing) (came held front rest : List ℕ) (answered : List (List ℕ)) (first : Bool) → EndsBetween framing front rest → IsAt framing came held answered first
-    → (first ≡ true → is_framed framing (held ++ front) ≡ true)
+    → (first ≡ true → MayGoOn framing (held ++ (front ++ rest)))
     → IsAt framing (came ++ (front ++ rest)) rest (answered ++ lines_in framing (text_of first (held ++ front))) false
-cut_off framing came held front rest answered true h at framed =
+cut_off framing came held front rest answered true h at goes =
     let all = came ++ front in
     let same : held ++ front ≡ all = ap (λ l. l ++ front) at.same in
-    let behind = behind_first framing all rest (still_cut framing came front rest h) (ap (is_framed framing) (sym same) ∙ framed refl) in
+    let whole : held ++ (front ++ rest) ≡ all ++ rest = sym (append_assoc held front rest) ∙ ap (λ l. l ++ rest) same in
+    let behind = behind_first framing all rest (still_cut framing came front rest h) (subst (λ l. MayGoOn framing l) whole (goes refl)) in
     subst (λ (ls : List (List ℕ)). IsBehind framing (came ++ (front ++ rest)) rest ls)
     (ap (λ l. lines_in framing (without_byte_order_mark l)) (sym same) ∙ sym (ap (λ ls. ls ++ lines_in framing (without_byte_order_mark (held ++ front))) at.none))
     (subst (λ (l : List ℕ). IsBehind framing l rest (lines_in framing (without_byte_order_mark all))) (append_assoc came front rest) behind)
-cut_off framing came held front rest answered false h at framed = behind_more framing came held front rest answered h at
+cut_off framing came held front rest answered false h at goes = behind_more framing came held front rest answered h at
 
 lines_marked : (framing : Framing) (bytes : List ℕ) → lines framing bytes ≡ lines_in framing (without_byte_order_mark bytes)
 lines_marked framings.Lines bytes = refl
@@ -124,7 +139,12 @@ all_answered framing came held answered false at =
 
 pub all_framed : (framing : Framing) (came held : List ℕ) (answered : List (List ℕ)) (first : Bool) → IsAt framing came held answered first → (first ≡ true → is_framed framing held ≡ true) → is_framed framing came ≡ true
 all_framed framing came held answered true at framed = ap (is_framed framing) (sym at.same) ∙ framed refl
-all_framed framing came held answered false at framed = ap (is_framed framing) (sym (append-nil came)) ∙ at.framed []
+all_framed framing came held answered false at framed = ap (is_framed framing) (sym (append-nil came)) ∙ (at.front []).framed
+
+-- what came goes on as lines
+pub goes_as_lines : (framing : Framing) (came held : List ℕ) (answered : List (List ℕ)) (first : Bool) → IsAt framing came held answered first → MayGoOn framing came
+goes_as_lines framing came held answered true at = at.front
+goes_as_lines framing came held answered false at = record { format = ap format_of (sym (append-nil came)) ∙ (at.front []).format; framed = inr ([], (at.front []).framed) }
 
 -- more lines may close in more bytes, and those that are answered stay the first
 pub grows : (framing : Framing) (came held more : List ℕ) (answered : List (List ℕ)) (first : Bool) → IsAt framing came held answered first
@@ -133,15 +153,6 @@ grows framing came held more answered true at = (closed_in framing (without_byte
 grows framing came held more answered false at =
     let grown = closed_grows framing (without_byte_order_mark came) more in
     (grown.0, ap (closed_in framing) (at.mark more) ∙ grown.1 ∙ ap (λ ls. ls ++ grown.0) at.closed)
-
--- the front of a sequence that is not framed stays so
-pub unframed : (framing : Framing) (came held front rest : List ℕ) (answered : List (List ℕ)) → EndsBetween framing front rest → IsAtFront framing came held answered
-    → is_framed framing (held ++ front) ≡ false → is_framed framing (came ++ (front ++ rest)) ≡ false
-unframed framing came held front rest answered h at e =
-    ap (is_framed framing) (sym (append_assoc came front rest))
-    ∙ framed_whole framing (came ++ front) rest (still_cut framing came front rest h)
-    ∙ ap (λ l. is_framed framing (l ++ front)) (sym at.same)
-    ∙ e
 
 -- the lines that are closed by the bytes that came last are those in front of the cut
 pub cut_closed : (framing : Framing) (came held front rest : List ℕ) (answered : List (List ℕ)) (first : Bool) → EndsBetween framing front rest → IsAt framing came held answered first
@@ -156,3 +167,19 @@ cut_closed framing came held front rest answered true h at =
     ∙ ap (λ l. lines_in framing (without_byte_order_mark (l ++ front))) (sym at.same)
     ∙ sym (ap (λ ls. ls ++ lines_in framing (without_byte_order_mark (held ++ front))) at.none)
 cut_closed framing came held front rest answered false h at = (behind_more framing came held front rest answered h at).closed
+
+-- the front of a stream that is held goes on as lines, and no line ends in it
+pub front_goes : (framing : Framing) (came held : List ℕ) (answered : List (List ℕ)) (first : Bool) → IsAt framing came held answered first → first ≡ true → MayGoOn framing held
+front_goes framing came held answered true at e = subst (λ l. MayGoOn framing l) (sym at.same) at.front
+front_goes framing came held answered false at e = absurd (cc)
+
+pub front_unended : (framing : Framing) (came held : List ℕ) (answered : List (List ℕ)) (first : Bool) → IsAt framing came held answered first → first ≡ true → HasNoEnd framing held
+front_unended framing came held answered true at e = subst (λ l. HasNoEnd framing l) (sym at.same) at.unended
+front_unended framing came held answered false at e = absurd (cc)
+
+-- the stream ended, and its front is framed
+pub ends_as_lines : (framing : Framing) (came held : List ℕ) (answered : List (List ℕ)) (first : Bool) → IsAt framing came held answered first → (first ≡ true → is_framed framing held ≡ true) → IsOfLines framing came
+ends_as_lines framing came held answered first at framed = record {
+  format = (goes_as_lines framing came held answered first at).format;
+  framed = all_framed framing came held answered first at framed;
+}

@@ -1,14 +1,16 @@
 -- What is answered of a stream so far, and what a step makes of it.
-use Rattle.std.proofs.Common.{◌≡◌, ◌∙◌, ◌+◌, ◌-◌, ◌<◌, ◌^◌, ℕ, List, [], ◌++◌, length, refl, sym, ap, ap₂, subst, append_assoc, append-nil, length-append, arith, Bool, true, false, ◌||◌, ◌&&◌, eqb, ltb, Option, Result, Ok, Err, inl, inr}
+use Rattle.std.proofs.Common.{◌≡◌, ◌∙◌, ◌+◌, ◌-◌, ◌<◌, ◌≤◌, ◌^◌, ℕ, List, [], ◌++◌, length, refl, sym, ap, ap₂, subst, append_assoc, append-nil, length-append, arith, Bool, true, false, ◌||◌, ◌&&◌, eqb, ltb, Option, Result, Ok, Err, inl, inr}
 use Rattle.std.specs.Prelude.{IsErrAnd, MatchResult, not}
-use Rattle.std.proofs.lemmas.Bool.{eq-eqb, lt-ltb, ne_eqb}
+use Rattle.std.proofs.lemmas.Bool.{eq-eqb, false≢true, lt-ltb, ne_eqb}
 use Rattle.jp_devices.specs.Devices.{Came, Device, HasEnded, Received, has_no_room, one_more_where}
 use Rattle.jp_model.specs.Lines.{is_framed, lines}
 use Rattle.jp_devices.proofs.Devices.{CameToEnd, came_so, was_ended}
 use Rattle.jp_masks.specs.Found.{lines_in}
 use Rattle.jp_devices.proofs.Chains.{Part, both_received, part_more}
 use Rattle.jp_grep.specs.Cuts.{text_of}
-use Rattle.jp_grep.specs.Faults.{is_framing_fault, is_input_fault, is_read_fault}
+use Rattle.jp_grep.specs.Faults.{is_front_fault, is_input_fault, is_read_fault}
+use Rattle.jp_grep.specs.Fronts.{IsOfLines, IsRefused}
+use Rattle.jp_grep.specs.Inputs.{WantsMore}
 use Rattle.jp_grep.specs.Positions.{IsAt}
 use Rattle.jp_grep.specs.Rows.{messages_from, output_from, refused_count, refused_line, selected_count, selected_line, summary_of}
 use Rattle.jp_grep.specs.Searching.{Answers, GoesOnBy, HasAnswered}
@@ -21,7 +23,7 @@ use Rattle.jp_grep.specs.declared.progress.Progress.{Progress}
 use Rattle.jp_grep.specs.declared.question.Question.{Question}
 use Rattle.jp_grep.specs.declared.stream.Stream.{Stream}
 use Rattle.jp_grep.proofs.Counted.{count-append, messages-append, none_up_to, output-append, up_to-append}
-use Rattle.jp_grep.proofs.Position.{all_answered, all_framed, at_front, closed_now}
+use Rattle.jp_grep.proofs.Position.{all_answered, all_framed, at_front, closed_now, goes_as_lines}
 use Rattle.jp_grep.proofs.Written.{none_received, part_next, part_so_far}
 
 -- an error that is handed on
@@ -144,6 +146,8 @@ module _ (question : Question) (form : Form) where
     enough_selected stream progress out0 out1 told0 told1 came lines failed so e =
         let is = ap (answered_of question form 0) (sym (come stream progress out0 out1 told0 told1 came lines so)) in
         record {
+          format = (goes_as_lines form.framing came stream.held.items lines stream.is_first so.position).format;
+          framed = λ ended. absurd (false≢true ended);
           all = all_so_far stream progress out0 out1 told0 told1 came lines failed so;
           selected = so.selected ∙ ap (selected_count question form.framing) is;
           refused = so.refused ∙ ap (refused_count form.framing) is;
@@ -191,26 +195,40 @@ module _ (question : Question) (form : Form) where
           messages = part_so_far told0 told1 _ so.messages;
         })
 
-    -- a fault of neither the framing nor a read
-    pub stopped_in_part : (out0 out1 : Device W) (told0 told1 : Device E) (fault : SearchFault) (came : Came) → is_input_fault fault ≡ false
+    -- a fault that is none of what is read
+    pub stopped_in_part : (out0 out1 : Device W) (told0 told1 : Device E) (fault : SearchFault) (came : Came) → is_input_fault fault ≡ false → (came.ended ≡ true → IsOfLines form.framing came.bytes)
         → AnsweredInPart rows_in messages_in question form out0 out1 told0 told1 (answered question form came) → SearchStopped rows_in messages_in question form out0 out1 told0 told1 fault came
-    stopped_in_part out0 out1 told0 told1 faults.Read came e h = absurd (cc)
-    stopped_in_part out0 out1 told0 told1 faults.Framing came e h = absurd (cc)
-    stopped_in_part out0 out1 told0 told1 faults.Size came e h = h
-    stopped_in_part out0 out1 told0 told1 faults.Write came e h = h
-    stopped_in_part out0 out1 told0 told1 faults.Report came e h = h
-    stopped_in_part out0 out1 told0 told1 faults.Memory came e h = h
+    stopped_in_part out0 out1 told0 told1 faults.Read came e l h = absurd (cc)
+    stopped_in_part out0 out1 told0 told1 faults.Framing came e l h = absurd (cc)
+    stopped_in_part out0 out1 told0 told1 (faults.Foreign format) came e l h = absurd (cc)
+    stopped_in_part out0 out1 told0 told1 faults.Size came e l h = (l, h)
+    stopped_in_part out0 out1 told0 told1 faults.Write came e l h = (l, h)
+    stopped_in_part out0 out1 told0 told1 faults.Report came e l h = (l, h)
+    stopped_in_part out0 out1 told0 told1 faults.Memory came e l h = (l, h)
 
-    -- a fault of the framing, before which nothing was written, or another one
+    -- a fault by which the stream is refused as a whole, before which nothing was written, or another one
     pub stopped_by : (out0 out1 : Device W) (told0 told1 : Device E) (fault : SearchFault) (came : Came) → false ≡ is_read_fault fault
-        → (is_framing_fault fault ≡ true → (is_framed form.framing came.bytes ≡ false) × Answered rows_in messages_in question form out0 out1 told0 told1 [])
+        → (is_front_fault fault ≡ true → IsRefused form.framing came fault × Answered rows_in messages_in question form out0 out1 told0 told1 []) → (came.ended ≡ true → IsOfLines form.framing came.bytes)
         → AnsweredInPart rows_in messages_in question form out0 out1 told0 told1 (answered question form came) → SearchStopped rows_in messages_in question form out0 out1 told0 told1 fault came
-    stopped_by out0 out1 told0 told1 faults.Read came e framing h = absurd (cc)
-    stopped_by out0 out1 told0 told1 faults.Framing came e framing h = framing refl
-    stopped_by out0 out1 told0 told1 faults.Size came e framing h = h
-    stopped_by out0 out1 told0 told1 faults.Write came e framing h = h
-    stopped_by out0 out1 told0 told1 faults.Report came e framing h = h
-    stopped_by out0 out1 told0 told1 faults.Memory came e framing h = h
+    stopped_by out0 out1 told0 told1 faults.Read came e front l h = absurd (cc)
+    stopped_by out0 out1 told0 told1 faults.Framing came e front l h = front refl
+    stopped_by out0 out1 told0 told1 (faults.Foreign format) came e front l h = front refl
+    stopped_by out0 out1 told0 told1 faults.Size came e front l h = (l, h)
+    stopped_by out0 out1 told0 told1 faults.Write came e front l h = (l, h)
+    stopped_by out0 out1 told0 told1 faults.Report came e front l h = (l, h)
+    stopped_by out0 out1 told0 told1 faults.Memory came e front l h = (l, h)
+
+    -- fewer lines are selected than are wanted of what came
+    pub wants_more : (stream : Stream) (progress : Progress) (out0 out1 : Device W) (told0 told1 : Device E) (came : List ℕ) (lines : List (List ℕ)) → SoFar stream progress out0 out1 told0 told1 came lines → (progress.counts.selected ≡ form.most → ⊥)
+        → WantsMore question form came
+    wants_more stream progress out0 out1 told0 told1 came lines so other = record {
+      front = goes_as_lines form.framing came stream.held.items lines stream.is_first so.position;
+      fewer = subst (λ ls. selected_count question form.framing (answered_of question form 0 ls) < form.most) (sym (come stream progress out0 out1 told0 told1 came lines so))
+          (fewer progress.counts.selected form.most _ so.under_way.wanted other so.selected);
+    }
+      where
+        fewer : (selected most count : ℕ) → selected ≤ most → (selected ≡ most → ⊥) → selected ≡ count → count < most
+        fewer selected most count l e is = omega (arith, l, e, is)
 
     -- nothing at all was written
     pub none_so_far : (stream : Stream) (progress : Progress) (out0 out1 out2 : Device W) (told0 told1 told2 : Device E) (came : List ℕ) (lines : List (List ℕ)) → SoFar stream progress out0 out1 told0 told1 came lines → lines ≡ [] → out2 ≡ out1 → told2 ≡ told1
@@ -250,13 +268,15 @@ module _ (question : Question) (form : Form) where
         let all = all_answered form.framing came stream.held.items lines stream.is_first so.position in
         let is = ap (answered_of question form 0) (sym all) in
         record {
+          format = (goes_as_lines form.framing came stream.held.items lines stream.is_first so.position).format;
+          framed = λ ended. all_framed form.framing came stream.held.items lines stream.is_first so.position framed;
           all = subst (λ ls. Answered rows_in messages_in question form out0 out2 told0 told2 ls) is (record {
             rows = subst (λ t. Received rows_in out0 out2 t) (sym (rows_sum lines more before so.number so.selected)) (both_received out0 out1 out2 _ _ so.rows answers.rows);
             messages = subst (λ t. Received messages_in told0 told2 t) (sym (messages_sum lines more before so.number so.selected)) (both_received told0 told1 told2 _ _ so.messages answers.messages);
           });
           selected = selected_sum lines more before so.number so.selected after answers.progress ∙ ap (selected_count question form.framing) is;
           refused = refused_sum lines more before so.number so.selected after so.refused answers.progress ∙ ap (refused_count form.framing) is;
-          end = inl (refl, all_framed form.framing came stream.held.items lines stream.is_first so.position framed);
+          end = inl refl;
         }
 
     -- the stream ended, and the lines of what was held were not all answered

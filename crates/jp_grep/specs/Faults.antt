@@ -22,6 +22,7 @@ is_read_fault _ = false
 abbrev pub is_input_fault : SearchFault → Bool
 is_input_fault faults.Read = true
 is_input_fault faults.Framing = true
+is_input_fault (faults.Foreign format) = true
 is_input_fault _ = false
 
 -- the fault is of this kind exactly where so much is said: never at Ok
@@ -34,7 +35,8 @@ is_inner_fault faults.Size = true
 is_inner_fault faults.Memory = true
 is_inner_fault _ = false
 
--- the fault that says that a sequence is not framed
-abbrev pub is_framing_fault : SearchFault → Bool
-is_framing_fault faults.Framing = true
-is_framing_fault _ = false
+-- a fault by which a stream is refused as a whole: it is not framed, or data of another format
+abbrev pub is_front_fault : SearchFault → Bool
+is_front_fault faults.Framing = true
+is_front_fault (faults.Foreign format) = true
+is_front_fault _ = false

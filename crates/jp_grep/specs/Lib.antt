@@ -5,7 +5,10 @@ pub mod Tables
 pub mod Held
 pub mod Rows
 pub mod Streams
+pub mod Formats
+pub mod Fronts
 pub mod Watching
+pub mod Inputs
 pub mod Cuts
 pub mod Progress
 pub mod Faults

@@ -1,8 +1,9 @@
 -- What the steps of a search come to.
-use Rattle.std.specs.Prelude.{◌≡◌, ℕ, ◌+◌, ◌<◌, ◌≤◌, ◌^◌, List, [], ◌++◌, length, true, false, Option, Result, OnOk, IfErr}
+use Rattle.std.specs.Prelude.{◌≡◌, ℕ, ◌+◌, ◌<◌, ◌≤◌, ◌^◌, List, [], ◌++◌, length, true, Option, Result, OnOk, IfErr}
 use Rattle.jp_devices.specs.Devices.{Device, Received, Writes}
-use Rattle.jp_model.specs.Lines.{is_framed, without_byte_order_mark}
-use Rattle.jp_grep.specs.Faults.{is_framing_fault}
+use Rattle.jp_model.specs.Lines.{without_byte_order_mark}
+use Rattle.jp_grep.specs.Faults.{is_front_fault}
+use Rattle.jp_grep.specs.Fronts.{AreRefused}
 use Rattle.jp_grep.specs.Positions.{IsAt}
 use Rattle.jp_grep.specs.Rows.{messages_from, output_from, refused_count, selected_count}
 use Rattle.jp_grep.specs.Streams.{closed_in}
@@ -41,8 +42,8 @@ module _ {W E : Type 0} (rows_in : W → Option (List ℕ)) (messages_in : E →
         → IsAt form.framing (came ++ piece) stream1.held.items (answered ++ lines) stream1.is_first)
     pub first : (came : List ℕ) (answered : List (List ℕ)) → IsAt form.framing came stream0.held.items answered stream0.is_first
         → (others : List (List ℕ)) × (closed_in form.framing (without_byte_order_mark (came ++ piece)) ≡ (answered ++ lines) ++ others)
-    pub unframed : IfErr result (λ fault. is_framing_fault fault ≡ true → (out1 ≡ out0) × (told1 ≡ told0)
-        × ((came : List ℕ) (answered : List (List ℕ)) → IsAt form.framing came stream0.held.items answered stream0.is_first → (answered ≡ []) × (is_framed form.framing (came ++ piece) ≡ false)))
+    pub refused : IfErr result (λ fault. is_front_fault fault ≡ true → (out1 ≡ out0) × (told1 ≡ told0)
+        × ((came : List ℕ) (answered : List (List ℕ)) → IsAt form.framing came stream0.held.items answered stream0.is_first → (answered ≡ []) × AreRefused form.framing (came ++ piece) fault))
 
   -- The stream came so far: these bytes, and these lines are answered.
   pub record HasAnswered (question : Question) (form : Form) (stream : Stream) (progress : Progress) (out0 out1 : Device W) (told0 told1 : Device E) (came : List ℕ) (answered : List (List ℕ)) : Type 0 where

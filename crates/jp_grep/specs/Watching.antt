@@ -1,7 +1,9 @@
 -- What passed in a search, by the fault that it answers.
-use Rattle.std.specs.Prelude.{◌≡◌, ℕ, ◌-◌, List, [], ◌++◌, true, false, Option, ◌⊎◌}
+use Rattle.std.specs.Prelude.{◌≡◌, ℕ, ◌-◌, List, [], ◌++◌, true, false, Option, None, ◌⊎◌}
 use Rattle.jp_devices.specs.Devices.{Begins, Came, Device, Received}
 use Rattle.jp_model.specs.Lines.{is_framed}
+use Rattle.jp_grep.specs.Formats.{format_of}
+use Rattle.jp_grep.specs.Fronts.{IsOfLines, IsRefused}
 use Rattle.jp_grep.specs.Rows.{messages_from, output_from, refused_count, selected_count, selected_line, summary_of}
 use Rattle.jp_grep.specs.Streams.{lines_come, up_to}
 use Rattle.jp_grep.specs.declared.fault.SearchFault.{SearchFault}
@@ -36,21 +38,31 @@ module _ {W E : Type 0} (rows_in : W → Option (List ℕ)) (messages_in : E →
   -- What passed while the lines of a stream were answered up to its end, or up to the last line that is wanted: all is
   -- answered.
   pub record SearchedLines (question : Question) (form : Form) (out0 out1 : Device W) (told0 told1 : Device E) (came : Came) (counts : Counts) : Type 0 where
+    pub format : format_of came.bytes ≡ None
+    pub framed : came.ended ≡ true → is_framed form.framing came.bytes ≡ true
     pub all : Answered question form out0 out1 told0 told1 (answered question form came)
     pub selected : counts.selected ≡ selected_count question form.framing (answered question form came)
     pub refused : counts.refused ≡ refused_count form.framing (answered question form came)
-    pub end : (came.ended ≡ true) × (is_framed form.framing came.bytes ≡ true) ⊎ (counts.selected ≡ form.most)
+    pub end : (came.ended ≡ true) ⊎ (counts.selected ≡ form.most)
 
   -- What passed in a search that came to its end: the stream ended, or as many lines were selected as are wanted.
   pub record Searched (question : Question) (form : Form) (out0 out1 : Device W) (told0 told1 : Device E) (came : Came) (counts : Counts) : Type 0 where
+    pub format : format_of came.bytes ≡ None
+    pub framed : came.ended ≡ true → is_framed form.framing came.bytes ≡ true
     pub rows : Received rows_in out0 out1 (whole_output question form (answered question form came))
     pub messages : Received messages_in told0 told1 (messages_from form 1 (answered question form came))
     pub selected : counts.selected ≡ selected_count question form.framing (answered question form came)
     pub refused : counts.refused ≡ refused_count form.framing (answered question form came)
-    pub end : (came.ended ≡ true) × (is_framed form.framing came.bytes ≡ true) ⊎ (counts.selected ≡ form.most)
+    pub end : (came.ended ≡ true) ⊎ (counts.selected ≡ form.most)
 
-  -- What passed in one that stopped, by the fault. A failed read leaves no line unanswered whose end came.
+  -- What passed in one that stopped, by the fault. A failed read leaves no line unanswered whose end came. Of a stream that is
+  -- refused as a whole nothing is answered. After any other fault the stream is one of lines, if it had ended.
   abbrev pub SearchStopped : Question → Form → Device W → Device W → Device E → Device E → SearchFault → Came → Type 0
-  SearchStopped question form out0 out1 told0 told1 faults.Read came = (came.ended ≡ false) × Answered question form out0 out1 told0 told1 (answered question form came)
-  SearchStopped question form out0 out1 told0 told1 faults.Framing came = (is_framed form.framing came.bytes ≡ false) × Answered question form out0 out1 told0 told1 []
-  SearchStopped question form out0 out1 told0 told1 fault came = AnsweredInPart question form out0 out1 told0 told1 (answered question form came)
+  SearchStopped question form out0 out1 told0 told1 faults.Read came =
+      (came.ended ≡ false) × (format_of came.bytes ≡ None) × Answered question form out0 out1 told0 told1 (answered question form came)
+  SearchStopped question form out0 out1 told0 told1 faults.Framing came =
+      IsRefused form.framing came faults.Framing × Answered question form out0 out1 told0 told1 []
+  SearchStopped question form out0 out1 told0 told1 (faults.Foreign format) came =
+      IsRefused form.framing came (faults.Foreign format) × Answered question form out0 out1 told0 told1 []
+  SearchStopped question form out0 out1 told0 told1 fault came =
+      (came.ended ≡ true → IsOfLines form.framing came.bytes) × AnsweredInPart question form out0 out1 told0 told1 (answered question form came)

@@ -1,5 +1,7 @@
 //! Why a search stopped.
 
+use crate::format::Format;
+
 /// Why a search stopped before the end of its stream.
 #[derive(Clone, Copy, Debug, PartialEq, Eq)]
 pub enum SearchFault {
@@ -7,6 +9,8 @@ pub enum SearchFault {
     Read,
     /// Bytes other than white space come before the first separator of a sequence.
     Framing,
+    /// The stream begins with the mark of another format.
+    Foreign(Format),
     /// A line is longer than 4,294,967,294 bytes, or there are more lines or reads than a number of 64 bits counts.
     Size,
     /// A row was not written: a write failed or took no byte, or a flush failed.

@@ -4,13 +4,15 @@
 //!
 //! - `Question`: the queries and the conditions that a line is asked
 //! - `Form`, `Shown`, `Spelling`, `Table`, `Summary`: what is written of a stream, of the crate `jp_form`
-//! - `search`, `SearchFault`: the lines of a stream, each answered as it comes
+//! - `search`, `Input`, `SearchFault`, `Format`: the lines of a stream, each answered as it comes
 //! - `Run`, `Finished`: the streams in turn, through two buffers that are written out at the end
 #![tactic(auto)]
 
 mod answer;
 mod fault;
+mod format;
 mod header;
+mod input;
 pub mod laws;
 mod outlet;
 mod progress;
@@ -24,6 +26,8 @@ mod stream;
 mod table;
 
 pub use fault::SearchFault;
+pub use format::Format;
+pub use input::Input;
 pub use jp_form::{Form, Shown, Spelling, Summary, Table};
 pub use jp_model::Framing;
 pub use progress::Counts;

@@ -4,12 +4,14 @@ ghost use Rattle.std.specs.Prelude.{◌≡◌, ◌&&◌, ◌||◌, false, true, 
 ghost use Rattle.jp_devices.specs.Devices.{Came, GaveUpTo, Writes};
 ghost use Rattle.jp_devices.specs.Buffered.{Took, filled, untold};
 ghost use Rattle.jp_grep.specs.Ends.{NotesSearch, status_of};
+ghost use Rattle.jp_grep.specs.Inputs.{ReadOn};
 ghost use Rattle.jp_grep.specs.Faults.{IsToldOf, is_input_fault, is_read_fault, is_report_fault, is_write_fault};
 ghost use Rattle.jp_grep.specs.Tables.{header_text};
 ghost use Rattle.jp_grep.specs.Watching.{SearchStopped, Searched};
 
 use crate::fault::SearchFault;
 use crate::header::write_header;
+use crate::input::Input;
 use crate::progress::Counts;
 use crate::question::Question;
 use crate::searching::search;
@@ -138,22 +140,24 @@ impl<'q, W: Write + Drop, E: Write + Drop> Run<'q, W, E> {
     pub fn search<R: Read>(
         &mut self,
         form: &Form<'_>,
-        input: &mut Watched<R>,
+        input: &mut Input<R>,
     ) -> Result<Counts, SearchFault>
-        requires reads { input.old.failed ≡ false }
-        requires unended { input.old.ended ≡ false }
+        requires reads { input.old.reader.failed ≡ false }
+        requires unended { input.old.reader.ended ≡ false }
         requires writes { self.old.rows.failed ≡ false }
         requires reports { self.old.messages.failed ≡ false }
-        ensures output { (came : Came) × GaveUpTo R.remaining input.old input.new came × MatchResult result
+        ensures output { (came : Came) × GaveUpTo R.remaining input.old.reader input.new.reader came × ReadOn self.old.question.now form.now input.old input.new came.bytes × MatchResult result
             (λ counts. Searched untold untold self.old.question.now form.now (filled self.old.rows.device) (filled self.new.rows.device)
             (filled self.old.messages.device) (filled self.new.messages.device) came counts)
             (λ fault. SearchStopped untold untold self.old.question.now form.now (filled self.old.rows.device) (filled self.new.rows.device)
             (filled self.old.messages.device) (filled self.new.messages.device) fault came) }
-        ensures read_fault { IsToldOf is_read_fault result input.new.failed }
+        ensures read_fault { IsToldOf is_read_fault result input.new.reader.failed }
         ensures write_fault { IsToldOf is_write_fault result self.new.rows.failed }
         ensures report_fault { IsToldOf is_report_fault result self.new.messages.failed }
-        ensures after { input.new.after ≡ input.old.after }
-        ensures early { input.new.early ≡ input.old.early }
+        ensures after { input.new.reader.after ≡ input.old.reader.after }
+        ensures out_after { self.new.rows.after ≡ self.old.rows.after }
+        ensures messages_after { self.new.messages.after ≡ self.old.messages.after }
+        ensures early { input.new.reader.early ≡ input.old.reader.early }
         ensures notes { NotesSearch form.now.silent result self.old.selected self.old.failed self.new.selected self.new.failed }
         ensures same { (self.new.question ≡ self.old.question) × (self.new.quiet ≡ self.old.quiet) }
     {
@@ -178,6 +182,8 @@ impl<'q, W: Write + Drop, E: Write + Drop> Run<'q, W, E> {
     /// Notes that something was refused or failed, of which the caller tells behind the messages so far: they are flushed.
     pub fn refuse(&mut self)
         ensures messages { (filled self.new.messages.device).taken ≡ (filled self.old.messages.device).taken }
+        ensures flushed { self.new.messages.failed ≡ false → self.new.messages.unflushed ≡ false }
+        ensures after { self.new.messages.after ≡ self.old.messages.after }
         ensures noted { self.new.failed ≡ true }
         ensures same { (self.new.rows ≡ self.old.rows) × (self.new.question ≡ self.old.question) × (self.new.quiet ≡ self.old.quiet)
             × (self.new.selected ≡ self.old.selected) }

@@ -2,17 +2,19 @@
 
 ghost use Rattle.std.specs.Prelude.{◌≡◌, ◌+◌, ◌<◌, ◌≤◌, ◌^◌, ◌||◌, [], length, take, false, IfErr, MatchResult, OnOk, true};
 ghost use Rattle.jp_devices.specs.Devices.{Came, GaveUpTo, Received, Writes};
-ghost use Rattle.jp_model.specs.Lines.{is_framed};
 ghost use Rattle.jp_masks.specs.Found.{lines_in};
-ghost use Rattle.jp_grep.specs.Cuts.{text_of};
-ghost use Rattle.jp_grep.specs.Faults.{IsToldOf, is_framing_fault, is_input_fault, is_read_fault, is_report_fault, is_write_fault};
+ghost use Rattle.jp_grep.specs.Cuts.{HasNoEnd, text_of};
+ghost use Rattle.jp_grep.specs.Faults.{IsToldOf, is_input_fault, is_read_fault, is_report_fault, is_write_fault};
+ghost use Rattle.jp_grep.specs.Fronts.{MayGoOn};
 ghost use Rattle.jp_grep.specs.Holding.{TellsOfWriter};
+ghost use Rattle.jp_grep.specs.Inputs.{ReadOn};
 ghost use Rattle.jp_grep.specs.Rows.{summary_of};
 ghost use Rattle.jp_grep.specs.Searching.{Advances, Answers, IsUnderWay};
 ghost use Rattle.jp_grep.specs.Watching.{SearchStopped, Searched, SearchedLines};
 
 use crate::answer::Answerer;
 use crate::fault::SearchFault;
+use crate::input::Input;
 use crate::outlet::{Outlet, write_bytes};
 use crate::progress::{Counts, Progress};
 use crate::question::Question;
@@ -79,25 +81,22 @@ impl Searcher {
         requires reports { messages.old.failed ≡ false }
         ensures answers { Answers W.contents E.contents answerer.entry.question.now answerer.entry.form.now self.old.progress self.new.progress out.old out.new messages.old messages.new result
             (lines_in answerer.entry.form.now.framing (text_of self.old.stream.is_first (take end self.old.stream.held.items))) }
-        ensures framed { OnOk result (self.old.stream.is_first ≡ true → is_framed answerer.entry.form.now.framing (take end self.old.stream.held.items) ≡ true) }
-        ensures unframed { IfErr result (λ fault. is_framing_fault fault ≡ true → (out.new ≡ out.old) × (messages.new ≡ messages.old) × (self.old.stream.is_first ≡ true)
-            × (is_framed answerer.entry.form.now.framing (take end self.old.stream.held.items) ≡ false)) }
         ensures stream { self.new.stream ≡ self.old.stream }
         ensures write_fault { IsToldOf is_write_fault result out.new.failed }
         ensures report_fault { IsToldOf is_report_fault result messages.new.failed }
-        ensures others { IsToldOf is_read_fault result false }
+        ensures others { IsToldOf is_input_fault result false }
         ensures after { out.new.after ≡ out.old.after }
         ensures messages_after { messages.new.after ≡ messages.old.after }
     {
         let framing = self.stream.framing;
-        let text = self.stream.text_until(end)?;
+        let text = self.stream.text_until(end);
         let Ok(batch) = self.room.read(framing, text) else {
             return Err(SearchFault::Memory);
         };
         answerer.answer_batch(batch, &mut self.progress, &mut self.outlet, out, messages)
     }
 
-    /// Holds the bytes that came, and answers the lines that end among them.
+    /// Holds the bytes that came, and answers the lines that end among them, unless the stream is refused by its first bytes.
     fn answer_piece<W: Write, E: Write>(
         &mut self,
         answerer: Answerer<'_>,
@@ -107,6 +106,8 @@ impl Searcher {
     ) -> Result<(), SearchFault>
         requires few { length self.old.stream.held.items < 2 ^ 32 }
         requires framing { self.old.stream.framing ≡ answerer.form.now.framing }
+        requires front { self.old.stream.is_first ≡ true → MayGoOn answerer.form.now.framing self.old.stream.held.items }
+        requires unended { self.old.stream.is_first ≡ true → HasNoEnd answerer.form.now.framing self.old.stream.held.items }
         requires under_way { IsUnderWay answerer.form.now self.old.progress }
         requires writes { out.old.failed ≡ false }
         requires reports { messages.old.failed ≡ false }
@@ -122,8 +123,8 @@ impl Searcher {
         let from = self.stream.held.len();
         let end = find_end(self.stream.framing, piece);
         self.stream.hold(piece)?;
+        self.stream.check_front(from)?;
         match end {
-            None if from == 0 => self.stream.check_front(),
             None => Ok(()),
             Some(end) => {
                 self.answer_until(answerer, from + end, out, messages)?;
@@ -136,24 +137,24 @@ impl Searcher {
 /// Answers the lines of a stream, piece by piece, up to its end or to the last line that is wanted.
 fn search_lines<R: Read, W: Write, E: Write>(
     answerer: Answerer<'_>,
-    input: &mut Watched<R>,
+    input: &mut Input<R>,
     out: &mut Watched<W>,
     messages: &mut Watched<E>,
 ) -> Result<Counts, SearchFault>
-    requires reads { input.old.failed ≡ false }
-    requires unended { input.old.ended ≡ false }
+    requires reads { input.old.reader.failed ≡ false }
+    requires unended { input.old.reader.ended ≡ false }
     requires writes { out.old.failed ≡ false }
     requires reports { messages.old.failed ≡ false }
-    ensures output { (came : Came) × GaveUpTo R.remaining input.old input.new came × MatchResult result
+    ensures output { (came : Came) × GaveUpTo R.remaining input.old.reader input.new.reader came × ReadOn answerer.entry.question.now answerer.entry.form.now input.old input.new came.bytes × MatchResult result
         (λ counts. SearchedLines W.contents E.contents answerer.entry.question.now answerer.entry.form.now out.old out.new messages.old messages.new came counts)
         (λ fault. SearchStopped W.contents E.contents answerer.entry.question.now answerer.entry.form.now out.old out.new messages.old messages.new fault came) }
-    ensures read_fault { IsToldOf is_read_fault result input.new.failed }
+    ensures read_fault { IsToldOf is_read_fault result input.new.reader.failed }
     ensures write_fault { IsToldOf is_write_fault result out.new.failed }
     ensures report_fault { IsToldOf is_report_fault result messages.new.failed }
-    ensures after { input.new.after ≡ input.old.after }
+    ensures after { input.new.reader.after ≡ input.old.reader.after }
     ensures out_after { out.new.after ≡ out.old.after }
     ensures messages_after { messages.new.after ≡ messages.old.after }
-    ensures early { input.new.early ≡ input.old.early }
+    ensures early { input.new.reader.early ≡ input.old.reader.early }
 {
     let mut searcher = Searcher {
         stream: Stream::new(answerer.alloc, answerer.form.framing),
@@ -171,6 +172,7 @@ fn search_lines<R: Read, W: Write, E: Write>(
             return Err(SearchFault::Read);
         };
         if count == 0 {
+            searcher.stream.check_end()?;
             let end = searcher.stream.held.len();
             searcher.answer_until(answerer, end, out, messages)?;
             return Ok(searcher.progress.counts);
@@ -201,41 +203,42 @@ fn write_summary<W: Write>(
 /// a message for each refused one; behind the rows what the form asks for. A byte order mark at the front is dropped.
 ///
 /// Before each read both writers are flushed where they took bytes since, and each line that ended is answered. No read follows
-/// one that answered 0, one that failed, or the last line that is wanted, and no write follows one that failed or took no byte.
+/// one that answered 0, one that failed, the last line that is wanted, or bytes that refuse the stream as a whole, and no write
+/// follows one that failed or took no byte.
 ///
 /// # Errors
 ///
-/// `Read` if a read failed: each line that ended before is answered. `Framing` if bytes other than white space come before the
-/// first separator of a sequence: nothing is written then. The first read tells it, where it brings three bytes or more. `Size`
-/// if a line is longer than 4,294,967,294 bytes, `Memory` if a growth was refused, `Write` and `Report` if a row or a message
-/// was not written: then a beginning of the answer was.
+/// `Read` if a read failed: each line that ended before is answered. `Foreign` if the stream begins with the mark of another
+/// format, and `Framing` if bytes other than white space come before the first separator of a sequence: nothing is written
+/// then. `Size` if a line is longer than 4,294,967,294 bytes, `Memory` if a growth was refused, `Write` and `Report` if a row
+/// or a message was not written: then a beginning of the answer was.
 pub fn search<R: Read, W: Write, E: Write>(
     alloc: Global,
     question: &Question,
     form: &Form<'_>,
-    input: &mut Watched<R>,
+    input: &mut Input<R>,
     out: &mut Watched<W>,
     messages: &mut Watched<E>,
 ) -> Result<Counts, SearchFault>
-    requires reads { input.old.failed ≡ false }
-    requires unended { input.old.ended ≡ false }
+    requires reads { input.old.reader.failed ≡ false }
+    requires unended { input.old.reader.ended ≡ false }
     requires writes { out.old.failed ≡ false }
     requires reports { messages.old.failed ≡ false }
-    // The reader gave some bytes. At Ok all lines up to the last one that is wanted are answered; else what `SearchStopped`
-    // says.
-    ensures output { (came : Came) × GaveUpTo R.remaining input.old input.new came × MatchResult result
+    // The reader gave some bytes, and no read followed where no more were wanted. At Ok all lines up to the last one that is
+    // wanted are answered; else what `SearchStopped` says.
+    ensures output { (came : Came) × GaveUpTo R.remaining input.old.reader input.new.reader came × ReadOn question.now form.now input.old input.new came.bytes × MatchResult result
         (λ counts. Searched W.contents E.contents question.now form.now out.old out.new messages.old messages.new came counts)
         (λ fault. SearchStopped W.contents E.contents question.now form.now out.old out.new messages.old messages.new fault came) }
     // Each device's fault is answered exactly where that device failed.
-    ensures read_fault { IsToldOf is_read_fault result input.new.failed }
+    ensures read_fault { IsToldOf is_read_fault result input.new.reader.failed }
     ensures write_fault { IsToldOf is_write_fault result out.new.failed }
     ensures report_fault { IsToldOf is_report_fault result messages.new.failed }
     // No call follows one that failed, and no read one that answered 0.
-    ensures after { input.new.after ≡ input.old.after }
+    ensures after { input.new.reader.after ≡ input.old.reader.after }
     ensures out_after { out.new.after ≡ out.old.after }
     ensures messages_after { messages.new.after ≡ messages.old.after }
     // No read comes while rows are unflushed.
-    ensures early { input.new.early ≡ input.old.early }
+    ensures early { input.new.reader.early ≡ input.old.reader.early }
 {
     let answerer = Answerer {
         alloc,

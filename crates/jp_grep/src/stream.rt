@@ -1,13 +1,16 @@
 //! The bytes of a stream that came, and are not answered yet.
 
-ghost use Rattle.std.specs.Prelude.{◌≡◌, ◌+◌, ◌<◌, ◌≤◌, ◌^◌, ◌++◌, [], drop, length, take, true, IfErr, IfOk, MatchOption, OnErr, OnOk, false};
-ghost use Rattle.jp_model.specs.Lines.{is_framed};
+ghost use Rattle.std.specs.Prelude.{◌≡◌, ◌+◌, ◌<◌, ◌≤◌, ◌^◌, ◌&&◌, ◌++◌, [], drop, length, ltb, take, true, IfErr, MatchBool, MatchOption, MatchResult, OnOk, false};
+ghost use Rattle.jp_model.specs.Lines.{is_blank as is_blank_line, is_framed};
+ghost use Rattle.jp_grep.specs.declared.fault.SearchFault.TheVariants as faults;
 ghost use Rattle.jp_grep.specs.Cuts.{EndsBetween, HasNoEnd, text_of};
-ghost use Rattle.jp_grep.specs.Faults.{is_framing_fault, is_inner_fault};
+ghost use Rattle.jp_grep.specs.Faults.{is_inner_fault};
+ghost use Rattle.jp_grep.specs.Fronts.{AreRefused, IsUnframed, MayBeFramed, MayGoOn};
 
 use crate::fault::SearchFault;
+use crate::format::{LONGEST_MARK, begins_mark, format_of};
 use jp_lines::{is_framed_text, separator};
-use jp_model::{Framing, without_byte_order_mark};
+use jp_model::{Framing, is_blank, without_byte_order_mark};
 use memchr::memrchr;
 use std::alloc::Global;
 
@@ -26,8 +29,15 @@ pub(crate) fn find_end(framing: Framing, piece: &[u8]) -> Option<usize>
     }
 }
 
-/// The bytes of a byte order mark in UTF-8.
-const BYTE_ORDER_MARK: usize = 3;
+/// The byte order mark in UTF-8.
+const BYTE_ORDER_MARK: &[u8] = b"\xEF\xBB\xBF";
+
+/// Whether the first bytes of a stream are framed, or may be with others behind them.
+fn may_be_framed(framing: Framing, bytes: &[u8]) -> bool
+    ensures { MatchBool result (MayBeFramed framing bytes.now) (IsUnframed framing bytes.now) }
+{
+    BYTE_ORDER_MARK.starts_with(bytes) || is_framed_text(framing, bytes)
+}
 
 /// The bytes of a stream that came, and are not answered yet.
 #[derive(Drop)]
@@ -78,36 +88,69 @@ impl Stream {
     }
 
     /// The bytes up to an end of a line, without a byte order mark at the front of the stream.
-    ///
-    /// # Errors
-    ///
-    /// `Framing` where bytes other than white space stand before the first separator of a sequence.
-    pub(crate) fn text_until(&self, end: usize) -> Result<&[u8], SearchFault>
+    pub(crate) fn text_until(&self, end: usize) -> &[u8]
         requires { end ≤ length self.now.held.items }
-        ensures text { IfOk result (λ text. text.now ≡ text_of self.now.is_first (take end self.now.held.items)) }
-        ensures framed { OnOk result (self.now.is_first ≡ true → is_framed self.now.framing (take end self.now.held.items) ≡ true) }
-        ensures fault { IfErr result (λ fault. (is_framing_fault fault ≡ true) × (self.now.is_first ≡ true) × (is_framed self.now.framing (take end self.now.held.items) ≡ false)) }
+        ensures { result.now ≡ text_of self.now.is_first (take end self.now.held.items) }
     {
         let text = &self.held[..end];
-        if !self.is_first {
-            return Ok(text);
+        if self.is_first {
+            without_byte_order_mark(text)
+        } else {
+            text
         }
-        if !is_framed_text(self.framing, text) {
-            return Err(SearchFault::Framing);
-        }
-        Ok(without_byte_order_mark(text))
     }
 
-    /// Refuses a sequence by its first bytes, if these are enough to tell a byte order mark.
+    /// Whether the bytes that came last leave it open whether the front of a sequence is framed: white space behind so many bytes
+    /// that these are no beginning of a mark. So the front is not looked at again and again.
+    fn is_blank_behind(&self, from: usize) -> bool
+        requires { from ≤ length self.now.held.items }
+        ensures { result ≡ (ltb 10 from && is_blank_line (drop from self.now.held.items)) }
+    {
+        from > LONGEST_MARK && is_blank(&self.held[from..])
+    }
+
+    /// Refuses the stream as a whole by its first bytes, where these tell it whatever follows. Before the bytes that came last
+    /// they did not; there were `from` of them.
     ///
     /// # Errors
     ///
-    /// `Framing` where bytes other than white space stand before the first separator of a sequence.
-    pub(crate) fn check_front(&self) -> Result<(), SearchFault>
-        ensures { IfErr result (λ fault. (is_framing_fault fault ≡ true) × (self.now.is_first ≡ true) × (is_framed self.now.framing self.now.held.items ≡ false)) }
+    /// `Foreign` where the bytes begin with the mark of another format; `Framing` where they are no beginning of one, and bytes
+    /// other than white space stand before the first separator of a sequence.
+    pub(crate) fn check_front(&self, from: usize) -> Result<(), SearchFault>
+        requires within { from ≤ length self.now.held.items }
+        requires before { self.now.is_first ≡ true → MayGoOn self.now.framing (take from self.now.held.items) }
+        requires unended { self.now.is_first ≡ true → HasNoEnd self.now.framing (take from self.now.held.items) }
+        ensures { MatchResult result
+            (λ _. self.now.is_first ≡ true → MayGoOn self.now.framing self.now.held.items)
+            (λ fault. (self.now.is_first ≡ true) × AreRefused self.now.framing self.now.held.items fault) }
     {
-        if self.held.len() >= BYTE_ORDER_MARK {
-            self.text_until(self.held.len())?;
+        if !self.is_first {
+            return Ok(());
+        }
+        if let Some(format) = format_of(&self.held) {
+            return Err(SearchFault::Foreign(format));
+        }
+        let goes_on = self.is_blank_behind(from)
+            || begins_mark(&self.held)
+            || may_be_framed(self.framing, &self.held);
+        if goes_on {
+            return Ok(());
+        }
+        Err(SearchFault::Framing)
+    }
+
+    /// Refuses a sequence that has ended and is not framed.
+    ///
+    /// # Errors
+    ///
+    /// `Framing` where bytes other than white space stand before the first separator.
+    pub(crate) fn check_end(&self) -> Result<(), SearchFault>
+        ensures { MatchResult result
+            (λ _. self.now.is_first ≡ true → is_framed self.now.framing self.now.held.items ≡ true)
+            (λ fault. (fault ≡ faults.Framing) × (self.now.is_first ≡ true) × (is_framed self.now.framing self.now.held.items ≡ false)) }
+    {
+        if self.is_first && !is_framed_text(self.framing, &self.held) {
+            return Err(SearchFault::Framing);
         }
         Ok(())
     }

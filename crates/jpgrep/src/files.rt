@@ -1,8 +1,9 @@
 //! The files in turn.
 
+use crate::foreign::foreign_message;
 use crate::output::{Output, RegularFile};
 use jp_devices::StandardInput;
-use jp_grep::{Finished, Question, Run, SearchFault, Shown};
+use jp_grep::{Finished, Format, Input, Question, Run, SearchFault, Shown};
 use jp_model::Watched;
 use jp_options::Options;
 use std::alloc::AllocError;
@@ -40,6 +41,7 @@ fn message_of(fault: SearchFault) -> &'static str {
     match fault {
         SearchFault::Read => "cannot read",
         SearchFault::Framing => "bytes before first separator",
+        SearchFault::Foreign(_) => "data of another format",
         SearchFault::Size => "line too long",
         SearchFault::Write | SearchFault::Report => CANNOT_WRITE,
         SearchFault::Memory => "out of memory",
@@ -95,13 +97,33 @@ impl<'q> Searcher<'q> {
         }
     }
 
+    /// Tells of a file that is data of another format, where messages are wanted.
+    fn tell_foreign(&mut self, name: &str, format: Format) -> Next {
+        let file = if name == STANDARD_INPUT {
+            None
+        } else {
+            Some(name)
+        };
+        match foreign_message(self.rt.alloc(), file, format) {
+            Ok(message) => {
+                self.tell(name, &message);
+                Next::GoOn
+            }
+            Err(_) => {
+                self.run.refuse();
+                tell_memory(self.rt);
+                Next::Stop
+            }
+        }
+    }
+
     /// Searches an open file.
     fn search<R: Read + Drop>(&mut self, name: &str, input: R) -> Next {
         if !self.run.is_open() {
             return Next::Stop;
         }
         let form = self.options.form(name);
-        match self.run.search(&form, &mut Watched::new(input)) {
+        match self.run.search(&form, &mut Input::new(Watched::new(input))) {
             Ok(_) if self.run.is_decided() => Next::Stop,
             Ok(_) => Next::GoOn,
             Err(SearchFault::Write | SearchFault::Report) => Next::Stop,
@@ -114,6 +136,7 @@ impl<'q> Searcher<'q> {
                 self.tell(name, message_of(SearchFault::Size));
                 Next::Stop
             }
+            Err(SearchFault::Foreign(format)) => self.tell_foreign(name, format),
             Err(fault) => {
                 self.tell(name, message_of(fault));
                 Next::GoOn

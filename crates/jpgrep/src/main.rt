@@ -4,11 +4,13 @@
 mod asked;
 mod excerpt;
 mod files;
+mod foreign;
 mod help;
 mod note;
 mod output;
 mod patterns;
 mod refusal;
+mod shell;
 mod unknown;
 
 use crate::asked::read_question;

@@ -1,7 +1,8 @@
 //! A note on a query whose filter asks the members of a line's value, where the line itself was probably meant.
 
+use crate::shell::quoted;
 use jp_syntax::{Argument, Call, Comparable, Logical, Origin, Path, Segment, Selector};
-use std::alloc::{AllocError, Global};
+use std::alloc::AllocError;
 
 /// Whether the path begins at the current node and with a name.
 fn begins_with_name(path: &Path) -> bool {
@@ -117,19 +118,4 @@ pub(crate) fn tell_note(rt: &HostRuntime, condition: &str) -> Result<(), AllocEr
         "jpgrep: note: the filter asks the members of a line's value; of the line itself asks -w {quoted}"
     );
     Ok(())
-}
-
-/// A text between single quotes, as a shell reads it.
-fn quoted(alloc: Global, text: &str) -> Result<String, AllocError> {
-    let mut quoted = String::new(alloc);
-    quoted.push('\'')?;
-    for scalar in text.chars() {
-        if scalar == '\'' {
-            quoted.push_str("'\\''")?;
-        } else {
-            quoted.push(scalar)?;
-        }
-    }
-    quoted.push('\'')?;
-    Ok(quoted)
 }

@@ -1,0 +1,44 @@
+-- What is said of the buffers is said of the writers behind them, as they are once they took what the buffers hold.
+use Rattle.std.proofs.Common.{◌≡◌, ℕ, List, sym, subst, Option, Result, Err}
+use Rattle.std.specs.Prelude.{MatchResult}
+use Rattle.jp_devices.specs.Devices.{Came, Device, Received}
+use Rattle.jp_grep.specs.Watching.{Answered, AnsweredInPart, SearchStopped}
+use Rattle.jp_form.specs.declared.form.Form.{Form}
+use Rattle.jp_grep.specs.declared.fault.SearchFault.{SearchFault}
+use Rattle.jp_grep.specs.declared.fault.SearchFault.TheVariants as faults
+use Rattle.jp_grep.specs.declared.question.Question.{Question}
+use Rattle.jp_grep.proofs.run.Run.search.Goals as goal
+
+at_err : {A E : Type 0} (P : A → Type 0) (Q : E → Type 0) (r : Result A E) (e : E) → r ≡ Err e → Q e → MatchResult r P Q
+at_err P Q r e is q = subst (λ x. MatchResult x P Q) (sym is) q
+
+module _ {V W X Y : Type 0} {near : V → Option (List ℕ)} {near_told : X → Option (List ℕ)} {far : W → Option (List ℕ)} {far_told : Y → Option (List ℕ)} (question : Question) (form : Form)
+    {a b : Device V} {a_told b_told : Device X} {c d : Device W} {c_told d_told : Device Y}
+    (rows : (bytes : List ℕ) → Received near a b bytes → Received far c d bytes) (messages : (bytes : List ℕ) → Received near_told a_told b_told bytes → Received far_told c_told d_told bytes) where
+  all_behind : (lines : List (List ℕ)) → Answered near near_told question form a b a_told b_told lines → Answered far far_told question form c d c_told d_told lines
+  all_behind lines h = record { rows = rows _ h.rows; messages = messages _ h.messages }
+
+  part_behind : (lines : List (List ℕ)) → AnsweredInPart near near_told question form a b a_told b_told lines → AnsweredInPart far far_told question form c d c_told d_told lines
+  part_behind lines h = record {
+    rows = (h.rows.0, h.rows.1, rows h.rows.0 h.rows.2);
+    messages = (h.messages.0, h.messages.1, messages h.messages.0 h.messages.2);
+  }
+
+  stopped_behind : (fault : SearchFault) (came : Came) → SearchStopped near near_told question form a b a_told b_told fault came → SearchStopped far far_told question form c d c_told d_told fault came
+  stopped_behind faults.Read came h = (h.0, h.1, all_behind _ h.2)
+  stopped_behind faults.Framing came h = (h.0, all_behind _ h.1)
+  stopped_behind (faults.Foreign format) came h = (h.0, all_behind _ h.1)
+  stopped_behind faults.Size came h = (h.0, part_behind _ h.1)
+  stopped_behind faults.Write came h = (h.0, part_behind _ h.1)
+  stopped_behind faults.Report came h = (h.0, part_behind _ h.1)
+  stopped_behind faults.Memory came h = (h.0, part_behind _ h.1)
+
+pub returns-in-Err-clause-output : goal.returns-in-Err-clause-output
+returns-in-Err-clause-output g c =
+    let told = c.in-Err.ensures.output in (
+      told.0,
+      told.1,
+      told.2,
+      at_err _ _ c.search-found.result c.in-Err.field-0 c.in-Err.is
+          (stopped_behind c.args.self.now.question.now c.args.form.now (λ bytes w. record { taken = w.held; held = tt }) (λ bytes w. record { taken = w.held; held = tt }) c.in-Err.field-0 told.0 told.3),
+    )
