@@ -10,6 +10,7 @@ import io
 import json
 import os
 import pathlib
+import pty
 import random
 import re
 import shlex
@@ -142,6 +143,30 @@ def own_output(room):
         check(f"{words} {given} added to its own file", (run.stderr, run.returncode, path.read_bytes()), (said, 2 if refused else 0, lines + added))
 
 
+def own_messages(room):
+    """A file that the messages are added to comes to its end, since each of them is a refused line of it, and ten are told."""
+    path = pathlib.Path(room, "own.log")
+    path.write_bytes(b'{"a":1}\n' + b"{\n" * 40_000)
+    run = subprocess.run(["bash", "-c", '"$0" "$" own.log 2>> own.log', PROGRAM], cwd=room, stdout=subprocess.PIPE, timeout=SECONDS)
+    lines = path.read_bytes().splitlines()[40_001:]
+    check("messages added to their own file", (run.stdout, run.returncode), (b'{"a":1}\n', 2))
+    check("the messages that were added", lines[:10], [b"jpgrep: own.log:%d: grammar" % number for number in range(2, 12)])
+    last = re.fullmatch(rb"jpgrep: own.log: (\d+) more lines are refused; --refused lists them", lines[-1])
+    check("how many more were refused, and no other message", (len(lines), bool(last) and 39_990 <= int(last[1]) <= 40_000), (11, True))
+
+
+def failed_read(room):
+    """A read that fails behind eleven refused lines: that of a terminal whose other side was closed."""
+    master, terminal = pty.openpty()
+    os.write(terminal, b"{\n" * 11)
+    os.close(terminal)
+    run = subprocess.run([PROGRAM, "-c", "$"], cwd=room, stdin=master, capture_output=True, timeout=SECONDS)
+    os.close(master)
+    told = b"".join(b"jpgrep: (standard input):%d: grammar\n" % number for number in range(1, 11))
+    told += b"jpgrep: (standard input): 1 more line is refused; --refused lists them\njpgrep: (standard input): cannot read\n"
+    check("a read that fails behind eleven refused lines", (run.stdout, run.stderr, run.returncode), (b"", told, 2))
+
+
 def first_bytes(room):
     """A sequence whose first bytes are none is refused as they come, and so is data of another format, whose mark may come byte by
     byte. A byte order mark in two pieces is none the less one."""
@@ -252,6 +277,18 @@ def random_text(dice):
     return "".join(dice.choice(("a", "é", ",", '"', "\t", "\n", "\r", "\\", " ", "\x01")) for _ in range(dice.randrange(6)))
 
 
+def each_line_once(room):
+    """Each line that is not blank is printed by the query `$` or by `--refused`, as it is, and never by both."""
+    dice = random.Random(8259)
+    pieces = (b"", b" ", b"\t \r", b"{", b"[1,]", b'{"a":1,"a":2}', b'"\xff"', b'{"a":1}', b' "x"\r', b"1e5", b"\x0c", b"[" * 513)
+    for number in range(60):
+        lines = dice.choices(pieces, k=dice.randrange(40))
+        pathlib.Path(room, "lines").write_bytes(b"\n".join(lines))
+        rows = b"".join(ended([*words, "-n", "lines"], room)[0] for words in (["-s", "$"], ["--refused"])).split(b"\n")[:-1]
+        stated = [b"%d:%s" % (place, line) for place, line in enumerate(lines, 1) if line.strip(b" \t\r")]
+        check(f"lines {number} by `$` and by --refused", sorted(rows, key=lambda row: int(row.partition(b":")[0])), stated)
+
+
 def read_back(room):
     """Tables lead back to the values of their cells: by the reader of CSV that Python has, and by what stands behind a backslash.
     Canonical form is what Python writes of a value with its names in order."""
@@ -279,10 +316,13 @@ def main():
     with tempfile.TemporaryDirectory() as room:
         devices(room)
         own_output(room)
+        own_messages(room)
+        failed_read(room)
         first_bytes(room)
         follows("lines of a fifo", ["-n", "$.a"], LINES, room)
         follows("texts of a fifo", ["-n", "--seq", "$.a"], TEXTS, room)
         memory()
+        each_line_once(room)
         read_back(room)
         if os.access(JPQ, os.X_OK):
             beside_jpq(room)

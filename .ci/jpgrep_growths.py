@@ -31,6 +31,7 @@ SEQUENCE = b'\x1e{"level":"error"}\n\x1e[1,\n\x1e{"level":\n"info"}\n'
 # The words of each run, and the text of its standard input.
 RUNS = [
     (["$"], LINES),
+    (["-c", "$"], b"{\n" * 12 + LINES),
     (["-n", "-H", '$[?@=="error"]', "lines", "-", "absent", "lines"], LINES),
     (["-o", "-p", "-e", "$..*", "-e", "$.tags[::-1]", "-w", "@.ms > 100 || match(@.level, 'e(r|x)+o.')", "lines"], b""),
     (["-v", "-c", "-w", "length(@.level) == 5", "lines", "sequence"], b""),
@@ -39,6 +40,7 @@ RUNS = [
     (["-j", "-o", "$", "lines"], b""),
     (["--csv", "--header", "-n", "-H", "-e", "$.level", "-e", "$.ms", "-e", "$.tags", "-e", "$.deep", "-e", "$.long", "lines"], b""),
     (["--tsv", "--header", "-e", "$", "lines"], b""),
+    (["--refused", "-n", "-p", "lines", "-"], b"{\n" * 3 + LINES),
     (["-q", "$.absent", "lines"], b""),
     (["-l", "-m", "1", "-s", "$", "lines", "sequence"], b""),
     (["--help"], b""),

@@ -27,12 +27,12 @@ pub enum Table {
 pub enum Shown {
     /// Nothing: no row is written.
     Nothing,
-    /// The line.
-    Line,
+    /// The line; of a refused one the word of its fault and a tab in front, where they are wanted.
+    Line { faults: bool },
     /// Each value that the queries select, in a row of its own; with its normalized path and a tab in front where they are
-    /// wanted.
+    /// wanted. A refused line has none.
     Values { paths: bool },
-    /// A cell for each query: empty where it selects no node, else of the first one.
+    /// A cell for each query: empty where it selects no node, else of the first one. A refused line has none.
     Cells(Table),
 }
 
@@ -63,7 +63,7 @@ pub struct Form<'a> {
     pub named: bool,
     /// Whether the number of the line stands in front of each row, with a colon.
     pub numbered: bool,
-    /// Whether refused lines are passed over: nothing is told of them, and they have no part in the exit status.
+    /// Whether refused lines are no fault: nothing is told of them, and the exit status is none the worse for them.
     pub silent: bool,
     /// How many selected lines are wanted. What stands behind the last of them is not read.
     pub most: u64,

@@ -86,7 +86,7 @@ module _ (question : Question) (form : Form) where
       → Answers rows_in messages_in question form progress progress out out told told r []
   answers_none rows_in messages_in progress out told r h = record {
     rows = subst (λ ls. Writes rows_in out out r (output_from question form progress.number ls)) (sym (none_answered progress.counts.selected)) (none_written rows_in r out);
-    messages = subst (λ ls. Writes messages_in told told r (messages_from form progress.number ls)) (sym (none_answered progress.counts.selected)) (none_written messages_in r told);
+    messages = subst (λ ls. Writes messages_in told told r (messages_from form progress.counts.refused progress.number ls)) (sym (none_answered progress.counts.selected)) (none_written messages_in r told);
     progress = holds_at_ok r (subst (λ ls. GoesOnBy question form progress progress ls) (sym (none_answered progress.counts.selected)) (none_by progress h));
   }
 

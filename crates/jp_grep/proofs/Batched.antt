@@ -60,11 +60,14 @@ module _ (question : Question) (form : Form) where
           ∙ output-append question form n (take i all) (line ∷ [])
           ∙ ap (λ l. output_from question form n (take i all) ++ l) (output_one question form (n + length (take i all)) line ∙ ap (λ k. line_rows question form (n + k) line) long)
 
-      pub messages_more : (n : ℕ) → messages_from form n (take (i + 1) all) ≡ messages_from form n (take i all) ++ line_message form (n + i) line
-      messages_more n =
-          ap (messages_from form n) one_more
-          ∙ messages-append question form n (take i all) (line ∷ [])
-          ∙ ap (λ l. messages_from form n (take i all) ++ l) (messages_one question form (n + length (take i all)) line ∙ ap (λ k. line_message form (n + k) line) long)
+      pub messages_more : (before n : ℕ)
+          → messages_from form before n (take (i + 1) all) ≡ messages_from form before n (take i all) ++ line_message form (before + refused_count form.framing (take i all)) (n + i) line
+      messages_more before n =
+          let refused = before + refused_count form.framing (take i all) in
+          ap (messages_from form before n) one_more
+          ∙ messages-append question form before n (take i all) (line ∷ [])
+          ∙ ap (λ l. messages_from form before n (take i all) ++ l)
+          (messages_one question form refused (n + length (take i all)) line ∙ ap (λ k. line_message form refused (n + k) line) long)
 
       pub selected_more : selected_count question form.framing (take (i + 1) all) ≡ selected_count question form.framing (take i all) + cond (selected_line question form.framing line) 1 0
       selected_more =
@@ -86,9 +89,10 @@ module _ (question : Question) (form : Form) where
           ∙ output-append question form n (take (i + 1) all) rest
           ∙ ap (λ l. l ++ output_from question form (n + length (take (i + 1) all)) rest) (rows_more n)
 
-      pub messages_around : (n : ℕ) (answered rest : List (List ℕ)) → answered ≡ take (i + 1) all ++ rest
-          → messages_from form n answered ≡ (messages_from form n (take i all) ++ line_message form (n + i) line) ++ messages_from form (n + length (take (i + 1) all)) rest
-      messages_around n answered rest e =
-          ap (messages_from form n) e
-          ∙ messages-append question form n (take (i + 1) all) rest
-          ∙ ap (λ l. l ++ messages_from form (n + length (take (i + 1) all)) rest) (messages_more n)
+      pub messages_around : (before n : ℕ) (answered rest : List (List ℕ)) → answered ≡ take (i + 1) all ++ rest
+          → messages_from form before n answered ≡ (messages_from form before n (take i all) ++ line_message form (before + refused_count form.framing (take i all)) (n + i) line)
+          ++ messages_from form (before + refused_count form.framing (take (i + 1) all)) (n + length (take (i + 1) all)) rest
+      messages_around before n answered rest e =
+          ap (messages_from form before n) e
+          ∙ messages-append question form before n (take (i + 1) all) rest
+          ∙ ap (λ l. l ++ messages_from form (before + refused_count form.framing (take (i + 1) all)) (n + length (take (i + 1) all)) rest) (messages_more before n)

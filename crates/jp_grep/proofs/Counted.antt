@@ -1,8 +1,8 @@
 -- Lines that are answered one after another.
-use Rattle.std.proofs.Common.{◌≡◌, ◌∙◌, ◌<◌, ℕ, ◌+◌, ◌-◌, List, [], ◌∷◌, ◌++◌, length, refl, sym, ap, append_assoc, append-nil, arith, Bool, true, false, if◌then◌else◌}
+use Rattle.std.proofs.Common.{◌≡◌, ◌∙◌, ◌<◌, ℕ, ◌+◌, ◌-◌, List, [], ◌∷◌, ◌++◌, length, refl, sym, ap, ap₂, append_assoc, append-nil, arith, Bool, true, false, if◌then◌else◌}
 use Rattle.std.specs.Prelude.{zero, suc, count_by, cond}
 use Rattle.std.proofs.lemmas.List.Sums.{sum_by-append, sum_by-cons}
-use Rattle.jp_grep.specs.Rows.{line_message, line_rows, messages_from, output_from}
+use Rattle.jp_grep.specs.Rows.{line_message, line_rows, messages_from, output_from, refused_count, refused_line}
 use Rattle.jp_grep.specs.Streams.{up_to}
 use Rattle.jp_form.specs.declared.form.Form.{Form}
 use Rattle.jp_grep.specs.declared.question.Question.{Question}
@@ -57,15 +57,23 @@ module _ (question : Question) (form : Form) where
       ap (λ l. line_rows question form n x ++ l) (output-append (n + 1) xs ys ∙ ap (λ k. output_from question form (n + 1) xs ++ output_from question form k ys) (omega arith))
       ∙ sym (append_assoc (line_rows question form n x) (output_from question form (n + 1) xs) (output_from question form (n + length (x ∷ xs)) ys))
 
-  pub messages-append : (n : ℕ) (xs ys : List (List ℕ)) → messages_from form n (xs ++ ys) ≡ messages_from form n xs ++ messages_from form (n + length xs) ys
-  messages-append n [] ys = ap (λ k. messages_from form k ys) (omega arith)
-  messages-append n (x ∷ xs) ys =
-      ap (λ l. line_message form n x ++ l) (messages-append (n + 1) xs ys ∙ ap (λ k. messages_from form (n + 1) xs ++ messages_from form k ys) (omega arith))
-      ∙ sym (append_assoc (line_message form n x) (messages_from form (n + 1) xs) (messages_from form (n + length (x ∷ xs)) ys))
+  counted_so : (before one rest all : ℕ) → all ≡ one + rest → (before + one) + rest ≡ before + all
+  counted_so before one rest all e = omega (arith, e)
+
+  pub messages-append : (before n : ℕ) (xs ys : List (List ℕ))
+      → messages_from form before n (xs ++ ys) ≡ messages_from form before n xs ++ messages_from form (before + refused_count form.framing xs) (n + length xs) ys
+  messages-append before n [] ys = ap₂ (λ j k. messages_from form j k ys) (omega arith) (omega arith)
+  messages-append before n (x ∷ xs) ys =
+      let one = cond (refused_line form.framing x) 1 0 in
+      let counted = counted_so before one (refused_count form.framing xs) (refused_count form.framing (x ∷ xs)) (count-cons (refused_line form.framing) x xs) in
+      ap (λ l. line_message form before n x ++ l)
+      (messages-append (before + one) (n + 1) xs ys ∙ ap₂ (λ j k. messages_from form (before + one) (n + 1) xs ++ messages_from form j k ys) counted (omega arith))
+      ∙ sym (append_assoc (line_message form before n x) (messages_from form (before + one) (n + 1) xs)
+      (messages_from form (before + refused_count form.framing (x ∷ xs)) (n + length (x ∷ xs)) ys))
 
   -- one more line
   pub output_one : (n : ℕ) (line : List ℕ) → output_from question form n (line ∷ []) ≡ line_rows question form n line
   output_one n line = append-nil (line_rows question form n line)
 
-  pub messages_one : (n : ℕ) (line : List ℕ) → messages_from form n (line ∷ []) ≡ line_message form n line
-  messages_one n line = append-nil (line_message form n line)
+  pub messages_one : (before n : ℕ) (line : List ℕ) → messages_from form before n (line ∷ []) ≡ line_message form before n line
+  messages_one before n line = append-nil (line_message form before n line)

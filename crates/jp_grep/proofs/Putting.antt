@@ -1,7 +1,7 @@
 -- Rows that are put behind what is held, one after another.
 use Rattle.std.proofs.Common.{◌≡◌, ◌∙◌, ℕ, List, [], ◌++◌, Bool, drop, length, refl, sym, ap, subst, append_assoc, append-nil, take-append-drop, Option, Result, Ok, Err, IsErr, false, true}
 use Rattle.std.proofs.Math.Seq.{take-append_seam}
-use Rattle.jp_devices.specs.Devices.{Begins, Device, Received, Writes}
+use Rattle.jp_devices.specs.Devices.{Begins, Device, Writes}
 use Rattle.jp_devices.proofs.Chains.{Part, both_received}
 use Rattle.jp_grep.specs.Faults.{IsToldOf}
 use Rattle.jp_grep.specs.Holding.{HoldsBack, HoldsPart, Puts}
@@ -106,6 +106,12 @@ module _ {W : Type 0} {contents : W → Option (List ℕ)} where
       let all = p.0 ++ held in
       let whole : text ≡ p.0 ++ (held ++ drop (length all) text) = begins_rest all text p.1 ∙ append_assoc p.0 held (drop (length all) text) in
       (p.0, subst (λ l. Begins p.0 l) (sym whole) (begins_front p.0 (held ++ drop (length all) text)), p.2)
+
+-- nothing was put before
+pub put_first : {W A E : Type 0} (contents : W → Option (List ℕ)) (result : Result A E) (a b c : Device W) (first second third text : List ℕ) → HoldsBack contents a b first second [] → Puts contents b c second third result text
+    → Puts contents a c first third result text
+put_first contents (Ok x) a b c first second third text none p = both_put a b c first second third [] text none p
+put_first contents (Err e) a b c first second third text none p = part_put a b c first second third [] text none p
 
 -- what is held is written
 pub held_put : {W A E : Type 0} (contents : W → Option (List ℕ)) (result : Result A E) (a b : Device W) (first second : List ℕ) → second ≡ [] → Writes contents a b result first → Puts contents a b first second result []

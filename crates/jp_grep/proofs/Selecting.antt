@@ -1,5 +1,5 @@
 -- Queries that are asked one after another.
-use Rattle.std.proofs.Common.{◌≡◌, ◌∙◌, ◌+◌, ◌<◌, ℕ, List, [], ◌∷◌, ◌++◌, get_or, length, map, take, refl, sym, ap, append-nil, arith, Bool, true, false, ◌||◌, ◌&&◌, flat_map, if◌then◌else◌}
+use Rattle.std.proofs.Common.{◌≡◌, ◌∙◌, ◌+◌, ◌<◌, ℕ, List, [], ◌∷◌, ◌++◌, get_or, length, map, take, refl, sym, ap, arith, Bool, true, false, ◌||◌, ◌&&◌, if◌then◌else◌}
 use Rattle.std.specs.Prelude.{not}
 use Rattle.std.proofs.lemmas.Bool.{ne_eqb}
 use Rattle.std.proofs.lemmas.List.{map-append, take_more}
@@ -10,7 +10,9 @@ use Rattle.jp_model.specs.Query.Syntax.{Segments}
 use Rattle.jp_devices.proofs.Devices.{or_false}
 use Rattle.jp_eval.specs.Compiled.{program_view}
 use Rattle.jp_eval.specs.declared.evaluate.Program.{Program}
-use Rattle.jp_grep.specs.Matching.{has_nodes, nodes_of, selected_by, selects}
+use Rattle.jp_grep.specs.Matching.{has_nodes, nodes_of, selected_by, selects, wants_found, wants_nodes_where, wants_value}
+use Rattle.jp_grep.specs.declared.question.Wanted.{Wanted}
+use Rattle.jp_grep.specs.declared.question.Wanted.TheVariants as wanted
 
 or_assoc : (a b c : Bool) → ((a || b) || c) ≡ (a || (b || c))
 or_assoc true b c = refl
@@ -59,10 +61,18 @@ none_selected (query ∷ rest) t e =
     ∙ ap (λ ns. ns ++ nodes_of rest t) (none_there (selected_by query t) (first_false some (selects rest t) e))
     ∙ none_selected rest t (second_false some (selects rest t) e)
 
+-- where nodes are asked for, whether there is one decides
+pub found_wanted : (w : Wanted) (holds some : Bool) → wants_nodes_where w holds (holds && some) ≡ true → wants_found w some ≡ wants_value w (holds && some)
+found_wanted wanted.Matching true some asked = refl
+found_wanted wanted.Matching false some asked = absurd (cc)
+found_wanted wanted.Others holds some asked = sym asked
+found_wanted wanted.Refused holds some asked = absurd (cc)
+
 -- where nodes are asked for, no row is left out, whether some is selected or none
-pub wanted_rows : (inverted holds some : Bool) (rows : List ℕ) → (some ≡ false → rows ≡ []) → (if inverted then not (holds && some) else holds) ≡ true
-    → (if (if inverted then not (holds && some) else (holds && some)) then rows else []) ≡ rows
-wanted_rows true holds some rows none wanted = ap (λ (b : Bool). if b then rows else []) wanted
-wanted_rows false true true rows none wanted = refl
-wanted_rows false true false rows none wanted = sym (none refl)
-wanted_rows false false some rows none wanted = absurd (cc)
+pub wanted_rows : (w : Wanted) (holds some : Bool) (rows : List ℕ) → (some ≡ false → rows ≡ []) → wants_nodes_where w holds (holds && some) ≡ true
+    → (if wants_value w (holds && some) then rows else []) ≡ rows
+wanted_rows wanted.Matching true true rows none asked = refl
+wanted_rows wanted.Matching true false rows none asked = sym (none refl)
+wanted_rows wanted.Matching false some rows none asked = absurd (cc)
+wanted_rows wanted.Others holds some rows none asked = ap (λ (b : Bool). if b then rows else []) asked
+wanted_rows wanted.Refused holds some rows none asked = absurd (cc)

@@ -1,21 +1,22 @@
 -- What is answered of a stream so far, and what a step makes of it.
-use Rattle.std.proofs.Common.{◌≡◌, ◌∙◌, ◌+◌, ◌-◌, ◌<◌, ◌≤◌, ◌^◌, ℕ, List, [], ◌++◌, length, refl, sym, ap, ap₂, subst, append_assoc, append-nil, length-append, arith, Bool, true, false, ◌||◌, ◌&&◌, eqb, ltb, Option, Result, Ok, Err, inl, inr}
+use Rattle.std.proofs.Common.{◌≡◌, ◌∙◌, ◌+◌, ◌-◌, ◌<◌, ◌≤◌, ◌^◌, ℕ, List, [], ◌++◌, length, refl, sym, ap, ap₂, subst, append_assoc, append-nil, length-append, arith, Bool, true, false, ◌||◌, ◌&&◌, eqb, ltb, Option, Result, Ok, Err, inl, inr, if◌then◌else◌}
 use Rattle.std.specs.Prelude.{IsErrAnd, MatchResult, not}
 use Rattle.std.proofs.lemmas.Bool.{eq-eqb, false≢true, lt-ltb, ne_eqb}
 use Rattle.jp_devices.specs.Devices.{Came, Device, HasEnded, Received, has_no_room, one_more_where}
 use Rattle.jp_model.specs.Lines.{is_framed, lines}
 use Rattle.jp_devices.proofs.Devices.{CameToEnd, came_so, was_ended}
 use Rattle.jp_masks.specs.Found.{lines_in}
-use Rattle.jp_devices.proofs.Chains.{Part, both_received, part_more}
+use Rattle.jp_devices.proofs.Chains.{Part, both_received, part_behind, part_more}
 use Rattle.jp_grep.specs.Cuts.{text_of}
-use Rattle.jp_grep.specs.Faults.{is_front_fault, is_input_fault, is_read_fault}
+use Rattle.jp_grep.specs.Faults.{is_front_fault, is_input_fault, is_read_fault, is_report_fault}
 use Rattle.jp_grep.specs.Fronts.{IsOfLines, IsRefused}
 use Rattle.jp_grep.specs.Inputs.{WantsMore}
 use Rattle.jp_grep.specs.Positions.{IsAt}
 use Rattle.jp_grep.specs.Rows.{messages_from, output_from, refused_count, refused_line, selected_count, selected_line, summary_of}
 use Rattle.jp_grep.specs.Searching.{Answers, GoesOnBy, HasAnswered}
 use Rattle.jp_grep.specs.Streams.{lines_come, up_to}
-use Rattle.jp_grep.specs.Watching.{Answered, AnsweredInPart, SearchStopped, SearchedLines, answered, answered_of}
+use Rattle.jp_grep.specs.Told.{more_refused, told_of}
+use Rattle.jp_grep.specs.Watching.{Answered, AnsweredInPart, AnsweredToEnd, SearchStopped, SearchedLines, answered, answered_of}
 use Rattle.jp_grep.specs.declared.fault.SearchFault.{SearchFault}
 use Rattle.jp_grep.specs.declared.fault.SearchFault.TheVariants as faults
 use Rattle.jp_form.specs.declared.form.Form.{Form}
@@ -39,6 +40,19 @@ came_to_end remaining s0 s1 s2 count room worked same ended left none some =
     (ended ∙ ap₂ (λ (a b : Bool). a || b) same (ap₂ (λ (a b : Bool). a && b) (eq-eqb count 0 none) (lt-ltb 0 (length room) some)))
     (left none some)
 
+-- a message that was not written is told in place of a failed read
+pub told_first : (input messages : Bool) (fault : SearchFault) → messages ≡ is_report_fault fault → is_report_fault fault ≡ true → (input && not messages) ≡ is_read_fault fault
+told_first input messages faults.Read e report = absurd (cc)
+told_first input messages faults.Framing e report = absurd (cc)
+told_first input messages faults.Size e report = absurd (cc)
+told_first input messages faults.Write e report = absurd (cc)
+told_first input messages faults.Memory e report = absurd (cc)
+told_first input messages faults.Report e report = ap (λ b. input && not b) e ∙ neither input
+  where
+    neither : (b : Bool) → (b && false) ≡ false
+    neither true = refl
+    neither false = refl
+
 -- one that gave something goes on
 pub goes_further : (s1 s2 : Bool) (count : ℕ) (room : List ℕ) → s2 ≡ (s1 || (eqb count 0 && ltb 0 (length room))) → (count ≡ 0 → ⊥) → s1 ≡ false → s2 ≡ false
 goes_further s1 s2 count room e some going = e ∙ ap₂ (λ (a b : Bool). a || b) going (ap (λ b. b && ltb 0 (length room)) (ne_eqb count 0 some))
@@ -47,6 +61,9 @@ goes_further s1 s2 count room e some going = e ∙ ap₂ (λ (a b : Bool). a || 
 pub kept_after : (failed ended : Bool) (room : List ℕ) (old new : ℕ) → new ≡ one_more_where ((failed || ended) || has_no_room room) old → failed ≡ false → ended ≡ false → 0 < length room → new ≡ old
 kept_after failed ended room old new e f g some =
     e ∙ ap (λ b. one_more_where b old) (ap₂ (λ (a b : Bool). a || b) (ap₂ (λ (a b : Bool). a || b) f g) (ap not (lt-ltb 0 (length room) some)))
+
+zero_first : (n : ℕ) → 0 + n ≡ n
+zero_first n = omega arith
 
 module _ (question : Question) (form : Form) where
   none_taken : (selected : ℕ) → answered_of question form selected [] ≡ []
@@ -73,12 +90,13 @@ module _ (question : Question) (form : Form) where
         ∙ output-append question form 1 (answered_of question form 0 before) (answered_of question form progress.counts.selected more)
         ∙ ap (λ k. output_from question form 1 (answered_of question form 0 before) ++ output_from question form k (answered_of question form progress.counts.selected more)) (sym number_is)
 
-    pub messages_sum : messages_from form 1 (answered_of question form 0 (before ++ more))
-        ≡ messages_from form 1 (answered_of question form 0 before) ++ messages_from form progress.number (answered_of question form progress.counts.selected more)
-    messages_sum =
-        ap (messages_from form 1) sum
-        ∙ messages-append question form 1 (answered_of question form 0 before) (answered_of question form progress.counts.selected more)
-        ∙ ap (λ k. messages_from form 1 (answered_of question form 0 before) ++ messages_from form k (answered_of question form progress.counts.selected more)) (sym number_is)
+    pub messages_sum : progress.counts.refused ≡ refused_count form.framing (answered_of question form 0 before)
+        → messages_from form 0 1 (answered_of question form 0 (before ++ more))
+        ≡ messages_from form 0 1 (answered_of question form 0 before) ++ messages_from form progress.counts.refused progress.number (answered_of question form progress.counts.selected more)
+    messages_sum refused_is =
+        ap (messages_from form 0 1) sum
+        ∙ messages-append question form 0 1 (answered_of question form 0 before) (answered_of question form progress.counts.selected more)
+        ∙ ap₂ (λ j k. messages_from form 0 1 (answered_of question form 0 before) ++ messages_from form j k (answered_of question form progress.counts.selected more)) (zero_first _ ∙ sym refused_is) (sym number_is)
 
     pub number_sum : (after : Progress) → GoesOnBy question form progress after (answered_of question form progress.counts.selected more) → after.number ≡ 1 + length (answered_of question form 0 (before ++ more))
     number_sum after by = by.number ∙ ap (λ k. k + length (answered_of question form progress.counts.selected more)) number_is
@@ -97,6 +115,12 @@ module _ (question : Question) (form : Form) where
     refused_sum after refused_is by = by.refused ∙ ap (λ k. k + refused_count form.framing (answered_of question form progress.counts.selected more)) refused_is
         ∙ sym (ap (refused_count form.framing) sum ∙ count-append (refused_line form.framing) (answered_of question form 0 before) (answered_of question form progress.counts.selected more))
 
+  -- of the lines that came as many are refused as of those that are answered
+  pub all_refused : (stream : Stream) (came : List ℕ) (lines : List (List ℕ)) → IsAt form.framing came stream.held.items lines stream.is_first
+      → refused_count form.framing (answered_of question form 0 lines) ≡ refused_count form.framing (answered_of question form 0 (lines_come form.framing false came))
+  all_refused stream came lines at =
+      ap (λ ls. refused_count form.framing (answered_of question form 0 ls)) (sym (closed_now form.framing came stream.held.items lines stream.is_first at))
+
   module _ {W E : Type 0} (rows_in : W → Option (List ℕ)) (messages_in : E → Option (List ℕ)) where
     abbrev pub SoFar : Stream → Progress → Device W → Device W → Device E → Device E → List ℕ → List (List ℕ) → Type 0
     SoFar stream progress out0 out1 told0 told1 came lines = HasAnswered rows_in messages_in question form stream progress out0 out1 told0 told1 came lines
@@ -109,7 +133,7 @@ module _ (question : Question) (form : Form) where
       framing = framing;
       few = omega (arith, ap length held);
       rows = subst (λ ls. Received rows_in out out (output_from question form 1 ls)) (sym (none_taken 0)) (none_received out);
-      messages = subst (λ ls. Received messages_in told told (messages_from form 1 ls)) (sym (none_taken 0)) (none_received told);
+      messages = subst (λ ls. Received messages_in told told (messages_from form 0 1 ls)) (sym (none_taken 0)) (none_received told);
       number = number ∙ ap (λ (ls : List (List ℕ)). 1 + length ls) (sym (none_taken 0));
       selected = selected ∙ ap (selected_count question form.framing) (sym (none_taken 0));
       refused = refused ∙ ap (refused_count form.framing) (sym (none_taken 0));
@@ -124,7 +148,7 @@ module _ (question : Question) (form : Form) where
       framing = so.framing;
       few = so.few;
       rows = subst (λ t. Received rows_in out0 out2 t) (append-nil (output_from question form 1 (answered_of question form 0 lines))) (both_received out0 out1 out2 _ [] so.rows rows);
-      messages = subst (λ t. Received messages_in told0 told2 t) (append-nil (messages_from form 1 (answered_of question form 0 lines))) (both_received told0 told1 told2 _ [] so.messages messages);
+      messages = subst (λ t. Received messages_in told0 told2 t) (append-nil (messages_from form 0 1 (answered_of question form 0 lines))) (both_received told0 told1 told2 _ [] so.messages messages);
       number = so.number;
       selected = so.selected;
       refused = so.refused;
@@ -139,6 +163,24 @@ module _ (question : Question) (form : Form) where
         → Answered rows_in messages_in question form out0 out1 told0 told1 (answered question form (came_so came false failed))
     all_so_far stream progress out0 out1 told0 told1 came lines failed so =
         subst (λ ls. Answered rows_in messages_in question form out0 out1 told0 told1 (answered_of question form 0 ls)) (sym (come stream progress out0 out1 told0 told1 came lines so)) (record { rows = so.rows; messages = so.messages })
+
+    -- how many more are refused is told behind them
+    pub told_to_end : (out0 out1 : Device W) (told0 told1 told2 : Device E) (lines : List (List ℕ)) (count : ℕ) → count ≡ refused_count form.framing lines
+        → Answered rows_in messages_in question form out0 out1 told0 told1 lines → Received messages_in told1 told2 (more_refused form count)
+        → AnsweredToEnd rows_in messages_in question form out0 out1 told0 told2 lines
+    told_to_end out0 out1 told0 told1 told2 lines count is answered more = record {
+      rows = answered.rows;
+      messages = both_received told0 told1 told2 _ _ answered.messages (subst (λ n. Received messages_in told1 told2 (more_refused form n)) is more);
+    }
+
+    -- a beginning of that is
+    pub told_in_part : (out0 out1 : Device W) (told0 told1 told2 : Device E) (lines : List (List ℕ)) (count : ℕ) → count ≡ refused_count form.framing lines
+        → Answered rows_in messages_in question form out0 out1 told0 told1 lines → Part messages_in told1 told2 (more_refused form count)
+        → AnsweredInPart rows_in messages_in question form out0 out1 told0 told2 lines
+    told_in_part out0 out1 told0 told1 told2 lines count is answered more = record {
+      rows = part_more out0 out1 (output_from question form 1 lines) (summary_of form.summary form (selected_count question form.framing lines)) (part_so_far out0 out1 _ answered.rows);
+      messages = part_behind told0 told1 told2 (messages_from form 0 1 lines) _ answered.messages (subst (λ n. Part messages_in told1 told2 (more_refused form n)) is more);
+    }
 
     -- as many as are wanted were selected
     pub enough_selected : (stream : Stream) (progress : Progress) (out0 out1 : Device W) (told0 told1 : Device E) (came : List ℕ) (lines : List (List ℕ)) (failed : Bool) → SoFar stream progress out0 out1 told0 told1 came lines → progress.counts.selected ≡ form.most
@@ -157,11 +199,13 @@ module _ (question : Question) (form : Form) where
     -- a beginning of the answer of these lines, and of others behind them
     pub in_part : (progress : Progress) (out0 out1 out2 : Device W) (told0 told1 told2 : Device E) (before more others all : List (List ℕ))
         → progress.number ≡ 1 + length (answered_of question form 0 before) → progress.counts.selected ≡ selected_count question form.framing (answered_of question form 0 before)
-        → Received rows_in out0 out1 (output_from question form 1 (answered_of question form 0 before)) → Received messages_in told0 told1 (messages_from form 1 (answered_of question form 0 before))
-        → Part rows_in out1 out2 (output_from question form progress.number (answered_of question form progress.counts.selected more)) → Part messages_in told1 told2 (messages_from form progress.number (answered_of question form progress.counts.selected more))
+        → progress.counts.refused ≡ refused_count form.framing (answered_of question form 0 before)
+        → Received rows_in out0 out1 (output_from question form 1 (answered_of question form 0 before)) → Received messages_in told0 told1 (messages_from form 0 1 (answered_of question form 0 before))
+        → Part rows_in out1 out2 (output_from question form progress.number (answered_of question form progress.counts.selected more))
+        → Part messages_in told1 told2 (messages_from form progress.counts.refused progress.number (answered_of question form progress.counts.selected more))
         → all ≡ (before ++ more) ++ others
         → AnsweredInPart rows_in messages_in question form out0 out2 told0 told2 (answered_of question form 0 all)
-    in_part progress out0 out1 out2 told0 told1 told2 before more others all number selected rows messages rows_part messages_part e =
+    in_part progress out0 out1 out2 told0 told1 told2 before more others all number selected refused rows messages rows_part messages_part e =
         let both = before ++ more in
         let count = selected_count question form.framing (answered_of question form 0 both) in
         let rest = answered_of question form count others in
@@ -170,16 +214,21 @@ module _ (question : Question) (form : Form) where
         let front = output_from question form 1 (answered_of question form 0 before) in
         let one = output_from question form progress.number (answered_of question form progress.counts.selected more) in
         let summary = summary_of form.summary form (selected_count question form.framing (answered_of question form 0 all)) in
-        let told_front = messages_from form 1 (answered_of question form 0 before) in
-        let told_one = messages_from form progress.number (answered_of question form progress.counts.selected more) in
+        let refused_both = 0 + refused_count form.framing (answered_of question form 0 both) in
+        let told_front = messages_from form 0 1 (answered_of question form 0 before) in
+        let told_one = messages_from form progress.counts.refused progress.number (answered_of question form progress.counts.selected more) in
+        let told_rest = messages_from form refused_both k rest in
+        let told_behind = more_refused form (refused_count form.framing (answered_of question form 0 all)) in
         record {
           rows = part_next out0 out1 out2 front one (output_from question form k rest ++ summary) _
               (ap (λ ls. output_from question form 1 ls ++ summary) taken_all
               ∙ ap (λ l. l ++ summary) (output-append question form 1 (answered_of question form 0 both) rest ∙ ap (λ l. l ++ output_from question form k rest) (rows_sum before more progress number selected))
               ∙ append_assoc (front ++ one) (output_from question form k rest) summary)
               rows rows_part;
-          messages = part_next told0 told1 told2 told_front told_one (messages_from form k rest) _
-              (ap (messages_from form 1) taken_all ∙ messages-append question form 1 (answered_of question form 0 both) rest ∙ ap (λ l. l ++ messages_from form k rest) (messages_sum before more progress number selected))
+          messages = part_next told0 told1 told2 told_front told_one (told_rest ++ told_behind) _
+              (ap (λ ls. messages_from form 0 1 ls ++ told_behind) taken_all
+              ∙ ap (λ l. l ++ told_behind) (messages-append question form 0 1 (answered_of question form 0 both) rest ∙ ap (λ l. l ++ told_rest) (messages_sum before more progress number selected refused))
+              ∙ append_assoc (told_front ++ told_one) told_rest told_behind)
               messages messages_part;
         }
 
@@ -192,7 +241,7 @@ module _ (question : Question) (form : Form) where
         subst (λ ls. AnsweredInPart rows_in messages_in question form out0 out1 told0 told1 (answered_of question form 0 ls)) (sym is)
         (record {
           rows = part_more out0 out1 (output_from question form 1 all) (summary_of form.summary form (selected_count question form.framing all)) (part_so_far out0 out1 _ so.rows);
-          messages = part_so_far told0 told1 _ so.messages;
+          messages = part_more told0 told1 (messages_from form 0 1 all) (more_refused form (refused_count form.framing all)) (part_so_far told0 told1 _ so.messages);
         })
 
     -- a fault that is none of what is read
@@ -237,12 +286,13 @@ module _ (question : Question) (form : Form) where
         let is = ap (answered_of question form 0) none ∙ none_taken 0 in
         record {
           rows = subst (λ (o : Device W). Received rows_in out0 o []) (sym out) (subst (λ ls. Received rows_in out0 out1 (output_from question form 1 ls)) is so.rows);
-          messages = subst (λ (o : Device E). Received messages_in told0 o []) (sym told) (subst (λ ls. Received messages_in told0 told1 (messages_from form 1 ls)) is so.messages);
+          messages = subst (λ (o : Device E). Received messages_in told0 o []) (sym told) (subst (λ ls. Received messages_in told0 told1 (messages_from form 0 1 ls)) is so.messages);
         }
 
     -- these lines were answered, too
     pub goes_on_by : (stream0 stream1 : Stream) (before after : Progress) (out0 out1 out2 : Device W) (told0 told1 told2 : Device E) (came piece : List ℕ) (lines more : List (List ℕ)) → SoFar stream0 before out0 out1 told0 told1 came lines
-        → Received rows_in out1 out2 (output_from question form before.number (answered_of question form before.counts.selected more)) → Received messages_in told1 told2 (messages_from form before.number (answered_of question form before.counts.selected more))
+        → Received rows_in out1 out2 (output_from question form before.number (answered_of question form before.counts.selected more))
+        → Received messages_in told1 told2 (messages_from form before.counts.refused before.number (answered_of question form before.counts.selected more))
         → GoesOnBy question form before after (answered_of question form before.counts.selected more)
         → IsAt form.framing (came ++ piece) stream1.held.items (lines ++ more) stream1.is_first → stream1.framing ≡ form.framing → length stream1.held.items < 2 ^ 32
         → SoFar stream1 after out0 out2 told0 told2 (came ++ piece) (lines ++ more)
@@ -251,7 +301,7 @@ module _ (question : Question) (form : Form) where
       framing = framing;
       few = few;
       rows = subst (λ t. Received rows_in out0 out2 t) (sym (rows_sum lines more before so.number so.selected)) (both_received out0 out1 out2 _ _ so.rows rows);
-      messages = subst (λ t. Received messages_in told0 told2 t) (sym (messages_sum lines more before so.number so.selected)) (both_received told0 told1 told2 _ _ so.messages messages);
+      messages = subst (λ t. Received messages_in told0 told2 t) (sym (messages_sum lines more before so.number so.selected so.refused)) (both_received told0 told1 told2 _ _ so.messages messages);
       number = number_sum lines more before so.number so.selected after by;
       selected = selected_sum lines more before so.number so.selected after by;
       refused = refused_sum lines more before so.number so.selected after so.refused by;
@@ -272,7 +322,7 @@ module _ (question : Question) (form : Form) where
           framed = λ ended. all_framed form.framing came stream.held.items lines stream.is_first so.position framed;
           all = subst (λ ls. Answered rows_in messages_in question form out0 out2 told0 told2 ls) is (record {
             rows = subst (λ t. Received rows_in out0 out2 t) (sym (rows_sum lines more before so.number so.selected)) (both_received out0 out1 out2 _ _ so.rows answers.rows);
-            messages = subst (λ t. Received messages_in told0 told2 t) (sym (messages_sum lines more before so.number so.selected)) (both_received told0 told1 told2 _ _ so.messages answers.messages);
+            messages = subst (λ t. Received messages_in told0 told2 t) (sym (messages_sum lines more before so.number so.selected so.refused)) (both_received told0 told1 told2 _ _ so.messages answers.messages);
           });
           selected = selected_sum lines more before so.number so.selected after answers.progress ∙ ap (selected_count question form.framing) is;
           refused = refused_sum lines more before so.number so.selected after so.refused answers.progress ∙ ap (refused_count form.framing) is;
@@ -285,5 +335,5 @@ module _ (question : Question) (form : Form) where
         → AnsweredInPart rows_in messages_in question form out0 out2 told0 told2 (answered question form (came_so came true failed))
     ended_in_part stream before after out0 out1 out2 told0 told1 told2 came lines failed e so answers =
         let more = lines_in form.framing (text_of stream.is_first stream.held.items) in
-        in_part before out0 out1 out2 told0 told1 told2 lines more [] _ so.number so.selected so.rows so.messages answers.rows answers.messages
+        in_part before out0 out1 out2 told0 told1 told2 lines more [] _ so.number so.selected so.refused so.rows so.messages answers.rows answers.messages
         (all_answered form.framing came stream.held.items lines stream.is_first so.position ∙ sym (append-nil (lines ++ more)))

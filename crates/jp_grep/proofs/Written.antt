@@ -1,5 +1,5 @@
 -- Texts that are received piece by piece.
-use Rattle.std.proofs.Common.{◌≡◌, ◌∙◌, ◌<◌, ◌+◌, ℕ, List, [], ◌∷◌, ◌++◌, drop, get_or, length, map, take, refl, sym, ap, subst, append_assoc, append-nil, take-append-drop, Option, Result, Ok, Err, true, false}
+use Rattle.std.proofs.Common.{◌≡◌, ◌∙◌, ◌<◌, ◌+◌, ℕ, List, [], ◌∷◌, ◌++◌, drop, get_or, length, map, take, refl, sym, ap, subst, append_assoc, append-nil, take-append-drop, Option, Result, Ok, Err, false}
 use Rattle.std.specs.Prelude.{OnOk, flat_map, is_err}
 use Rattle.std.proofs.lemmas.List.{drop_more, map-append, take_more}
 use Rattle.std.proofs.lemmas.Grind.{flat_map-append}

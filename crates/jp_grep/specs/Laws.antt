@@ -13,6 +13,7 @@ use Rattle.jp_form.specs.declared.form.Shown.TheVariants as shown
 use Rattle.jp_form.specs.declared.form.Spelling.TheVariants as spellings
 use Rattle.jp_form.specs.declared.form.Summary.{Summary}
 use Rattle.jp_grep.specs.declared.question.Question.{Question}
+use Rattle.jp_grep.specs.declared.question.Wanted.TheVariants as wanted
 
 -- values with their paths and the numbers of their lines, as `-onp` prints them
 abbrev pub numbered_values : Summary → Bor (List ℕ) → Bool → ℕ → Form
@@ -35,6 +36,6 @@ row_with_colon line (refusal_row n fault) = []
 
 -- Asked one query and no condition, the rows of each line are those that the query answers, node by node.
 abbrev pub RowsAreThoseOfAQuery : Type 0
-RowsAreThoseOfAQuery = (question : Question) (query : Segments) → queries_of question ≡ query ∷ [] → conditions_of question ≡ [] → question.inverted ≡ false
+RowsAreThoseOfAQuery = (question : Question) (query : Segments) → queries_of question ≡ query ∷ [] → conditions_of question ≡ [] → question.wanted ≡ wanted.Matching
     → (summary : Summary) (name : Bor (List ℕ)) (silent : Bool) (most n : ℕ) (line : List ℕ)
     → line_rows question (numbered_values summary name silent most) n line ≡ flat_map (row_with_colon line) (query_rows query n (status_of framings.Lines line))

@@ -1,5 +1,5 @@
 -- Which lines are selected.
-use Rattle.std.specs.Prelude.{List, [], ◌∷◌, map, flat_map, length, Bool, true, false, ◌&&◌, ◌||◌, not, ◌==◌, if◌then◌else◌}
+use Rattle.std.specs.Prelude.{List, [], ◌∷◌, map, flat_map, length, Bool, true, false, ◌&&◌, ◌||◌, not, ◌==◌}
 use Rattle.jp_model.specs.Json.Status.{LineStatus, blank, refused, parsed}
 use Rattle.jp_model.specs.Json.Tree.{Tree}
 use Rattle.jp_model.specs.Meaning.Nodes.{Node, root_node}
@@ -7,6 +7,8 @@ use Rattle.jp_model.specs.Meaning.Selecting.{nodes, truth}
 use Rattle.jp_model.specs.Query.Syntax.{Logical, Segments}
 use Rattle.jp_eval.specs.Compiled.{predicate_view, program_view}
 use Rattle.jp_grep.specs.declared.question.Question.{Question}
+use Rattle.jp_grep.specs.declared.question.Wanted.{Wanted}
+use Rattle.jp_grep.specs.declared.question.Wanted.TheVariants as wanted
 
 -- what a query selects from the root of a line
 abbrev pub selected_by : Segments → Tree → List Node
@@ -37,15 +39,37 @@ conditions_of question = map predicate_view question.conditions.items
 abbrev pub matches : Question → Tree → Bool
 matches question t = all_hold (conditions_of question) t && selects (queries_of question) t
 
--- the nodes of a value are asked for: the conditions hold, or inverted, it does not match
-abbrev pub wants_nodes : Question → Tree → Bool
-wants_nodes question t = if question.inverted then not (matches question t) else all_hold (conditions_of question) t
+-- a value is wanted, by whether it matches
+abbrev pub wants_value : Wanted → Bool → Bool
+wants_value wanted.Matching matching = matching
+wants_value wanted.Others matching = not matching
+wants_value wanted.Refused matching = false
 
--- A line is selected where it has a value that matches, or, inverted, one that does not. One that is blank or refused never is.
+-- a refused line is wanted
+abbrev pub wants_refused : Wanted → Bool
+wants_refused wanted.Refused = true
+wants_refused _ = false
+
+-- A line is selected where it has a value that is wanted, or is refused and refused lines are. A blank one never is.
 abbrev pub is_selected : Question → LineStatus → Bool
 is_selected question blank = false
-is_selected question (refused fault) = false
-is_selected question (parsed t) = if question.inverted then not (matches question t) else matches question t
+is_selected question (refused fault) = wants_refused question.wanted
+is_selected question (parsed t) = wants_value question.wanted (matches question t)
+
+-- the nodes of a value are asked for, by whether the conditions hold and whether it matches
+abbrev pub wants_nodes_where : Wanted → (holding matching : Bool) → Bool
+wants_nodes_where wanted.Matching holding matching = holding
+wants_nodes_where wanted.Others holding matching = not matching
+wants_nodes_where wanted.Refused holding matching = false
+
+abbrev pub wants_nodes : Question → Tree → Bool
+wants_nodes question t = wants_nodes_where question.wanted (all_hold (conditions_of question) t) (matches question t)
+
+-- such a value is wanted, by whether there is a node
+abbrev pub wants_found : Wanted → Bool → Bool
+wants_found wanted.Matching some = some
+wants_found wanted.Others some = true
+wants_found wanted.Refused some = false
 
 -- all nodes that the queries select, query by query
 abbrev pub nodes_of : List Segments → Tree → List Node

@@ -1,5 +1,5 @@
 -- What is written of a line, and what is told of it.
-use Rattle.std.specs.Prelude.{ℕ, ◌+◌, List, [], ◌∷◌, ◌++◌, flat_map, codes, decimal, count_by, Bool, true, false, ◌==◌, if◌then◌else◌}
+use Rattle.std.specs.Prelude.{ℕ, ◌+◌, List, [], ◌∷◌, ◌++◌, flat_map, codes, cond, decimal, count_by, Bool, true, false, ◌==◌, if◌then◌else◌, ltb}
 use Rattle.jp_model.specs.declared.Framing.{Framing}
 use Rattle.jp_model.specs.declared.Framing.TheVariants as framings
 use Rattle.jp_model.specs.declared.LineFault.{LineFault}
@@ -64,7 +64,7 @@ node_rows form paths n line nodes = flat_map (λ node. row form n (path_front pa
 -- what is written of a selected line with this value
 abbrev pub shown_rows : Shown → Question → Form → ℕ → List ℕ → Tree → List ℕ
 shown_rows shown.Nothing question form n line t = []
-shown_rows shown.Line question form n line t = row form n (line_text form.spelling form.framing line t)
+shown_rows (shown.Line faults) question form n line t = row form n (line_text form.spelling form.framing line t)
 shown_rows (shown.Values paths) question form n line t = node_rows form paths n line (nodes_of (queries_of question) t)
 shown_rows (shown.Cells table) question form n line t = table_row table (queries_of question) form n line t
 
@@ -73,10 +73,20 @@ abbrev pub row_at_once : Shown → Question → Form → ℕ → List ℕ → Tr
 row_at_once (shown.Values paths) question form n line t = []
 row_at_once shown question form n line t = shown_rows shown question form n line t
 
+-- the word of its fault in front of a refused line
+abbrev pub fault_front : Bool → LineFault → List ℕ
+fault_front false fault = []
+fault_front true fault = line_fault_word fault ++ tab
+
+-- what is written of a selected line that is refused: its bytes, and no values or cells, since it has none
+abbrev pub refused_rows : Shown → Form → ℕ → List ℕ → LineFault → List ℕ
+refused_rows (shown.Line faults) form n line fault = row form n (fault_front faults fault ++ line)
+refused_rows _ form n line fault = []
+
 -- what is written of a line
 abbrev pub status_rows : Question → Form → ℕ → List ℕ → LineStatus → List ℕ
 status_rows question form n line blank = []
-status_rows question form n line (refused fault) = []
+status_rows question form n line (refused fault) = if is_selected question (refused fault) then refused_rows form.shown form n line fault else []
 status_rows question form n line (parsed t) = if is_selected question (parsed t) then shown_rows form.shown question form n line t else []
 
 -- the message on a refused line, where messages are wanted
@@ -84,11 +94,15 @@ abbrev pub refusal : Bool → List ℕ → ℕ → LineFault → List ℕ
 refusal true name n fault = []
 refusal false name n fault = codes "jpgrep: " ++ name_front true name ++ number_front true n ++ codes " " ++ (line_fault_word fault ++ line_feed)
 
--- what is told of a line
-abbrev pub status_message : Form → ℕ → LineStatus → List ℕ
-status_message form n blank = []
-status_message form n (refused fault) = refusal form.silent form.name.now n fault
-status_message form n (parsed t) = []
+-- the refused lines of a stream that are told one by one are the first ten (profile)
+abbrev pub most_told : ℕ
+most_told = 10
+
+-- what is told of a line in front of which some are refused
+abbrev pub status_message : Form → (before : ℕ) → ℕ → LineStatus → List ℕ
+status_message form before n blank = []
+status_message form before n (refused fault) = if ltb before most_told then refusal form.silent form.name.now n fault else []
+status_message form before n (parsed t) = []
 
 -- the same of a line by its bytes
 abbrev pub selected_line : Question → Framing → List ℕ → Bool
@@ -97,18 +111,13 @@ selected_line question framing line = is_selected question (status_of framing li
 abbrev pub line_rows : Question → Form → ℕ → List ℕ → List ℕ
 line_rows question form n line = status_rows question form n line (status_of form.framing line)
 
-abbrev pub line_message : Form → ℕ → List ℕ → List ℕ
-line_message form n line = status_message form n (status_of form.framing line)
+abbrev pub line_message : Form → (before : ℕ) → ℕ → List ℕ → List ℕ
+line_message form before n line = status_message form before n (status_of form.framing line)
 
 -- the output of some lines, of which the first has number n
 abbrev pub output_from : Question → Form → ℕ → List (List ℕ) → List ℕ
 output_from question form n [] = []
 output_from question form n (line ∷ rest) = line_rows question form n line ++ output_from question form (n + 1) rest
-
--- the messages on them
-abbrev pub messages_from : Form → ℕ → List (List ℕ) → List ℕ
-messages_from form n [] = []
-messages_from form n (line ∷ rest) = line_message form n line ++ messages_from form (n + 1) rest
 
 -- how many of them are refused
 abbrev pub refused_line : Framing → List ℕ → Bool
@@ -116,6 +125,11 @@ refused_line framing line = is_refused_status (status_of framing line)
 
 abbrev pub refused_count : Framing → List (List ℕ) → ℕ
 refused_count framing lines = count_by (refused_line framing) lines
+
+-- the messages on them, where some lines in front of them are refused
+abbrev pub messages_from : Form → (before : ℕ) → ℕ → List (List ℕ) → List ℕ
+messages_from form before n [] = []
+messages_from form before n (line ∷ rest) = line_message form before n line ++ messages_from form (before + cond (refused_line form.framing line) 1 0) (n + 1) rest
 
 -- how many of them are selected
 abbrev pub selected_count : Question → Framing → List (List ℕ) → ℕ

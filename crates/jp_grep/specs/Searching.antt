@@ -31,7 +31,7 @@ module _ {W E : Type 0} (rows_in : W → Option (List ℕ)) (messages_in : E →
   -- These lines are answered, as far as they are wanted: both writers received what is written of them, at an Err a beginning.
   pub record Answers (question : Question) (form : Form) (before after : Progress) (out0 out1 : Device W) (told0 told1 : Device E) (result : Result Unit SearchFault) (lines : List (List ℕ)) : Type 0 where
     pub rows : Writes rows_in out0 out1 result (output_from question form before.number (answered_of question form before.counts.selected lines))
-    pub messages : Writes messages_in told0 told1 result (messages_from form before.number (answered_of question form before.counts.selected lines))
+    pub messages : Writes messages_in told0 told1 result (messages_from form before.counts.refused before.number (answered_of question form before.counts.selected lines))
     pub progress : OnOk result (GoesOnBy question form before after (answered_of question form before.counts.selected lines))
 
   -- a piece of the stream came, and the lines that end in it are answered, whatever came before
@@ -51,7 +51,7 @@ module _ {W E : Type 0} (rows_in : W → Option (List ℕ)) (messages_in : E →
     pub framing : stream.framing ≡ form.framing
     pub few : length stream.held.items < 2 ^ 32
     pub rows : Received rows_in out0 out1 (output_from question form 1 (answered_of question form 0 answered))
-    pub messages : Received messages_in told0 told1 (messages_from form 1 (answered_of question form 0 answered))
+    pub messages : Received messages_in told0 told1 (messages_from form 0 1 (answered_of question form 0 answered))
     pub number : progress.number ≡ 1 + length (answered_of question form 0 answered)
     pub selected : progress.counts.selected ≡ selected_count question form.framing (answered_of question form 0 answered)
     pub refused : progress.counts.refused ≡ refused_count form.framing (answered_of question form 0 answered)

@@ -83,6 +83,6 @@ header_row table form queries = joined table (front_cells form (codes "file") (c
 -- what stands above all rows: that row where they are those of a table
 abbrev pub header_text : Shown → Form → List (List ℕ) → List ℕ
 header_text shown.Nothing form queries = []
-header_text shown.Line form queries = []
+header_text (shown.Line faults) form queries = []
 header_text (shown.Values paths) form queries = []
 header_text (shown.Cells table) form queries = header_row table form queries

@@ -6,6 +6,7 @@ use Rattle.jp_grep.specs.Formats.{format_of}
 use Rattle.jp_grep.specs.Fronts.{IsOfLines, IsRefused}
 use Rattle.jp_grep.specs.Rows.{messages_from, output_from, refused_count, selected_count, selected_line, summary_of}
 use Rattle.jp_grep.specs.Streams.{lines_come, up_to}
+use Rattle.jp_grep.specs.Told.{told_of}
 use Rattle.jp_grep.specs.declared.fault.SearchFault.{SearchFault}
 use Rattle.jp_grep.specs.declared.fault.SearchFault.TheVariants as faults
 use Rattle.jp_form.specs.declared.form.Form.{Form}
@@ -24,7 +25,12 @@ module _ {W E : Type 0} (rows_in : W → Option (List ℕ)) (messages_in : E →
   -- both writers received what is answered of these lines, and nothing else
   pub record Answered (question : Question) (form : Form) (out0 out1 : Device W) (told0 told1 : Device E) (lines : List (List ℕ)) : Type 0 where
     pub rows : Received rows_in out0 out1 (output_from question form 1 lines)
-    pub messages : Received messages_in told0 told1 (messages_from form 1 lines)
+    pub messages : Received messages_in told0 told1 (messages_from form 0 1 lines)
+
+  -- the same, and what is told behind them
+  pub record AnsweredToEnd (question : Question) (form : Form) (out0 out1 : Device W) (told0 told1 : Device E) (lines : List (List ℕ)) : Type 0 where
+    pub rows : Received rows_in out0 out1 (output_from question form 1 lines)
+    pub messages : Received messages_in told0 told1 (told_of form lines)
 
   -- the rows of these lines, and what is written behind them
   abbrev pub whole_output : Question → Form → List (List ℕ) → List ℕ
@@ -33,7 +39,7 @@ module _ {W E : Type 0} (rows_in : W → Option (List ℕ)) (messages_in : E →
   -- both received a beginning of it, and nothing else
   pub record AnsweredInPart (question : Question) (form : Form) (out0 out1 : Device W) (told0 told1 : Device E) (lines : List (List ℕ)) : Type 0 where
     pub rows : (part : List ℕ) × Begins part (whole_output question form lines) × Received rows_in out0 out1 part
-    pub messages : (part : List ℕ) × Begins part (messages_from form 1 lines) × Received messages_in told0 told1 part
+    pub messages : (part : List ℕ) × Begins part (told_of form lines) × Received messages_in told0 told1 part
 
   -- What passed while the lines of a stream were answered up to its end, or up to the last line that is wanted: all is
   -- answered.
@@ -50,7 +56,7 @@ module _ {W E : Type 0} (rows_in : W → Option (List ℕ)) (messages_in : E →
     pub format : format_of came.bytes ≡ None
     pub framed : came.ended ≡ true → is_framed form.framing came.bytes ≡ true
     pub rows : Received rows_in out0 out1 (whole_output question form (answered question form came))
-    pub messages : Received messages_in told0 told1 (messages_from form 1 (answered question form came))
+    pub messages : Received messages_in told0 told1 (told_of form (answered question form came))
     pub selected : counts.selected ≡ selected_count question form.framing (answered question form came)
     pub refused : counts.refused ≡ refused_count form.framing (answered question form came)
     pub end : (came.ended ≡ true) ⊎ (counts.selected ≡ form.most)
@@ -59,7 +65,7 @@ module _ {W E : Type 0} (rows_in : W → Option (List ℕ)) (messages_in : E →
   -- refused as a whole nothing is answered. After any other fault the stream is one of lines, if it had ended.
   abbrev pub SearchStopped : Question → Form → Device W → Device W → Device E → Device E → SearchFault → Came → Type 0
   SearchStopped question form out0 out1 told0 told1 faults.Read came =
-      (came.ended ≡ false) × (format_of came.bytes ≡ None) × Answered question form out0 out1 told0 told1 (answered question form came)
+      (came.ended ≡ false) × (format_of came.bytes ≡ None) × AnsweredToEnd question form out0 out1 told0 told1 (answered question form came)
   SearchStopped question form out0 out1 told0 told1 faults.Framing came =
       IsRefused form.framing came faults.Framing × Answered question form out0 out1 told0 told1 []
   SearchStopped question form out0 out1 told0 told1 (faults.Foreign format) came =

@@ -1,8 +1,8 @@
 //! The answer of lines: rows of those that are selected, messages on those that are refused.
 
-ghost use Rattle.std.specs.Prelude.{◌≡◌, ◌∷◌, ◌++◌, [], List, ℕ, false, map, IfOk, OnOk, if◌then◌else◌};
+ghost use Rattle.std.specs.Prelude.{◌≡◌, ◌∷◌, ◌++◌, [], List, ℕ, false, map, IfOk, OnOk, if◌then◌else◌, true};
 ghost use Rattle.jp_devices.specs.Devices.{Writes};
-ghost use Rattle.jp_model.specs.Json.Status.{parsed};
+ghost use Rattle.jp_model.specs.Json.Status.{parsed, refused};
 ghost use Rattle.jp_nodes.specs.Cursors.{node_of};
 ghost use Rattle.jp_children.specs.Found.{AreOf};
 ghost use Rattle.jp_lines.specs.Batches.{IsBatch, IsBatchLine, texts_of};
@@ -12,8 +12,7 @@ ghost use Rattle.jp_grep.specs.Held.{Holds};
 ghost use Rattle.jp_grep.specs.Holding.{Puts, TellsOfBoth, TellsOfWriter};
 ghost use Rattle.jp_grep.specs.Faults.{IsToldOf, is_input_fault};
 ghost use Rattle.jp_grep.specs.Matching.{has_nodes, is_selected, nodes_of, queries_of, selected_by, selects, wants_nodes};
-ghost use Rattle.jp_grep.specs.Progress.{says_refused, says_selected};
-ghost use Rattle.jp_grep.specs.Rows.{line_message, line_rows, line_text, messages_from, node_rows, output_from, refusal, refused_line, row, row_at_once, selected_line, status_rows, whole};
+ghost use Rattle.jp_grep.specs.Rows.{line_message, line_rows, line_text, messages_from, node_rows, output_from, refused_line, row, row_at_once, selected_line, status_message, status_rows, whole};
 ghost use Rattle.jp_grep.specs.Searching.{Answers, GoesOnBy, IsUnderWay};
 ghost use Rattle.jp_grep.specs.Spelled.{spelled};
 ghost use Rattle.jp_grep.specs.Tables.{nodes_cell, table_row};
@@ -22,10 +21,11 @@ ghost use Rattle.jp_grep.specs.Watching.{answered_of};
 use crate::fault::SearchFault;
 use crate::outlet::Outlet;
 use crate::progress::{Progress, Verdict};
-use crate::question::{Question, find_nodes};
+use crate::question::{Question, Wanted, find_nodes};
 use crate::room::Room;
-use crate::rows::{add_front, add_refusal, add_row, add_value};
+use crate::rows::{add_front, add_refusal, add_refused, add_row, add_value};
 use crate::spelling::Speller;
+use crate::told::MOST_TOLD;
 use itoa::Buffer;
 use jp_eval::Program;
 use jp_form::{Form, Shown, Spelling, Table};
@@ -42,18 +42,6 @@ pub(crate) struct Answerer<'q> {
     pub(crate) alloc: Global,
     pub(crate) question: &'q Question,
     pub(crate) form: &'q Form<'q>,
-}
-
-/// What comes of a line that has a value.
-fn verdict_of(selected: bool) -> Verdict
-    ensures selected { says_selected result ≡ selected }
-    ensures refused { says_refused result ≡ false }
-{
-    if selected {
-        Verdict::Selected
-    } else {
-        Verdict::Passed
-    }
 }
 
 // How the row of a line is made.
@@ -148,15 +136,17 @@ impl<'q> Answerer<'q> {
         Ok(some)
     }
 
-    /// Whether the nodes of a line are asked for: whether the conditions hold, or inverted, whether it does not match.
+    /// Whether the nodes of a line are asked for: whether the conditions hold, or, where the other lines are wanted, whether it
+    /// does not match.
     fn wants_nodes<'r>(self, line: LineView<'r>, room: &mut Room<'r>) -> Result<bool, AllocError>
         ensures wanted { IfOk result (λ wanted. wanted ≡ wants_nodes self.entry.question.now (tree_of_view line.entry)) }
         ensures row { room.new.row ≡ room.old.row }
     {
-        if self.question.inverted {
-            return Ok(!self.question.matches(self.alloc, line, &mut room.frame)?);
+        match self.question.wanted {
+            Wanted::Matching => self.question.all_hold(self.alloc, line, &mut room.frame),
+            Wanted::Others => Ok(!self.question.matches(self.alloc, line, &mut room.frame)?),
+            Wanted::Refused => Ok(false),
         }
-        self.question.all_hold(self.alloc, line, &mut room.frame)
     }
 
     /// Makes the row of a line of which the cells are shown, where it is selected. The queries are asked once.
@@ -167,20 +157,20 @@ impl<'q> Answerer<'q> {
         line: LineView<'r>,
         room: &mut Room<'r>,
     ) -> Result<Verdict, AllocError>
-        ensures refused { IfOk result (λ verdict. says_refused verdict ≡ false) }
-        ensures selected { IfOk result (λ verdict. says_selected verdict ≡ is_selected self.entry.question.now (parsed (tree_of_view line.entry))) }
+        ensures refused { IfOk result (λ verdict. verdict.refused ≡ false) }
+        ensures selected { IfOk result (λ verdict. verdict.selected ≡ is_selected self.entry.question.now (parsed (tree_of_view line.entry))) }
         ensures row { OnOk result (room.new.row.items ≡ room.old.row.items ++ (if is_selected self.entry.question.now (parsed (tree_of_view line.entry))
             then table_row table (queries_of self.entry.question.now) self.entry.form.now number (text_of_view line.entry) (tree_of_view line.entry) else [])) }
     {
         if !self.wants_nodes(line, room)? {
-            return Ok(Verdict::Passed);
+            return Ok(Verdict::unrefused(false));
         }
         let some = self.make_cells(table, number, line, room)?;
-        if !some && !self.question.inverted {
-            return Ok(Verdict::Passed);
+        if !self.question.wanted.wants_found(some) {
+            return Ok(Verdict::unrefused(false));
         }
         room.row.extend_from_slice(&room.cells.text)?;
-        Ok(Verdict::Selected)
+        Ok(Verdict::unrefused(true))
     }
 
     /// Makes the row of a line of which nothing or the line is shown, where it is selected.
@@ -193,19 +183,19 @@ impl<'q> Answerer<'q> {
         room: &mut Room<'r>,
     ) -> Result<Verdict, AllocError>
         requires text { text_of_view line ≡ text.now }
-        ensures refused { IfOk result (λ verdict. says_refused verdict ≡ false) }
-        ensures selected { IfOk result (λ verdict. says_selected verdict ≡ is_selected self.entry.question.now (parsed (tree_of_view line.entry))) }
+        ensures refused { IfOk result (λ verdict. verdict.refused ≡ false) }
+        ensures selected { IfOk result (λ verdict. verdict.selected ≡ is_selected self.entry.question.now (parsed (tree_of_view line.entry))) }
         ensures row { OnOk result (room.new.row.items ≡ room.old.row.items ++ (if is_selected self.entry.question.now (parsed (tree_of_view line.entry))
             then (if shown then row self.entry.form.now number (line_text self.entry.form.now.spelling self.entry.form.now.framing text.now (tree_of_view line.entry)) else []) else [])) }
     {
-        let matches = self.question.matches(self.alloc, line, &mut room.frame)?;
-        if matches == self.question.inverted {
-            return Ok(Verdict::Passed);
+        let matching = self.question.matches(self.alloc, line, &mut room.frame)?;
+        if !self.question.wanted.wants_value(matching) {
+            return Ok(Verdict::unrefused(false));
         }
         if shown {
             self.add_line(number, line, text, room)?;
         }
-        Ok(Verdict::Selected)
+        Ok(Verdict::unrefused(true))
     }
 
     /// Makes the row of a line that has a value, where it is selected, unless the values are shown that the queries select.
@@ -217,8 +207,8 @@ impl<'q> Answerer<'q> {
         room: &mut Room<'r>,
     ) -> Result<Verdict, AllocError>
         requires text { text_of_view line ≡ text.now }
-        ensures refused { IfOk result (λ verdict. says_refused verdict ≡ false) }
-        ensures selected { IfOk result (λ verdict. says_selected verdict ≡ is_selected self.entry.question.now (parsed (tree_of_view line.entry))) }
+        ensures refused { IfOk result (λ verdict. verdict.refused ≡ false) }
+        ensures selected { IfOk result (λ verdict. verdict.selected ≡ is_selected self.entry.question.now (parsed (tree_of_view line.entry))) }
         ensures row { OnOk result (room.new.row.items ≡ (if is_selected self.entry.question.now (parsed (tree_of_view line.entry))
             then row_at_once self.entry.form.now.shown self.entry.question.now self.entry.form.now number text.now (tree_of_view line.entry) else [])) }
     {
@@ -227,7 +217,7 @@ impl<'q> Answerer<'q> {
             Shown::Nothing | Shown::Values { .. } => {
                 self.make_line_row(false, number, line, text, room)
             }
-            Shown::Line => self.make_line_row(true, number, line, text, room),
+            Shown::Line { .. } => self.make_line_row(true, number, line, text, room),
             Shown::Cells(table) => self.make_table_row(table, number, line, room),
         }
     }
@@ -312,19 +302,19 @@ impl<'q> Answerer<'q> {
     ) -> Result<Verdict, SearchFault>
         requires text { text_of_view line ≡ text.now }
         requires working { out.old.failed ≡ false }
-        ensures refused { IfOk result (λ verdict. says_refused verdict ≡ false) }
-        ensures selected { IfOk result (λ verdict. says_selected verdict ≡ is_selected self.entry.question.now (parsed (tree_of_view line.entry))) }
+        ensures refused { IfOk result (λ verdict. verdict.refused ≡ false) }
+        ensures selected { IfOk result (λ verdict. verdict.selected ≡ is_selected self.entry.question.now (parsed (tree_of_view line.entry))) }
         ensures rows { Puts W.contents out.old out.new outlet.old.held.items outlet.new.held.items result (if is_selected self.entry.question.now (parsed (tree_of_view line.entry))
             then node_rows self.entry.form.now paths number text.now (nodes_of (queries_of self.entry.question.now) (tree_of_view line.entry)) else []) }
         ensures tells { TellsOfWriter result out.old out.new }
     {
         match self.wants_nodes(line, room) {
             Ok(true) => {}
-            Ok(false) => return Ok(Verdict::Passed),
+            Ok(false) => return Ok(Verdict::unrefused(false)),
             Err(_) => return Err(SearchFault::Memory),
         }
         let some = self.put_nodes(paths, number, line, text, room, outlet, out)?;
-        Ok(verdict_of(some || self.question.inverted))
+        Ok(Verdict::unrefused(self.question.wanted.wants_found(some)))
     }
 
     /// Answers a line that has a value.
@@ -339,8 +329,8 @@ impl<'q> Answerer<'q> {
     ) -> Result<Verdict, SearchFault>
         requires text { text_of_view line ≡ text.now }
         requires working { out.old.failed ≡ false }
-        ensures refused { IfOk result (λ verdict. says_refused verdict ≡ false) }
-        ensures selected { IfOk result (λ verdict. says_selected verdict ≡ is_selected self.entry.question.now (parsed (tree_of_view line.entry))) }
+        ensures refused { IfOk result (λ verdict. verdict.refused ≡ false) }
+        ensures selected { IfOk result (λ verdict. verdict.selected ≡ is_selected self.entry.question.now (parsed (tree_of_view line.entry))) }
         ensures rows { Puts W.contents out.old out.new outlet.old.held.items outlet.new.held.items result (status_rows self.entry.question.now self.entry.form.now number text.now (parsed (tree_of_view line.entry))) }
         ensures tells { TellsOfWriter result out.old out.new }
     {
@@ -354,10 +344,10 @@ impl<'q> Answerer<'q> {
         Ok(verdict)
     }
 
-    /// Tells of a refused line, where messages are wanted. The rows of the lines before it are written first.
+    /// Tells of a refused line, where messages are wanted and few were told. The rows of the lines before it are written first.
     fn tell<'r, W: Write, E: Write>(
         self,
-        number: u64,
+        progress: Progress,
         fault: LineFault,
         room: &mut Room<'r>,
         outlet: &mut Outlet,
@@ -367,15 +357,15 @@ impl<'q> Answerer<'q> {
         requires writes { out.old.failed ≡ false }
         requires reports { messages.old.failed ≡ false }
         ensures rows { Puts W.contents out.old out.new outlet.old.held.items outlet.new.held.items result [] }
-        ensures message { Writes E.contents messages.old messages.new result (refusal self.entry.form.now.silent self.entry.form.now.name.now number fault) }
+        ensures message { Writes E.contents messages.old messages.new result (status_message self.entry.form.now progress.counts.refused progress.number (refused fault)) }
         ensures tells { TellsOfBoth result out.old out.new messages.old messages.new }
         ensures others { IsToldOf is_input_fault result false }
     {
-        if self.form.silent {
+        if self.form.silent || progress.counts.refused >= MOST_TOLD {
             return Ok(());
         }
         room.row.clear();
-        if add_refusal(self.form, number, fault, &mut room.row).is_err() {
+        if add_refusal(self.form, progress.number, fault, &mut room.row).is_err() {
             return Err(SearchFault::Memory);
         }
         outlet.write_held(out)?;
@@ -385,10 +375,58 @@ impl<'q> Answerer<'q> {
         }
     }
 
+    /// Makes the row of a refused line, where refused lines are wanted, and tells whether they are.
+    fn make_refused_row(
+        self,
+        number: u64,
+        fault: LineFault,
+        text: &[u8],
+        row: &mut Vec<u8>,
+    ) -> Result<bool, AllocError>
+        ensures selected { IfOk result (λ selected. selected ≡ is_selected self.entry.question.now (refused fault)) }
+        ensures row { OnOk result (row.new.items ≡ status_rows self.entry.question.now self.entry.form.now number text.now (refused fault)) }
+    {
+        row.clear();
+        if !self.question.wanted.wants_refused() {
+            return Ok(false);
+        }
+        let Shown::Line { faults } = self.form.shown else {
+            return Ok(true);
+        };
+        add_refused(self.form, faults, number, fault, text, row)?;
+        Ok(true)
+    }
+
+    /// Answers a refused line: puts its row, where refused lines are wanted.
+    fn answer_refused<'r, W: Write>(
+        self,
+        number: u64,
+        fault: LineFault,
+        text: &[u8],
+        room: &mut Room<'r>,
+        outlet: &mut Outlet,
+        out: &mut Watched<W>,
+    ) -> Result<Verdict, SearchFault>
+        requires working { out.old.failed ≡ false }
+        ensures selected { IfOk result (λ verdict. verdict.selected ≡ is_selected self.entry.question.now (refused fault)) }
+        ensures refused { IfOk result (λ verdict. verdict.refused ≡ true) }
+        ensures rows { Puts W.contents out.old out.new outlet.old.held.items outlet.new.held.items result (status_rows self.entry.question.now self.entry.form.now number text.now (refused fault)) }
+        ensures tells { TellsOfWriter result out.old out.new }
+    {
+        let Ok(selected) = self.make_refused_row(number, fault, text, &mut room.row) else {
+            return Err(SearchFault::Memory);
+        };
+        outlet.put(&room.row, out)?;
+        Ok(Verdict {
+            selected,
+            refused: true,
+        })
+    }
+
     /// Answers a line.
     fn answer_line<'r, W: Write, E: Write>(
         self,
-        number: u64,
+        progress: Progress,
         line: BatchLine<'r>,
         room: &mut Room<'r>,
         outlet: &mut Outlet,
@@ -398,20 +436,22 @@ impl<'q> Answerer<'q> {
         requires line { IsBatchLine self.form.now.framing line }
         requires writes { out.old.failed ≡ false }
         requires reports { messages.old.failed ≡ false }
-        ensures selected { IfOk result (λ verdict. says_selected verdict ≡ selected_line self.entry.question.now self.entry.form.now.framing line.entry.text.now) }
-        ensures refused { IfOk result (λ verdict. says_refused verdict ≡ refused_line self.entry.form.now.framing line.entry.text.now) }
-        ensures rows { Puts W.contents out.old out.new outlet.old.held.items outlet.new.held.items result (line_rows self.entry.question.now self.entry.form.now number line.entry.text.now) }
-        ensures messages { Writes E.contents messages.old messages.new result (line_message self.entry.form.now number line.entry.text.now) }
+        ensures selected { IfOk result (λ verdict. verdict.selected ≡ selected_line self.entry.question.now self.entry.form.now.framing line.entry.text.now) }
+        ensures refused { IfOk result (λ verdict. verdict.refused ≡ refused_line self.entry.form.now.framing line.entry.text.now) }
+        ensures rows { Puts W.contents out.old out.new outlet.old.held.items outlet.new.held.items result (line_rows self.entry.question.now self.entry.form.now progress.number line.entry.text.now) }
+        ensures messages { Writes E.contents messages.old messages.new result (line_message self.entry.form.now progress.counts.refused progress.number line.entry.text.now) }
         ensures tells { TellsOfBoth result out.old out.new messages.old messages.new }
         ensures others { IsToldOf is_input_fault result false }
     {
         match line.state {
-            LineState::Blank => Ok(Verdict::Passed),
+            LineState::Blank => Ok(Verdict::unrefused(false)),
             LineState::Refused(fault) => {
-                self.tell(number, fault, room, outlet, out, messages)?;
-                Ok(Verdict::Refused)
+                self.tell(progress, fault, room, outlet, out, messages)?;
+                self.answer_refused(progress.number, fault, line.text, room, outlet, out)
             }
-            LineState::Tree(view) => self.answer_value(number, view, line.text, room, outlet, out),
+            LineState::Tree(view) => {
+                self.answer_value(progress.number, view, line.text, room, outlet, out)
+            }
         }
     }
 
@@ -430,7 +470,7 @@ impl<'q> Answerer<'q> {
         requires writes { out.old.failed ≡ false }
         requires reports { messages.old.failed ≡ false }
         ensures rows { Puts W.contents out.old out.new outlet.old.held.items outlet.new.held.items result (output_from self.entry.question.now self.entry.form.now progress.old.number (answered_of self.entry.question.now self.entry.form.now progress.old.counts.selected (texts_of batch.entry))) }
-        ensures messages { Writes E.contents messages.old messages.new result (messages_from self.entry.form.now progress.old.number (answered_of self.entry.question.now self.entry.form.now progress.old.counts.selected (texts_of batch.entry))) }
+        ensures messages { Writes E.contents messages.old messages.new result (messages_from self.entry.form.now progress.old.counts.refused progress.old.number (answered_of self.entry.question.now self.entry.form.now progress.old.counts.selected (texts_of batch.entry))) }
         ensures progress { OnOk result (GoesOnBy self.entry.question.now self.entry.form.now progress.old progress.new (answered_of self.entry.question.now self.entry.form.now progress.old.counts.selected (texts_of batch.entry))) }
         ensures tells { TellsOfBoth result out.old out.new messages.old messages.new }
         ensures others { IsToldOf is_input_fault result false }
@@ -441,7 +481,7 @@ impl<'q> Answerer<'q> {
                 return Ok(());
             }
             let line = batch.line(index);
-            match self.answer_line(progress.number, line, &mut room, outlet, out, messages) {
+            match self.answer_line(*progress, line, &mut room, outlet, out, messages) {
                 Ok(verdict) => progress.pass(verdict)?,
                 Err(fault) => return Err(fault),
             }

@@ -2,7 +2,7 @@
 //!
 //! Public calls:
 //!
-//! - `Question`: the queries and the conditions that a line is asked
+//! - `Question`, `Wanted`: the queries and the conditions that a line is asked, and which lines are selected
 //! - `Form`, `Shown`, `Spelling`, `Table`, `Summary`: what is written of a stream, of the crate `jp_form`
 //! - `search`, `Input`, `SearchFault`, `Format`: the lines of a stream, each answered as it comes
 //! - `Run`, `Finished`: the streams in turn, through two buffers that are written out at the end
@@ -24,6 +24,7 @@ mod searching;
 mod spelling;
 mod stream;
 mod table;
+mod told;
 
 pub use fault::SearchFault;
 pub use format::Format;
@@ -31,6 +32,6 @@ pub use input::Input;
 pub use jp_form::{Form, Shown, Spelling, Summary, Table};
 pub use jp_model::Framing;
 pub use progress::Counts;
-pub use question::Question;
+pub use question::{Question, Wanted};
 pub use run::{Finished, Run};
 pub use searching::search;

@@ -64,7 +64,7 @@ impl Outlet {
         written
     }
 
-    /// Writes what is held where it is too much with so many bytes more.
+    /// Writes what is held where `count` bytes more are too much for it.
     fn make_room<W: Write>(&mut self, count: usize, out: &mut Watched<W>) -> Result<(), SearchFault>
         requires working { out.old.failed ≡ false }
         ensures text { Puts W.contents out.old out.new self.old.held.items self.new.held.items result [] }

@@ -1,20 +1,28 @@
 //! How far a search has come.
 
-ghost use Rattle.std.specs.Prelude.{◌≡◌, ◌+◌, ◌<◌, ◌^◌, IfErr, OnOk, cond, true};
+ghost use Rattle.std.specs.Prelude.{◌≡◌, ◌+◌, ◌<◌, ◌^◌, IfErr, OnOk, cond, false, true};
 ghost use Rattle.jp_grep.specs.Faults.{is_inner_fault};
-ghost use Rattle.jp_grep.specs.Progress.{says_refused, says_selected};
 
 use crate::fault::SearchFault;
 
 /// What came of a line.
 #[derive(Clone, Copy, Debug, PartialEq, Eq)]
-pub(crate) enum Verdict {
-    /// It is selected.
-    Selected,
-    /// It is refused.
-    Refused,
-    /// Neither.
-    Passed,
+pub(crate) struct Verdict {
+    pub(crate) selected: bool,
+    pub(crate) refused: bool,
+}
+
+impl Verdict {
+    /// That of a line that is not refused.
+    pub(crate) fn unrefused(selected: bool) -> Verdict
+        ensures selected { result.selected ≡ selected }
+        ensures refused { result.refused ≡ false }
+    {
+        Verdict {
+            selected,
+            refused: false,
+        }
+    }
 }
 
 /// How many lines of a stream were selected, and how many refused.
@@ -57,18 +65,19 @@ impl Progress {
         requires selected { self.old.counts.selected < self.old.number }
         requires refused { self.old.counts.refused < self.old.number }
         ensures number { OnOk result (self.new.number ≡ self.old.number + 1) }
-        ensures selected { OnOk result (self.new.counts.selected ≡ self.old.counts.selected + cond (says_selected verdict) 1 0) }
-        ensures refused { OnOk result (self.new.counts.refused ≡ self.old.counts.refused + cond (says_refused verdict) 1 0) }
+        ensures selected { OnOk result (self.new.counts.selected ≡ self.old.counts.selected + cond verdict.selected 1 0) }
+        ensures refused { OnOk result (self.new.counts.refused ≡ self.old.counts.refused + cond verdict.refused 1 0) }
         ensures fault { IfErr result (λ fault. is_inner_fault fault ≡ true) }
     {
         match self.number.checked_add(1) {
             Some(number) => self.number = number,
             None => return Err(SearchFault::Size),
         }
-        match verdict {
-            Verdict::Selected => self.counts.selected += 1,
-            Verdict::Refused => self.counts.refused += 1,
-            Verdict::Passed => {}
+        if verdict.selected {
+            self.counts.selected += 1;
+        }
+        if verdict.refused {
+            self.counts.refused += 1;
         }
         Ok(())
     }

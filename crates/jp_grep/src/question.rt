@@ -8,19 +8,64 @@ ghost use Rattle.jp_eval.specs.Compiled.{program_view};
 ghost use Rattle.jp_eval.specs.Found.{found_in};
 ghost use Rattle.jp_children.specs.Found.{AreOf};
 ghost use Rattle.jp_lines.specs.Views.{text_of_view, tree_of_view};
-ghost use Rattle.jp_grep.specs.Matching.{all_hold, conditions_of, has_nodes, matches, queries_of, selected_by, selects};
+ghost use Rattle.jp_grep.specs.Matching.{all_hold, conditions_of, has_nodes, matches, queries_of, selected_by, selects, wants_found, wants_refused, wants_value};
 
 use jp_eval::{Frame, Predicate, Program};
 use jp_lines::LineView;
 use jp_types::{Checked, CheckedCondition};
 use std::alloc::{AllocError, Global};
 
+/// Which lines are selected.
+#[derive(Clone, Copy, Debug, PartialEq, Eq)]
+pub enum Wanted {
+    /// Those with a value that matches.
+    Matching,
+    /// Those with a value that does not match.
+    Others,
+    /// Those that are refused. They have no value that is asked.
+    Refused,
+}
+
+impl Wanted {
+    /// Whether a value is wanted, by whether it matches.
+    pub(crate) fn wants_value(self, matching: bool) -> bool
+        ensures { result ≡ wants_value self matching }
+    {
+        match self {
+            Wanted::Matching => matching,
+            Wanted::Others => !matching,
+            Wanted::Refused => false,
+        }
+    }
+
+    /// Whether a value is wanted of which the nodes were asked for, by whether there is one.
+    pub(crate) fn wants_found(self, some: bool) -> bool
+        ensures { result ≡ wants_found self some }
+    {
+        match self {
+            Wanted::Matching => some,
+            Wanted::Others => true,
+            Wanted::Refused => false,
+        }
+    }
+
+    /// Whether a refused line is wanted.
+    pub(crate) fn wants_refused(self) -> bool
+        ensures { result ≡ wants_refused self }
+    {
+        match self {
+            Wanted::Matching | Wanted::Others => false,
+            Wanted::Refused => true,
+        }
+    }
+}
+
 /// What a line is asked: it matches where each condition holds of its value, and some query selects a node of it.
 #[derive(Drop)]
 pub struct Question {
     pub(crate) queries: Vec<Program>,
     pub(crate) conditions: Vec<Predicate>,
-    pub(crate) inverted: bool,
+    pub(crate) wanted: Wanted,
 }
 
 /// Finds the nodes of a line that a query selects, and tells whether there is one. The frame has them then.
@@ -51,16 +96,16 @@ fn has_node<'a>(
 }
 
 impl Question {
-    /// With no query and no condition yet. An inverted one selects the lines that do not match.
-    pub fn new(alloc: Global, inverted: bool) -> Question
+    /// With no query and no condition yet.
+    pub fn new(alloc: Global, wanted: Wanted) -> Question
         ensures queries { queries_of result ≡ [] }
         ensures conditions { conditions_of result ≡ [] }
-        ensures inverted { result.inverted ≡ inverted }
+        ensures wanted { result.wanted ≡ wanted }
     {
         Question {
             queries: Vec::new(alloc),
             conditions: Vec::new(alloc),
-            inverted,
+            wanted,
         }
     }
 
@@ -71,7 +116,7 @@ impl Question {
         ensures added { OnOk result (queries_of self.new ≡ queries_of self.old ++ checked_view query.now ∷ []) }
         ensures refused { OnErr result (queries_of self.new ≡ queries_of self.old) }
         ensures conditions { conditions_of self.new ≡ conditions_of self.old }
-        ensures inverted { self.new.inverted ≡ self.old.inverted }
+        ensures wanted { self.new.wanted ≡ self.old.wanted }
     {
         let program = Program::compile(alloc, query.segments())?;
         self.queries.push(program)?;
@@ -89,7 +134,7 @@ impl Question {
         ensures added { OnOk result (conditions_of self.new ≡ conditions_of self.old ++ checked_condition_view condition.now ∷ []) }
         ensures refused { OnErr result (conditions_of self.new ≡ conditions_of self.old) }
         ensures queries { queries_of self.new ≡ queries_of self.old }
-        ensures inverted { self.new.inverted ≡ self.old.inverted }
+        ensures wanted { self.new.wanted ≡ self.old.wanted }
     {
         let predicate = Predicate::compile(alloc, condition.expression())?;
         self.conditions.push(predicate)?;

@@ -6,7 +6,7 @@ ghost use Rattle.std.specs.Prelude.{◌≡◌, ◌++◌, OnOk, decimal};
 ghost use Rattle.jp_model.specs.Rows.{line_feed, row_start};
 ghost use Rattle.jp_nodes.specs.Cursors.{line_of, node_of};
 ghost use Rattle.jp_grep.specs.Spelled.{spelled};
-ghost use Rattle.jp_grep.specs.Rows.{front, name_front, number_front, path_front, refusal, row, summary_of};
+ghost use Rattle.jp_grep.specs.Rows.{fault_front, front, name_front, number_front, path_front, refusal, row, summary_of};
 
 use crate::spelling::Speller;
 use itoa::Buffer;
@@ -107,6 +107,33 @@ pub(crate) fn add_value(
     text.extend_from_slice(b"\n")
 }
 
+/// Adds the word of a fault and a tab, where they are wanted.
+fn add_fault_front(faults: bool, fault: LineFault, text: &mut Vec<u8>) -> Result<(), AllocError>
+    ensures { OnOk result (text.new.items ≡ text.old.items ++ fault_front faults fault) }
+{
+    if !faults {
+        return Ok(());
+    }
+    text.extend_from_slice(fault.word().as_bytes())?;
+    text.extend_from_slice(b"\t")
+}
+
+/// Adds the row of a refused line, with the word of its fault and a tab in front where they are wanted.
+pub(crate) fn add_refused(
+    form: &Form<'_>,
+    faults: bool,
+    number: u64,
+    fault: LineFault,
+    line: &[u8],
+    text: &mut Vec<u8>,
+) -> Result<(), AllocError>
+    ensures { OnOk result (text.new.items ≡ text.old.items ++ row form.now number (fault_front faults fault ++ line.now)) }
+{
+    add_front(form, number, text)?;
+    add_fault_front(faults, fault, text)?;
+    add_ended(line, text)
+}
+
 /// Adds the message on a refused line, where messages are wanted: the program's name, that of the stream, the number of the
 /// line, from 1, and the word of its fault.
 pub(crate) fn add_refusal(
@@ -136,7 +163,7 @@ fn add_count(form: &Form<'_>, count: u64, text: &mut Vec<u8>) -> Result<(), Allo
     add_ended(digits.format(count).as_bytes(), text)
 }
 
-/// Adds what stands behind the rows of a stream, of which so many lines were selected.
+/// Adds what stands behind the rows of a stream of which `count` lines were selected.
 pub(crate) fn add_summary(form: &Form<'_>, count: u64, text: &mut Vec<u8>) -> Result<(), AllocError>
     ensures { OnOk result (text.new.items ≡ text.old.items ++ summary_of form.now.summary form.now count) }
 {

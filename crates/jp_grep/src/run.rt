@@ -151,7 +151,7 @@ impl<'q, W: Write + Drop, E: Write + Drop> Run<'q, W, E> {
             (filled self.old.messages.device) (filled self.new.messages.device) came counts)
             (λ fault. SearchStopped untold untold self.old.question.now form.now (filled self.old.rows.device) (filled self.new.rows.device)
             (filled self.old.messages.device) (filled self.new.messages.device) fault came) }
-        ensures read_fault { IsToldOf is_read_fault result input.new.reader.failed }
+        ensures read_fault { IsToldOf is_read_fault result (input.new.reader.failed && not self.new.messages.failed) }
         ensures write_fault { IsToldOf is_write_fault result self.new.rows.failed }
         ensures report_fault { IsToldOf is_report_fault result self.new.messages.failed }
         ensures after { input.new.reader.after ≡ input.old.reader.after }

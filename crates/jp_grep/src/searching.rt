@@ -1,6 +1,6 @@
 //! A search: the lines of a stream, each answered as it comes.
 
-ghost use Rattle.std.specs.Prelude.{◌≡◌, ◌+◌, ◌<◌, ◌≤◌, ◌^◌, ◌||◌, [], length, take, false, IfErr, MatchResult, OnOk, true};
+ghost use Rattle.std.specs.Prelude.{◌≡◌, ◌+◌, ◌<◌, ◌≤◌, ◌^◌, ◌&&◌, ◌||◌, not, [], length, take, false, IfErr, MatchResult, OnOk, true};
 ghost use Rattle.jp_devices.specs.Devices.{Came, GaveUpTo, Received, Writes};
 ghost use Rattle.jp_masks.specs.Found.{lines_in};
 ghost use Rattle.jp_grep.specs.Cuts.{HasNoEnd, text_of};
@@ -20,6 +20,7 @@ use crate::progress::{Counts, Progress};
 use crate::question::Question;
 use crate::rows::add_summary;
 use crate::stream::{Stream, find_end};
+use crate::told::tell_more;
 use jp_devices::flush_written;
 use jp_form::Form;
 use jp_lines::BatchRoom;
@@ -148,7 +149,7 @@ fn search_lines<R: Read, W: Write, E: Write>(
     ensures output { (came : Came) × GaveUpTo R.remaining input.old.reader input.new.reader came × ReadOn answerer.entry.question.now answerer.entry.form.now input.old input.new came.bytes × MatchResult result
         (λ counts. SearchedLines W.contents E.contents answerer.entry.question.now answerer.entry.form.now out.old out.new messages.old messages.new came counts)
         (λ fault. SearchStopped W.contents E.contents answerer.entry.question.now answerer.entry.form.now out.old out.new messages.old messages.new fault came) }
-    ensures read_fault { IsToldOf is_read_fault result input.new.reader.failed }
+    ensures read_fault { IsToldOf is_read_fault result (input.new.reader.failed && not messages.new.failed) }
     ensures write_fault { IsToldOf is_write_fault result out.new.failed }
     ensures report_fault { IsToldOf is_report_fault result messages.new.failed }
     ensures after { input.new.reader.after ≡ input.old.reader.after }
@@ -169,6 +170,7 @@ fn search_lines<R: Read, W: Write, E: Write>(
         }
         flush_all(out, messages)?;
         let Ok(count) = input.read_after(out, &mut buffer) else {
+            tell_more(answerer.form, searcher.progress.counts.refused, messages)?;
             return Err(SearchFault::Read);
         };
         if count == 0 {
@@ -182,7 +184,7 @@ fn search_lines<R: Read, W: Write, E: Write>(
     Err(SearchFault::Size)
 }
 
-/// Writes what stands behind the rows of a stream, of which so many lines were selected.
+/// Writes what stands behind the rows of a stream of which `count` lines were selected.
 fn write_summary<W: Write>(
     answerer: Answerer<'_>,
     count: u64,
@@ -200,7 +202,8 @@ fn write_summary<W: Write>(
 }
 
 /// Searches a stream: reads it piece by piece, and answers each line as it comes. A row is written for each selected line, and
-/// a message for each refused one; behind the rows what the form asks for. A byte order mark at the front is dropped.
+/// a message for each of the first ten refused ones; behind these how many more there are, and behind the rows what the form
+/// asks for. A byte order mark at the front is dropped.
 ///
 /// Before each read both writers are flushed where they took bytes since, and each line that ended is answered. No read follows
 /// one that answered 0, one that failed, the last line that is wanted, or bytes that refuse the stream as a whole, and no write
@@ -208,10 +211,10 @@ fn write_summary<W: Write>(
 ///
 /// # Errors
 ///
-/// `Read` if a read failed: each line that ended before is answered. `Foreign` if the stream begins with the mark of another
-/// format, and `Framing` if bytes other than white space come before the first separator of a sequence: nothing is written
-/// then. `Size` if a line is longer than 4,294,967,294 bytes, `Memory` if a growth was refused, `Write` and `Report` if a row
-/// or a message was not written: then a beginning of the answer was.
+/// `Read` if a read failed: each line that ended before is answered, and told is how many more are refused. `Foreign` if the
+/// stream begins with the mark of another format, and `Framing` if bytes other than white space come before the first separator
+/// of a sequence: nothing is written then. `Size` if a line is longer than 4,294,967,294 bytes, `Memory` if a growth was
+/// refused, `Write` and `Report` if a row or a message was not written: then a beginning of the answer was.
 pub fn search<R: Read, W: Write, E: Write>(
     alloc: Global,
     question: &Question,
@@ -229,8 +232,8 @@ pub fn search<R: Read, W: Write, E: Write>(
     ensures output { (came : Came) × GaveUpTo R.remaining input.old.reader input.new.reader came × ReadOn question.now form.now input.old input.new came.bytes × MatchResult result
         (λ counts. Searched W.contents E.contents question.now form.now out.old out.new messages.old messages.new came counts)
         (λ fault. SearchStopped W.contents E.contents question.now form.now out.old out.new messages.old messages.new fault came) }
-    // Each device's fault is answered exactly where that device failed.
-    ensures read_fault { IsToldOf is_read_fault result input.new.reader.failed }
+    // Each device's fault is answered exactly where that device failed, and that of a message in place of that of a read.
+    ensures read_fault { IsToldOf is_read_fault result (input.new.reader.failed && not messages.new.failed) }
     ensures write_fault { IsToldOf is_write_fault result out.new.failed }
     ensures report_fault { IsToldOf is_report_fault result messages.new.failed }
     // No call follows one that failed, and no read one that answered 0.
@@ -246,6 +249,7 @@ pub fn search<R: Read, W: Write, E: Write>(
         form,
     };
     let counts = search_lines(answerer, input, out, messages)?;
+    tell_more(form, counts.refused, messages)?;
     write_summary(answerer, counts.selected, out)?;
     Ok(counts)
 }

@@ -42,12 +42,13 @@ word_rule id = record (new_rule id) { long = Some id; action = Some SetTrue }
 abbrev pub help_rule : Rule
 help_rule = record (new_rule (codes "help")) { long = Some (codes "help"); action = Some Help }
 
--- which lines are selected: QUERY and FILE, `-e`, `-w`, `-v`
+-- which lines are selected: QUERY and FILE, `-e`, `-w`, `-v`, `--refused`
 abbrev pub asking_rules : List Rule
 asking_rules = words_rule
     ∷ option_rule (codes "query") 0x65 (codes "query")
     ∷ option_rule (codes "where") 0x77 (codes "where")
     ∷ flag_rule (codes "invert") 0x76 (codes "invert-match")
+    ∷ word_rule (codes "refused")
     ∷ []
 
 -- what is printed: `-o`, `-p`, `-c`, `-l`, `-L`, `-q`
@@ -123,6 +124,7 @@ pub record IsAskedBy (found : List Row) (o : Options) : Type 0 where
   pub conditions : map (λ s. s.now) o.conditions.items ≡ values_in (codes "where") found
   pub most : o.most ≡ count_of (first_of (codes "most") found)
   pub inverted : o.inverted ≡ is_given (codes "invert") found
+  pub refused : o.refused ≡ is_given (codes "refused") found
   pub only_matching : o.only_matching ≡ is_given (codes "only") found
   pub paths : o.paths ≡ is_given (codes "path") found
   pub raw : o.raw ≡ is_given (codes "raw") found
@@ -141,9 +143,13 @@ pub record IsAskedBy (found : List Row) (o : Options) : Type 0 where
   pub checks : o.checks ≡ is_given (codes "check") found
   pub framing : o.framing ≡ (if is_given (codes "seq") found then Sequence else Lines)
 
--- neither a query nor a condition was given: there is no word, no `-e` and no `-w`
+-- neither `-e` nor `-w` was given
+abbrev pub names_nothing : List Row → Bool
+names_nothing found = is_empty (values_in (codes "query") found) && is_empty (values_in (codes "where") found)
+
+-- neither a query nor a condition was given, nor `--refused`: there is no word, no `-e` and no `-w`
 abbrev pub asks_nothing : List Row → Bool
-asks_nothing found = is_empty (values_in (codes "words") found) && is_empty (values_in (codes "query") found) && is_empty (values_in (codes "where") found)
+asks_nothing found = not (is_given (codes "refused") found) && is_empty (values_in (codes "words") found) && names_nothing found
 
 -- values are asked for, and a table
 abbrev pub asks_values : List Row → Bool
@@ -152,19 +158,29 @@ asks_values found = is_given (codes "only") found || is_given (codes "path") fou
 abbrev pub asks_table : List Row → Bool
 asks_table found = is_given (codes "tsv") found || is_given (codes "csv") found
 
+-- a value is spelled otherwise than its line spells it: `-r` or `-j`
+abbrev pub asks_spelling : List Row → Bool
+asks_spelling found = is_given (codes "raw") found || is_given (codes "canonical") found
+
+-- something is asked of values, which a refused line has none of: `-e`, `-w`, `-v`, `-o`, `-r`, `-j` or a table
+abbrev pub asks_of_values : List Row → Bool
+asks_of_values found = not (names_nothing found) || is_given (codes "invert") found || is_given (codes "only") found || asks_spelling found || asks_table found
+
 -- why the words of what is printed do not go together: `-r` with `-j`, `--tsv` with `--csv`, a table with what spells or
 -- selects otherwise, `--header` without a table, `-v` with what prints values; and none where they do
 abbrev pub form_conflicts : List Row → Kinds
 form_conflicts found = if is_given (codes "raw") found && is_given (codes "canonical") found then ArgumentConflict ∷ []
     else if is_given (codes "tsv") found && is_given (codes "csv") found then ArgumentConflict ∷ []
-    else if asks_table found && (asks_values found || is_given (codes "raw") found || is_given (codes "canonical") found) then ArgumentConflict ∷ []
+    else if asks_table found && (asks_values found || asks_spelling found) then ArgumentConflict ∷ []
     else if is_given (codes "header") found && not (asks_table found) then MissingRequiredArgument ∷ []
     else if is_given (codes "invert") found && (asks_table found || asks_values found) then ArgumentConflict ∷ [] else []
 
--- why the words do not go together: `-l` with `-L`, `-H` with `-h`, what is printed, no query; and none where they do
+-- why the words do not go together: `-l` with `-L`, `-H` with `-h`, `--refused` with what asks of values, what is printed, no
+-- query; and none where they do
 abbrev pub conflicts_in : List Row → Kinds
 conflicts_in found = if is_given (codes "with") found && is_given (codes "without") found then ArgumentConflict ∷ []
     else if is_given (codes "name") found && is_given (codes "unnamed") found then ArgumentConflict ∷ []
+    else if is_given (codes "refused") found && asks_of_values found then ArgumentConflict ∷ []
     else or_else (form_conflicts found) (if asks_nothing found then MissingRequiredArgument ∷ [] else [])
 
 -- why the words are refused as they are read: the kinds that the error may have, and none where they are taken

@@ -1,5 +1,5 @@
 -- What the program's words ask for, once they are read.
-use Rattle.std.specs.Prelude.{ℕ, List, [], ◌∷◌, length, take, drop, map, codes, Bool, ◌&&◌, ◌||◌, not, ltb, if◌then◌else◌, min, unwrap_or}
+use Rattle.std.specs.Prelude.{ℕ, List, [], ◌∷◌, length, take, drop, map, codes, Bool, false, ◌&&◌, ◌||◌, not, ltb, if◌then◌else◌, min, unwrap_or}
 use Rattle.jp_form.specs.declared.form.Shown.{Shown}
 use Rattle.jp_form.specs.declared.form.Shown.TheVariants as shown
 use Rattle.jp_form.specs.declared.form.Spelling.{Spelling}
@@ -16,13 +16,16 @@ words_of o = map (λ s. s.now) o.words.items
 abbrev pub given_queries : Options → List (List ℕ)
 given_queries o = map (λ s. s.now) o.queries.items
 
--- there is neither `-e` nor `-w`, so that the first word is the query
+-- there is neither `-e` nor `-w` nor `--refused`, so that the first word is the query
 abbrev pub begins_with_query : Options → Bool
-begins_with_query o = not (ltb 0 (length o.queries.items)) && not (ltb 0 (length o.conditions.items))
+begins_with_query o = not o.refused && not (ltb 0 (length o.queries.items)) && not (ltb 0 (length o.conditions.items))
 
--- the queries: the first word, or those of `-e`, or `$` where there is `-w` alone
+-- the queries: the first word, or those of `-e`, or `$` where there is `-w` alone, or none where there is `--refused`
 abbrev pub asked_queries : Options → List (List ℕ)
-asked_queries o = if begins_with_query o then take 1 (words_of o) else if not (ltb 0 (length o.queries.items)) then codes "$" ∷ [] else given_queries o
+asked_queries o =
+    if begins_with_query o then take 1 (words_of o)
+    else if not o.refused && not (ltb 0 (length o.queries.items)) then codes "$" ∷ []
+    else given_queries o
 
 -- the files: the words behind the query, or all of them
 abbrev pub asked_files : Options → List (List ℕ)
@@ -39,15 +42,16 @@ asked_most o =
     let most = unwrap_or o.most 18446744073709551615 in
     if first_decides o then min most 1 else most
 
--- what a row shows: nothing where something else is printed, cells where `--tsv` or `--csv` asks for them, and values where
--- `-o` or `-p` does
+-- what a row shows: nothing where something else is printed, cells where `--tsv` or `--csv` asks for them, values where `-o` or
+-- `-p` does, and of a refused line with `-p` the word of its fault
 abbrev pub asked_rows : Options → Shown
 asked_rows o =
     if first_decides o || o.counted then shown.Nothing
     else if o.tabs then shown.Cells tables.Tabs
     else if o.commas then shown.Cells tables.Commas
+    else if o.refused then shown.Line o.paths
     else if o.only_matching || o.paths then shown.Values o.paths
-    else shown.Line
+    else shown.Line false
 
 -- how a row spells it, as `-r` and `-j` ask for
 abbrev pub asked_spelling : Options → Spelling

@@ -13,15 +13,16 @@ const VERSION: &str = "0.3.0";
 /// What follows the options in the program's help.
 const AFTER_HELP: &str =
     "A line is selected if its value matches: every CONDITION holds, and some QUERY (RFC 9535) selects a node.
-Lines that are blank or no JSON never match; those that are no JSON are told on standard error.
-With -e or -w every word is a FILE. With no FILE, or where FILE is -, standard input is read.
+Lines that are blank or no JSON never match; those that are no JSON are told on standard error, ten of each file.
+With -e, -w or --refused every word is a FILE. With no FILE, or where FILE is -, standard input is read.
 The exit status is 0 if a line is selected, 1 if none is, and 2 if anything is refused or fails.
 
 Examples:
   jpgrep '$[?$.level==\"error\"]' log.jsonl
   jpgrep -w '@.level == \"error\" && @.ms > 200' log.jsonl
   jpgrep --csv --header -e '$.time' -e '$.ms' log.jsonl
-  tail -f log.jsonl | jpgrep -or '$.msg'";
+  tail -f log.jsonl | jpgrep -or '$.msg'
+  jpgrep --refused -np log.jsonl";
 
 /// The command whose arguments are the program's.
 pub(crate) fn program_command<'a>(alloc: Global) -> Result<Command<'a>, AllocError>
@@ -42,7 +43,7 @@ fn bare_command<'a>(alloc: Global) -> Command<'a>
             "Prints the lines of JSON Lines files whose values match a JSONPath query (RFC 9535)",
         )
         .override_usage(
-            "jpgrep [OPTIONS] <QUERY> [FILE]...\n       jpgrep [OPTIONS] (-e <QUERY> | -w <CONDITION>)... [FILE]...",
+            "jpgrep [OPTIONS] <QUERY> [FILE]...\n       jpgrep [OPTIONS] (-e <QUERY> | -w <CONDITION>)... [FILE]...\n       jpgrep [OPTIONS] --refused [FILE]...",
         )
         .after_help(AFTER_HELP)
         .disable_help_flag(true)
@@ -69,7 +70,7 @@ fn words_argument<'a>(alloc: Global) -> Arg<'a>
     Arg::new(alloc, "words")
         .value_name("WORDS")
         .action(ArgAction::Append)
-        .help("The query, unless -e or -w is given, and the files; - is standard input")
+        .help("The query, unless -e, -w or --refused is given, and the files; - is standard input")
 }
 
 /// `-e QUERY`, as often as wanted.
@@ -147,6 +148,11 @@ fn add_asking<'a>(alloc: Global, command: Command<'a>) -> Result<Command<'a>, Al
             'v',
             "invert-match",
             "Selects the lines with a value that does not match",
+        ))?
+        .arg(word_flag(
+            alloc,
+            "refused",
+            "Selects the lines that are no JSON, and asks no query; -p says why",
         ))
 }
 

@@ -3,7 +3,7 @@
 ghost use Rattle.std.specs.Prelude.{◌≡◌, ◌||◌, ◌∷◌, [], List, map};
 ghost use Rattle.std.specs.Option.{option_map_or};
 ghost use Rattle.clap.specs.Words.{Row};
-ghost use Rattle.jp_options.specs.Command.{IsAskedBy, conflicts_in, form_conflicts};
+ghost use Rattle.jp_options.specs.Command.{IsAskedBy, asks_of_values, asks_spelling, conflicts_in, form_conflicts, names_nothing};
 ghost use Rattle.jp_options.specs.Words.{asked_files, asked_most, asked_queries, asked_rows, asked_spelling, asked_summary, asks_names, begins_with_query};
 
 use clap::error::ErrorKind;
@@ -23,9 +23,11 @@ pub struct Options<'a> {
     pub most: Option<u64>,
     /// `-v`: the lines that do not match are selected.
     pub inverted: bool,
+    /// `--refused`: the lines that are refused are selected.
+    pub refused: bool,
     /// `-o`: the values are printed, and not the lines.
     pub only_matching: bool,
-    /// `-p`: the path of each value is printed in front of it.
+    /// `-p`: the path of each value is printed in front of it, or the word of the fault in front of a refused line.
     pub paths: bool,
     /// `-r`: a string is printed as its text.
     pub raw: bool,
@@ -60,6 +62,31 @@ pub struct Options<'a> {
 }
 
 impl<'a> Options<'a> {
+    /// Whether neither `-e` nor `-w` is given.
+    fn names_nothing(&self) -> bool
+        ensures { (found : List Row) → IsAskedBy found self.now → result ≡ names_nothing found }
+    {
+        self.queries.is_empty() && self.conditions.is_empty()
+    }
+
+    /// Whether a value is spelled otherwise than its line spells it.
+    fn asks_spelling(&self) -> bool
+        ensures { (found : List Row) → IsAskedBy found self.now → result ≡ asks_spelling found }
+    {
+        self.raw || self.canonical
+    }
+
+    /// Whether something is asked of values, which a refused line has none of.
+    fn asks_of_values(&self) -> bool
+        ensures { (found : List Row) → IsAskedBy found self.now → result ≡ asks_of_values found }
+    {
+        !self.names_nothing()
+            || self.inverted
+            || self.only_matching
+            || self.asks_spelling()
+            || self.is_table()
+    }
+
     /// Why the words of what is printed do not go together, if they do not.
     fn form_conflict(&self) -> Option<(ErrorKind, &'static str)>
         ensures { (found : List Row) → IsAskedBy found self.now
@@ -72,7 +99,7 @@ impl<'a> Options<'a> {
         if self.tabs && self.commas {
             return Some((ErrorKind::ArgumentConflict, BOTH_TABLES));
         }
-        if table && (values || self.raw || self.canonical) {
+        if table && (values || self.asks_spelling()) {
             return Some((ErrorKind::ArgumentConflict, NO_SPELLING));
         }
         if self.header && !table {
@@ -95,10 +122,13 @@ impl<'a> Options<'a> {
         if self.named && self.unnamed {
             return Some((ErrorKind::ArgumentConflict, BOTH_FRONTS));
         }
+        if self.refused && self.asks_of_values() {
+            return Some((ErrorKind::ArgumentConflict, NO_QUESTION));
+        }
         if let Some(conflict) = self.form_conflict() {
             return Some(conflict);
         }
-        if self.words.is_empty() && self.queries.is_empty() && self.conditions.is_empty() {
+        if !self.refused && self.words.is_empty() && self.names_nothing() {
             return Some((ErrorKind::MissingRequiredArgument, NO_QUERY));
         }
         None
@@ -110,17 +140,17 @@ impl<'a> Options<'a> {
     fn begins_with_query(&self) -> bool
         ensures { result ≡ begins_with_query self.now }
     {
-        self.queries.is_empty() && self.conditions.is_empty()
+        !self.refused && self.queries.is_empty() && self.conditions.is_empty()
     }
 
     /// The queries that the words name: those of `-e`, or the first word where there is neither `-e` nor `-w`. With `-w` alone
-    /// it is `$`.
+    /// it is `$`, and with `--refused` there is none.
     pub fn queries(&self) -> &[&'a str]
         ensures { map (λ s. s.now) result.now ≡ asked_queries self.now }
     {
         if self.begins_with_query() {
             &self.words[..self.words.len().min(1)]
-        } else if self.queries.is_empty() {
+        } else if !self.refused && self.queries.is_empty() {
             &["$"]
         } else {
             &self.queries
@@ -168,10 +198,12 @@ impl<'a> Options<'a> {
             Shown::Cells(Table::Tabs)
         } else if self.commas {
             Shown::Cells(Table::Commas)
+        } else if self.refused {
+            Shown::Line { faults: self.paths }
         } else if self.only_matching || self.paths {
             Shown::Values { paths: self.paths }
         } else {
-            Shown::Line
+            Shown::Line { faults: false }
         }
     }
 
@@ -205,7 +237,7 @@ impl<'a> Options<'a> {
         }
     }
 
-    /// What is written of the file with this name.
+    /// What is written of the file with this name. Refused lines that are selected are no fault.
     pub fn form<'f>(&self, name: &'f str) -> Form<'f>
         ensures shown { result.shown ≡ asked_rows self.now }
         ensures spelling { result.spelling ≡ asked_spelling self.now }
@@ -213,7 +245,7 @@ impl<'a> Options<'a> {
         ensures name { result.name ≡ name.entry }
         ensures named { result.named ≡ asks_names self.now }
         ensures numbered { result.numbered ≡ self.now.numbered }
-        ensures silent { result.silent ≡ self.now.silent }
+        ensures silent { result.silent ≡ (self.now.silent || self.now.refused) }
         ensures framing { result.framing ≡ self.now.framing }
         ensures most { result.most ≡ asked_most self.now }
     {
@@ -225,7 +257,7 @@ impl<'a> Options<'a> {
             name,
             named: self.named || (!self.unnamed && self.files().len() > 1),
             numbered: self.numbered,
-            silent: self.silent,
+            silent: self.silent || self.refused,
             most: self.most(),
         }
     }
@@ -237,6 +269,10 @@ const BOTH_NAMES: &str =
 
 /// What is said if `-H` is used with `-h`.
 const BOTH_FRONTS: &str = "the argument '--with-filename' cannot be used with '--no-filename'";
+
+/// What is said if `--refused` is used with what asks of values.
+const NO_QUESTION: &str =
+    "the argument '--refused' cannot be used with '--query', '--where', '--invert-match', '--only-matching', '--raw', '--canonical', '--tsv' or '--csv'";
 
 /// What is said if `-r` is used with `-j`.
 const BOTH_SPELLINGS: &str = "the argument '--raw' cannot be used with '--canonical'";
@@ -256,4 +292,5 @@ const NO_VALUES: &str =
     "the argument '--invert-match' cannot be used with '--only-matching', '--path', '--tsv' or '--csv'";
 
 /// What is said if no word is a query.
-const NO_QUERY: &str = "no QUERY was given, nor '--query <QUERY>' or '--where <CONDITION>'";
+const NO_QUERY: &str =
+    "no QUERY was given, nor '--query <QUERY>', '--where <CONDITION>' or '--refused'";

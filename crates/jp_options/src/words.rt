@@ -87,6 +87,7 @@ fn read_matches<'a>(
         conditions: values(alloc, matches, "where")?,
         most,
         inverted: is_given(matches, "invert"),
+        refused: is_given(matches, "refused"),
         only_matching: is_given(matches, "only"),
         paths: is_given(matches, "path"),
         raw: is_given(matches, "raw"),

@@ -3,7 +3,7 @@
 use crate::note::meant_condition;
 use crate::patterns::Warner;
 use crate::refusal::{Refusal, Text};
-use jp_grep::Question;
+use jp_grep::{Question, Wanted};
 use jp_options::Options;
 use jp_query::{read_condition, read_query};
 use jp_syntax::is_singular;
@@ -55,14 +55,25 @@ impl<'r, 'a> Reader<'r, 'a> {
     }
 }
 
-/// The question of the words: their queries and conditions. Without a query it is `$`.
+/// Which lines the words select.
+fn wanted(options: &Options<'_>) -> Wanted {
+    if options.refused {
+        Wanted::Refused
+    } else if options.inverted {
+        Wanted::Others
+    } else {
+        Wanted::Matching
+    }
+}
+
+/// The question of the words: their queries and conditions. Without a query it is `$`, and none is asked of refused lines.
 pub(crate) fn read_question<'a>(
     rt: &HostRuntime,
     options: &Options<'a>,
 ) -> Result<Asked<'a>, Refusal<'a>> {
     let mut reader = Reader {
         rt,
-        question: Question::new(rt.alloc(), options.inverted),
+        question: Question::new(rt.alloc(), wanted(options)),
         warner: Warner::new(rt),
         meant: None,
     };

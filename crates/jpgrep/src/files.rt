@@ -3,7 +3,7 @@
 use crate::foreign::foreign_message;
 use crate::output::{Output, RegularFile};
 use jp_devices::StandardInput;
-use jp_grep::{Finished, Format, Input, Question, Run, SearchFault, Shown};
+use jp_grep::{Finished, Format, Input, Question, Run, SearchFault, Shown, Summary};
 use jp_model::Watched;
 use jp_options::Options;
 use std::alloc::AllocError;
@@ -51,9 +51,12 @@ fn message_of(fault: SearchFault) -> &'static str {
 /// What is said of rows or messages that were not written.
 pub(crate) const CANNOT_WRITE: &str = "cannot write";
 
-/// What is said of a word whose file cannot be opened.
-fn unopened_message(word: &str, error: ErrorKind) -> &'static str {
+/// What is said of a word whose file cannot be opened. One that looks like a query was hardly meant to be a file.
+fn unopened_message(word: &str, refused: bool, error: ErrorKind) -> &'static str {
     match error {
+        ErrorKind::NotFound if refused && word.starts_with('$') => {
+            "cannot open: no such file (--refused asks no query)"
+        }
         ErrorKind::NotFound if word.starts_with('$') => {
             "cannot open: no such file (a query is given by -e)"
         }
@@ -173,7 +176,10 @@ impl<'q> Searcher<'q> {
                 self.search_other(word, file, RegularFile::of(metadata))
             }
             Err(error) => {
-                self.tell(word, unopened_message(word, error.kind()));
+                self.tell(
+                    word,
+                    unopened_message(word, self.options.refused, error.kind()),
+                );
                 Next::GoOn
             }
         }
@@ -213,6 +219,12 @@ fn find_output(rt: &HostRuntime, options: &Options<'_>) -> Option<RegularFile> {
     }
 }
 
+/// Whether no file is looked at, since no line is wanted and no name of a file without one.
+fn reads_nothing(options: &Options<'_>) -> bool {
+    let form = options.form(STANDARD_INPUT);
+    form.most == 0 && form.summary != Summary::NameWithout
+}
+
 /// Searches the files of the words in turn, and gives the exit status: 0 if a line was selected, 1 if none was, 2 if something
 /// was refused or failed. The header of a table stands above all rows.
 ///
@@ -236,7 +248,7 @@ pub(crate) fn search_files(
         run,
         output,
     };
-    if (options.header && searcher.write_header() == Next::Stop) || options.most() == 0 {
+    if (options.header && searcher.write_header() == Next::Stop) || reads_nothing(options) {
         return Ok(searcher.end());
     }
     if files.is_empty() {

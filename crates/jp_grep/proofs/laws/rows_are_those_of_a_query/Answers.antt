@@ -11,11 +11,13 @@ use Rattle.jp_model.specs.Meaning.Nodes.{Node}
 use Rattle.jp_model.specs.Query.Syntax.{Logical, Segments}
 use Rattle.jp_model.specs.Rows.{node_row, source, status_rows as query_rows}
 use Rattle.jp_grep.specs.Laws.{numbered_values, row_with_colon}
-use Rattle.jp_grep.specs.Matching.{all_hold, conditions_of, matches, nodes_of, queries_of, selected_by, selects}
+use Rattle.jp_grep.specs.Matching.{all_hold, conditions_of, matches, nodes_of, queries_of, selected_by, selects, wants_refused, wants_value}
 use Rattle.jp_grep.specs.Rows.{node_rows, path_front, row, status_rows}
 use Rattle.jp_form.specs.declared.form.Form.{Form}
 use Rattle.jp_form.specs.declared.form.Summary.{Summary}
 use Rattle.jp_grep.specs.declared.question.Question.{Question}
+use Rattle.jp_grep.specs.declared.question.Wanted.{Wanted}
+use Rattle.jp_grep.specs.declared.question.Wanted.TheVariants as wanted
 use Rattle.jp_grep.proofs.laws.rows_are_those_of_a_query.Goals as goal
 
 module _ (summary : Summary) (name : Bor (List ℕ)) (silent : Bool) (most n : ℕ) (line : List ℕ) where
@@ -36,16 +38,16 @@ module _ (summary : Summary) (name : Bor (List ℕ)) (silent : Bool) (most n : �
       ap (λ (b : Bool). if not b || false then node_rows (numbered_values summary name silent most) true n line (x ∷ ns) else []) (ne_eqb (length (x ∷ ns)) 0 (λ e. absurd (omega (arith, e))))
       ∙ each (x ∷ ns)
 
-  by_status : (question : Question) (query : Segments) → queries_of question ≡ query ∷ [] → conditions_of question ≡ [] → question.inverted ≡ false → (s : LineStatus)
+  by_status : (question : Question) (query : Segments) → queries_of question ≡ query ∷ [] → conditions_of question ≡ [] → question.wanted ≡ wanted.Matching → (s : LineStatus)
       → status_rows question (numbered_values summary name silent most) n line s ≡ flat_map (row_with_colon line) (query_rows query n s)
-  by_status question query queries conditions inverted blank = refl
-  by_status question query queries conditions inverted (refused fault) = refl
-  by_status question query queries conditions inverted (parsed t) =
-      ap (λ (b : Bool). if (if b then not (matches question t) else matches question t) then node_rows (numbered_values summary name silent most) true n line (nodes_of (queries_of question) t) else []) inverted
+  by_status question query queries conditions matching blank = refl
+  by_status question query queries conditions matching (refused fault) = ap (λ (b : Bool). if b then [] else []) (ap wants_refused matching)
+  by_status question query queries conditions matching (parsed t) =
+      ap (λ (w : Wanted). if wants_value w (matches question t) then node_rows (numbered_values summary name silent most) true n line (nodes_of (queries_of question) t) else []) matching
       ∙ ap (λ (cs : List Logical). if (all_hold cs t && selects (queries_of question) t) then node_rows (numbered_values summary name silent most) true n line (nodes_of (queries_of question) t) else []) conditions
       ∙ ap (λ (qs : List Segments). if selects qs t then node_rows (numbered_values summary name silent most) true n line (nodes_of qs t) else []) queries
       ∙ ap (λ (ns : List Node). if (not (length (selected_by query t) == 0) || false) then node_rows (numbered_values summary name silent most) true n line ns else []) (flat_map-cons (λ (q : Segments). selected_by q t) query [] ∙ append-nil (selected_by query t))
       ∙ where_some (selected_by query t)
 
 pub returns : goal.returns
-returns c = λ question query queries conditions inverted summary name silent most n line. by_status summary name silent most n line question query queries conditions inverted (status_of framings.Lines line)
+returns c = λ question query queries conditions matching summary name silent most n line. by_status summary name silent most n line question query queries conditions matching (status_of framings.Lines line)

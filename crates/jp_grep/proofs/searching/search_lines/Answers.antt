@@ -20,7 +20,7 @@ use Rattle.jp_grep.specs.declared.question.Question.{Question}
 use Rattle.jp_form.specs.declared.form.Form.{Form}
 use Rattle.jp_grep.proofs.Advancing.{other_no_front}
 use Rattle.jp_grep.proofs.Position.{ends_as_lines, goes_as_lines}
-use Rattle.jp_grep.proofs.SoFar.{all_so_far, at_start, came_to_end, enough_selected, ended_in_part, flushed, goes_further, goes_on_by, handed, in_part, kept_after, none_so_far, searched_all, stopped_by, stopped_here, stopped_in_part, wants_more}
+use Rattle.jp_grep.proofs.SoFar.{all_refused, all_so_far, at_start, came_to_end, ended_in_part, enough_selected, flushed, goes_further, goes_on_by, handed, in_part, kept_after, none_so_far, searched_all, stopped_by, stopped_here, stopped_in_part, told_first, told_in_part, told_to_end, wants_more}
 use Rattle.jp_grep.proofs.searching.search_lines.Goals as goal
 
 -- a read that brought nothing, and one that brought some bytes
@@ -100,8 +100,42 @@ returns-in_default-clause-output g c =
       goes_on g.R.Read.remaining c.args.input.now.reader input so.0 (gave_kept g.R.Read.remaining c.args.input.now.reader c.loop-read.input.reader input so.0 so.2 c.in_default.ensures.given c.in_default.ensures.bytes) c.requires.reads
           (c.in_default.ensures.ended ∙ sym (or_false c.loop-read.input.reader.ended) ∙ inv.unended ∙ sym c.requires.unended),
       read_nothing q f c.args.input.now c.read_after.new.self so.0 c.in_default.ensures.last (wants_more q f g.W.Write.contents g.E.Write.contents c.loop-read.searcher.stream c.loop-read.searcher.progress c.args.out.now c.flush_all.new.out c.args.messages.now c.flush_all.new.messages so.0 so.1 now c.if-searcher-answerer.false),
-      (refl, (goes_as_lines f.framing so.0 c.loop-read.searcher.stream.held.items so.1 c.loop-read.searcher.stream.is_first now.position).format, all_so_far q f g.W.Write.contents g.E.Write.contents c.loop-read.searcher.stream c.loop-read.searcher.progress c.args.out.now c.flush_all.new.out c.args.messages.now c.flush_all.new.messages so.0 so.1 input.failed now),
+      (
+        refl,
+        (goes_as_lines f.framing so.0 c.loop-read.searcher.stream.held.items so.1 c.loop-read.searcher.stream.is_first now.position).format,
+        told_to_end q f g.W.Write.contents g.E.Write.contents c.args.out.now c.flush_all.new.out c.args.messages.now c.flush_all.new.messages c.tell_more.new.messages _ c.loop-read.searcher.progress.counts.refused
+            (now.refused ∙ all_refused q f c.loop-read.searcher.stream so.0 so.1 now.position)
+            (all_so_far q f g.W.Write.contents g.E.Write.contents c.loop-read.searcher.stream c.loop-read.searcher.progress c.args.out.now c.flush_all.new.out c.args.messages.now c.flush_all.new.messages so.0 so.1 input.failed now)
+            c.in_ok-tell_more.ensures.text,
+      ),
     )
+
+pub returns-in_err-tell_more-clause-output : goal.returns-in_err-tell_more-clause-output
+returns-in_err-tell_more-clause-output g c =
+    let q = c.args.answerer.question.now in
+    let f = c.args.answerer.form.now in
+    let inv = c.loop-read.invariant in
+    let so = inv.so_far in
+    let now = flushed q f g.W.Write.contents g.E.Write.contents c.loop-read.searcher.stream c.loop-read.searcher.progress c.args.out.now c.loop-read.out c.flush_all.new.out c.args.messages.now c.loop-read.messages c.flush_all.new.messages so.0 so.1 so.3 c.flush_all.ensures.rows c.flush_all.ensures.messages in
+    let input = c.read_after.new.self.reader in
+    let came = came_so so.0 false input.failed in
+    let fault = c.in_err-tell_more.field-0.0 in (
+      came,
+      goes_on g.R.Read.remaining c.args.input.now.reader input so.0 (gave_kept g.R.Read.remaining c.args.input.now.reader c.loop-read.input.reader input so.0 so.2 c.in_default.ensures.given c.in_default.ensures.bytes) c.requires.reads
+          (c.in_default.ensures.ended ∙ sym (or_false c.loop-read.input.reader.ended) ∙ inv.unended ∙ sym c.requires.unended),
+      read_nothing q f c.args.input.now c.read_after.new.self so.0 c.in_default.ensures.last (wants_more q f g.W.Write.contents g.E.Write.contents c.loop-read.searcher.stream c.loop-read.searcher.progress c.args.out.now c.flush_all.new.out c.args.messages.now c.flush_all.new.messages so.0 so.1 now c.if-searcher-answerer.false),
+      handed _ _ c.from_residual-in_err-tell_more.result fault c.from_residual-in_err-tell_more.ensures.1
+          (stopped_in_part q f g.W.Write.contents g.E.Write.contents c.args.out.now c.flush_all.new.out c.args.messages.now c.tell_more.new.messages fault came (sym c.in_err-tell_more.ensures.others) (λ ended. absurd (false≢true ended))
+          (told_in_part q f g.W.Write.contents g.E.Write.contents c.args.out.now c.flush_all.new.out c.args.messages.now c.flush_all.new.messages c.tell_more.new.messages _ c.loop-read.searcher.progress.counts.refused
+          (now.refused ∙ all_refused q f c.loop-read.searcher.stream so.0 so.1 now.position)
+          (all_so_far q f g.W.Write.contents g.E.Write.contents c.loop-read.searcher.stream c.loop-read.searcher.progress c.args.out.now c.flush_all.new.out c.args.messages.now c.flush_all.new.messages so.0 so.1 input.failed now)
+          c.in_err-tell_more.ensures.text)),
+    )
+
+pub returns-in_err-tell_more-clause-read_fault : goal.returns-in_err-tell_more-clause-read_fault
+returns-in_err-tell_more-clause-read_fault g c =
+    handed _ _ c.from_residual-in_err-tell_more.result c.in_err-tell_more.field-0.0 c.from_residual-in_err-tell_more.ensures.1
+    (told_first c.read_after.new.self.reader.failed c.tell_more.new.messages.failed c.in_err-tell_more.field-0.0 c.in_err-tell_more.ensures.report_fault c.in_err-tell_more.ensures.fault)
 
 pub returns-in_err-check_end-clause-output : goal.returns-in_err-check_end-clause-output
 returns-in_err-check_end-clause-output g c =
@@ -223,7 +257,7 @@ returns-in_err-answer_piece-clause-output g c =
           let front = u.2 so.0 so.1 now.position in
           (inl front.1, none_so_far q f g.W.Write.contents g.E.Write.contents stream before c.args.out.now c.flush_all.new.out out c.args.messages.now c.flush_all.new.messages told so.0 so.1 now front.0 u.0 u.1))
           (λ ended. absurd (false≢true ended))
-          (in_part q f g.W.Write.contents g.E.Write.contents before c.args.out.now c.flush_all.new.out out c.args.messages.now c.flush_all.new.messages told so.1 advances.lines first.0 _ now.number now.selected now.rows now.messages
+          (in_part q f g.W.Write.contents g.E.Write.contents before c.args.out.now c.flush_all.new.out out c.args.messages.now c.flush_all.new.messages told so.1 advances.lines first.0 _ now.number now.selected now.refused now.rows now.messages
           advances.answers.rows advances.answers.messages first.1)),
     )
 

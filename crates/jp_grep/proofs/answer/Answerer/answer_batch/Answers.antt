@@ -1,5 +1,5 @@
 -- What is held is written behind the lines, or a beginning of it was.
-use Rattle.std.proofs.Common.{◌≡◌, ◌∙◌, [], List, ℕ, sym, subst, true, IsErr}
+use Rattle.std.proofs.Common.{◌∙◌, [], List, ℕ, sym, subst, IsErr}
 use Rattle.jp_lines.specs.Batches.{texts_of}
 use Rattle.jp_grep.specs.Faults.{is_report_fault, is_write_fault}
 use Rattle.jp_grep.specs.Holding.{Puts}

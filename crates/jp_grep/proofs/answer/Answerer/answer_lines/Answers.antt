@@ -1,5 +1,5 @@
 -- One line is answered behind the others.
-use Rattle.std.proofs.Common.{◌≡◌, ◌∙◌, ◌<◌, ◌≤◌, ◌+◌, ℕ, ap, sym, subst, length, take, refl, arith, rules, true, false, Bool, List}
+use Rattle.std.proofs.Common.{◌≡◌, ◌∙◌, ◌<◌, ◌≤◌, ◌+◌, ℕ, ap, ap₂, sym, subst, length, take, refl, arith, rules, true, false, Bool}
 use Rattle.std.specs.Prelude.{cond}
 use Rattle.std.proofs.lemmas.List.{length-take-le}
 use Rattle.std.proofs.lemmas.Option.{get_or_from_slice_get}
@@ -73,10 +73,11 @@ returns-in_err-pass-in-Ok-clause-messages g c =
     let n = c.args.progress.now.number in
     let fewer : c.loop-index.progress.counts.selected < f.most = omega (arith, c.loop-index.invariant.under_way.wanted, c.if-progress-self.false) in
     let answered = goes_on q f all i line within is _ _ _ fewer refl c.loop-index.invariant.lines in
-    let mine = subst (λ k. Received g.E.Write.contents c.loop-index.messages c.answer_line.new.messages (line_message f k line)) c.loop-index.invariant.number c.in-Ok.ensures.messages in
+    let before = c.args.progress.now.counts.refused in
+    let mine = subst (λ l. Received g.E.Write.contents c.loop-index.messages c.answer_line.new.messages l) (ap₂ (λ j k. line_message f j k line) c.loop-index.invariant.refused c.loop-index.invariant.number) c.in-Ok.ensures.messages in
     ends_in_part c.from_residual.result _ _ _ c.from_residual.ensures.0
-    (part_next c.args.messages.now c.loop-index.messages c.answer_line.new.messages _ (line_message f (n + i) line) _ _
-    (messages_around q f all i line within is n _ _ answered) c.loop-index.invariant.messages (part_so_far _ _ _ mine))
+    (part_next c.args.messages.now c.loop-index.messages c.answer_line.new.messages _ (line_message f (before + refused_count f.framing (take i all)) (n + i) line) _ _
+    (messages_around q f all i line within is before n _ _ answered) c.loop-index.invariant.messages (part_so_far _ _ _ mine))
 
 pub returns-in-Err-clause-rows : goal.returns-in-Err-clause-rows
 returns-in-Err-clause-rows g c =
@@ -106,9 +107,10 @@ returns-in-Err-clause-messages g c =
     let n = c.args.progress.now.number in
     let fewer : c.loop-index.progress.counts.selected < f.most = omega (arith, c.loop-index.invariant.under_way.wanted, c.if-progress-self.false) in
     let answered = goes_on q f all i line within is _ _ _ fewer refl c.loop-index.invariant.lines in
-    let part = subst (λ k. Part g.E.Write.contents c.loop-index.messages c.answer_line.new.messages (line_message f k line)) c.loop-index.invariant.number c.in-Err.ensures.messages in
-    part_next c.args.messages.now c.loop-index.messages c.answer_line.new.messages _ (line_message f (n + i) line) _ _
-    (messages_around q f all i line within is n _ _ answered) c.loop-index.invariant.messages part
+    let before = c.args.progress.now.counts.refused in
+    let part = subst (λ l. Part g.E.Write.contents c.loop-index.messages c.answer_line.new.messages l) (ap₂ (λ j k. line_message f j k line) c.loop-index.invariant.refused c.loop-index.invariant.number) c.in-Err.ensures.messages in
+    part_next c.args.messages.now c.loop-index.messages c.answer_line.new.messages _ (line_message f (before + refused_count f.framing (take i all)) (n + i) line) _ _
+    (messages_around q f all i line within is before n _ _ answered) c.loop-index.invariant.messages part
 
 pub loop-index-preserved : goal.loop-index-preserved
 loop-index-preserved g c =
@@ -126,12 +128,12 @@ loop-index-preserved g c =
     let counted = passed.selected ∙ ap (λ b. c.loop-index.progress.counts.selected + cond b 1 0) c.in-Ok.ensures.selected in
     let refused = passed.refused ∙ ap (λ b. c.loop-index.progress.counts.refused + cond b 1 0) c.in-Ok.ensures.refused in
     let mine = subst (λ k. HoldsBack g.W.Write.contents c.loop-index.out c.answer_line.new.out c.loop-index.outlet.held.items c.answer_line.new.outlet.held.items (line_rows q f k line)) inv.number c.in-Ok.ensures.rows in
-    let told = subst (λ k. Received g.E.Write.contents c.loop-index.messages c.answer_line.new.messages (line_message f k line)) inv.number c.in-Ok.ensures.messages in
+    let told = subst (λ l. Received g.E.Write.contents c.loop-index.messages c.answer_line.new.messages l) (ap₂ (λ j k. line_message f j k line) inv.refused inv.number) c.in-Ok.ensures.messages in
     record {
       lines = goes_on q f all i line within is _ _ _ fewer counted inv.lines;
       rows = subst (λ l. HoldsBack g.W.Write.contents c.args.out.now c.answer_line.new.out c.args.outlet.now.held.items c.answer_line.new.outlet.held.items l) (sym (rows_more q f all i line within is n))
           (both_put c.args.out.now c.loop-index.out c.answer_line.new.out _ _ _ _ _ inv.rows mine);
-      messages = subst (λ l. Received g.E.Write.contents c.args.messages.now c.answer_line.new.messages l) (sym (messages_more q f all i line within is n)) (both_received _ _ _ _ _ inv.messages told);
+      messages = subst (λ l. Received g.E.Write.contents c.args.messages.now c.answer_line.new.messages l) (sym (messages_more q f all i line within is c.args.progress.now.counts.refused n)) (both_received _ _ _ _ _ inv.messages told);
       number = omega (arith, passed.number, inv.number);
       selected = omega (arith, counted, inv.selected, selected_more q f all i line within is);
       refused = omega (arith, refused, inv.refused, refused_more q f all i line within is);
@@ -159,7 +161,7 @@ returns-clause-messages g c =
     let q = c.args.self.question.now in
     let f = c.args.self.form.now in
     let past : length (texts_of c.args.batch) ≤ c.loop-index.index = omega (arith, c.loop-index-test.false, c.line_count-index-end.ensures) in
-    subst (λ ls. Received g.E.Write.contents c.args.messages.now c.loop-index.messages (messages_from f c.args.progress.now.number ls)) (sym (at_end q f (texts_of c.args.batch) c.loop-index.index _ _ past c.loop-index.invariant.lines)) c.loop-index.invariant.messages
+    subst (λ ls. Received g.E.Write.contents c.args.messages.now c.loop-index.messages (messages_from f c.args.progress.now.counts.refused c.args.progress.now.number ls)) (sym (at_end q f (texts_of c.args.batch) c.loop-index.index _ _ past c.loop-index.invariant.lines)) c.loop-index.invariant.messages
 
 pub returns-clause-progress : goal.returns-clause-progress
 returns-clause-progress g c =

@@ -13,7 +13,7 @@ invariant-loop-index g l = record {
   lines : answered_of l.self.question.now l.self.form.now l.fn.progress.counts.selected (texts_of l.batch)
       ≡ take l.index (texts_of l.batch) ++ answered_of l.self.question.now l.self.form.now l.progress.counts.selected (drop l.index (texts_of l.batch));
   rows : HoldsBack g.W.Write.contents l.fn.out l.out l.fn.outlet.held.items l.outlet.held.items (output_from l.self.question.now l.self.form.now l.fn.progress.number (take l.index (texts_of l.batch)));
-  messages : Received g.E.Write.contents l.fn.messages l.messages (messages_from l.self.form.now l.fn.progress.number (take l.index (texts_of l.batch)));
+  messages : Received g.E.Write.contents l.fn.messages l.messages (messages_from l.self.form.now l.fn.progress.counts.refused l.fn.progress.number (take l.index (texts_of l.batch)));
   number : l.progress.number ≡ l.fn.progress.number + l.index;
   selected : l.progress.counts.selected ≡ l.fn.progress.counts.selected + selected_count l.self.question.now l.self.form.now.framing (take l.index (texts_of l.batch));
   refused : l.progress.counts.refused ≡ l.fn.progress.counts.refused + refused_count l.self.form.now.framing (take l.index (texts_of l.batch));

@@ -15,7 +15,7 @@ returns-in_err-some-clause-rows g c =
     let t = tree_of_view c.args.line in
     let rows = node_rows c.args.self.form.now c.args.paths c.args.number c.args.text.now (nodes_of (queries_of q) t) in
     let none = λ (e : selects (queries_of q) t ≡ false). ap (node_rows c.args.self.form.now c.args.paths c.args.number c.args.text.now) (none_selected (queries_of q) t e) in
-    let same = wanted_rows q.inverted (all_hold (conditions_of q) t) (selects (queries_of q) t) rows none (sym c.in-Ok-true.ensures.wanted ∙ c.in-Ok-true.field-0-test) in
+    let same = wanted_rows q.wanted (all_hold (conditions_of q) t) (selects (queries_of q) t) rows none (sym c.in-Ok-true.ensures.wanted ∙ c.in-Ok-true.field-0-test) in
     ends_put c.from_residual.result c.args.out.now c.put_nodes.new.out c.args.outlet.now.held.items c.put_nodes.new.outlet.held.items (if is_selected q (parsed t) then rows else []) c.from_residual.ensures.0
     (subst (λ (l : List ℕ). HoldsPart g.W.Write.contents c.args.out.now c.put_nodes.new.out c.args.outlet.now.held.items c.put_nodes.new.outlet.held.items l) (sym same) c.in_err-some.ensures.rows)
 
@@ -25,5 +25,5 @@ returns-clause-rows g c =
     let t = tree_of_view c.args.line in
     let rows = node_rows c.args.self.form.now c.args.paths c.args.number c.args.text.now (nodes_of (queries_of q) t) in
     let none = λ (e : selects (queries_of q) t ≡ false). ap (node_rows c.args.self.form.now c.args.paths c.args.number c.args.text.now) (none_selected (queries_of q) t e) in
-    let same = wanted_rows q.inverted (all_hold (conditions_of q) t) (selects (queries_of q) t) rows none (sym c.in-Ok-true.ensures.wanted ∙ c.in-Ok-true.field-0-test) in
+    let same = wanted_rows q.wanted (all_hold (conditions_of q) t) (selects (queries_of q) t) rows none (sym c.in-Ok-true.ensures.wanted ∙ c.in-Ok-true.field-0-test) in
     subst (λ (l : List ℕ). HoldsBack g.W.Write.contents c.args.out.now c.put_nodes.new.out c.args.outlet.now.held.items c.put_nodes.new.outlet.held.items l) (sym same) c.in_ok-some.ensures.rows

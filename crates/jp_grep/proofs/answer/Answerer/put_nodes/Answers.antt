@@ -1,8 +1,6 @@
 -- The rows of one query come behind those of the queries before it.
-use Rattle.std.proofs.Common.{◌≡◌, ◌∙◌, ◌++◌, ◌+◌, ◌<◌, ℕ, List, [], ◌∷◌, ap, sym, subst, flat_map, get_or, length, map, take, drop, Bool, append-nil, ◌||◌}
+use Rattle.std.proofs.Common.{◌≡◌, ◌∙◌, ◌++◌, ◌+◌, ◌<◌, ℕ, List, ap, sym, subst, get_or, length, map, take, drop, Bool, ◌||◌}
 use Rattle.std.proofs.lemmas.Grind.{flat_map-append}
-use Rattle.std.proofs.lemmas.List.{map-append, take_more}
-use Rattle.std.proofs.lemmas.List.Concat.{flat_map-cons}
 use Rattle.jp_model.specs.Json.Tree.{Tree}
 use Rattle.jp_model.specs.Meaning.Nodes.{Node}
 use Rattle.jp_model.specs.Query.Syntax.{Segments}
