@@ -44,6 +44,7 @@ came_to_end remaining s0 s1 s2 count room worked same ended left none some =
 pub told_first : (input messages : Bool) (fault : SearchFault) → messages ≡ is_report_fault fault → is_report_fault fault ≡ true → (input && not messages) ≡ is_read_fault fault
 told_first input messages faults.Read e report = absurd (cc)
 told_first input messages faults.Framing e report = absurd (cc)
+told_first input messages (faults.Foreign format) e report = absurd (cc)
 told_first input messages faults.Size e report = absurd (cc)
 told_first input messages faults.Write e report = absurd (cc)
 told_first input messages faults.Memory e report = absurd (cc)

@@ -2,7 +2,7 @@
 use Rattle.std.proofs.Common.{◌≡◌, ℕ, List, sym, subst, Option, Result, Err}
 use Rattle.std.specs.Prelude.{MatchResult}
 use Rattle.jp_devices.specs.Devices.{Came, Device, Received}
-use Rattle.jp_grep.specs.Watching.{Answered, AnsweredInPart, SearchStopped}
+use Rattle.jp_grep.specs.Watching.{Answered, AnsweredInPart, AnsweredToEnd, SearchStopped}
 use Rattle.jp_form.specs.declared.form.Form.{Form}
 use Rattle.jp_grep.specs.declared.fault.SearchFault.{SearchFault}
 use Rattle.jp_grep.specs.declared.fault.SearchFault.TheVariants as faults
@@ -18,6 +18,9 @@ module _ {V W X Y : Type 0} {near : V → Option (List ℕ)} {near_told : X → 
   all_behind : (lines : List (List ℕ)) → Answered near near_told question form a b a_told b_told lines → Answered far far_told question form c d c_told d_told lines
   all_behind lines h = record { rows = rows _ h.rows; messages = messages _ h.messages }
 
+  told_behind : (lines : List (List ℕ)) → AnsweredToEnd near near_told question form a b a_told b_told lines → AnsweredToEnd far far_told question form c d c_told d_told lines
+  told_behind lines h = record { rows = rows _ h.rows; messages = messages _ h.messages }
+
   part_behind : (lines : List (List ℕ)) → AnsweredInPart near near_told question form a b a_told b_told lines → AnsweredInPart far far_told question form c d c_told d_told lines
   part_behind lines h = record {
     rows = (h.rows.0, h.rows.1, rows h.rows.0 h.rows.2);
@@ -25,7 +28,7 @@ module _ {V W X Y : Type 0} {near : V → Option (List ℕ)} {near_told : X → 
   }
 
   stopped_behind : (fault : SearchFault) (came : Came) → SearchStopped near near_told question form a b a_told b_told fault came → SearchStopped far far_told question form c d c_told d_told fault came
-  stopped_behind faults.Read came h = (h.0, h.1, all_behind _ h.2)
+  stopped_behind faults.Read came h = (h.0, h.1, told_behind _ h.2)
   stopped_behind faults.Framing came h = (h.0, all_behind _ h.1)
   stopped_behind (faults.Foreign format) came h = (h.0, all_behind _ h.1)
   stopped_behind faults.Size came h = (h.0, part_behind _ h.1)
