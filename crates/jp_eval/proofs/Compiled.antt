@@ -18,7 +18,6 @@ use Rattle.jp_syntax.specs.declared.tree.Argument.TheOpen.{Logical-F, Selector-F
 use Rattle.jp_eval.specs.Calls.{length_call, count_call, value_call}
 use Rattle.jp_eval.specs.Roots.{logical_from_root, side_from_root}
 use Rattle.jp_eval.specs.Programs.{Onward, Table, argument_of, here, tail_at, logical_at, side_at, choice_step, condition_step, test_step, operand_step, spelled_step, sought_step, found_step, step_step, choice_view, condition_view, test_view, operand_view, spelled_view, sought_view, found_view, step_view, steps_view, choices_view, conditions_view}
-use Rattle.jp_eval.specs.declared.leaves.Constant.{Constant}
 use Rattle.jp_eval.specs.declared.leaves.LiteralPattern.{LiteralPattern}
 use Rattle.jp_eval.specs.declared.question.Key.{Key}
 use Rattle.jp_eval.specs.declared.question.Question.{Question}

@@ -1,6 +1,6 @@
 -- What stands in a list stays at its front.
-use Rattle.std.proofs.Common.{◌≡◌, ◌≤◌, ◌<◌, ◌+◌, ◌-◌, ℕ, zero, suc, get_or, Vec, Global, Result, Ok, Err, List, [], ◌∷◌, ◌++◌, length, take, drop, map, true, false, Bool, sym, ◌∙◌, ap, ap₂, subst, refl, arith, append_assoc, append-nil, length-append, Option, Some, None}
-use Rattle.std.specs.Prelude.{IfSome, OnOk, slice_get}
+use Rattle.std.proofs.Common.{◌≡◌, ◌≤◌, ◌<◌, ◌+◌, ◌-◌, ℕ, zero, suc, get_or, Vec, Global, Result, Ok, Err, List, [], ◌∷◌, ◌++◌, length, take, drop, map, true, false, Bool, sym, ◌∙◌, ap, subst, refl, arith, append_assoc, append-nil, length-append, Option}
+use Rattle.std.specs.Prelude.{OnOk, slice_get}
 use Rattle.std.proofs.lemmas.List.{drop_at, get_or-drop, take_all}
 use Rattle.std.proofs.lemmas.List.Elements.{All-nil, All-append}
 use Rattle.jp_children.specs.Found.{AreOf}
@@ -120,10 +120,10 @@ next_copied old now start end position c low high within is at =
     ap (λ (l : List Cursor). l ++ c ∷ []) is
     ∙ (append_assoc old (take k (between start end old)) (c ∷ [])
     ∙ ap (λ (l : List Cursor). old ++ l)
-        (ap (λ (l : List Cursor). l ++ c ∷ []) (take_taken k (end - start) (drop start old) (omega (arith, low, high)))
-        ∙ (sym (take_next k (drop start old) c (omega (arith, size, low, high, within)) there)
-        ∙ (sym (take_taken (suc k) (end - start) (drop start old) (omega (arith, low, high)))
-        ∙ ap (λ (i : ℕ). take i (between start end old)) (sym next)))))
+    (ap (λ (l : List Cursor). l ++ c ∷ []) (take_taken k (end - start) (drop start old) (omega (arith, low, high)))
+    ∙ (sym (take_next k (drop start old) c (omega (arith, size, low, high, within)) there)
+    ∙ (sym (take_taken (suc k) (end - start) (drop start old) (omega (arith, low, high)))
+    ∙ ap (λ (i : ℕ). take i (between start end old)) (sym next)))))
 
 -- ---- what is known
 

@@ -1,5 +1,5 @@
 -- The parts of a query keep its meaning as the last of them become slots.
-use Rattle.std.proofs.Common.{◌≡◌, ◌∙◌, ℕ, zero, suc, List, [], ◌∷◌, ◌++◌, Vec, Global, append_assoc, append-nil, drop, flat_map, length, map, refl, sym, ap, subst, take, arith}
+use Rattle.std.proofs.Common.{◌≡◌, ◌∙◌, ℕ, zero, suc, List, [], ◌∷◌, ◌++◌, Vec, Global, append_assoc, append-nil, drop, flat_map, length, map, refl, sym, ap, subst, take}
 use Rattle.std.proofs.lemmas.List.Concat.{flat_map-append}
 use Rattle.jp_model.specs.Query.Syntax.{Segments, segment}
 use Rattle.jp_syntax.specs.View.{segment_view, segments_view}

@@ -1,5 +1,5 @@
 -- What is known of nodes, with one node more.
-use Rattle.std.proofs.Common.{◌≡◌, ◌∙◌, ℕ, [], ◌∷◌, List, Option, Some, None, ◌⊎◌, inl, inr, subst, sym, ap}
+use Rattle.std.proofs.Common.{◌≡◌, ◌∙◌, ℕ, [], ◌∷◌, List, Some, None, ◌⊎◌, inl, inr, subst, sym, ap}
 use Rattle.std.specs.BTreeMap.{get}
 use Rattle.std.specs.Ordering.{nat_cmp}
 use Rattle.jp_model.specs.Meaning.Selecting.{nodes}

@@ -1,5 +1,5 @@
 -- Sums and what they tell of nodes.
-use Rattle.std.proofs.Common.{◌≡◌, ◌≤◌, ◌<◌, ◌+◌, ℕ, zero, suc, List, [], ◌∷◌, ◌++◌, length, map, true, false, Bool, cond, sym, ◌∙◌, ap, ap₂, subst, refl, arith, append-nil, Option, Some, None}
+use Rattle.std.proofs.Common.{◌≡◌, ◌≤◌, ◌<◌, ◌+◌, ℕ, List, [], ◌∷◌, ◌++◌, length, map, true, false, Bool, cond, sym, ◌∙◌, ap, ap₂, refl, arith, append-nil, Option, Some, None}
 use Rattle.std.specs.Prelude.{nat_lt, ◌==◌, not, slice_get}
 use Rattle.std.proofs.lemmas.Bool.{eq-eqb, le-ltb, lt-ltb, ltb-false, ltb-true, ne_eqb}
 use Rattle.jp_model.specs.Json.Tree.{value_of}

@@ -119,12 +119,7 @@ impl<'r, 'a> Walk<'r, 'a> {
     /// Whether the steps select a node. The first decides.
     #[cycle(eval)]
     #[inline(never)]
-    fn has_node(
-        self,
-        node: Cursor<'a>,
-        steps: &[Step],
-        frame: &mut Frame<'a>,
-    ) -> Result<bool>
+    fn has_node(self, node: Cursor<'a>, steps: &[Step], frame: &mut Frame<'a>) -> Result<bool>
         requires { IsFrameFor self node frame.old }
         ensures lends { Lends self.entry frame.old frame.new result }
         ensures value { IfOk result (λ b. b ≡ not (length (reached self.entry.run.now steps.now (node_of node.entry ∷ [])) == 0)) }

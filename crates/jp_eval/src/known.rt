@@ -78,7 +78,8 @@ impl<'r, 'a> Walk<'r, 'a> {
             let known = Known::Listed { start, end };
             return self.run.note(position, node, self.most, known, frame);
         }
-        self.run.note(position, node, self.most, Known::Counted(own), frame)?;
+        self.run
+            .note(position, node, self.most, Known::Counted(own), frame)?;
         frame.count(own)
     }
 

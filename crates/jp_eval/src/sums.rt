@@ -1,4 +1,4 @@
-//! What steps select from nodes that a second way may lead to. It is remembered, so that the steps are not taken from there again.
+//! What steps select from nodes that a second way may lead to. It is remembered for the line, so that they are not taken again.
 
 ghost use Rattle.std.specs.Prelude.{◌≡◌, ◌∷◌, ◌⊎◌, [], ℕ, IfSome, None, Some};
 ghost use Rattle.std.specs.BTreeMap.{get};
@@ -101,8 +101,14 @@ impl Sums {
     }
 }
 
-/// Whether no child of a node has a child: the steps are taken from such a node as soon as it is looked up.
-fn has_only_leaves(node: Cursor<'_>) -> bool {
+/// So many nodes, no one below another, are walked as soon as one is looked up.
+const FEW: u32 = 16;
+
+/// Whether steps are taken from a node as soon as it is looked up: it has few children, and these have none.
+fn is_soon_walked(node: Cursor<'_>) -> bool {
+    if node.after() - node.place() > FEW {
+        return false;
+    }
     let mut next = node.first_child();
     while let Some(child) = next {
         if child.first_child().is_some() {
@@ -128,7 +134,11 @@ impl<'p, 'a> Run<'p, 'a> {
         }
         match frame.answers[position].take() {
             Some(Answer::Sums(sums)) => {
-                if sums.most == most { sums } else { Sums::new(self.alloc, most) }
+                if sums.most == most {
+                    sums
+                } else {
+                    Sums::new(self.alloc, most)
+                }
             }
             _ => Sums::new(self.alloc, most),
         }
@@ -148,7 +158,7 @@ impl<'p, 'a> Run<'p, 'a> {
         ensures found { frame.new.found ≡ frame.old.found }
         ensures sum { frame.new.sum ≡ frame.old.sum }
     {
-        if has_only_leaves(node) {
+        if is_soon_walked(node) {
             return Ok(true);
         }
         self.prepare(frame)?;

@@ -112,12 +112,7 @@ impl<'r, 'a> Walk<'r, 'a> {
 
     /// How many nodes the steps select. `COUNTED` of them and more are refused as memory is.
     #[cycle(eval)]
-    fn count_nodes(
-        self,
-        node: Cursor<'a>,
-        steps: &[Step],
-        frame: &mut Frame<'a>,
-    ) -> Result<u64>
+    fn count_nodes(self, node: Cursor<'a>, steps: &[Step], frame: &mut Frame<'a>) -> Result<u64>
         requires { IsFrameFor self node frame.old }
         ensures lends { Lends self.entry frame.old frame.new result }
         ensures value { IfOk result (λ count. count ≡ length (reached self.entry.run.now steps.now (node_of node.entry ∷ []))) }

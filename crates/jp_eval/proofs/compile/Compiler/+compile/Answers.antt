@@ -6,7 +6,7 @@ use Rattle.std.proofs.lemmas.Bool.{and_parts}
 use Rattle.jp_model.specs.Query.Syntax as syntax
 use Rattle.jp_model.specs.Query.Limits.{segments_pass, selectors_pass, logicals_pass, logical_passes, comparable_passes, call_passes, argument_passes}
 use Rattle.jp_model.specs.Query.Typing.{segments_typed, selectors_typed, logicals_typed, logical_typed, comparable_typed, logical_kind}
-use Rattle.jp_syntax.specs.View.{origin_view, op_view, literal_view, segments_of, selectors_of, logicals_of, segments_view, segment_view, selectors_view, selector_view, logicals_view, logical_view, comparable_view, path_view, call_view, argument_view}
+use Rattle.jp_syntax.specs.View.{origin_view, op_view, literal_view, selectors_of, logicals_of, segments_view, segment_view, selectors_view, selector_view, logicals_view, logical_view, comparable_view, path_view, call_view, argument_view}
 use Rattle.jp_syntax.specs.declared.tree.Segment.{Segment}
 use Rattle.jp_syntax.specs.declared.tree.Selector.{Selector}
 use Rattle.jp_syntax.specs.declared.tree.Logical.{Logical}

@@ -1,5 +1,5 @@
 -- The next of the part is put behind.
-use Rattle.std.proofs.Common.{◌≡◌, ◌∙◌, ◌-◌, arith, ap, length, length-append, take}
+use Rattle.std.proofs.Common.{◌∙◌, ◌-◌, arith, ap, length, length-append, take}
 use Rattle.jp_eval.specs.Found.{between}
 use Rattle.jp_eval.proofs.Kept.{next_copied}
 use Rattle.jp_eval.proofs.frame.Frame.copy.Goals as goal

@@ -1,5 +1,5 @@
 -- So many of the part stand behind the list.
-use Rattle.std.proofs.Common.{◌≡◌, ◌-◌, ◌≤◌, ◌++◌, take}
+use Rattle.std.proofs.Common.{◌≡◌, ◌-◌, ◌++◌, take}
 use Rattle.jp_eval.specs.Found.{between}
 use Rattle.jp_eval.proofs.frame.Frame.copy.Given as goal
 

@@ -4,7 +4,7 @@ use Rattle.std.specs.Prelude.{IfOk, IfSome, OnOk, not, option_map, slice_get}
 use Rattle.jp_model.specs.Json.Tree.{Tree, Value, value_of}
 use Rattle.jp_model.specs.Meaning.Nodes.{Node, children, children_where, root_node, subtree}
 use Rattle.jp_model.specs.Steps.{Step}
-use Rattle.jp_model.specs.Meaning.Selecting.{nodes, segment_nodes, selected, select, truth, given_by, compared_value}
+use Rattle.jp_model.specs.Meaning.Selecting.{nodes, selected, select, truth, given_by, compared_value}
 use Rattle.jp_model.specs.Meaning.Slices.{sliced, is_index}
 use Rattle.jp_model.specs.Meaning.Functions.{in_pattern, literal_value}
 use Rattle.jp_model.specs.Query.Syntax as syntax
@@ -14,8 +14,8 @@ use Rattle.jp_nodes.specs.declared.cursor.Cursor.{Cursor}
 use Rattle.jp_nodes.specs.Cursors.{line_of, place_of, node_of, nodes_from, nodes_after}
 use Rattle.jp_nodes.specs.Tapes.{spelled}
 use Rattle.jp_nodes.proofs.Cursors.{after_short}
-use Rattle.jp_values.specs.Values.{value_view, is_sound_value}
-use Rattle.jp_eval.specs.Answers.{IsAnswer, IsValue, table_in, tree_in, slot_truth, slot_value}
+use Rattle.jp_values.specs.Values.{value_view}
+use Rattle.jp_eval.specs.Answers.{IsAnswer, IsValue, table_in, slot_truth, slot_value}
 use Rattle.jp_children.specs.Found.{node_list}
 use Rattle.jp_eval.specs.Found.{Adds}
 use Rattle.jp_eval.specs.Frames.{AreKept, Pushes, reached}
@@ -42,7 +42,7 @@ use Rattle.jp_eval.specs.declared.program.Found.{Found}
 use Rattle.jp_syntax.specs.View.{literal_view}
 use Rattle.std.proofs.Math.Logic.{∥∥₁_elim}
 use Rattle.jp_eval.proofs.Childless.{none_first, none_selected}
-use Rattle.jp_eval.proofs.Compiled.{child_is, descendant_is, found_is, key_is, known_is, literal_is, once_is, passes_is, slice_is, sought_once, spelled_is}
+use Rattle.jp_eval.proofs.Compiled.{child_is, descendant_is, found_is, known_is, literal_is, once_is, passes_is, slice_is, sought_once, spelled_is}
 use Rattle.jp_eval.proofs.Descendants.{below_at}
 use Rattle.jp_eval.proofs.Entered.{once_found, once_given, once_told}
 use Rattle.jp_eval.proofs.FromRoot.{logical_size, side_size}
@@ -702,9 +702,9 @@ push_step-returns-in-Descendant t c =
     let ss : Segments = steps_view table c.args.rest.now in
     let all = c.in-Descendant.choices in
     let seen = ap (λ (x : ProgramStep). nodes (step_view table x ss) (n ∷ []) u) c.in-Descendant.is
-        ∙ (ap (λ (f : Onward). nodes (f ss) (n ∷ []) u) (descendant_is table all)
-        ∙ (from_one (syntax.descendant_segment (choices_view table all.items)) ss n u
-        ∙ ap (λ (l : List Choice). nodes ss (flat_map (λ (d : Node). selected (choices_view table l) d u) (subtree n)) u) (sym c.deref-in-Descendant.ensures.value))) in
+    ∙ (ap (λ (f : Onward). nodes (f ss) (n ∷ []) u) (descendant_is table all)
+    ∙ (from_one (syntax.descendant_segment (choices_view table all.items)) ss n u
+    ∙ ap (λ (l : List Choice). nodes ss (flat_map (λ (d : Node). selected (choices_view table l) d u) (subtree n)) u) (sym c.deref-in-Descendant.ensures.value))) in
     subst (λ (l : List Node). Pushes c.args.self c.args.frame.now c.push_subtree.new.frame c.push_subtree.result l) (sym seen) c.push_subtree.ensures
 
 -- ---- a slot that begins with a descendant segment

@@ -5,9 +5,8 @@ use Rattle.std.proofs.lemmas.List.{map-append}
 use Rattle.jp_model.specs.Meaning.Nodes.{Node}
 use Rattle.jp_nodes.specs.declared.cursor.Cursor.{Cursor}
 use Rattle.jp_nodes.specs.Cursors.{line_of, node_of}
-use Rattle.jp_eval.specs.Found.{Adds, IsRange, between}
+use Rattle.jp_eval.specs.Found.{Adds, between}
 use Rattle.jp_eval.specs.Frames.{AreKept}
-use Rattle.jp_eval.specs.Tallies.{is_listed}
 use Rattle.jp_eval.specs.declared.frame.Answer.{Answer}
 use Rattle.jp_eval.specs.declared.frame.Frame.{Frame}
 use Rattle.jp_eval.specs.declared.frame.Run.{Run}
