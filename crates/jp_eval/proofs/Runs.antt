@@ -1,5 +1,5 @@
 -- What is kept is right in each run that asks the same slots.
-use Rattle.std.proofs.Common.{◌≡◌, ◌∙◌, ◌<◌, ◌+◌, ℕ, List, [], ◌∷◌, ◌++◌, Option, Some, Result, Ok, Err, Vec, Global, ap, subst, sym}
+use Rattle.std.proofs.Common.{◌≡◌, ◌∙◌, ◌<◌, ◌+◌, ℕ, List, [], ◌∷◌, ◌++◌, Option, Some, Result, Ok, Err, Vec, Global, ap, subst, sym, ap₂, refl}
 use Rattle.std.specs.Prelude.{OnOk, slice_get}
 use Rattle.jp_model.specs.Meaning.Selecting.{compared_value, nodes, selected, truth}
 use Rattle.jp_model.specs.Meaning.Nodes.{Node, children}
@@ -25,6 +25,8 @@ use Rattle.jp_eval.specs.declared.program.Slot.{Slot}
 use Rattle.jp_eval.specs.declared.program.Step.{Step}
 use Rattle.jp_eval.specs.declared.program.Step.TheVariants as steps
 use Rattle.jp_eval.proofs.Kept.{adds_none}
+use Rattle.jp_model.proofs.Seek.{no_nodes}
+use Rattle.jp_eval.proofs.Childless.{none_selected}
 use Rattle.jp_eval.proofs.Compiled.{descendant_is}
 use Rattle.jp_eval.proofs.Nodelists.{below_first}
 use Rattle.jp_eval.proofs.Sizes.{size_of_segments, size_of_selectors}
@@ -118,6 +120,18 @@ slot_below run inner position all choices rest n w e same =
     ∙ (ap (λ (x : Segments). nodes ss (selected (choices_view table choices) n t) t ++ nodes x (children n) t) tail_is
     ∙ (sym (below_first (choices_view table choices) ss n t)
     ∙ ap (λ (x : Segments). nodes x (n ∷ []) t) (sym tail_is)))
+
+-- and the node has no children
+pub slot_leaf : (run inner : Run) (position : ℕ) (all : Vec Choice Global) (first : Step) (own rest : List Step) (n : Node) → IsRunOf run inner → tail_at (table_in run) position ≡ steps_view (table_in inner) own → own ≡ first ∷ rest → first ≡ steps.Descendant all → children n ≡ []
+    → nodes (tail_at (table_in run) position) (n ∷ []) (tree_in run) ≡ []
+slot_leaf run inner position all first own rest n w view are is none =
+    let table : Table = table_in inner in
+    let ss : Segments = steps_view table rest in
+    let tail : Segments = tail_at (table_in run) position in
+    sym (slot_below run inner position all all.items rest n w (view ∙ ap (steps_view table) (are ∙ ap (λ (x : Step). x ∷ rest) is)) refl)
+    ∙ ap₂ (λ (xs ys : List Node). xs ++ ys)
+    (ap (λ (l : List Node). nodes ss l (tree_in inner)) (none_selected (choices_view table all.items) n (tree_in inner) none) ∙ no_nodes ss (tree_in inner))
+    (ap (λ (l : List Node). nodes tail l (tree_in run)) none ∙ no_nodes tail (tree_in run))
 
 pub below_size : (run inner : Run) (position : ℕ) (all : Vec Choice Global) (choices : List Choice) (rest : List Step) → tail_at (table_in run) position ≡ steps_view (table_in inner) (steps.Descendant all ∷ rest) → choices ≡ all.items
     → size_of_segments (tail_at (table_in run) position) ≡ size_of_selectors (choices_view (table_in inner) choices) + 11 + size_of_segments (steps_view (table_in inner) rest)

@@ -51,6 +51,8 @@ pub struct Frame<'a> {
     /// The nodes that were counted, where they are not listed.
     pub(crate) sum: Sum,
     pub(crate) answers: Vec<Option<Answer<'a>>>,
+    /// Where the last node ends that the steps of a slot were taken from without a note, as a place, by the slot's position.
+    pub(crate) walked: Vec<u32>,
 }
 
 impl<'a> Frame<'a> {
@@ -69,6 +71,7 @@ impl<'a> Frame<'a> {
             found: Vec::new(alloc),
             sum: NONE,
             answers: Vec::new(alloc),
+            walked: Vec::new(alloc),
         }
     }
 
@@ -89,6 +92,7 @@ impl<'a> Frame<'a> {
         self.found.clear();
         self.sum = NONE;
         self.answers.clear();
+        self.walked.clear();
     }
 
     /// Whether no more nodes are looked for.

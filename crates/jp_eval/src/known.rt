@@ -40,7 +40,10 @@ impl<'r, 'a> Walk<'r, 'a> {
         requires { IsFrameFor self node frame.old }
         ensures { Pushes self.entry frame.old frame.new result (nodes (tail_at (table_at self.entry) position) (node_of node.entry ∷ []) (tree_at self.entry)) }
     {
-        if self.run.takes_no_note(position, node, self.most, frame)? {
+        if node.first_child().is_none() {
+            return self.push_slot(node, position, frame);
+        }
+        if self.run.takes_no_note(position, node, frame)? {
             return self.push_slot(node, position, frame);
         }
         if let Some(known) = self.run.known_at(position, node, self.most, frame) {
@@ -59,6 +62,12 @@ impl<'r, 'a> Walk<'r, 'a> {
         let Some((inner, steps)) = self.run.steps_at(position) else {
             return Ok(());
         };
+        // Most nodes have no children, and nothing is selected from them.
+        if let Some((Step::Descendant(_), _)) = steps.split_first()
+            && node.first_child().is_none()
+        {
+            return Ok(());
+        }
         let (run, most) = (&inner, self.most);
         Walk { run, most }.push_steps(node, steps, frame)
     }

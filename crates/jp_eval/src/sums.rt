@@ -48,8 +48,6 @@ pub(crate) enum Known {
 pub(crate) struct Sums {
     /// How many nodes decide.
     pub(crate) most: u64,
-    /// The place behind the last node that the steps were taken from without a note.
-    pub(crate) walked: u32,
     /// What they select, by the place of the node that they are taken from.
     pub(crate) known: BTreeMap<u32, Known>,
 }
@@ -62,7 +60,6 @@ impl Sums {
     {
         Sums {
             most,
-            walked: 0,
             known: BTreeMap::new(alloc),
         }
     }
@@ -86,18 +83,6 @@ impl Sums {
             Ok(_) => Ok(()),
             Err(_) => Err(AllocError),
         }
-    }
-
-    /// Whether a node is below none that the steps were taken from without a note. It is one of these then.
-    fn passes(&mut self, node: Cursor<'_>) -> bool
-        ensures most { self.new.most ≡ self.old.most }
-        ensures known { self.new.known ≡ self.old.known }
-    {
-        let fresh = node.place() >= self.walked;
-        if fresh {
-            self.walked = node.after();
-        }
-        fresh
     }
 }
 
@@ -144,13 +129,12 @@ impl<'p, 'a> Run<'p, 'a> {
         }
     }
 
-    /// Whether the steps of the slot at a position are taken from a node without a note: it is soon walked again, or is below none
-    /// that they were taken from so. Most nodes are met once.
+    /// Whether the steps of the slot at a position are taken from a node without a note: it is below none that they were taken from
+    /// so, as most nodes are met once, or is soon walked again.
     pub(crate) fn takes_no_note(
         self,
         position: usize,
         node: Cursor<'a>,
-        most: u64,
         frame: &mut Frame<'a>,
     ) -> Result<bool>
         requires { IsKept self frame.old }
@@ -158,14 +142,17 @@ impl<'p, 'a> Run<'p, 'a> {
         ensures found { frame.new.found ≡ frame.old.found }
         ensures sum { frame.new.sum ≡ frame.old.sum }
     {
-        if is_soon_walked(node) {
+        if position >= frame.walked.len() {
+            frame.walked.resize(self.known, 0)?;
+        }
+        if position >= frame.walked.len() {
             return Ok(true);
         }
-        self.prepare(frame)?;
-        let mut sums = self.take_sums(position, most, frame);
-        let fresh = sums.passes(node);
-        self.keep_at(position, Answer::Sums(sums), frame);
-        Ok(fresh)
+        if node.place() >= frame.walked[position] {
+            frame.walked[position] = node.after();
+            return Ok(true);
+        }
+        Ok(is_soon_walked(node))
     }
 
     /// What the steps of the slot at a position select from a node, where it is known.
@@ -202,6 +189,7 @@ impl<'p, 'a> Run<'p, 'a> {
         ensures found { frame.new.found ≡ frame.old.found }
         ensures sum { frame.new.sum ≡ frame.old.sum }
     {
+        self.prepare(frame)?;
         let mut sums = self.take_sums(position, most, frame);
         let noted = sums.note(node.place(), known);
         self.keep_at(position, Answer::Sums(sums), frame);

@@ -54,7 +54,7 @@ use Rattle.jp_eval.proofs.Totals.{counted_all, has_some, is_all, listed_behind, 
 use Rattle.jp_children.proofs.Lines.{line_on, line_of_some}
 use Rattle.jp_eval.proofs.Lists.{item_at, no_item}
 use Rattle.jp_eval.proofs.Patterns.{told, one_proof}
-use Rattle.jp_eval.proofs.Runs.{below_size, frame_in, kept_back, kept_in, lent_back, lent_from, lent_room, pushed_back, slot_below, slot_reached, slot_size}
+use Rattle.jp_eval.proofs.Runs.{below_size, frame_in, kept_back, kept_in, lent_back, lent_from, lent_room, pushed_back, slot_below, slot_leaf, slot_reached, slot_size}
 use Rattle.jp_eval.proofs.Sizes.{size_of_argument, size_of_comparable, size_of_logical, size_of_segments, size_of_selectors}
 use Rattle.jp_children.proofs.Slices.{none_risen}
 use Rattle.jp_children.proofs.Walks.{chosen_from, chosen_here, passed_here, at_next, index_fits}
@@ -573,6 +573,16 @@ push_step-push_known-requires t c =
     let seen = ap (λ (x : ProgramStep). size_of_segments (step_view table x (steps_view table c.args.rest.now))) c.in-Known.is ∙ ap (λ (f : Onward). size_of_segments (f (steps_view table c.args.rest.now))) (known_is table c.in-Known.position) in
     (omega (arith, seen, c.decreases), c.requires)
 
+pub push_slot-returns : goal.push_slot-returns
+push_slot-returns t c =
+    let run : Run = c.args.self.run.now in
+    let n : Node = node_of c.args.node in
+    let none : children n ≡ [] = sym c.first_child.ensures.nodes ∙ none_first c.first_child.result (c.is_none.ensures ∙ ap not c.if-is_none.true) in
+    is_done
+    (begins c.args.self c.args.frame.now c.args.frame.now [] (nodes (tail_at (table_in run) c.args.position) (n ∷ []) (node_of run.root.now).tree) c.requires.kept refl refl
+    (sym (slot_leaf run c.in-Some.inner c.args.position c.in-Some-Descendant-default.field-0-0-0 c.in-Some-Descendant-default.field-0-0.now c.in-Some.steps.now c.in-Some-Descendant-default.field-0-1.now n c.in-Some.ensures.run c.in-Some.ensures.view c.in-Some-Descendant-default.ensures.cases.0 c.in-Some-Descendant-default.field-0-0-is none)))
+    refl
+
 -- ---- sums
 
 pub count_nodes-returns-clause-value : goal.count_nodes-returns-clause-value
@@ -610,8 +620,8 @@ push_slot-push_steps-requires t c =
     let known = c.in-Some.ensures.known in
     (omega (arith, size, known, c.decreases), frame_in c.args.node c.args.frame.now c.in-Some.ensures.run c.requires.line c.requires.kept)
 
-pub push_slot-returns : goal.push_slot-returns
-push_slot-returns t c =
+pub push_slot-returns-2 : goal.push_slot-returns-2
+push_slot-returns-2 t c =
     let n : Node = node_of c.args.node in
     subst (λ (l : List Node). Pushes c.args.self c.args.frame.now c.push_steps.new.frame c.push_steps.result l)
     (slot_reached c.args.self.run.now c.in-Some.inner c.args.position c.in-Some.steps.now (n ∷ []) c.in-Some.ensures.run c.in-Some.ensures.view)
@@ -648,7 +658,7 @@ push_noted-note-requires-clause-is t c =
     let new : List Cursor = c.push_parts.new.frame.found.items in
     let ns : List Node = nodes (tail_at (table_in run) c.args.position) (node_of c.args.node ∷ []) (node_of run.root.now).tree in
     listed_known line new c.args.self.most ns c.len-start.result c.len-end.result (is_all c.args.self.most c.if-self-eq-LISTED.true)
-    (range_behind line old new ns c.len-start.result c.len-end.result c.in_ok-push_parts.ensures.adds (listed_behind line c.args.self.most c.push_parts.new.frame (record { found = c.args.frame.now.found; sum = c.replace-outer.new.dest; answers = c.args.frame.now.answers }) ns c.if-self-eq-LISTED.true c.in_ok-push_parts.ensures.told) (c.len-start.ensures ∙ c.args.frame.now.found.ok.0) (c.len-end.ensures ∙ c.push_parts.new.frame.found.ok.0))
+    (range_behind line old new ns c.len-start.result c.len-end.result c.in_ok-push_parts.ensures.adds (listed_behind line c.args.self.most c.push_parts.new.frame (record { found = c.args.frame.now.found; sum = c.replace-outer.new.dest; answers = c.args.frame.now.answers; walked = c.args.frame.now.walked }) ns c.if-self-eq-LISTED.true c.in_ok-push_parts.ensures.told) (c.len-start.ensures ∙ c.args.frame.now.found.ok.0) (c.len-end.ensures ∙ c.push_parts.new.frame.found.ok.0))
 
 -- ---- below a node
 
