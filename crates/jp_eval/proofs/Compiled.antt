@@ -21,7 +21,7 @@ use Rattle.jp_eval.specs.Programs.{Onward, Table, argument_of, here, tail_at, lo
 use Rattle.jp_eval.specs.declared.leaves.LiteralPattern.{LiteralPattern}
 use Rattle.jp_eval.specs.declared.question.Key.{Key}
 use Rattle.jp_eval.specs.declared.question.Question.{Question}
-use Rattle.jp_eval.specs.Keys.{key_segment, keys_view}
+use Rattle.jp_eval.specs.Keys.{keys_view}
 use Rattle.jp_eval.specs.Questions.{passing_name, question_view}
 use Rattle.jp_eval.specs.declared.program.Step.{Step, fold-roll-Step}
 use Rattle.jp_eval.specs.declared.program.Step.TheVariants as steps
@@ -91,9 +91,6 @@ tests_is table x = ap (condition_view table) (sym (conditions.rolls-Test x)) ∙
 
 pub once_is : (table : Table) (position : ℕ) → condition_view table (conditions.Once position) ≡ logical_from_root (logical_at table position)
 once_is table position = ap (condition_view table) (sym (conditions.rolls-Once position)) ∙ fold-roll-Condition syntax.Selector syntax.Logical syntax.Comparable syntax.Comparable syntax.Comparable syntax.Argument Onward syntax.Logical choice_step (condition_step table) found_step operand_step (sought_step table) spelled_step (step_step table) test_step (Condition-F.Condition::Once position)
-
-pub key_is : (table : Table) (key : Key) → step_view table (steps.One key) ≡ syntax.segment (key_segment key)
-key_is table key = ap (step_view table) (sym (steps.rolls-One key)) ∙ fold-roll-Step syntax.Selector syntax.Logical syntax.Comparable syntax.Comparable syntax.Comparable syntax.Argument Onward syntax.Logical choice_step (condition_step table) found_step operand_step (sought_step table) spelled_step (step_step table) test_step (Step-F.Step::One key)
 
 pub known_is : (table : Table) (position : ℕ) → step_view table (steps.Known position) ≡ (λ (more : syntax.Segments). tail_at table position)
 known_is table position = ap (step_view table) (sym (steps.rolls-Known position)) ∙ fold-roll-Step syntax.Selector syntax.Logical syntax.Comparable syntax.Comparable syntax.Comparable syntax.Argument Onward syntax.Logical choice_step (condition_step table) found_step operand_step (sought_step table) spelled_step (step_step table) test_step (Step-F.Known position)

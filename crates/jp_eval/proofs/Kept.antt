@@ -1,5 +1,5 @@
 -- What stands in a list stays at its front.
-use Rattle.std.proofs.Common.{◌≡◌, ◌≤◌, ◌<◌, ◌+◌, ◌-◌, ℕ, zero, suc, get_or, Vec, Global, Result, Ok, Err, List, [], ◌∷◌, ◌++◌, length, take, drop, map, true, false, Bool, sym, ◌∙◌, ap, subst, refl, arith, append_assoc, append-nil, length-append, Option}
+use Rattle.std.proofs.Common.{◌≡◌, ◌≤◌, ◌<◌, ◌+◌, ◌-◌, ℕ, zero, suc, get_or, Result, Ok, Err, List, [], ◌∷◌, ◌++◌, length, take, drop, map, true, false, Bool, sym, ◌∙◌, ap, subst, refl, arith, append_assoc, append-nil, length-append, Option}
 use Rattle.std.specs.Prelude.{OnOk, slice_get}
 use Rattle.std.proofs.lemmas.List.{drop_at, get_or-drop, take_all}
 use Rattle.std.proofs.lemmas.List.Elements.{All-nil, All-append}
@@ -9,12 +9,11 @@ use Rattle.jp_nodes.specs.declared.cursor.Cursor.{Cursor}
 use Rattle.jp_nodes.specs.Cursors.{line_of, node_of}
 use Rattle.jp_eval.specs.Answers.{IsAnswer, slots_in}
 use Rattle.jp_eval.specs.Found.{Adds, IsRange, between}
-use Rattle.jp_eval.specs.Frames.{AreKept, IsKept}
+use Rattle.jp_eval.specs.Frames.{AreKept}
 use Rattle.jp_eval.specs.Programs.{Meant}
 use Rattle.jp_eval.specs.Tallies.{IsKnown, IsKnownAs, is_listed}
 use Rattle.jp_eval.specs.declared.frame.Answer.{Answer}
 use Rattle.jp_eval.specs.declared.frame.Answer.TheVariants as answers
-use Rattle.jp_eval.specs.declared.frame.Frame.{Frame}
 use Rattle.jp_eval.specs.declared.frame.Run.{Run}
 use Rattle.jp_eval.specs.declared.sums.Known.{Known}
 use Rattle.jp_eval.specs.declared.sums.Known.TheVariants as knowns
@@ -84,10 +83,6 @@ pub kept_grown : (run : Run) (old new : List Cursor) (kept : List (Option Answer
 kept_grown run old new kept line a h position answer is =
     let meant : Option Meant = slice_get (slots_in run) position in
     subst (λ (l : List Cursor). IsAnswer run l meant answer) (sym a.is) (answer_grown run old a.others meant answer (h position answer is))
-
--- and as the frame has the same list and the same answers
-pub kept_as : (run : Run) (old new : Frame) → new.found ≡ old.found → new.answers ≡ old.answers → IsKept run old → IsKept run new
-kept_as run old new f a h = subst (λ (v : Vec Cursor Global). AreKept run v.items new.answers.items) (sym f) (subst (λ (v : Vec (Option Answer) Global). AreKept run old.found.items v.items) (sym a) h)
 
 -- ---- copies
 

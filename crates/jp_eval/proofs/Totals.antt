@@ -34,13 +34,6 @@ enough most t h = by (nat_lt t.count most) refl
     by false e = refl
     by true e = let l = ltb-true t.count most e in absurd (omega (arith, l, h))
 
-short : (most : ℕ) (t : Total) → t.count < most → cut most t ≡ Some t
-short most t h = by (nat_lt t.count most) refl
-  where
-    by : (b : Bool) → nat_lt t.count most ≡ b → cond b (Some t) None ≡ Some t
-    by true e = refl
-    by false e = let l = ltb-false t.count most e in absurd (omega (arith, l, h))
-
 -- the two are cut off, or are the same
 pub cut_so : {A : Type 0} (most : ℕ) (a b : Total) → cut most a ≡ cut most b → (most ≤ a.count → most ≤ b.count → A) → (a.count < most → a ≡ b → A) → A
 cut_so {A} most a b e f g = by (nat_lt a.count most) (nat_lt b.count most) refl refl e
@@ -129,17 +122,6 @@ only_one line sum ns h l =
     by [] e k = absurd (omega (arith, k))
     by (x ∷ []) e k = (x, (ap (λ (x : Total). x.last) e, refl))
     by (x ∷ y ∷ ns) e k = absurd (omega (arith, k))
-
--- and where there is none, or several
-pub not_one : (line : List ℕ) (sum : Sum) (ns : List Node) → IsTotal line 2 sum ns → (sum.count ≡ 1 → ⊥) → None ≡ single_value ns
-not_one line sum ns h l =
-    let n = plus_count (none_in line) ns in
-    cut_so 2 (total_of line sum) (plus (none_in line) ns) h (λ a b. by ns (λ k. omega (arith, b, n, k))) (λ a e. let size = ap (λ (x : Total). x.count) e in by ns (λ k. l (omega (arith, size, n, k))))
-  where
-    by : (ns : List Node) → (length ns ≡ 1 → ⊥) → None ≡ single_value ns
-    by [] k = refl
-    by (x ∷ []) k = absurd (k refl)
-    by (x ∷ y ∷ ns) k = refl
 
 -- ---- tallies
 
