@@ -107,20 +107,22 @@ def memory_of_deep_lines(checks):
 
 
 def memory_of_what_is_remembered(checks):
-    """What is remembered of a line takes at most eight bytes for each of its nodes and a megabyte, however many steps a query has. Two
-    megabytes more are for what two runs differ by."""
-    lines, nodes = file_of("lines", "[" + ",".join(["[[]]"] * (MILLION // 2)) + "]\n"), MILLION + 1
-
-    def peak_of(command):
+    """What is remembered of a line takes at most a hundred bytes for each node that has a child of a child, and for each step that a
+    second way leads to; of other nodes nothing is. Five megabytes more are for the query, and for what two runs differ by."""
+    def peak_of(lines, command):
         script = file_of("script", f"{command}\n")
         with subprocess.Popen([PROGRAM, lines, "--script", script], stdout=subprocess.PIPE) as run:
             run.stdout.read()
             return os.wait4(run.pid, 0)[2].ru_maxrss * 1024
 
-    alone = peak_of("query $.a")
-    for name, query in (("5,000 descendants", "$" + "..a" * 5000), ("wildcards", "$..*..*..*..zz"), ("filters", "$..[?@..*..[?@..zz]]")):
-        more = peak_of(f"query {query}") - alone
-        checks.check(f"memory of what is remembered, {name}: {more} bytes", more <= 8 * nodes + 3 * 2**20, True)
+    flat = "[" + ",".join(["[[]]"] * (MILLION // 2)) + "]\n"
+    deep = "[[" + ",".join(["[[[]]]"] * 100_000) + "]]\n"
+    cases = [("5,000 descendants", flat, "$" + "..a" * 5000, 0), ("wildcards", flat, "$..*..*..*..zz", 0), ("filters", flat, "$..[?@..*..[?@..zz]]", 0),
+             ("wildcards over deep ones", deep, "$..*..*..*..zz", 3), ("filters over deep ones", deep, "$..[?@..*..[?@..zz]]", 4)]
+    for name, text, query, steps in cases:
+        lines = file_of("lines", text)
+        more = peak_of(lines, f"query {query}") - peak_of(lines, "query $.a")
+        checks.check(f"memory of what is remembered, {name}: {more} bytes", more <= 100 * 100_000 * steps + 5 * 2**20, True)
 
 
 def texts_cut_short(checks):
@@ -433,20 +435,52 @@ def counts_of_many_nodes(checks):
     grows_with_its_input(checks, "counts in 64 MB", of_elements, 100_000)
 
 
-def dead_ends(checks):
-    """A node from which nothing is selected is walked once, and a filter asked of a node once, by however many ways they come to it."""
-    deep = "[" * 512 + "]" * 512 + "\n"
-    twice = "$" + "[0,0]" * 24 + ".a"
-    objects, names = '{"a":' * 256 + "1" + "}" * 256 + "\n", "$" + "..a" * 128 + "..zz"
-    cases = [(deep, query) for query in ("$..*..*..*..*..zz", "$..*..[0,*]..[?@.zz].*..zz", twice, "$[?@..*..*..*..*..zz]",
-                                         "$[?count(@..*..*..*..*..zz)>0]", "$[?value(@..*..*..*..*..zz)==1]")]
+def nodes_met_again(checks):
+    """What a query selects from a node by a second way is not looked for again, by however many ways they come to it: where the nodes
+    are listed, where they are counted, and where one decides. A stack of three megabytes is enough for it."""
+    limit = lambda: resource.setrlimit(resource.RLIMIT_STACK, (3 * 2**20, 3 * 2**20))
+
+    def asked(line, query):
+        lines, script = file_of("lines", line + "\n"), file_of("script", f"query {query}\n")
+        run = subprocess.run([PROGRAM, lines, "--script", script], capture_output=True, timeout=SECONDS, preexec_fn=limit)
+        return run.returncode, run.stdout.decode()
+
+    def nested(depth, within=""):
+        return "[" * depth + within + "]" * depth
+
+    none, deep = (0, "= 0\n"), nested(512)
+    one = (0, rows([(1, "$[0]")], nested(511)))
+    objects, names = '{"a":' * 256 + "1" + "}" * 256, "$" + "..a" * 128 + "..zz"
+    cases = [(deep, query, none) for query in ("$..*..*..*..*..zz", "$..*..[0,*]..[?@.zz].*..zz", "$[?@..*..*..*..*..zz]",
+                                               "$[?count(@..*..*..*..*..zz)>0]", "$[?value(@..*..*..*..*..zz)==1]")]
+    cases += [(deep, f"$[?count(@{'..*' * steps})>1]", one) for steps in (3, 5, 8)] + [(deep, f"$[?count(@{'..*' * 20})>1]", (0, "error: memory\n"))]
+    for times in (24, 60):
+        for pair in ("[0,0]", "[*,0]", "['a',0,'a',0]"):
+            twice = "@" + pair * times
+            cases += [(deep, f"${pair * times}.a", none), (deep, f"$[?count({twice})>1]", one), (deep, f"$[?value({twice}.a)==1]", none),
+                      (deep, f"$[?!{twice}.a]", one)]
     filters = "@.*"
     for _ in range(8):
         filters = f"!@..[?{filters}]"
-    for line, query in cases + [(objects, names), (deep, f"$[?{filters}]")]:
+    for line, query, stated in cases + [(objects, names, none), (deep, f"$[?{filters}]", none)]:
         before = seconds_so_far()
-        checks.check(f"dead ends of {query[:40]}", answered(line, f"query {query}\n"), (0, "= 0\n"))
-        checks.check(f"a second for dead ends of {query[:40]}", seconds_so_far() - before < 1, True)
+        checks.check(f"nodes met again by {query[:40]}", asked(line, query), stated)
+        checks.check(f"a second for nodes met again by {query[:40]}", seconds_so_far() - before < 1, True)
+
+    zeros, filters = ",".join("0" * MILLION), "@..zz"
+    for _ in range(5):
+        filters = f"@..[?{filters}]"
+    for depth in (40, 80, 160, 500):
+        for query in (f"$[?{filters}]", "$..*..*..*..*..*..zz"):
+            before = seconds_so_far()
+            checks.check(f"a million zeros in {depth} arrays, {query[:20]}", asked(nested(depth, zeros), query), none)
+            checks.check(f"seconds of a million zeros in {depth} arrays, {query[:20]}", seconds_so_far() - before < 2, True)
+
+    grows_with_its_input(checks, "descents of a query", lambda count: (asked(deep, "$" + "..*" * count + "..zz"), none), 20)
+    grows_with_its_input(checks, "descents that are counted", lambda count: (asked(deep, f"$[?count(@{'..*' * count}..zz)>0]"), none), 20)
+    grows_with_its_input(checks, "unions of a query", lambda count: (asked(deep, f"$[?@{'[0,0]' * count}.zz]"), none), 60)
+    grows_with_its_input(checks, "arrays behind others", lambda count: (asked(nested(60, ",".join(["[[0]]"] * count)), "$" + "..*" * 10 + "..zz"), none), 10_000)
+    grows_with_its_input(checks, "indexes by two ways", lambda count: (asked(deep, f"$[?count(@[{','.join('0' * count)}][{','.join('0' * count)}])<{count**2}]"), none), 2_500)
 
 
 def indexes_of_one_array(checks):
@@ -531,7 +565,7 @@ def main():
                  texts_of_backslashes, texts_of_each_form_of_tape, lines_behind_long_ones, objects_of_many_members,
                  many_lines, lines_of_one_key, edits_of_many_lines, texts_of_numbers, texts_of_names, queries, patterns,
                  long_texts, turns_in_turns, long_numbers, objects_turned, large_objects, filters_from_the_root,
-                 filters_of_many_roots, questions_of_a_filter, conditions_of_the_root, texts_from_the_root, counts_of_many_nodes, dead_ends, indexes_of_one_array,
+                 filters_of_many_roots, questions_of_a_filter, conditions_of_the_root, texts_from_the_root, counts_of_many_nodes, nodes_met_again, indexes_of_one_array,
                  checks_of_many_lines, queries_of_one_line, devices, sizes):
         part(checks)
     print(f"{checks.passed} passed, {checks.failed} failed")

@@ -1,6 +1,7 @@
 -- Answers at their positions.
 use Rattle.std.proofs.Common.{◌≡◌, ℕ, zero, suc, List, [], ◌∷◌, ◌++◌, slice_set, Option, Some, None, sym, ◌∙◌, ap, refl, subst}
 use Rattle.std.specs.Prelude.{slice_get}
+use Rattle.jp_nodes.specs.declared.cursor.Cursor.{Cursor}
 use Rattle.jp_eval.specs.Frames.{AreKept}
 use Rattle.jp_eval.specs.declared.frame.Answer.{Answer}
 use Rattle.jp_eval.specs.declared.frame.Run.{Run}
@@ -27,8 +28,8 @@ before_none [] (suc (suc k)) x e = absurd (cc)
 before_none (o ∷ l) zero x e = e
 before_none (o ∷ l) (suc k) x e = before_none l k x e
 
-pub kept_more : (run : Run) (answers new : List (Option Answer)) → new ≡ answers ++ None ∷ [] → AreKept run answers → AreKept run new
-kept_more run answers new e h = λ position answer f. h position answer (before_none answers position answer (ap (λ (l : List (Option Answer)). slice_get l position) (sym e) ∙ f))
+pub kept_more : (run : Run) (found : List Cursor) (answers new : List (Option Answer)) → new ≡ answers ++ None ∷ [] → AreKept run found answers → AreKept run found new
+kept_more run found answers new e h = λ position answer f. h position answer (before_none answers position answer (ap (λ (l : List (Option Answer)). slice_get l position) (sym e) ∙ f))
 
 -- what stands in a list in which one item was set
 pub got : {A B : Type 0} (l : List A) (i j : ℕ) (x y : A) → slice_get (slice_set l i x) j ≡ Some y → (i ≡ j → x ≡ y → B) → (slice_get l j ≡ Some y → B) → B
@@ -39,5 +40,5 @@ got (z ∷ l) (suc i) zero x y h f g = g h
 got (z ∷ l) (suc i) (suc j) x y h f g = got l i j x y h (λ e k. f (ap suc e) k) g
 
 -- one answer was taken out
-pub kept_without : (run : Run) (answers : List (Option Answer)) (here : ℕ) (none : Option Answer) → none ≡ None → AreKept run answers → AreKept run (slice_set answers here none)
-kept_without run answers here none e h position answer is = got answers here position none (Some answer) is (λ there same. absurd (cc)) (λ other. h position answer other)
+pub kept_without : (run : Run) (found : List Cursor) (answers : List (Option Answer)) (here : ℕ) (none : Option Answer) → none ≡ None → AreKept run found answers → AreKept run found (slice_set answers here none)
+kept_without run found answers here none e h position answer is = got answers here position none (Some answer) is (λ there same. absurd (cc)) (λ other. h position answer other)

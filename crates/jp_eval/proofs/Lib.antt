@@ -3,12 +3,13 @@ pub mod Sizes
 pub mod Lists
 pub mod Nodelists
 pub mod Kept
+pub mod Totals
 pub mod Goes
 pub mod Views
 pub mod Called
 pub mod Descendants
-pub mod Counts
 pub mod Meanings
+pub mod Linking
 pub mod Compiled
 pub mod FromRoot
 pub mod Patterns
@@ -18,7 +19,6 @@ pub mod Given
 pub mod Origins
 pub mod Following
 pub mod Childless
-pub mod DeadEnds
 mod Literals
 mod Remembered
 mod Runs

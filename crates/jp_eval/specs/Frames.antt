@@ -1,11 +1,11 @@
 -- What a call promises of the frame that it is lent.
-use Rattle.std.specs.Prelude.{◌≡◌, ◌++◌, ℕ, List, [], Option, Some, Result, OnOk, slice_get}
+use Rattle.std.specs.Prelude.{◌≡◌, ℕ, List, [], Option, Some, Result, OnOk, slice_get}
 use Rattle.jp_model.specs.Json.Tree.{Tree}
 use Rattle.jp_model.specs.Meaning.Nodes.{Node}
 use Rattle.jp_model.specs.Meaning.Selecting.{nodes}
 use Rattle.jp_nodes.specs.declared.cursor.Cursor.{Cursor}
 use Rattle.jp_nodes.specs.Cursors.{line_of}
-use Rattle.jp_eval.specs.Answers.{AreAllDead, IsAnswer, slots_in, table_in, tree_in}
+use Rattle.jp_eval.specs.Answers.{IsAnswer, slots_in, table_in, tree_in}
 use Rattle.jp_eval.specs.Found.{Adds}
 use Rattle.jp_eval.specs.Programs.{Table, steps_view}
 use Rattle.jp_eval.specs.Tallies.{tally}
@@ -27,44 +27,27 @@ abbrev pub reached : Run → List Step → List Node → List Node
 reached run steps starts = nodes (steps_view (table_in run) steps) starts (tree_in run)
 
 -- each answer that was kept is right
-abbrev pub AreKept : Run → List (Option Answer) → Type 0
-AreKept run answers = (position : ℕ) (answer : Answer) → slice_get answers position ≡ Some (Some answer) → IsAnswer run (slice_get (slots_in run) position) answer
+abbrev pub AreKept : Run → List Cursor → List (Option Answer) → Type 0
+AreKept run found answers = (position : ℕ) (answer : Answer) → slice_get answers position ≡ Some (Some answer) → IsAnswer run found (slice_get (slots_in run) position) answer
 
--- the steps are the last of these
-pub record EndsWith (all rest : List Step) : Type 0 where
-  pub before : List Step
-  pub is : all ≡ before ++ rest
+-- so are those of a frame
+abbrev pub IsKept : Run → Frame → Type 0
+IsKept run frame = AreKept run frame.found.items frame.answers.items
 
 -- a node of the line, and a frame whose answers are right
 pub record IsFrameFor (walk : Walk) (node : Cursor) (frame : Frame) : Type 0 where
   pub line : line_of node ≡ line_of walk.run.now.root.now
-  pub kept : AreKept walk.run.now frame.answers.items
-
--- the same, before the last of the query's steps, whose dead ends are right
-pub record IsFrameAt (walk : Walk) (node : Cursor) (rest : List Step) (frame : Frame) : Type 0 where
-  pub line : line_of node ≡ line_of walk.run.now.root.now
-  pub kept : AreKept walk.run.now frame.answers.items
-  pub dead : AreAllDead walk.run.now frame.dead_ends.items
-  pub end : EndsWith walk.run.now.steps.now rest
+  pub kept : IsKept walk.run.now frame
 
 -- these nodes were added, as many as are looked for
 pub record Pushes {E : Type 0} {U : Type 0} (walk : Walk) (old new : Frame) (result : Result U E) (found : List Node) : Type 0 where
   pub adds : Adds (line_of walk.run.now.root.now) old.found.items new.found.items
-  pub kept : AreKept walk.run.now new.answers.items
-  pub dead : AreAllDead walk.run.now new.dead_ends.items
-  pub told : OnOk result (tally walk.most new [] ≡ tally walk.most old found)
+  pub kept : IsKept walk.run.now new
+  pub told : OnOk result (tally (line_of walk.run.now.root.now) walk.most new [] ≡ tally (line_of walk.run.now.root.now) walk.most old found)
 
--- the same by another query, whose dead ends are its own
-pub record Finds {E : Type 0} {U : Type 0} (walk : Walk) (old new : Frame) (result : Result U E) (found : List Node) : Type 0 where
-  pub adds : Adds (line_of walk.run.now.root.now) old.found.items new.found.items
-  pub kept : AreKept walk.run.now new.answers.items
-  pub dead : new.dead_ends ≡ old.dead_ends
-  pub told : OnOk result (tally walk.most new [] ≡ tally walk.most old found)
-
--- the frame was lent, and has the nodes, the number and the dead ends that it had
+-- the frame was lent, and has the nodes and the sum that it had
 pub record Lends {E : Type 0} {A : Type 0} (walk : Walk) (old new : Frame) (result : Result A E) : Type 0 where
   pub adds : Adds (line_of walk.run.now.root.now) old.found.items new.found.items
-  pub kept : AreKept walk.run.now new.answers.items
-  pub dead : new.dead_ends ≡ old.dead_ends
+  pub kept : IsKept walk.run.now new
   pub same : OnOk result (new.found.items ≡ old.found.items)
-  pub count : OnOk result (new.count ≡ old.count)
+  pub sum : OnOk result (new.sum ≡ old.sum)

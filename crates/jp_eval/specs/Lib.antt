@@ -13,4 +13,3 @@ pub mod Frames
 pub mod Questions
 pub mod Indexing
 pub mod Keys
-pub mod Places

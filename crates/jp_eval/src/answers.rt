@@ -1,28 +1,27 @@
 //! What was answered of what is asked once.
 
-ghost use Rattle.std.specs.Prelude.{◌≡◌, IfOk, IfSome, MatchOption, option_map, slice_get};
+ghost use Rattle.std.specs.Prelude.{◌≡◌, ◌<◌, IfOk, IfSome, MatchOption, option_map, slice_get};
 ghost use Rattle.jp_model.specs.Meaning.Functions.{in_pattern};
 ghost use Rattle.jp_values.specs.Values.{value_view};
 ghost use Rattle.jp_eval.specs.Answers.{IsAnswer, IsRunOf, IsValue, slot_truth, slot_value, table_in};
-ghost use Rattle.jp_eval.specs.Frames.{AreKept, Lends};
+ghost use Rattle.jp_eval.specs.Frames.{IsKept, Lends};
 ghost use Rattle.jp_eval.specs.Functions.{passing};
-ghost use Rattle.jp_eval.specs.Programs.{found_view, logical_at, no_logical, no_side, side_at, slot_view, test_view};
+ghost use Rattle.jp_eval.specs.Programs.{found_view, logical_at, no_logical, no_side, no_tail, side_at, slot_view, steps_view, tail_at, test_view};
 
 use crate::Result;
 use crate::frame::{Answer, Frame, Run, Walk};
 use crate::functions::{read_passes, read_pattern};
-use crate::program::{Found, Slot, Test};
+use crate::program::{Found, Slot, Step, Test};
 use jp_values::Value;
 
 impl<'p, 'a> Run<'p, 'a> {
     /// Makes room for the answers that the part at hand refers to.
     #[inline(never)]
     pub(crate) fn prepare(self, frame: &mut Frame<'a>) -> Result<()>
-        requires { AreKept self frame.old.answers.items }
-        ensures kept { AreKept self.entry frame.new.answers.items }
+        requires { IsKept self frame.old }
+        ensures kept { IsKept self.entry frame.new }
         ensures found { frame.new.found ≡ frame.old.found }
-        ensures count { frame.new.count ≡ frame.old.count }
-        ensures dead { frame.new.dead_ends ≡ frame.old.dead_ends }
+        ensures sum { frame.new.sum ≡ frame.old.sum }
     {
         for _position in frame.answers.len()..self.known {
             frame.answers.push(None)?;
@@ -34,6 +33,7 @@ impl<'p, 'a> Run<'p, 'a> {
     #[inline(always)]
     fn slot_at(self, position: usize) -> Option<(Run<'p, 'a>, &'p Slot)>
         ensures run { IfSome result (λ r. IsRunOf self.entry r.0) }
+        ensures known { IfSome result (λ r. r.0.known < self.entry.known) }
         ensures view { option_map (λ r. slot_view (table_in r.0) r.1.now) result ≡ slice_get (table_in self.entry) position }
     {
         if position >= self.known {
@@ -46,10 +46,6 @@ impl<'p, 'a> Run<'p, 'a> {
             alloc: self.alloc,
             slots: self.slots,
             known: position,
-            steps: self.steps,
-            again: self.again,
-            first: self.first,
-            room: self.room,
             root: self.root,
         };
         Some((inner, slot))
@@ -59,11 +55,11 @@ impl<'p, 'a> Run<'p, 'a> {
     #[inline(always)]
     pub(crate) fn test_at(self, position: usize) -> Option<(Run<'p, 'a>, &'p Test)>
         ensures run { IfSome result (λ r. IsRunOf self.entry r.0) }
+        ensures known { IfSome result (λ r. r.0.known < self.entry.known) }
         ensures view { MatchOption result (logical_at (table_in self.entry) position ≡ no_logical) (λ r. logical_at (table_in self.entry) position ≡ test_view (table_in r.0) r.1.now) }
     {
         match self.slot_at(position) {
             Some((inner, Slot::Test(test))) => Some((inner, test)),
-            Some((inner, Slot::OfNode(test))) => Some((inner, test)),
             _ => None,
         }
     }
@@ -72,6 +68,7 @@ impl<'p, 'a> Run<'p, 'a> {
     #[inline(always)]
     fn found_at(self, position: usize) -> Option<(Run<'p, 'a>, &'p Found)>
         ensures run { IfSome result (λ r. IsRunOf self.entry r.0) }
+        ensures known { IfSome result (λ r. r.0.known < self.entry.known) }
         ensures view { MatchOption result (side_at (table_in self.entry) position ≡ no_side) (λ r. side_at (table_in self.entry) position ≡ found_view (table_in r.0) r.1.now) }
     {
         match self.slot_at(position) {
@@ -80,11 +77,24 @@ impl<'p, 'a> Run<'p, 'a> {
         }
     }
 
+    /// The steps of the slot at a position.
+    #[inline(always)]
+    pub(crate) fn steps_at(self, position: usize) -> Option<(Run<'p, 'a>, &'p [Step])>
+        ensures run { IfSome result (λ r. IsRunOf self.entry r.0) }
+        ensures known { IfSome result (λ r. r.0.known < self.entry.known) }
+        ensures view { MatchOption result (tail_at (table_in self.entry) position ≡ no_tail) (λ r. tail_at (table_in self.entry) position ≡ steps_view (table_in r.0) r.1.now) }
+    {
+        match self.slot_at(position) {
+            Some((inner, Slot::Steps(steps))) => Some((inner, steps)),
+            _ => None,
+        }
+    }
+
     /// What the slot at a position answered, where it was asked before in the line.
     #[inline(always)]
     pub(crate) fn kept_at<'f>(self, position: usize, frame: &'f Frame<'a>) -> Option<&'f Answer<'a>>
-        requires { AreKept self frame.now.answers.items }
-        ensures { IfSome result (λ answer. IsAnswer self.entry (slice_get (table_in self.entry) position) answer.now) }
+        requires { IsKept self frame.now }
+        ensures { IfSome result (λ answer. IsAnswer self.entry frame.now.found.items (slice_get (table_in self.entry) position) answer.now) }
     {
         if position >= self.known {
             return None;
@@ -95,12 +105,11 @@ impl<'p, 'a> Run<'p, 'a> {
     /// Keeps what the slot at a position answers, where there is room.
     #[inline(always)]
     pub(crate) fn keep_at(self, position: usize, answer: Answer<'a>, frame: &mut Frame<'a>)
-        requires kept { AreKept self frame.old.answers.items }
-        requires right { IsAnswer self (slice_get (table_in self) position) answer }
-        ensures kept { AreKept self.entry frame.new.answers.items }
+        requires kept { IsKept self frame.old }
+        requires right { IsAnswer self frame.old.found.items (slice_get (table_in self) position) answer }
+        ensures kept { IsKept self.entry frame.new }
         ensures found { frame.new.found ≡ frame.old.found }
-        ensures count { frame.new.count ≡ frame.old.count }
-        ensures dead { frame.new.dead_ends ≡ frame.old.dead_ends }
+        ensures sum { frame.new.sum ≡ frame.old.sum }
     {
         if position < self.known && position < frame.answers.len() {
             frame.answers[position] = Some(answer);
@@ -112,7 +121,7 @@ impl<'r, 'a> Walk<'r, 'a> {
     /// Answers what the slots ask of the root, in their order. Each refers only to those before it, which are answered then: so
     /// no walk from the root begins within another, and the stack does not grow with the query.
     pub(crate) fn answer_slots(self, frame: &mut Frame<'a>) -> Result<()>
-        requires { AreKept self.run.now frame.old.answers.items }
+        requires { IsKept self.run.now frame.old }
         ensures { Lends self.entry frame.old frame.new result }
     {
         self.run.prepare(frame)?;
@@ -124,7 +133,7 @@ impl<'r, 'a> Walk<'r, 'a> {
 
     /// Answers what the slot at a position asks of the root.
     fn answer_slot(self, position: usize, frame: &mut Frame<'a>) -> Result<()>
-        requires { AreKept self.run.now frame.old.answers.items }
+        requires { IsKept self.run.now frame.old }
         ensures { Lends self.entry frame.old frame.new result }
     {
         match self.run.slots.get(position) {
@@ -138,7 +147,7 @@ impl<'r, 'a> Walk<'r, 'a> {
     #[cycle(eval)]
     #[inline(never)]
     pub(crate) fn holds_once(self, position: usize, frame: &mut Frame<'a>) -> Result<bool>
-        requires { AreKept self.run.now frame.old.answers.items }
+        requires { IsKept self.run.now frame.old }
         ensures lends { Lends self.entry frame.old frame.new result }
         ensures value { IfOk result (λ b. b ≡ slot_truth self.entry.run.now position) }
     {
@@ -159,7 +168,7 @@ impl<'r, 'a> Walk<'r, 'a> {
     #[cycle(eval)]
     #[inline(never)]
     fn find_at_root(self, position: usize, frame: &mut Frame<'a>) -> Result<Value<'a>>
-        requires { AreKept self.run.now frame.old.answers.items }
+        requires { IsKept self.run.now frame.old }
         ensures lends { Lends self.entry frame.old frame.new result }
         ensures value { IfOk result (λ v. IsValue v (slot_value self.entry.run.now position)) }
     {
@@ -175,7 +184,7 @@ impl<'r, 'a> Walk<'r, 'a> {
     #[cycle(eval)]
     #[inline(never)]
     pub(crate) fn value_once(self, position: usize, frame: &mut Frame<'a>) -> Result<Value<'a>>
-        requires { AreKept self.run.now frame.old.answers.items }
+        requires { IsKept self.run.now frame.old }
         ensures lends { Lends self.entry frame.old frame.new result }
         ensures value { IfOk result (λ v. IsValue v (slot_value self.entry.run.now position)) }
     {
@@ -197,7 +206,7 @@ impl<'r, 'a> Walk<'r, 'a> {
         text: Value<'_>,
         frame: &mut Frame<'a>,
     ) -> Result<bool>
-        requires { AreKept self.run.now frame.old.answers.items }
+        requires { IsKept self.run.now frame.old }
         ensures lends { Lends self.entry frame.old frame.new result }
         ensures value { IfOk result (λ b. b ≡ in_pattern (passing whole) (value_view text.entry) (slot_value self.entry.run.now position)) }
     {

@@ -1,20 +1,21 @@
 //! A query is compiled: once, and not for each line. This is what it selects; `compile_filter` has what its filters ask.
 
-ghost use Rattle.std.specs.Prelude.{◌≡◌, ◌++◌, [], ◌∷◌, length, true, IfOk, OnOk};
+ghost use Rattle.std.specs.Prelude.{◌≡◌, ◌++◌, [], ◌∷◌, List, length, map, true, IfOk, OnOk};
 ghost use Rattle.jp_eval.specs.Expressions.{readable};
-ghost use Rattle.jp_eval.specs.Programs.{Table, Means, slot_view, table_of, steps_view, step_view, choices_view, choice_view, condition_view, test_view, sought_view, found_view};
+ghost use Rattle.jp_eval.specs.Programs.{Onward, Table, Means, onward, slot_view, steps_in, table_of, steps_view, step_view, choices_view, choice_view, condition_view, test_view, sought_view, found_view};
 ghost use Rattle.jp_eval.specs.Roots.{logical_from_root, side_from_root};
-ghost use Rattle.jp_model.specs.Query.Limits.{segments_pass, segment_passes, selectors_pass, selector_passes, logical_passes};
-ghost use Rattle.jp_model.specs.Query.Typing.{segments_typed, segment_typed, selectors_typed, selector_typed, logical_typed};
-ghost use Rattle.jp_syntax.specs.View.{segments_view, segment_view, selectors_view, selector_view, logical_view};
+ghost use Rattle.jp_model.specs.Query.Limits.{segments_pass, segment_passes, selectors_pass, selector_passes};
+ghost use Rattle.jp_model.specs.Query.Typing.{segments_typed, segment_typed, selectors_typed, selector_typed};
+ghost use Rattle.jp_model.specs.Query.Syntax.{Segments, segment as syntax_segment};
+ghost use Rattle.jp_syntax.specs.View.{segments_view, segment_view, selectors_view, selector_view};
+ghost use Rattle.jp_eval.specs.declared.program.Slot.{Slot};
 
 use crate::Result;
 use crate::constants::{compile_key, compile_member_name};
 use crate::program::{Choice, Condition, Found, Slot, Sought, Step, Test};
 use crate::question::Key;
-use crate::roots::logical_asks_root;
-use crate::ways::Ways;
-use jp_syntax::{Logical, Origin, Segment, Selector};
+use crate::ways::{Parts, Ways};
+use jp_syntax::{Origin, Segment, Selector};
 use std::alloc::Global;
 
 /// What compiles a query, and the slots of what it has come upon that is asked once.
@@ -56,14 +57,6 @@ impl Compiler {
         Ok(Condition::Once(position))
     }
 
-    /// Adds a slot for a test, and answers the condition that it holds of the node.
-    fn add_known(&mut self, test: Test) -> Result<Condition>
-        ensures { IfOk result (λ condition. Means self.old.slots.items self.new.slots.items (λ (table : Table). condition_view table condition) (test_view (table_of self.old.slots.items) test)) }
-    {
-        let position = self.add_slot(Slot::OfNode(test))?;
-        Ok(Condition::Known(position))
-    }
-
     /// Adds a slot for a value, and answers that it is looked for at the root.
     pub(crate) fn add_value(&mut self, found: Found) -> Result<Sought>
         ensures { IfOk result (λ sought. Means self.old.slots.items self.new.slots.items (λ (table : Table). sought_view table sought) (side_from_root (found_view (table_of self.old.slots.items) found))) }
@@ -72,12 +65,28 @@ impl Compiler {
         Ok(Sought::Once(position))
     }
 
-    /// Whether a second way may lead to a node that the part at hand is asked of.
-    fn meets_again(&self) -> bool {
-        matches!(self.ways, Ways::Again)
+    /// Adds a slot for the last steps of a query, and answers the step along them.
+    fn add_steps(&mut self, steps: Vec<Step>) -> Result<Step>
+        ensures { IfOk result (λ step. Means self.old.slots.items self.new.slots.items (λ (table : Table). step_view table step) (λ (more : Segments). steps_view (table_of self.old.slots.items) steps.items)) }
+    {
+        let position = self.add_slot(Slot::Steps(steps))?;
+        Ok(Step::Known(position))
     }
 
-    /// The steps of segments, in their order.
+    /// The steps of parts, each behind the first a slot.
+    fn link(&mut self, parts: Parts) -> Result<Vec<Step>>
+        ensures { (old : List Slot) (seen : List Onward) → Means old self.old.slots.items (λ (table : Table). map (step_view table) (steps_in parts)) seen → IfOk result (λ steps. Means old self.new.slots.items (λ (table : Table). steps_view table steps.items) (onward seen)) }
+    {
+        let (mut before, mut steps) = (parts.before, parts.last);
+        while let Some(mut part) = before.pop() {
+            let known = self.add_steps(steps)?;
+            part.push(known)?;
+            steps = part;
+        }
+        Ok(steps)
+    }
+
+    /// The steps of segments, in their order. Those from one on that a second way leads to are a slot.
     #[cycle(compile)]
     pub(crate) fn compile_segments(&mut self, segments: &[Segment]) -> Result<Vec<Step>>
         requires literals { segments_pass (segments_view segments.now) readable ≡ true }
@@ -85,16 +94,16 @@ impl Compiler {
         ensures { IfOk result (λ steps. Means self.old.slots.items self.new.slots.items (λ (table : Table). steps_view table steps.items) (segments_view segments.now)) }
     {
         let outer = self.ways;
-        let mut compiled = Vec::new(self.alloc);
+        let mut parts = Parts::new(self.alloc);
         for segment in segments {
             let before = self.ways;
             self.ways = before.within(segment);
             let one = self.compile_segment(segment)?;
             self.ways = before.behind(&one);
-            compiled.push(one)?;
+            parts.add(self.alloc, before, one)?;
         }
         self.ways = outer;
-        Ok(compiled)
+        self.link(parts)
     }
 
     /// The step of a segment.
@@ -102,7 +111,7 @@ impl Compiler {
     fn compile_segment(&mut self, segment: &Segment) -> Result<Step>
         requires literals { segment_passes (segment_view segment.now) readable ≡ true }
         requires typed { segment_typed (segment_view segment.now) ≡ true }
-        ensures { IfOk result (λ step. Means self.old.slots.items self.new.slots.items (λ (table : Table). step_view table step) (segment_view segment.now)) }
+        ensures { IfOk result (λ step. Means self.old.slots.items self.new.slots.items (λ (table : Table). step_view table step) (syntax_segment (segment_view segment.now))) }
     {
         if let Some(key) = compile_key(self.alloc, segment)? {
             return Ok(Step::One(key));
@@ -149,25 +158,10 @@ impl Compiler {
                 last: *last,
                 step: *step,
             }),
-            Selector::Filter(expression) => Ok(Choice::Filter(self.compile_filter(expression)?)),
+            Selector::Filter(expression) => {
+                let condition = self.compile_logical(Origin::Current, expression)?;
+                Ok(Choice::Filter(condition))
+            }
         }
-    }
-
-    /// The condition of a filter. Where a second way may lead to a node, what it answers is remembered, but for what is soon
-    /// asked again.
-    #[cycle(compile)]
-    fn compile_filter(&mut self, expression: &Logical) -> Result<Condition>
-        requires literals { logical_passes (logical_view expression.now) readable ≡ true }
-        requires typed { logical_typed (logical_view expression.now) ≡ true }
-        ensures { IfOk result (λ condition. Means self.old.slots.items self.new.slots.items (λ (table : Table). condition_view table condition) (logical_view expression.now)) }
-    {
-        if !self.meets_again() || logical_asks_root(expression) {
-            return self.compile_logical(Origin::Current, expression);
-        }
-        let test = self.compile_test(Origin::Current, expression)?;
-        if let Test::Single(..) = test {
-            return Ok(Condition::Test(test));
-        }
-        self.add_known(test)
     }
 }

@@ -19,7 +19,7 @@ use crate::constants::{compile_keys, compile_literal, compile_pattern};
 use crate::program::{Condition, Found, Operand, Sought, Spelled, Test};
 use crate::question::Question;
 use crate::roots::{becomes_slot, call_asks_root, logical_asks_root, path_asks_root};
-use crate::ways::{Ways, count_again};
+use crate::ways::Ways;
 use jp_syntax::{Argument, Call, Comparable, CompareOp, Logical, Origin, Path};
 
 impl Compiler {
@@ -122,8 +122,7 @@ impl Compiler {
             return Ok(Test::Single(keys, Question::Exists));
         }
         let steps = self.compile_segments(&path.segments)?;
-        let again = count_again(&steps);
-        Ok(Test::Exists { steps, again })
+        Ok(Test::Exists(steps))
     }
 
     /// The test of a call that answers a truth.
@@ -235,8 +234,7 @@ impl Compiler {
             return Ok(Found::Single(keys));
         }
         let steps = self.compile_segments(&path.segments)?;
-        let again = count_again(&steps);
-        Ok(Found::Only { steps, again })
+        Ok(Found::Only(steps))
     }
 
     /// What is looked for by a call whose answer is a value. One that asks the root alone becomes a slot.
@@ -271,13 +269,11 @@ impl Compiler {
             }
             ValueCall::Count(path) => {
                 let steps = self.compile_segments(&path.segments)?;
-                let again = count_again(&steps);
-                Ok(Found::Count { steps, again })
+                Ok(Found::Count(steps))
             }
             ValueCall::Value(path) => {
                 let steps = self.compile_segments(&path.segments)?;
-                let again = count_again(&steps);
-                Ok(Found::Value { steps, again })
+                Ok(Found::Value(steps))
             }
         }
     }

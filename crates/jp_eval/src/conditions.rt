@@ -48,7 +48,6 @@ impl<'r, 'a> Walk<'r, 'a> {
         match condition {
             Condition::Test(test) => self.passes(node, test, frame),
             Condition::Once(position) => self.holds_once(*position, frame),
-            Condition::Known(position) => self.holds_known(node, *position, frame),
         }
     }
 
@@ -84,7 +83,7 @@ impl<'r, 'a> Walk<'r, 'a> {
             Test::Or(parts) => Ok(!self.are_all(node, parts, false, frame)?),
             Test::And(parts) => self.are_all(node, parts, true, frame),
             Test::Not(inner) => Ok(!self.holds(node, inner, frame)?),
-            Test::Exists { steps, again } => self.has_node(node, steps, *again, frame),
+            Test::Exists(steps) => self.has_node(node, steps, frame),
             Test::Compare { left, op, right } => {
                 self.compare_values(node, left, *op, right, frame)
             }
@@ -120,23 +119,12 @@ impl<'r, 'a> Walk<'r, 'a> {
     /// Whether the steps select a node. The first decides.
     #[cycle(eval)]
     #[inline(never)]
-    fn has_node(
-        self,
-        node: Cursor<'a>,
-        steps: &[Step],
-        again: usize,
-        frame: &mut Frame<'a>,
-    ) -> Result<bool>
+    fn has_node(self, node: Cursor<'a>, steps: &[Step], frame: &mut Frame<'a>) -> Result<bool>
         requires { IsFrameFor self node frame.old }
         ensures lends { Lends self.entry frame.old frame.new result }
         ensures value { IfOk result (λ b. b ≡ not (length (reached self.entry.run.now steps.now (node_of node.entry ∷ [])) == 0)) }
     {
-        let before = frame.found.len();
-        let (run, most) = (self.run, before + 1);
-        Walk { run, most }.push_query(node, steps, again, frame)?;
-        let some = frame.found.len() > before;
-        frame.found.truncate(before);
-        Ok(some)
+        Ok(self.sum(node, steps, 1, frame)?.count > 0)
     }
 
     /// Whether a comparison holds of a node (RFC 9535, section 2.3.5.2.2).

@@ -12,10 +12,9 @@ ghost use Rattle.jp_children.specs.Found.{AreOf};
 ghost use Rattle.jp_eval.specs.Tallies.{tally};
 
 use crate::compile::Compiler;
-use crate::dead_ends::room_of;
-use crate::frame::{ALL, Frame, Run, Walk};
+use crate::frame::{Frame, Run, Walk};
 use crate::program::{Slot, Step};
-use crate::ways::count_again;
+use crate::sums::LISTED;
 use jp_nodes::Cursor;
 use jp_syntax::Segment;
 use std::alloc::{AllocError, Global};
@@ -26,8 +25,6 @@ use std::alloc::{AllocError, Global};
 pub struct Program {
     pub(crate) slots: Vec<Slot>,
     pub(crate) steps: Vec<Step>,
-    /// How many of them, at the end, a second way may lead to.
-    pub(crate) again: usize,
 }
 
 impl Program {
@@ -41,21 +38,15 @@ impl Program {
     {
         let mut compiler = Compiler::new(alloc);
         let steps = compiler.compile_segments(segments)?;
-        let again = count_again(&steps);
         let slots = compiler.slots;
-        Ok(Program {
-            slots,
-            steps,
-            again,
-        })
+        Ok(Program { slots, steps })
     }
 
-    /// Adds what the steps select from a node, as long as fewer nodes than `most` were found. No query from the root was answered
-    /// before.
+    /// Adds what the steps select from a node, where so many nodes decide. No query from the root was answered before.
     #[inline(always)]
     fn push_up_to<'a>(
         &self,
-        most: usize,
+        most: u64,
         alloc: Global,
         start: Cursor<'a>,
         root: Cursor<'a>,
@@ -64,18 +55,13 @@ impl Program {
         requires line { line_of start ≡ line_of root }
         requires root { place_of root ≡ 0 }
         requires answers { frame.old.answers.items ≡ [] }
-        requires dead { frame.old.dead_ends.items ≡ [] }
-        ensures kept { Adds (line_of root.entry) frame.old.found.items frame.new.found.items }
-        ensures told { OnOk result (tally most frame.new [] ≡ tally most frame.old (nodes (program_view self.now) (node_of start.entry ∷ []) (node_of root.entry).tree)) }
+        ensures adds { Adds (line_of root.entry) frame.old.found.items frame.new.found.items }
+        ensures told { OnOk result (tally (line_of root.entry) most frame.new [] ≡ tally (line_of root.entry) most frame.old (nodes (program_view self.now) (node_of start.entry ∷ []) (node_of root.entry).tree)) }
     {
         let run = Run {
             alloc,
             slots: &self.slots,
             known: self.slots.len(),
-            steps: &self.steps,
-            again: self.again,
-            first: start.place(),
-            room: room_of(root),
             root: &root,
         };
         let walk = Walk { run: &run, most };
@@ -95,11 +81,10 @@ impl Program {
         requires line { line_of start ≡ line_of root }
         requires root { place_of root ≡ 0 }
         requires answers { frame.old.answers.items ≡ [] }
-        requires dead { frame.old.dead_ends.items ≡ [] }
-        ensures kept { Adds (line_of root.entry) frame.old.found.items frame.new.found.items }
+        ensures adds { Adds (line_of root.entry) frame.old.found.items frame.new.found.items }
         ensures ok { OnOk result (map node_of frame.new.found.items ≡ map node_of frame.old.found.items ++ nodes (program_view self.now) (node_of start.entry ∷ []) (node_of root.entry).tree) }
     {
-        self.push_up_to(ALL, alloc, start, root, frame)
+        self.push_up_to(LISTED, alloc, start, root, frame)
     }
 
     /// Whether the nodelist that `run` adds has a node. It stops at the first. The frame lends its room from line to line; what
@@ -120,7 +105,7 @@ impl Program {
     {
         frame.forget();
         let result = self.push_up_to(1, alloc, start, root, frame);
-        let some = !frame.found.is_empty();
+        let some = frame.sum.count > 0;
         frame.found.clear();
         result?;
         Ok(some)

@@ -4,46 +4,31 @@ ghost use Rattle.std.specs.Prelude.{◌≡◌};
 ghost use Rattle.jp_nodes.specs.Cursors.{place_of};
 
 use crate::Result;
-use crate::places::Places;
-use crate::program::{Slot, Step};
+use crate::program::Slot;
+use crate::sums::{LISTED, NONE, Sum, Sums};
 use jp_iregexp::Pattern;
 use jp_nodes::Cursor;
 use jp_values::Value;
 use std::alloc::{AllocError, Global};
 
-/// What stays the same: where memory comes from, what is asked of the root, and the root of the line, which is `$` in each
-/// expression.
+/// What stays the same: where memory comes from, what is asked once, and the root of the line, which is `$` in each expression.
 #[derive(Clone, Copy)]
 pub(crate) struct Run<'p, 'a> {
     pub(crate) alloc: Global,
     pub(crate) slots: &'p [Slot],
     /// How many of them, from the first on, the part at hand refers to.
     pub(crate) known: usize,
-    /// The steps of the query.
-    pub(crate) steps: &'p [Step],
-    /// How many of them, at the end, a second way may lead to, so that dead ends are remembered.
-    pub(crate) again: usize,
-    /// The place of the node that the query goes from.
-    pub(crate) first: u32,
-    /// How many bytes dead ends may take, with those of the queries within.
-    pub(crate) room: u64,
     pub(crate) root: &'p Cursor<'a>,
     ghost at_root: { place_of root.now ≡ 0 },
 }
 
-/// A walk over nodes of the line, which looks for as many as there is room for.
+/// A walk over nodes of the line, which ends where so many nodes are found that no more matter.
 #[derive(Clone, Copy)]
 pub(crate) struct Walk<'r, 'a> {
     pub(crate) run: &'r Run<'r, 'a>,
-    /// How many nodes are found at most, with those that were found before.
-    pub(crate) most: usize,
+    /// How many nodes decide. Where each matters this is `COUNTED` or `LISTED`.
+    pub(crate) most: u64,
 }
-
-/// So many nodes at most are found where each is kept. No list is so long.
-pub(crate) const ALL: usize = usize::MAX - 1;
-
-/// So many nodes at most are found where each is counted, and none is kept.
-pub(crate) const COUNTED: usize = usize::MAX;
 
 /// The answer to what a slot asks.
 #[derive(Drop)]
@@ -54,8 +39,8 @@ pub(crate) enum Answer<'a> {
     Value(Value<'a>),
     /// The pattern that the value spells, where it spells one.
     Pattern(Box<Option<Pattern>>),
-    /// Of which nodes it holds and of which it does not, by their places.
-    OfNodes(Vec<Option<bool>>),
+    /// What the steps select from nodes.
+    Sums(Sums),
 }
 
 /// The nodes that were found, and what was answered of what is asked once, by the positions of the slots. It lends its room
@@ -63,31 +48,30 @@ pub(crate) enum Answer<'a> {
 #[derive(Drop)]
 pub struct Frame<'a> {
     pub(crate) found: Vec<Cursor<'a>>,
-    /// How many nodes were counted.
-    pub(crate) count: u64,
+    /// The nodes that were counted, where they are not listed.
+    pub(crate) sum: Sum,
     pub(crate) answers: Vec<Option<Answer<'a>>>,
-    /// The nodes from which the last steps of the query select nothing, by how many steps come behind the first of them.
-    pub(crate) dead_ends: Vec<Places>,
+    /// Where the last node ends that the steps of a slot were taken from without a note, as a place, by the slot's position.
+    pub(crate) walked: Vec<u32>,
 }
 
 impl<'a> Frame<'a> {
-    ghost use Rattle.std.specs.Prelude.{◌∷◌, [], List, OnOk, true};
+    ghost use Rattle.std.specs.Prelude.{◌≤◌, ◌++◌, ◌∷◌, [], ℕ, List, OnOk, true, false, length, take};
     ghost use Rattle.jp_model.specs.Meaning.Nodes.{Node};
     ghost use Rattle.jp_nodes.specs.Cursors.{line_of, node_of};
-    ghost use Rattle.jp_eval.specs.Found.{Adds, found_in};
-    ghost use Rattle.jp_eval.specs.Tallies.{tally};
+    ghost use Rattle.jp_eval.specs.Found.{Adds, between, found_in};
+    ghost use Rattle.jp_eval.specs.Tallies.{IsTotal, is_listed, none_in, tally, total_of};
 
     /// With no node, and no room yet.
     pub fn new(alloc: Global) -> Frame<'a>
         ensures found { found_in result ≡ [] }
         ensures answers { result.answers.items ≡ [] }
-        ensures dead { result.dead_ends.items ≡ [] }
     {
         Frame {
             found: Vec::new(alloc),
-            count: 0,
+            sum: NONE,
             answers: Vec::new(alloc),
-            dead_ends: Vec::new(alloc),
+            walked: Vec::new(alloc),
         }
     }
 
@@ -102,34 +86,63 @@ impl<'a> Frame<'a> {
     #[inline(always)]
     pub(crate) fn forget(&mut self)
         ensures found { self.new.found.items ≡ [] }
+        ensures sum { (line : List ℕ) → total_of line self.new.sum ≡ none_in line }
         ensures answers { self.new.answers.items ≡ [] }
-        ensures dead { self.new.dead_ends.items ≡ [] }
     {
         self.found.clear();
-        self.count = 0;
+        self.sum = NONE;
         self.answers.clear();
-        self.dead_ends.clear();
+        self.walked.clear();
     }
 
     /// Whether no more nodes are looked for.
     #[inline(always)]
-    pub(crate) fn has(&self, most: usize) -> bool
-        ensures { result ≡ true → (others : List Node) → tally most self.now others ≡ tally most self.now [] }
+    pub(crate) fn has(&self, most: u64) -> bool
+        ensures { result ≡ true → (line : List ℕ) (others : List Node) → tally line most self.now others ≡ tally line most self.now [] }
     {
-        self.found.len() == most
+        self.sum.count >= most && most != LISTED
     }
 
-    /// Adds a node, as long as there are fewer than `most`, or counts it. More than a count holds are refused as memory is.
+    /// Adds a node to the list, or counts it.
     #[inline(always)]
-    pub(crate) fn add(&mut self, node: Cursor<'a>, most: usize) -> Result<()>
+    pub(crate) fn add(&mut self, node: Cursor<'a>, most: u64) -> Result<()>
         ensures adds { Adds (line_of node.entry) self.old.found.items self.new.found.items }
         ensures answers { self.new.answers ≡ self.old.answers }
-        ensures dead { self.new.dead_ends ≡ self.old.dead_ends }
-        ensures told { OnOk result (tally most self.new [] ≡ tally most self.old (node_of node.entry ∷ [])) }
+        ensures told { OnOk result (tally (line_of node.entry) most self.new [] ≡ tally (line_of node.entry) most self.old (node_of node.entry ∷ [])) }
     {
-        if most == COUNTED {
-            self.count = self.count.checked_add(1).ok_or(AllocError)?;
-        } else if self.found.len() < most {
+        if most == LISTED {
+            self.found.push(node)?;
+            return Ok(());
+        }
+        let last = node.place();
+        self.count(Sum { count: 1, last })
+    }
+
+    /// Counts the nodes of a sum. More than a count holds are refused as memory is.
+    #[inline(always)]
+    pub(crate) fn count(&mut self, sum: Sum) -> Result<()>
+        ensures found { self.new.found ≡ self.old.found }
+        ensures answers { self.new.answers ≡ self.old.answers }
+        ensures told { OnOk result ((line : List ℕ) (most : ℕ) (selected : List Node) → is_listed most ≡ false → IsTotal line most sum selected → tally line most self.new [] ≡ tally line most self.old selected) }
+    {
+        if sum.count > 0 {
+            let count = self.sum.count.checked_add(sum.count).ok_or(AllocError)?;
+            let last = sum.last;
+            self.sum = Sum { count, last };
+        }
+        Ok(())
+    }
+
+    /// Adds the nodes once more that stand in the list from one position to another.
+    pub(crate) fn copy(&mut self, start: usize, end: usize) -> Result<()>
+        requires { end ≤ length self.old.found.items }
+        ensures sum { self.new.sum ≡ self.old.sum }
+        ensures answers { self.new.answers ≡ self.old.answers }
+        ensures some { (n : ℕ) × (self.new.found.items ≡ self.old.found.items ++ take n (between start end self.old.found.items)) }
+        ensures ok { OnOk result (self.new.found.items ≡ self.old.found.items ++ between start end self.old.found.items) }
+    {
+        for position in start..end {
+            let node = self.found[position];
             self.found.push(node)?;
         }
         Ok(())

@@ -9,9 +9,9 @@ ghost use Rattle.jp_nodes.specs.Cursors.{line_of, place_of, node_of};
 ghost use Rattle.jp_eval.specs.Compiled.{predicate_view};
 
 use crate::compile::Compiler;
-use crate::dead_ends::room_of;
-use crate::frame::{ALL, Frame, Run, Walk};
+use crate::frame::{Frame, Run, Walk};
 use crate::program::{Condition, Slot};
+use crate::sums::LISTED;
 use jp_nodes::Cursor;
 use jp_syntax::{Logical, Origin};
 use std::alloc::{AllocError, Global};
@@ -59,15 +59,11 @@ impl Predicate {
             alloc,
             slots: &self.slots,
             known: self.slots.len(),
-            steps: &[],
-            again: 0,
-            first: 0,
-            room: room_of(root),
             root: &root,
         };
         let walk = Walk {
             run: &run,
-            most: ALL,
+            most: LISTED,
         };
         walk.answer_slots(frame)?;
         walk.holds(node, &self.condition, frame)

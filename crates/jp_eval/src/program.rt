@@ -28,6 +28,9 @@ pub(crate) enum Step {
     One(Key),
     Child(Vec<Choice>),
     Descendant(Vec<Choice>),
+    /// Along the steps of the slot at this position, which end the query. What they select from a node is remembered, for a
+    /// second way to it.
+    Known(usize),
 }
 
 /// Which children are selected (RFC 9535, section 2.3).
@@ -51,8 +54,6 @@ pub(crate) enum Condition {
     Test(Test),
     /// What the slot at this position asks of the root, so that the answer is the same for each node of a line.
     Once(usize),
-    /// What the slot at this position asks of the node. What it answered is remembered, for a second way to the node.
-    Known(usize),
 }
 
 /// What is asked of a node (RFC 9535, section 2.3.5.2).
@@ -64,11 +65,8 @@ pub(crate) enum Test {
     Or(Vec<Condition>),
     And(Vec<Condition>),
     Not(Box<Condition>),
-    /// Whether the query selects a node. Here and below `again` is how many of its last steps a second way may lead to.
-    Exists {
-        steps: Vec<Step>,
-        again: usize,
-    },
+    /// Whether the query selects a node.
+    Exists(Vec<Step>),
     Compare {
         left: Operand,
         op: CompareOp,
@@ -114,22 +112,23 @@ pub(crate) enum Found {
     /// That of the node that a singular query selects.
     Single(Vec<Key>),
     /// That of the only node that another query selects.
-    Only { steps: Vec<Step>, again: usize },
+    Only(Vec<Step>),
     /// How long a value is (RFC 9535, section 2.4.4).
     Length(Box<Operand>),
     /// How many nodes a query selects (RFC 9535, section 2.4.5).
-    Count { steps: Vec<Step>, again: usize },
+    Count(Vec<Step>),
     /// That of the only node that a query selects, as a function answers it (RFC 9535, section 2.4.8).
-    Value { steps: Vec<Step>, again: usize },
+    Value(Vec<Step>),
 }
 
-/// What a filter asks once: of the root, once in a line, or of a node, once of each. It refers only to slots before it.
+/// What is asked once: of the root, once in a line, or which nodes steps select, once from a node. It refers only to slots before
+/// it.
 #[derive(Drop)]
 pub(crate) enum Slot {
     /// Whether a test holds of the root.
     Test(Test),
     /// Which value is found at the root.
     Value(Found),
-    /// Whether a test holds of a node.
-    OfNode(Test),
+    /// Which nodes the last steps of a query select.
+    Steps(Vec<Step>),
 }

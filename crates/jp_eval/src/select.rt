@@ -5,13 +5,12 @@
 
 ghost use Rattle.std.specs.Prelude.{◌≡◌, [], ◌∷◌, IfSome, filter, flat_map};
 ghost use Rattle.jp_model.specs.Meaning.Nodes.{children, subtree};
-ghost use Rattle.jp_model.specs.Meaning.Selecting.{segment_nodes, selected, select, truth as truth_of};
+ghost use Rattle.jp_model.specs.Meaning.Selecting.{selected, select, truth as truth_of};
 ghost use Rattle.jp_nodes.specs.Cursors.{line_of, node_of};
-ghost use Rattle.jp_eval.specs.Answers.{AreAllDead};
 ghost use Rattle.jp_children.specs.Found.{node_list};
-ghost use Rattle.jp_eval.specs.Frames.{table_at, tree_at, reached, AreKept, EndsWith, IsFrameAt, Pushes};
+ghost use Rattle.jp_eval.specs.Frames.{table_at, tree_at, reached, IsFrameFor, IsKept, Pushes};
 ghost use Rattle.jp_eval.specs.Indexing.{AreKnown};
-ghost use Rattle.jp_eval.specs.Programs.{step_view, choices_view, choice_view, condition_view};
+ghost use Rattle.jp_eval.specs.Programs.{choices_view, choice_view, condition_view};
 
 use crate::Result;
 use crate::frame::{Frame, Walk};
@@ -31,7 +30,7 @@ impl<'r, 'a> Walk<'r, 'a> {
         steps: &[Step],
         frame: &mut Frame<'a>,
     ) -> Result<()>
-        requires { IsFrameAt self node steps.now frame.old }
+        requires { IsFrameFor self node frame.old }
         ensures { Pushes self.entry frame.old frame.new result (reached self.entry.run.now steps.now (node_of node.entry ∷ [])) }
     {
         if let Some((step, rest)) = steps.split_first() {
@@ -40,7 +39,7 @@ impl<'r, 'a> Walk<'r, 'a> {
         frame.add(node, self.most)
     }
 
-    /// Adds what the step selects from a node, and the steps from there, which is nothing where it was nothing before.
+    /// Adds what the step selects from a node, and the steps from there. Most queries end with a name or an index.
     #[cycle(eval)]
     #[inline(never)]
     fn push_step(
@@ -50,55 +49,14 @@ impl<'r, 'a> Walk<'r, 'a> {
         rest: &[Step],
         frame: &mut Frame<'a>,
     ) -> Result<()>
-        requires { IsFrameAt self node (step.now ∷ rest.now) frame.old }
-        ensures { Pushes self.entry frame.old frame.new result (reached self.entry.run.now rest.now (segment_nodes (step_view (table_at self.entry) step.now) (node_of node.entry) (tree_at self.entry))) }
-    {
-        if self.remembers(step, rest) {
-            return self.push_again(node, step, rest, frame);
-        }
-        self.push_selected(node, step, rest, frame)
-    }
-
-    /// Adds what `push_step` adds, of a node that a second way may lead to. What is nothing is remembered.
-    #[cycle(eval)]
-    #[inline(never)]
-    fn push_again(
-        self,
-        node: Cursor<'a>,
-        step: &Step,
-        rest: &[Step],
-        frame: &mut Frame<'a>,
-    ) -> Result<()>
-        requires { IsFrameAt self node (step.now ∷ rest.now) frame.old }
-        ensures { Pushes self.entry frame.old frame.new result (reached self.entry.run.now rest.now (segment_nodes (step_view (table_at self.entry) step.now) (node_of node.entry) (tree_at self.entry))) }
-    {
-        if self.run.is_dead_end(node, rest, frame) {
-            return Ok(());
-        }
-        let (found, count) = (frame.found.len(), frame.count);
-        self.push_selected(node, step, rest, frame)?;
-        self.note_where_none(node, rest, found, count, frame);
-        Ok(())
-    }
-
-    /// Adds what the step selects from a node, and the steps from there. Most queries end with a name or an index.
-    #[cycle(eval)]
-    #[tactic(auto, using(crate::proofs::DeadEnds::ends_next))]
-    #[inline(always)]
-    fn push_selected(
-        self,
-        node: Cursor<'a>,
-        step: &Step,
-        rest: &[Step],
-        frame: &mut Frame<'a>,
-    ) -> Result<()>
-        requires { IsFrameAt self node (step.now ∷ rest.now) frame.old }
-        ensures { Pushes self.entry frame.old frame.new result (reached self.entry.run.now rest.now (segment_nodes (step_view (table_at self.entry) step.now) (node_of node.entry) (tree_at self.entry))) }
+        requires { IsFrameFor self node frame.old }
+        ensures { Pushes self.entry frame.old frame.new result (reached self.entry.run.now (step.now ∷ rest.now) (node_of node.entry ∷ [])) }
     {
         match step {
             Step::One(key) => self.push_found(key.find(node), rest, frame),
             Step::Child(choices) => self.push_choices(node, choices, rest, frame),
             Step::Descendant(choices) => self.push_subtree(node, choices, rest, frame),
+            Step::Known(position) => self.push_known(node, *position, frame),
         }
     }
 
@@ -112,7 +70,7 @@ impl<'r, 'a> Walk<'r, 'a> {
         rest: &[Step],
         frame: &mut Frame<'a>,
     ) -> Result<()>
-        requires { IsFrameAt self node rest.now frame.old }
+        requires { IsFrameFor self node frame.old }
         ensures { Pushes self.entry frame.old frame.new result (reached self.entry.run.now rest.now (flat_map (λ d. selected (choices_view (table_at self.entry) choices.now) d (tree_at self.entry)) (subtree (node_of node.entry)))) }
     {
         for place in node.place()..node.after() {
@@ -127,14 +85,14 @@ impl<'r, 'a> Walk<'r, 'a> {
     /// Adds what the choices select from a node, in their order, and the steps from there.
     #[cycle(eval)]
     #[inline(always)]
-    fn push_choices(
+    pub(crate) fn push_choices(
         self,
         node: Cursor<'a>,
         choices: &[Choice],
         rest: &[Step],
         frame: &mut Frame<'a>,
     ) -> Result<()>
-        requires { IsFrameAt self node rest.now frame.old }
+        requires { IsFrameFor self node frame.old }
         ensures { Pushes self.entry frame.old frame.new result (reached self.entry.run.now rest.now (selected (choices_view (table_at self.entry) choices.now) (node_of node.entry) (tree_at self.entry))) }
     {
         // Most nodes below a node have no children, and nothing is selected from them.
@@ -157,7 +115,7 @@ impl<'r, 'a> Walk<'r, 'a> {
         rest: &[Step],
         frame: &mut Frame<'a>,
     ) -> Result<()>
-        requires { IsFrameAt self node rest.now frame.old }
+        requires { IsFrameFor self node frame.old }
         ensures { Pushes self.entry frame.old frame.new result (reached self.entry.run.now rest.now (selected (choices_view (table_at self.entry) choices.now) (node_of node.entry) (tree_at self.entry))) }
     {
         let mut elements = Elements::of(node);
@@ -177,7 +135,7 @@ impl<'r, 'a> Walk<'r, 'a> {
         rest: &[Step],
         frame: &mut Frame<'a>,
     ) -> Result<()>
-        requires frame { IsFrameAt self elements.old.node rest.now frame.old }
+        requires frame { IsFrameFor self elements.old.node frame.old }
         requires known { AreKnown elements.old }
         ensures pushes { Pushes self.entry frame.old frame.new result (reached self.entry.run.now rest.now (select (choice_view (table_at self.entry) choice.now) (node_of elements.old.node) (tree_at self.entry))) }
         ensures node { elements.new.node ≡ elements.old.node }
@@ -199,7 +157,7 @@ impl<'r, 'a> Walk<'r, 'a> {
         rest: &[Step],
         frame: &mut Frame<'a>,
     ) -> Result<()>
-        requires { IsFrameAt self node rest.now frame.old }
+        requires { IsFrameFor self node frame.old }
         ensures { Pushes self.entry frame.old frame.new result (reached self.entry.run.now rest.now (select (choice_view (table_at self.entry) choice.now) (node_of node.entry) (tree_at self.entry))) }
     {
         match choice {
@@ -227,9 +185,7 @@ impl<'r, 'a> Walk<'r, 'a> {
         frame: &mut Frame<'a>,
     ) -> Result<()>
         requires line { IfSome found (λ c. line_of c ≡ line_of self.run.now.root.now) }
-        requires kept { AreKept self.run.now frame.old.answers.items }
-        requires dead { AreAllDead self.run.now frame.old.dead_ends.items }
-        requires end { EndsWith self.run.now.steps.now rest.now }
+        requires kept { IsKept self.run.now frame.old }
         ensures { Pushes self.entry frame.old frame.new result (reached self.entry.run.now rest.now (node_list found.entry)) }
     {
         match found {
@@ -241,7 +197,7 @@ impl<'r, 'a> Walk<'r, 'a> {
     /// Adds what the steps select from each child.
     #[cycle(eval)]
     fn push_children(self, node: Cursor<'a>, rest: &[Step], frame: &mut Frame<'a>) -> Result<()>
-        requires { IsFrameAt self node rest.now frame.old }
+        requires { IsFrameFor self node frame.old }
         ensures { Pushes self.entry frame.old frame.new result (reached self.entry.run.now rest.now (children (node_of node.entry))) }
     {
         let mut next = node.first_child();
@@ -265,7 +221,7 @@ impl<'r, 'a> Walk<'r, 'a> {
         rest: &[Step],
         frame: &mut Frame<'a>,
     ) -> Result<()>
-        requires { IsFrameAt self node rest.now frame.old }
+        requires { IsFrameFor self node frame.old }
         ensures { Pushes self.entry frame.old frame.new result (reached self.entry.run.now rest.now (filter (λ c. truth_of (condition_view (table_at self.entry) condition.now) c (tree_at self.entry)) (children (node_of node.entry)))) }
     {
         if let Condition::Once(position) = condition {
@@ -287,7 +243,7 @@ impl<'r, 'a> Walk<'r, 'a> {
         rest: &[Step],
         frame: &mut Frame<'a>,
     ) -> Result<()>
-        requires { IsFrameAt self node rest.now frame.old }
+        requires { IsFrameFor self node frame.old }
         ensures { Pushes self.entry frame.old frame.new result (reached self.entry.run.now rest.now (filter (λ c. truth_of (condition_view (table_at self.entry) condition.now) c (tree_at self.entry)) (children (node_of node.entry)))) }
     {
         self.run.prepare(frame)?;

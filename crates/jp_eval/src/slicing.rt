@@ -4,9 +4,8 @@ ghost use Rattle.std.specs.Prelude.{map};
 ghost use Rattle.jp_model.specs.Meaning.Nodes.{children_where};
 ghost use Rattle.jp_model.specs.Meaning.Slices.{is_index, sliced};
 ghost use Rattle.jp_nodes.specs.Cursors.{line_of, node_of};
-ghost use Rattle.jp_eval.specs.Answers.{AreAllDead};
 ghost use Rattle.jp_children.specs.Found.{AreOf};
-ghost use Rattle.jp_eval.specs.Frames.{reached, AreKept, EndsWith, IsFrameAt, Pushes};
+ghost use Rattle.jp_eval.specs.Frames.{reached, IsFrameFor, IsKept, Pushes};
 ghost use Rattle.jp_children.specs.Walks.{rises};
 
 use crate::Result;
@@ -26,7 +25,7 @@ impl<'r, 'a> Walk<'r, 'a> {
         rest: &[Step],
         frame: &mut Frame<'a>,
     ) -> Result<()>
-        requires { IsFrameAt self node rest.now frame.old }
+        requires { IsFrameFor self node frame.old }
         ensures { Pushes self.entry frame.old frame.new result (reached self.entry.run.now rest.now (sliced slice.first slice.last slice.step (node_of node.entry))) }
     {
         if slice.step > 0 {
@@ -45,7 +44,7 @@ impl<'r, 'a> Walk<'r, 'a> {
         rest: &[Step],
         frame: &mut Frame<'a>,
     ) -> Result<()>
-        requires { IsFrameAt self node rest.now frame.old }
+        requires { IsFrameFor self node frame.old }
         ensures { Pushes self.entry frame.old frame.new result (reached self.entry.run.now rest.now (children_where (is_index (rises slice.low slice.high slice.step)) (node_of node.entry))) }
     {
         let mut next = node.first_child();
@@ -67,9 +66,7 @@ impl<'r, 'a> Walk<'r, 'a> {
     #[cycle(eval)]
     fn push_each(self, nodes: &[Cursor<'a>], rest: &[Step], frame: &mut Frame<'a>) -> Result<()>
         requires lines { AreOf (line_of self.run.now.root.now) nodes.now }
-        requires kept { AreKept self.run.now frame.old.answers.items }
-        requires dead { AreAllDead self.run.now frame.old.dead_ends.items }
-        requires end { EndsWith self.run.now.steps.now rest.now }
+        requires kept { IsKept self.run.now frame.old }
         ensures { Pushes self.entry frame.old frame.new result (reached self.entry.run.now rest.now (map node_of nodes.now)) }
     {
         for node in nodes {

@@ -10,12 +10,14 @@ ghost use Rattle.jp_eval.specs.Frames.{table_at, tree_at, reached, IsFrameFor, L
 ghost use Rattle.jp_eval.specs.Programs.{operand_view, sought_view, found_view};
 
 use crate::Result;
-use crate::frame::{COUNTED, Frame, Walk};
+use crate::frame::{Frame, Walk};
 use crate::functions::length_of;
 use crate::program::{Found, Operand, Sought, Step};
 use crate::question::follow_keys;
+use crate::sums::COUNTED;
 use jp_nodes::Cursor;
 use jp_values::Value;
+use std::alloc::AllocError;
 
 /// The value of a node, or Nothing if there is none.
 #[inline(always)]
@@ -81,12 +83,10 @@ impl<'r, 'a> Walk<'r, 'a> {
     {
         match found {
             Found::Single(keys) => Ok(node_value(follow_keys(keys, node))),
-            Found::Only { steps, again } => self.only_value(node, steps, *again, frame),
-            Found::Value { steps, again } => self.only_value(node, steps, *again, frame),
+            Found::Only(steps) => self.only_value(node, steps, frame),
+            Found::Value(steps) => self.only_value(node, steps, frame),
             Found::Length(operand) => Ok(length_of(self.value_of(node, operand, frame)?)),
-            Found::Count { steps, again } => {
-                Ok(Value::Count(self.count_nodes(node, steps, *again, frame)?))
-            }
+            Found::Count(steps) => Ok(Value::Count(self.count_nodes(node, steps, frame)?)),
         }
     }
 
@@ -96,43 +96,31 @@ impl<'r, 'a> Walk<'r, 'a> {
         self,
         node: Cursor<'a>,
         steps: &[Step],
-        again: usize,
         frame: &mut Frame<'a>,
     ) -> Result<Value<'a>>
         requires { IsFrameFor self node frame.old }
         ensures lends { Lends self.entry frame.old frame.new result }
         ensures value { IfOk result (λ v. IsValue v (single_value_of (reached self.entry.run.now steps.now (node_of node.entry ∷ [])))) }
     {
-        let before = frame.found.len();
-        let (run, most) = (self.run, before + 2);
-        Walk { run, most }.push_query(node, steps, again, frame)?;
-        let value = if frame.found.len() == before + 1 {
-            Value::Node(frame.found[before])
+        let sum = self.sum(node, steps, 2, frame)?;
+        if sum.count == 1 {
+            Ok(Value::Node(node.go_to(sum.last)))
         } else {
-            Value::Nothing
-        };
-        frame.found.truncate(before);
-        Ok(value)
+            Ok(Value::Nothing)
+        }
     }
 
-    /// How many nodes the steps select. No list is made of them.
+    /// How many nodes the steps select. `COUNTED` of them and more are refused as memory is.
     #[cycle(eval)]
-    fn count_nodes(
-        self,
-        node: Cursor<'a>,
-        steps: &[Step],
-        again: usize,
-        frame: &mut Frame<'a>,
-    ) -> Result<u64>
+    fn count_nodes(self, node: Cursor<'a>, steps: &[Step], frame: &mut Frame<'a>) -> Result<u64>
         requires { IsFrameFor self node frame.old }
         ensures lends { Lends self.entry frame.old frame.new result }
         ensures value { IfOk result (λ count. count ≡ length (reached self.entry.run.now steps.now (node_of node.entry ∷ []))) }
     {
-        let before = frame.count;
-        let (run, most) = (self.run, COUNTED);
-        Walk { run, most }.push_query(node, steps, again, frame)?;
-        let count = frame.count - before;
-        frame.count = before;
-        Ok(count)
+        let sum = self.sum(node, steps, COUNTED, frame)?;
+        if sum.count >= COUNTED {
+            return Err(AllocError);
+        }
+        Ok(sum.count)
     }
 }

@@ -1,9 +1,12 @@
 //! Where a second way can lead to a node.
 
-ghost use Rattle.std.specs.Prelude.{◌≤◌, length};
+ghost use Rattle.std.specs.Prelude.{◌≡◌, ◌++◌, ◌∷◌, [], OnOk};
+ghost use Rattle.jp_eval.specs.Programs.{steps_in};
 
+use crate::Result;
 use crate::program::{Choice, Step};
 use jp_syntax::Segment;
+use std::alloc::Global;
 
 /// How the nodes lie that steps go on from.
 #[derive(Clone, Copy)]
@@ -12,12 +15,20 @@ pub(crate) enum Ways {
     Apart,
     /// Each is met once.
     Nested,
-    /// One may be met again.
+    /// One may be met again: several selectors of one segment may select the same node.
     Again,
 }
 
 impl Ways {
-    /// Those that a step selects, where it has so many choices: two of them may select the same node.
+    /// The same where what is selected from each is remembered, so that each is walked once.
+    fn once(self) -> Ways {
+        match self {
+            Ways::Apart => Ways::Apart,
+            Ways::Nested | Ways::Again => Ways::Nested,
+        }
+    }
+
+    /// Those that so many choices select of children.
     fn through(self, choices: &[Choice]) -> Ways {
         if choices.len() > 1 {
             return Ways::Again;
@@ -25,43 +36,61 @@ impl Ways {
         self
     }
 
-    /// The nodes and all below them.
-    fn down(self) -> Ways {
-        match self {
-            Ways::Apart => Ways::Nested,
-            Ways::Nested | Ways::Again => Ways::Again,
-        }
-    }
-
     /// The nodes from whose children a segment selects.
     pub(crate) fn within(self, segment: &Segment) -> Ways {
         match segment {
-            Segment::Child(_) => self,
-            Segment::Descendant(_) => self.down(),
+            Segment::Child(_) => self.once(),
+            Segment::Descendant(_) => Ways::Nested,
         }
     }
 
     /// Those that a step selects from them.
     pub(crate) fn behind(self, step: &Step) -> Ways {
         match step {
-            Step::One(_) => self,
-            Step::Child(choices) => self.through(choices),
-            Step::Descendant(choices) => self.down().through(choices),
+            Step::One(_) | Step::Known(_) => self,
+            Step::Child(choices) => self.once().through(choices),
+            Step::Descendant(choices) => Ways::Nested.through(choices),
+        }
+    }
+
+    /// Whether a second way may lead to what a step selects from, so that what it and those behind it select is remembered. One
+    /// to all below a node leads to all below each of these. A name or an index is found again sooner than it is looked up.
+    pub(crate) fn repeats(self, step: &Step) -> bool {
+        match step {
+            Step::One(_) | Step::Known(_) => false,
+            Step::Child(_) => matches!(self, Ways::Again),
+            Step::Descendant(_) => !matches!(self, Ways::Apart),
         }
     }
 }
 
-/// How many steps at the end of a query are taken from nodes that a second way may lead to: those behind the second descendant
-/// segment, or behind a segment of several selectors (RFC 9535, section 2.1.2: a nodelist may have one node several times).
-pub(crate) fn count_again(steps: &[Step]) -> usize
-    ensures { result ≤ length steps.now }
-{
-    let mut ways = Ways::Apart;
-    for (position, step) in steps.iter().enumerate() {
-        if let Ways::Again = ways {
-            return steps.len() - position;
+/// The steps of a query, in their order and in parts: behind the first, each begins with a step that a second way may lead to.
+#[derive(Drop)]
+pub(crate) struct Parts {
+    pub(crate) before: Vec<Vec<Step>>,
+    pub(crate) last: Vec<Step>,
+}
+
+impl Parts {
+    /// No step.
+    pub(crate) fn new(alloc: Global) -> Parts
+        ensures { steps_in result ≡ [] }
+    {
+        Parts {
+            before: Vec::new(alloc),
+            last: Vec::new(alloc),
         }
-        ways = ways.behind(step);
     }
-    0
+
+    /// Adds a step, which goes on from nodes that lie so.
+    pub(crate) fn add(&mut self, alloc: Global, ways: Ways, step: Step) -> Result<()>
+        ensures { OnOk result (steps_in self.new ≡ steps_in self.old ++ step ∷ []) }
+    {
+        if ways.repeats(&step) {
+            let part = std::mem::replace(&mut self.last, Vec::new(alloc));
+            self.before.push(part)?;
+        }
+        self.last.push(step)?;
+        Ok(())
+    }
 }

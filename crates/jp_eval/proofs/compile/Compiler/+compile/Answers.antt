@@ -6,7 +6,7 @@ use Rattle.std.proofs.lemmas.Bool.{and_parts}
 use Rattle.jp_model.specs.Query.Syntax as syntax
 use Rattle.jp_model.specs.Query.Limits.{segments_pass, selectors_pass, logicals_pass, logical_passes, comparable_passes, call_passes, argument_passes}
 use Rattle.jp_model.specs.Query.Typing.{segments_typed, selectors_typed, logicals_typed, logical_typed, comparable_typed, logical_kind}
-use Rattle.jp_syntax.specs.View.{origin_view, op_view, literal_view, segments_of, selectors_of, logicals_of, segments_view, segment_view, selectors_view, selector_view, logicals_view, logical_view, comparable_view, path_view, call_view, argument_view}
+use Rattle.jp_syntax.specs.View.{origin_view, op_view, literal_view, selectors_of, logicals_of, segments_view, segment_view, selectors_view, selector_view, logicals_view, logical_view, comparable_view, path_view, call_view, argument_view}
 use Rattle.jp_syntax.specs.declared.tree.Segment.{Segment}
 use Rattle.jp_syntax.specs.declared.tree.Selector.{Selector}
 use Rattle.jp_syntax.specs.declared.tree.Logical.{Logical}
@@ -16,7 +16,7 @@ use Rattle.jp_eval.specs.Expressions.{readable}
 use Rattle.jp_eval.specs.Keys.{keys_view}
 use Rattle.jp_eval.specs.Questions.{passing_name, question_view}
 use Rattle.jp_eval.specs.Roots.{argument_asks_root, argument_from, asks_from, call_asks_root, is_root, logical_asks_root, logicals_ask_root, logical_from, logical_from_root, path_asks_root, side_asks_root, side_from, side_from_root}
-use Rattle.jp_eval.specs.Programs.{Means, Table, argument_of, table_of, steps_view, step_view, choice_view, condition_view, test_view, operand_view, spelled_view, sought_view, found_view}
+use Rattle.jp_eval.specs.Programs.{Means, Onward, Table, argument_of, steps_in, table_of, steps_view, step_view, choice_view, condition_view, test_view, operand_view, spelled_view, sought_view, found_view}
 use Rattle.jp_eval.specs.declared.program.Slot.{Slot}
 use Rattle.jp_eval.specs.declared.program.Step.TheVariants as steps
 use Rattle.jp_eval.specs.declared.program.Choice.TheVariants as choices
@@ -32,6 +32,7 @@ use Rattle.jp_eval.specs.declared.question.Key.{Key}
 use Rattle.jp_eval.specs.declared.question.Question.TheVariants as questions
 use Rattle.std.proofs.lemmas.List.{drop_all}
 use Rattle.jp_eval.proofs.Called.{fits, values_given}
+use Rattle.jp_eval.proofs.Linking.{onward_from, onward_is}
 use Rattle.jp_eval.proofs.Lists.{item_at}
 use Rattle.jp_eval.proofs.Origins.{from_or, from_and, from_not, from_compare, from_exists, from_question, from_passes, from_single, from_length, from_count, from_value, from_argument, asked_so, both_asked, begins_at, path_from}
 use Rattle.jp_eval.proofs.Sizes.{size_of_segments, size_of_selectors, size_of_logical, size_of_logicals, size_of_call}
@@ -41,13 +42,13 @@ use Rattle.jp_eval.proofs.Meanings.{means_behind, means_by, means_so, both_mean,
 use Rattle.jp_eval.proofs.compile.Compiler.+compile.Goals as goal
 
 pub compile_segment-returns-in_ok-compile_selectors-in-Child : goal.compile_segment-returns-in_ok-compile_selectors-in-Child
-compile_segment-returns-in_ok-compile_selectors-in-Child t c = means_by syntax.child_segment (λ (table : Table). step_view table (steps.Child c.in_ok-compile_selectors-in-Child.field-0)) (segment_view c.args.segment.now) (λ table. child_is table c.in_ok-compile_selectors-in-Child.field-0) (ap segment_view c.in-Child.is ∙ (child_seen c.in-Child.selectors ∙ ap (λ (l : List Selector). syntax.child_segment (selectors_view l)) (sym c.deref.ensures.value))) c.in_ok-compile_selectors-in-Child.ensures
+compile_segment-returns-in_ok-compile_selectors-in-Child t c = means_by (λ (ss : syntax.Selectors). syntax.segment (syntax.child_segment ss)) (λ (table : Table). step_view table (steps.Child c.in_ok-compile_selectors-in-Child.field-0)) (syntax.segment (segment_view c.args.segment.now)) (λ table. child_is table c.in_ok-compile_selectors-in-Child.field-0) (ap (λ (x : syntax.Segment). syntax.segment x) (ap segment_view c.in-Child.is ∙ (child_seen c.in-Child.selectors ∙ ap (λ (l : List Selector). syntax.child_segment (selectors_view l)) (sym c.deref.ensures.value)))) c.in_ok-compile_selectors-in-Child.ensures
 
 pub compile_segment-returns-in_ok-compile_selectors-in-Descendant : goal.compile_segment-returns-in_ok-compile_selectors-in-Descendant
-compile_segment-returns-in_ok-compile_selectors-in-Descendant t c = means_by syntax.descendant_segment (λ (table : Table). step_view table (steps.Descendant c.in_ok-compile_selectors-in-Descendant.field-0)) (segment_view c.args.segment.now) (λ table. descendant_is table c.in_ok-compile_selectors-in-Descendant.field-0) (ap segment_view c.in-Descendant.is ∙ (descendant_seen c.in-Descendant.selectors ∙ ap (λ (l : List Selector). syntax.descendant_segment (selectors_view l)) (sym c.deref-in-Descendant.ensures.value))) c.in_ok-compile_selectors-in-Descendant.ensures
+compile_segment-returns-in_ok-compile_selectors-in-Descendant t c = means_by (λ (ss : syntax.Selectors). syntax.segment (syntax.descendant_segment ss)) (λ (table : Table). step_view table (steps.Descendant c.in_ok-compile_selectors-in-Descendant.field-0)) (syntax.segment (segment_view c.args.segment.now)) (λ table. descendant_is table c.in_ok-compile_selectors-in-Descendant.field-0) (ap (λ (x : syntax.Segment). syntax.segment x) (ap segment_view c.in-Descendant.is ∙ (descendant_seen c.in-Descendant.selectors ∙ ap (λ (l : List Selector). syntax.descendant_segment (selectors_view l)) (sym c.deref-in-Descendant.ensures.value)))) c.in_ok-compile_selectors-in-Descendant.ensures
 
-pub compile_selector-returns-in_ok-compile_filter-in-Filter : goal.compile_selector-returns-in_ok-compile_filter-in-Filter
-compile_selector-returns-in_ok-compile_filter-in-Filter t c = means_by syntax.filter_selector (λ (table : Table). choice_view table (choices.Filter c.in_ok-compile_filter-in-Filter.field-0)) (selector_view c.args.selector.now) (λ table. filter_is table c.in_ok-compile_filter-in-Filter.field-0) (ap selector_view c.in-Filter.is ∙ filter_seen c.in-Filter.expression) c.in_ok-compile_filter-in-Filter.ensures
+pub compile_selector-returns-in_ok-condition-in-Filter : goal.compile_selector-returns-in_ok-condition-in-Filter
+compile_selector-returns-in_ok-condition-in-Filter t c = means_by syntax.filter_selector (λ (table : Table). choice_view table (choices.Filter c.in_ok-condition-in-Filter.condition)) (selector_view c.args.selector.now) (λ table. filter_is table c.in_ok-condition-in-Filter.condition) (ap selector_view c.in-Filter.is ∙ filter_seen c.in-Filter.expression) c.in_ok-condition-in-Filter.ensures
 
 -- ---- parts in their order
 
@@ -60,7 +61,7 @@ compile_segments-loop-segment-preserved t c =
     let size = ap (λ (l : List Segment). size_of_segments (segments_view l)) here in
     let before = c.loop-segment.invariant.size in
     record {
-      means = one_more step_view c.loop-segment.compiled.items c.in_ok-one.one (segment_view first) (map segment_view (drop (i + 1) all)) c.push.new.self.items (ap (map segment_view) here) c.in_ok-push.ensures.items c.loop-segment.invariant.means c.in_ok-one.ensures;
+      means = one_more step_view (steps_in c.loop-segment.parts) c.in_ok-one.one (onward_from first) (map onward_from (drop (i + 1) all)) (steps_in c.add.new.self) (ap (map onward_from) here) c.in_ok-add.ensures c.loop-segment.invariant.means c.in_ok-one.ensures;
       literals = (and_parts _ _ (subst (λ (l : List Segment). segments_pass (segments_view l) readable ≡ true) here c.loop-segment.invariant.literals)).1;
       typed = (and_parts _ _ (subst (λ (l : List Segment). segments_typed (segments_view l) ≡ true) here c.loop-segment.invariant.typed)).1;
       size = omega (arith, size, before);
@@ -68,7 +69,12 @@ compile_segments-loop-segment-preserved t c =
 
 pub compile_segments-returns : goal.compile_segments-returns
 compile_segments-returns t c =
-    none_more step_view c.loop-segment.compiled.items segments_of (ap (map segment_view) (drop_all c.loop-segment.segment-index c.args.segments.now c.loop-segment-test.false)) c.loop-segment.invariant.means
+    let all : List Segment = c.args.segments.now in
+    let old : List Slot = c.args.self.now.slots.items in
+    let mid : List Slot = c.loop-segment.self.slots.items in
+    let made : Means old mid (λ (table : Table). map (step_view table) (steps_in c.loop-segment.parts)) (map onward_from all) =
+    none_more step_view (steps_in c.loop-segment.parts) (λ (l : List Onward). l) (ap (map onward_from) (drop_all c.loop-segment.segment-index all c.loop-segment-test.false)) c.loop-segment.invariant.means in
+    subst (λ (ss : syntax.Segments). IfOk c.link.result (λ steps. Means old c.link.new.self.slots.items (λ (table : Table). steps_view table steps.items) ss)) (onward_is all) (c.link.ensures old (map onward_from all) made)
 
 pub compile_selectors-loop-selector-preserved : goal.compile_selectors-loop-selector-preserved
 compile_selectors-loop-selector-preserved t c =
@@ -130,16 +136,6 @@ compile_logical-returns-then-becomes_slot t c =
     (λ x m. means_behind c.in_ok-test.ensures.grows (means_by (λ (y : syntax.Logical). y) (λ (table : Table). logical_from o (condition_view table x)) l (λ table. ap (λ p. logical_from p (condition_view table x)) at) (sym (whole _ _ c.in_ok-test.ensures)) m)) c.add_test.ensures
 
 -- ---- filters
-
-pub compile_filter-returns-in-Single : goal.compile_filter-returns-in-Single
-compile_filter-returns-in-Single t c = means_by (λ (y : syntax.Logical). y) (λ (table : Table). condition_view table (conditions.Test c.in_ok-test.test)) (logical_view c.args.expression.now) (λ table. tests_is table c.in_ok-test.test) refl c.in_ok-test.ensures
-
-pub compile_filter-returns : goal.compile_filter-returns
-compile_filter-returns t c =
-    let l : syntax.Logical = logical_view c.args.expression.now in
-    let mid : List Slot = c.compile_test.new.self.slots.items in
-    ok_then c.add_known.result (λ (x : Condition). Means mid c.add_known.new.self.slots.items (λ (table : Table). condition_view table x) (test_view (table_of mid) c.in_ok-test.test)) (λ (x : Condition). Means c.args.self.now.slots.items c.add_known.new.self.slots.items (λ (table : Table). condition_view table x) l)
-    (λ x m. means_behind c.in_ok-test.ensures.grows (means_by (λ (y : syntax.Logical). y) (λ (table : Table). condition_view table x) l (λ table. refl) (sym (whole _ _ c.in_ok-test.ensures)) m)) c.add_known.ensures
 
 pub compile_logical-compile_test-requires : goal.compile_logical-compile_test-requires
 compile_logical-compile_test-requires t c =
@@ -235,8 +231,8 @@ compile_exists-returns t c =
     let p : Path = c.args.path.now in
     let o = origin_view p.origin in
     let x = c.in_ok-steps.steps in
-    means_by (λ (ss : syntax.Segments). syntax.exists (syntax.path o ss)) (λ (table : Table). logical_from o (test_view table (tests.Exists x c.count_again-again.result))) (syntax.exists (path_view p))
-    (λ table. ap (logical_from o) (exists_is table x _) ∙ from_exists o (steps_view table x.items))
+    means_by (λ (ss : syntax.Segments). syntax.exists (syntax.path o ss)) (λ (table : Table). logical_from o (test_view table (tests.Exists x))) (syntax.exists (path_view p))
+    (λ table. ap (logical_from o) (exists_is table x) ∙ from_exists o (steps_view table x.items))
     (ap syntax.exists (path_from p o (segments_view c.deref-2.result.now) refl (ap segments_view c.deref-2.ensures.value)))
     c.in_ok-steps.ensures
 
@@ -245,8 +241,8 @@ compile_only-returns t c =
     let p : Path = c.args.path.now in
     let o = origin_view p.origin in
     let x = c.in_ok-steps.steps in
-    means_by (λ (ss : syntax.Segments). syntax.single (syntax.path o ss)) (λ (table : Table). side_from o (found_view table (finds.Only x c.count_again-again.result))) (syntax.single (path_view p))
-    (λ table. ap (side_from o) (only_found table x _) ∙ from_single o (steps_view table x.items))
+    means_by (λ (ss : syntax.Segments). syntax.single (syntax.path o ss)) (λ (table : Table). side_from o (found_view table (finds.Only x))) (syntax.single (path_view p))
+    (λ table. ap (side_from o) (only_found table x) ∙ from_single o (steps_view table x.items))
     (ap syntax.single (path_from p o (segments_view c.deref-2.result.now) refl (ap segments_view c.deref-2.ensures.value)))
     c.in_ok-steps.ensures
 
@@ -364,8 +360,8 @@ compile_value-returns-in_ok-steps-in-Count t c =
     let x = c.in_ok-steps-in-Count.steps in
     let seen : count_call (path_view p) ≡ call_view c.args.call.now = sym (ap called c.in-Count.is) ∙ c.value_call.ensures in
     let at : origin_view p.origin ≡ o = begins_at p o (sym (and-true (path_asks_root (path_view p))) ∙ (ap call_asks_root seen ∙ c.requires.root)) in
-    means_by (λ (ss : syntax.Segments). syntax.result (count_call (syntax.path o ss))) (λ (table : Table). side_from o (found_view table (finds.Count x c.count_again-again.result))) (syntax.result (call_view c.args.call.now))
-    (λ table. ap (side_from o) (count_found table x _) ∙ from_count o (steps_view table x.items))
+    means_by (λ (ss : syntax.Segments). syntax.result (count_call (syntax.path o ss))) (λ (table : Table). side_from o (found_view table (finds.Count x))) (syntax.result (call_view c.args.call.now))
+    (λ table. ap (side_from o) (count_found table x) ∙ from_count o (steps_view table x.items))
     (ap syntax.result (sym seen ∙ ap count_call (path_from p o (segments_view c.deref.result.now) at (ap segments_view c.deref.ensures.value))))
     c.in_ok-steps-in-Count.ensures
 
@@ -376,7 +372,7 @@ compile_value-returns-in_ok-steps-in-Value t c =
     let x = c.in_ok-steps-in-Value.steps in
     let seen : value_call (path_view p) ≡ call_view c.args.call.now = sym (ap called c.in-Value.is) ∙ c.value_call.ensures in
     let at : origin_view p.origin ≡ o = begins_at p o (sym (and-true (path_asks_root (path_view p))) ∙ (ap call_asks_root seen ∙ c.requires.root)) in
-    means_by (λ (ss : syntax.Segments). syntax.result (value_call (syntax.path o ss))) (λ (table : Table). side_from o (found_view table (finds.Value x c.count_again-again-in-Value.result))) (syntax.result (call_view c.args.call.now))
-    (λ table. ap (side_from o) (value_found table x _) ∙ from_value o (steps_view table x.items))
+    means_by (λ (ss : syntax.Segments). syntax.result (value_call (syntax.path o ss))) (λ (table : Table). side_from o (found_view table (finds.Value x))) (syntax.result (call_view c.args.call.now))
+    (λ table. ap (side_from o) (value_found table x) ∙ from_value o (steps_view table x.items))
     (ap syntax.result (sym seen ∙ ap value_call (path_from p o (segments_view c.deref-in-Value.result.now) at (ap segments_view c.deref-in-Value.ensures.value))))
     c.in_ok-steps-in-Value.ensures

@@ -1,11 +1,12 @@
 -- What was compiled, with what is still to come, is all.
 use Rattle.std.proofs.Common.{◌≡◌, ◌≤◌, ◌+◌, ◌++◌, drop, map, true}
 use Rattle.jp_eval.specs.Expressions.{readable}
-use Rattle.jp_eval.specs.Programs.{Table, Means, step_view, choice_view, condition_view}
+use Rattle.jp_eval.specs.Programs.{Table, Means, steps_in, step_view, choice_view, condition_view}
 use Rattle.jp_eval.specs.Roots.{asks_from, logical_from, logicals_ask_root}
 use Rattle.jp_model.specs.Query.Limits.{segments_pass, selectors_pass, logicals_pass}
 use Rattle.jp_model.specs.Query.Typing.{segments_typed, selectors_typed, logicals_typed}
 use Rattle.jp_syntax.specs.View.{origin_view, segments_view, segment_view, selectors_view, selector_view, logicals_view, logical_view, comparable_view, path_view, call_view, argument_view}
+use Rattle.jp_eval.proofs.Linking.{onward_from}
 use Rattle.jp_eval.proofs.Sizes.{size_of_segments, size_of_segment, size_of_selectors, size_of_selector, size_of_logical, size_of_logicals, size_of_comparable, size_of_path, size_of_call, size_of_argument}
 use Rattle.jp_eval.proofs.compile.Compiler.+compile.Given as goal
 
@@ -20,9 +21,6 @@ decreases-compile_selectors l = size_of_selectors (selectors_view l.selectors.no
 
 abbrev pub decreases-compile_selector : goal.decreases-compile_selector
 decreases-compile_selector l = size_of_selector (selector_view l.selector.now)
-
-abbrev pub decreases-compile_filter : goal.decreases-compile_filter
-decreases-compile_filter l = size_of_logical (logical_view l.expression.now) + 2
 
 abbrev pub decreases-compile_logicals : goal.decreases-compile_logicals
 decreases-compile_logicals l = size_of_logicals (logicals_view l.parts.now)
@@ -65,7 +63,7 @@ decreases-compile_value l = size_of_call (call_view l.call.now) + 1
 
 abbrev pub invariant-compile_segments-loop-segment : goal.invariant-compile_segments-loop-segment
 invariant-compile_segments-loop-segment l = record {
-  means : Means l.fn.self.slots.items l.self.slots.items (λ (table : Table). map (step_view table) l.compiled.items ++ map segment_view (drop l.segment-index l.segments)) (map segment_view l.segments);
+  means : Means l.fn.self.slots.items l.self.slots.items (λ (table : Table). map (step_view table) (steps_in l.parts) ++ map onward_from (drop l.segment-index l.segments)) (map onward_from l.segments);
   literals : segments_pass (segments_view (drop l.segment-index l.segments)) readable ≡ true;
   typed : segments_typed (segments_view (drop l.segment-index l.segments)) ≡ true;
   size : size_of_segments (segments_view (drop l.segment-index l.segments)) ≤ size_of_segments (segments_view l.segments);

@@ -17,5 +17,5 @@ returns-then-position-len-clause-kept c position answer e =
     (λ there is.
     let same : c.args.answer ≡ answer = cc in
     let asked = get_in_part (slots_in run) run.known here (omega (arith, c.if-position-self.true)) in
-    subst (λ k. IsAnswer run (slice_get (slots_in run) k) answer) there (subst (λ (m : Option Meant). IsAnswer run m answer) asked (subst (λ (a : Answer). IsAnswer run (slice_get (table_in run) here) a) same c.requires.right)))
+    subst (λ k. IsAnswer run c.args.frame.now.found.items (slice_get (slots_in run) k) answer) there (subst (λ (m : Option Meant). IsAnswer run c.args.frame.now.found.items m answer) asked (subst (λ (a : Answer). IsAnswer run c.args.frame.now.found.items (slice_get (table_in run) here) a) same c.requires.right)))
     (λ other. c.requires.kept position answer other)

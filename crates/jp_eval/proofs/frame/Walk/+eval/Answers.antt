@@ -1,10 +1,10 @@
 -- What was added is what the steps select, and what was answered is what the parts of a filter mean.
-use Rattle.std.proofs.Common.{rules, w64, ℤ, Bool, ◌≡◌, ◌∙◌, ◌+◌, ◌-◌, ◌++◌, [], ◌∷◌, List, ℕ, true, false, refl, map, drop, length, filter, flat_map, sym, ap, ap₂, subst, arith, Some, Option, Ok}
-use Rattle.std.specs.Prelude.{IfOk, OnOk, not, option_map, slice_get}
-use Rattle.jp_model.specs.Json.Tree.{Tree, Value}
-use Rattle.jp_model.specs.Meaning.Nodes.{Node, children, children_where, subtree}
+use Rattle.std.proofs.Common.{rules, w64, ℤ, Bool, ◌≡◌, ◌∙◌, ◌<◌, ◌+◌, ◌-◌, ◌++◌, [], ◌∷◌, List, ℕ, true, false, refl, map, drop, length, filter, flat_map, sym, ap, ap₂, subst, arith, Some, None, Option, Ok, Vec, Global}
+use Rattle.std.specs.Prelude.{IfOk, IfSome, OnOk, not, option_map, slice_get}
+use Rattle.jp_model.specs.Json.Tree.{Tree, Value, value_of}
+use Rattle.jp_model.specs.Meaning.Nodes.{Node, children, children_where, root_node, subtree}
 use Rattle.jp_model.specs.Steps.{Step}
-use Rattle.jp_model.specs.Meaning.Selecting.{nodes, segment_nodes, selected, select, truth, given_by, compared_value}
+use Rattle.jp_model.specs.Meaning.Selecting.{nodes, selected, select, truth, given_by, compared_value}
 use Rattle.jp_model.specs.Meaning.Slices.{sliced, is_index}
 use Rattle.jp_model.specs.Meaning.Functions.{in_pattern, literal_value}
 use Rattle.jp_model.specs.Query.Syntax as syntax
@@ -12,14 +12,17 @@ use Rattle.jp_model.specs.Query.Syntax.{Segments}
 use Rattle.jp_model.proofs.Seek.{no_nodes}
 use Rattle.jp_nodes.specs.declared.cursor.Cursor.{Cursor}
 use Rattle.jp_nodes.specs.Cursors.{line_of, place_of, node_of, nodes_from, nodes_after}
-use Rattle.jp_values.specs.Values.{value_view, is_sound_value}
-use Rattle.jp_eval.specs.Answers.{IsAnswer, IsValue, table_in, tree_in, slot_truth, slot_value}
+use Rattle.jp_nodes.specs.Tapes.{spelled}
+use Rattle.jp_nodes.proofs.Cursors.{after_short}
+use Rattle.jp_values.specs.Values.{value_view}
+use Rattle.jp_eval.specs.Answers.{IsAnswer, IsValue, table_in, slot_truth, slot_value}
 use Rattle.jp_children.specs.Found.{node_list}
-use Rattle.jp_eval.specs.Frames.{Pushes}
+use Rattle.jp_eval.specs.Found.{Adds}
+use Rattle.jp_eval.specs.Frames.{AreKept, Pushes, reached}
 use Rattle.jp_iregexp.specs.Trees.{pattern_view}
 use Rattle.jp_iregexp.specs.declared.pattern.Pattern.{Pattern}
 use Rattle.jp_eval.specs.Functions.{passing, pattern_in}
-use Rattle.jp_eval.specs.Programs.{Table, logical_at, side_at, step_view, steps_view, choices_view, choice_view, condition_view, test_view, operand_view, spelled_view, sought_view, found_view}
+use Rattle.jp_eval.specs.Programs.{Onward, Table, logical_at, side_at, tail_at, step_view, steps_view, choices_view, choice_view, condition_view, test_view, operand_view, spelled_view, sought_view, found_view}
 use Rattle.jp_eval.specs.Tallies.{tally}
 use Rattle.jp_children.specs.Walks.{IsAt, rises}
 use Rattle.jp_eval.specs.declared.frame.Answer.{Answer}
@@ -39,32 +42,33 @@ use Rattle.jp_eval.specs.declared.program.Found.{Found}
 use Rattle.jp_syntax.specs.View.{literal_view}
 use Rattle.std.proofs.Math.Logic.{∥∥₁_elim}
 use Rattle.jp_eval.proofs.Childless.{none_first, none_selected}
-use Rattle.jp_eval.proofs.Compiled.{child_is, descendant_is, found_is, literal_is, once_is, passes_is, slice_is, sought_once, spelled_is}
-use Rattle.jp_eval.proofs.Counts.{none_added, none_single, not_counted, single_found}
-use Rattle.jp_eval.proofs.DeadEnds.{ends_next, is_dead, nothing_there}
+use Rattle.jp_eval.proofs.Compiled.{child_is, descendant_is, found_is, known_is, literal_is, once_is, passes_is, slice_is, sought_once, spelled_is}
 use Rattle.jp_eval.proofs.Descendants.{below_at}
 use Rattle.jp_eval.proofs.Entered.{once_found, once_given, once_told}
 use Rattle.jp_eval.proofs.FromRoot.{logical_size, side_size}
 use Rattle.jp_eval.proofs.Given.{given_size, given_so, passes_told}
-use Rattle.jp_eval.proofs.Goes.{Goes, begins, dead_as, lent_first, others_are, goes_past, goes_lent, is_done, is_full, filter_taken, filter_passed, filter_all, filter_none, nothing_added}
-use Rattle.jp_eval.proofs.Kept.{adds_more}
+use Rattle.jp_eval.proofs.Goes.{Goes, begins, both_pushed, lent_first, others_are, goes_past, goes_lent, is_done, is_full, filter_taken, filter_passed, filter_all, filter_none, nothing_added}
+use Rattle.jp_eval.proofs.Kept.{adds_more, kept_grown, listed_known, range_behind}
+use Rattle.jp_eval.proofs.Nodelists.{from_one}
+use Rattle.jp_eval.proofs.Totals.{counted_all, has_some, is_all, listed_behind, only_one, same_node}
 use Rattle.jp_children.proofs.Lines.{line_on, line_of_some}
-use Rattle.jp_eval.proofs.Lists.{item_at}
+use Rattle.jp_eval.proofs.Lists.{item_at, no_item}
 use Rattle.jp_eval.proofs.Patterns.{told, one_proof}
-use Rattle.jp_eval.proofs.Runs.{frame_in, kept_back, kept_in, lent_back, lent_from, lent_room}
-use Rattle.jp_eval.proofs.Sizes.{size_of_argument, size_of_comparable, size_of_logical, size_of_segment, size_of_selectors}
+use Rattle.jp_eval.proofs.Runs.{below_size, frame_in, kept_back, kept_in, lent_back, lent_from, lent_room, pushed_back, slot_below, slot_leaf, slot_reached, slot_size}
+use Rattle.jp_eval.proofs.Sizes.{size_of_argument, size_of_comparable, size_of_logical, size_of_segments, size_of_selectors}
 use Rattle.jp_children.proofs.Slices.{none_risen}
 use Rattle.jp_children.proofs.Walks.{chosen_from, chosen_here, passed_here, at_next, index_fits}
 use Rattle.std.proofs.lemmas.List.{drop_all}
+use Rattle.std.proofs.lemmas.Option.{slice_get_within}
 use mir.Val.{to_z, of_z}
 use Rattle.jp_eval.proofs.frame.Walk.+eval.Goals as goal
-use Rattle.jp_eval.proofs.frame.Walk.+eval.Goals.{push_tested-then-branch+in_ok-push_steps, push_tested-else-branch, push_rising-then-has-2+in_ok-push_steps, push_rising-else-has-2, push_rising-then-has-via-then-has, push_rising-then-has-via-else-has+then-ends_before, only_value-then-len-before, only_value-else-len-before}
+use Rattle.jp_eval.proofs.frame.Walk.+eval.Goals.{push_tested-then-branch+in_ok-push_steps, push_tested-else-branch, push_rising-then-has-2+in_ok-push_steps, push_rising-else-has-2, push_rising-then-has-via-then-has, push_rising-then-has-via-else-has+then-ends_before}
 
 -- ---- children
 
 pub push_children-returns-in_err-push_steps : goal.push_children-returns-in_err-push_steps
 push_children-returns-in_err-push_steps t c =
-    record { adds = adds_more c.loop-next.invariant.goes.adds c.in_err-push_steps.ensures.adds; kept = c.in_err-push_steps.ensures.kept; dead = c.in_err-push_steps.ensures.dead; told = search rules }
+    record { adds = adds_more c.loop-next.invariant.goes.adds c.in_err-push_steps.ensures.adds; kept = c.in_err-push_steps.ensures.kept; told = search rules }
 
 pub push_children-loop-next-preserved : goal.push_children-loop-next-preserved
 push_children-loop-next-preserved t c =
@@ -94,7 +98,7 @@ push_children-returns-then-has t c =
 
 pub push_subtree-returns-in_err-push_choices : goal.push_subtree-returns-in_err-push_choices
 push_subtree-returns-in_err-push_choices t c =
-    record { adds = adds_more c.loop-place.invariant.goes.adds c.in_err-push_choices.ensures.adds; kept = c.in_err-push_choices.ensures.kept; dead = c.in_err-push_choices.ensures.dead; told = search rules }
+    record { adds = adds_more c.loop-place.invariant.goes.adds c.in_err-push_choices.ensures.adds; kept = c.in_err-push_choices.ensures.kept; told = search rules }
 
 pub push_subtree-returns-then-has : goal.push_subtree-returns-then-has
 push_subtree-returns-then-has t c =
@@ -135,11 +139,11 @@ push_subtree-returns t c =
 
 pub push_tested-returns-in_err-holds : goal.push_tested-returns-in_err-holds
 push_tested-returns-in_err-holds t c =
-    record { adds = adds_more c.loop-next.invariant.goes.adds c.in_err-holds.ensures.lends.adds; kept = c.in_err-holds.ensures.lends.kept; dead = dead_as c.args.self.run.now c.loop-next.frame.dead_ends c.holds.new.frame.dead_ends c.in_err-holds.ensures.lends.dead c.loop-next.invariant.goes.dead; told = search rules }
+    record { adds = adds_more c.loop-next.invariant.goes.adds c.in_err-holds.ensures.lends.adds; kept = c.in_err-holds.ensures.lends.kept; told = search rules }
 
 pub push_tested-returns-in_err-push_steps : goal.push_tested-returns-in_err-push_steps
 push_tested-returns-in_err-push_steps t c =
-    record { adds = adds_more c.loop-next.invariant.goes.adds (adds_more c.in_ok-holds.ensures.lends.adds c.in_err-push_steps.ensures.adds); kept = c.in_err-push_steps.ensures.kept; dead = c.in_err-push_steps.ensures.dead; told = search rules }
+    record { adds = adds_more c.loop-next.invariant.goes.adds (adds_more c.in_ok-holds.ensures.lends.adds c.in_err-push_steps.ensures.adds); kept = c.in_err-push_steps.ensures.kept; told = search rules }
 
 pub push_tested-returns-then-has : goal.push_tested-returns-then-has
 push_tested-returns-then-has t c =
@@ -185,7 +189,7 @@ push_tested-returns t c =
 
 pub push_each-returns-in_err-push_steps : goal.push_each-returns-in_err-push_steps
 push_each-returns-in_err-push_steps t c =
-    record { adds = adds_more c.loop-node.invariant.goes.adds c.in_err-push_steps.ensures.adds; kept = c.in_err-push_steps.ensures.kept; dead = c.in_err-push_steps.ensures.dead; told = search rules }
+    record { adds = adds_more c.loop-node.invariant.goes.adds c.in_err-push_steps.ensures.adds; kept = c.in_err-push_steps.ensures.kept; told = search rules }
 
 pub push_each-loop-node-preserved : goal.push_each-loop-node-preserved
 push_each-loop-node-preserved t c =
@@ -215,11 +219,11 @@ push_choices-returns-then-is_none t c =
     let ss : Segments = steps_view (table_in c.args.self.run.now) c.args.rest.now in
     let n : Node = node_of c.args.node in
     let none : children n ≡ [] = sym c.first_child.ensures.nodes ∙ none_first c.first_child.result (c.is_none.ensures ∙ ap not c.if-is_none.true) in
-    nothing_added c.args.self c.args.frame.now ss u _ c.requires.kept c.requires.dead (none_selected (choices_view (table_in c.args.self.run.now) c.args.choices.now) n u none)
+    nothing_added c.args.self c.args.frame.now ss u _ c.requires.kept (none_selected (choices_view (table_in c.args.self.run.now) c.args.choices.now) n u none)
 
 pub push_several-returns-in_err-push_one_of : goal.push_several-returns-in_err-push_one_of
 push_several-returns-in_err-push_one_of t c =
-    record { adds = adds_more c.loop-choice.invariant.goes.adds c.in_err-push_one_of.ensures.pushes.adds; kept = c.in_err-push_one_of.ensures.pushes.kept; dead = c.in_err-push_one_of.ensures.pushes.dead; told = search rules }
+    record { adds = adds_more c.loop-choice.invariant.goes.adds c.in_err-push_one_of.ensures.pushes.adds; kept = c.in_err-push_one_of.ensures.pushes.kept; told = search rules }
 
 pub push_several-loop-choice-preserved : goal.push_several-loop-choice-preserved
 push_several-loop-choice-preserved t c =
@@ -260,22 +264,22 @@ push_choice-returns-in-Slice t c =
     let seen = ap (choice_view (table_in c.args.self.run.now)) c.in-Slice.is ∙ slice_is (table_in c.args.self.run.now) c.in-Slice.first c.in-Slice.last c.in-Slice.step in
     let same : sliced c.in-Slice.first c.in-Slice.last (to_z w64 (of_z w64 c.unwrap_or.result)) n ≡ select (choice_view (table_in c.args.self.run.now) c.args.choice.now) n u =
     ap (λ (z : ℤ). sliced c.in-Slice.first c.in-Slice.last z n) (fits ∙ c.unwrap_or.ensures) ∙ sym (ap (λ (x : syntax.Selector). select x n u) seen) in
-    record { adds = c.push_slice.ensures.adds; kept = c.push_slice.ensures.kept; dead = c.push_slice.ensures.dead; told = subst (λ (l : List Node). OnOk c.push_slice.result (tally c.args.self.most c.push_slice.new.frame [] ≡ tally c.args.self.most c.args.frame.now (nodes (steps_view (table_in c.args.self.run.now) c.args.rest.now) l u))) same c.push_slice.ensures.told }
+    record { adds = c.push_slice.ensures.adds; kept = c.push_slice.ensures.kept; told = subst (λ (l : List Node). OnOk c.push_slice.result (tally (line_of c.args.self.run.now.root.now) c.args.self.most c.push_slice.new.frame [] ≡ tally (line_of c.args.self.run.now.root.now) c.args.self.most c.args.frame.now (nodes (steps_view (table_in c.args.self.run.now) c.args.rest.now) l u))) same c.push_slice.ensures.told }
 
 pub push_slice-returns-then-slice-gt0 : goal.push_slice-returns-then-slice-gt0
 push_slice-returns-then-slice-gt0 t c =
     let u : Tree = (node_of c.args.self.run.now.root.now).tree in
-    record { adds = c.push_rising.ensures.adds; kept = c.push_rising.ensures.kept; dead = c.push_rising.ensures.dead; told = subst (λ (l : List Node). OnOk c.push_rising.result (tally c.args.self.most c.push_rising.new.frame [] ≡ tally c.args.self.most c.args.frame.now (nodes (steps_view (table_in c.args.self.run.now) c.args.rest.now) l u))) c.of.ensures c.push_rising.ensures.told }
+    record { adds = c.push_rising.ensures.adds; kept = c.push_rising.ensures.kept; told = subst (λ (l : List Node). OnOk c.push_rising.result (tally (line_of c.args.self.run.now.root.now) c.args.self.most c.push_rising.new.frame [] ≡ tally (line_of c.args.self.run.now.root.now) c.args.self.most c.args.frame.now (nodes (steps_view (table_in c.args.self.run.now) c.args.rest.now) l u))) c.of.ensures c.push_rising.ensures.told }
 
 pub push_slice-returns : goal.push_slice-returns
 push_slice-returns t c =
     let u : Tree = (node_of c.args.self.run.now.root.now).tree in
     let same = ap (map node_of) c.deref.ensures.value ∙ c.in_ok-found.ensures.nodes in
-    record { adds = c.push_each.ensures.adds; kept = c.push_each.ensures.kept; dead = c.push_each.ensures.dead; told = subst (λ (l : List Node). OnOk c.push_each.result (tally c.args.self.most c.push_each.new.frame [] ≡ tally c.args.self.most c.args.frame.now (nodes (steps_view (table_in c.args.self.run.now) c.args.rest.now) l u))) same c.push_each.ensures.told }
+    record { adds = c.push_each.ensures.adds; kept = c.push_each.ensures.kept; told = subst (λ (l : List Node). OnOk c.push_each.result (tally (line_of c.args.self.run.now.root.now) c.args.self.most c.push_each.new.frame [] ≡ tally (line_of c.args.self.run.now.root.now) c.args.self.most c.args.frame.now (nodes (steps_view (table_in c.args.self.run.now) c.args.rest.now) l u))) same c.push_each.ensures.told }
 
 pub push_rising-returns-in_err-push_steps : goal.push_rising-returns-in_err-push_steps
 push_rising-returns-in_err-push_steps t c =
-    record { adds = adds_more c.loop-next.invariant.goes.adds c.in_err-push_steps.ensures.adds; kept = c.in_err-push_steps.ensures.kept; dead = c.in_err-push_steps.ensures.dead; told = search rules }
+    record { adds = adds_more c.loop-next.invariant.goes.adds c.in_err-push_steps.ensures.adds; kept = c.in_err-push_steps.ensures.kept; told = search rules }
 
 pub push_rising-loop-next-preserved : goal.push_rising-loop-next-preserved
 push_rising-loop-next-preserved t c =
@@ -330,7 +334,7 @@ pub push_found-returns-in-None : goal.push_found-returns-in-None
 push_found-returns-in-None t c =
     let u : Tree = (node_of c.args.self.run.now.root.now).tree in
     let ss : Segments = steps_view (table_in c.args.self.run.now) c.args.rest.now in
-    nothing_added c.args.self c.args.frame.now ss u _ c.requires.kept c.requires.dead (ap node_list c.in-None.is)
+    nothing_added c.args.self c.args.frame.now ss u _ c.requires.kept (ap node_list c.in-None.is)
 
 -- ---- slices that end, and where a walk begins
 
@@ -355,7 +359,7 @@ push_subtree-loop-place-init t c =
     let n : Cursor = c.args.node in
     let start = c.place-place.ensures.value in
     let zero : c.place-place.result - place_of n ≡ 0 = omega (arith, start) in
-    record { goes = begins c.args.self c.args.frame.now c.args.frame.now _ _ c.requires.kept c.requires.dead refl refl (ap (λ (k : ℕ). nodes ss (flat_map f (drop k (subtree (node_of n)))) u) zero) }
+    record { goes = begins c.args.self c.args.frame.now c.args.frame.now _ _ c.requires.kept refl refl (ap (λ (k : ℕ). nodes ss (flat_map f (drop k (subtree (node_of n)))) u) zero) }
 
 -- ---- what is asked of the root
 
@@ -402,62 +406,51 @@ push_where-returns-in-Once t c =
     let below : List Node = children (node_of c.args.node) in
     let told : (n : Node) → p n ≡ slot_truth run c.in-Once.position = λ n. ap (λ (x : Condition). truth (condition_view (table_in run) x) n u) c.in-Once.is ∙ once_told run c.in-Once.position n in
     let none : filter p below ≡ [] = filter_none p below (λ n. told n ∙ (sym c.in_ok-holds_once.ensures.value ∙ c.if-branch.false)) in
-    is_done (goes_lent c.holds_once.new.frame (begins c.args.self c.args.frame.now c.args.frame.now [] (nodes ss (filter p below) u) c.requires.kept c.requires.dead refl refl (sym (ap (λ (l : List Node). nodes ss l u) none ∙ no_nodes ss u))) c.in_ok-holds_once.ensures.lends) refl
+    is_done (goes_lent c.holds_once.new.frame (begins c.args.self c.args.frame.now c.args.frame.now [] (nodes ss (filter p below) u) c.requires.kept refl refl (sym (ap (λ (l : List Node). nodes ss l u) none ∙ no_nodes ss u))) c.in_ok-holds_once.ensures.lends) refl
 
 -- ---- slots
 
 pub find_at_root-prepare-requires : goal.find_at_root-prepare-requires
-find_at_root-prepare-requires t c = kept_in c.args.self.run.now c.in-Some.inner c.in-Some.ensures.run c.args.frame.now.answers.items c.requires
+find_at_root-prepare-requires t c = kept_in c.args.self.run.now c.in-Some.inner c.in-Some.ensures.run c.args.frame.now c.requires
 
 pub find_at_root-found_value-requires : goal.find_at_root-found_value-requires
 find_at_root-found_value-requires t c =
     let size = ap size_of_comparable c.in-Some.ensures.view in
-    (omega (arith, size, c.decreases), record { line = refl; kept = c.in_ok-prepare.ensures.kept })
+    let known = c.in-Some.ensures.known in
+    (omega (arith, size, known, c.decreases), record { line = refl; kept = c.in_ok-prepare.ensures.kept })
 
 pub find_at_root-returns-clause-lends : goal.find_at_root-returns-clause-lends
 find_at_root-returns-clause-lends t c =
     let room = c.prepare.ensures in
-    lent_from c.args.self c.args.frame.now room.found room.count room.dead (lent_back c.args.self c.in-Some.ensures.run c.found_value.ensures.lends)
+    lent_from c.args.self c.args.frame.now room.found room.sum (lent_back c.args.self c.in-Some.ensures.run c.found_value.ensures.lends)
 
 pub find_at_root-returns-in_err-prepare-clause-lends : goal.find_at_root-returns-in_err-prepare-clause-lends
 find_at_root-returns-in_err-prepare-clause-lends t c =
     let room = c.prepare.ensures in
-    lent_room c.args.self c.args.frame.now c.prepare.new.frame c.from_residual.result (kept_back c.args.self.run.now c.in-Some.inner c.in-Some.ensures.run c.prepare.new.frame.answers.items room.kept) room.found room.count room.dead
+    lent_room c.args.self c.args.frame.now c.prepare.new.frame c.from_residual.result (kept_back c.args.self.run.now c.in-Some.inner c.in-Some.ensures.run c.prepare.new.frame room.kept) room.found room.sum
 
 pub holds_once-prepare-requires : goal.holds_once-prepare-requires
-holds_once-prepare-requires t c = kept_in c.args.self.run.now c.in-Some.inner c.in-Some.ensures.run c.args.frame.now.answers.items c.requires
+holds_once-prepare-requires t c = kept_in c.args.self.run.now c.in-Some.inner c.in-Some.ensures.run c.args.frame.now c.requires
 
 pub holds_once-passes_any-requires : goal.holds_once-passes_any-requires
 holds_once-passes_any-requires t c =
     let size = ap size_of_logical c.in-Some.ensures.view in
-    (omega (arith, size, c.decreases), record { line = refl; kept = c.in_ok-prepare.ensures.kept })
+    let known = c.in-Some.ensures.known in
+    (omega (arith, size, known, c.decreases), record { line = refl; kept = c.in_ok-prepare.ensures.kept })
 
 pub holds_once-returns-in_err-truth-clause-lends : goal.holds_once-returns-in_err-truth-clause-lends
 holds_once-returns-in_err-truth-clause-lends t c =
     let room = c.prepare.ensures in
-    let lent = lent_from c.args.self c.args.frame.now room.found room.count room.dead (lent_back c.args.self c.in-Some.ensures.run c.in_err-truth.ensures.lends) in
-    record { adds = lent.adds; kept = lent.kept; dead = lent.dead; same = search rules; count = search rules }
+    let lent = lent_from c.args.self c.args.frame.now room.found room.sum (lent_back c.args.self c.in-Some.ensures.run c.in_err-truth.ensures.lends) in
+    record { adds = lent.adds; kept = lent.kept; same = search rules; sum = search rules }
 
 pub holds_once-returns-in_err-prepare-clause-lends : goal.holds_once-returns-in_err-prepare-clause-lends
 holds_once-returns-in_err-prepare-clause-lends t c =
     let room = c.prepare.ensures in
-    lent_room c.args.self c.args.frame.now c.prepare.new.frame c.from_residual.result (kept_back c.args.self.run.now c.in-Some.inner c.in-Some.ensures.run c.prepare.new.frame.answers.items room.kept) room.found room.count room.dead
+    lent_room c.args.self c.args.frame.now c.prepare.new.frame c.from_residual.result (kept_back c.args.self.run.now c.in-Some.inner c.in-Some.ensures.run c.prepare.new.frame room.kept) room.found room.sum
 
 pub holds_once-keep_at-requires-clause-kept : goal.holds_once-keep_at-requires-clause-kept
 holds_once-keep_at-requires-clause-kept t c = (lent_back c.args.self c.in-Some.ensures.run c.in_ok-truth.ensures.lends).kept
-
-pub holds_known-passes_any-requires : goal.holds_known-passes_any-requires
-holds_known-passes_any-requires t c =
-    let size = ap size_of_logical c.in-Some-test_at.ensures.view in
-    (omega (arith, size, c.decreases), frame_in c.args.node c.args.frame.now c.in-Some-test_at.ensures.run c.requires.line c.requires.kept)
-
-pub holds_known-returns-in_err-truth-clause-lends : goal.holds_known-returns-in_err-truth-clause-lends
-holds_known-returns-in_err-truth-clause-lends t c =
-    let lent = lent_back c.args.self c.in-Some-test_at.ensures.run c.in_err-truth.ensures.lends in
-    record { adds = lent.adds; kept = lent.kept; dead = lent.dead; same = search rules; count = search rules }
-
-pub holds_known-note_truth-requires-clause-kept : goal.holds_known-note_truth-requires-clause-kept
-holds_known-note_truth-requires-clause-kept t c = (lent_back c.args.self c.in-Some-test_at.ensures.run c.in_ok-truth.ensures.lends).kept
 
 pub sought_value-value_once-requires : goal.sought_value-value_once-requires
 sought_value-value_once-requires t c =
@@ -473,32 +466,6 @@ sought_value-returns-in-Once-clause-value t c =
     let u : Tree = (node_of c.args.self.run.now.root.now).tree in
     let seen = ap (λ (x : Sought). compared_value (sought_view (table_in run) x) n u) c.in-Once.is ∙ once_found run c.in-Once.position n in
     subst (λ (v : Option Value). IfOk c.value_once.result (λ x. IsValue x v)) (sym seen) c.value_once.ensures.value
-
--- ---- the value of the only node
-
-pub only_value-returns-clause-value : goal.only_value-returns-clause-value
-only_value-returns-clause-value t c =
-    let new = c.push_query.new.frame.found in
-    let before : ℕ = c.len-before.result in
-    let found : List Node = nodes (steps_view (table_in c.args.self.run.now) c.args.steps.now) (node_of c.args.node ∷ []) (node_of c.args.self.run.now.root.now).tree in
-    let old : length c.args.frame.now.found.items ≡ before = sym (c.len-before.ensures ∙ c.args.frame.now.found.ok.0) in
-    let size = c.args.frame.now.found.ok in
-    let small = c.args.frame.now.found.small in
-    let told = not_counted (before + 2) c.args.frame.now c.push_query.new.frame found (omega (arith, old, size, small)) c.in_ok-push_query.ensures.told in
-    let now : c.len.result ≡ length new.items = c.len.ensures ∙ new.ok.0 in
-    record {
-      sound = elim c.if-len-before.branch [
-        | only_value-then-len-before w ↦ ap is_sound_value w.value-is
-        | only_value-else-len-before w ↦ ap is_sound_value w.value-is
-      ];
-      value = elim c.if-len-before.branch [
-        | only_value-then-len-before w ↦
-            (ap value_view w.value-is
-            ∙ single_found _ c.args.frame.now.found.items new.items _ _ before found w.index.result.now c.in_ok-push_query.ensures.adds old told (sym now ∙ w.if-len-before.true) (sym w.index.ensures))
-        | only_value-else-len-before w ↦
-            (ap value_view w.value-is ∙ none_single _ c.args.frame.now.found.items new.items _ _ before found c.in_ok-push_query.ensures.adds old told (λ e. w.if-len-before.false (now ∙ e)))
-      ];
-    }
 
 -- ---- texts and patterns
 
@@ -521,7 +488,7 @@ passes_any-returns-in-Passes-clause-value t c =
 pub passes_once-returns-in-Some-Pattern-clause-value : goal.passes_once-returns-in-Some-Pattern-clause-value
 passes_once-returns-in-Some-Pattern-clause-value t c =
     let run : Run = c.args.self.run.now in
-    let kept = subst (λ (a : Answer). IsAnswer run (slice_get (table_in run) c.args.position) a) c.in-Some-Pattern.field-0-is c.in-Some-Pattern.ensures in
+    let kept = subst (λ (a : Answer). IsAnswer run c.args.frame.now.found.items (slice_get (table_in run) c.args.position) a) c.in-Some-Pattern.field-0-is c.in-Some-Pattern.ensures in
     let spelled = ap (λ (o : Option Pattern). option_map pattern_view o) c.deref.ensures ∙ kept in
     told c.read_passes.result (passing c.args.whole) _ (value_view c.args.text) (slot_value run c.args.position) spelled c.read_passes.ensures
 
@@ -584,33 +551,216 @@ passes_pattern-returns-in_ok-read-in-Found-clause-value t c =
     subst (λ (v : Bool). IfOk c.read_passes-in-Found.result (λ b. b ≡ v)) (ap₂ (in_pattern test) c.in_ok-text.ensures.value.value second)
     (told c.read_passes-in-Found.result test _ own _ c.in_ok-read-in-Found.ensures c.read_passes-in-Found.ensures)
 
--- ---- dead ends
+-- ---- steps
 
-pub push_selected-push_choices-requires : goal.push_selected-push_choices-requires
-push_selected-push_choices-requires t c =
+pub push_step-push_choices-requires : goal.push_step-push_choices-requires
+push_step-push_choices-requires t c =
     let table : Table = table_in c.args.self.run.now in
-    let size = ap (λ (x : ProgramStep). size_of_segment (step_view table x)) c.in-Child.is ∙ ap size_of_segment (child_is table c.in-Child.choices) in
+    let seen = ap (λ (x : ProgramStep). size_of_segments (step_view table x (steps_view table c.args.rest.now))) c.in-Child.is ∙ ap (λ (f : Onward). size_of_segments (f (steps_view table c.args.rest.now))) (child_is table c.in-Child.choices) in
     let same = ap (λ (l : List Choice). size_of_selectors (choices_view table l)) c.deref.ensures.value in
-    (omega (arith, size, same, c.decreases), record { line = c.requires.line; kept = c.requires.kept; dead = c.requires.dead; end = ends_next c.args.self.run.now.steps.now c.args.step.now c.args.rest.now c.requires.end })
+    (omega (arith, seen, same, c.decreases), c.requires)
 
-pub push_selected-push_subtree-requires : goal.push_selected-push_subtree-requires
-push_selected-push_subtree-requires t c =
+pub push_step-push_subtree-requires : goal.push_step-push_subtree-requires
+push_step-push_subtree-requires t c =
     let table : Table = table_in c.args.self.run.now in
-    let size = ap (λ (x : ProgramStep). size_of_segment (step_view table x)) c.in-Descendant.is ∙ ap size_of_segment (descendant_is table c.in-Descendant.choices) in
+    let seen = ap (λ (x : ProgramStep). size_of_segments (step_view table x (steps_view table c.args.rest.now))) c.in-Descendant.is ∙ ap (λ (f : Onward). size_of_segments (f (steps_view table c.args.rest.now))) (descendant_is table c.in-Descendant.choices) in
     let same = ap (λ (l : List Choice). size_of_selectors (choices_view table l)) c.deref-in-Descendant.ensures.value in
-    (omega (arith, size, same, c.decreases), record { line = c.requires.line; kept = c.requires.kept; dead = c.requires.dead; end = ends_next c.args.self.run.now.steps.now c.args.step.now c.args.rest.now c.requires.end })
+    (omega (arith, seen, same, c.decreases), c.requires)
 
-pub push_again-returns-then-is_dead_end : goal.push_again-returns-then-is_dead_end
-push_again-returns-then-is_dead_end t c =
-    let run : Run = c.args.self.run.now in
-    let none = nothing_there run c.args.node c.args.step.now c.args.rest.now c.requires.end (c.is_dead_end.ensures c.if-is_dead_end.true) in
-    is_done (begins c.args.self c.args.frame.now c.args.frame.now [] _ c.requires.kept c.requires.dead refl refl (sym none)) refl
+pub push_step-push_known-requires : goal.push_step-push_known-requires
+push_step-push_known-requires t c =
+    let table : Table = table_in c.args.self.run.now in
+    let seen = ap (λ (x : ProgramStep). size_of_segments (step_view table x (steps_view table c.args.rest.now))) c.in-Known.is ∙ ap (λ (f : Onward). size_of_segments (f (steps_view table c.args.rest.now))) (known_is table c.in-Known.position) in
+    (omega (arith, seen, c.decreases), c.requires)
 
-pub push_again-note_where_none-requires-clause-is : goal.push_again-note_where_none-requires-clause-is
-push_again-note_where_none-requires-clause-is t c e k more =
+pub push_slot-returns : goal.push_slot-returns
+push_slot-returns t c =
     let run : Run = c.args.self.run.now in
-    let new : Frame = c.push_selected.new.frame in
-    let found : List Node = nodes (steps_view (table_in run) c.args.rest.now) (segment_nodes (step_view (table_in run) c.args.step.now) (node_of c.args.node) (tree_in run)) (tree_in run) in
-    let old : c.len-found.result ≡ length c.args.frame.now.found.items = c.len-found.ensures ∙ c.args.frame.now.found.ok.0 in
-    is_dead run c.args.node c.args.step.now c.args.rest.now c.requires.end
-    (none_added c.args.self.most c.args.frame.now new found c.in_ok-push_selected.ensures.told (e ∙ old) k (omega (arith, old, more)))
+    let n : Node = node_of c.args.node in
+    let none : children n ≡ [] = sym c.first_child.ensures.nodes ∙ none_first c.first_child.result (c.is_none.ensures ∙ ap not c.if-is_none.true) in
+    is_done
+    (begins c.args.self c.args.frame.now c.args.frame.now [] (nodes (tail_at (table_in run) c.args.position) (n ∷ []) (node_of run.root.now).tree) c.requires.kept refl refl
+    (sym (slot_leaf run c.in-Some.inner c.args.position c.in-Some-Descendant-default.field-0-0-0 c.in-Some-Descendant-default.field-0-0.now c.in-Some.steps.now c.in-Some-Descendant-default.field-0-1.now n c.in-Some.ensures.run c.in-Some.ensures.view c.in-Some-Descendant-default.ensures.cases.0 c.in-Some-Descendant-default.field-0-0-is none)))
+    refl
+
+-- ---- sums
+
+pub count_nodes-returns-clause-value : goal.count_nodes-returns-clause-value
+count_nodes-returns-clause-value t c =
+    let run : Run = c.args.self.run.now in
+    counted_all (line_of run.root.now) 18446744073709551614 c.in_ok-sum.sum (reached run c.args.steps.now (node_of c.args.node ∷ [])) c.in_ok-sum.ensures.value c.if-sum-ge-COUNTED.false
+
+pub has_node-returns-clause-value : goal.has_node-returns-clause-value
+has_node-returns-clause-value t c =
+    let run : Run = c.args.self.run.now in
+    has_some (line_of run.root.now) c.in_ok-sum.field-0 (reached run c.args.steps.now (node_of c.args.node ∷ [])) c.in_ok-sum.ensures.value
+
+pub only_value-go_to-requires : goal.only_value-go_to-requires
+only_value-go_to-requires t c =
+    let run : Run = c.args.self.run.now in
+    let last : ℕ = c.in_ok-sum.sum.last in
+    let one = only_one (line_of run.root.now) c.in_ok-sum.sum (reached run c.args.steps.now (node_of c.args.node ∷ [])) c.in_ok-sum.ensures.value c.if-sum-eq1.true in
+    subst (λ (l : List ℕ). last < length (subtree (root_node (spelled l)))) (sym c.requires.line) (slice_get_within (subtree (root_node (spelled (line_of run.root.now)))) last one.0 one.1.0)
+
+pub only_value-returns-then-sum-eq1-clause-value : goal.only_value-returns-then-sum-eq1-clause-value
+only_value-returns-then-sum-eq1-clause-value t c =
+    let run : Run = c.args.self.run.now in
+    let last : ℕ = c.in_ok-sum.sum.last in
+    let line : List ℕ = line_of c.args.node in
+    let one = only_one (line_of run.root.now) c.in_ok-sum.sum (reached run c.args.steps.now (node_of c.args.node ∷ [])) c.in_ok-sum.ensures.value c.if-sum-eq1.true in
+    let there = subst (λ (l : List ℕ). slice_get (subtree (root_node (spelled l))) last ≡ Some one.0) (sym c.requires.line) one.1.0 in
+    let same : node_of c.go_to.result ≡ one.0 = same_node (subtree (root_node (spelled line))) last (node_of c.go_to.result) one.0 c.go_to.ensures.node there in
+    record { value = ap (λ (n : Node). Some (value_of n.tree)) same ∙ one.1.1; sound = refl }
+
+-- ---- slots that have steps
+
+pub push_slot-push_steps-requires : goal.push_slot-push_steps-requires
+push_slot-push_steps-requires t c =
+    let size = slot_size c.args.self.run.now c.in-Some.inner c.args.position c.in-Some.steps.now c.in-Some.ensures.view in
+    let known = c.in-Some.ensures.known in
+    (omega (arith, size, known, c.decreases), frame_in c.args.node c.args.frame.now c.in-Some.ensures.run c.requires.line c.requires.kept)
+
+pub push_slot-returns-2 : goal.push_slot-returns-2
+push_slot-returns-2 t c =
+    let n : Node = node_of c.args.node in
+    subst (λ (l : List Node). Pushes c.args.self c.args.frame.now c.push_steps.new.frame c.push_steps.result l)
+    (slot_reached c.args.self.run.now c.in-Some.inner c.args.position c.in-Some.steps.now (n ∷ []) c.in-Some.ensures.run c.in-Some.ensures.view)
+    (pushed_back c.args.self c.in-Some.ensures.run refl c.push_steps.ensures)
+
+pub push_parts-push_steps-requires : goal.push_parts-push_steps-requires
+push_parts-push_steps-requires t c =
+    let size = slot_size c.args.self.run.now c.in-Some.inner c.args.position c.in-Some.steps.now c.in-Some.ensures.view in
+    let known = c.in-Some.ensures.known in
+    (omega (arith, size, known, c.decreases), frame_in c.args.node c.args.frame.now c.in-Some.ensures.run c.requires.line c.requires.kept)
+
+pub push_parts-returns : goal.push_parts-returns
+push_parts-returns t c =
+    let n : Node = node_of c.args.node in
+    subst (λ (l : List Node). Pushes c.args.self c.args.frame.now c.push_steps.new.frame c.push_steps.result l)
+    (slot_reached c.args.self.run.now c.in-Some.inner c.args.position c.in-Some.steps.now (n ∷ []) c.in-Some.ensures.run c.in-Some.ensures.view)
+    (pushed_back c.args.self c.in-Some.ensures.run refl c.push_steps.ensures)
+
+pub push_parts-returns-in_err-push_choices : goal.push_parts-returns-in_err-push_choices
+push_parts-returns-in_err-push_choices t c =
+    let pushed = pushed_back c.args.self c.in-Some.ensures.run refl c.in_err-push_choices.ensures in
+    record { adds = pushed.adds; kept = pushed.kept; told = search rules }
+
+pub push_parts-push_below-requires : goal.push_parts-push_below-requires
+push_parts-push_below-requires t c =
+    let pushed = pushed_back c.args.self c.in-Some.ensures.run refl c.in_ok-push_choices.ensures in
+    (omega (arith, c.decreases), record { line = c.requires.line; kept = pushed.kept })
+
+pub push_noted-note-requires-clause-is : goal.push_noted-note-requires-clause-is
+push_noted-note-requires-clause-is t c =
+    let run : Run = c.args.self.run.now in
+    let line : List ℕ = line_of run.root.now in
+    let old : List Cursor = c.args.frame.now.found.items in
+    let new : List Cursor = c.push_parts.new.frame.found.items in
+    let ns : List Node = nodes (tail_at (table_in run) c.args.position) (node_of c.args.node ∷ []) (node_of run.root.now).tree in
+    listed_known line new c.args.self.most ns c.len-start.result c.len-end.result (is_all c.args.self.most c.if-self-eq-LISTED.true)
+    (range_behind line old new ns c.len-start.result c.len-end.result c.in_ok-push_parts.ensures.adds (listed_behind line c.args.self.most c.push_parts.new.frame (record { found = c.args.frame.now.found; sum = c.replace-outer.new.dest; answers = c.args.frame.now.answers; walked = c.args.frame.now.walked }) ns c.if-self-eq-LISTED.true c.in_ok-push_parts.ensures.told) (c.len-start.ensures ∙ c.args.frame.now.found.ok.0) (c.len-end.ensures ∙ c.push_parts.new.frame.found.ok.0))
+
+-- ---- below a node
+
+pub push_below-returns-then-has : goal.push_below-returns-then-has
+push_below-returns-then-has t c =
+    is_full c.loop-next.invariant.goes (c.has.ensures c.if-has.true)
+
+pub push_below-push_known-requires : goal.push_below-push_known-requires
+push_below-push_known-requires t c =
+    let child : Cursor = c.in-Some.child in
+    let further : place_of c.args.node < place_of child = subst (λ (o : Option Cursor). IfSome o (λ d. place_of c.args.node < place_of d)) c.in-Some.is c.loop-next.invariant.place in
+    let short : place_of child + length (subtree (node_of child)) < 4294967296 = after_short child in
+    (omega (arith, further, short, c.decreases), record { line = line_of_some _ child _ c.in-Some.is c.loop-next.invariant.line; kept = c.loop-next.invariant.goes.kept })
+
+pub push_below-returns-in_err-push_known : goal.push_below-returns-in_err-push_known
+push_below-returns-in_err-push_known t c =
+    record { adds = adds_more c.loop-next.invariant.goes.adds c.in_err-push_known.ensures.adds; kept = c.in_err-push_known.ensures.kept; told = search rules }
+
+place_behind : (o : Option Cursor) (k m n : ℕ) → k < m → IfSome o (λ d. place_of d ≡ m + n) → IfSome o (λ d. k < place_of d)
+place_behind None k m n h e = tt
+place_behind (Some d) k m n h e = omega (arith, h, e)
+
+pub push_below-loop-next-preserved : goal.push_below-loop-next-preserved
+push_below-loop-next-preserved t c =
+    let u : Tree = (node_of c.args.self.run.now.root.now).tree in
+    let ss : Segments = tail_at (table_in c.args.self.run.now) c.args.position in
+    let child : Cursor = c.in-Some.child in
+    let kept = c.loop-next.invariant in
+    let further : place_of c.args.node < place_of child = subst (λ (o : Option Cursor). IfSome o (λ d. place_of c.args.node < place_of d)) c.in-Some.is kept.place in
+    record {
+      goes = others_are (nodes ss (nodes_from c.next_sibling-next.result) u) (ap (λ (l : List Node). nodes ss l u) (sym c.next_sibling-next.ensures.nodes))
+          (goes_past c.push_known.new.frame ss u (node_of child ∷ []) (nodes_after child)
+          (others_are (nodes ss (nodes_from (Some child)) u) (ap (λ (o : Option Cursor). nodes ss (nodes_from o) u) c.in-Some.is) kept.goes)
+          c.in_ok-push_known.ensures);
+      line = line_on c.next_sibling-next.result _ _ c.next_sibling-next.ensures.line (line_of_some _ child _ c.in-Some.is kept.line);
+      place = place_behind c.next_sibling-next.result (place_of c.args.node) (place_of child) (length (subtree (node_of child))) further c.next_sibling-next.ensures.place;
+    }
+
+pub push_below-returns : goal.push_below-returns
+push_below-returns t c =
+    let u : Tree = (node_of c.args.self.run.now.root.now).tree in
+    let ss : Segments = tail_at (table_in c.args.self.run.now) c.args.position in
+    is_done c.loop-next.invariant.goes (ap (λ (o : Option Cursor). nodes ss (nodes_from o) u) c.in_default.is ∙ no_nodes ss u)
+
+pub push_step-returns-in-Descendant : goal.push_step-returns-in-Descendant
+push_step-returns-in-Descendant t c =
+    let run : Run = c.args.self.run.now in
+    let table : Table = table_in run in
+    let u : Tree = (node_of run.root.now).tree in
+    let n : Node = node_of c.args.node in
+    let ss : Segments = steps_view table c.args.rest.now in
+    let all = c.in-Descendant.choices in
+    let seen = ap (λ (x : ProgramStep). nodes (step_view table x ss) (n ∷ []) u) c.in-Descendant.is
+    ∙ (ap (λ (f : Onward). nodes (f ss) (n ∷ []) u) (descendant_is table all)
+    ∙ (from_one (syntax.descendant_segment (choices_view table all.items)) ss n u
+    ∙ ap (λ (l : List Choice). nodes ss (flat_map (λ (d : Node). selected (choices_view table l) d u) (subtree n)) u) (sym c.deref-in-Descendant.ensures.value))) in
+    subst (λ (l : List Node). Pushes c.args.self c.args.frame.now c.push_subtree.new.frame c.push_subtree.result l) (sym seen) c.push_subtree.ensures
+
+-- ---- a slot that begins with a descendant segment
+
+pub push_parts-push_choices-requires : goal.push_parts-push_choices-requires
+push_parts-push_choices-requires t c =
+    let run : Run = c.args.self.run.now in
+    let inner : Run = c.in-Some.inner in
+    let all = c.in-Some-Descendant-default.choices in
+    let rest : List ProgramStep = c.in-Some-Descendant-default.rest.now in
+    let are = c.in-Some-Descendant-default.ensures.cases.0 ∙ ap (λ (x : ProgramStep). x ∷ rest) c.in-Some-Descendant-default.field-0-0-is in
+    let view = c.in-Some.ensures.view ∙ ap (steps_view (table_in inner)) are in
+    let same = c.deref.ensures.value ∙ ap (λ (v : Vec Choice Global). v.items) c.in-Some-Descendant-default.choices-is in
+    let size = below_size run inner c.args.position all c.deref.result.now rest view same in
+    let known = c.in-Some.ensures.known in
+    (omega (arith, size, known, c.decreases), frame_in c.args.node c.args.frame.now c.in-Some.ensures.run c.requires.line c.requires.kept)
+
+pub push_parts-returns-in-Some-Descendant-default : goal.push_parts-returns-in-Some-Descendant-default
+push_parts-returns-in-Some-Descendant-default t c =
+    let run : Run = c.args.self.run.now in
+    let inner : Run = c.in-Some.inner in
+    let all = c.in-Some-Descendant-default.choices in
+    let rest : List ProgramStep = c.in-Some-Descendant-default.rest.now in
+    let are = c.in-Some-Descendant-default.ensures.cases.0 ∙ ap (λ (x : ProgramStep). x ∷ rest) c.in-Some-Descendant-default.field-0-0-is in
+    let view = c.in-Some.ensures.view ∙ ap (steps_view (table_in inner)) are in
+    let same = c.deref.ensures.value ∙ ap (λ (v : Vec Choice Global). v.items) c.in-Some-Descendant-default.choices-is in
+    subst (λ (l : List Node). Pushes c.args.self c.args.frame.now c.push_below.new.frame c.push_below.result l)
+    (slot_below run inner c.args.position all c.deref.result.now rest (node_of c.args.node) c.in-Some.ensures.run view same)
+    (both_pushed c.push_below.result (pushed_back c.args.self c.in-Some.ensures.run refl c.in_ok-push_choices.ensures) c.push_below.ensures)
+
+-- ---- where no step is left
+
+pub push_steps-returns : goal.push_steps-returns
+push_steps-returns t c =
+    let run : Run = c.args.self.run.now in
+    let u : Tree = (node_of run.root.now).tree in
+    let n : Node = node_of c.args.node in
+    let old : Frame = c.args.frame.now in
+    let new : Frame = c.add.new.self in
+    let most : ℕ = c.args.self.most in
+    let none = no_item c.args.steps.now c.in_default.ensures.cases in
+    let found : n ∷ [] ≡ nodes (steps_view (table_in run) c.args.steps.now) (n ∷ []) u = sym (ap (λ (l : List ProgramStep). nodes (steps_view (table_in run) l) (n ∷ []) u) none) in
+    let adds = subst (λ (l : List ℕ). Adds l old.found.items new.found.items) c.requires.line c.add.ensures.adds in
+    record {
+      adds = adds;
+      kept = subst (λ (v : Vec (Option Answer) Global). AreKept run new.found.items v.items) (sym c.add.ensures.answers) (kept_grown run old.found.items new.found.items old.answers.items (line_of run.root.now) adds c.requires.kept);
+      told = subst (λ (l : List Node). OnOk c.add.result (tally (line_of run.root.now) most new [] ≡ tally (line_of run.root.now) most old l)) found
+          (subst (λ (l : List ℕ). OnOk c.add.result (tally l most new [] ≡ tally l most old (n ∷ []))) c.requires.line c.add.ensures.told);
+    }

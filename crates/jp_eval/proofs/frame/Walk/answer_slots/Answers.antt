@@ -7,16 +7,16 @@ pub loop-position-init : goal.loop-position-init
 loop-position-init c =
     let room = c.in_ok-prepare.ensures in
     let same = ap (λ v. v.items) room.found in
-    record { adds = adds_none _ _ _ same; kept = room.kept; dead = room.dead; found = same; count = room.count }
+    record { adds = adds_none _ _ _ same; kept = room.kept; found = same; sum = room.sum }
 
 pub loop-position-preserved : goal.loop-position-preserved
 loop-position-preserved c =
     let kept = c.loop-position.invariant in
     let lent = c.in_ok-answer_slot.ensures in
-    record { adds = adds_more kept.adds lent.adds; kept = lent.kept; dead = lent.dead ∙ kept.dead; found = lent.same ∙ kept.found; count = lent.count ∙ kept.count }
+    record { adds = adds_more kept.adds lent.adds; kept = lent.kept; found = lent.same ∙ kept.found; sum = lent.sum ∙ kept.sum }
 
 pub returns-in_err-answer_slot : goal.returns-in_err-answer_slot
 returns-in_err-answer_slot c =
     let kept = c.loop-position.invariant in
     let lent = c.in_err-answer_slot.ensures in
-    record { adds = adds_more kept.adds lent.adds; kept = lent.kept; dead = lent.dead ∙ kept.dead; same = search rules; count = search rules }
+    record { adds = adds_more kept.adds lent.adds; kept = lent.kept; same = search rules; sum = search rules }
