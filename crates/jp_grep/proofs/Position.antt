@@ -168,15 +168,6 @@ cut_closed framing came held front rest answered true h at =
     ∙ sym (ap (λ ls. ls ++ lines_in framing (without_byte_order_mark (held ++ front))) at.none)
 cut_closed framing came held front rest answered false h at = (behind_more framing came held front rest answered h at).closed
 
--- the front of a stream that is held goes on as lines, and no line ends in it
-pub front_goes : (framing : Framing) (came held : List ℕ) (answered : List (List ℕ)) (first : Bool) → IsAt framing came held answered first → first ≡ true → MayGoOn framing held
-front_goes framing came held answered true at e = subst (λ l. MayGoOn framing l) (sym at.same) at.front
-front_goes framing came held answered false at e = absurd (cc)
-
-pub front_unended : (framing : Framing) (came held : List ℕ) (answered : List (List ℕ)) (first : Bool) → IsAt framing came held answered first → first ≡ true → HasNoEnd framing held
-front_unended framing came held answered true at e = subst (λ l. HasNoEnd framing l) (sym at.same) at.unended
-front_unended framing came held answered false at e = absurd (cc)
-
 -- the stream ended, and its front is framed
 pub ends_as_lines : (framing : Framing) (came held : List ℕ) (answered : List (List ℕ)) (first : Bool) → IsAt framing came held answered first → (first ≡ true → is_framed framing held ≡ true) → IsOfLines framing came
 ends_as_lines framing came held answered first at framed = record {

@@ -61,13 +61,6 @@ none_selected (query ∷ rest) t e =
     ∙ ap (λ ns. ns ++ nodes_of rest t) (none_there (selected_by query t) (first_false some (selects rest t) e))
     ∙ none_selected rest t (second_false some (selects rest t) e)
 
--- where nodes are asked for, whether there is one decides
-pub found_wanted : (w : Wanted) (holds some : Bool) → wants_nodes_where w holds (holds && some) ≡ true → wants_found w some ≡ wants_value w (holds && some)
-found_wanted wanted.Matching true some asked = refl
-found_wanted wanted.Matching false some asked = absurd (cc)
-found_wanted wanted.Others holds some asked = sym asked
-found_wanted wanted.Refused holds some asked = absurd (cc)
-
 -- where nodes are asked for, no row is left out, whether some is selected or none
 pub wanted_rows : (w : Wanted) (holds some : Bool) (rows : List ℕ) → (some ≡ false → rows ≡ []) → wants_nodes_where w holds (holds && some) ≡ true
     → (if wants_value w (holds && some) then rows else []) ≡ rows
