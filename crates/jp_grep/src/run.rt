@@ -189,6 +189,17 @@ impl<'q, W: Write + Drop, E: Write + Drop> Run<'q, W, E> {
             × (self.new.selected ≡ self.old.selected) }
     {
         self.failed = true;
+        self.flush_messages();
+    }
+
+    /// Flushes the messages so far, so that the caller can tell something behind them.
+    pub fn flush_messages(&mut self)
+        ensures messages { (filled self.new.messages.device).taken ≡ (filled self.old.messages.device).taken }
+        ensures flushed { self.new.messages.failed ≡ false → self.new.messages.unflushed ≡ false }
+        ensures after { self.new.messages.after ≡ self.old.messages.after }
+        ensures same { (self.new.rows ≡ self.old.rows) × (self.new.question ≡ self.old.question) × (self.new.quiet ≡ self.old.quiet)
+            × (self.new.selected ≡ self.old.selected) × (self.new.failed ≡ self.old.failed) }
+    {
         if !self.messages.failed() {
             let _ = flush_written(&mut self.messages);
         }

@@ -1,9 +1,11 @@
 //! The files in turn.
 
 use crate::foreign::foreign_message;
+use crate::opening::Looking;
 use crate::output::{Output, RegularFile};
+use crate::shell::shell_word;
 use jp_devices::StandardInput;
-use jp_grep::{Finished, Format, Input, Question, Run, SearchFault, Shown, Summary};
+use jp_grep::{Finished, Format, Framing, Input, Question, Run, SearchFault, Shown, Summary};
 use jp_model::Watched;
 use jp_options::Options;
 use std::alloc::AllocError;
@@ -72,6 +74,9 @@ const IS_DIRECTORY: &str = "cannot read: is a directory";
 /// What is said of the file that the rows go to: it would be read without end.
 const IS_OUTPUT: &str = "input file is also the output";
 
+/// What is said of a file whose first line begins a JSON text that goes on in the next one.
+const GOES_ON: &str = "a JSON text goes on in the next line; make one line of each first";
+
 /// How the standard input is named.
 const STANDARD_INPUT: &str = "(standard input)";
 
@@ -120,13 +125,32 @@ impl<'q> Searcher<'q> {
         }
     }
 
+    /// Tells that the first line of a file begins a JSON text that goes on in the next one, unless nothing is printed.
+    fn hint(&mut self, name: &str) {
+        if self.options.quiet || self.options.refused || !self.run.is_open() {
+            return;
+        }
+        self.run.flush_messages();
+        if name == STANDARD_INPUT {
+            let _ = eprintln!(self.rt; "jpgrep: {name}: {GOES_ON}: jq -c . | jpgrep ..");
+        } else if let Ok(file) = shell_word(self.rt.alloc(), name) {
+            let _ = eprintln!(self.rt; "jpgrep: {name}: {GOES_ON}: jq -c . {file} | jpgrep ..");
+        }
+    }
+
     /// Searches an open file.
     fn search<R: Read + Drop>(&mut self, name: &str, input: R) -> Next {
         if !self.run.is_open() {
             return Next::Stop;
         }
         let form = self.options.form(name);
-        match self.run.search(&form, &mut Input::new(Watched::new(input))) {
+        let mut input = Input::new(Watched::new(Looking::new(input)));
+        let found = self.run.search(&form, &mut input);
+        let opening = input.into_reader().into_inner().opening();
+        if opening.goes_on() && form.framing == Framing::Lines {
+            self.hint(name);
+        }
+        match found {
             Ok(_) if self.run.is_decided() => Next::Stop,
             Ok(_) => Next::GoOn,
             Err(SearchFault::Write | SearchFault::Report) => Next::Stop,

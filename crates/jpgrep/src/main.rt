@@ -7,6 +7,7 @@ mod files;
 mod foreign;
 mod help;
 mod note;
+mod opening;
 mod output;
 mod patterns;
 mod refusal;
