@@ -38,6 +38,7 @@ RUNS = [
     (["--seq", "-n", "$.level", "-", "sequence"], SEQUENCE),
     (["-r", "$.level", "lines"], b""),
     (["-j", "-o", "$", "lines"], b""),
+    (["-o", "-p", "-e", "$.deep..*..*[?@..*..*]..*", "-e", "$..[?count(@..*..*)>2]..*..[?value(@..*..*)==0]", "lines"], b""),
     (["--csv", "--header", "-n", "-H", "-e", "$.level", "-e", "$.ms", "-e", "$.tags", "-e", "$.deep", "-e", "$.long", "lines"], b""),
     (["--tsv", "--header", "-e", "$", "lines"], b""),
     (["--refused", "-n", "-p", "lines", "-"], b"{\n" * 3 + LINES),

@@ -437,8 +437,8 @@ def counts_of_many_nodes(checks):
 
 def nodes_met_again(checks):
     """What a query selects from a node by a second way is not looked for again, by however many ways they come to it: where the nodes
-    are listed, where they are counted, and where one decides. A stack of three megabytes is enough for it."""
-    limit = lambda: resource.setrlimit(resource.RLIMIT_STACK, (3 * 2**20, 3 * 2**20))
+    are listed, where they are counted, and where one decides. A stack of two megabytes is enough for it."""
+    limit = lambda: resource.setrlimit(resource.RLIMIT_STACK, (2 * 2**20, 2 * 2**20))
 
     def asked(line, query):
         lines, script = file_of("lines", line + "\n"), file_of("script", f"query {query}\n")

@@ -20,7 +20,7 @@ use jp_syntax::Segment;
 use std::alloc::{AllocError, Global};
 
 /// A compiled query: segments, with all that is the same for each line found beforehand. Each query from the root within its
-/// filters has a slot, so that it is answered once a line, where a filter asks for it at all.
+/// filters has a slot, so that it is answered once a line, and so have its last steps where a second way may lead to a node.
 #[derive(Drop)]
 pub struct Program {
     pub(crate) slots: Vec<Slot>,

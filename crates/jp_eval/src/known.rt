@@ -92,8 +92,8 @@ impl<'r, 'a> Walk<'r, 'a> {
         frame.count(own)
     }
 
-    /// Adds what the steps of the slot at a position select from a node. Where they go to all below it, what they select from its
-    /// children is known or becomes so.
+    /// Adds what the steps of the slot at a position select from a node. Where they go to all below it, what they select from
+    /// its children is known or becomes so.
     #[cycle(eval)]
     #[inline(always)]
     fn push_parts(self, node: Cursor<'a>, position: usize, frame: &mut Frame<'a>) -> Result<()>

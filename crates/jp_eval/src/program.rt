@@ -121,8 +121,8 @@ pub(crate) enum Found {
     Value(Vec<Step>),
 }
 
-/// What is asked once: of the root, once in a line, or which nodes steps select, once from a node. It refers only to slots before
-/// it.
+/// What is asked once: of the root, once in a line, or which nodes steps select, once from a node. It refers only to slots
+/// before it.
 #[derive(Drop)]
 pub(crate) enum Slot {
     /// Whether a test holds of the root.

@@ -129,8 +129,8 @@ impl<'p, 'a> Run<'p, 'a> {
         }
     }
 
-    /// Whether the steps of the slot at a position are taken from a node without a note: it is below none that they were taken from
-    /// so, as most nodes are met once, or is soon walked again.
+    /// Whether the steps of the slot at a position are taken from a node without a note: it is below none that they were taken
+    /// from so, as most nodes are met once, or is soon walked again.
     pub(crate) fn takes_no_note(
         self,
         position: usize,
