@@ -158,7 +158,7 @@ def own_messages(room):
 def failed_read(room):
     """A read that fails behind eleven refused lines: that of a terminal whose other side was closed."""
     master, terminal = pty.openpty()
-    os.write(terminal, b"{\n" * 11)
+    os.write(terminal, b"}\n" * 11)
     os.close(terminal)
     run = subprocess.run([PROGRAM, "-c", "$"], cwd=room, stdin=master, capture_output=True, timeout=SECONDS)
     os.close(master)
@@ -255,7 +255,7 @@ def beside_jpq(room):
     dice = random.Random(9535)
     for number in range(300):
         lines = [json.dumps(random_value(dice, 4), ensure_ascii=dice.random() < 0.5) for _ in range(dice.randrange(1, 7))]
-        lines += dice.sample(("", " ", "{", "[1,]", '{"a":1,"a":2}'), dice.randrange(3))
+        lines += dice.sample(("", " ", "}", "[1,]", '{"a":1,"a":2}'), dice.randrange(3))
         dice.shuffle(lines)
         pathlib.Path(room, "lines").write_bytes("".join(line + "\n" for line in lines).encode())
         query = "$" + "".join(dice.choice(SEGMENTS) for _ in range(dice.choice((0, 1, 1, 1, 2, 2, 3))))
