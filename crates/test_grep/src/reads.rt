@@ -2,7 +2,7 @@
 
 use super::devices::{Behind, Pieces, Taking};
 use jp_grep::{
-    Form, Format, Framing, Input, Question, SearchFault, Shown, Spelling, Summary, search,
+    Form, Format, Framing, Input, Question, SearchFault, Shown, Spelling, Summary, Wanted, search,
 };
 use jp_model::Watched;
 use jp_query::{Refusal, read_query};
@@ -23,7 +23,7 @@ struct Ended {
 
 /// The question whether a line has a member `a`.
 fn question(alloc: Global) -> Result<Question, AllocError> {
-    let mut question = Question::new(alloc, false);
+    let mut question = Question::new(alloc, Wanted::Matching);
     match read_query(alloc, b"$.a") {
         Ok(query) => question.add_query(alloc, &query)?,
         Err(Refusal::Memory | Refusal::Fault(_)) => return Err(AllocError),
@@ -42,7 +42,7 @@ fn searched(
     let question = question(alloc)?;
     let form = Form {
         framing,
-        shown: Shown::Line,
+        shown: Shown::Line { faults: false },
         spelling: Spelling::Source,
         summary: Summary::Nothing,
         name: "x",
