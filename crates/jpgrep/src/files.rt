@@ -147,10 +147,11 @@ impl<'q> Searcher<'q> {
         let mut input = Input::new(Watched::new(Looking::new(input)));
         let found = self.run.search(&form, &mut input);
         let opening = input.into_reader().into_inner().opening();
-        // Without memory the line may have come and not be refused yet.
-        let is_judged = !matches!(&found, Err(SearchFault::Memory));
-        if is_judged && opening.goes_on() && form.framing == Framing::Lines {
-            self.hint(name);
+        match &found {
+            // The line may have come and not be refused yet.
+            Err(SearchFault::Memory) => {}
+            _ if opening.goes_on() && form.framing == Framing::Lines => self.hint(name),
+            _ => {}
         }
         match found {
             Ok(_) if self.run.is_decided() => Next::Stop,
