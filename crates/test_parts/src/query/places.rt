@@ -65,7 +65,7 @@ fn places_of_syntax(rt: HostRuntime) {
         ("$.items[?@.price = 90]", 17, Expected::ComparisonOrBracket),
         ("$[?@.a =", 8, Expected::ComparisonOrBracket),
         ("$[?@.a == 1 = 2]", 12, Expected::Bracket),
-        ("$[?@.* == 1]", 7, Expected::Bracket),
+        ("$[?@.* == 1]", 7, Expected::SingularQuery),
         ("$[?(@.a]", 7, Expected::ComparisonOrParenthesis),
         ("$[?(@.a == 1]", 12, Expected::Parenthesis),
         ("$[?@.a == ]", 10, Expected::Operand),
