@@ -10,7 +10,7 @@ framing_of zero = Some framings.Lines
 framing_of (suc zero) = Some framings.Sequence
 framing_of (suc (suc n)) = None
 
--- how scripts are run over a collection with this framing and at most so many bytes
+-- how scripts are run over a collection with this framing and at most `most` bytes
 abbrev pub setup_of : Framing → ℕ → Setup
 setup_of framing most = record { framing = framing; most = most; script_most = 4294967295 }
 

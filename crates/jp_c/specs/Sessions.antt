@@ -77,7 +77,7 @@ KeepsCollection (Some old) (Some new) = new.collection ≡ old.collection
 KeepsCollection (Some old) None = ⊥
 KeepsCollection None new = new ≡ None
 
--- so many of the bytes that are left are at the front of the room, and the others are left
+-- the first `count` of the bytes that were left are at the front of the room, and the others are left
 abbrev pub IsRead : ℕ → Option Session → Option Session → List ℕ → List ℕ → Type 0
 IsRead count old new before after = (count ≡ min (length (left_of old)) (length before)) × (after ≡ take count (left_of old) ++ drop count before)
     × (left_of new ≡ drop count (left_of old)) × KeepsCollection old new

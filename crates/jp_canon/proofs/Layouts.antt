@@ -25,7 +25,7 @@ some_fraction : (ds : List ℕ) → 0 < length ds → fraction_bytes ds ≡ 0x2E
 some_fraction [] l = absurd (omega (arith, l))
 some_fraction (d ∷ ds) l = refl
 
--- so many digits before the point, or zeros in place of those that are missing
+-- the first `n` digits before the point, and zeros in place of those that are missing
 pub point_inside : (s : List ℕ) (n : ℕ) → 0 < n → n ≤ 21 → (take n s ++ zeros (n - length s)) ++ fraction_bytes (drop n s) ≡ with_point s (pos n)
 point_inside s n some few = elim (cases_lt n (length s)) [
   | inl more ↦

@@ -108,7 +108,7 @@ trimmed (d ∷ ds) z h =
 
 -- ---- the text of a size and of a number
 
--- The digits, of which neither the first nor the last is a zero, with so many zeros behind them are those of the mantissa.
+-- The digits, where neither the first nor the last is a zero, with `z` zeros after them are those of the mantissa.
 pub size_is : (ds : List ℕ) (m z : ℕ) (e power : ℤ) → list_all is_digit ds ≡ true → get_or ds 0 0x30 ≢ 0x30 → get_or ds (length ds - 1) 0x30 ≢ 0x30 → m ≡ digits_value ds * 10 ^ z → e +ℤ pos z ≡ power -ℤ pos (length ds) → with_point ds power ≡ size_text m e
 size_is ds m z e power a first last is scale =
     let front : get_or (ds ++ zeros z) 0 0x30 ≡ get_or ds 0 0x30 = get_or_append_left ds (zeros z) 0x30 0 (some_digits ds first) in

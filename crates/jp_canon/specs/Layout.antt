@@ -9,7 +9,7 @@ use Rattle.jp_model.specs.Json.Numbers.{fraction_bytes}
 abbrev pub whole_text : ℕ → List ℕ
 whole_text n = if n == 0 then 0x30 ∷ [] else map (λ digit. 0x30 + digit) (digits_of 10 n)
 
--- so many zeros
+-- a given number of zeros
 abbrev pub zeros : ℕ → List ℕ
 zeros count = replicate count 0x30
 

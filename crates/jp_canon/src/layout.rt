@@ -9,13 +9,13 @@ use itoa::Buffer;
 use jp_decimal::{Decimal, DecimalKey, KeySize};
 use std::alloc::{AllocError, Global};
 
-/// The point stands at most so many places behind the front of the digits. Beyond that a number has an exponent.
+/// The point stands at most this number of places after the front of the digits. Beyond that a number has an exponent.
 const MOST_PLACES: i64 = 21;
 
 /// The point stands at least at this place: at most five zeros are between it and the digits.
 const LEAST_PLACES: i64 = -5;
 
-/// Appends so many zeros.
+/// Appends `count` zeros.
 fn append_zeros(count: usize, text: &mut Vec<u8>) -> Result<(), AllocError>
     ensures { OnOk result (text.new.items ≡ text.old.items ++ zeros count) }
 {
@@ -36,7 +36,7 @@ fn append_fraction(digits: &[u8], text: &mut Vec<u8>) -> Result<(), AllocError>
     text.extend_from_slice(digits)
 }
 
-/// Appends the exponent of a number whose point is so many places behind the front of its digits. It counts from behind the
+/// Appends the exponent of a number whose point is `places` places after the front of its digits. It counts from after the
 /// first digit, and so is one less.
 fn append_exponent(places: i64, text: &mut Vec<u8>) -> Result<(), AllocError>
     ensures { OnOk result (text.new.items ≡ text.old.items ++ exponent_text (places -ℤ pos 1)) }
@@ -63,7 +63,7 @@ fn append_scientific(digits: &[u8], places: i64, text: &mut Vec<u8>) -> Result<(
     append_exponent(places, text)
 }
 
-/// Appends digits with so many of them before the point, or with zeros in place of those that are missing.
+/// Appends digits with the first `places` of them before the point, and zeros in place of those that are missing.
 fn append_with_places(digits: &[u8], places: usize, text: &mut Vec<u8>) -> Result<(), AllocError>
     ensures { OnOk result (text.new.items ≡ text.old.items ++ (take places digits.now ++ zeros (places - length digits.now) ++ fraction_bytes (drop places digits.now))) }
 {

@@ -67,7 +67,7 @@ pub fn normal(count: u32, index: i64) -> i64
     }
 }
 
-/// The sibling that so many come before, from the first on.
+/// The sibling that `count` siblings come before, from `first` on.
 pub fn skip_siblings(first: Option<Cursor<'_>>, count: u32) -> Option<Cursor<'_>>
     ensures at { (parent : Node) (index : ℕ) → IsAt parent index first.entry → IsAt parent (index + count) result }
     ensures line { (line : List ℕ) → IfSome first.entry (λ c. line_of c ≡ line) → IfSome result (λ c. line_of c ≡ line) }
@@ -125,7 +125,7 @@ fn is_on_stride(start: i64, step: i64, index: i64) -> bool
     rest <= 0 && 0 <= rest
 }
 
-/// Whether a slice with a step below 0 of an array of so many elements has the element of an index (RFC 9535, section
+/// Whether a slice with a step below 0 of an array of `count` elements has the element at `index` (RFC 9535, section
 /// 2.3.4.2.2).
 fn has_downward(count: u32, first: Option<i64>, last: Option<i64>, step: i64, index: u32) -> bool
     requires { step ≢ pos 0 }
@@ -185,7 +185,7 @@ impl Rising {
         low <= index && index < high && is_on_stride(low, step, index)
     }
 
-    /// Whether the child, before which so many come, is one of them.
+    /// Whether `child`, before which `index` children come, is one of them.
     pub fn has(self, child: Cursor<'_>, index: u32) -> bool
         ensures { result ≡ is_index (rises self.low self.high self.step) (step_to index (name_of child.entry)) }
     {
@@ -193,7 +193,7 @@ impl Rising {
     }
 }
 
-/// Whether a slice with a step below 0 selects the child, before which so many of so many come.
+/// Whether a slice with a step below 0 selects `child`, one of `count` children, before which `index` of them come.
 fn has_falling(child: Cursor<'_>, count: u32, slice: Slice, index: u32) -> bool
     requires { slice.step ≢ pos 0 }
     ensures { result ≡ is_index (downward count slice.first slice.last slice.step) (step_to index (name_of child.entry)) }

@@ -44,7 +44,7 @@ abbrev pub opened_by : Setup → State → QueryStatus → ℕ
 opened_by setup state (refused_query fault) = 0
 opened_by setup state (query q) = length (opened q state.paths (statuses setup.framing state.lines))
 
--- So many lines were opened and counted, or where a growth was refused no more than those.
+-- `lines` lines were opened and counted, or no more than those where a growth was refused.
 abbrev pub Adds : Bool → ℕ → ℕ → ℕ → Type 0
 Adds false lines old new = new ≡ old + lines
 Adds true lines old new = (old ≤ new) × (new ≤ old + lines)
@@ -80,7 +80,7 @@ module _ (query_of : List ℕ → QueryStatus) (asked : List ℕ → Command) wh
   AddInTurn setup state (line ∷ lines) (starved ∷ flags) old new = (mid : ℕ) × Adds starved (opens query_of setup state (asked line)) old mid
       × AddInTurn setup (step_unless query_of starved setup state (asked line)).after lines flags mid new
 
-  -- These command lines may answer this text, leave this state, and open so many lines.
+  -- These command lines may answer `text`, and leave the state and the number of opened lines in `new`.
   pub record MayAnswer (setup : Setup) (old : Progress) (commands : List (List ℕ)) (text : List ℕ) (new : Progress) : Type 0 where
     pub flags : List Bool
     pub each : length flags ≡ length commands

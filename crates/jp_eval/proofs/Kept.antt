@@ -30,7 +30,7 @@ adds_more {line} {old} {mid} {new} a b = record {
 
 -- ---- ranges
 
--- so many behind the first are the same in a list that grew
+-- where a list grows, its first `k` stay, and those after them stay in front of what was added
 drop_before : {A : Type 0} (k : ℕ) (xs ys : List A) → k ≤ length xs → drop k (xs ++ ys) ≡ drop k xs ++ ys
 drop_before zero xs ys h = refl
 drop_before (suc k) [] ys h = absurd (omega (arith, h))

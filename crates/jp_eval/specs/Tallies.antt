@@ -28,7 +28,7 @@ total_of line sum = record { count = sum.count; last = slice_get (subtree (root_
 abbrev pub none_in : List ℕ → Total
 none_in line = record { count = 0; last = slice_get (subtree (root_node (spelled line))) 0 }
 
--- where so many are counted, no more matter
+-- where `most` are counted, no more matter
 abbrev pub cut : ℕ → Total → Option Total
 cut most t = cond (nat_lt t.count most) (Some t) None
 
@@ -37,7 +37,7 @@ pub record Tally : Type 0 where
   pub nodes : List Node
   pub total : Option Total
 
--- each node is listed and none is counted, where so many decide
+-- each node is listed and none is counted, where `most` nodes decide
 abbrev pub is_listed : ℕ → Bool
 is_listed most = most == 18446744073709551615
 
@@ -49,7 +49,7 @@ tallied false most listed counted found = record { nodes = listed; total = cut m
 abbrev pub tally : List ℕ → ℕ → Frame → List Node → Tally
 tally line most f found = tallied (is_listed most) most (map node_of f.found.items) (total_of line f.sum) found
 
--- so many were counted, as far as so many decide
+-- the sum counts the selected nodes, as far as `most` of them decide
 abbrev pub IsTotal : List ℕ → ℕ → Sum → List Node → Type 0
 IsTotal line most sum selected = cut most (total_of line sum) ≡ cut most (plus (none_in line) selected)
 

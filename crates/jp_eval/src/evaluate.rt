@@ -42,7 +42,7 @@ impl Program {
         Ok(Program { slots, steps })
     }
 
-    /// Adds what the steps select from a node, where so many nodes decide. No query from the root was answered before.
+    /// Adds what the steps select from a node, where `most` nodes decide. No query from the root was answered before.
     #[inline(always)]
     fn push_up_to<'a>(
         &self,

@@ -22,7 +22,7 @@ pub(crate) struct Run<'p, 'a> {
     ghost at_root: { place_of root.now ≡ 0 },
 }
 
-/// A walk over nodes of the line, which ends where so many nodes are found that no more matter.
+/// A walk over nodes of the line, which ends where `most` nodes are found, as no more matter then.
 #[derive(Clone, Copy)]
 pub(crate) struct Walk<'r, 'a> {
     pub(crate) run: &'r Run<'r, 'a>,

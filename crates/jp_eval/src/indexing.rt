@@ -59,7 +59,7 @@ impl<'a> Elements<'a> {
         normal(count, index)
     }
 
-    /// The child that so many come before.
+    /// The child that `position` children come before.
     #[inline(always)]
     fn nth(&mut self, position: u32) -> Option<Cursor<'a>>
         requires { AreKnown self.old }

@@ -72,7 +72,8 @@ impl<'r, 'a> Walk<'r, 'a> {
         Walk { run, most }.push_steps(node, steps, frame)
     }
 
-    /// The same, and notes what they select.
+    /// Adds what the steps of the slot at a position select from a node, as `push_slot` does, and notes what they select, so
+    /// that it is known where the node is met again.
     #[cycle(eval)]
     #[inline(never)]
     fn push_noted(self, node: Cursor<'a>, position: usize, frame: &mut Frame<'a>) -> Result<()>
@@ -129,7 +130,7 @@ impl<'r, 'a> Walk<'r, 'a> {
         Ok(())
     }
 
-    /// How many nodes the steps select from a node, as far as so many decide. No list is made of them.
+    /// How many nodes the steps select from a node, exact where they are fewer than `most`. No list is made of them.
     #[cycle(eval)]
     #[inline(never)]
     pub(crate) fn sum(

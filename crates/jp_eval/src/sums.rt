@@ -17,10 +17,10 @@ use jp_nodes::Cursor;
 use std::alloc::{AllocError, Global};
 use std::collections::BTreeMap;
 
-/// So many nodes decide where each is listed, and none is counted.
+/// The number of nodes that decide where each is listed, and none is counted.
 pub(crate) const LISTED: u64 = u64::MAX;
 
-/// So many nodes decide where each is counted.
+/// The number of nodes that decide where each is counted.
 pub(crate) const COUNTED: u64 = u64::MAX - 1;
 
 /// How many nodes there are.
@@ -37,7 +37,7 @@ pub(crate) const NONE: Sum = Sum { count: 0, last: 0 };
 /// The nodes that steps select from a node.
 #[derive(Clone, Copy)]
 pub(crate) enum Known {
-    /// So many, or at least as many as decide.
+    /// How many they are, or at least as many as decide.
     Counted(Sum),
     /// Those that stand in the list of nodes from one position to another.
     Listed { start: usize, end: usize },
@@ -64,7 +64,7 @@ impl Sums {
         }
     }
 
-    /// What is known of the node at a place, where so many nodes decide.
+    /// What is known of the node at a place, where `most` nodes decide.
     fn at(&self, most: u64, place: u32) -> Option<Known>
         ensures { IfSome result (λ known. (self.now.most ≡ most) × (get nat_cmp self.now.known place ≡ Some known)) }
     {
@@ -86,7 +86,7 @@ impl Sums {
     }
 }
 
-/// So many nodes, no one below another, are walked as soon as one is looked up.
+/// A node and its children, where no child has children, are walked at once if they are no more nodes than this number.
 const FEW: u32 = 16;
 
 /// Whether steps are taken from a node as soon as it is looked up: it has few children, and these have none.
@@ -105,7 +105,7 @@ fn is_soon_walked(node: Cursor<'_>) -> bool {
 }
 
 impl<'p, 'a> Run<'p, 'a> {
-    /// Takes out what is known of the steps of the slot at a position, where so many nodes decide.
+    /// Takes out what is known of the steps of the slot at a position, where `most` nodes decide.
     fn take_sums(self, position: usize, most: u64, frame: &mut Frame<'a>) -> Sums
         requires { IsKept self frame.old }
         ensures most { result.most ≡ most }

@@ -20,7 +20,7 @@ pub(crate) enum Ways {
 }
 
 impl Ways {
-    /// The same where what is selected from each is remembered, so that each is walked once.
+    /// How the same nodes lie where what is selected from each is remembered, so that each is walked once: none is met again.
     fn once(self) -> Ways {
         match self {
             Ways::Apart => Ways::Apart,
@@ -28,7 +28,7 @@ impl Ways {
         }
     }
 
-    /// Those that so many choices select of children.
+    /// How the children lie that `choices` select: where there are several, one may be met again.
     fn through(self, choices: &[Choice]) -> Ways {
         if choices.len() > 1 {
             return Ways::Again;

@@ -183,7 +183,7 @@ same_set cs i c d l e same (suc j) = elim (same_or_not j i) [
   | inr other ↦ ap (λ x. option_cmp key_order (key_at cs (suc j)) (cell_key x)) (get_or-set_other cs i j c None other) ∙ tied_itself (options_total keys_total) (key_at cs (suc j))
 ]
 
--- the number of lines that are kept is that of so many cells at most
+-- no more lines are kept than there are cells
 pub count_few : (cs : List (Option Slot)) (lines : List ℕ) (count : ℕ) → length cs < 2 ^ 32 → lines ≡ numbers_where is_some 1 cs → count ≡ length lines → count < 2 ^ 32
 count_few cs lines count few e c = let all = numbers_few is_some 1 cs in let same : count ≡ length (numbers_where is_some 1 cs) = c ∙ ap length e in omega arith
 

@@ -27,6 +27,6 @@ pub record AreByKey (keys : ℕ → Option Key) (lines : List ℕ) : Type 0 wher
 abbrev pub but : ℕ → (ℕ → Option Key) → ℕ → Option Key
 but line keys a = if a == line then None else keys a
 
--- so many of the lines stand in front of a line, and the others do not
+-- the first `i` of the lines stand in front of a line, and the others do not
 abbrev pub IsPositionOf : (ℕ → Option Key) → ℕ → List ℕ → ℕ → Type 0
 IsPositionOf keys line lines i = IsPartitionPoint (λ a. is_lt (line_order keys a line) ≡ true) (λ a. is_lt (line_order keys a line) ≡ false) lines i

@@ -68,7 +68,7 @@ impl IndexBuilder {
         self.cells.len() as u32
     }
 
-    /// Makes room for so many keys more. The entries are as before, after an `Err` too.
+    /// Makes room for `keys` more keys. The entries are as before, after an `Err` too.
     pub fn reserve(&mut self, keys: usize) -> Result<(), AllocError>
         ensures entries { (path : List Step) (lines : ℕ) (entries : List Entry) → IsBuildOf self.old path lines entries → IsBuildOf self.new path lines entries }
         ensures room { OnOk result (vec_len self.new.by_key + keys ≤ vec_capacity self.new.by_key) }

@@ -19,7 +19,7 @@ use jp_syntax::CompareOp;
 use jp_values::Key;
 use std::alloc::{AllocError, Global};
 
-/// A chunk has room for so many lines, and holds fewer.
+/// The number of lines that a chunk has room for. It holds fewer.
 const CHUNK: usize = 512;
 
 /// Lines in order of key and line. What moves when one is put in or taken out is one chunk, and the list of chunks where a

@@ -30,7 +30,7 @@ repeats_length Member n each (suc c) x r = ap length r.is ∙ length-append r.fr
 pub splits_length : (First Second : List ℕ → Type 0) (m n : ℕ) → HaveLength First m → HaveLength Second n → HaveLength (Splits First Second) (m + n)
 splits_length First Second m n f s x h = ap length h.is ∙ length-append h.front h.rest ∙ (λ i. f h.front h.first i + s h.rest h.second i)
 
--- exactly so many
+-- exactly `least` turns
 pub exact_length : (Member : List ℕ → Type 0) (n least : ℕ) → HaveLength Member n → HaveLength (RepeatsWithin Member least (Some (least + 0))) (n * least)
 exact_length Member n least each x w =
     let few = w.few in
@@ -54,7 +54,7 @@ runs_start once set step e q = (
       (e q).1 (subst (Has once) here ((r 0 (omega arith)).1))),
 )
 
--- a run and so many steps more, which overlap it
+-- a run of `a` steps and `b` steps more, which overlap it
 pub runs_more : (once set more : PositionSet) (step a b : ℕ) → 0 < a → b ≤ a → AreRuns once step a set → ((q : ℕ) → Has more q ↔ (b * step ≤ q × Has set (q - b * step) × Has set q)) → AreRuns once step (a + b) more
 runs_more once set more step a b some l r m q = (
   (λ h j few.
@@ -100,7 +100,7 @@ pub record AreFrom (low high : ℕ) (from : PositionSet) : Type 0 where
   pub each : (p : ℕ) → low ≤ p → p < high → Has from p
 
 module _ (Member : List ℕ → Type 0) (step : ℕ) (each : HaveLength Member step) (some : 0 < step) (text : List ℕ) (low high : ℕ) (from once : PositionSet) (all : AreFrom low high from) (ends : AreEnds Member text from once) where
-  -- a run is so many members
+  -- a run of `k` steps is `k` members
   led : (k q : ℕ) → q ≤ length text → IsRun once step k q → k * step ≤ q × Reach (Repeats Member k) text (q - k * step) q
   led zero q within run = (let far = none_times step in let here : q ≡ q - 0 * step = omega (arith, far) in (omega (arith, far), subst (λ p. Reach (Repeats Member 0) text p q) here (nothing_reach text q within)))
   led (suc k) q within run =
@@ -113,7 +113,7 @@ module _ (Member : List ℕ → Type 0) (step : ℕ) (each : HaveLength Member s
       let here : first.start ≡ q - suc k * step = omega (arith, size, far, fits) in
       (omega (arith, size, far, fits), subst (λ p. Reach (Repeats Member (suc k)) text p q) here (joined text first.start (q - k * step) q first.reach rest.1))
 
-  -- so many members are a run
+  -- `k` members are a run of `k` steps
   run_of : (k p q : ℕ) → low ≤ p → q ≤ high → Reach (Repeats Member k) text p q → IsRun once step k q
   run_of zero p q l h r j few = absurd (omega arith)
   run_of (suc k) p q l h r j few =
@@ -147,7 +147,7 @@ module _ (Member : List ℕ → Type 0) (step : ℕ) (each : HaveLength Member s
       inside : (q : ℕ) → IsRun once step count q → q ≤ length text
       inside q run = (let none = none_times step in let here : q - 0 * step ≡ q = omega (arith, none) in ends.over.within q (subst (Has once) here (run 0 many).1))
 
--- so many texts are longer than the whole
+-- `count` texts are longer than the whole
 pub even_none : (Member : List ℕ → Type 0) (step : ℕ) → HaveLength Member step → (text : List ℕ) (starts out : PositionSet) (count distance : ℕ) → distance ≡ count * step → length text < distance → ((q : ℕ) → ¬ (Has out q)) → AreEnds (Repeats Member count) text starts out
 even_none Member step each text starts out count distance far long none = record {
   over = record { within = λ q h. absurd (none q h) };

@@ -1,4 +1,4 @@
--- Exactly so many scalars of a class, in one pass.
+-- A given number of scalars of a class, in one pass.
 use Rattle.std.proofs.Common.{◌≡◌, ℕ, zero, suc, ◌+◌, ◌-◌, ◌<◌, ◌≤◌, ◌⊎◌, inl, inr, Bool, true, false, List, length, get_or, min, arith, refl, sym, subst}
 use Rattle.jp_iregexp.proofs.Bits.{below_or_not}
 use Rattle.jp_iregexp.proofs.Reaching.{AreSame, same_ends, ends_nothing, nothing_reach}
@@ -7,7 +7,7 @@ use Rattle.jp_iregexp.specs.declared.positions.PositionSet.{PositionSet}
 use Rattle.jp_iregexp.specs.Positions.{Has, IsSetOver, Reach, ReachFrom, AreEnds}
 use Rattle.jp_model.specs.Pattern.Language.{IsOne, Repeats}
 
--- so many scalars of the class stand one after another before n, and from low on no more
+-- `run` scalars of the class stand one after another before `n`, and from `low` on no more
 pub record IsRun (P : ℕ → Type 0) (text : List ℕ) (low n run : ℕ) : Type 0 where
   pub within : run ≤ n
   pub all : (c p : ℕ) → n ≤ length text → c ≤ run → p + c ≡ n → Reach (Repeats (IsOne P) c) text p n

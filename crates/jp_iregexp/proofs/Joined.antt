@@ -51,7 +51,7 @@ together Member least most (suc turns) x r =
       repeats = repeats_join Member w.count t.count (w.count + t.count) refl x (record { front = r.front; rest = r.rest; is = r.is; first = w.repeats; second = t.repeats });
     }
 
--- ---- so many members in turns
+-- ---- a number of members in turns
 
 -- how many of them the first turn has
 record Share (least most turns enough count : ℕ) : Type 0 where

@@ -82,7 +82,7 @@ gather_done parts text starts all g = record {
 pub gather_end : (parts : List Node) (i : ℕ) (text : List ℕ) (starts all : PositionSet) → drop i parts ≡ [] → Gathers (drop i parts) parts text starts all → AreEnds (Language (choice_list parts)) text starts all
 gather_end parts i text starts all e g = gather_done parts text starts all (subst (λ ps. Gathers ps parts text starts all) e g)
 
--- ---- exactly so many turns
+-- ---- exactly `count` turns
 
 module _ (Member Whole : List ℕ → Type 0) (text : List ℕ) (starts reached next : PositionSet) where
   pub exact_step : (count turn : ℕ) → turn < count → Continues (Repeats Member (count - turn)) Whole text starts reached → AreEnds Member text reached next → Continues (Repeats Member (count - (turn + 1))) Whole text starts next
@@ -102,7 +102,7 @@ module _ (Member Whole : List ℕ → Type 0) (text : List ℕ) (starts reached 
       let e : count - turn ≡ 0 = omega arith in
       c.rest reached (subst (λ k. AreEnds (Repeats Member k) text reached reached) (sym e) (ends_nothing text reached c.over))
 
-  -- ---- up to so many turns
+  -- ---- up to `most` turns
 
   pub further_step : (frontier both : PositionSet) (most turn : ℕ) → turn < most → Continues (RepeatsWithin Member 0 (Some (most - turn))) Whole text starts reached → Fronts Member text reached frontier → AreEnds Member text frontier next → ((q : ℕ) → Has next q → Has both q) → ((q : ℕ) → Has reached q → Has both q) → ((q : ℕ) → Has both q → Has next q ⊎ Has reached q) → Continues (RepeatsWithin Member 0 (Some (most - (turn + 1)))) Whole text starts both
   further_step frontier both most turn l c f a left right either =

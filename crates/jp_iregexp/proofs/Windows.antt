@@ -1,4 +1,4 @@
--- Up to so many scalars of a class, in one pass.
+-- Up to a given number of scalars of a class, in one pass.
 use Rattle.std.proofs.Common.{◌≡◌, ℕ, zero, suc, ◌+◌, ◌-◌, ◌/◌, ◌%◌, ◌<◌, ◌≤◌, ◌⊎◌, inl, inr, Bool, true, false, List, [], ◌++◌, length, get_or, arith, refl, sym, ◌∙◌, ap, subst, append-nil, Some}
 use Rattle.std.specs.Int.{bit_at}
 use Rattle.jp_iregexp.proofs.Bits.{below_or_not}
@@ -8,7 +8,7 @@ use Rattle.jp_iregexp.specs.declared.positions.PositionSet.{PositionSet}
 use Rattle.jp_iregexp.specs.Positions.{word_at, Has, IsSetOver, Reach, ReachFrom, AreEnds}
 use Rattle.jp_model.specs.Pattern.Language.{IsOne, Repeats, RepeatsWithin}
 
--- so many scalars lead here from a start
+-- `count` scalars lead here from a start
 pub record LedHere (P : ℕ → Type 0) (text : List ℕ) (starts : PositionSet) (full n room : ℕ) : Type 0 where
   pub start : ℕ
   pub has : Has starts start
@@ -43,7 +43,7 @@ one_later P text m p n inside passes r =
     reach_map (λ x s. repeats_join (IsOne P) m 1 (suc m) (omega arith) x s) text p (n + 1)
     (joined text p n (n + 1) r (reach_map (λ x o. record { front = x; rest = []; is = sym (append-nil x); first = o; second = refl }) text n (n + 1) (one_reach P text n inside passes)))
 
--- so many scalars end so many positions later
+-- `c` scalars end `c` positions later
 pub ones_length : (P : ℕ → Type 0) (text : List ℕ) (c p q : ℕ) → Reach (Repeats (IsOne P) c) text p q → q ≡ p + c
 ones_length P text zero p q r = (let e = nothing_only text p q r in omega (arith, e))
 ones_length P text (suc c) p q r =

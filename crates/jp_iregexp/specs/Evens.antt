@@ -7,7 +7,7 @@ use Rattle.jp_iregexp.specs.Positions.{Has}
 abbrev pub HaveLength : (List ℕ → Type 0) → ℕ → Type 0
 HaveLength Member n = (x : List ℕ) → Member x → length x ≡ n
 
--- the end of each of so many steps of this length, of which the last one ends at q, is in the set
+-- the end of each of `count` steps of this length, where the last one ends at `q`, is in the set
 abbrev pub IsRun : (once : PositionSet) (step count q : ℕ) → Type 0
 IsRun once step count q = (j : ℕ) → j < count → j * step ≤ q × Has once (q - j * step)
 

@@ -25,12 +25,12 @@ abbrev pub class_of : Class → CharClass
 class_of DotClass = dot
 class_of (MembersClass negated items) = members negated (map item_of items.items)
 
--- the greatest number, where so many may follow the least one
+-- the greatest number of turns, where `further` turns may follow the least number
 abbrev pub most_of : ℕ → Option ℕ → Option ℕ
 most_of least None = None
 most_of least (Some further) = Some (least + further)
 
--- so many further turns; without a bound, as many as a text of this length has scalars
+-- `further` turns; without a bound, as many as a text of this length has scalars
 abbrev pub turns_of : ℕ → Option ℕ → ℕ
 turns_of len None = len
 turns_of len (Some further) = further

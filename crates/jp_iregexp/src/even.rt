@@ -1,5 +1,5 @@
-//! Parts whose texts all have one length. Their turns are doubled: what so many turns reach from everywhere, twice, is what
-//! twice as many reach.
+//! Parts whose texts all have one length. Their turns are doubled: what a number of turns reach from everywhere, taken
+//! twice, is what twice as many reach.
 
 ghost use Rattle.std.specs.Prelude.{◌≡◌, ◌^◌, ◌*◌, ◌<◌, ◌≤◌, IfOk};
 ghost use Rattle.std.specs.Option.{IfSome};
@@ -82,7 +82,7 @@ fn choice_length(parts: &[Node], longest: usize) -> Option<usize>
     common
 }
 
-/// The positions behind so many steps of this length one after another, each of which is in the set.
+/// The positions after `count` steps of this length, one after another, where the end of each step is in the set.
 pub(crate) fn doubled(
     alloc: Global,
     once: &PositionSet,

@@ -164,7 +164,7 @@ impl Layout {
         }
     }
 
-    /// Lays out exactly so many turns. They end where a turn has no state, and is the empty text or none.
+    /// Lays out exactly `count` turns. They end where a turn has no state, and is the empty text or none.
     #[cycle(layout)]
     fn exact(&mut self, alloc: Global, body: &Node, count: u32) -> Result<Option<Part>, AllocError>
         ensures { IfOk result (λ found. IfSome found (λ p. LaidOnto (map state_of self.old.states.items) (map state_of self.new.states.items) (Repeats (Language (tree_of body.now)) count) p.first p.last p.has_empty)) }
@@ -182,7 +182,7 @@ impl Layout {
         Ok(Some(all))
     }
 
-    /// Lays out up to so many turns. They end where a turn has no state.
+    /// Lays out up to `most` turns. They end where a turn has no state.
     #[cycle(layout)]
     fn up_to(&mut self, alloc: Global, body: &Node, most: u32) -> Result<Option<Part>, AllocError>
         ensures { IfOk result (λ found. IfSome found (λ p. LaidOnto (map state_of self.old.states.items) (map state_of self.new.states.items) (RepeatsWithin (Language (tree_of body.now)) 0 (Some most)) p.first p.last p.has_empty)) }

@@ -113,8 +113,8 @@ impl Matcher<'_> {
         Ok(all)
     }
 
-    /// The part `least` times, and up to so many times more. Where all of it is another part that is taken any number of times
-    /// from none or from one on, turns of turns are turns of that part.
+    /// The part `least` times, and up to `further` times more. Where all of it is another part that is taken any number of
+    /// times from none or from one on, turns of turns are turns of that part.
     #[cycle(ends)]
     fn repeated_ends(
         &self,
@@ -161,7 +161,7 @@ impl Matcher<'_> {
         }
     }
 
-    /// The part exactly so many times. Scalars of a class take one pass.
+    /// The part exactly `count` times. Scalars of a class take one pass.
     #[cycle(ends)]
     fn exact_turns(
         &self,
@@ -185,8 +185,8 @@ impl Matcher<'_> {
         }
     }
 
-    /// So many turns of a part whose texts all have this length: the ends of one turn are found once, from each position that
-    /// the turns may come to.
+    /// Exactly `count` turns of a part whose texts all have this length: the ends of one turn are found once, from each
+    /// position that the turns may come to.
     #[cycle(ends)]
     fn even_turns(
         &self,
@@ -215,7 +215,7 @@ impl Matcher<'_> {
         starts.moved_within(self.alloc, distance, &all)
     }
 
-    /// So many turns. They stop where one changes nothing, as where nothing is reached any more.
+    /// Exactly `count` turns. They stop where one changes nothing, as where nothing is reached any more.
     #[cycle(ends)]
     fn counted_turns(
         &self,
@@ -239,7 +239,7 @@ impl Matcher<'_> {
         Ok(reached)
     }
 
-    /// The part up to so many times. Scalars of a class take one pass.
+    /// The part up to `most` times. Scalars of a class take one pass.
     #[cycle(ends)]
     fn further_turns(
         &self,
@@ -261,7 +261,7 @@ impl Matcher<'_> {
         }
     }
 
-    /// The part up to so many times. A turn starts from what the one before it added, and they stop where one adds nothing.
+    /// The part up to `most` times. A turn starts from what the one before it added, and they stop where one adds nothing.
     #[cycle(ends)]
     fn added_turns(
         &self,

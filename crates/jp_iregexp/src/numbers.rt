@@ -26,7 +26,7 @@ pub(crate) fn with_numbers(alloc: Global, root: &Node) -> Result<(Node, bool)>
     Ok((made, numbers.levels > MOST_LEVELS))
 }
 
-/// Whether so many turns of a part, and up to so many further ones, are taken one after another.
+/// Whether the turns of a part, where up to `further` ones follow the least number of them, are taken one after another.
 fn takes_turns(body: &Node, further: Option<u32>) -> bool {
     match body.only() {
         Node::Class(_) => false,

@@ -11,7 +11,7 @@ use crate::node::Node;
 use crate::token::next_token;
 use std::alloc::{AllocError, Global};
 
-/// So many scalars `(` a pattern may have.
+/// The greatest number of scalars `(` that a pattern may have.
 const MOST_PARENTHESES: usize = 256;
 
 /// How many scalars `(` the text has, wherever they are.

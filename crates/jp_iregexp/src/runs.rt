@@ -1,4 +1,4 @@
-//! So many scalars of a class, any number of them, or up to a number.
+//! A given number of scalars of a class, any number of them, or up to a given number.
 
 ghost use Rattle.std.specs.Prelude.{◌≡◌, ◌^◌, ◌<◌, ◌+◌, ◌-◌, true, false, Some, None, IfOk};
 ghost use Rattle.jp_iregexp.specs.Positions.{Has, AreEnds, AreStarts};
@@ -10,7 +10,7 @@ use crate::class::Class;
 use crate::positions::PositionSet;
 use std::alloc::{AllocError, Global};
 
-/// The positions where exactly so many scalars of the class end that begin at one of the starts. It takes one pass, whatever
+/// The positions where exactly `count` scalars of the class end that begin at one of the starts. It takes one pass, whatever
 /// the count is: `run` is how many scalars of the class are one after another before a position. Nothing is reached any more
 /// where the run, or as much of it as is counted, begins after the last start.
 pub(crate) fn count_ends(
@@ -78,7 +78,7 @@ pub(crate) fn run_ends(
     Ok(out)
 }
 
-/// The positions where up to so many scalars of the class end that begin at one of the starts. It takes one pass, whatever the
+/// The positions where up to `most` scalars of the class end that begin at one of the starts. It takes one pass, whatever the
 /// bound is: `room` is one more than the scalars that may still follow the latest start, and 0 where none leads here.
 pub(crate) fn window_ends(
     alloc: Global,

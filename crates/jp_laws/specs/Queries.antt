@@ -29,7 +29,7 @@ abbrev pub BeginsInTurn : List Node → Type 0
 BeginsInTurn [] = Unit {0}
 BeginsInTurn (n ∷ ns) = IsBefore n ns × BeginsInTurn ns
 
--- the row of the line that stands so many lines later
+-- the row of the line that stands a given number of lines later
 abbrev pub lines_later : ℕ → Row → Row
 lines_later k (node_row line n) = node_row (line + k) n
 lines_later k (refusal_row line fault) = refusal_row (line + k) fault

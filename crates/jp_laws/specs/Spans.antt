@@ -3,7 +3,7 @@ use Rattle.std.specs.Prelude.{ℕ, ◌-◌, ◌<◌, ◌≤◌, Option, Some, No
 use Rattle.jp_model.specs.declared.Span.{Span}
 use Rattle.jp_model.specs.Json.Tree.{Tree, node, Value, null, boolean, number, string, container, Children, no_child, child, Name, span}
 
--- a span that stands so many bytes earlier
+-- a span that stands a given number of bytes earlier
 abbrev pub earlier_span : ℕ → Span → Span
 earlier_span k s = record { start = s.start - k; end = s.end - k }
 
@@ -13,7 +13,7 @@ earlier_name k None = None
 earlier_name k (Some name) = Some (record { body = earlier_span k name.body; points = name.points })
 
 abbrev mutual
-  -- the same tree, so many bytes earlier
+  -- the same tree, a given number of bytes earlier
   pub earlier : ℕ → Tree → Tree
   earlier k (node s v) = node (earlier_span k s) (earlier_value k v)
 

@@ -33,7 +33,7 @@ IsTold framing told.Blank line = status_of framing line ≡ blank
 IsTold framing (told.Refused fault) line = status_of framing line ≡ refused fault
 IsTold framing told.Tree line = status_of framing line ≡ parsed (spelled line)
 
--- where a tree is told of, so many nodes from a word of the tapes on are the tape of the line
+-- where a tree is told of, `nodes` nodes from the word `tape` of the tapes on are the tape of the line
 abbrev pub IsTapeAmong : Status → (tapes : List ℕ) (tape nodes : ℕ) → List ℕ → Type 0
 IsTapeAmong told.Tree tapes tape nodes line = IsAmong tapes tape nodes line
 IsTapeAmong status tapes tape nodes line = Unit {0}

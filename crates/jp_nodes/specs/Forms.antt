@@ -8,15 +8,15 @@ use Rattle.jp_nodes.specs.Tapes.{IsTapeOf}
 abbrev pub joined : Word → ℕ
 joined word = word.high * 2 ^ 32 + word.low
 
--- how many bits a half has in the tape of a line of so many bytes: each half is less than their number
+-- how many bits a half has in the tape of a line of `size` bytes: each half is less than `size`
 unfoldable pub half_bits : ℕ → ℕ
 half_bits size = cond (nat_lt size (2 ^ 10)) 10 (cond (nat_lt size (2 ^ 21)) 21 32)
 
--- how many words a node has, whose six halves have so many bits
+-- how many words a node has, whose six halves have `bits` bits each
 abbrev pub node_size : ℕ → ℕ
 node_size bits = cond (bits == 10) 1 (cond (bits == 21) 2 3)
 
--- the half at an index, of so many bits, in a word that holds some of them, from the lowest bits up
+-- the half at an index, of `bits` bits, in a word that holds some of them, from the lowest bits up
 unfoldable pub half_in : (bits index word : ℕ) → ℕ
 half_in bits index word = word / 2 ^ (bits * index) % 2 ^ bits
 
@@ -38,7 +38,7 @@ abbrev pub medium_words : List ℕ → List ℕ
 medium_words (highs ∷ lows ∷ nodes) = node_words 21 highs lows (medium_words nodes)
 medium_words words = []
 
--- the words, three to a node, of nodes that are kept with so many bits to a half
+-- the words, three to a node, of nodes that are kept with `bits` bits to a half
 abbrev pub words_in : ℕ → List ℕ → List ℕ
 words_in bits words = cond (bits == 10) (compact_words words) (cond (bits == 21) (medium_words words) words)
 
@@ -63,7 +63,7 @@ abbrev pub nodes_by : (ℕ → ℕ → ℕ → List ℕ) → List ℕ → List �
 nodes_by node (head ∷ span ∷ label ∷ words) = node head span label ++ nodes_by node words
 nodes_by node _ = []
 
--- the nodes of these words, kept with so many bits to a half
+-- the nodes of these words, kept with `bits` bits to a half
 abbrev pub packed : ℕ → List ℕ → List ℕ
 packed bits words = cond (bits == 10) (nodes_by in_one words) (cond (bits == 21) (nodes_by in_two words) words)
 
@@ -71,11 +71,11 @@ packed bits words = cond (bits == 10) (nodes_by in_one words) (cond (bits == 21)
 abbrev pub IsPackedTapeOf : (words line : List ℕ) → Type 0
 IsPackedTapeOf words line = IsTapeOf (words_in (half_bits (length line)) words) line
 
--- where so many nodes end, that begin at a word of a list and are the tape of a line of this length
+-- where `nodes` nodes end that begin at the word `start` of a list and are the tape of a line of `size` bytes
 abbrev pub tape_end : (start nodes size : ℕ) → ℕ
 tape_end start nodes size = start + nodes * node_size (half_bits size)
 
--- so many nodes, from one of these words on, are the tape of the line
+-- `nodes` nodes, from the word at `start` on, are the tape of the line
 pub record IsAmong (words : List ℕ) (start nodes : ℕ) (line : List ℕ) : Type 0 where
   pub within : tape_end start nodes (length line) ≤ length words
   pub tape : IsPackedTapeOf (slice_range words start (tape_end start nodes (length line))) line

@@ -39,7 +39,7 @@ pub struct Cursor<'a> {
     ghost within: { place < node_count (spelled line.now) },
 }
 
-/// So many kinds of values have no children.
+/// The number of kinds of values that have no children.
 const LEAVES: u32 = 5;
 
 /// The span that a word packs.

@@ -11,13 +11,13 @@ ghost use Rattle.jp_nodes.specs.Forms.{joined, compact_words, medium_words, word
 use crate::word::Word;
 use std::marker::Model;
 
-/// So many bits has each half of a node's words in the tape of a line of fewer than 1,024 bytes: all six are in one word.
+/// The bits of each half of a node's words in the tape of a line of fewer than 1,024 bytes: all six halves are in one word.
 pub(crate) const COMPACT: u32 = 10;
 
-/// So many has it in the tape of a longer line of fewer than 2,097,152 bytes: three halves are in each of two words.
+/// The bits of each half in the tape of a longer line of fewer than 2,097,152 bytes: three halves are in each of two words.
 pub(crate) const MEDIUM: u32 = 21;
 
-/// So many has it in the tape of any other line: the words are kept as they are.
+/// The bits of each half in the tape of any other line: the words are kept as they are.
 const WIDE: u32 = 32;
 
 /// How many bits each half of a node's words has in the tape of a line.
@@ -49,7 +49,7 @@ fn node_size(bits: u32) -> usize
     }
 }
 
-/// Whether there is a node at a place, in words with so many bits to a half.
+/// Whether there is a node at a place, in words with `bits` bits to a half.
 #[inline(always)]
 pub(crate) fn has_node(words: &[u64], bits: u32, place: usize) -> bool
     requires { 3 * place < 2 ^ 64 }
@@ -85,7 +85,7 @@ fn medium_word_at(words: &[u64], place: usize, index: u32) -> Word
     Word::of_halves(words[2 * place], words[2 * place + 1], MEDIUM, index)
 }
 
-/// One of the three words of the node at a place, by its index, from 0, in words with so many bits to a half.
+/// One of the three words of the node at a place, by its index, from 0, in words with `bits` bits to a half.
 #[inline(always)]
 pub(crate) fn word_at(words: &[u64], bits: u32, place: usize, index: u32) -> Word
     requires index { index < 3 }
@@ -118,7 +118,8 @@ impl Model for Tape {
     ghost view = { λ t. words_in t.bits t.words.items };
 }
 
-/// The words of the tape of a line in a list of tapes: so many nodes, from a word on, as `Builder::append` put them there.
+/// The words of the tape of a line in a list of tapes: those of `nodes` nodes, from the word at `start` on, as
+/// `Builder::append` put them there.
 #[inline(always)]
 pub fn packed_words<'a>(tapes: &'a [u64], start: usize, nodes: u32, line: &[u8]) -> &'a [u64]
     requires { IsAmong tapes.now start nodes line.now }

@@ -49,7 +49,7 @@ impl Default for Step {
     }
 }
 
-/// Most singular queries have few steps: so many of them lie in the path itself.
+/// Most singular queries have few steps: up to this number of them lie in the path itself.
 const INLINE_STEPS: usize = 4;
 
 /// The steps of a singular query, in order. Two are equal where their steps are.

@@ -29,7 +29,7 @@ pub record IsNext (line : List ℕ) (at : ℕ) (marks : List ℕ) : Type 0 where
   pub ahead : IsAhead line at marks
   pub first : at ≡ first_or marks (length line)
 
--- so many of the marks stand before a place, which is outside of every string
+-- the first `count` marks stand before the place `to`, which is outside of every string
 pub record IsPassed (line marks : List ℕ) (count to : ℕ) : Type 0 where
   pub within : count ≤ length marks
   pub ahead : IsAhead line to (drop count marks)
@@ -47,13 +47,13 @@ abbrev pub name_marks : Option Span → ℕ
 name_marks None = 0
 name_marks (Some body) = 3
 
--- the lists have room for so many more nodes and names
+-- the lists have room for `node_count` more nodes and `name_count` more names
 pub record HasRoom (b : Builder) (node_count name_count : ℕ) : Type 0 where
   pub words : length b.words.items + 3 * node_count ≤ vec_capacity b.words
   pub names : length b.names.items + name_count ≤ vec_capacity b.names
 
--- the marks ahead of a turn, and room for so many values that are to come, each with a name. A turn after a value is one after
--- a bracket, where a token may begin, and a name may be kept before the first of those values is read.
+-- the marks ahead of a turn, and room for `n` values that are to come, each with a name. A turn after a value is one after a
+-- bracket, where a token may begin, and a name may be kept before the first of those values is read.
 abbrev pub IsAheadOf : List ℕ → ℕ → Turn → List ℕ → Builder → Type 0
 IsAheadOf line n (turns.Value label at) marks b = IsNext line at marks × HasRoom b n n
 IsAheadOf line n (turns.After at) marks b = IsAhead line at marks × HasRoom b n (suc n) × (may_begin line at ≡ true)

@@ -266,7 +266,7 @@ fn tokens_that_touch_are_refused(rt: HostRuntime) {
     assert!(rt; has_tape(alloc, b" [ 1 , \"a\" , { } , [ ] , null ] "));
 }
 
-/// An array of a string of 59 letters and so many backslashes, which ends like this.
+/// An array of a string of 59 letters and `slashes` backslashes, which ends with `end`.
 fn slashed(alloc: Global, slashes: usize, end: &[u8]) -> Result<Vec<u8>, AllocError> {
     let mut line = Vec::from_slice(alloc, b"[\"")?;
     for _ in 0..59 {

@@ -52,8 +52,8 @@ fn equal_elements_in(alloc: Global, left: Cursor<'_>, right: Cursor<'_>) -> Resu
     Ok(right_next.is_none())
 }
 
-/// Whether each member of the first object is one of the second, which has about so many. Where the members come in the
-/// same order each is found at once.
+/// Whether each member of the first object is one of the second, which has about `count` members. Where the members come in
+/// the same order each is found at once.
 #[cycle(equality_in)]
 fn has_members_in<'a>(
     alloc: Global,

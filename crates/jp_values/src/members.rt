@@ -17,7 +17,7 @@ use jp_strings::compare_scalars;
 use std::alloc::{AllocError, Global};
 use std::cmp::Ordering;
 
-/// Among so many members one is looked for by its name, and more are sorted.
+/// Among up to this number of members one is looked for by its name, and more are sorted.
 const MOST_SEARCHED: u32 = 16;
 
 impl PartialEq for Member<'_> {
@@ -81,7 +81,7 @@ fn all_members<'a>(
     Ok(members)
 }
 
-/// The members of an object in the order of their names. There are about so many.
+/// The members of an object in the order of their names. There are about `count` of them.
 fn sorted_members<'a>(
     alloc: Global,
     object: Cursor<'a>,
@@ -110,14 +110,14 @@ fn find_sorted<'a>(members: &[Member<'a>], wanted: &Member<'a>) -> Option<Cursor
 pub(crate) struct Searched<'a> {
     alloc: Global,
     object: Cursor<'a>,
-    /// It has about so many members.
+    /// About how many members it has.
     count: u32,
     /// Its members in the order of their names, once that was needed.
     sorted: Vec<Member<'a>>,
 }
 
 impl<'a> Searched<'a> {
-    /// An object with about so many members. No member is listed yet.
+    /// An object with about `count` members. No member is listed yet.
     pub fn new(alloc: Global, object: Cursor<'a>, count: u32) -> Searched<'a>
         ensures object { result.object ≡ object.entry }
         ensures kept { AreKept (children_in (value_of (node_of object.entry).tree)) result.sorted.items }

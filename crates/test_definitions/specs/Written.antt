@@ -19,7 +19,7 @@ unfoldable pub reading : ⊤
 unfolding many shorthand function_name call_start positive some_digits int_at int_digits minus fraction sign exponent_behind exponent number_at hex4 low_half hex_scalar escape_at next_scalar between_quotes string_at word_at literal_at operator_at origin_at begins_without_literal bound_at step_at slice_behind index_or_slice singular_behind singular_segment next_singular singular_at dotted selector_at next_selector brackets_at descendant_at next_segment segments_at closed_at condition_at argument_at next_argument arguments_at call_behind comparable_at comparison_behind query_behind call_or_comparison literal_comparison test_at negated_at plain_at basic_at next_basic and_at next_and or_at logical_at query_at read_text query_of chars is_utf8 encode
 reading = tt
 
--- what a script writes over a collection that is framed so, where the lines hold so many bytes at most, and growths were
+-- what a script writes over a collection that is framed so, where the lines hold at most `most` bytes, and growths were
 -- refused in the commands that the flags tell
 unfoldable pub written_by : Framing → ℕ → List Bool → List ℕ → List ℕ → List ℕ
 unfolding reading digits chars is_utf8 encode
@@ -31,7 +31,7 @@ unfoldable pub written : List ℕ → List ℕ → List ℕ
 unfolding written_by
 written collection script = written_by framings.Lines 4294967295 [] collection script
 
--- a text so many times, one behind another
+-- a number of copies of a text, one after another
 abbrev pub times_in_row : ℕ → List ℕ → List ℕ
 times_in_row zero text = []
 times_in_row (suc n) text = text ++ times_in_row n text

@@ -155,10 +155,10 @@ fn push_keys(line: &[u8], names: &[KeptName], keys: &mut Vec<u64>) -> Result<boo
     Ok(true)
 }
 
-/// So many keys are sorted at once; of more, only those that share a slot with another.
+/// Up to this number of keys are sorted at once; of more, only those that share a slot with another.
 const MOST_SORTED: usize = 1 << 10;
 
-/// Keys fall on so many slots. Of more keys than slots most share one, so they are sorted at once too.
+/// The number of slots that keys fall on. Of more keys than slots most share one, so they are sorted at once too.
 const SLOTS: usize = 1 << 16;
 
 /// Memory for the keys of an object, and for finding those that share a slot.

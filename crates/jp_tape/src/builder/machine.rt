@@ -77,8 +77,8 @@ pub struct Builder {
 /// The fault of a line that is not a JSON text (RFC 8259, section 2).
 pub(super) const GRAMMAR: BuildFault = BuildFault::Line(LineFault::Grammar);
 
-/// Room is made for so many turns of the walk at once, or for fewer where fewer marks are to come. Room for a whole line at
-/// once would ask for several times the memory that a long one needs, and at each node it would cost time.
+/// Room is made for this number of turns of the walk at once, or for fewer where fewer marks are to come. Room for a whole
+/// line at once would ask for several times the memory that a long one needs, and at each node it would cost time.
 const STRETCH: usize = 1 << 16;
 
 /// Arrays and objects nest no deeper (profile).
@@ -153,8 +153,8 @@ impl Builder {
         nodes.min(names)
     }
 
-    /// Makes room for the next turns, and tells for how many there is room then. Each passes one of so many marks, except one
-    /// that finds none.
+    /// Makes room for the next turns, and tells for how many there is room then. Each passes one of the `mark_count` marks that
+    /// are to come, except one that finds none.
     #[inline(never)]
     fn make_room(&mut self, mark_count: usize) -> Result<usize, BuildFault>
         ensures some { IfOk result (λ turns. 0 < turns) }

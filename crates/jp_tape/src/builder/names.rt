@@ -17,10 +17,10 @@ use jp_strings::{compare, equal};
 use std::alloc::{AllocError, Global};
 use std::cmp::Ordering;
 
-/// So many names are compared by pairs, where two share a place.
+/// Up to this number of names are compared by pairs, where two share a place.
 const MOST_PAIRED: usize = 5;
 
-/// So many names seldom share both of their places, and of more the keys are sorted.
+/// Up to this number of names seldom share both of their places, and of more the keys are sorted.
 const MOST_PLACED: usize = 32;
 
 /// Fewer names than these have no equal ones.

@@ -84,7 +84,7 @@ pub(super) fn next_token(line: &[u8], marks: &[u32], from: usize) -> usize
     first_mark(line, marks)
 }
 
-/// The marks after the first so many.
+/// The marks after the first `count`.
 #[inline(always)]
 pub(super) fn marks_behind(marks: &[u32], count: usize) -> &[u32]
     requires { count ≤ length marks.now }

@@ -134,7 +134,7 @@ fn string_end(line: &[u8], escape: usize, marks: &[u32], from: usize) -> Option<
     }
 }
 
-/// So many marks have a name, its colon and what follows them at least.
+/// The least number of marks that a name, its colon and what follows them have.
 const NAME_AND_MORE: usize = 4;
 
 /// The name at `from` and its colon, where a token follows them: its quotes, the colon and the token are the next marks.

@@ -5,7 +5,7 @@ use crate::{Cursor, Kind};
 use jp_model::{Framing, LineFault, Span};
 use std::alloc::{AllocError, Global};
 
-/// So many opening brackets of arrays, and behind them so many closing ones.
+/// `opened` opening brackets of arrays, and after them `closed` closing ones.
 fn nested(alloc: Global, opened: usize, closed: usize) -> Result<Vec<u8>, AllocError> {
     let mut line = Vec::new(alloc);
     for _ in 0..opened {
@@ -31,7 +31,7 @@ fn depth_is_bounded_and_not_recursive(rt: HostRuntime) -> Result<(), Fail> {
     Ok(())
 }
 
-/// So many blanks, and an object of one member.
+/// An object of one member, after `blanks` blanks.
 fn behind_blanks(alloc: Global, blanks: u32) -> Result<Vec<u8>, AllocError> {
     let mut line = Vec::new(alloc);
     for _ in 0..blanks {

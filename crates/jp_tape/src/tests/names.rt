@@ -4,7 +4,7 @@ use super::{Fail, has_tape, is_refused};
 use jp_model::LineFault;
 use std::alloc::{AllocError, Global};
 
-/// An object of so many names, of which the last one is given.
+/// An object of `count` names with `last` as the last one.
 fn object(alloc: Global, count: usize, last: &str) -> Result<Vec<u8>, AllocError> {
     let mut line = Vec::from_slice(alloc, b"{")?;
     for number in 1..count {

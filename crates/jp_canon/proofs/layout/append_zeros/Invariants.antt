@@ -1,4 +1,4 @@
--- So many zeros were appended as turns were made.
+-- As many zeros were appended as turns were made.
 use Rattle.std.proofs.Common.{◌≡◌, ◌++◌}
 use Rattle.jp_canon.specs.Layout.{zeros}
 use Rattle.jp_canon.proofs.layout.append_zeros.Given as goal

@@ -1,4 +1,4 @@
--- So many siblings were passed.
+-- As many siblings were passed as turns were made.
 use Rattle.std.proofs.Common.{◌≡◌, ◌+◌, ℕ, List}
 use Rattle.std.specs.Prelude.{IfSome}
 use Rattle.jp_model.specs.Meaning.Nodes.{Node}

@@ -1,4 +1,4 @@
--- So many of the part stand behind the list.
+-- The nodes from `start` up to `position` stand once more after those of the list.
 use Rattle.std.proofs.Common.{◌≡◌, ◌-◌, ◌++◌, take}
 use Rattle.jp_eval.specs.Found.{between}
 use Rattle.jp_eval.proofs.frame.Frame.copy.Given as goal
