@@ -11,7 +11,7 @@ use Rattle.jp_cut.specs.declared.machine.Turn.{Turn}
 use Rattle.jp_cut.specs.declared.machine.Turn.TheVariants.{Passed, Kept, Last, Ended, EndedBefore}
 use Rattle.jp_cut.specs.declared.machine.Step.{Step}
 
--- at most so many brackets are open behind a byte, by what it does and how many were open before it
+-- the greatest number of brackets that are open after a byte, by what it does and how many were open before it
 abbrev pub most_open : Turn → ℕ → ℕ
 most_open Passed depth = 0
 most_open Kept depth = depth + 1

@@ -1,7 +1,7 @@
 -- Lemmas on the cut.
 mod Depth
 mod Taking
-mod Passing
+pub mod Passing
 mod Blocks
 mod Holding
 mod MarkLaw

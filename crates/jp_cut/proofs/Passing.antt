@@ -34,11 +34,11 @@ not_zero d some = elim (eqb_tells d 0) [ inl same ↦ absurd (omega (arith, same
 not_whole : (d : ℕ) (other : Bool) → 0 < d → (eqb d 0 && other) ≡ false
 not_whole d other some = ap (λ b. b && other) (not_zero d some)
 
-kept_in_text : (whole : Bool) (known : Known) → whole ≡ false → (if whole then does Last (nothing_open Between) else does Kept known) ≡ does Kept known
+pub kept_in_text : (whole : Bool) (known : Known) → whole ≡ false → (if whole then does Last (nothing_open Between) else does Kept known) ≡ does Kept known
 kept_in_text true known e = absurd (cc)
 kept_in_text false known e = refl
 
-kept_in_element : (whole a b c : Bool) (known : Known) → whole ≡ false
+pub kept_in_element : (whole a b c : Bool) (known : Known) → whole ≡ false
     → (if whole && a then does Ended (nothing_open NextElement) else (if whole && b then does Ended (nothing_open Between) else (if whole && c then does Last (nothing_open Between) else does Kept known))) ≡ does Kept known
 kept_in_element true a b c known e = absurd (cc)
 kept_in_element false a b c known e = refl
@@ -63,7 +63,7 @@ now_open known (b ∷ rest) stays = stays.0
 abbrev pub behind_kept : Cut → List ℕ → Cut
 behind_kept cut bytes = record { ended = cut.ended; begun = cut.begun ++ bytes; line_feeds = cut.line_feeds; known = behind_all cut.known bytes }
 
-kept_one : (pieces : Pieces) (cut : Cut) (byte : ℕ) → step pieces cut.known byte ≡ does Kept (behind cut.known byte) → take_in pieces cut byte ≡ behind_kept cut (byte ∷ [])
+pub kept_one : (pieces : Pieces) (cut : Cut) (byte : ℕ) → step pieces cut.known byte ≡ does Kept (behind cut.known byte) → take_in pieces cut byte ≡ behind_kept cut (byte ∷ [])
 kept_one pieces cut byte e =
     take_in-turned pieces cut byte Kept (ap (λ x. x.turn) e)
     ∙ ap (λ (k : Known). let made : Cut = record { ended = cut.ended; begun = cut.begun ++ byte ∷ []; line_feeds = cut.line_feeds; known = k } in made) (ap (λ x. x.known) e)

@@ -207,15 +207,17 @@ module _ (pieces : Pieces) (bytes front rest : List ℕ) (handed : List Piece) (
       ∙ append_assoc handed more_ended (last_at (cut_of pieces bytes).known.place (cut_of pieces bytes))
   come_are stream is false = ap (λ xs. (cut_of pieces xs).ended) is ∙ ended_are
 
-pub are_first : (pieces : Pieces) (stream : List ℕ) (handed : List Piece) (s : Cutter) → HasRead pieces stream handed s → AreFirst pieces stream handed
-are_first pieces stream handed s h = elim (either s.is_front) [
+pub stays_first : (pieces : Pieces) (stream more : List ℕ) (handed : List Piece) (s : Cutter) → HasRead pieces stream handed s → AreFirst pieces (stream ++ more) handed
+stays_first pieces stream more handed s h = elim (either s.is_front) [
   | inl front ↦ (let f = h.at_front front in record {
-    others = λ ends. pieces_come pieces ends stream;
-    joined = λ ends. ap (λ xs. xs ++ pieces_come pieces ends stream) (sym f.none);
+    others = λ ends. pieces_come pieces ends (stream ++ more);
+    joined = λ ends. ap (λ xs. xs ++ pieces_come pieces ends (stream ++ more)) (sym f.none);
   })
   | inr behind ↦ (let b = h.behind_front behind in
-      let c = b.cut in record {
-        others = more_of pieces b.bytes c.cut (drop s.cut s.held.items) handed c.joined (ap (λ x. x.ended) c.state);
-        joined = come_are pieces b.bytes c.cut (drop s.cut s.held.items) handed c.joined (ap (λ x. x.ended) c.state) stream (bytes_are pieces stream b.bytes b.dropped);
+      let c = b.cut in
+      let rest = drop s.cut s.held.items ++ more in
+      let joined = ap (λ xs. xs ++ more) c.joined ∙ append_assoc c.cut (drop s.cut s.held.items) more in record {
+        others = more_of pieces (b.bytes ++ more) c.cut rest handed joined (ap (λ x. x.ended) c.state);
+        joined = come_are pieces (b.bytes ++ more) c.cut rest handed joined (ap (λ x. x.ended) c.state) (stream ++ more) (b.dropped more);
       })
 ]

@@ -59,7 +59,7 @@ impl Cutter {
     /// At the front of a stream.
     pub fn new(alloc: Global, pieces: Pieces) -> Cutter
         ensures front { HasRead pieces [] [] result }
-        ensures held { held_by result ≡ 0 }
+        ensures held { result.held.items ≡ [] }
     {
         Cutter {
             pieces,
@@ -79,11 +79,19 @@ impl Cutter {
         self.held.len() - self.start
     }
 
+    /// The bytes that are held. Those of pieces that were handed out are among them up to the next call of `hold`.
+    pub fn held(&self) -> &[u8]
+        ensures { result.now ≡ self.now.held.items }
+    {
+        &self.held
+    }
+
     /// Lets go the bytes before the open piece.
     fn let_go(&mut self)
         ensures cut { (pieces : Pieces) (fed : List ℕ) (handed : List Piece) → HasCut pieces fed handed self.old
             → HasCut pieces fed handed self.new }
         ensures front { self.old.start ≡ 0 → self.new ≡ self.old }
+        ensures start { self.new.start ≡ 0 }
         ensures is_front { self.new.is_front ≡ self.old.is_front }
         ensures held { held_by self.new ≡ held_by self.old }
     {
@@ -99,11 +107,12 @@ impl Cutter {
 
     /// Takes in the next bytes of the stream. The pieces that were handed out are let go.
     ///
-    /// After an `Err` it is as if they had not come.
+    /// After an `Err` it is as if they had not come. In each case no byte is held but those of pieces that are to come.
     pub fn hold(&mut self, bytes: &[u8]) -> Result<(), AllocError>
         ensures read { (pieces : Pieces) (stream : List ℕ) (handed : List Piece) → HasRead pieces stream handed self.old
             → OnOk result (HasRead pieces (stream ++ bytes.now) handed self.new) }
         ensures held { OnOk result (held_by self.new ≡ held_by self.old + length bytes.now) }
+        ensures all { length self.new.held.items ≡ held_by self.new }
         ensures err { (pieces : Pieces) (stream : List ℕ) (handed : List Piece) → HasRead pieces stream handed self.old
             → OnErr result (HasRead pieces stream handed self.new) }
         ensures err_held { OnErr result (held_by self.new ≡ held_by self.old) }
@@ -199,6 +208,7 @@ impl Cutter {
         ensures front { self.new.is_front ≡ false }
         ensures less { uncut_len self.new ≤ uncut_len self.old }
         ensures held { held_by self.new ≤ held_by self.old }
+        ensures same { self.new.held ≡ self.old.held }
     {
         let kept = without_byte_order_mark(&self.held).len();
         self.is_front = false;
@@ -207,19 +217,21 @@ impl Cutter {
         self.start = self.cut;
     }
 
-    /// The next piece that ended, or `None` where no other ended in the bytes that came.
+    /// The next piece that ended, or `None` where no other ended in the bytes that came. Whatever comes, the pieces that were
+    /// handed out are the first of the stream.
     pub fn next_piece(&mut self) -> Option<PieceAt>
         ensures read { (pieces : Pieces) (stream : List ℕ) (handed : List Piece) → HasRead pieces stream handed self.old
             → GoesOn pieces stream handed result self.new }
         ensures ended { (pieces : Pieces) (stream : List ℕ) (handed : List Piece) → HasRead pieces stream handed self.old
             → IfNone result (pieces_come pieces false stream ≡ handed) }
-        ensures first { (pieces : Pieces) (stream : List ℕ) (handed : List Piece) → HasRead pieces stream handed self.new
-            → AreFirst pieces stream handed }
+        ensures first { (pieces : Pieces) (stream more : List ℕ) (handed : List Piece) → HasRead pieces stream handed self.new
+            → AreFirst pieces (stream ++ more) handed }
         ensures spent { IfNone result (IsSpent self.new) }
         ensures there { IfSome result (IsHeld self.new) }
         ensures few { IfSome result (λ piece. piece.end - piece.start ≤ held_by self.old) }
         ensures less { IfSome result (λ piece. uncut_len self.new < uncut_len self.old) }
         ensures held { held_by self.new ≤ held_by self.old }
+        ensures same { self.new.held ≡ self.old.held }
     {
         if self.is_front {
             if may_become_mark(&self.held) {
@@ -281,6 +293,7 @@ impl Cutter {
         ensures few { IfSome result (λ piece. piece.end - piece.start ≤ held_by self.old) }
         ensures less { IfSome result (λ piece. uncut_len self.new < uncut_len self.old) }
         ensures held { held_by self.new ≤ held_by self.old }
+        ensures same { self.new.held ≡ self.old.held }
     {
         while self.cut < self.held.len() {
             let piece = self.cut_on();

@@ -1,4 +1,4 @@
-use Rattle.std.proofs.Common.{◌≡◌, ◌++◌, Result, Ok, Err, List, refl, is_ok}
+use Rattle.std.proofs.Common.{arith, ◌≡◌, ◌++◌, Result, Ok, Err, List, refl, is_ok}
 use Rattle.std.specs.Prelude.{OnOk, OnErr, if◌then◌else◌}
 use Rattle.jp_cut.proofs.Reading.{read_more, read_none}
 use Rattle.jp_cut.proofs.cutter.Cutter.hold.Goals as goal
@@ -22,3 +22,6 @@ returns-clause-err c pieces stream handed h =
     let l = c.let_go.ensures in
     where_err c.extend_from_slice.result c.let_go.new.self.held.items c.args.bytes.now c.extend_from_slice.new.self.items _ c.extend_from_slice.ensures.items
     (λ e. read_none pieces stream handed c.args.self.now c.let_go.new.self _ h l.is_front l.front (λ fed. l.cut pieces fed handed) e refl refl refl refl refl refl)
+
+pub returns-clause-all : goal.returns-clause-all
+returns-clause-all c = omega (arith, c.let_go.ensures.start)
