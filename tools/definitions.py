@@ -151,7 +151,7 @@ def made_tables():
     return {
         "definitions": tables(files(CRATES / "jp_model/specs/Lib.antt"), commented, "Name"),
         "canonical": tables([CRATES / f"jp_canon/specs/{name}.antt" for name in ("Canonical", "Layout")], commented, "Name"),
-        "cut": tables([CRATES / f"jp_cut/specs/{name}.antt" for name in ("Machine", "Cuts")], commented, "Name"),
+        "cut": tables([*(CRATES / f"jp_cut/specs/{name}.antt" for name in ("Machine", "Cuts")), *files(CRATES / "jp_cut_laws/specs/Lib.antt")], commented, "Name"),
         "laws": tables([*law_files, *sorted(CRATES.glob("*/src/laws.rt"))], laws, "Law"),
         "words": tables(files(CRATES / "jp_laws/specs/Lib.antt"), commented, "Name", set(re.findall(r"\w+", " ".join(used)))),
     }

@@ -1,0 +1,23 @@
+-- Proofs of the laws.
+pub mod Written
+pub mod Parts
+pub mod Crossing
+pub mod Values
+pub mod Taken
+pub mod Whole
+pub mod Shifted
+pub mod Elements
+pub mod Arrays
+pub mod Streams
+pub mod From
+pub mod Spelled
+pub mod Utf8
+pub mod Lines
+pub mod OneLine
+pub mod Children
+pub mod Coming
+pub mod AcceptedTexts
+pub mod AcceptedElements
+pub mod Accepted
+pub mod NoneRefused
+pub mod LineValues

@@ -1,0 +1,4 @@
+-- What the laws speak of.
+pub mod Unplaced
+pub mod Elements
+pub mod Values
