@@ -5,7 +5,9 @@ jpq on the same collections.
 
 How an example is written stands at the head of the examples. Without an executable JPQ the comparison with it is left out.
 """
+import array
 import csv
+import fcntl
 import io
 import json
 import os
@@ -17,8 +19,11 @@ import shlex
 import subprocess
 import sys
 import tempfile
+import termios
 import threading
 import time
+
+from jpgrep_pieces import BYTE_ORDER_MARK, answers_of, random_stream
 
 PROGRAM, JPQ = (os.path.abspath(word) for word in sys.argv[1:])
 EXAMPLES = pathlib.Path(__file__).with_name("jpgrep.examples")
@@ -155,16 +160,20 @@ def own_messages(room):
     check("how many more were refused, and no other message", (len(lines), bool(last) and 39_990 <= int(last[1]) <= 40_000), (11, True))
 
 
-def failed_read(room):
-    """A read that fails behind eleven refused lines: that of a terminal whose other side was closed."""
-    master, terminal = pty.openpty()
-    os.write(terminal, b"}\n" * 11)
-    os.close(terminal)
-    run = subprocess.run([PROGRAM, "-c", "$"], cwd=room, stdin=master, capture_output=True, timeout=SECONDS)
-    os.close(master)
+def failed_reads(room):
+    """A read that fails behind eleven refused lines, and within a text, of which nothing is told: that of a terminal whose other side
+    was closed."""
     told = b"".join(b"jpgrep: (standard input):%d: grammar\n" % number for number in range(1, 11))
-    told += b"jpgrep: (standard input): 1 more line is refused; --refused lists them\njpgrep: (standard input): cannot read\n"
-    check("a read that fails behind eleven refused lines", (run.stdout, run.stderr, run.returncode), (b"", told, 2))
+    told += b"jpgrep: (standard input): 1 more line is refused; --refused lists them\n"
+    cases = ((["-c", "$"], b"}\n" * 11, b"", told), (["--json", "$"], b'{"a":1}12 [2,3', b'{"a":1}\n12\n', b""),
+             (["--elements", "$"], b'{"a":1}12 [2,3', b'{"a":1}\n12\n2\n', b""))
+    for words, text, rows, told in cases:
+        master, terminal = pty.openpty()
+        os.write(terminal, text)
+        os.close(terminal)
+        run = subprocess.run([PROGRAM, *words], cwd=room, stdin=master, capture_output=True, timeout=SECONDS)
+        os.close(master)
+        check(f"{words}, a read that fails", (run.stdout, run.stderr, run.returncode), (rows, told + b"jpgrep: (standard input): cannot read\n", 2))
 
 
 def first_bytes(room):
@@ -227,15 +236,56 @@ TEXTS = ((b' \x1e{"a":1}\n', b"", b""), (b"\x1e", b'\x1e1:{"a":1}\n', b""), (b"1
          (b'{"a":2}', b"", b""), (b"\x1e", b'\x1e3:{"a":2}\n', b""))
 
 
+# A text in brackets or quotes ends with its last byte, a number or word with the byte behind it, an element with its comma or with the
+# bracket of its array.
+JSON = ((b"\xef\xbb", b"", b""), (b'\xbf{"a":[', b"", b""), (b"\n1]}", b'1:{"a":[1]}\n', b""), (b'"x', b"", b""), (b'"', b'2:"x"\n', b""),
+        (b"12", b"", b""), (b" ", b"3:12\n", b""), (b"true[", b"4:true\n", b""), (b"]1]", b"5:[]\n", b""),
+        (b"\n", b"", b"jpgrep: fifo:6: grammar, from line 2\n"))
+ELEMENTS = ((b'[{"a":1}', b"", b""), (b",", b'1:{"a":1}\n', b""), (b"[2\n]", b"", b""), (b" ", b"", b""), (b"]", b"2:[2]\n", b""), (b"[3 4", b"", b""),
+            (b",", b"", b"jpgrep: fifo:3: grammar, from line 2\n"), (b'5}{"b":1}', b'5:{"b":1}\n', b"jpgrep: fifo:4: grammar, from line 2\n"))
+
+
+def in_two_reads(words, text, cut, room):
+    """What a run writes and says of a text whose first bytes it reads before the others come."""
+    with subprocess.Popen([PROGRAM, *words], cwd=room, stdin=subprocess.PIPE, stdout=subprocess.PIPE, stderr=subprocess.PIPE, bufsize=0) as run:
+        run.stdin.write(text[:cut])
+        unread = array.array("i", [cut])
+        while unread[0] and run.poll() is None:
+            time.sleep(0.0005)
+            fcntl.ioctl(run.stdin, termios.FIONREAD, unread)
+        return run.communicate(text[cut:], timeout=SECONDS)
+
+
+def each_cut(room):
+    """A stream is read in two parts, whatever its first part is."""
+    text = b'\xef\xbb\xbf {"a":"]\\"}",\r\n"b":[1,{}]}[",\\\\",\n[2]]"x"12 tru{"a" 3}[4'
+    cases = (("--json", b'1:{"a":"]\\"}","b":[1,{}]}\n2:[",\\\\",[2]]\n3:"x"\n4:12\n', ((5, b"grammar"), (6, b"grammar"), (7, b"truncated"))),
+             ("--elements", b'1:{"a":"]\\"}","b":[1,{}]}\n2:",\\\\"\n3:[2]\n4:"x"\n5:12\n', ((6, b"grammar"), (7, b"grammar"), (8, b"truncated"))))
+    for word, rows, refused in cases:
+        told = b"".join(b"jpgrep: (standard input):%d: %s, from line 3\n" % fault for fault in refused)
+        for cut in range(len(text) + 1):
+            check(f"{word}, cut behind {cut} bytes", in_two_reads([word, "-n", "$"], text, cut, room), (rows, told))
+
+
+def long_pieces(room):
+    """Texts and elements that end about the ends of the 65,536 bytes that are read at once, and longer ones."""
+    texts = [b'["' + b"x" * (length - 4) + b'"]' for length in (65_535, 65_536, 65_537, 4, 65_530, 200_000, 4, 131_072, 9)]
+    rows = b"".join(b"%d:%s\n" % numbered for numbered in enumerate(texts, 1))
+    check("texts about the ends of reads", ended(["--json", "-n", "$"], room, b"".join(texts)), (rows, b"", 0))
+    check("elements about the ends of reads", ended(["--elements", "-n", "$"], room, b"[" + b",\n".join(texts) + b"]"), (rows, b"", 0))
+
+
 def memory():
     """The peak of the process is asked before its standard input ends."""
     lines = b'{"level":"info","ms":12,"path":["a","b"]}\n' * 25_000  # somewhat more than 1 MB
-    run = subprocess.Popen([PROGRAM, "-c", "$[?@ == 12]"], stdin=subprocess.PIPE, stdout=subprocess.PIPE)
-    for _ in range(200):
-        run.stdin.write(lines)
-    kilobytes = int(re.search(r"VmHWM:\s*(\d+) kB", pathlib.Path(f"/proc/{run.pid}/status").read_text("ascii"))[1])
-    check("the count of 200 MB", run.communicate(timeout=SECONDS)[0], b"5000000\n")
-    check("200 MB in less than 20 MB", kilobytes if kilobytes >= 20_000 else "less", "less")
+    for word, front, text in ((), b"", lines), (("--json",), b"", lines), (("--elements",), b"[0", lines.replace(b"{", b",{")):
+        run = subprocess.Popen([PROGRAM, *word, "-s", "-c", "$[?@ == 12]"], stdin=subprocess.PIPE, stdout=subprocess.PIPE)
+        run.stdin.write(front)
+        for _ in range(200):
+            run.stdin.write(text)
+        kilobytes = int(re.search(r"VmHWM:\s*(\d+) kB", pathlib.Path(f"/proc/{run.pid}/status").read_text("ascii"))[1])
+        check(f"{word} the count of 200 MB", run.communicate(b"]" if front else b"", timeout=SECONDS)[0], b"5000000\n")
+        check(f"{word} 200 MB in less than 20 MB", kilobytes if kilobytes >= 20_000 else "less", "less")
 
 
 def random_value(dice, depth):
@@ -289,6 +339,21 @@ def each_line_once(room):
         check(f"lines {number} by `$` and by --refused", sorted(rows, key=lambda row: int(row.partition(b":")[0])), stated)
 
 
+def pieces_once(room):
+    """Each text or element is answered with its number: by its row, or by a message and in the rows of --refused."""
+    dice = random.Random(8259)
+    for number in range(200):
+        stream = (BYTE_ORDER_MARK if dice.random() < 0.1 else b"") + random_stream(dice)
+        pathlib.Path(room, "stream").write_bytes(stream)
+        for word in ("--json", "--elements"):
+            rows, told, refused = answers_of(stream, b"stream", word == "--elements")
+            got = ended([word, "-n", "$", "stream"], room)
+            check(f"stream {number} with {word}", got[0], rows)
+            check(f"messages on stream {number} with {word}", got[1].splitlines()[:10], told.splitlines()[:10])
+            check(f"status of stream {number} with {word}", got[2], 2 if told else 0 if rows else 1)
+            check(f"stream {number} with {word} --refused", ended([word, "--refused", "-n", "-p", "stream"], room)[0], refused)
+
+
 def read_back(room):
     """Tables lead back to the values of their cells: by the reader of CSV that Python has, and by what stands behind a backslash.
     Canonical form is what Python writes of a value with its names in order."""
@@ -317,12 +382,17 @@ def main():
         devices(room)
         own_output(room)
         own_messages(room)
-        failed_read(room)
+        failed_reads(room)
         first_bytes(room)
         follows("lines of a fifo", ["-n", "$.a"], LINES, room)
         follows("texts of a fifo", ["-n", "--seq", "$.a"], TEXTS, room)
+        follows("JSON texts of a fifo", ["-n", "--json", "$"], JSON, room)
+        follows("elements of a fifo", ["-n", "--elements", "$"], ELEMENTS, room)
+        each_cut(room)
+        long_pieces(room)
         memory()
         each_line_once(room)
+        pieces_once(room)
         read_back(room)
         if os.access(JPQ, os.X_OK):
             beside_jpq(room)

@@ -28,6 +28,8 @@ LINES = b"""{"level":"error","ms":340,"tags":["a","b"]}
 """ + b'{"level":"error","long":"' + b"x" * 70_000 + b'"}\n' + b'{"a":"\xff"}\n{"level":"error"}'
 SEQUENCE = b'\x1e{"level":"error"}\n\x1e[1,\n\x1e{"level":\n"info"}\n'
 
+DOCUMENTS = b'{"level":\n"error"}[1,\n2]"x" tru {"a" 1}' + b"[" + LINES.replace(b"\n", b",\n")
+
 # The words of each run, and the text of its standard input.
 RUNS = [
     (["$"], LINES),
@@ -36,6 +38,8 @@ RUNS = [
     (["-o", "-p", "-e", "$..*", "-e", "$.tags[::-1]", "-w", "@.ms > 100 || match(@.level, 'e(r|x)+o.')", "lines"], b""),
     (["-v", "-c", "-w", "length(@.level) == 5", "lines", "sequence"], b""),
     (["--seq", "-n", "$.level", "-", "sequence"], SEQUENCE),
+    (["--json", "-n", "$.level", "-", "lines"], DOCUMENTS),
+    (["--elements", "-n", "$.level", "lines", "-"], DOCUMENTS),
     (["-r", "$.level", "lines"], b""),
     (["-j", "-o", "$", "lines"], b""),
     (["-o", "-p", "-e", "$.deep..*..*[?@..*..*]..*", "-e", "$..[?count(@..*..*)>2]..*..[?value(@..*..*)==0]", "lines"], b""),

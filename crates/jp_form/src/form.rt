@@ -1,6 +1,16 @@
 //! What is written of a stream, and told of it.
 
+use jp_cut::Pieces;
 use jp_model::Framing;
+
+/// What of a stream plays the lines: it is numbered, asked and counted, one after another.
+#[derive(Clone, Copy, Debug, PartialEq, Eq)]
+pub enum Units {
+    /// Its lines, or the texts of a sequence.
+    Lines(Framing),
+    /// Its JSON texts, over any number of lines, or the elements of those that are arrays.
+    Pieces(Pieces),
+}
 
 /// How a value is spelled where it is printed.
 #[derive(Clone, Copy, Debug, PartialEq, Eq)]
@@ -51,8 +61,8 @@ pub enum Summary {
 /// What is written of a stream, and told of it.
 #[derive(Clone, Copy)]
 pub struct Form<'a> {
-    /// How the stream is cut into lines.
-    pub framing: Framing,
+    /// What of the stream plays the lines.
+    pub units: Units,
     pub shown: Shown,
     /// How a line or a value is spelled in its row. The cells of a table have a spelling of their own.
     pub spelling: Spelling,
@@ -61,7 +71,7 @@ pub struct Form<'a> {
     pub name: &'a str,
     /// Whether the name stands in front of each row, with a colon.
     pub named: bool,
-    /// Whether the number of the line stands in front of each row, with a colon.
+    /// Whether the number of the line, from 1, stands in front of each row, with a colon.
     pub numbered: bool,
     /// Whether refused lines are no fault: nothing is told of them, and the exit status is none the worse for them.
     pub silent: bool,

@@ -3,9 +3,10 @@
 //! Public items:
 //!
 //! - `Form`: all of it, with the name of the stream
-//! - `Shown`, `Spelling`, `Table`, `Summary`: its parts
+//! - `Units`, `Shown`, `Spelling`, `Table`, `Summary`: its parts
 #![tactic(auto)]
 
 mod form;
 
-pub use form::{Form, Shown, Spelling, Summary, Table};
+pub use form::{Form, Shown, Spelling, Summary, Table, Units};
+pub use jp_cut::Pieces;

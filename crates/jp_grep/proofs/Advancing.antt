@@ -1,16 +1,17 @@
 -- What answers none of some bytes, or the lines that end in them, goes on through a stream.
 use Rattle.std.proofs.Common.{◌≡◌, ◌∙◌, ◌-◌, ℕ, List, [], ◌++◌, sym, ap, subst, append-nil, arith, Bool, true, false, Option, Result, Ok, Err, IsErr}
-use Rattle.std.specs.Prelude.{IfErr, IsErrAnd, OnOk}
+use Rattle.std.specs.Prelude.{IfErr, IsErrAnd, MatchResult, OnOk}
 use Rattle.jp_model.specs.declared.Framing.{Framing}
 use Rattle.jp_devices.specs.Devices.{Device, Received, Writes}
 use Rattle.jp_model.specs.Lines.{without_byte_order_mark}
 use Rattle.jp_masks.specs.Found.{lines_in}
 use Rattle.jp_devices.proofs.Chains.{ends_in_part}
 use Rattle.jp_grep.specs.Cuts.{EndsBetween, text_of}
-use Rattle.jp_grep.specs.Faults.{is_front_fault, is_inner_fault, is_input_fault}
+use Rattle.jp_grep.specs.Faults.{IsToldOf, is_front_fault, is_inner_fault, is_input_fault}
 use Rattle.jp_grep.specs.Fronts.{AreRefused}
+use Rattle.jp_grep.specs.Items.{Item}
 use Rattle.jp_grep.specs.Positions.{IsAt}
-use Rattle.jp_grep.specs.Rows.{messages_from, output_from, selected_line}
+use Rattle.jp_grep.specs.Rows.{messages_from, output_from, selected_item}
 use Rattle.jp_grep.specs.Searching.{Answers, GoesOnBy, IsUnderWay}
 use Rattle.jp_grep.specs.Streams.{closed_in}
 use Rattle.jp_grep.specs.Watching.{answered_of}
@@ -42,7 +43,7 @@ pub whole_written : {W A E : Type 0} {contents : W → Option (List ℕ)} (r : R
 whole_written (Ok x) old new text w = w
 whole_written (Err e) old new text w = part_so_far old new text w
 
-inner_no_front : (fault : SearchFault) → is_inner_fault fault ≡ true → is_front_fault fault ≡ true → ⊥
+pub inner_no_front : (fault : SearchFault) → is_inner_fault fault ≡ true → is_front_fault fault ≡ true → ⊥
 inner_no_front faults.Read h e = cc
 inner_no_front faults.Framing h e = cc
 inner_no_front (faults.Foreign format) h e = cc
@@ -74,9 +75,19 @@ pub handed_on : (P : SearchFault → Type 0) (r : Result Unit SearchFault) (faul
 handed_on P (Ok x) fault h p = tt
 handed_on P (Err e) fault h p = subst P (sym h) p
 
+-- one that is told of no input refuses none, too
+pub told_no_front : (P : SearchFault → Type 0) (r : Result Unit SearchFault) → IsToldOf is_input_fault r false → IfErr r (λ e. is_front_fault e ≡ true → P e)
+told_no_front P (Ok x) told = tt
+told_no_front P (Err e) told = λ front. absurd (other_no_front e told front)
+
+-- what is so however it ended
+pub so_anyhow : (P : Type 0) (r : Result Unit SearchFault) → P → MatchResult r (λ _. P) (λ fault. is_front_fault fault ≡ false → P)
+so_anyhow P (Ok x) p = p
+so_anyhow P (Err e) p = λ _. p
+
 module _ (question : Question) (form : Form) where
   none_answered : (selected : ℕ) → answered_of question form selected [] ≡ []
-  none_answered selected = none_up_to (selected_line question form.framing) (form.most - selected)
+  none_answered selected = none_up_to (selected_item question) (form.most - selected)
 
   none_by : (progress : Progress) → IsUnderWay form progress → GoesOnBy question form progress progress []
   none_by progress h = record { number = omega arith; selected = omega arith; refused = omega arith; under_way = h }
@@ -113,17 +124,17 @@ held_refused framing came held piece answered false fault e refused at = absurd 
 
 -- the lines are answered all the same, where a later step failed or the fault was handed on
 module _ (question : Question) (form : Form) {W E : Type 0} {rows_in : W → Option (List ℕ)} {messages_in : E → Option (List ℕ)} where
-  pub answers_later : (before after : Progress) (out0 out1 : Device W) (told0 told1 : Device E) (lines : List (List ℕ)) (x : Unit {0}) (r : Result Unit SearchFault)
-      → Answers rows_in messages_in question form before after out0 out1 told0 told1 (Ok x) lines → Answers rows_in messages_in question form before after out0 out1 told0 told1 r lines
-  answers_later before after out0 out1 told0 told1 lines x r h = record {
+  pub answers_later : (before after : Progress) (out0 out1 : Device W) (told0 told1 : Device E) (items : List Item) (x : Unit {0}) (r : Result Unit SearchFault)
+      → Answers rows_in messages_in question form before after out0 out1 told0 told1 (Ok x) items → Answers rows_in messages_in question form before after out0 out1 told0 told1 r items
+  answers_later before after out0 out1 told0 told1 items x r h = record {
     rows = whole_written r out0 out1 _ h.rows;
     messages = whole_written r told0 told1 _ h.messages;
     progress = holds_at_ok r h.progress;
   }
 
-  pub answers_in_part : (before after : Progress) (out0 out1 : Device W) (told0 told1 : Device E) (lines : List (List ℕ)) (e : SearchFault) (r : Result Unit SearchFault) → IsErr r
-      → Answers rows_in messages_in question form before after out0 out1 told0 told1 (Err e) lines → Answers rows_in messages_in question form before after out0 out1 told0 told1 r lines
-  answers_in_part before after out0 out1 told0 told1 lines e r failed h = record {
+  pub answers_in_part : (before after : Progress) (out0 out1 : Device W) (told0 told1 : Device E) (items : List Item) (e : SearchFault) (r : Result Unit SearchFault) → IsErr r
+      → Answers rows_in messages_in question form before after out0 out1 told0 told1 (Err e) items → Answers rows_in messages_in question form before after out0 out1 told0 told1 r items
+  answers_in_part before after out0 out1 told0 told1 items e r failed h = record {
     rows = ends_in_part r out0 out1 _ failed h.rows;
     messages = ends_in_part r told0 told1 _ failed h.messages;
     progress = says_nothing _ r failed;

@@ -1,14 +1,15 @@
--- Lines that are answered one after another.
+-- Lines, texts and elements that are answered one after another.
 use Rattle.std.proofs.Common.{◌≡◌, ◌∙◌, ◌<◌, ℕ, ◌+◌, ◌-◌, List, [], ◌∷◌, ◌++◌, length, refl, sym, ap, ap₂, append_assoc, append-nil, arith, Bool, true, false, if◌then◌else◌}
 use Rattle.std.specs.Prelude.{zero, suc, count_by, cond}
 use Rattle.std.proofs.lemmas.List.Sums.{sum_by-append, sum_by-cons}
-use Rattle.jp_grep.specs.Rows.{line_message, line_rows, messages_from, output_from, refused_count, refused_line}
+use Rattle.jp_grep.specs.Items.{Item}
+use Rattle.jp_grep.specs.Rows.{item_message, item_rows, messages_from, output_from, refused_count, refused_item}
 use Rattle.jp_grep.specs.Streams.{up_to}
 use Rattle.jp_form.specs.declared.form.Form.{Form}
 use Rattle.jp_grep.specs.declared.question.Question.{Question}
 
-module _ (test : List ℕ → Bool) where
-  count-cons : (x : List ℕ) (xs : List (List ℕ)) → count_by test (x ∷ xs) ≡ cond (test x) 1 0 + count_by test xs
+module _ {A : Type 0} (test : A → Bool) where
+  count-cons : (x : A) (xs : List A) → count_by test (x ∷ xs) ≡ cond (test x) 1 0 + count_by test xs
   count-cons x xs = sum_by-cons (λ y. cond (test y) 1 0) x xs
 
   less : (b : Bool) (most count : ℕ) → (if b then most else suc most) - count ≡ suc most - (cond b 1 0 + count)
@@ -16,7 +17,7 @@ module _ (test : List ℕ → Bool) where
   less false most count = omega arith
 
   -- the line that comes next is among them, where some are wanted
-  pub next_up_to : (most : ℕ) (line : List ℕ) (rest : List (List ℕ)) → 0 < most → up_to test most (line ∷ rest) ≡ line ∷ up_to test (most - cond (test line) 1 0) rest
+  pub next_up_to : (most : ℕ) (line : A) (rest : List A) → 0 < most → up_to test most (line ∷ rest) ≡ line ∷ up_to test (most - cond (test line) 1 0) rest
   next_up_to zero line rest l = absurd (omega arith)
   next_up_to (suc most) line rest l = ap (λ n. line ∷ up_to test n rest) (by (test line))
     where
@@ -29,7 +30,7 @@ module _ (test : List ℕ → Bool) where
   none_up_to (suc most) = refl
 
   -- of more lines, those behind the first are taken as far as they are wanted then
-  pub up_to-append : (most : ℕ) (xs ys : List (List ℕ)) → up_to test most (xs ++ ys) ≡ up_to test most xs ++ up_to test (most - count_by test (up_to test most xs)) ys
+  pub up_to-append : (most : ℕ) (xs ys : List A) → up_to test most (xs ++ ys) ≡ up_to test most xs ++ up_to test (most - count_by test (up_to test most xs)) ys
   up_to-append zero xs ys = ap (λ n. up_to test n ys) (none_less (count_by test (up_to test zero xs)))
     where
       none_less : (n : ℕ) → zero ≡ zero - n
@@ -44,36 +45,36 @@ module _ (test : List ℕ → Bool) where
       ap (λ l. x ∷ l) (up_to-append k xs ys)
       ∙ ap (λ n. x ∷ (taken ++ up_to test n ys)) (less (test x) most (count_by test taken) ∙ ap (λ n. suc most - n) (sym (count-cons x taken)))
 
-  pub count-append : (xs ys : List (List ℕ)) → count_by test (xs ++ ys) ≡ count_by test xs + count_by test ys
+  pub count-append : (xs ys : List A) → count_by test (xs ++ ys) ≡ count_by test xs + count_by test ys
   count-append xs ys = sum_by-append (λ y. cond (test y) 1 0) xs ys
 
-  pub count_one : (x : List ℕ) → count_by test (x ∷ []) ≡ cond (test x) 1 0
+  pub count_one : (x : A) → count_by test (x ∷ []) ≡ cond (test x) 1 0
   count_one x = omega (arith, count-cons x [])
 
 module _ (question : Question) (form : Form) where
-  pub output-append : (n : ℕ) (xs ys : List (List ℕ)) → output_from question form n (xs ++ ys) ≡ output_from question form n xs ++ output_from question form (n + length xs) ys
+  pub output-append : (n : ℕ) (xs ys : List Item) → output_from question form n (xs ++ ys) ≡ output_from question form n xs ++ output_from question form (n + length xs) ys
   output-append n [] ys = ap (λ k. output_from question form k ys) (omega arith)
   output-append n (x ∷ xs) ys =
-      ap (λ l. line_rows question form n x ++ l) (output-append (n + 1) xs ys ∙ ap (λ k. output_from question form (n + 1) xs ++ output_from question form k ys) (omega arith))
-      ∙ sym (append_assoc (line_rows question form n x) (output_from question form (n + 1) xs) (output_from question form (n + length (x ∷ xs)) ys))
+      ap (λ l. item_rows question form n x ++ l) (output-append (n + 1) xs ys ∙ ap (λ k. output_from question form (n + 1) xs ++ output_from question form k ys) (omega arith))
+      ∙ sym (append_assoc (item_rows question form n x) (output_from question form (n + 1) xs) (output_from question form (n + length (x ∷ xs)) ys))
 
   counted_so : (before one rest all : ℕ) → all ≡ one + rest → (before + one) + rest ≡ before + all
   counted_so before one rest all e = omega (arith, e)
 
-  pub messages-append : (before n : ℕ) (xs ys : List (List ℕ))
-      → messages_from form before n (xs ++ ys) ≡ messages_from form before n xs ++ messages_from form (before + refused_count form.framing xs) (n + length xs) ys
+  pub messages-append : (before n : ℕ) (xs ys : List Item)
+      → messages_from form before n (xs ++ ys) ≡ messages_from form before n xs ++ messages_from form (before + refused_count xs) (n + length xs) ys
   messages-append before n [] ys = ap₂ (λ j k. messages_from form j k ys) (omega arith) (omega arith)
   messages-append before n (x ∷ xs) ys =
-      let one = cond (refused_line form.framing x) 1 0 in
-      let counted = counted_so before one (refused_count form.framing xs) (refused_count form.framing (x ∷ xs)) (count-cons (refused_line form.framing) x xs) in
-      ap (λ l. line_message form before n x ++ l)
+      let one : ℕ = cond (refused_item x) 1 0 in
+      let counted : (before + one) + refused_count xs ≡ before + refused_count (x ∷ xs) = counted_so before one (refused_count xs) (refused_count (x ∷ xs)) (count-cons refused_item x xs) in
+      ap (λ l. item_message form before n x ++ l)
       (messages-append (before + one) (n + 1) xs ys ∙ ap₂ (λ j k. messages_from form (before + one) (n + 1) xs ++ messages_from form j k ys) counted (omega arith))
-      ∙ sym (append_assoc (line_message form before n x) (messages_from form (before + one) (n + 1) xs)
-      (messages_from form (before + refused_count form.framing (x ∷ xs)) (n + length (x ∷ xs)) ys))
+      ∙ sym (append_assoc (item_message form before n x) (messages_from form (before + one) (n + 1) xs)
+      (messages_from form (before + refused_count (x ∷ xs)) (n + length (x ∷ xs)) ys))
 
   -- one more line
-  pub output_one : (n : ℕ) (line : List ℕ) → output_from question form n (line ∷ []) ≡ line_rows question form n line
-  output_one n line = append-nil (line_rows question form n line)
+  pub output_one : (n : ℕ) (line : Item) → output_from question form n (line ∷ []) ≡ item_rows question form n line
+  output_one n line = append-nil (item_rows question form n line)
 
-  pub messages_one : (before n : ℕ) (line : List ℕ) → messages_from form before n (line ∷ []) ≡ line_message form before n line
-  messages_one before n line = append-nil (line_message form before n line)
+  pub messages_one : (before n : ℕ) (line : Item) → messages_from form before n (line ∷ []) ≡ item_message form before n line
+  messages_one before n line = append-nil (item_message form before n line)

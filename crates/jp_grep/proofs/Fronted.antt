@@ -96,7 +96,7 @@ long_goes_on (a ∷ []) more l = absurd (omega (arith, l))
 long_goes_on (a ∷ b ∷ []) more l = absurd (omega (arith, l))
 long_goes_on (a ∷ b ∷ c ∷ bytes) more l = three a b c bytes more
 
--- white space behind so many bytes leaves it open whether they are framed
+-- white space after more bytes than the longest mark has leaves it open whether they are framed
 pub blank_may : (framing : Framing) (bytes piece : List ℕ) → 10 < length bytes → HasNoEnd framing bytes → MayGoOn framing bytes → is_blank piece ≡ true → MayBeFramed framing (bytes ++ piece)
 blank_may framings.Lines bytes piece l clear may blank = ([], refl)
 blank_may framings.Sequence bytes piece l clear may blank = elim may.framed [

@@ -23,7 +23,7 @@ plain_byte : (table : Table) (byte : ℕ) → is_special byte ≡ false → byte
 plain_byte tables.Tabs byte plain = rw (differs is_special byte 0x09 refl plain, differs is_special byte 0x0A refl plain, differs is_special byte 0x0D refl plain, differs is_special byte 0x5C refl plain) refl
 plain_byte tables.Commas byte plain = rw (differs is_special byte 0x22 refl plain) refl
 
--- from a position on so many bytes stand for themselves
+-- from the position `at` on, `n` bytes stand for themselves
 pub plain_run : (table : Table) (cell : List ℕ) (n at : ℕ) → at + n ≤ length cell → ((k : ℕ) → at ≤ k → k < at + n → is_special (slice_index cell k) ≡ false)
     → bytes_text table (take n (drop at cell)) ≡ take n (drop at cell)
 plain_run table cell zero at within plain = refl

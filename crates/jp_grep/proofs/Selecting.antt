@@ -10,7 +10,7 @@ use Rattle.jp_model.specs.Query.Syntax.{Segments}
 use Rattle.jp_devices.proofs.Devices.{or_false}
 use Rattle.jp_eval.specs.Compiled.{program_view}
 use Rattle.jp_eval.specs.declared.evaluate.Program.{Program}
-use Rattle.jp_grep.specs.Matching.{has_nodes, nodes_of, selected_by, selects, wants_found, wants_nodes_where, wants_value}
+use Rattle.jp_grep.specs.Matching.{has_nodes, nodes_of, selected_by, selects, wants_nodes_where, wants_value}
 use Rattle.jp_grep.specs.declared.question.Wanted.{Wanted}
 use Rattle.jp_grep.specs.declared.question.Wanted.TheVariants as wanted
 

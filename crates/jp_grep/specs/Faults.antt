@@ -25,7 +25,7 @@ is_input_fault faults.Framing = true
 is_input_fault (faults.Foreign format) = true
 is_input_fault _ = false
 
--- the fault is of this kind exactly where so much is said: never at Ok
+-- `told` is true exactly where the fault is of this kind, and so never at Ok
 abbrev pub IsToldOf : {A : Type 0} → (SearchFault → Bool) → Result A SearchFault → Bool → Type 0
 IsToldOf is result told = MatchResult result (λ _. told ≡ false) (λ fault. told ≡ is fault)
 
@@ -34,6 +34,12 @@ abbrev pub is_inner_fault : SearchFault → Bool
 is_inner_fault faults.Size = true
 is_inner_fault faults.Memory = true
 is_inner_fault _ = false
+
+-- no fault of a device
+pub record IsOfNoDevice (fault : SearchFault) : Type 0 where
+  pub write : is_write_fault fault ≡ false
+  pub report : is_report_fault fault ≡ false
+  pub read : is_read_fault fault ≡ false
 
 -- a fault by which a stream is refused as a whole: it is not framed, or data of another format
 abbrev pub is_front_fault : SearchFault → Bool

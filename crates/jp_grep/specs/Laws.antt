@@ -7,10 +7,12 @@ use Rattle.jp_model.specs.Meaning.Paths.{path_text}
 use Rattle.jp_model.specs.Query.Syntax.{Segments}
 use Rattle.jp_model.specs.Rows.{Row, node_row, refusal_row, line_feed, source, tab, status_rows as query_rows}
 use Rattle.jp_grep.specs.Matching.{conditions_of, queries_of}
-use Rattle.jp_grep.specs.Rows.{line_rows}
+use Rattle.jp_grep.specs.Rows.{item_rows}
+use Rattle.jp_grep.specs.Items.{line_item}
 use Rattle.jp_form.specs.declared.form.Form.{Form}
 use Rattle.jp_form.specs.declared.form.Shown.TheVariants as shown
 use Rattle.jp_form.specs.declared.form.Spelling.TheVariants as spellings
+use Rattle.jp_form.specs.declared.form.Units.TheVariants as unit
 use Rattle.jp_form.specs.declared.form.Summary.{Summary}
 use Rattle.jp_grep.specs.declared.question.Question.{Question}
 use Rattle.jp_grep.specs.declared.question.Wanted.TheVariants as wanted
@@ -18,7 +20,7 @@ use Rattle.jp_grep.specs.declared.question.Wanted.TheVariants as wanted
 -- values with their paths and the numbers of their lines, as `-onp` prints them
 abbrev pub numbered_values : Summary → Bor (List ℕ) → Bool → ℕ → Form
 numbered_values summary name silent most = record {
-  framing = framings.Lines;
+  units = unit.Lines framings.Lines;
   shown = shown.Values true;
   spelling = spellings.Source;
   summary = summary;
@@ -38,4 +40,4 @@ row_with_colon line (refusal_row n fault) = []
 abbrev pub RowsAreThoseOfAQuery : Type 0
 RowsAreThoseOfAQuery = (question : Question) (query : Segments) → queries_of question ≡ query ∷ [] → conditions_of question ≡ [] → question.wanted ≡ wanted.Matching
     → (summary : Summary) (name : Bor (List ℕ)) (silent : Bool) (most n : ℕ) (line : List ℕ)
-    → line_rows question (numbered_values summary name silent most) n line ≡ flat_map (row_with_colon line) (query_rows query n (status_of framings.Lines line))
+    → item_rows question (numbered_values summary name silent most) n (line_item framings.Lines line) ≡ flat_map (row_with_colon line) (query_rows query n (status_of framings.Lines line))

@@ -6,6 +6,8 @@ pub mod Held
 pub mod Rows
 pub mod Told
 pub mod Streams
+pub mod Items
+pub mod ReadItems
 pub mod Formats
 pub mod Fronts
 pub mod Watching
@@ -14,6 +16,8 @@ pub mod Cuts
 pub mod Faults
 pub mod Holding
 pub mod Positions
+pub mod Stands
+pub mod Finding
 pub mod Searching
 pub mod Laws
 pub mod Once

@@ -7,10 +7,12 @@ use Rattle.jp_model.specs.Json.Status.{blank}
 use Rattle.jp_model.specs.Query.Syntax.{no_segments}
 use Rattle.jp_model.specs.Rows.{line_feed}
 use Rattle.jp_grep.specs.Matching.{conditions_of, queries_of}
-use Rattle.jp_grep.specs.Rows.{line_rows, selected_line}
+use Rattle.jp_grep.specs.Rows.{item_rows, selected_item}
+use Rattle.jp_grep.specs.Items.{Item, line_item}
 use Rattle.jp_form.specs.declared.form.Form.{Form}
 use Rattle.jp_form.specs.declared.form.Shown.TheVariants as shown
 use Rattle.jp_form.specs.declared.form.Spelling.TheVariants as spellings
+use Rattle.jp_form.specs.declared.form.Units.TheVariants as unit
 use Rattle.jp_form.specs.declared.form.Summary.{Summary}
 use Rattle.jp_grep.specs.declared.question.Question.{Question}
 use Rattle.jp_grep.specs.declared.question.Wanted.TheVariants as wanted
@@ -18,7 +20,7 @@ use Rattle.jp_grep.specs.declared.question.Wanted.TheVariants as wanted
 -- lines as they are, with nothing in front
 abbrev pub bare_lines : Summary → Bor (List ℕ) → Bool → ℕ → Form
 bare_lines summary name silent most = record {
-  framing = framings.Lines;
+  units = unit.Lines framings.Lines;
   shown = shown.Line false;
   spelling = spellings.Source;
   summary = summary;
@@ -37,11 +39,11 @@ pub record AsksRoot (question : Question) : Type 0 where
 
 -- Each line that is not blank is selected by one of both questions, and not by the other. Of whichever selects it, the row is
 -- the line and a line feed.
-pub record IsSelectedOnce (root refused : Question) (form : Form) (n : ℕ) (line : List ℕ) : Type 0 where
-  pub once : selected_line refused form.framing line ≡ not (selected_line root form.framing line)
-  pub same : line_rows root form n line ++ line_rows refused form n line ≡ line ++ line_feed
+pub record IsSelectedOnce (root refused : Question) (form : Form) (n : ℕ) (line : Item) : Type 0 where
+  pub once : selected_item refused line ≡ not (selected_item root line)
+  pub same : item_rows root form n line ++ item_rows refused form n line ≡ line.text ++ line_feed
 
 abbrev pub EachLineIsSelectedOnce : Type 0
 EachLineIsSelectedOnce = (root refused : Question) → AsksRoot root → refused.wanted ≡ wanted.Refused
     → (summary : Summary) (name : Bor (List ℕ)) (silent : Bool) (most n : ℕ) (line : List ℕ) → ¬ (status_of framings.Lines line ≡ blank)
-    → IsSelectedOnce root refused (bare_lines summary name silent most) n line
+    → IsSelectedOnce root refused (bare_lines summary name silent most) n (line_item framings.Lines line)

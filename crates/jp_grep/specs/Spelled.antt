@@ -1,5 +1,5 @@
 -- How a value is spelled where it is printed.
-use Rattle.std.specs.Prelude.{ℕ, List, Bool, true, false, encode_utf8_all, if◌then◌else◌}
+use Rattle.std.specs.Prelude.{ℕ, List, Bool, true, false, not, ◌==◌, ◌||◌, encode_utf8_all, filter, if◌then◌else◌}
 use Rattle.std.specs.Option.{option_map_or}
 use Rattle.jp_model.specs.Json.Tree.{Tree, value_of}
 use Rattle.jp_model.specs.Rows.{source}
@@ -8,19 +8,30 @@ use Rattle.jp_nodes.specs.Kinds.{kind_of}
 use Rattle.jp_nodes.specs.declared.Kind.{Kind}
 use Rattle.jp_nodes.specs.declared.Kind.TheVariants as kinds
 use Rattle.jp_canon.specs.Canonical.{canonical_text}
+use Rattle.jp_form.specs.declared.form.Units.{Units}
+use Rattle.jp_form.specs.declared.form.Units.TheVariants as unit
 use Rattle.jp_form.specs.declared.form.Spelling.{Spelling}
 use Rattle.jp_form.specs.declared.form.Spelling.TheVariants as spellings
 
--- a string by its characters in UTF-8, where each escape gives what it stands for (RFC 8259, section 7), and any other value as
--- its line spells it
-abbrev pub plain : List ℕ → Tree → List ℕ
-plain line t = option_map_or encode_utf8_all (text_in (value_of t)) (source line t)
+-- a line feed or a carriage return: in a JSON text each of them is white space between two tokens (RFC 8259, section 2)
+abbrev pub is_line_break : ℕ → Bool
+is_line_break byte = (byte == 0x0A) || (byte == 0x0D)
+
+-- The bytes of a value as they are printed. Those of a text that may have several lines are one row without its line breaks.
+abbrev pub printed : Units → List ℕ → List ℕ
+printed (unit.Lines framing) bytes = bytes
+printed (unit.Pieces pieces) bytes = filter (λ byte. not (is_line_break byte)) bytes
+
+-- a string by its characters in UTF-8, where each escape gives what it stands for (RFC 8259, section 7), and any other value by
+-- other bytes
+abbrev pub plain_or : List ℕ → Tree → List ℕ
+plain_or other t = option_map_or encode_utf8_all (text_in (value_of t)) other
 
 -- a value as it is wanted: as its line spells it, plain, or in canonical form
-abbrev pub spelled : Spelling → List ℕ → Tree → List ℕ
-spelled spellings.Source line t = source line t
-spelled spellings.Text line t = plain line t
-spelled spellings.Canonical line t = canonical_text t
+abbrev pub spelled : Spelling → Units → List ℕ → Tree → List ℕ
+spelled spellings.Source units line t = printed units (source line t)
+spelled spellings.Text units line t = plain_or (printed units (source line t)) t
+spelled spellings.Canonical units line t = canonical_text t
 
 -- an array or an object
 abbrev pub has_children : Kind → Bool
@@ -30,4 +41,4 @@ has_children _ = false
 
 -- a value in a cell of a table: an array or an object in canonical form, any other plain (profile)
 abbrev pub cell_of : List ℕ → Tree → List ℕ
-cell_of line t = if has_children (kind_of (value_of t)) then canonical_text t else plain line t
+cell_of line t = if has_children (kind_of (value_of t)) then canonical_text t else plain_or (source line t) t

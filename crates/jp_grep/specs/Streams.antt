@@ -14,8 +14,8 @@ abbrev pub lines_come : Framing → Bool → List ℕ → List (List ℕ)
 lines_come framing true bytes = lines framing bytes
 lines_come framing false bytes = closed_in framing (without_byte_order_mark bytes)
 
--- the lines up to the one by which so many pass a test, or all where fewer do
-abbrev pub up_to : (List ℕ → Bool) → ℕ → List (List ℕ) → List (List ℕ)
-up_to test zero lines = []
+-- the items up to the one with which a given number of items pass a test, or all where fewer do
+abbrev pub up_to : {A : Type 0} → (A → Bool) → ℕ → List A → List A
+up_to test zero items = []
 up_to test (suc most) [] = []
-up_to test (suc most) (line ∷ rest) = line ∷ up_to test (if test line then most else suc most) rest
+up_to test (suc most) (item ∷ rest) = item ∷ up_to test (if test item then most else suc most) rest

@@ -1,6 +1,7 @@
 -- What is told of the refused lines of a stream: of the first ten one by one, and of the others how many there are (profile).
 use Rattle.std.specs.Prelude.{ℕ, ◌-◌, List, [], ◌++◌, codes, decimal, ◌||◌, ◌==◌, if◌then◌else◌, ltb, not}
 use Rattle.jp_model.specs.Rows.{line_feed}
+use Rattle.jp_grep.specs.Items.{Item}
 use Rattle.jp_grep.specs.Rows.{messages_from, most_told, refused_count}
 use Rattle.jp_form.specs.declared.form.Form.{Form}
 
@@ -18,6 +19,6 @@ more_refused form count =
     if form.silent || not (ltb most_told count) then []
     else more_message form.name.now (count - most_told)
 
--- all that is told when a search of these lines ends
-abbrev pub told_of : Form → List (List ℕ) → List ℕ
-told_of form lines = messages_from form 0 1 lines ++ more_refused form (refused_count form.framing lines)
+-- all that is told when a search of these items ends
+abbrev pub told_of : Form → List Item → List ℕ
+told_of form items = messages_from form 0 1 items ++ more_refused form (refused_count items)

@@ -5,31 +5,31 @@ ghost use Rattle.jp_devices.specs.Devices.{Writes};
 ghost use Rattle.jp_model.specs.Json.Status.{parsed, refused};
 ghost use Rattle.jp_nodes.specs.Cursors.{node_of};
 ghost use Rattle.jp_children.specs.Found.{AreOf};
-ghost use Rattle.jp_lines.specs.Batches.{IsBatch, IsBatchLine, texts_of};
 ghost use Rattle.jp_lines.specs.Views.{text_of_view, tree_of_view};
 ghost use Rattle.jp_eval.specs.Compiled.{program_view};
 ghost use Rattle.jp_grep.specs.Held.{Holds};
 ghost use Rattle.jp_grep.specs.Holding.{Puts, TellsOfBoth, TellsOfWriter};
 ghost use Rattle.jp_grep.specs.Faults.{IsToldOf, is_input_fault};
 ghost use Rattle.jp_grep.specs.Matching.{has_nodes, is_selected, nodes_of, queries_of, selected_by, selects, wants_nodes};
-ghost use Rattle.jp_grep.specs.Rows.{line_message, line_rows, line_text, messages_from, node_rows, output_from, refused_line, row, row_at_once, selected_line, status_message, status_rows, whole};
+ghost use Rattle.jp_grep.specs.ReadItems.{AreRead, IsReadItem, item_of, items_of};
+ghost use Rattle.jp_grep.specs.Rows.{item_message, item_rows, line_text, messages_from, node_rows, output_from, refused_item, row, row_at_once, selected_item, status_message, status_rows, whole};
 ghost use Rattle.jp_grep.specs.Searching.{Answers, GoesOnBy, IsUnderWay};
-ghost use Rattle.jp_grep.specs.Spelled.{spelled};
 ghost use Rattle.jp_grep.specs.Tables.{nodes_cell, table_row};
 ghost use Rattle.jp_grep.specs.Watching.{answered_of};
 
 use crate::fault::SearchFault;
+use crate::items::{ReadItem, ReadItems};
 use crate::outlet::Outlet;
 use crate::progress::{Progress, Verdict};
 use crate::question::{Question, Wanted, find_nodes};
 use crate::room::Room;
-use crate::rows::{add_front, add_refusal, add_refused, add_row, add_value};
-use crate::spelling::Speller;
+use crate::rows::{add_front, add_refusal, add_refused, add_value};
+use crate::spelling::{Speller, append_printed};
 use crate::told::MOST_TOLD;
 use itoa::Buffer;
 use jp_eval::Program;
-use jp_form::{Form, Shown, Spelling, Table};
-use jp_lines::{Batch, BatchLine, LineState, LineView};
+use jp_form::{Form, Shown, Spelling, Table, Units};
+use jp_lines::{LineState, LineView};
 use jp_model::{Framing, LineFault, Watched};
 use jp_nodes::Cursor;
 use jp_rows::write_whole;
@@ -46,30 +46,42 @@ pub(crate) struct Answerer<'q> {
 
 // How the row of a line is made.
 impl<'q> Answerer<'q> {
-    /// The bytes of a line as it is printed: all, and in a sequence those from the first of its value to the last.
-    fn printed<'r>(self, line: LineView<'r>, text: &'r [u8]) -> &'r [u8]
+    /// Appends a line as it is printed: its bytes, and of a text or an element those from the first of its value to the last.
+    fn append_whole<'r>(
+        self,
+        line: LineView<'r>,
+        text: &'r [u8],
+        row: &mut Vec<u8>,
+    ) -> Result<(), AllocError>
         requires { text_of_view line ≡ text.now }
-        ensures { result.now ≡ whole self.entry.form.now.framing text.now (tree_of_view line.entry) }
+        ensures { OnOk result (row.new.items ≡ row.old.items ++ whole self.entry.form.now.units text.now (tree_of_view line.entry)) }
     {
-        match self.form.framing {
-            Framing::Lines => text,
-            Framing::Sequence => line.root().source(),
+        match self.form.units {
+            Units::Lines(Framing::Lines) => row.extend_from_slice(text),
+            Units::Lines(Framing::Sequence) => row.extend_from_slice(line.root().source()),
+            Units::Pieces(_) => append_printed(self.form.units, line.root().source(), row),
         }
     }
 
-    /// Adds the row of a line whose value is spelled so.
-    fn add_spelled_line<'r>(
+    /// Appends a line as its form spells it.
+    fn append_line<'r>(
         self,
-        spelling: Spelling,
-        number: u64,
         line: LineView<'r>,
+        text: &'r [u8],
         room: &mut Room<'r>,
     ) -> Result<(), AllocError>
-        ensures { OnOk result (room.new.row.items ≡ room.old.row.items ++ row self.entry.form.now number (spelled spelling (text_of_view line.entry) (tree_of_view line.entry))) }
+        requires { text_of_view line ≡ text.now }
+        ensures { OnOk result (room.new.row.items ≡ room.old.row.items ++ line_text self.entry.form.now.spelling self.entry.form.now.units text.now (tree_of_view line.entry)) }
     {
-        add_front(self.form, number, &mut room.row)?;
-        room.speller.append(spelling, line.root(), &mut room.row)?;
-        room.row.extend_from_slice(b"\n")
+        let (units, row) = (self.form.units, &mut room.row);
+        match self.form.spelling {
+            Spelling::Source => self.append_whole(line, text, row),
+            Spelling::Text => room.speller.append(Spelling::Text, units, line.root(), row),
+            Spelling::Canonical => {
+                room.speller
+                    .append(Spelling::Canonical, units, line.root(), row)
+            }
+        }
     }
 
     /// Adds the row of a line.
@@ -81,13 +93,11 @@ impl<'q> Answerer<'q> {
         room: &mut Room<'r>,
     ) -> Result<(), AllocError>
         requires { text_of_view line ≡ text.now }
-        ensures { OnOk result (room.new.row.items ≡ room.old.row.items ++ row self.entry.form.now number (line_text self.entry.form.now.spelling self.entry.form.now.framing text.now (tree_of_view line.entry))) }
+        ensures { OnOk result (room.new.row.items ≡ room.old.row.items ++ row self.entry.form.now number (line_text self.entry.form.now.spelling self.entry.form.now.units text.now (tree_of_view line.entry))) }
     {
-        match self.form.spelling {
-            Spelling::Source => add_row(self.form, number, self.printed(line, text), &mut room.row),
-            Spelling::Text => self.add_spelled_line(Spelling::Text, number, line, room),
-            Spelling::Canonical => self.add_spelled_line(Spelling::Canonical, number, line, room),
-        }
+        add_front(self.form, number, &mut room.row)?;
+        self.append_line(line, text, room)?;
+        room.row.extend_from_slice(b"\n")
     }
 
     /// Adds the cell of a query to the cells of a line, and tells whether it selects a node.
@@ -186,7 +196,7 @@ impl<'q> Answerer<'q> {
         ensures refused { IfOk result (λ verdict. verdict.refused ≡ false) }
         ensures selected { IfOk result (λ verdict. verdict.selected ≡ is_selected self.entry.question.now (parsed (tree_of_view line.entry))) }
         ensures row { OnOk result (room.new.row.items ≡ room.old.row.items ++ (if is_selected self.entry.question.now (parsed (tree_of_view line.entry))
-            then (if shown then row self.entry.form.now number (line_text self.entry.form.now.spelling self.entry.form.now.framing text.now (tree_of_view line.entry)) else []) else [])) }
+            then (if shown then row self.entry.form.now number (line_text self.entry.form.now.spelling self.entry.form.now.units text.now (tree_of_view line.entry)) else []) else [])) }
     {
         let matching = self.question.matches(self.alloc, line, &mut room.frame)?;
         if !self.question.wanted.wants_value(matching) {
@@ -349,6 +359,7 @@ impl<'q> Answerer<'q> {
         self,
         progress: Progress,
         fault: LineFault,
+        from_line: Option<u64>,
         room: &mut Room<'r>,
         outlet: &mut Outlet,
         out: &mut Watched<W>,
@@ -357,7 +368,7 @@ impl<'q> Answerer<'q> {
         requires writes { out.old.failed ≡ false }
         requires reports { messages.old.failed ≡ false }
         ensures rows { Puts W.contents out.old out.new outlet.old.held.items outlet.new.held.items result [] }
-        ensures message { Writes E.contents messages.old messages.new result (status_message self.entry.form.now progress.counts.refused progress.number (refused fault)) }
+        ensures message { Writes E.contents messages.old messages.new result (status_message self.entry.form.now progress.counts.refused progress.number from_line (refused fault)) }
         ensures tells { TellsOfBoth result out.old out.new messages.old messages.new }
         ensures others { IsToldOf is_input_fault result false }
     {
@@ -365,7 +376,7 @@ impl<'q> Answerer<'q> {
             return Ok(());
         }
         room.row.clear();
-        if add_refusal(self.form, progress.number, fault, &mut room.row).is_err() {
+        if add_refusal(self.form, progress.number, fault, from_line, &mut room.row).is_err() {
             return Err(SearchFault::Memory);
         }
         outlet.write_held(out)?;
@@ -423,65 +434,64 @@ impl<'q> Answerer<'q> {
         })
     }
 
-    /// Answers a line.
-    fn answer_line<'r, W: Write, E: Write>(
+    /// Answers a line, a text or an element.
+    fn answer_item<'r, W: Write, E: Write>(
         self,
         progress: Progress,
-        line: BatchLine<'r>,
+        item: ReadItem<'r>,
         room: &mut Room<'r>,
         outlet: &mut Outlet,
         out: &mut Watched<W>,
         messages: &mut Watched<E>,
     ) -> Result<Verdict, SearchFault>
-        requires line { IsBatchLine self.form.now.framing line }
+        requires item { IsReadItem item }
         requires writes { out.old.failed ≡ false }
         requires reports { messages.old.failed ≡ false }
-        ensures selected { IfOk result (λ verdict. verdict.selected ≡ selected_line self.entry.question.now self.entry.form.now.framing line.entry.text.now) }
-        ensures refused { IfOk result (λ verdict. verdict.refused ≡ refused_line self.entry.form.now.framing line.entry.text.now) }
-        ensures rows { Puts W.contents out.old out.new outlet.old.held.items outlet.new.held.items result (line_rows self.entry.question.now self.entry.form.now progress.number line.entry.text.now) }
-        ensures messages { Writes E.contents messages.old messages.new result (line_message self.entry.form.now progress.counts.refused progress.number line.entry.text.now) }
+        ensures selected { IfOk result (λ verdict. verdict.selected ≡ selected_item self.entry.question.now (item_of item.entry)) }
+        ensures refused { IfOk result (λ verdict. verdict.refused ≡ refused_item (item_of item.entry)) }
+        ensures rows { Puts W.contents out.old out.new outlet.old.held.items outlet.new.held.items result (item_rows self.entry.question.now self.entry.form.now progress.number (item_of item.entry)) }
+        ensures messages { Writes E.contents messages.old messages.new result (item_message self.entry.form.now progress.counts.refused progress.number (item_of item.entry)) }
         ensures tells { TellsOfBoth result out.old out.new messages.old messages.new }
         ensures others { IsToldOf is_input_fault result false }
     {
-        match line.state {
+        match item.state {
             LineState::Blank => Ok(Verdict::unrefused(false)),
             LineState::Refused(fault) => {
-                self.tell(progress, fault, room, outlet, out, messages)?;
-                self.answer_refused(progress.number, fault, line.text, room, outlet, out)
+                self.tell(progress, fault, item.from_line, room, outlet, out, messages)?;
+                self.answer_refused(progress.number, fault, item.text, room, outlet, out)
             }
             LineState::Tree(view) => {
-                self.answer_value(progress.number, view, line.text, room, outlet, out)
+                self.answer_value(progress.number, view, item.text, room, outlet, out)
             }
         }
     }
 
-    /// Answers the lines of a piece in turn, up to the last one that is wanted. Of their rows the last may be held.
-    fn answer_lines<W: Write, E: Write>(
+    /// Answers lines, texts or elements in turn, up to the last one that is wanted. Of their rows the last may be held.
+    fn answer_each<W: Write, E: Write>(
         self,
-        batch: Batch<'_>,
+        items: ReadItems<'_>,
         progress: &mut Progress,
         outlet: &mut Outlet,
         out: &mut Watched<W>,
         messages: &mut Watched<E>,
     ) -> Result<(), SearchFault>
-        requires read { IsBatch batch }
-        requires framing { batch.framing ≡ self.form.now.framing }
+        requires read { AreRead items }
         requires under_way { IsUnderWay self.form.now progress.old }
         requires writes { out.old.failed ≡ false }
         requires reports { messages.old.failed ≡ false }
-        ensures rows { Puts W.contents out.old out.new outlet.old.held.items outlet.new.held.items result (output_from self.entry.question.now self.entry.form.now progress.old.number (answered_of self.entry.question.now self.entry.form.now progress.old.counts.selected (texts_of batch.entry))) }
-        ensures messages { Writes E.contents messages.old messages.new result (messages_from self.entry.form.now progress.old.counts.refused progress.old.number (answered_of self.entry.question.now self.entry.form.now progress.old.counts.selected (texts_of batch.entry))) }
-        ensures progress { OnOk result (GoesOnBy self.entry.question.now self.entry.form.now progress.old progress.new (answered_of self.entry.question.now self.entry.form.now progress.old.counts.selected (texts_of batch.entry))) }
+        ensures rows { Puts W.contents out.old out.new outlet.old.held.items outlet.new.held.items result (output_from self.entry.question.now self.entry.form.now progress.old.number (answered_of self.entry.question.now self.entry.form.now progress.old.counts.selected (items_of items.entry))) }
+        ensures messages { Writes E.contents messages.old messages.new result (messages_from self.entry.form.now progress.old.counts.refused progress.old.number (answered_of self.entry.question.now self.entry.form.now progress.old.counts.selected (items_of items.entry))) }
+        ensures progress { OnOk result (GoesOnBy self.entry.question.now self.entry.form.now progress.old progress.new (answered_of self.entry.question.now self.entry.form.now progress.old.counts.selected (items_of items.entry))) }
         ensures tells { TellsOfBoth result out.old out.new messages.old messages.new }
         ensures others { IsToldOf is_input_fault result false }
     {
         let mut room = Room::new(self.alloc);
-        for index in 0..batch.line_count() {
+        for index in 0..items.count() {
             if progress.counts.selected == self.form.most {
                 return Ok(());
             }
-            let line = batch.line(index);
-            match self.answer_line(*progress, line, &mut room, outlet, out, messages) {
+            let item = items.item(index);
+            match self.answer_item(*progress, item, &mut room, outlet, out, messages) {
                 Ok(verdict) => progress.pass(verdict)?,
                 Err(fault) => return Err(fault),
             }
@@ -489,27 +499,26 @@ impl<'q> Answerer<'q> {
         Ok(())
     }
 
-    /// Answers the lines of a piece, up to the last one that is wanted, and writes their rows. Where a line could not be
+    /// Answers lines, texts or elements, up to the last one that is wanted, and writes their rows. Where one could not be
     /// answered, the rows of those before it are written.
-    pub(crate) fn answer_batch<W: Write, E: Write>(
+    pub(crate) fn answer_items<W: Write, E: Write>(
         self,
-        batch: Batch<'_>,
+        items: ReadItems<'_>,
         progress: &mut Progress,
         outlet: &mut Outlet,
         out: &mut Watched<W>,
         messages: &mut Watched<E>,
     ) -> Result<(), SearchFault>
-        requires read { IsBatch batch }
-        requires framing { batch.framing ≡ self.form.now.framing }
+        requires read { AreRead items }
         requires under_way { IsUnderWay self.form.now progress.old }
         requires writes { out.old.failed ≡ false }
         requires reports { messages.old.failed ≡ false }
-        ensures answers { Answers W.contents E.contents self.entry.question.now self.entry.form.now progress.old progress.new out.old out.new messages.old messages.new result (texts_of batch.entry) }
+        ensures answers { Answers W.contents E.contents self.entry.question.now self.entry.form.now progress.old progress.new out.old out.new messages.old messages.new result (items_of items.entry) }
         ensures tells { TellsOfBoth result out.old out.new messages.old messages.new }
         ensures others { IsToldOf is_input_fault result false }
     {
         outlet.clear();
-        let answered = self.answer_lines(batch, progress, outlet, out, messages);
+        let answered = self.answer_each(items, progress, outlet, out, messages);
         if out.failed() || messages.failed() {
             return answered;
         }

@@ -6,23 +6,24 @@ ghost use Rattle.std.specs.Prelude.{◌≡◌, ◌++◌, OnOk, decimal};
 ghost use Rattle.jp_model.specs.Rows.{line_feed, row_start};
 ghost use Rattle.jp_nodes.specs.Cursors.{line_of, node_of};
 ghost use Rattle.jp_grep.specs.Spelled.{spelled};
-ghost use Rattle.jp_grep.specs.Rows.{fault_front, front, name_front, number_front, path_front, refusal, row, summary_of};
+ghost use Rattle.jp_grep.specs.Items.{framing_by};
+ghost use Rattle.jp_grep.specs.Rows.{fault_front, from_line_text, front, name_front, number_front, path_front, refusal, row, summary_of};
 
 use crate::spelling::Speller;
 use itoa::Buffer;
-use jp_form::{Form, Summary};
+use jp_form::{Form, Summary, Units};
 use jp_model::{Framing, LineFault};
 use jp_nodes::Cursor;
 use jp_rows::push_path;
 use std::alloc::AllocError;
 
 /// Adds what a row begins with: in a sequence one RS (RFC 7464, section 2.2).
-fn add_row_start(framing: Framing, text: &mut Vec<u8>) -> Result<(), AllocError>
-    ensures { OnOk result (text.new.items ≡ text.old.items ++ row_start framing) }
+fn add_row_start(units: Units, text: &mut Vec<u8>) -> Result<(), AllocError>
+    ensures { OnOk result (text.new.items ≡ text.old.items ++ row_start (framing_by units)) }
 {
-    match framing {
-        Framing::Lines => Ok(()),
-        Framing::Sequence => Ok(text.push(b'\x1e')?),
+    match units {
+        Units::Lines(Framing::Lines) | Units::Pieces(_) => Ok(()),
+        Units::Lines(Framing::Sequence) => Ok(text.push(b'\x1e')?),
     }
 }
 
@@ -53,7 +54,7 @@ fn add_number(numbered: bool, number: u64, text: &mut Vec<u8>) -> Result<(), All
 pub(crate) fn add_front(form: &Form<'_>, number: u64, text: &mut Vec<u8>) -> Result<(), AllocError>
     ensures { OnOk result (text.new.items ≡ text.old.items ++ front form.now number) }
 {
-    add_row_start(form.framing, text)?;
+    add_row_start(form.units, text)?;
     add_name(form.named, form.name, text)?;
     add_number(form.numbered, number, text)
 }
@@ -64,19 +65,6 @@ fn add_ended(body: &[u8], text: &mut Vec<u8>) -> Result<(), AllocError>
 {
     text.extend_from_slice(body)?;
     text.extend_from_slice(b"\n")
-}
-
-/// Adds a row of a line.
-pub(crate) fn add_row(
-    form: &Form<'_>,
-    number: u64,
-    body: &[u8],
-    text: &mut Vec<u8>,
-) -> Result<(), AllocError>
-    ensures { OnOk result (text.new.items ≡ text.old.items ++ row form.now number body.now) }
-{
-    add_front(form, number, text)?;
-    add_ended(body, text)
 }
 
 /// Adds the path of a node and a tab, where it is wanted.
@@ -99,11 +87,11 @@ pub(crate) fn add_value(
     speller: &mut Speller,
     text: &mut Vec<u8>,
 ) -> Result<(), AllocError>
-    ensures { OnOk result (text.new.items ≡ text.old.items ++ row form.now number (path_front paths (node_of node.entry) ++ spelled form.now.spelling (line_of node.entry) (node_of node.entry).tree)) }
+    ensures { OnOk result (text.new.items ≡ text.old.items ++ row form.now number (path_front paths (node_of node.entry) ++ spelled form.now.spelling form.now.units (line_of node.entry) (node_of node.entry).tree)) }
 {
     add_front(form, number, text)?;
     add_path_front(paths, node, text)?;
-    speller.append(form.spelling, node, text)?;
+    speller.append(form.spelling, form.units, node, text)?;
     text.extend_from_slice(b"\n")
 }
 
@@ -134,15 +122,28 @@ pub(crate) fn add_refused(
     add_ended(line, text)
 }
 
+/// Adds the number of the line of the stream in which a text or an element begins, where it is told.
+fn add_from_line(from_line: Option<u64>, text: &mut Vec<u8>) -> Result<(), AllocError>
+    ensures { OnOk result (text.new.items ≡ text.old.items ++ from_line_text from_line) }
+{
+    let Some(line) = from_line else {
+        return Ok(());
+    };
+    let mut digits = Buffer::new();
+    text.extend_from_slice(b", from line ")?;
+    text.extend_from_slice(digits.format(line).as_bytes())
+}
+
 /// Adds the message on a refused line, where messages are wanted: the program's name, that of the stream, the number of the
-/// line, from 1, and the word of its fault.
+/// line, from 1, the word of its fault, and where it is told the number of the line in which it begins.
 pub(crate) fn add_refusal(
     form: &Form<'_>,
     number: u64,
     fault: LineFault,
+    from_line: Option<u64>,
     text: &mut Vec<u8>,
 ) -> Result<(), AllocError>
-    ensures { OnOk result (text.new.items ≡ text.old.items ++ refusal form.now.silent form.now.name.now number fault) }
+    ensures { OnOk result (text.new.items ≡ text.old.items ++ refusal form.now.silent form.now.name.now number fault from_line) }
 {
     if form.silent {
         return Ok(());
@@ -151,7 +152,9 @@ pub(crate) fn add_refusal(
     add_name(true, form.name, text)?;
     add_number(true, number, text)?;
     text.extend_from_slice(b" ")?;
-    add_ended(fault.word().as_bytes(), text)
+    text.extend_from_slice(fault.word().as_bytes())?;
+    add_from_line(from_line, text)?;
+    text.extend_from_slice(b"\n")
 }
 
 /// Adds the number of selected lines, with the name in front where it is wanted.

@@ -1,29 +1,27 @@
-//! A search: the lines of a stream, each answered as it comes.
+//! A search: the lines, texts or elements of a stream, each answered as it comes.
 
-ghost use Rattle.std.specs.Prelude.{◌≡◌, ◌+◌, ◌<◌, ◌≤◌, ◌^◌, ◌&&◌, ◌||◌, not, [], length, take, false, IfErr, MatchResult, OnOk, true};
+ghost use Rattle.std.specs.Prelude.{◌≡◌, ◌&&◌, ◌||◌, not, [], false, IfErr, MatchResult, OnOk, true};
 ghost use Rattle.jp_devices.specs.Devices.{Came, GaveUpTo, Received, Writes};
-ghost use Rattle.jp_masks.specs.Found.{lines_in};
-ghost use Rattle.jp_grep.specs.Cuts.{HasNoEnd, text_of};
 ghost use Rattle.jp_grep.specs.Faults.{IsToldOf, is_input_fault, is_read_fault, is_report_fault, is_write_fault};
-ghost use Rattle.jp_grep.specs.Fronts.{MayGoOn};
 ghost use Rattle.jp_grep.specs.Holding.{TellsOfWriter};
 ghost use Rattle.jp_grep.specs.Inputs.{ReadOn};
 ghost use Rattle.jp_grep.specs.Rows.{summary_of};
-ghost use Rattle.jp_grep.specs.Searching.{Advances, Answers, IsUnderWay};
+ghost use Rattle.jp_grep.specs.Searching.{Advances, Ends, IsUnderWay};
+ghost use Rattle.jp_grep.specs.Stands.{HasStood};
 ghost use Rattle.jp_grep.specs.Watching.{SearchStopped, Searched, SearchedLines};
 
 use crate::answer::Answerer;
+use crate::answering::Answering;
 use crate::fault::SearchFault;
 use crate::input::Input;
-use crate::outlet::{Outlet, write_bytes};
-use crate::progress::{Counts, Progress};
+use crate::outlet::write_bytes;
+use crate::progress::Counts;
 use crate::question::Question;
 use crate::rows::add_summary;
-use crate::stream::{Stream, find_end};
+use crate::source::Source;
 use crate::told::tell_more;
 use jp_devices::flush_written;
 use jp_form::Form;
-use jp_lines::BatchRoom;
 use jp_model::Watched;
 use std::alloc::Global;
 use std::io::{Read, Write};
@@ -59,77 +57,62 @@ fn flush_all<W: Write, E: Write>(
 /// What goes through a stream.
 #[derive(Drop)]
 struct Searcher {
-    stream: Stream,
-    room: BatchRoom,
-    outlet: Outlet,
-    progress: Progress,
+    source: Source,
+    answering: Answering,
 }
 
 impl Searcher {
-    /// Answers the lines of the bytes that are held up to an end of a line, or up to the end of the stream.
-    fn answer_until<W: Write, E: Write>(
+    /// Takes in the bytes that came, and answers what ends among them, unless the stream is refused by its first bytes.
+    fn answer_read<W: Write, E: Write>(
         &mut self,
         answerer: Answerer<'_>,
-        end: usize,
+        bytes: &[u8],
         out: &mut Watched<W>,
         messages: &mut Watched<E>,
     ) -> Result<(), SearchFault>
-        requires end { end ≤ length self.old.stream.held.items }
-        requires few { length self.old.stream.held.items < 2 ^ 32 }
-        requires framing { self.old.stream.framing ≡ answerer.form.now.framing }
-        requires under_way { IsUnderWay answerer.form.now self.old.progress }
+        requires stands { HasStood answerer.form.now.units self.old.source }
+        requires under_way { IsUnderWay answerer.form.now self.old.answering.progress }
         requires writes { out.old.failed ≡ false }
         requires reports { messages.old.failed ≡ false }
-        ensures answers { Answers W.contents E.contents answerer.entry.question.now answerer.entry.form.now self.old.progress self.new.progress out.old out.new messages.old messages.new result
-            (lines_in answerer.entry.form.now.framing (text_of self.old.stream.is_first (take end self.old.stream.held.items))) }
-        ensures stream { self.new.stream ≡ self.old.stream }
-        ensures write_fault { IsToldOf is_write_fault result out.new.failed }
-        ensures report_fault { IsToldOf is_report_fault result messages.new.failed }
-        ensures others { IsToldOf is_input_fault result false }
-        ensures after { out.new.after ≡ out.old.after }
-        ensures messages_after { messages.new.after ≡ messages.old.after }
-    {
-        let framing = self.stream.framing;
-        let text = self.stream.text_until(end);
-        let Ok(batch) = self.room.read(framing, text) else {
-            return Err(SearchFault::Memory);
-        };
-        answerer.answer_batch(batch, &mut self.progress, &mut self.outlet, out, messages)
-    }
-
-    /// Holds the bytes that came, and answers the lines that end among them, unless the stream is refused by its first bytes.
-    fn answer_piece<W: Write, E: Write>(
-        &mut self,
-        answerer: Answerer<'_>,
-        piece: &[u8],
-        out: &mut Watched<W>,
-        messages: &mut Watched<E>,
-    ) -> Result<(), SearchFault>
-        requires few { length self.old.stream.held.items < 2 ^ 32 }
-        requires framing { self.old.stream.framing ≡ answerer.form.now.framing }
-        requires front { self.old.stream.is_first ≡ true → MayGoOn answerer.form.now.framing self.old.stream.held.items }
-        requires unended { self.old.stream.is_first ≡ true → HasNoEnd answerer.form.now.framing self.old.stream.held.items }
-        requires under_way { IsUnderWay answerer.form.now self.old.progress }
-        requires writes { out.old.failed ≡ false }
-        requires reports { messages.old.failed ≡ false }
-        ensures advances { Advances W.contents E.contents answerer.entry.question.now answerer.entry.form.now self.old.stream self.new.stream self.old.progress self.new.progress out.old out.new messages.old messages.new result piece.now }
-        ensures few { OnOk result (length self.new.stream.held.items < 2 ^ 32) }
-        ensures framing { OnOk result (self.new.stream.framing ≡ answerer.entry.form.now.framing) }
+        ensures advances { Advances W.contents E.contents answerer.entry.question.now answerer.entry.form.now self.old.source self.new.source self.old.answering.progress self.new.answering.progress out.old out.new messages.old messages.new result bytes.now }
         ensures write_fault { IsToldOf is_write_fault result out.new.failed }
         ensures report_fault { IsToldOf is_report_fault result messages.new.failed }
         ensures others { IsToldOf is_read_fault result false }
         ensures after { out.new.after ≡ out.old.after }
         ensures messages_after { messages.new.after ≡ messages.old.after }
     {
-        let from = self.stream.held.len();
-        let end = find_end(self.stream.framing, piece);
-        self.stream.hold(piece)?;
-        self.stream.check_front(from)?;
-        match end {
-            None => Ok(()),
-            Some(end) => {
-                self.answer_until(answerer, from + end, out, messages)?;
-                self.stream.let_go(from + end)
+        let answering = &mut self.answering;
+        match &mut self.source {
+            Source::Lines(stream) => answering.answer_lines(answerer, stream, bytes, out, messages),
+            Source::Pieces(cutting) => {
+                answering.answer_pieces(answerer, cutting, bytes, out, messages)
+            }
+        }
+    }
+
+    /// Answers what the end of the stream leaves, unless the stream is refused as a whole.
+    fn answer_rest<W: Write, E: Write>(
+        &mut self,
+        answerer: Answerer<'_>,
+        out: &mut Watched<W>,
+        messages: &mut Watched<E>,
+    ) -> Result<(), SearchFault>
+        requires stands { HasStood answerer.form.now.units self.old.source }
+        requires under_way { IsUnderWay answerer.form.now self.old.answering.progress }
+        requires writes { out.old.failed ≡ false }
+        requires reports { messages.old.failed ≡ false }
+        ensures ends { Ends W.contents E.contents answerer.entry.question.now answerer.entry.form.now self.old.source self.old.answering.progress self.new.answering.progress out.old out.new messages.old messages.new result }
+        ensures write_fault { IsToldOf is_write_fault result out.new.failed }
+        ensures report_fault { IsToldOf is_report_fault result messages.new.failed }
+        ensures others { IsToldOf is_read_fault result false }
+        ensures after { out.new.after ≡ out.old.after }
+        ensures messages_after { messages.new.after ≡ messages.old.after }
+    {
+        let answering = &mut self.answering;
+        match &mut self.source {
+            Source::Lines(stream) => answering.answer_last_lines(answerer, stream, out, messages),
+            Source::Pieces(cutting) => {
+                answering.answer_last_pieces(answerer, cutting, out, messages)
             }
         }
     }
@@ -158,28 +141,25 @@ fn search_lines<R: Read, W: Write, E: Write>(
     ensures early { input.new.reader.early ≡ input.old.reader.early }
 {
     let mut searcher = Searcher {
-        stream: Stream::new(answerer.alloc, answerer.form.framing),
-        room: BatchRoom::new(answerer.alloc),
-        outlet: Outlet::new(answerer.alloc),
-        progress: Progress::new(),
+        source: Source::new(answerer.alloc, answerer.form.units),
+        answering: Answering::new(answerer.alloc),
     };
     let mut buffer = [0; PIECE];
     for _read in 0..u64::MAX {
-        if searcher.progress.counts.selected == answerer.form.most {
-            return Ok(searcher.progress.counts);
+        let counts = searcher.answering.progress.counts;
+        if counts.selected == answerer.form.most {
+            return Ok(counts);
         }
         flush_all(out, messages)?;
         let Ok(count) = input.read_after(out, &mut buffer) else {
-            tell_more(answerer.form, searcher.progress.counts.refused, messages)?;
+            tell_more(answerer.form, counts.refused, messages)?;
             return Err(SearchFault::Read);
         };
         if count == 0 {
-            searcher.stream.check_end()?;
-            let end = searcher.stream.held.len();
-            searcher.answer_until(answerer, end, out, messages)?;
-            return Ok(searcher.progress.counts);
+            searcher.answer_rest(answerer, out, messages)?;
+            return Ok(searcher.answering.progress.counts);
         }
-        searcher.answer_piece(answerer, &buffer[..count], out, messages)?;
+        searcher.answer_read(answerer, &buffer[..count], out, messages)?;
     }
     Err(SearchFault::Size)
 }

@@ -1,14 +1,17 @@
 //! Values as they are printed.
 
-ghost use Rattle.std.specs.Prelude.{◌≡◌, ◌++◌, OnOk, encode_utf8_all};
+ghost use Rattle.std.specs.Prelude.{◌≡◌, ◌++◌, OnOk, encode_utf8_all, filter, not};
 ghost use Rattle.jp_strings.specs.Points.{IsText, points_of};
+ghost use Rattle.jp_model.specs.Rows.{source};
 ghost use Rattle.jp_nodes.specs.Cursors.{line_of, node_of};
-ghost use Rattle.jp_grep.specs.Spelled.{cell_of, plain, spelled};
+ghost use Rattle.jp_grep.specs.Spelled.{cell_of, is_line_break, plain_or, printed, spelled};
 
 use jp_canon::Printer;
-use jp_form::Spelling;
+use jp_form::{Spelling, Units};
+use jp_model::Framing;
 use jp_nodes::{Cursor, Kind};
 use jp_strings::{Scalars, plain_text};
+use memchr::memchr2;
 use std::alloc::{AllocError, Global};
 
 /// Appends the characters that the body of a string spells, in UTF-8 (RFC 8259, section 7). Only a body with an escape is
@@ -26,13 +29,39 @@ fn append_body(body: &[u8], text: &mut Vec<u8>) -> Result<(), AllocError>
     Ok(())
 }
 
-/// Appends a string by its characters, and any other value as its line spells it.
-fn append_plain(node: Cursor<'_>, text: &mut Vec<u8>) -> Result<(), AllocError>
-    ensures { OnOk result (text.new.items ≡ text.old.items ++ plain (line_of node.entry) (node_of node.entry).tree) }
+/// Appends bytes without line feeds and carriage returns.
+fn append_joined(bytes: &[u8], text: &mut Vec<u8>) -> Result<(), AllocError>
+    ensures { OnOk result (text.new.items ≡ text.old.items ++ filter (λ byte. not (is_line_break byte)) bytes.now) }
+{
+    let mut rest = bytes;
+    while let Some(end) = memchr2(b'\n', b'\r', rest) {
+        text.extend_from_slice(&rest[..end])?;
+        rest = &rest[end + 1..];
+    }
+    text.extend_from_slice(rest)
+}
+
+/// Appends the bytes of a value as they are printed: those of a text that may have several lines without its line breaks.
+pub(crate) fn append_printed(
+    units: Units,
+    bytes: &[u8],
+    text: &mut Vec<u8>,
+) -> Result<(), AllocError>
+    ensures { OnOk result (text.new.items ≡ text.old.items ++ printed units bytes.now) }
+{
+    match units {
+        Units::Lines(_) => text.extend_from_slice(bytes),
+        Units::Pieces(_) => append_joined(bytes, text),
+    }
+}
+
+/// Appends a string by its characters, and any other value by its bytes as they are printed.
+fn append_plain(units: Units, node: Cursor<'_>, text: &mut Vec<u8>) -> Result<(), AllocError>
+    ensures { OnOk result (text.new.items ≡ text.old.items ++ plain_or (printed units (source (line_of node.entry) (node_of node.entry).tree)) (node_of node.entry).tree) }
 {
     match node.text() {
         Some(body) => append_body(body, text),
-        None => text.extend_from_slice(node.source()),
+        None => append_printed(units, node.source(), text),
     }
 }
 
@@ -54,14 +83,15 @@ impl Speller {
     pub(crate) fn append(
         &mut self,
         spelling: Spelling,
+        units: Units,
         node: Cursor<'_>,
         text: &mut Vec<u8>,
     ) -> Result<(), AllocError>
-        ensures { OnOk result (text.new.items ≡ text.old.items ++ spelled spelling (line_of node.entry) (node_of node.entry).tree) }
+        ensures { OnOk result (text.new.items ≡ text.old.items ++ spelled spelling units (line_of node.entry) (node_of node.entry).tree) }
     {
         match spelling {
-            Spelling::Source => text.extend_from_slice(node.source()),
-            Spelling::Text => append_plain(node, text),
+            Spelling::Source => append_printed(units, node.source(), text),
+            Spelling::Text => append_plain(units, node, text),
             Spelling::Canonical => self.printer.append(node, text),
         }
     }
@@ -76,7 +106,7 @@ impl Speller {
     {
         match node.kind() {
             Kind::Array | Kind::Object => self.printer.append(node, text),
-            _ => append_plain(node, text),
+            _ => append_plain(Units::Lines(Framing::Lines), node, text),
         }
     }
 }

@@ -100,8 +100,8 @@ impl Stream {
         }
     }
 
-    /// Whether the bytes that came last leave it open whether the front of a sequence is framed: white space behind so many bytes
-    /// that these are no beginning of a mark. So the front is not looked at again and again.
+    /// Whether the bytes that came last leave it open whether the front of a sequence is framed: they are white space after
+    /// more bytes than the longest mark has. So the front is not looked at again and again.
     fn is_blank_behind(&self, from: usize) -> bool
         requires { from ≤ length self.now.held.items }
         ensures { result ≡ (ltb 10 from && is_blank_line (drop from self.now.held.items)) }

@@ -10,7 +10,6 @@ use Rattle.clap.specs.Walk.{is_empty}
 use Rattle.clap.specs.Words.{App, Kinds, Row, Rule, Text, all_of, fault_of, first_of, matches_of, new_app, new_rule}
 use Rattle.clap.specs.declared.builder.action.ArgAction.TheVariants.{Append, Help, Set, SetTrue}
 use Rattle.clap.specs.declared.error.kind.ErrorKind.TheVariants.{ArgumentConflict, InvalidValue, MissingRequiredArgument}
-use Rattle.jp_model.specs.declared.Framing.TheVariants.{Lines, Sequence}
 use Rattle.jp_options.specs.declared.options.Options.{Options}
 
 -- the words that belong to no option, as many as there are
@@ -78,9 +77,15 @@ front_rules = flag_rule (codes "number") 0x6E (codes "line-number")
     ∷ most_rule
     ∷ []
 
--- the others: `-s`, `--check`, `--seq`, `--help`
+-- the others: `-s`, `--check`, `--json`, `--elements`, `--seq`, `--help`
 abbrev pub general_rules : List Rule
-general_rules = flag_rule (codes "silent") 0x73 (codes "no-messages") ∷ word_rule (codes "check") ∷ word_rule (codes "seq") ∷ help_rule ∷ []
+general_rules = flag_rule (codes "silent") 0x73 (codes "no-messages")
+    ∷ word_rule (codes "check")
+    ∷ word_rule (codes "json")
+    ∷ word_rule (codes "elements")
+    ∷ word_rule (codes "seq")
+    ∷ help_rule
+    ∷ []
 
 -- a command with more rules behind those that it has
 abbrev pub with_rules : App → List Rule → App
@@ -141,7 +146,9 @@ pub record IsAskedBy (found : List Row) (o : Options) : Type 0 where
   pub unnamed : o.unnamed ≡ is_given (codes "unnamed") found
   pub silent : o.silent ≡ is_given (codes "silent") found
   pub checks : o.checks ≡ is_given (codes "check") found
-  pub framing : o.framing ≡ (if is_given (codes "seq") found then Sequence else Lines)
+  pub texts : o.texts ≡ is_given (codes "json") found
+  pub elements : o.elements ≡ is_given (codes "elements") found
+  pub sequence : o.sequence ≡ is_given (codes "seq") found
 
 -- neither `-e` nor `-w` was given
 abbrev pub names_nothing : List Row → Bool
@@ -175,13 +182,19 @@ form_conflicts found = if is_given (codes "raw") found && is_given (codes "canon
     else if is_given (codes "header") found && not (asks_table found) then MissingRequiredArgument ∷ []
     else if is_given (codes "invert") found && (asks_table found || asks_values found) then ArgumentConflict ∷ [] else []
 
--- why the words do not go together: `-l` with `-L`, `-H` with `-h`, `--refused` with what asks of values, what is printed, no
--- query; and none where they do
+-- why the words of what plays the lines do not go together: `--json` with `--elements`, `--seq` with either of them; and none
+-- where they do
+abbrev pub stream_conflicts : List Row → Kinds
+stream_conflicts found = if is_given (codes "json") found && is_given (codes "elements") found then ArgumentConflict ∷ []
+    else if is_given (codes "seq") found && (is_given (codes "json") found || is_given (codes "elements") found) then ArgumentConflict ∷ [] else []
+
+-- why the words do not go together: `-l` with `-L`, `-H` with `-h`, `--refused` with what asks of values, what is printed, what
+-- plays the lines, no query; and none where they do
 abbrev pub conflicts_in : List Row → Kinds
 conflicts_in found = if is_given (codes "with") found && is_given (codes "without") found then ArgumentConflict ∷ []
     else if is_given (codes "name") found && is_given (codes "unnamed") found then ArgumentConflict ∷ []
     else if is_given (codes "refused") found && asks_of_values found then ArgumentConflict ∷ []
-    else or_else (form_conflicts found) (if asks_nothing found then MissingRequiredArgument ∷ [] else [])
+    else or_else (form_conflicts found) (or_else (stream_conflicts found) (if asks_nothing found then MissingRequiredArgument ∷ [] else []))
 
 -- why the words are refused as they are read: the kinds that the error may have, and none where they are taken
 unfoldable pub parse_faults : List Text → Kinds

@@ -1,5 +1,6 @@
 -- What the program's words ask for, once they are read.
 use Rattle.std.specs.Prelude.{ℕ, List, [], ◌∷◌, length, take, drop, map, codes, Bool, false, ◌&&◌, ◌||◌, not, ltb, if◌then◌else◌, min, unwrap_or}
+use Rattle.jp_cut.specs.declared.machine.Pieces.TheVariants as pieces
 use Rattle.jp_form.specs.declared.form.Shown.{Shown}
 use Rattle.jp_form.specs.declared.form.Shown.TheVariants as shown
 use Rattle.jp_form.specs.declared.form.Spelling.{Spelling}
@@ -7,6 +8,9 @@ use Rattle.jp_form.specs.declared.form.Spelling.TheVariants as spellings
 use Rattle.jp_form.specs.declared.form.Summary.{Summary}
 use Rattle.jp_form.specs.declared.form.Summary.TheVariants as summaries
 use Rattle.jp_form.specs.declared.form.Table.TheVariants as tables
+use Rattle.jp_form.specs.declared.form.Units.{Units}
+use Rattle.jp_form.specs.declared.form.Units.TheVariants as units
+use Rattle.jp_model.specs.declared.Framing.TheVariants as framings
 use Rattle.jp_options.specs.declared.options.Options.{Options}
 
 -- the words that belong to no option, the queries of `-e`, and the conditions of `-w`
@@ -41,6 +45,15 @@ abbrev pub asked_most : Options → ℕ
 asked_most o =
     let most = unwrap_or o.most 18446744073709551615 in
     if first_decides o then min most 1 else most
+
+-- what of a file plays the lines: JSON texts where `--json` asks for them, elements where `--elements` does, the texts of a
+-- sequence where `--seq` does, and else its lines
+abbrev pub asked_units : Options → Units
+asked_units o =
+    if o.texts then units.Pieces pieces.Texts
+    else if o.elements then units.Pieces pieces.Elements
+    else if o.sequence then units.Lines framings.Sequence
+    else units.Lines framings.Lines
 
 -- what a row shows: nothing where something else is printed, cells where `--tsv` or `--csv` asks for them, values where `-o` or
 -- `-p` does, and of a refused line with `-p` the word of its fault

@@ -22,7 +22,8 @@ Examples:
   jpgrep -w '@.level == \"error\" && @.ms > 200' log.jsonl
   jpgrep --csv --header -e '$.time' -e '$.ms' log.jsonl
   tail -f log.jsonl | jpgrep -or '$.msg'
-  jpgrep --refused -np log.jsonl";
+  jpgrep --refused -np log.jsonl
+  jpgrep --elements -w '@.ms > 200' export.json";
 
 /// The command whose arguments are the program's.
 pub(crate) fn program_command<'a>(alloc: Global) -> Result<Command<'a>, AllocError>
@@ -109,7 +110,7 @@ fn most_argument<'a>(alloc: Global) -> Arg<'a>
         .long("max-count")
         .value_name("NUMBER")
         .action(ArgAction::Set)
-        .help("Stops behind so many selected lines of each file")
+        .help("Stops after NUMBER selected lines of each file")
 }
 
 /// A flag with a word alone.
@@ -229,7 +230,11 @@ fn add_spelling<'a>(alloc: Global, command: Command<'a>) -> Result<Command<'a>, 
             "tsv",
             "Prints a row for each selected line, a cell for each query, with tabs between them",
         ))?
-        .arg(word_flag(alloc, "csv", "The same with commas (RFC 4180)"))?
+        .arg(word_flag(
+            alloc,
+            "csv",
+            "Prints such rows with commas in place of tabs (RFC 4180)",
+        ))?
         .arg(word_flag(
             alloc,
             "header",
@@ -282,6 +287,16 @@ fn add_general<'a>(alloc: Global, command: Command<'a>) -> Result<Command<'a>, A
             alloc,
             "check",
             "Reads no file, and says where a query or a condition goes wrong",
+        ))?
+        .arg(word_flag(
+            alloc,
+            "json",
+            "Takes each JSON text for a line, however many lines it has",
+        ))?
+        .arg(word_flag(
+            alloc,
+            "elements",
+            "Takes each element of a JSON text that is an array for a line",
         ))?
         .arg(word_flag(alloc, "seq", "The files are JSON text sequences (RFC 7464)"))?
         .arg(help_argument(alloc))

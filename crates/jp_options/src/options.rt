@@ -3,11 +3,11 @@
 ghost use Rattle.std.specs.Prelude.{◌≡◌, ◌||◌, ◌∷◌, [], List, map};
 ghost use Rattle.std.specs.Option.{option_map_or};
 ghost use Rattle.clap.specs.Words.{Row};
-ghost use Rattle.jp_options.specs.Command.{IsAskedBy, asks_of_values, asks_spelling, conflicts_in, form_conflicts, names_nothing};
-ghost use Rattle.jp_options.specs.Words.{asked_files, asked_most, asked_queries, asked_rows, asked_spelling, asked_summary, asks_names, begins_with_query};
+ghost use Rattle.jp_options.specs.Command.{IsAskedBy, asks_of_values, asks_spelling, conflicts_in, form_conflicts, names_nothing, stream_conflicts};
+ghost use Rattle.jp_options.specs.Words.{asked_files, asked_most, asked_queries, asked_rows, asked_spelling, asked_summary, asked_units, asks_names, begins_with_query};
 
 use clap::error::ErrorKind;
-use jp_form::{Form, Shown, Spelling, Summary, Table};
+use jp_form::{Form, Pieces, Shown, Spelling, Summary, Table, Units};
 use jp_model::Framing;
 
 /// What the program's words ask for.
@@ -57,8 +57,12 @@ pub struct Options<'a> {
     pub silent: bool,
     /// `--check`: no file is read, and queries and conditions are looked at alone.
     pub checks: bool,
+    /// `--json`: JSON texts over any number of lines play the lines.
+    pub texts: bool,
+    /// `--elements`: the elements of those that are arrays do.
+    pub elements: bool,
     /// `--seq`: the files are text sequences (RFC 7464).
-    pub framing: Framing,
+    pub sequence: bool,
 }
 
 impl<'a> Options<'a> {
@@ -111,6 +115,20 @@ impl<'a> Options<'a> {
         None
     }
 
+    /// Why the words of what plays the lines do not go together, if they do not.
+    fn stream_conflict(&self) -> Option<(ErrorKind, &'static str)>
+        ensures { (found : List Row) → IsAskedBy found self.now
+            → option_map_or (λ conflict. conflict.0 ∷ []) result [] ≡ stream_conflicts found }
+    {
+        if self.texts && self.elements {
+            return Some((ErrorKind::ArgumentConflict, BOTH_PIECES));
+        }
+        if self.sequence && (self.texts || self.elements) {
+            return Some((ErrorKind::ArgumentConflict, NO_PIECES));
+        }
+        None
+    }
+
     /// Why the words do not go together, if they do not.
     pub(crate) fn conflict(&self) -> Option<(ErrorKind, &'static str)>
         ensures { (found : List Row) → IsAskedBy found self.now
@@ -126,6 +144,9 @@ impl<'a> Options<'a> {
             return Some((ErrorKind::ArgumentConflict, NO_QUESTION));
         }
         if let Some(conflict) = self.form_conflict() {
+            return Some(conflict);
+        }
+        if let Some(conflict) = self.stream_conflict() {
             return Some(conflict);
         }
         if !self.refused && self.words.is_empty() && self.names_nothing() {
@@ -188,6 +209,21 @@ impl<'a> Options<'a> {
         }
     }
 
+    /// What of a file plays the lines.
+    fn units(&self) -> Units
+        ensures { result ≡ asked_units self.now }
+    {
+        if self.texts {
+            Units::Pieces(Pieces::Texts)
+        } else if self.elements {
+            Units::Pieces(Pieces::Elements)
+        } else if self.sequence {
+            Units::Lines(Framing::Sequence)
+        } else {
+            Units::Lines(Framing::Lines)
+        }
+    }
+
     /// What a row shows: nothing where something else is printed.
     fn shown(&self) -> Shown
         ensures { result ≡ asked_rows self.now }
@@ -246,11 +282,11 @@ impl<'a> Options<'a> {
         ensures named { result.named ≡ asks_names self.now }
         ensures numbered { result.numbered ≡ self.now.numbered }
         ensures silent { result.silent ≡ (self.now.silent || self.now.refused) }
-        ensures framing { result.framing ≡ self.now.framing }
+        ensures units { result.units ≡ asked_units self.now }
         ensures most { result.most ≡ asked_most self.now }
     {
         Form {
-            framing: self.framing,
+            units: self.units(),
             shown: self.shown(),
             spelling: self.spelling(),
             summary: self.summary(),
@@ -290,6 +326,12 @@ const NO_TABLE: &str = "the argument '--header' is used with '--tsv' or '--csv' 
 /// What is said if `-v` is used with what shows values.
 const NO_VALUES: &str =
     "the argument '--invert-match' cannot be used with '--only-matching', '--path', '--tsv' or '--csv'";
+
+/// What is said if `--json` is used with `--elements`.
+const BOTH_PIECES: &str = "the argument '--json' cannot be used with '--elements'";
+
+/// What is said if `--seq` is used with what cuts the files otherwise.
+const NO_PIECES: &str = "the argument '--seq' cannot be used with '--json' or '--elements'";
 
 /// What is said if no word is a query.
 const NO_QUERY: &str =

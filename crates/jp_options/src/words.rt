@@ -8,7 +8,6 @@ use crate::arguments::program_command;
 use crate::options::Options;
 use clap::error::ErrorKind;
 use clap::{ArgMatches, Error};
-use jp_model::Framing;
 use std::alloc::{AllocError, Global};
 use std::num::ParseIntError;
 
@@ -104,10 +103,8 @@ fn read_matches<'a>(
         unnamed: is_given(matches, "unnamed"),
         silent: is_given(matches, "silent"),
         checks: is_given(matches, "check"),
-        framing: if is_given(matches, "seq") {
-            Framing::Sequence
-        } else {
-            Framing::Lines
-        },
+        texts: is_given(matches, "json"),
+        elements: is_given(matches, "elements"),
+        sequence: is_given(matches, "seq"),
     })
 }

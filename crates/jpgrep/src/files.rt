@@ -3,9 +3,10 @@
 use crate::foreign::foreign_message;
 use crate::opening::Looking;
 use crate::output::{Output, RegularFile};
-use crate::shell::shell_word;
 use jp_devices::StandardInput;
-use jp_grep::{Finished, Format, Framing, Input, Question, Run, SearchFault, Shown, Summary};
+use jp_grep::{
+    Finished, Format, Framing, Input, Question, Run, SearchFault, Shown, Summary, Units,
+};
 use jp_model::Watched;
 use jp_options::Options;
 use std::alloc::AllocError;
@@ -75,7 +76,8 @@ const IS_DIRECTORY: &str = "cannot read: is a directory";
 const IS_OUTPUT: &str = "input file is also the output";
 
 /// What is said of a file whose first line begins a JSON text that goes on in the next one.
-const GOES_ON: &str = "a JSON text goes on in the next line; make one line of each first";
+const GOES_ON: &str =
+    "a JSON text goes on in the next line; --json reads it whole, --elements each element of an array";
 
 /// How the standard input is named.
 const STANDARD_INPUT: &str = "(standard input)";
@@ -131,11 +133,7 @@ impl<'q> Searcher<'q> {
             return;
         }
         self.run.flush_messages();
-        if name == STANDARD_INPUT {
-            let _ = eprintln!(self.rt; "jpgrep: {name}: {GOES_ON}: jq -c . | jpgrep ..");
-        } else if let Ok(file) = shell_word(self.rt.alloc(), name) {
-            let _ = eprintln!(self.rt; "jpgrep: {name}: {GOES_ON}: jq -c . {file} | jpgrep ..");
-        }
+        let _ = eprintln!(self.rt; "jpgrep: {name}: {GOES_ON}");
     }
 
     /// Searches an open file.
@@ -150,7 +148,7 @@ impl<'q> Searcher<'q> {
         match &found {
             // The line may have come and not be refused yet.
             Err(SearchFault::Memory) => {}
-            _ if opening.goes_on() && form.framing == Framing::Lines => self.hint(name),
+            _ if opening.goes_on() && form.units == Units::Lines(Framing::Lines) => self.hint(name),
             _ => {}
         }
         match found {

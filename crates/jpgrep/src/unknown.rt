@@ -84,7 +84,17 @@ const FOREIGN: &[Foreign] = &[
     Foreign {
         letter: None,
         words: &["slurp"],
-        instead: "there is none: each line is asked by itself",
+        instead: "there is none: each text is asked by itself; --json reads texts over several lines",
+    },
+    Foreign {
+        letter: None,
+        words: &["stream", "array"],
+        instead: "--elements asks the elements of an array one by one",
+    },
+    Foreign {
+        letter: None,
+        words: &["jsonl", "ndjson"],
+        instead: "each line is a JSON text: leave it out",
     },
     Foreign {
         letter: None,

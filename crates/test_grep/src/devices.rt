@@ -14,16 +14,16 @@ pub(crate) enum Behind {
 
 /// Gives a piece a read, each of no more bytes than a read asks for.
 #[derive(Drop)]
-pub(crate) struct Pieces {
+pub(crate) struct Reads {
     pieces: &'static [&'static [u8]],
     next: usize,
     behind: Behind,
 }
 
-impl Pieces {
+impl Reads {
     /// Gives the pieces from the first one on.
-    pub(crate) fn new(pieces: &'static [&'static [u8]], behind: Behind) -> Pieces {
-        Pieces {
+    pub(crate) fn new(pieces: &'static [&'static [u8]], behind: Behind) -> Reads {
+        Reads {
             pieces,
             next: 0,
             behind,
@@ -31,7 +31,7 @@ impl Pieces {
     }
 }
 
-impl Read for Pieces {
+impl Read for Reads {
     fn read(&mut self, buffer: &mut [u8]) -> io::Result<usize> {
         let Some(piece) = self.pieces.get(self.next) else {
             return match self.behind {

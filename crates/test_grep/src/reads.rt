@@ -1,13 +1,23 @@
 //! The reads of a search.
 
-use super::devices::{Behind, Pieces, Taking};
+use super::devices::{Behind, Reads, Taking};
 use jp_grep::{
-    Form, Format, Framing, Input, Question, SearchFault, Shown, Spelling, Summary, Wanted, search,
+    Form, Format, Framing, Input, Pieces, Question, SearchFault, Shown, Spelling, Summary, Units,
+    Wanted, search,
 };
 use jp_model::Watched;
 use jp_query::{Refusal, read_query};
 use std::alloc::{AllocError, Global};
 use std::test::Fail;
+
+/// The lines of a stream, the texts of a sequence, JSON texts, and the elements of arrays.
+const LINES: Units = Units::Lines(Framing::Lines);
+
+const SEQUENCE: Units = Units::Lines(Framing::Sequence);
+
+const TEXTS: Units = Units::Pieces(Pieces::Texts);
+
+const ELEMENTS: Units = Units::Pieces(Pieces::Elements);
 
 /// How a search ended.
 #[derive(Drop)]
@@ -31,17 +41,17 @@ fn question(alloc: Global) -> Result<Question, AllocError> {
     Ok(question)
 }
 
-/// Searches the pieces for so many lines.
+/// Searches the pieces for at most `most` lines.
 fn searched(
     alloc: Global,
-    framing: Framing,
+    units: Units,
     most: u64,
     pieces: &'static [&'static [u8]],
     behind: Behind,
 ) -> Result<Ended, AllocError> {
     let question = question(alloc)?;
     let form = Form {
-        framing,
+        units,
         shown: Shown::Line { faults: false },
         spelling: Spelling::Source,
         summary: Summary::Nothing,
@@ -51,7 +61,7 @@ fn searched(
         silent: false,
         most,
     };
-    let mut input = Input::new(Watched::new(Pieces::new(pieces, behind)));
+    let mut input = Input::new(Watched::new(Reads::new(pieces, behind)));
     let mut rows = Watched::new(Taking::new(alloc));
     let mut messages = Watched::new(Taking::new(alloc));
     let found = search(
@@ -76,7 +86,7 @@ fn searched(
 #[test]
 fn no_read_follows_the_last_line_that_is_wanted(rt: HostRuntime) -> Result<(), Fail> {
     const PIECES: &[&[u8]] = &[b"1\n{\"a\"", b":1}\n{\"a\":2}\n"];
-    let ended = searched(rt.alloc(), Framing::Lines, 1, PIECES, Behind::Fault)?;
+    let ended = searched(rt.alloc(), LINES, 1, PIECES, Behind::Fault)?;
     assert_eq!(rt; ended.found, Ok(1));
     assert_eq!(rt; ended.reads, 2);
     assert_eq!(rt; ended.rows.as_slice(), b"{\"a\":1}\n".as_slice());
@@ -85,7 +95,7 @@ fn no_read_follows_the_last_line_that_is_wanted(rt: HostRuntime) -> Result<(), F
 
 #[test]
 fn no_read_is_made_where_no_line_is_wanted(rt: HostRuntime) -> Result<(), Fail> {
-    let ended = searched(rt.alloc(), Framing::Lines, 0, &[], Behind::Fault)?;
+    let ended = searched(rt.alloc(), LINES, 0, &[], Behind::Fault)?;
     assert_eq!(rt; ended.found, Ok(0));
     assert_eq!(rt; ended.reads, 0);
     Ok(())
@@ -94,8 +104,8 @@ fn no_read_is_made_where_no_line_is_wanted(rt: HostRuntime) -> Result<(), Fail> 
 #[test]
 fn no_read_follows_the_mark_of_a_format(rt: HostRuntime) -> Result<(), Fail> {
     const PIECES: &[&[u8]] = &[b"\x1F", b"\x8B"];
-    for framing in [Framing::Lines, Framing::Sequence] {
-        let ended = searched(rt.alloc(), framing, 9, PIECES, Behind::Fault)?;
+    for units in [LINES, SEQUENCE, TEXTS, ELEMENTS] {
+        let ended = searched(rt.alloc(), units, 9, PIECES, Behind::Fault)?;
         assert_eq!(rt; ended.found, Err(SearchFault::Foreign(Format::Gzip)));
         assert_eq!(rt; ended.reads, 2);
         assert!(rt; ended.rows.is_empty() && ended.messages.is_empty());
@@ -106,13 +116,13 @@ fn no_read_follows_the_mark_of_a_format(rt: HostRuntime) -> Result<(), Fail> {
 #[test]
 fn the_beginning_of_a_mark_is_read_on(rt: HostRuntime) -> Result<(), Fail> {
     const PIECES: &[&[u8]] = &[b"BZh9", b"1AY&S", b"\n"];
-    let ended = searched(rt.alloc(), Framing::Lines, 9, PIECES, Behind::End)?;
+    let ended = searched(rt.alloc(), LINES, 9, PIECES, Behind::End)?;
     assert_eq!(rt; ended.found, Ok(0));
     assert_eq!(rt;
         ended.messages.as_slice(),
         b"jpgrep: x:1: grammar\n".as_slice()
     );
-    let ended = searched(rt.alloc(), Framing::Sequence, 9, PIECES, Behind::Fault)?;
+    let ended = searched(rt.alloc(), SEQUENCE, 9, PIECES, Behind::Fault)?;
     assert_eq!(rt; ended.found, Err(SearchFault::Framing));
     assert_eq!(rt; ended.reads, 3);
     Ok(())
@@ -121,11 +131,11 @@ fn the_beginning_of_a_mark_is_read_on(rt: HostRuntime) -> Result<(), Fail> {
 #[test]
 fn no_read_follows_bytes_that_frame_no_sequence(rt: HostRuntime) -> Result<(), Fail> {
     const BLANKS: &[&[u8]] = &[b"      ", b"       ", b" \n x"];
-    let ended = searched(rt.alloc(), Framing::Sequence, 9, BLANKS, Behind::Fault)?;
+    let ended = searched(rt.alloc(), SEQUENCE, 9, BLANKS, Behind::Fault)?;
     assert_eq!(rt; ended.found, Err(SearchFault::Framing));
     assert_eq!(rt; ended.reads, 3);
     const NO_MARK: &[&[u8]] = &[b"\xEF", b"\xBB", b"\""];
-    let ended = searched(rt.alloc(), Framing::Sequence, 9, NO_MARK, Behind::Fault)?;
+    let ended = searched(rt.alloc(), SEQUENCE, 9, NO_MARK, Behind::Fault)?;
     assert_eq!(rt; ended.found, Err(SearchFault::Framing));
     assert_eq!(rt; ended.reads, 3);
     Ok(())
@@ -134,11 +144,11 @@ fn no_read_follows_bytes_that_frame_no_sequence(rt: HostRuntime) -> Result<(), F
 #[test]
 fn a_byte_order_mark_may_come_byte_by_byte(rt: HostRuntime) -> Result<(), Fail> {
     const PIECES: &[&[u8]] = &[b"\xEF", b"\xBB", b"\xBF", b" ", b"\x1E", b"{\"a\":1}\n"];
-    let ended = searched(rt.alloc(), Framing::Sequence, 9, PIECES, Behind::End)?;
+    let ended = searched(rt.alloc(), SEQUENCE, 9, PIECES, Behind::End)?;
     assert_eq!(rt; ended.found, Ok(1));
     assert_eq!(rt; ended.rows.as_slice(), b"\x1E{\"a\":1}\n".as_slice());
     const HALF: &[&[u8]] = &[b"\xEF", b"\xBB"];
-    let ended = searched(rt.alloc(), Framing::Sequence, 9, HALF, Behind::End)?;
+    let ended = searched(rt.alloc(), SEQUENCE, 9, HALF, Behind::End)?;
     assert_eq!(rt; ended.found, Err(SearchFault::Framing));
     Ok(())
 }
@@ -146,8 +156,33 @@ fn a_byte_order_mark_may_come_byte_by_byte(rt: HostRuntime) -> Result<(), Fail> 
 #[test]
 fn a_read_that_fails_is_told_behind_the_lines_that_ended(rt: HostRuntime) -> Result<(), Fail> {
     const PIECES: &[&[u8]] = &[b"{\"a\":1}\n{\"a\":2}"];
-    let ended = searched(rt.alloc(), Framing::Lines, 9, PIECES, Behind::Fault)?;
+    let ended = searched(rt.alloc(), LINES, 9, PIECES, Behind::Fault)?;
     assert_eq!(rt; ended.found, Err(SearchFault::Read));
     assert_eq!(rt; ended.rows.as_slice(), b"{\"a\":1}\n".as_slice());
+    Ok(())
+}
+
+#[test]
+fn a_text_is_answered_before_the_next_read(rt: HostRuntime) -> Result<(), Fail> {
+    const PIECES: &[&[u8]] = &[b"{\n\"a\": ", b"1}{\"a\":2", b"}"];
+    let ended = searched(rt.alloc(), TEXTS, 1, PIECES, Behind::Fault)?;
+    assert_eq!(rt; ended.found, Ok(1));
+    assert_eq!(rt; ended.reads, 2);
+    assert_eq!(rt; ended.rows.as_slice(), b"{\"a\": 1}\n".as_slice());
+    Ok(())
+}
+
+#[test]
+fn an_element_is_answered_where_a_read_fails_behind_it(rt: HostRuntime) -> Result<(), Fail> {
+    const PIECES: &[&[u8]] = &[b"[{\"a\":1}\n", b", {\"a\":2}"];
+    let ended = searched(rt.alloc(), ELEMENTS, 9, PIECES, Behind::Fault)?;
+    assert_eq!(rt; ended.found, Err(SearchFault::Read));
+    assert_eq!(rt; ended.rows.as_slice(), b"{\"a\":1}\n".as_slice());
+    let ended = searched(rt.alloc(), ELEMENTS, 9, PIECES, Behind::End)?;
+    assert_eq!(rt; ended.found, Ok(1));
+    assert_eq!(rt;
+        ended.messages.as_slice(),
+        b"jpgrep: x:2: truncated, from line 2\n".as_slice()
+    );
     Ok(())
 }

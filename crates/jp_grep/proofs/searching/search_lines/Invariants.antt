@@ -1,14 +1,15 @@
--- Of the bytes that came the lines that ended are answered, as far as they are wanted.
+-- Of the bytes that came what ended is answered, as far as it is wanted.
 use Rattle.std.proofs.Common.{◌≡◌, ℕ, List, length, false}
 use Rattle.jp_devices.specs.Devices.{Gave}
 use Rattle.jp_grep.specs.Inputs.{ReadOn}
+use Rattle.jp_grep.specs.Items.{Item}
 use Rattle.jp_grep.specs.Searching.{HasAnswered}
 use Rattle.jp_grep.proofs.searching.search_lines.Given as goal
 
 abbrev pub invariant-loop-read : goal.invariant-loop-read
 invariant-loop-read g l = record {
-  so_far : (came : List ℕ) × (answered : List (List ℕ)) × Gave g.R.Read.remaining l.fn.input.reader l.input.reader came
-      × HasAnswered g.W.Write.contents g.E.Write.contents l.answerer.question.now l.answerer.form.now l.searcher.stream l.searcher.progress l.fn.out l.out l.fn.messages l.messages came answered × ReadOn l.answerer.question.now l.answerer.form.now l.fn.input l.input came;
+  so_far : (came : List ℕ) × (answered : List Item) × Gave g.R.Read.remaining l.fn.input.reader l.input.reader came
+      × HasAnswered g.W.Write.contents g.E.Write.contents l.answerer.question.now l.answerer.form.now l.searcher.source l.searcher.answering.progress l.fn.out l.out l.fn.messages l.messages came answered × ReadOn l.answerer.question.now l.answerer.form.now l.fn.input l.input came;
   room : length l.buffer ≡ 65536;
   reads : l.input.reader.failed ≡ false;
   unended : l.input.reader.ended ≡ false;

@@ -11,6 +11,8 @@ returns c =
     let e1 = with_one_more c.args.command c.in_ok-arg.field-0 c.flag.result start [] _ c.in_ok-arg.ensures c.flag.ensures.local c.flag.ensures.rule (with_no_rules start) in
     let e2 = with_one_more c.in_ok-arg.field-0 c.in_ok-arg-2.field-0 c.word_flag.result start (flag_rule (codes "silent") 0x73 (codes "no-messages") ∷ []) _ c.in_ok-arg-2.ensures c.word_flag.ensures.local c.word_flag.ensures.rule e1 in
     let e3 = with_one_more c.in_ok-arg-2.field-0 c.in_ok-arg-3.field-0 c.word_flag-2.result start (flag_rule (codes "silent") 0x73 (codes "no-messages") ∷ word_rule (codes "check") ∷ []) _ c.in_ok-arg-3.ensures c.word_flag-2.ensures.local c.word_flag-2.ensures.rule e2 in
-    IfOk-weaker c.arg-4.result (AddsArg c.in_ok-arg-3.field-0 c.help_argument.result) (λ more. app_of more ≡ with_rules start general_rules)
-    (λ more adds. with_one_more c.in_ok-arg-3.field-0 more c.help_argument.result start (flag_rule (codes "silent") 0x73 (codes "no-messages") ∷ word_rule (codes "check") ∷ word_rule (codes "seq") ∷ []) _ adds c.help_argument.ensures.local c.help_argument.ensures.rule e3)
-    c.arg-4.ensures
+    let e4 = with_one_more c.in_ok-arg-3.field-0 c.in_ok-arg-4.field-0 c.word_flag-3.result start (flag_rule (codes "silent") 0x73 (codes "no-messages") ∷ word_rule (codes "check") ∷ word_rule (codes "json") ∷ []) _ c.in_ok-arg-4.ensures c.word_flag-3.ensures.local c.word_flag-3.ensures.rule e3 in
+    let e5 = with_one_more c.in_ok-arg-4.field-0 c.in_ok-arg-5.field-0 c.word_flag-4.result start (flag_rule (codes "silent") 0x73 (codes "no-messages") ∷ word_rule (codes "check") ∷ word_rule (codes "json") ∷ word_rule (codes "elements") ∷ []) _ c.in_ok-arg-5.ensures c.word_flag-4.ensures.local c.word_flag-4.ensures.rule e4 in
+    IfOk-weaker c.arg-6.result (AddsArg c.in_ok-arg-5.field-0 c.help_argument.result) (λ more. app_of more ≡ with_rules start general_rules)
+    (λ more adds. with_one_more c.in_ok-arg-5.field-0 more c.help_argument.result start (flag_rule (codes "silent") 0x73 (codes "no-messages") ∷ word_rule (codes "check") ∷ word_rule (codes "json") ∷ word_rule (codes "elements") ∷ word_rule (codes "seq") ∷ []) _ adds c.help_argument.ensures.local c.help_argument.ensures.rule e5)
+    c.arg-6.ensures

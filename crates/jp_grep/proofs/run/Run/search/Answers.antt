@@ -2,6 +2,7 @@
 use Rattle.std.proofs.Common.{◌≡◌, ℕ, List, sym, subst, Option, Result, Err}
 use Rattle.std.specs.Prelude.{MatchResult}
 use Rattle.jp_devices.specs.Devices.{Came, Device, Received}
+use Rattle.jp_grep.specs.Items.{Item}
 use Rattle.jp_grep.specs.Watching.{Answered, AnsweredInPart, AnsweredToEnd, SearchStopped}
 use Rattle.jp_form.specs.declared.form.Form.{Form}
 use Rattle.jp_grep.specs.declared.fault.SearchFault.{SearchFault}
@@ -15,13 +16,13 @@ at_err P Q r e is q = subst (λ x. MatchResult x P Q) (sym is) q
 module _ {V W X Y : Type 0} {near : V → Option (List ℕ)} {near_told : X → Option (List ℕ)} {far : W → Option (List ℕ)} {far_told : Y → Option (List ℕ)} (question : Question) (form : Form)
     {a b : Device V} {a_told b_told : Device X} {c d : Device W} {c_told d_told : Device Y}
     (rows : (bytes : List ℕ) → Received near a b bytes → Received far c d bytes) (messages : (bytes : List ℕ) → Received near_told a_told b_told bytes → Received far_told c_told d_told bytes) where
-  all_behind : (lines : List (List ℕ)) → Answered near near_told question form a b a_told b_told lines → Answered far far_told question form c d c_told d_told lines
+  all_behind : (lines : List Item) → Answered near near_told question form a b a_told b_told lines → Answered far far_told question form c d c_told d_told lines
   all_behind lines h = record { rows = rows _ h.rows; messages = messages _ h.messages }
 
-  told_behind : (lines : List (List ℕ)) → AnsweredToEnd near near_told question form a b a_told b_told lines → AnsweredToEnd far far_told question form c d c_told d_told lines
+  told_behind : (lines : List Item) → AnsweredToEnd near near_told question form a b a_told b_told lines → AnsweredToEnd far far_told question form c d c_told d_told lines
   told_behind lines h = record { rows = rows _ h.rows; messages = messages _ h.messages }
 
-  part_behind : (lines : List (List ℕ)) → AnsweredInPart near near_told question form a b a_told b_told lines → AnsweredInPart far far_told question form c d c_told d_told lines
+  part_behind : (lines : List Item) → AnsweredInPart near near_told question form a b a_told b_told lines → AnsweredInPart far far_told question form c d c_told d_told lines
   part_behind lines h = record {
     rows = (h.rows.0, h.rows.1, rows h.rows.0 h.rows.2);
     messages = (h.messages.0, h.messages.1, messages h.messages.0 h.messages.2);

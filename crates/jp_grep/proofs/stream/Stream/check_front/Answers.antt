@@ -16,7 +16,7 @@ both : (a b : Bool) → (a && b) ≡ true → (a ≡ true) × (b ≡ true)
 both true b h = (refl, h)
 both false b h = absurd (cc)
 
--- white space came behind so many bytes
+-- white space came after more bytes than the longest mark has
 blank_behind : (framing : Framing) (from : ℕ) (held : List ℕ) → from ≤ length held → (ltb 10 from && is_blank (drop from held)) ≡ true → MayGoOn framing (take from held) → HasNoEnd framing (take from held) → MayBeFramed framing held
 blank_behind framing from held within e may clear =
     let said = both (ltb 10 from) (is_blank (drop from held)) e in

@@ -1,0 +1,232 @@
+//! The lines, texts or elements that end in what came of a stream, answered.
+
+ghost use Rattle.std.specs.Prelude.{◌≡◌, ◌<◌, ◌≤◌, ◌^◌, All, OnOk, false, length, map, take};
+ghost use Rattle.jp_cut.specs.Holding.{IsHeld};
+ghost use Rattle.jp_masks.specs.Found.{lines_in};
+ghost use Rattle.jp_grep.specs.Cuts.{text_of};
+ghost use Rattle.jp_grep.specs.Faults.{IsToldOf, is_input_fault, is_read_fault, is_report_fault, is_write_fault};
+ghost use Rattle.jp_grep.specs.Finding.{noted_items, span_of};
+ghost use Rattle.jp_grep.specs.Items.{line_item};
+ghost use Rattle.jp_grep.specs.Searching.{Advances, Answers, Ends, IsUnderWay};
+ghost use Rattle.jp_grep.specs.Stands.{HasStood};
+ghost use Rattle.jp_grep.specs.declared.source.Source.TheVariants as sources;
+
+use crate::answer::Answerer;
+use crate::cutting::Cutting;
+use crate::fault::SearchFault;
+use crate::items::ReadItems;
+use crate::outlet::Outlet;
+use crate::progress::Progress;
+use crate::stream::{Stream, find_end};
+use jp_cut::PieceAt;
+use jp_lines::BatchRoom;
+use jp_model::{Span, Watched};
+use std::alloc::{AllocError, Global};
+use std::io::Write;
+
+/// What lends its room from answer to answer, and how far they have come.
+#[derive(Drop)]
+pub(crate) struct Answering {
+    room: BatchRoom,
+    spans: Vec<Span>,
+    outlet: Outlet,
+    pub(crate) progress: Progress,
+}
+
+/// Lists where pieces are held, in place of what was listed before.
+fn list_spans(pieces: &[PieceAt], spans: &mut Vec<Span>) -> Result<(), AllocError>
+    requires { All (λ piece. (piece.start < 2 ^ 32) × (piece.end < 2 ^ 32)) pieces.now }
+    ensures { OnOk result (spans.new.items ≡ map span_of pieces.now) }
+{
+    spans.clear();
+    for piece in pieces {
+        spans.push(Span {
+            start: piece.start as u32,
+            end: piece.end as u32,
+        })?;
+    }
+    Ok(())
+}
+
+impl Answering {
+    /// With nothing answered yet.
+    pub(crate) fn new(alloc: Global) -> Answering
+        ensures number { result.progress.number ≡ 1 }
+        ensures selected { result.progress.counts.selected ≡ 0 }
+        ensures refused { result.progress.counts.refused ≡ 0 }
+    {
+        Answering {
+            room: BatchRoom::new(alloc),
+            spans: Vec::new(alloc),
+            outlet: Outlet::new(alloc),
+            progress: Progress::new(),
+        }
+    }
+
+    /// Answers the lines of the bytes that are held up to an end of a line, or up to the end of the stream.
+    fn answer_until<W: Write, E: Write>(
+        &mut self,
+        answerer: Answerer<'_>,
+        stream: &Stream,
+        end: usize,
+        out: &mut Watched<W>,
+        messages: &mut Watched<E>,
+    ) -> Result<(), SearchFault>
+        requires end { end ≤ length stream.now.held.items }
+        requires few { length stream.now.held.items < 2 ^ 32 }
+        requires under_way { IsUnderWay answerer.form.now self.old.progress }
+        requires writes { out.old.failed ≡ false }
+        requires reports { messages.old.failed ≡ false }
+        ensures answers { Answers W.contents E.contents answerer.entry.question.now answerer.entry.form.now self.old.progress self.new.progress out.old out.new messages.old messages.new result
+            (map (line_item stream.now.framing) (lines_in stream.now.framing (text_of stream.now.is_first (take end stream.now.held.items)))) }
+        ensures write_fault { IsToldOf is_write_fault result out.new.failed }
+        ensures report_fault { IsToldOf is_report_fault result messages.new.failed }
+        ensures others { IsToldOf is_input_fault result false }
+        ensures after { out.new.after ≡ out.old.after }
+        ensures messages_after { messages.new.after ≡ messages.old.after }
+    {
+        let text = stream.text_until(end);
+        let Ok(batch) = self.room.read(stream.framing, text) else {
+            return Err(SearchFault::Memory);
+        };
+        let lines = ReadItems::of_lines(batch);
+        answerer.answer_items(lines, &mut self.progress, &mut self.outlet, out, messages)
+    }
+
+    /// Holds the bytes that came, and answers the lines that end among them, unless the stream is refused by its first bytes.
+    pub(crate) fn answer_lines<W: Write, E: Write>(
+        &mut self,
+        answerer: Answerer<'_>,
+        stream: &mut Stream,
+        bytes: &[u8],
+        out: &mut Watched<W>,
+        messages: &mut Watched<E>,
+    ) -> Result<(), SearchFault>
+        requires stands { HasStood answerer.form.now.units (sources.Lines stream.old) }
+        requires under_way { IsUnderWay answerer.form.now self.old.progress }
+        requires writes { out.old.failed ≡ false }
+        requires reports { messages.old.failed ≡ false }
+        ensures advances { Advances W.contents E.contents answerer.entry.question.now answerer.entry.form.now (sources.Lines stream.old) (sources.Lines stream.new) self.old.progress self.new.progress out.old out.new messages.old messages.new result bytes.now }
+        ensures write_fault { IsToldOf is_write_fault result out.new.failed }
+        ensures report_fault { IsToldOf is_report_fault result messages.new.failed }
+        ensures others { IsToldOf is_read_fault result false }
+        ensures after { out.new.after ≡ out.old.after }
+        ensures messages_after { messages.new.after ≡ messages.old.after }
+    {
+        let from = stream.held.len();
+        let end = find_end(stream.framing, bytes);
+        stream.hold(bytes)?;
+        stream.check_front(from)?;
+        match end {
+            None => Ok(()),
+            Some(end) => {
+                self.answer_until(answerer, stream, from + end, out, messages)?;
+                stream.let_go(from + end)
+            }
+        }
+    }
+
+    /// Answers the lines that the end of the stream leaves, unless it is not framed.
+    pub(crate) fn answer_last_lines<W: Write, E: Write>(
+        &mut self,
+        answerer: Answerer<'_>,
+        stream: &Stream,
+        out: &mut Watched<W>,
+        messages: &mut Watched<E>,
+    ) -> Result<(), SearchFault>
+        requires stands { HasStood answerer.form.now.units (sources.Lines stream.now) }
+        requires under_way { IsUnderWay answerer.form.now self.old.progress }
+        requires writes { out.old.failed ≡ false }
+        requires reports { messages.old.failed ≡ false }
+        ensures ends { Ends W.contents E.contents answerer.entry.question.now answerer.entry.form.now (sources.Lines stream.now) self.old.progress self.new.progress out.old out.new messages.old messages.new result }
+        ensures write_fault { IsToldOf is_write_fault result out.new.failed }
+        ensures report_fault { IsToldOf is_report_fault result messages.new.failed }
+        ensures others { IsToldOf is_read_fault result false }
+        ensures after { out.new.after ≡ out.old.after }
+        ensures messages_after { messages.new.after ≡ messages.old.after }
+    {
+        stream.check_end()?;
+        self.answer_until(answerer, stream, stream.held.len(), out, messages)
+    }
+
+    /// Answers the pieces that are noted.
+    fn answer_noted<W: Write, E: Write>(
+        &mut self,
+        answerer: Answerer<'_>,
+        cutting: &Cutting,
+        out: &mut Watched<W>,
+        messages: &mut Watched<E>,
+    ) -> Result<(), SearchFault>
+        requires held { All (IsHeld cutting.now.cutter) cutting.now.pieces.items }
+        requires under_way { IsUnderWay answerer.form.now self.old.progress }
+        requires writes { out.old.failed ≡ false }
+        requires reports { messages.old.failed ≡ false }
+        ensures answers { Answers W.contents E.contents answerer.entry.question.now answerer.entry.form.now self.old.progress self.new.progress out.old out.new messages.old messages.new result
+            (noted_items cutting.now) }
+        ensures write_fault { IsToldOf is_write_fault result out.new.failed }
+        ensures report_fault { IsToldOf is_report_fault result messages.new.failed }
+        ensures others { IsToldOf is_input_fault result false }
+        ensures after { out.new.after ≡ out.old.after }
+        ensures messages_after { messages.new.after ≡ messages.old.after }
+    {
+        if list_spans(&cutting.pieces, &mut self.spans).is_err() {
+            return Err(SearchFault::Memory);
+        }
+        let Ok(batch) = self.room.read_texts(cutting.cutter.held(), &self.spans) else {
+            return Err(SearchFault::Memory);
+        };
+        let items = ReadItems::of_pieces(batch, &cutting.pieces);
+        answerer.answer_items(items, &mut self.progress, &mut self.outlet, out, messages)
+    }
+
+    /// Takes in the bytes that came, and answers the pieces that end among them, unless the stream is refused by its first bytes.
+    pub(crate) fn answer_pieces<W: Write, E: Write>(
+        &mut self,
+        answerer: Answerer<'_>,
+        cutting: &mut Cutting,
+        bytes: &[u8],
+        out: &mut Watched<W>,
+        messages: &mut Watched<E>,
+    ) -> Result<(), SearchFault>
+        requires stands { HasStood answerer.form.now.units (sources.Pieces cutting.old) }
+        requires under_way { IsUnderWay answerer.form.now self.old.progress }
+        requires writes { out.old.failed ≡ false }
+        requires reports { messages.old.failed ≡ false }
+        ensures advances { Advances W.contents E.contents answerer.entry.question.now answerer.entry.form.now (sources.Pieces cutting.old) (sources.Pieces cutting.new) self.old.progress self.new.progress out.old out.new messages.old messages.new result bytes.now }
+        ensures write_fault { IsToldOf is_write_fault result out.new.failed }
+        ensures report_fault { IsToldOf is_report_fault result messages.new.failed }
+        ensures others { IsToldOf is_read_fault result false }
+        ensures after { out.new.after ≡ out.old.after }
+        ensures messages_after { messages.new.after ≡ messages.old.after }
+    {
+        cutting.take_in(bytes)?;
+        if cutting.is_first {
+            return Ok(());
+        }
+        cutting.find_ended()?;
+        self.answer_noted(answerer, cutting, out, messages)
+    }
+
+    /// Answers the pieces that the end of the stream leaves.
+    pub(crate) fn answer_last_pieces<W: Write, E: Write>(
+        &mut self,
+        answerer: Answerer<'_>,
+        cutting: &mut Cutting,
+        out: &mut Watched<W>,
+        messages: &mut Watched<E>,
+    ) -> Result<(), SearchFault>
+        requires stands { HasStood answerer.form.now.units (sources.Pieces cutting.old) }
+        requires under_way { IsUnderWay answerer.form.now self.old.progress }
+        requires writes { out.old.failed ≡ false }
+        requires reports { messages.old.failed ≡ false }
+        ensures ends { Ends W.contents E.contents answerer.entry.question.now answerer.entry.form.now (sources.Pieces cutting.old) self.old.progress self.new.progress out.old out.new messages.old messages.new result }
+        ensures write_fault { IsToldOf is_write_fault result out.new.failed }
+        ensures report_fault { IsToldOf is_report_fault result messages.new.failed }
+        ensures others { IsToldOf is_read_fault result false }
+        ensures after { out.new.after ≡ out.old.after }
+        ensures messages_after { messages.new.after ≡ messages.old.after }
+    {
+        cutting.find_last()?;
+        self.answer_noted(answerer, cutting, out, messages)
+    }
+}
