@@ -11,9 +11,10 @@ use Rattle.jp_model.specs.Json.Status.{parsed, fault_of_tree}
 use Rattle.jp_model.specs.Json.Spelling.{Text}
 use Rattle.jp_model.specs.Json.Tree.{Tree, node, Value, null, boolean, number, string, container, Children, no_child, child, Name, span}
 use Rattle.jp_model.proofs.Reader.Statuses.{only_status}
-use Rattle.jp_cut_laws.specs.Unplaced.{unplaced, unplaced_value, unplaced_children, unplaced_name}
+use Rattle.jp_laws.specs.JsonTexts.{unplaced, unplaced_value, unplaced_children, unplaced_name}
 use Rattle.jp_cut_laws.specs.Values.{IsValue}
-use Rattle.jp_cut_laws.proofs.From.{IsFrom, go_on, rest_length, white_front}
+use Rattle.jp_laws.proofs.TextsFrom.{IsTextFrom, go_on}
+use Rattle.jp_cut_laws.proofs.From.{rest_length, white_front}
 use Rattle.jp_cut_laws.proofs.Spelled.{tree_at}
 use Rattle.jp_cut_laws.proofs.Utf8.{tree_utf8, white_utf8}
 use Rattle.jp_cut_laws.proofs.Whole.{status_is, without_faults}
@@ -110,10 +111,10 @@ sound line t e = let faults = without_faults line t (status_is line t e).2 in re
 pub written_line : (before bytes after : List ℕ) (t : Tree) → IsWhite before → IsWhite after → Writes bytes t → IsSound t → LineOf (before ++ (bytes ++ after)) (length before) (length before + length bytes) t
 written_line before bytes after t white_before white_after h is_sound =
     let line : List ℕ = before ++ (bytes ++ after) in
-    let first : IsFrom line 0 line = record { place = omega arith; is = refl } in
+    let first : IsTextFrom line 0 line = record { place = omega arith; is = refl } in
     let at = go_on line 0 before (bytes ++ after) first in
     let i : ℕ = 0 + length before in
-    let last = subst (IsFrom line (i + length bytes)) (sym (append-nil after)) (go_on line i bytes after at) in
+    let last = subst (IsTextFrom line (i + length bytes)) (sym (append-nil after)) (go_on line i bytes after at) in
     let found = tree_at line t bytes h i (i + length bytes) after refl at in
     let all = rest_length line (i + length bytes) (after ++ []) last in
     let none : length (after ++ []) ≡ length after = ap length (append-nil after) in

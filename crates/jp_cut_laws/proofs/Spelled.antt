@@ -10,8 +10,9 @@ use Rattle.jp_model.specs.Json.Spelling.{Spells, SpellsValue, SpellsFirst, Spell
 use Rattle.jp_model.specs.Json.Strings.{SpellsCharacter, SpellsCharacters}
 use Rattle.jp_model.specs.Json.Tree.{Tree, node, Value, null, boolean, number, string, container, Container, array, object, Children, no_child, child, Name, span}
 use Rattle.jp_model.proofs.Reader.Numbers.{parts_read}
-use Rattle.jp_cut_laws.specs.Unplaced.{unplaced, unplaced_value, unplaced_children, unplaced_name}
-use Rattle.jp_cut_laws.proofs.From.{IsFrom, reads_front, go_on, step_on, parted, nth, has_front, white_front}
+use Rattle.jp_laws.specs.JsonTexts.{unplaced, unplaced_value, unplaced_children, unplaced_name}
+use Rattle.jp_laws.proofs.TextsFrom.{IsTextFrom, go_on, has_front, nth, reads_front, step_on}
+use Rattle.jp_cut_laws.proofs.From.{parted, white_front}
 use Rattle.jp_cut_laws.proofs.Written.{IsSeparator, IsEnd, IsCharacter, AreCharacters, IsString, IsLabel, Writes, WritesValue, WritesFirst, WritesMore}
 
 same_child : (a b : Option Name) (t u : Tree) (c d : Children) → a ≡ b → t ≡ u → c ≡ d → child a t c ≡ child b u d
@@ -54,7 +55,7 @@ module _ (line : List ℕ) where
     same : unplaced_children here ≡ unplaced_children c
     short : children_have_long_exponent line here ≡ false
 
-  separator_at : (b i j : ℕ) (bytes rest : List ℕ) → IsSeparator b bytes → j ≡ i + length bytes → IsFrom line i (bytes ++ rest) → Separator line b i j
+  separator_at : (b i j : ℕ) (bytes rest : List ℕ) → IsSeparator b bytes → j ≡ i + length bytes → IsTextFrom line i (bytes ++ rest) → Separator line b i j
   separator_at b i j bytes rest h e s =
       let l = ap length h.joined ∙ length-append h.before (b ∷ h.after) in
       let first = parted line i bytes h.before (b ∷ h.after) rest h.joined s in
@@ -67,7 +68,7 @@ module _ (line : List ℕ) where
             (white_front line (i + length h.before + 1) h.after rest h.white_after (step_on line (i + length h.before) b (h.after ++ rest) middle));
       }
 
-  end_at : (kind : Container) (i j : ℕ) (bytes rest : List ℕ) → IsEnd kind bytes → j ≡ i + length bytes → IsFrom line i (bytes ++ rest) → Closes line kind i j
+  end_at : (kind : Container) (i j : ℕ) (bytes rest : List ℕ) → IsEnd kind bytes → j ≡ i + length bytes → IsTextFrom line i (bytes ++ rest) → Closes line kind i j
   end_at kind i j bytes rest h e s =
       let l = ap length h.joined ∙ length-append h.before (closing kind ∷ []) in
       let first = parted line i bytes h.before (closing kind ∷ []) rest h.joined s in
@@ -81,13 +82,13 @@ module _ (line : List ℕ) where
   -- ---- strings
 
   -- these bytes, and the rest
-  these : (i : ℕ) (bytes others rest : List ℕ) → bytes ≡ others → IsFrom line i (bytes ++ rest) → IsFrom line i (others ++ rest)
-  these i bytes others rest e s = subst (λ xs. IsFrom line i (xs ++ rest)) e s
+  these : (i : ℕ) (bytes others rest : List ℕ) → bytes ≡ others → IsTextFrom line i (bytes ++ rest) → IsTextFrom line i (others ++ rest)
+  these i bytes others rest e s = subst (λ xs. IsTextFrom line i (xs ++ rest)) e s
 
   four : {p q r s w x y z u : ℕ} → p ≡ w → q ≡ x → r ≡ y → s ≡ z → four_digits w x y z ≡ Some u → four_digits p q r s ≡ Some u
   four c d g o t = rw (c, d, g, o) t
 
-  character_at : (i u : ℕ) (bytes rest : List ℕ) → IsCharacter bytes u → IsFrom line i (bytes ++ rest) → SpellsCharacter line i (i + length bytes) u
+  character_at : (i u : ℕ) (bytes rest : List ℕ) → IsCharacter bytes u → IsTextFrom line i (bytes ++ rest) → SpellsCharacter line i (i + length bytes) u
   character_at i u bytes rest (inl h) s =
       let r = reads_front line i bytes rest s in
       inl (record { scalar = h.scalar; no_control = h.no_control; no_quote = h.no_quote; no_backslash = h.no_backslash; bytes = record { order = r.order; within = r.within; are = r.are ∙ h.joined } })
@@ -110,14 +111,14 @@ module _ (line : List ℕ) where
         end = ap (λ xs. i + length xs) h.joined;
       }))
 
-  characters_at : (us : List ℕ) (i j : ℕ) (bytes rest : List ℕ) → AreCharacters bytes us → j ≡ i + length bytes → IsFrom line i (bytes ++ rest) → SpellsCharacters line i j us
+  characters_at : (us : List ℕ) (i j : ℕ) (bytes rest : List ℕ) → AreCharacters bytes us → j ≡ i + length bytes → IsTextFrom line i (bytes ++ rest) → SpellsCharacters line i j us
   characters_at [] i j bytes rest h e s = let l : length bytes ≡ 0 = ap length h in let f : i ≡ j = omega (arith, e, l) in f
   characters_at (u ∷ us) i j bytes rest h e s =
       let l = ap length h.2 ∙ length-append h.0 h.1 in
       let first = parted line i bytes h.0 h.1 rest h.2 s in
       (i + length h.0, character_at i u h.0 (h.1 ++ rest) h.3 first, characters_at us (i + length h.0) j h.1 rest h.4 (omega (arith, e, l)) (go_on line i h.0 (h.1 ++ rest) first))
 
-  string_at : (i j : ℕ) (bytes points rest : List ℕ) → IsString bytes points → j ≡ i + length bytes → IsFrom line i (bytes ++ rest) → SpellsString line i j points
+  string_at : (i j : ℕ) (bytes points rest : List ℕ) → IsString bytes points → j ≡ i + length bytes → IsTextFrom line i (bytes ++ rest) → SpellsString line i j points
   string_at i j bytes points rest h e s =
       let l = ap length h.joined in
       let m = length-append h.body (0x22 ∷ []) in
@@ -131,7 +132,7 @@ module _ (line : List ℕ) where
         end = omega (arith, e, l, m);
       }
 
-  label_at : (kind : Container) (i j : ℕ) (bytes rest : List ℕ) (name : Option Name) → IsLabel kind bytes name → j ≡ i + length bytes → IsFrom line i (bytes ++ rest) → LabelAt kind i j name
+  label_at : (kind : Container) (i j : ℕ) (bytes rest : List ℕ) (name : Option Name) → IsLabel kind bytes name → j ≡ i + length bytes → IsTextFrom line i (bytes ++ rest) → LabelAt kind i j name
   label_at array i j bytes rest None h e s = record { label = None; spells = let l : length bytes ≡ 0 = ap length h in let f : i ≡ j = omega (arith, e, l) in f; same = refl }
   label_at array i j bytes rest (Some name) h e s = absurd h
   label_at object i j bytes rest None h e s = absurd h
@@ -150,12 +151,12 @@ module _ (line : List ℕ) where
   -- ---- values
 
   mutual
-    pub tree_at : (t : Tree) (bytes : List ℕ) → Writes bytes t → (i j : ℕ) (rest : List ℕ) → j ≡ i + length bytes → IsFrom line i (bytes ++ rest) → TreeAt i j t
+    pub tree_at : (t : Tree) (bytes : List ℕ) → Writes bytes t → (i j : ℕ) (rest : List ℕ) → j ≡ i + length bytes → IsTextFrom line i (bytes ++ rest) → TreeAt i j t
     tree_at (node s v) bytes h i j rest e at =
         let found = value_at v bytes h i j rest e at in
         record { here = node (record { start = i; end = j }) found.here; start = refl; end = refl; spells = found.spells; same = ap (node (record { start = 0; end = 0 })) found.same; short = found.short }
 
-    value_at : (v : Value) (bytes : List ℕ) → WritesValue bytes v → (i j : ℕ) (rest : List ℕ) → j ≡ i + length bytes → IsFrom line i (bytes ++ rest) → ValueAt i j v
+    value_at : (v : Value) (bytes : List ℕ) → WritesValue bytes v → (i j : ℕ) (rest : List ℕ) → j ≡ i + length bytes → IsTextFrom line i (bytes ++ rest) → ValueAt i j v
     value_at null bytes h i j rest e at = let r = subst (λ n. Reads line i n bytes) (sym e) (reads_front line i bytes rest at) in record { here = null; spells = record { order = r.order; within = r.within; are = r.are ∙ h }; same = refl; short = refl }
     value_at (boolean b) bytes h i j rest e at = let r = subst (λ n. Reads line i n bytes) (sym e) (reads_front line i bytes rest at) in record { here = boolean b; spells = record { order = r.order; within = r.within; are = r.are ∙ h }; same = refl; short = refl }
     value_at (number m x) bytes h i j rest e at =
@@ -173,7 +174,7 @@ module _ (line : List ℕ) where
         let inside = first_at children kind h.0 h.2 (i + 1) j rest (omega (arith, e, l)) (step_on line i (opening kind) (h.0 ++ rest) all) in
         record { here = container kind inside.here; spells = (has_front line i (opening kind) (h.0 ++ rest) all, inside.spells); same = ap (container kind) inside.same; short = inside.short }
 
-    first_at : (c : Children) (kind : Container) (bytes : List ℕ) → WritesFirst kind bytes c → (i j : ℕ) (rest : List ℕ) → j ≡ i + length bytes → IsFrom line i (bytes ++ rest) → FirstAt kind i j c
+    first_at : (c : Children) (kind : Container) (bytes : List ℕ) → WritesFirst kind bytes c → (i j : ℕ) (rest : List ℕ) → j ≡ i + length bytes → IsTextFrom line i (bytes ++ rest) → FirstAt kind i j c
     first_at no_child kind bytes h i j rest e at = record { here = no_child; spells = end_at kind i j bytes rest h e at; same = refl; short = refl }
     first_at (child name t more) kind bytes h i j rest e at =
         let l = ap length h.4 ∙ length-append h.0 (h.1 ++ (h.2 ++ h.3)) in
@@ -195,7 +196,7 @@ module _ (line : List ℕ) where
           short = or_from _ _ this.short others.short;
         }
 
-    more_at : (c : Children) (kind : Container) (bytes : List ℕ) → WritesMore kind bytes c → (i j : ℕ) (rest : List ℕ) → j ≡ i + length bytes → IsFrom line i (bytes ++ rest) → MoreAt kind i j c
+    more_at : (c : Children) (kind : Container) (bytes : List ℕ) → WritesMore kind bytes c → (i j : ℕ) (rest : List ℕ) → j ≡ i + length bytes → IsTextFrom line i (bytes ++ rest) → MoreAt kind i j c
     more_at no_child kind bytes h i j rest e at = record { here = no_child; spells = end_at kind i j bytes rest h e at; same = refl; short = refl }
     more_at (child name t more) kind bytes h i j rest e at =
         let l = ap length h.4 ∙ length-append h.0 (h.1 ++ (h.2 ++ h.3)) in

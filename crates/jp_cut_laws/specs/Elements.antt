@@ -5,7 +5,7 @@ use Rattle.jp_model.specs.Lines.{is_blank}
 use Rattle.jp_model.specs.Json.Reader.{status_of}
 use Rattle.jp_model.specs.Json.Status.{parsed}
 use Rattle.jp_model.specs.Json.Tree.{Tree, Children, no_child, child, span}
-use Rattle.jp_cut_laws.specs.Unplaced.{unplaced}
+use Rattle.jp_laws.specs.JsonTexts.{unplaced}
 
 -- these bytes are a line that is accepted, and its value begins with the first of them: white space stands only after it
 pub record IsElement (bytes : List ℕ) (t : Tree) : Type 0 where

@@ -1,4 +1,3 @@
 -- What the laws speak of.
-pub mod Unplaced
 pub mod Elements
 pub mod Values
