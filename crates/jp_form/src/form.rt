@@ -30,6 +30,8 @@ pub enum Table {
     Tabs,
     /// Commas. A cell with a comma, a quote, a carriage return or a line feed is quoted (RFC 4180, section 2).
     Commas,
+    /// Tabs. Each cell is a value in canonical form, or empty: no tab and no line feed stands in one, and nothing is escaped.
+    Canonical,
 }
 
 /// What a row shows of a selected line.
@@ -71,6 +73,8 @@ pub struct Form<'a> {
     pub name: &'a str,
     /// Whether the name stands in front of each row, with a colon.
     pub named: bool,
+    /// Whether a NUL stands behind the name, in place of the colon or the line feed.
+    pub null: bool,
     /// Whether the number of the line, from 1, stands in front of each row, with a colon.
     pub numbered: bool,
     /// Whether refused lines are no fault: nothing is told of them, and the exit status is none the worse for them.

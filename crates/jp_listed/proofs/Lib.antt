@@ -1,0 +1,4 @@
+-- Lemmas of sets.
+pub mod Equal
+pub mod Lines
+pub mod Order

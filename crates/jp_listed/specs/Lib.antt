@@ -1,0 +1,5 @@
+-- Sets of values.
+pub mod Hashes
+pub mod Slots
+pub mod Texts
+pub mod Sets
