@@ -1,13 +1,13 @@
 -- What answers none of some bytes, or the lines that end in them, goes on through a stream.
-use Rattle.std.proofs.Common.{◌≡◌, ◌∙◌, ◌-◌, ℕ, List, [], ◌++◌, sym, ap, subst, append-nil, arith, Bool, true, false, Option, Result, Ok, Err, IsErr}
+use Rattle.std.proofs.Common.{◌≡◌, ◌∙◌, ◌-◌, ℕ, List, [], ◌++◌, refl, sym, ap, subst, append-nil, arith, Bool, true, false, Option, Result, Ok, Err, IsErr}
 use Rattle.std.specs.Prelude.{IfErr, IsErrAnd, MatchResult, OnOk}
 use Rattle.jp_model.specs.declared.Framing.{Framing}
 use Rattle.jp_devices.specs.Devices.{Device, Received, Writes}
 use Rattle.jp_model.specs.Lines.{without_byte_order_mark}
 use Rattle.jp_masks.specs.Found.{lines_in}
-use Rattle.jp_devices.proofs.Chains.{ends_in_part}
+use Rattle.jp_devices.proofs.Chains.{Part, ends_in_part}
 use Rattle.jp_grep.specs.Cuts.{EndsBetween, text_of}
-use Rattle.jp_grep.specs.Faults.{IsToldOf, is_front_fault, is_inner_fault, is_input_fault}
+use Rattle.jp_grep.specs.Faults.{IsToldOf, is_front_fault, is_inner_fault, is_input_fault, is_writer_fault}
 use Rattle.jp_grep.specs.Fronts.{AreRefused}
 use Rattle.jp_grep.specs.Items.{Item}
 use Rattle.jp_grep.specs.Positions.{IsAt}
@@ -22,7 +22,8 @@ use Rattle.jp_grep.specs.declared.progress.Progress.{Progress}
 use Rattle.jp_grep.specs.declared.question.Question.{Question}
 use Rattle.jp_grep.proofs.Counted.{none_up_to}
 use Rattle.jp_grep.proofs.Position.{cut_closed, grows}
-use Rattle.jp_grep.proofs.Written.{none_written, part_so_far}
+use Rattle.jp_grep.proofs.Coming.{came_same}
+use Rattle.jp_grep.proofs.Written.{none_received, none_written, part_so_far}
 
 -- ---- what is said of a result
 
@@ -34,14 +35,30 @@ pub says_nothing : {A E : Type 0} (P : Type 0) (r : Result A E) → IsErr r → 
 says_nothing P (Ok x) h = absurd (cc)
 says_nothing P (Err e) h = tt
 
-pub both_at_ok : {A E P Q R : Type 0} (r : Result A E) → (P → Q → R) → OnOk r P → OnOk r Q → OnOk r R
-both_at_ok (Ok x) f p q = f p q
-both_at_ok (Err e) f p q = tt
-
 -- what was received as a whole was written, whatever comes after
 pub whole_written : {W A E : Type 0} {contents : W → Option (List ℕ)} (r : Result A E) (old new : Device W) (text : List ℕ) → Received contents old new text → Writes contents old new r text
 whole_written (Ok x) old new text w = w
 whole_written (Err e) old new text w = part_so_far old new text w
+
+pub at_err : {A E : Type 0} (P : E → Type 0) (r : Result A E) → ((e : E) → P e) → IfErr r P
+at_err P (Ok x) f = tt
+at_err P (Err e) f = f e
+
+-- a fault of a writer is one
+pub of_writer : (fault : SearchFault) → is_writer_fault fault ≡ true → is_writer_fault fault ≡ false → ⊥
+of_writer fault h e = apart (sym h ∙ e)
+  where
+    apart : true ≡ false → ⊥
+    apart f = cc
+
+-- where no other fault is told, nothing is said of others
+pub only_writes : (P : Type 0) (r : Result Unit SearchFault) → IfErr r (λ fault. fault ≡ faults.Write) → IfErr r (λ fault. is_writer_fault fault ≡ false → P)
+only_writes P (Ok x) h = tt
+only_writes P (Err e) h = λ other. absurd (of_writer e (ap is_writer_fault h) other)
+
+-- a beginning of any text is nothing
+pub nothing_of : {W : Type 0} {contents : W → Option (List ℕ)} (device : Device W) (text : List ℕ) → Part contents device device text
+nothing_of device text = ([], refl, none_received device)
 
 pub inner_no_front : (fault : SearchFault) → is_inner_fault fault ≡ true → is_front_fault fault ≡ true → ⊥
 inner_no_front faults.Read h e = cc
@@ -67,10 +84,6 @@ pub not_of_front : (P : SearchFault → Type 0) (r : Result Unit SearchFault) (f
 not_of_front P (Ok x) fault h inner = tt
 not_of_front P (Err e) fault h inner = λ front. absurd (inner_no_front e (ap is_inner_fault h ∙ inner) front)
 
-pub inner_of_front : (P : SearchFault → Type 0) (r : Result Unit SearchFault) → IfErr r (λ e. is_inner_fault e ≡ true) → IfErr r (λ e. is_front_fault e ≡ true → P e)
-inner_of_front P (Ok x) h = tt
-inner_of_front P (Err e) h = λ front. absurd (inner_no_front e h front)
-
 pub handed_on : (P : SearchFault → Type 0) (r : Result Unit SearchFault) (fault : SearchFault) → IsErrAnd r (λ e. e ≡ fault) → P fault → IfErr r P
 handed_on P (Ok x) fault h p = tt
 handed_on P (Err e) fault h p = subst P (sym h) p
@@ -86,20 +99,37 @@ so_anyhow P (Ok x) p = p
 so_anyhow P (Err e) p = λ _. p
 
 module _ (question : Question) (form : Form) where
-  none_answered : (selected : ℕ) → answered_of question form selected [] ≡ []
+  pub none_answered : (selected : ℕ) → answered_of question form selected [] ≡ []
   none_answered selected = none_up_to (selected_item question) (form.most - selected)
 
-  none_by : (progress : Progress) → IsUnderWay form progress → GoesOnBy question form progress progress []
-  none_by progress h = record { number = omega arith; selected = omega arith; refused = omega arith; under_way = h }
+  pub none_by : (progress : Progress) → IsUnderWay form progress → GoesOnBy question form progress progress []
+  none_by progress h = record { number = omega arith; selected = omega arith; refused = omega arith; given_up = omega arith; under_way = h }
 
-  -- no line is answered
-  pub answers_none : {W E : Type 0} (rows_in : W → Option (List ℕ)) (messages_in : E → Option (List ℕ)) (progress : Progress) (out : Device W) (told : Device E) (r : Result Unit SearchFault) → IsUnderWay form progress
-      → Answers rows_in messages_in question form progress progress out out told told r []
-  answers_none rows_in messages_in progress out told r h = record {
-    rows = subst (λ ls. Writes rows_in out out r (output_from question form progress.number ls)) (sym (none_answered progress.counts.selected)) (none_written rows_in r out);
-    messages = subst (λ ls. Writes messages_in told told r (messages_from form progress.counts.refused progress.number ls)) (sym (none_answered progress.counts.selected)) (none_written messages_in r told);
-    progress = holds_at_ok r (subst (λ ls. GoesOnBy question form progress progress ls) (sym (none_answered progress.counts.selected)) (none_by progress h));
-  }
+  module _ {W E : Type 0} (rows_in : W → Option (List ℕ)) (messages_in : E → Option (List ℕ)) (progress : Progress) (out : Device W) (told : Device E) (r : Result Unit SearchFault) where
+    unwritten : IfErr r (λ fault. is_writer_fault fault ≡ false → (out ≡ out) × (told ≡ told) × (progress ≡ progress))
+    unwritten = at_err _ r (λ fault. λ other. (refl, refl, refl))
+
+    -- no line is answered
+    pub answers_none : IsUnderWay form progress → Answers rows_in messages_in question form progress progress out out told told r []
+    answers_none h = record {
+      outcomes = [];
+      each = tt;
+      rows = subst (λ ls. Writes rows_in out out r (output_from question form progress.number ls)) (sym (none_answered progress.counts.selected)) (none_written rows_in r out);
+      messages = subst (λ ls. Writes messages_in told told r (messages_from form progress.counts.refused progress.number ls)) (sym (none_answered progress.counts.selected)) (none_written messages_in r told);
+      progress = holds_at_ok r (subst (λ ls. GoesOnBy question form progress progress ls) (sym (none_answered progress.counts.selected)) (none_by progress h));
+      unwritten = unwritten;
+    }
+
+    -- none of some lines is
+    pub answers_nothing : (items : List Item) → IsErr r → Answers rows_in messages_in question form progress progress out out told told r items
+    answers_nothing items failed = record {
+      outcomes = items;
+      each = came_same items;
+      rows = ends_in_part r out out _ failed (nothing_of out _);
+      messages = ends_in_part r told told _ failed (nothing_of told _);
+      progress = says_nothing _ r failed;
+      unwritten = unwritten;
+    }
 
 -- none of the lines in more bytes is answered yet
 pub none_first : (framing : Framing) (came held piece : List ℕ) (answered : List (List ℕ)) (first : Bool) → IsAt framing came held answered first
@@ -122,20 +152,15 @@ pub held_refused : (framing : Framing) (came held piece : List ℕ) (answered : 
 held_refused framing came held piece answered true fault e refused at = (at.none, subst (λ l. AreRefused framing (l ++ piece) fault) at.same refused)
 held_refused framing came held piece answered false fault e refused at = absurd (cc)
 
--- the lines are answered all the same, where a later step failed or the fault was handed on
+-- a fault that is handed on says of the lines what it said
 module _ (question : Question) (form : Form) {W E : Type 0} {rows_in : W → Option (List ℕ)} {messages_in : E → Option (List ℕ)} where
-  pub answers_later : (before after : Progress) (out0 out1 : Device W) (told0 told1 : Device E) (items : List Item) (x : Unit {0}) (r : Result Unit SearchFault)
-      → Answers rows_in messages_in question form before after out0 out1 told0 told1 (Ok x) items → Answers rows_in messages_in question form before after out0 out1 told0 told1 r items
-  answers_later before after out0 out1 told0 told1 items x r h = record {
-    rows = whole_written r out0 out1 _ h.rows;
-    messages = whole_written r told0 told1 _ h.messages;
-    progress = holds_at_ok r h.progress;
-  }
-
-  pub answers_in_part : (before after : Progress) (out0 out1 : Device W) (told0 told1 : Device E) (items : List Item) (e : SearchFault) (r : Result Unit SearchFault) → IsErr r
+  pub answers_in_part : (before after : Progress) (out0 out1 : Device W) (told0 told1 : Device E) (items : List Item) (e : SearchFault) (r : Result Unit SearchFault) → IsErr r → IsErrAnd r (λ y. y ≡ e)
       → Answers rows_in messages_in question form before after out0 out1 told0 told1 (Err e) items → Answers rows_in messages_in question form before after out0 out1 told0 told1 r items
-  answers_in_part before after out0 out1 told0 told1 items e r failed h = record {
+  answers_in_part before after out0 out1 told0 told1 items e r failed is h = record {
+    outcomes = h.outcomes;
+    each = h.each;
     rows = ends_in_part r out0 out1 _ failed h.rows;
     messages = ends_in_part r told0 told1 _ failed h.messages;
     progress = says_nothing _ r failed;
+    unwritten = handed_on _ r e is h.unwritten;
   }

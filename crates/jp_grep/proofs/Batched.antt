@@ -1,99 +1,76 @@
 -- Those that were read, answered one after another.
-use Rattle.std.proofs.Common.{◌≡◌, ◌∙◌, ◌<◌, ◌≤◌, ◌+◌, ◌-◌, ℕ, List, [], ◌∷◌, ◌++◌, drop, get_or, length, take, sym, ap, append_assoc, append-nil, arith}
-use Rattle.std.specs.Prelude.{cond}
-use Rattle.std.proofs.lemmas.List.{drop_more, drop_all, take_more, length-take-le}
+use Rattle.std.proofs.Common.{◌≡◌, ◌∙◌, ◌<◌, ◌+◌, ◌-◌, ℕ, List, [], ◌∷◌, ◌++◌, length, sym, ap, append_assoc, append-nil, arith}
+use Rattle.std.specs.Prelude.{count_by}
 use Rattle.jp_grep.specs.Items.{Item}
-use Rattle.jp_grep.specs.Rows.{item_message, item_rows, messages_from, output_from, refused_count, refused_item, selected_count, selected_item}
+use Rattle.jp_grep.specs.Rows.{item_message, item_rows, messages_from, output_from, refused_count, selected_count, selected_item}
+use Rattle.jp_grep.specs.Outcomes.{CameOfEach}
+use Rattle.jp_grep.specs.Searching.{GoesOnBy}
 use Rattle.jp_grep.specs.Streams.{up_to}
 use Rattle.jp_grep.specs.Watching.{answered_of}
 use Rattle.jp_form.specs.declared.form.Form.{Form}
+use Rattle.jp_grep.specs.declared.progress.Progress.{Progress}
 use Rattle.jp_grep.specs.declared.question.Question.{Question}
-use Rattle.jp_grep.proofs.Counted.{count-append, count_one, messages-append, messages_one, next_up_to, none_up_to, output-append, output_one}
+use Rattle.jp_grep.proofs.Counted.{messages-append, messages_one, next_up_to, none_up_to, output-append, output_one, up_to-append}
 
-module _ (question : Question) (form : Form) where
+left_of : (most before count : ℕ) → before + count < most → 0 < (most - before) - count
+left_of most before count l = omega (arith, l)
+
+none_left : (most before count : ℕ) → before + count ≡ most → (most - before) - count ≡ 0
+none_left most before count e = omega (arith, e)
+
+module _ (question : Question) (form : Form) (before : ℕ) (done : List Item) (all : answered_of question form before done ≡ done) where
+  -- behind those that are answered as many are as are left
+  behind : (rest : List Item) → answered_of question form before (done ++ rest) ≡ done ++ up_to (selected_item question) ((form.most - before) - selected_count question done) rest
+  behind rest =
+      up_to-append (selected_item question) (form.most - before) done rest
+      ∙ ap (λ ls. ls ++ up_to (selected_item question) ((form.most - before) - count_by (selected_item question) ls) rest) all
+
   -- no more are wanted
-  pub enough : (selected : ℕ) (answered front rest : List Item) → selected ≡ form.most → answered ≡ front ++ answered_of question form selected rest → answered ≡ front
-  enough selected answered front rest e is =
-      is
-      ∙ ap (λ n. front ++ up_to (selected_item question) n rest) (none form.most selected e)
-      ∙ append-nil front
-    where
-      none : (most selected : ℕ) → selected ≡ most → most - selected ≡ 0
-      none most selected e = omega (arith, e)
+  pub enough : (rest : List Item) → before + selected_count question done ≡ form.most → answered_of question form before (done ++ rest) ≡ done
+  enough rest e = behind rest ∙ ap (λ n. done ++ up_to (selected_item question) n rest) (none_left form.most before (selected_count question done) e) ∙ append-nil done
 
-  module _ (all : List Item) (i : ℕ) where
-    -- no more are there
-    pub at_end : (selected : ℕ) (answered : List Item) → length all ≤ i → answered ≡ take i all ++ answered_of question form selected (drop i all) → answered ≡ take i all
-    at_end selected answered past is =
-        is
-        ∙ ap (λ l. take i all ++ answered_of question form selected l) (drop_all i all past)
-        ∙ ap (λ l. take i all ++ l) (none_up_to (selected_item question) (form.most - selected))
-        ∙ append-nil (take i all)
+  -- the next one is answered too
+  pub one_more : (item : Item) (rest : List Item) → before + selected_count question done < form.most
+      → (others : List Item) × (answered_of question form before (done ++ item ∷ rest) ≡ (done ++ item ∷ []) ++ others)
+  one_more item rest fewer =
+      let left = (form.most - before) - selected_count question done in
+      let next = next_up_to (selected_item question) left item rest (left_of form.most before (selected_count question done) fewer) in (
+        _,
+        behind (item ∷ rest) ∙ ap (λ l. done ++ l) next ∙ sym (append_assoc done (item ∷ []) _),
+      )
 
-    module _ (line : Item) (within : i < length all) (is : line ≡ get_or all i line) where
-      one_more : take (i + 1) all ≡ take i all ++ line ∷ []
-      one_more = take_more all i line within ∙ ap (λ l. take i all ++ l ∷ []) (sym is)
+  pub with_next : (item : Item) → before + selected_count question done < form.most → answered_of question form before (done ++ item ∷ []) ≡ done ++ item ∷ []
+  with_next item fewer =
+      let left = (form.most - before) - selected_count question done in
+      behind (item ∷ []) ∙ ap (λ l. done ++ l) (next_up_to (selected_item question) left item [] (left_of form.most before (selected_count question done) fewer) ∙ ap (λ l. item ∷ l) (none_up_to (selected_item question) _))
 
-      next : drop i all ≡ line ∷ drop (i + 1) all
-      next = drop_more all i line within ∙ ap (λ l. l ∷ drop (i + 1) all) (sym is)
+module _ (question : Question) (form : Form) (done : List Item) (item : Item) where
+  pub rows_more : (n : ℕ) → output_from question form n (done ++ item ∷ []) ≡ output_from question form n done ++ item_rows question form (n + length done) item
+  rows_more n = output-append question form n done (item ∷ []) ∙ ap (λ l. output_from question form n done ++ l) (output_one question form (n + length done) item)
 
-      long : length (take i all) ≡ i
-      long = length-take-le i all (omega (arith, within))
+  pub messages_more : (before n : ℕ) → messages_from form before n (done ++ item ∷ []) ≡ messages_from form before n done ++ item_message form (before + refused_count done) (n + length done) item
+  messages_more before n =
+      messages-append question form before n done (item ∷ []) ∙ ap (λ l. messages_from form before n done ++ l) (messages_one question form (before + refused_count done) (n + length done) item)
 
-      -- the next line is among those that are answered
-      pub goes_on : (selected after : ℕ) (answered : List Item) → selected < form.most → after ≡ selected + cond (selected_item question line) 1 0
-          → answered ≡ take i all ++ answered_of question form selected (drop i all) → answered ≡ take (i + 1) all ++ answered_of question form after (drop (i + 1) all)
-      goes_on selected after answered fewer counted so_far =
-          let test = selected_item question in
-          so_far
-          ∙ ap (λ l. take i all ++ answered_of question form selected l) next
-          ∙ ap (λ l. take i all ++ l) (next_up_to test (form.most - selected) line (drop (i + 1) all) (omega (arith, fewer)))
-          ∙ ap (λ n. take i all ++ line ∷ up_to test n (drop (i + 1) all)) (left form.most selected after (cond (test line) 1 0) counted)
-          ∙ sym (append_assoc (take i all) (line ∷ []) (answered_of question form after (drop (i + 1) all)))
-          ∙ ap (λ l. l ++ answered_of question form after (drop (i + 1) all)) (sym one_more)
-        where
-          left : (most selected after one : ℕ) → after ≡ selected + one → (most - selected) - one ≡ most - after
-          left most selected after one e = omega (arith, e)
+  -- what is written of all: of those before the item, of it, and of those behind it
+  pub rows_around : (n : ℕ) (all rest : List Item) → all ≡ (done ++ item ∷ []) ++ rest
+      → output_from question form n all ≡ (output_from question form n done ++ item_rows question form (n + length done) item) ++ output_from question form (n + length (done ++ item ∷ [])) rest
+  rows_around n all rest e =
+      ap (output_from question form n) e
+      ∙ output-append question form n (done ++ item ∷ []) rest
+      ∙ ap (λ l. l ++ output_from question form (n + length (done ++ item ∷ [])) rest) (rows_more n)
 
-      pub rows_more : (n : ℕ) → output_from question form n (take (i + 1) all) ≡ output_from question form n (take i all) ++ item_rows question form (n + i) line
-      rows_more n =
-          ap (output_from question form n) one_more
-          ∙ output-append question form n (take i all) (line ∷ [])
-          ∙ ap (λ l. output_from question form n (take i all) ++ l) (output_one question form (n + length (take i all)) line ∙ ap (λ k. item_rows question form (n + k) line) long)
+  pub messages_around : (before n : ℕ) (all rest : List Item) → all ≡ (done ++ item ∷ []) ++ rest
+      → messages_from form before n all
+      ≡ (messages_from form before n done ++ item_message form (before + refused_count done) (n + length done) item)
+      ++ messages_from form (before + refused_count (done ++ item ∷ [])) (n + length (done ++ item ∷ [])) rest
+  messages_around before n all rest e =
+      ap (messages_from form before n) e
+      ∙ messages-append question form before n (done ++ item ∷ []) rest
+      ∙ ap (λ l. l ++ messages_from form (before + refused_count (done ++ item ∷ [])) (n + length (done ++ item ∷ [])) rest) (messages_more before n)
 
-      pub messages_more : (before n : ℕ)
-          → messages_from form before n (take (i + 1) all) ≡ messages_from form before n (take i all) ++ item_message form (before + refused_count (take i all)) (n + i) line
-      messages_more before n =
-          let refused = before + refused_count (take i all) in
-          ap (messages_from form before n) one_more
-          ∙ messages-append question form before n (take i all) (line ∷ [])
-          ∙ ap (λ l. messages_from form before n (take i all) ++ l)
-          (messages_one question form refused (n + length (take i all)) line ∙ ap (λ k. item_message form refused (n + k) line) long)
-
-      pub selected_more : selected_count question (take (i + 1) all) ≡ selected_count question (take i all) + cond (selected_item question line) 1 0
-      selected_more =
-          ap (selected_count question) one_more
-          ∙ count-append (selected_item question) (take i all) (line ∷ [])
-          ∙ ap (λ n. selected_count question (take i all) + n) (count_one (selected_item question) line)
-
-      pub refused_more : refused_count (take (i + 1) all) ≡ refused_count (take i all) + cond (refused_item line) 1 0
-      refused_more =
-          ap refused_count one_more
-          ∙ count-append refused_item (take i all) (line ∷ [])
-          ∙ ap (λ n. refused_count (take i all) + n) (count_one refused_item line)
-
-      -- what is written of all that are answered: of those before the line, of it, and of those behind it
-      pub rows_around : (n : ℕ) (answered rest : List Item) → answered ≡ take (i + 1) all ++ rest
-          → output_from question form n answered ≡ (output_from question form n (take i all) ++ item_rows question form (n + i) line) ++ output_from question form (n + length (take (i + 1) all)) rest
-      rows_around n answered rest e =
-          ap (output_from question form n) e
-          ∙ output-append question form n (take (i + 1) all) rest
-          ∙ ap (λ l. l ++ output_from question form (n + length (take (i + 1) all)) rest) (rows_more n)
-
-      pub messages_around : (before n : ℕ) (answered rest : List Item) → answered ≡ take (i + 1) all ++ rest
-          → messages_from form before n answered ≡ (messages_from form before n (take i all) ++ item_message form (before + refused_count (take i all)) (n + i) line)
-          ++ messages_from form (before + refused_count (take (i + 1) all)) (n + length (take (i + 1) all)) rest
-      messages_around before n answered rest e =
-          ap (messages_from form before n) e
-          ∙ messages-append question form before n (take (i + 1) all) rest
-          ∙ ap (λ l. l ++ messages_from form (before + refused_count (take (i + 1) all)) (n + length (take (i + 1) all)) rest) (messages_more before n)
+-- These are done: what came of each of the first items, all of them answered, one after another.
+pub record AreDone (question : Question) (form : Form) (before after : Progress) (items done : List Item) : Type 0 where
+  pub each : CameOfEach items done
+  pub all : answered_of question form before.counts.selected done ≡ done
+  pub by : GoesOnBy question form before after done

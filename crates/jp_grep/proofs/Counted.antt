@@ -9,7 +9,7 @@ use Rattle.jp_form.specs.declared.form.Form.{Form}
 use Rattle.jp_grep.specs.declared.question.Question.{Question}
 
 module _ {A : Type 0} (test : A → Bool) where
-  count-cons : (x : A) (xs : List A) → count_by test (x ∷ xs) ≡ cond (test x) 1 0 + count_by test xs
+  pub count-cons : (x : A) (xs : List A) → count_by test (x ∷ xs) ≡ cond (test x) 1 0 + count_by test xs
   count-cons x xs = sum_by-cons (λ y. cond (test y) 1 0) x xs
 
   less : (b : Bool) (most count : ℕ) → (if b then most else suc most) - count ≡ suc most - (cond b 1 0 + count)

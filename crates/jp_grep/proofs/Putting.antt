@@ -1,12 +1,10 @@
 -- Rows that are put behind what is held, one after another.
-use Rattle.std.proofs.Common.{◌≡◌, ◌∙◌, ℕ, List, [], ◌++◌, Bool, drop, length, refl, sym, ap, subst, append_assoc, append-nil, take-append-drop, Option, Result, Ok, Err, IsErr, false, true}
+use Rattle.std.proofs.Common.{◌≡◌, ◌∙◌, ℕ, List, [], ◌++◌, drop, length, sym, ap, subst, append_assoc, append-nil, take-append-drop, Option, Result, Ok, Err, IsErr}
 use Rattle.std.proofs.Math.Seq.{take-append_seam}
-use Rattle.jp_devices.specs.Devices.{Begins, Device, Writes}
+use Rattle.jp_devices.specs.Devices.{Begins, Device, Received, Writes}
 use Rattle.jp_devices.proofs.Chains.{Part, both_received}
-use Rattle.jp_grep.specs.Faults.{IsToldOf}
 use Rattle.jp_grep.specs.Holding.{HoldsBack, HoldsPart, Puts}
-use Rattle.jp_grep.specs.declared.fault.SearchFault.{SearchFault}
-use Rattle.jp_grep.proofs.Written.{none_received, part_so_far}
+use Rattle.jp_grep.proofs.Written.{none_received}
 
 begins_front : (xs ys : List ℕ) → Begins xs (xs ++ ys)
 begins_front xs ys = take-append_seam xs ys
@@ -34,10 +32,6 @@ module _ {W : Type 0} {contents : W → Option (List ℕ)} where
   -- nothing was put
   pub none_put : (out : Device W) (held : List ℕ) → HoldsBack contents out out held held []
   none_put out held = ([], append-nil held, none_received out)
-
-  -- nothing of a text was put
-  pub none_part : (out : Device W) (held text : List ℕ) → HoldsPart contents out out held held text
-  none_part out held text = ([], begins_front held text, none_received out)
 
   -- one text, and then another
   pub both_put : (a b c : Device W) (first second third x y : List ℕ) → HoldsBack contents a b first second x → HoldsBack contents b c second third y → HoldsBack contents a c first third (x ++ y)
@@ -100,18 +94,17 @@ module _ {W : Type 0} {contents : W → Option (List ℕ)} where
         both_received a b c p.0 w.0 p.2 w.2,
       )
 
+  -- what is held is written behind the rest
+  pub held_written : {A E : Type 0} (result : Result A E) (a b c : Device W) (held text : List ℕ) → HoldsBack contents a b [] held text → Writes contents b c result held → Writes contents a c result text
+  held_written (Ok x) a b c held text p w = subst (λ l. Received contents a c l) (sym p.1) (both_received a b c p.0 held p.2 w)
+  held_written (Err e) a b c held text p w = part_written a b c held text (put_so_far a b [] held text p) w
+
   -- what is held is forgotten
   pub rest_lost : (a b : Device W) (held text : List ℕ) → HoldsPart contents a b [] held text → Part contents a b text
   rest_lost a b held text p =
       let all = p.0 ++ held in
       let whole : text ≡ p.0 ++ (held ++ drop (length all) text) = begins_rest all text p.1 ∙ append_assoc p.0 held (drop (length all) text) in
       (p.0, subst (λ l. Begins p.0 l) (sym whole) (begins_front p.0 (held ++ drop (length all) text)), p.2)
-
--- nothing was put before
-pub put_first : {W A E : Type 0} (contents : W → Option (List ℕ)) (result : Result A E) (a b c : Device W) (first second third text : List ℕ) → HoldsBack contents a b first second [] → Puts contents b c second third result text
-    → Puts contents a c first third result text
-put_first contents (Ok x) a b c first second third text none p = both_put a b c first second third [] text none p
-put_first contents (Err e) a b c first second third text none p = part_put a b c first second third [] text none p
 
 -- what is held is written
 pub held_put : {W A E : Type 0} (contents : W → Option (List ℕ)) (result : Result A E) (a b : Device W) (first second : List ℕ) → second ≡ [] → Writes contents a b result first → Puts contents a b first second result []
@@ -121,25 +114,3 @@ held_put contents (Err e) a b first second none w = (
   subst (λ l. Begins l (first ++ [])) (sym (append-nil w.0) ∙ ap (λ l. w.0 ++ l) (sym none)) (subst (λ l. Begins w.0 l) (sym (append-nil first)) w.1),
   w.2,
 )
-
--- what was put is a beginning, however it ended
-pub part_of_puts : {W A E : Type 0} (contents : W → Option (List ℕ)) (result : Result A E) (a b : Device W) (first second text : List ℕ) → Puts contents a b first second result text → HoldsPart contents a b first second text
-part_of_puts contents (Ok x) a b first second text p = put_so_far a b first second text p
-part_of_puts contents (Err e) a b first second text p = p
-
-pub part_of_writes : {W A E : Type 0} (contents : W → Option (List ℕ)) (result : Result A E) (a b : Device W) (text : List ℕ) → Writes contents a b result text → Part contents a b text
-part_of_writes contents (Ok x) a b text w = part_so_far a b text w
-part_of_writes contents (Err e) a b text w = w
-
--- what is held is lost where a call failed
-pub lost_at_err : {W A E : Type 0} (contents : W → Option (List ℕ)) (result : Result A E) (a b : Device W) (held text : List ℕ) → IsErr result → Puts contents a b [] held result text → Writes contents a b result text
-lost_at_err contents (Ok x) a b held text h p = absurd (cc)
-lost_at_err contents (Err e) a b held text h p = rest_lost a b held text p
-
--- a device that failed is told
-pub err_told : {A : Type 0} (is : SearchFault → Bool) (result : Result A SearchFault) (failed : Bool) → IsToldOf is result failed → failed ≡ true → IsErr result
-err_told is (Ok x) failed told e = absurd (apart (sym told ∙ e))
-  where
-    apart : false ≡ true → ⊥
-    apart h = cc
-err_told is (Err f) failed told e = refl

@@ -10,7 +10,9 @@ use Rattle.jp_model.specs.Query.Syntax.{Segments}
 use Rattle.jp_devices.proofs.Devices.{or_false}
 use Rattle.jp_eval.specs.Compiled.{program_view}
 use Rattle.jp_eval.specs.declared.evaluate.Program.{Program}
-use Rattle.jp_grep.specs.Matching.{has_nodes, nodes_of, selected_by, selects, wants_nodes_where, wants_value}
+use Rattle.jp_grep.specs.Matching.{has_nodes, let_match, nodes_of, selected_by, selects, wants_nodes_where, wants_value}
+use Rattle.jp_grep.specs.declared.question.Queries.{Queries}
+use Rattle.jp_grep.specs.declared.question.Queries.TheVariants as purposes
 use Rattle.jp_grep.specs.declared.question.Wanted.{Wanted}
 use Rattle.jp_grep.specs.declared.question.Wanted.TheVariants as wanted
 
@@ -62,10 +64,11 @@ none_selected (query ∷ rest) t e =
     ∙ none_selected rest t (second_false some (selects rest t) e)
 
 -- where nodes are asked for, no row is left out, whether some is selected or none
-pub wanted_rows : (w : Wanted) (holds some : Bool) (rows : List ℕ) → (some ≡ false → rows ≡ []) → wants_nodes_where w holds (holds && some) ≡ true
-    → (if wants_value w (holds && some) then rows else []) ≡ rows
-wanted_rows wanted.Matching true true rows none asked = refl
-wanted_rows wanted.Matching true false rows none asked = sym (none refl)
-wanted_rows wanted.Matching false some rows none asked = absurd (cc)
-wanted_rows wanted.Others holds some rows none asked = ap (λ (b : Bool). if b then rows else []) asked
-wanted_rows wanted.Refused holds some rows none asked = absurd (cc)
+pub wanted_rows : (w : Wanted) (q : Queries) (holds some : Bool) (rows : List ℕ) → (some ≡ false → rows ≡ []) → wants_nodes_where w holds (holds && let_match q some) ≡ true
+    → (if wants_value w (holds && let_match q some) then rows else []) ≡ rows
+wanted_rows wanted.Matching purposes.Columns true some rows none asked = refl
+wanted_rows wanted.Matching purposes.Filter true true rows none asked = refl
+wanted_rows wanted.Matching purposes.Filter true false rows none asked = sym (none refl)
+wanted_rows wanted.Matching q false some rows none asked = absurd (cc)
+wanted_rows wanted.Others q holds some rows none asked = ap (λ (b : Bool). if b then rows else []) asked
+wanted_rows wanted.Refused q holds some rows none asked = absurd (cc)

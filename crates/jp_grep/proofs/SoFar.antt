@@ -1,31 +1,37 @@
 -- What is answered of a stream so far, and what a step makes of it.
-use Rattle.std.proofs.Common.{◌≡◌, ◌∙◌, ◌+◌, ◌-◌, ◌<◌, ◌≤◌, ℕ, List, [], ◌++◌, length, refl, sym, ap, ap₂, subst, append_assoc, append-nil, length-append, arith, Bool, true, false, ◌||◌, ◌&&◌, eqb, ltb, Option, None, Result, Ok, Err, inl, inr}
-use Rattle.std.specs.Prelude.{IsErrAnd, MatchResult, not}
-use Rattle.std.proofs.lemmas.Bool.{eq-eqb, false≢true, lt-ltb, ne_eqb}
+use Rattle.std.proofs.Common.{◌≡◌, ◌∙◌, ◌+◌, ◌-◌, ◌<◌, ◌≤◌, ℕ, List, [], ◌++◌, length, refl, sym, ap, ap₂, subst, append-nil, length-append, arith, Bool, true, false, ◌||◌, ◌&&◌, eqb, ltb, Option, None, Some, Result, Ok, Err, inl, inr}
+use Rattle.std.specs.Prelude.{IsErrAnd, is_none, MatchOption, MatchResult, count_by, not, ◌⊎◌}
+use Rattle.std.proofs.lemmas.Bool.{eq-eqb, eqb-true, false≢true, lt-ltb, ne_eqb}
 use Rattle.jp_devices.specs.Devices.{Came, Device, HasEnded, Received, has_no_room, one_more_where}
 use Rattle.jp_devices.proofs.Devices.{CameToEnd, came_so, was_ended}
 use Rattle.jp_devices.proofs.Chains.{Part, both_received, part_behind, part_more}
-use Rattle.jp_grep.specs.Faults.{is_front_fault, is_input_fault, is_read_fault, is_report_fault}
+use Rattle.jp_grep.specs.Faults.{is_front_fault, is_inner_fault, is_read_fault, is_report_fault, is_writer_fault}
 use Rattle.jp_model.specs.Lines.{is_framed}
 use Rattle.jp_grep.specs.Formats.{format_of}
 use Rattle.jp_grep.specs.Fronts.{IsOfLines, IsRefused}
 use Rattle.jp_grep.specs.Inputs.{WantsMore}
-use Rattle.jp_grep.specs.Items.{Item, framing_by, items_come}
+use Rattle.jp_grep.specs.Items.{Item, framing_by, is_given_up, items_come}
+use Rattle.jp_grep.specs.Outcomes.{CameOfEach, CameOfStream, given_up_count}
 use Rattle.jp_grep.specs.Rows.{messages_from, output_from, refused_count, refused_item, selected_count, selected_item, summary_of}
 use Rattle.jp_grep.specs.Searching.{Answers, GoesOnBy, HasAnswered}
 use Rattle.jp_grep.specs.Stands.{Stands}
 use Rattle.jp_grep.specs.Streams.{up_to}
 use Rattle.jp_grep.specs.Told.{more_refused}
-use Rattle.jp_grep.specs.Watching.{Answered, AnsweredInPart, AnsweredToEnd, SearchStopped, SearchedLines, answered, answered_of}
+use Rattle.jp_grep.specs.Watching.{Answered, AnsweredInPart, AnsweredToEnd, AreCounts, EndsWith, SearchStopped, SearchedLines, answered_of, is_whole}
 use Rattle.jp_grep.specs.declared.fault.SearchFault.{SearchFault}
 use Rattle.jp_grep.specs.declared.fault.SearchFault.TheVariants as faults
+use Rattle.jp_grep.specs.declared.found.Found.{Found}
+use Rattle.jp_grep.specs.declared.found.Limit.{Limit}
+use Rattle.jp_grep.specs.declared.found.Unread.{Unread}
 use Rattle.jp_form.specs.declared.form.Form.{Form}
+use Rattle.jp_grep.specs.declared.progress.Counts.{Counts}
 use Rattle.jp_grep.specs.declared.progress.Progress.{Progress}
 use Rattle.jp_grep.specs.declared.question.Question.{Question}
 use Rattle.jp_grep.specs.declared.source.Source.{Source}
+use Rattle.jp_grep.proofs.Coming.{came_next, none_came}
 use Rattle.jp_grep.proofs.Counted.{count-append, messages-append, none_up_to, output-append, up_to-append}
 use Rattle.jp_grep.proofs.Standing.{come_now, goes_as}
-use Rattle.jp_grep.proofs.Written.{none_received, part_next, part_so_far}
+use Rattle.jp_grep.proofs.Written.{none_received, part_so_far}
 
 -- an error that is handed on
 pub handed : {A E : Type 0} (P : A → Type 0) (Q : E → Type 0) (r : Result A E) (e : E) → IsErrAnd r (λ y. y ≡ e) → Q e → MatchResult r P Q
@@ -70,6 +76,39 @@ module _ (question : Question) (form : Form) where
   none_taken : (selected : ℕ) → answered_of question form selected [] ≡ []
   none_taken selected = none_up_to (selected_item question) (form.most - selected)
 
+  counts_as : (outcomes : List Item) (found : Found) (counts : Counts) → found.counts ≡ counts → AreCounts question counts (answered_of question form 0 outcomes) → AreCounts question found.counts (answered_of question form 0 outcomes)
+  counts_as outcomes found counts e h = subst (λ (n : Counts). AreCounts question n (answered_of question form 0 outcomes)) (sym e) h
+
+  module _ (came : Came) (outcomes : List Item) (found : Found) where
+    ends_so : Option Unread → Type 0
+    ends_so unread = MatchOption unread
+        ((format_of came.bytes ≡ None) × CameOfEach (items_come form.units came.ended came.bytes) outcomes × ((came.ended ≡ true) ⊎ (found.counts.selected ≡ form.most)))
+        (λ there. there.line ≡ 1 + length (answered_of question form 0 outcomes))
+
+    ends_whole : found.unread ≡ None → (format_of came.bytes ≡ None) × CameOfEach (items_come form.units came.ended came.bytes) outcomes × ((came.ended ≡ true) ⊎ (found.counts.selected ≡ form.most))
+        → EndsWith question form came outcomes found
+    unfolding ends_so
+    ends_whole e h = subst ends_so (sym e) h
+
+    ends_short : (there : Unread) → found.unread ≡ Some there → there.line ≡ 1 + length (answered_of question form 0 outcomes) → EndsWith question form came outcomes found
+    unfolding ends_so
+    ends_short there e h = subst ends_so (sym e) h
+
+  -- where all were answered the outcomes are those of all that came
+  pub whole_came : (came : Came) (outcomes : List Item) (found : Found) → is_whole found ≡ true → EndsWith question form came outcomes found → CameOfEach (items_come form.units came.ended came.bytes) outcomes
+  whole_came came outcomes found whole ends = (first found.unread _ _ (eqb found.counts.given_up 0) whole ends).1
+    where
+      first : {A : Type 0} (o : Option A) (P : Type 0) (Q : A → Type 0) (b : Bool) → (is_none o && b) ≡ true → MatchOption o P Q → P
+      first None P Q b e h = h
+      first (Some x) P Q b e h = absurd (false≢true e)
+
+  pub whole_kept : (found : Found) → is_whole found ≡ true → found.counts.given_up ≡ 0
+  whole_kept found whole = none_of found.unread found.counts.given_up whole
+    where
+      none_of : {A : Type 0} (o : Option A) (n : ℕ) → (is_none o && eqb n 0) ≡ true → n ≡ 0
+      none_of None n e = eqb-true n 0 e
+      none_of (Some x) n e = absurd (false≢true e)
+
   -- of more lines as many are taken as are wanted after the others
   taken_more : (before more : List Item) (selected : ℕ) → selected ≡ selected_count question (answered_of question form 0 before)
       → answered_of question form 0 (before ++ more) ≡ answered_of question form 0 before ++ answered_of question form selected more
@@ -80,9 +119,9 @@ module _ (question : Question) (form : Form) where
       left : (most selected count : ℕ) → selected ≡ count → (most - 0) - count ≡ most - selected
       left most selected count e = omega (arith, e)
 
-  module _ (before more : List Item) (progress : Progress) (number_is : progress.number ≡ 1 + length (answered_of question form 0 before)) (selected_is : progress.counts.selected ≡ selected_count question (answered_of question form 0 before)) where
+  module _ (before more : List Item) (progress : Progress) (number_is : progress.number ≡ 1 + length (answered_of question form 0 before)) (counts_are : AreCounts question progress.counts (answered_of question form 0 before)) where
     sum : answered_of question form 0 (before ++ more) ≡ answered_of question form 0 before ++ answered_of question form progress.counts.selected more
-    sum = taken_more before more progress.counts.selected selected_is
+    sum = taken_more before more progress.counts.selected counts_are.selected
 
     pub rows_sum : output_from question form 1 (answered_of question form 0 (before ++ more))
         ≡ output_from question form 1 (answered_of question form 0 before) ++ output_from question form progress.number (answered_of question form progress.counts.selected more)
@@ -91,13 +130,12 @@ module _ (question : Question) (form : Form) where
         ∙ output-append question form 1 (answered_of question form 0 before) (answered_of question form progress.counts.selected more)
         ∙ ap (λ k. output_from question form 1 (answered_of question form 0 before) ++ output_from question form k (answered_of question form progress.counts.selected more)) (sym number_is)
 
-    pub messages_sum : progress.counts.refused ≡ refused_count (answered_of question form 0 before)
-        → messages_from form 0 1 (answered_of question form 0 (before ++ more))
+    pub messages_sum : messages_from form 0 1 (answered_of question form 0 (before ++ more))
         ≡ messages_from form 0 1 (answered_of question form 0 before) ++ messages_from form progress.counts.refused progress.number (answered_of question form progress.counts.selected more)
-    messages_sum refused_is =
+    messages_sum =
         ap (messages_from form 0 1) sum
         ∙ messages-append question form 0 1 (answered_of question form 0 before) (answered_of question form progress.counts.selected more)
-        ∙ ap₂ (λ j k. messages_from form 0 1 (answered_of question form 0 before) ++ messages_from form j k (answered_of question form progress.counts.selected more)) (zero_first _ ∙ sym refused_is) (sym number_is)
+        ∙ ap₂ (λ j k. messages_from form 0 1 (answered_of question form 0 before) ++ messages_from form j k (answered_of question form progress.counts.selected more)) (zero_first _ ∙ sym counts_are.refused) (sym number_is)
 
     pub number_sum : (after : Progress) → GoesOnBy question form progress after (answered_of question form progress.counts.selected more) → after.number ≡ 1 + length (answered_of question form 0 (before ++ more))
     number_sum after by = by.number ∙ ap (λ k. k + length (answered_of question form progress.counts.selected more)) number_is
@@ -107,58 +145,168 @@ module _ (question : Question) (form : Form) where
         lengths : (a b c : ℕ) → c ≡ a + b → (1 + a) + b ≡ 1 + c
         lengths a b c e = omega (arith, e)
 
-    pub selected_sum : (after : Progress) → GoesOnBy question form progress after (answered_of question form progress.counts.selected more) → after.counts.selected ≡ selected_count question (answered_of question form 0 (before ++ more))
-    selected_sum after by = by.selected ∙ ap (λ k. k + selected_count question (answered_of question form progress.counts.selected more)) selected_is
-        ∙ sym (ap (selected_count question) sum ∙ count-append (selected_item question) (answered_of question form 0 before) (answered_of question form progress.counts.selected more))
+    count_sum : (test : Item → Bool) (was is : ℕ) → was ≡ count_by test (answered_of question form 0 before) → is ≡ was + count_by test (answered_of question form progress.counts.selected more)
+        → is ≡ count_by test (answered_of question form 0 (before ++ more))
+    count_sum test was is e f = f ∙ ap (λ k. k + count_by test (answered_of question form progress.counts.selected more)) e
+        ∙ sym (ap (count_by test) sum ∙ count-append test (answered_of question form 0 before) (answered_of question form progress.counts.selected more))
 
-    pub refused_sum : (after : Progress) → progress.counts.refused ≡ refused_count (answered_of question form 0 before) → GoesOnBy question form progress after (answered_of question form progress.counts.selected more)
-        → after.counts.refused ≡ refused_count (answered_of question form 0 (before ++ more))
-    refused_sum after refused_is by = by.refused ∙ ap (λ k. k + refused_count (answered_of question form progress.counts.selected more)) refused_is
-        ∙ sym (ap (refused_count) sum ∙ count-append (refused_item) (answered_of question form 0 before) (answered_of question form progress.counts.selected more))
-
-  -- of what came as many are refused as of what is answered
-  pub all_refused : (source : Source) (came : List ℕ) (lines : List Item) → Stands form.units came source lines
-      → refused_count (answered_of question form 0 lines) ≡ refused_count (answered_of question form 0 (items_come form.units false came))
-  all_refused source came lines at = ap (λ ls. refused_count (answered_of question form 0 ls)) (sym (come_now form.units came source lines at))
+    pub counts_sum : (after : Progress) → GoesOnBy question form progress after (answered_of question form progress.counts.selected more) → AreCounts question after.counts (answered_of question form 0 (before ++ more))
+    counts_sum after by = record {
+      selected = count_sum (selected_item question) progress.counts.selected after.counts.selected counts_are.selected by.selected;
+      refused = count_sum refused_item progress.counts.refused after.counts.refused counts_are.refused by.refused;
+      given_up = count_sum is_given_up progress.counts.given_up after.counts.given_up counts_are.given_up by.given_up;
+    }
 
   module _ {W E : Type 0} (rows_in : W → Option (List ℕ)) (messages_in : E → Option (List ℕ)) where
-    abbrev pub SoFar : Source → Progress → Device W → Device W → Device E → Device E → List ℕ → List Item → Type 0
-    SoFar source progress out0 out1 told0 told1 came lines = HasAnswered rows_in messages_in question form source progress out0 out1 told0 told1 came lines
+    abbrev pub SoFar : Source → Progress → Device W → Device W → Device E → Device E → List ℕ → List Item → List Item → Type 0
+    SoFar source progress out0 out1 told0 told1 came lines outcomes = HasAnswered rows_in messages_in question form source progress out0 out1 told0 told1 came lines outcomes
 
     -- at the front
     pub at_start : (source : Source) (progress : Progress) (out : Device W) (told : Device E) → Stands form.units [] source []
-        → progress.number ≡ 1 → progress.counts.selected ≡ 0 → progress.counts.refused ≡ 0 → SoFar source progress out out told told [] []
-    at_start source progress out told stands number selected refused = record {
+        → progress.number ≡ 1 → progress.counts.selected ≡ 0 → progress.counts.refused ≡ 0 → progress.counts.given_up ≡ 0 → SoFar source progress out out told told [] [] []
+    at_start source progress out told stands number selected refused given_up = record {
       position = stands;
+      each = tt;
       rows = subst (λ ls. Received rows_in out out (output_from question form 1 ls)) (sym (none_taken 0)) (none_received out);
       messages = subst (λ ls. Received messages_in told told (messages_from form 0 1 ls)) (sym (none_taken 0)) (none_received told);
       number = number ∙ ap (λ (ls : List Item). 1 + length ls) (sym (none_taken 0));
-      selected = selected ∙ ap (selected_count question) (sym (none_taken 0));
-      refused = refused ∙ ap (refused_count) (sym (none_taken 0));
-      under_way = record { wanted = omega (arith, selected); fewer_selected = omega (arith, selected, number); fewer_refused = omega (arith, refused, number) };
+      counts = record {
+        selected = selected ∙ ap (selected_count question) (sym (none_taken 0));
+        refused = refused ∙ ap refused_count (sym (none_taken 0));
+        given_up = given_up ∙ ap given_up_count (sym (none_taken 0));
+      };
+      under_way = record {
+        wanted = omega (arith, selected);
+        fewer_selected = omega (arith, selected, number);
+        fewer_refused = omega (arith, refused, number);
+        fewer_given_up = omega (arith, given_up, number);
+      };
     }
 
     -- both writers are flushed
-    pub flushed : (source : Source) (progress : Progress) (out0 out1 out2 : Device W) (told0 told1 told2 : Device E) (came : List ℕ) (lines : List Item) → SoFar source progress out0 out1 told0 told1 came lines
-        → Received rows_in out1 out2 [] → Received messages_in told1 told2 [] → SoFar source progress out0 out2 told0 told2 came lines
-    flushed source progress out0 out1 out2 told0 told1 told2 came lines so rows messages = record {
+    pub flushed : (source : Source) (progress : Progress) (out0 out1 out2 : Device W) (told0 told1 told2 : Device E) (came : List ℕ) (lines outcomes : List Item) → SoFar source progress out0 out1 told0 told1 came lines outcomes
+        → Received rows_in out1 out2 [] → Received messages_in told1 told2 [] → SoFar source progress out0 out2 told0 told2 came lines outcomes
+    flushed source progress out0 out1 out2 told0 told1 told2 came lines outcomes so rows messages = record {
       position = so.position;
-      rows = subst (λ t. Received rows_in out0 out2 t) (append-nil (output_from question form 1 (answered_of question form 0 lines))) (both_received out0 out1 out2 _ [] so.rows rows);
-      messages = subst (λ t. Received messages_in told0 told2 t) (append-nil (messages_from form 0 1 (answered_of question form 0 lines))) (both_received told0 told1 told2 _ [] so.messages messages);
+      each = so.each;
+      rows = subst (λ t. Received rows_in out0 out2 t) (append-nil (output_from question form 1 (answered_of question form 0 outcomes))) (both_received out0 out1 out2 _ [] so.rows rows);
+      messages = subst (λ t. Received messages_in told0 told2 t) (append-nil (messages_from form 0 1 (answered_of question form 0 outcomes))) (both_received told0 told1 told2 _ [] so.messages messages);
       number = so.number;
-      selected = so.selected;
-      refused = so.refused;
+      counts = so.counts;
       under_way = so.under_way;
     }
 
-    -- the lines that came are those that are answered
-    pub come : (source : Source) (progress : Progress) (out0 out1 : Device W) (told0 told1 : Device E) (came : List ℕ) (lines : List Item) → SoFar source progress out0 out1 told0 told1 came lines → items_come form.units false came ≡ lines
-    come source progress out0 out1 told0 told1 came lines so = come_now form.units came source lines so.position
+    module _ (source : Source) (progress : Progress) (out0 out1 : Device W) (told0 told1 : Device E) (came : List ℕ) (lines outcomes : List Item) (so : SoFar source progress out0 out1 told0 told1 came lines outcomes) where
+      -- the lines that came are those that are answered
+      pub come : items_come form.units false came ≡ lines
+      come = come_now form.units came source lines so.position
 
-    pub all_so_far : (source : Source) (progress : Progress) (out0 out1 : Device W) (told0 told1 : Device E) (came : List ℕ) (lines : List Item) (failed : Bool) → SoFar source progress out0 out1 told0 told1 came lines
-        → Answered rows_in messages_in question form out0 out1 told0 told1 (answered question form (came_so came false failed))
-    all_so_far source progress out0 out1 told0 told1 came lines failed so =
-        subst (λ ls. Answered rows_in messages_in question form out0 out1 told0 told1 (answered_of question form 0 ls)) (sym (come source progress out0 out1 told0 told1 came lines so)) (record { rows = so.rows; messages = so.messages })
+      pub all_came : CameOfEach (items_come form.units false came) outcomes
+      all_came = subst (λ ls. CameOfEach ls outcomes) (sym come) so.each
+
+      pub came_so_far : (failed : Bool) → CameOfStream form (came_so came false failed) outcomes
+      came_so_far failed = record { items = lines; others = []; split = come ∙ sym (append-nil lines); each = so.each }
+
+      pub all_so_far : Answered rows_in messages_in question form out0 out1 told0 told1 (answered_of question form 0 outcomes)
+      all_so_far = record { rows = so.rows; messages = so.messages }
+
+      -- as many as are wanted were selected
+      pub enough_selected : (failed : Bool) (found : Found) → progress.counts.selected ≡ form.most → found.counts ≡ progress.counts → found.unread ≡ None
+          → SearchedLines rows_in messages_in question form out0 out1 told0 told1 (came_so came false failed) outcomes found
+      enough_selected failed found enough counts unread = record {
+        framed = λ ended. absurd (false≢true ended);
+        all = all_so_far;
+        counts = counts_as outcomes found progress.counts counts so.counts;
+        end = ends_whole (came_so came false failed) outcomes found unread ((goes_as form.units came source lines so.position).format, all_came, inr (ap (λ (n : Counts). n.selected) counts ∙ enough));
+      }
+
+      -- the rest is passed over
+      pub passed_over : (now : Came) (found : Found) (limit : Limit) → (now.ended ≡ true → IsOfLines (framing_by form.units) now.bytes) → found.counts ≡ progress.counts → found.unread ≡ Some (record { limit = limit; line = progress.number })
+          → SearchedLines rows_in messages_in question form out0 out1 told0 told1 now outcomes found
+      passed_over now found limit framed counts unread = record {
+        framed = framed;
+        all = all_so_far;
+        counts = counts_as outcomes found progress.counts counts so.counts;
+        end = ends_short now outcomes found (record { limit = limit; line = progress.number }) unread so.number;
+      }
+
+      -- fewer lines are selected than are wanted of what came
+      pub wants_more : (progress.counts.selected ≡ form.most → ⊥) → WantsMore question form came outcomes
+      wants_more other = record {
+        front = goes_as form.units came source lines so.position;
+        each = all_came;
+        fewer = fewer progress.counts.selected form.most _ so.under_way.wanted other so.counts.selected;
+      }
+        where
+          fewer : (selected most count : ℕ) → selected ≤ most → (selected ≡ most → ⊥) → selected ≡ count → count < most
+          fewer selected most count l e is = omega (arith, l, e, is)
+
+      -- a beginning of the answer of these lines, and of others behind them
+      pub in_part : (out2 : Device W) (told2 : Device E) (more : List Item)
+          → Part rows_in out1 out2 (output_from question form progress.number (answered_of question form progress.counts.selected more))
+          → Part messages_in told1 told2 (messages_from form progress.counts.refused progress.number (answered_of question form progress.counts.selected more))
+          → AnsweredInPart rows_in messages_in question form out0 out2 told0 told2 (answered_of question form 0 (outcomes ++ more))
+      in_part out2 told2 more rows messages =
+          let all = answered_of question form 0 (outcomes ++ more) in
+          record {
+            all = true;
+            rows = part_more out0 out2 (output_from question form 1 all) (summary_of form.summary form (selected_count question all) true)
+                (subst (λ t. Part rows_in out0 out2 t) (sym (rows_sum outcomes more progress so.number so.counts)) (part_behind out0 out1 out2 _ _ so.rows rows));
+            messages = part_more told0 told2 (messages_from form 0 1 all) (more_refused form (refused_count all))
+                (subst (λ t. Part messages_in told0 told2 t) (sym (messages_sum outcomes more progress so.number so.counts)) (part_behind told0 told1 told2 _ _ so.messages messages));
+          }
+
+      -- nothing more was written
+      pub stopped_here : AnsweredInPart rows_in messages_in question form out0 out1 told0 told1 (answered_of question form 0 outcomes)
+      stopped_here =
+          let all = answered_of question form 0 outcomes in
+          record {
+            all = true;
+            rows = part_more out0 out1 (output_from question form 1 all) (summary_of form.summary form (selected_count question all) true) (part_so_far out0 out1 _ so.rows);
+            messages = part_more told0 told1 (messages_from form 0 1 all) (more_refused form (refused_count all)) (part_so_far told0 told1 _ so.messages);
+          }
+
+      -- nothing at all was written
+      pub none_so_far : (out2 : Device W) (told2 : Device E) → lines ≡ [] → out2 ≡ out1 → told2 ≡ told1 → Answered rows_in messages_in question form out0 out2 told0 told2 []
+      none_so_far out2 told2 none out told =
+          let is = ap (answered_of question form 0) (none_came outcomes (subst (λ ls. CameOfEach ls outcomes) none so.each)) ∙ none_taken 0 in
+          record {
+            rows = subst (λ (o : Device W). Received rows_in out0 o []) (sym out) (subst (λ ls. Received rows_in out0 out1 (output_from question form 1 ls)) is so.rows);
+            messages = subst (λ (o : Device E). Received messages_in told0 o []) (sym told) (subst (λ ls. Received messages_in told0 told1 (messages_from form 0 1 ls)) is so.messages);
+          }
+
+      module _ (after : Progress) (out2 : Device W) (told2 : Device E) (x : Unit {0}) (more : List Item) (answers : Answers rows_in messages_in question form progress after out1 out2 told1 told2 (Ok x) more) where
+        both_rows : Received rows_in out0 out2 (output_from question form 1 (answered_of question form 0 (outcomes ++ answers.outcomes)))
+        both_rows = subst (λ t. Received rows_in out0 out2 t) (sym (rows_sum outcomes answers.outcomes progress so.number so.counts)) (both_received out0 out1 out2 _ _ so.rows answers.rows)
+
+        both_messages : Received messages_in told0 told2 (messages_from form 0 1 (answered_of question form 0 (outcomes ++ answers.outcomes)))
+        both_messages = subst (λ t. Received messages_in told0 told2 t) (sym (messages_sum outcomes answers.outcomes progress so.number so.counts)) (both_received told0 told1 told2 _ _ so.messages answers.messages)
+
+        both_each : CameOfEach (lines ++ more) (outcomes ++ answers.outcomes)
+        both_each = came_next lines outcomes more answers.outcomes so.each answers.each
+
+        -- these were answered, too
+        pub goes_on_by : (source1 : Source) (piece : List ℕ) → Stands form.units (came ++ piece) source1 (lines ++ more)
+            → SoFar source1 after out0 out2 told0 told2 (came ++ piece) (lines ++ more) (outcomes ++ answers.outcomes)
+        goes_on_by source1 piece position = record {
+          position = position;
+          each = both_each;
+          rows = both_rows;
+          messages = both_messages;
+          number = number_sum outcomes answers.outcomes progress so.number so.counts after answers.progress;
+          counts = counts_sum outcomes answers.outcomes progress so.number so.counts after answers.progress;
+          under_way = answers.progress.under_way;
+        }
+
+        -- the stream ended, and what its end leaves is answered
+        pub searched_all : (failed : Bool) (found : Found) → items_come form.units true came ≡ lines ++ more → IsOfLines (framing_by form.units) came → found.counts ≡ after.counts → found.unread ≡ None
+            → SearchedLines rows_in messages_in question form out0 out2 told0 told2 (came_so came true failed) (outcomes ++ answers.outcomes) found
+        searched_all failed found all framed counts unread = record {
+          framed = λ ended. framed;
+          all = record { rows = both_rows; messages = both_messages };
+          counts = counts_as (outcomes ++ answers.outcomes) found after.counts counts (counts_sum outcomes answers.outcomes progress so.number so.counts after answers.progress);
+          end = ends_whole (came_so came true failed) (outcomes ++ answers.outcomes) found unread (framed.format, subst (λ ls. CameOfEach ls (outcomes ++ answers.outcomes)) (sym all) both_each, inl refl);
+        }
 
     -- how many more are refused is told behind them
     pub told_to_end : (out0 out1 : Device W) (told0 told1 told2 : Device E) (lines : List Item) (count : ℕ) → count ≡ refused_count lines
@@ -174,165 +322,36 @@ module _ (question : Question) (form : Form) where
         → Answered rows_in messages_in question form out0 out1 told0 told1 lines → Part messages_in told1 told2 (more_refused form count)
         → AnsweredInPart rows_in messages_in question form out0 out1 told0 told2 lines
     told_in_part out0 out1 told0 told1 told2 lines count is answered more = record {
-      rows = part_more out0 out1 (output_from question form 1 lines) (summary_of form.summary form (selected_count question lines)) (part_so_far out0 out1 _ answered.rows);
+      all = true;
+      rows = part_more out0 out1 (output_from question form 1 lines) (summary_of form.summary form (selected_count question lines) true) (part_so_far out0 out1 _ answered.rows);
       messages = part_behind told0 told1 told2 (messages_from form 0 1 lines) _ answered.messages (subst (λ n. Part messages_in told1 told2 (more_refused form n)) is more);
     }
 
-    -- as many as are wanted were selected
-    pub enough_selected : (source : Source) (progress : Progress) (out0 out1 : Device W) (told0 told1 : Device E) (came : List ℕ) (lines : List Item) (failed : Bool) → SoFar source progress out0 out1 told0 told1 came lines → progress.counts.selected ≡ form.most
-        → SearchedLines rows_in messages_in question form out0 out1 told0 told1 (came_so came false failed) progress.counts
-    enough_selected source progress out0 out1 told0 told1 came lines failed so e =
-        let is = ap (answered_of question form 0) (sym (come source progress out0 out1 told0 told1 came lines so)) in
-        record {
-          format = (goes_as form.units came source lines so.position).format;
-          framed = λ ended. absurd (false≢true ended);
-          all = all_so_far source progress out0 out1 told0 told1 came lines failed so;
-          selected = so.selected ∙ ap (selected_count question) is;
-          refused = so.refused ∙ ap (refused_count) is;
-          end = inr e;
-        }
+    -- a write failed
+    pub stopped_in_part : (out0 out1 : Device W) (told0 told1 : Device E) (fault : SearchFault) (came : Came) (outcomes : List Item) → is_writer_fault fault ≡ true → (came.ended ≡ true → IsOfLines (framing_by form.units) came.bytes)
+        → AnsweredInPart rows_in messages_in question form out0 out1 told0 told1 (answered_of question form 0 outcomes) → SearchStopped rows_in messages_in question form out0 out1 told0 told1 fault came outcomes
+    stopped_in_part out0 out1 told0 told1 faults.Read came outcomes e l h = absurd (cc)
+    stopped_in_part out0 out1 told0 told1 faults.Framing came outcomes e l h = absurd (cc)
+    stopped_in_part out0 out1 told0 told1 (faults.Foreign format) came outcomes e l h = absurd (cc)
+    stopped_in_part out0 out1 told0 told1 faults.Size came outcomes e l h = absurd (cc)
+    stopped_in_part out0 out1 told0 told1 faults.Write came outcomes e l h = (l, h)
+    stopped_in_part out0 out1 told0 told1 faults.Report came outcomes e l h = (l, h)
+    stopped_in_part out0 out1 told0 told1 faults.Memory came outcomes e l h = absurd (cc)
 
-    -- a beginning of the answer of these lines, and of others behind them
-    pub in_part : (progress : Progress) (out0 out1 out2 : Device W) (told0 told1 told2 : Device E) (before more others all : List Item)
-        → progress.number ≡ 1 + length (answered_of question form 0 before) → progress.counts.selected ≡ selected_count question (answered_of question form 0 before)
-        → progress.counts.refused ≡ refused_count (answered_of question form 0 before)
-        → Received rows_in out0 out1 (output_from question form 1 (answered_of question form 0 before)) → Received messages_in told0 told1 (messages_from form 0 1 (answered_of question form 0 before))
-        → Part rows_in out1 out2 (output_from question form progress.number (answered_of question form progress.counts.selected more))
-        → Part messages_in told1 told2 (messages_from form progress.counts.refused progress.number (answered_of question form progress.counts.selected more))
-        → all ≡ (before ++ more) ++ others
-        → AnsweredInPart rows_in messages_in question form out0 out2 told0 told2 (answered_of question form 0 all)
-    in_part progress out0 out1 out2 told0 told1 told2 before more others all number selected refused rows messages rows_part messages_part e =
-        let both = before ++ more in
-        let count = selected_count question (answered_of question form 0 both) in
-        let rest = answered_of question form count others in
-        let k = 1 + length (answered_of question form 0 both) in
-        let taken_all = ap (answered_of question form 0) e ∙ taken_more both others count refl in
-        let front = output_from question form 1 (answered_of question form 0 before) in
-        let one = output_from question form progress.number (answered_of question form progress.counts.selected more) in
-        let summary = summary_of form.summary form (selected_count question (answered_of question form 0 all)) in
-        let refused_both = 0 + refused_count (answered_of question form 0 both) in
-        let told_front = messages_from form 0 1 (answered_of question form 0 before) in
-        let told_one = messages_from form progress.counts.refused progress.number (answered_of question form progress.counts.selected more) in
-        let told_rest = messages_from form refused_both k rest in
-        let told_behind = more_refused form (refused_count (answered_of question form 0 all)) in
-        record {
-          rows = part_next out0 out1 out2 front one (output_from question form k rest ++ summary) _
-              (ap (λ ls. output_from question form 1 ls ++ summary) taken_all
-              ∙ ap (λ l. l ++ summary) (output-append question form 1 (answered_of question form 0 both) rest ∙ ap (λ l. l ++ output_from question form k rest) (rows_sum before more progress number selected))
-              ∙ append_assoc (front ++ one) (output_from question form k rest) summary)
-              rows rows_part;
-          messages = part_next told0 told1 told2 told_front told_one (told_rest ++ told_behind) _
-              (ap (λ ls. messages_from form 0 1 ls ++ told_behind) taken_all
-              ∙ ap (λ l. l ++ told_behind) (messages-append question form 0 1 (answered_of question form 0 both) rest ∙ ap (λ l. l ++ told_rest) (messages_sum before more progress number selected refused))
-              ∙ append_assoc (told_front ++ told_one) told_rest told_behind)
-              messages messages_part;
-        }
+    -- the stream is refused as a whole, before which nothing was written, or a write failed
+    pub stopped_by : (out0 out1 : Device W) (told0 told1 : Device E) (fault : SearchFault) (came : Came) (outcomes : List Item) → false ≡ is_read_fault fault → is_inner_fault fault ≡ false
+        → (is_front_fault fault ≡ true → IsRefused (framing_by form.units) came fault × Answered rows_in messages_in question form out0 out1 told0 told1 [])
+        → (is_front_fault fault ≡ false → came.ended ≡ true → IsOfLines (framing_by form.units) came.bytes)
+        → AnsweredInPart rows_in messages_in question form out0 out1 told0 told1 (answered_of question form 0 outcomes) → SearchStopped rows_in messages_in question form out0 out1 told0 told1 fault came outcomes
+    stopped_by out0 out1 told0 told1 faults.Read came outcomes e i front l h = absurd (cc)
+    stopped_by out0 out1 told0 told1 faults.Framing came outcomes e i front l h = front refl
+    stopped_by out0 out1 told0 told1 (faults.Foreign format) came outcomes e i front l h = front refl
+    stopped_by out0 out1 told0 told1 faults.Size came outcomes e i front l h = absurd (cc)
+    stopped_by out0 out1 told0 told1 faults.Write came outcomes e i front l h = (l refl, h)
+    stopped_by out0 out1 told0 told1 faults.Report came outcomes e i front l h = (l refl, h)
+    stopped_by out0 out1 told0 told1 faults.Memory came outcomes e i front l h = absurd (cc)
 
-    -- nothing more was written
-    pub stopped_here : (source : Source) (progress : Progress) (out0 out1 : Device W) (told0 told1 : Device E) (came : List ℕ) (lines : List Item) (failed : Bool) → SoFar source progress out0 out1 told0 told1 came lines
-        → AnsweredInPart rows_in messages_in question form out0 out1 told0 told1 (answered question form (came_so came false failed))
-    stopped_here source progress out0 out1 told0 told1 came lines failed so =
-        let is = come source progress out0 out1 told0 told1 came lines so in
-        let all = answered_of question form 0 lines in
-        subst (λ ls. AnsweredInPart rows_in messages_in question form out0 out1 told0 told1 (answered_of question form 0 ls)) (sym is)
-        (record {
-          rows = part_more out0 out1 (output_from question form 1 all) (summary_of form.summary form (selected_count question all)) (part_so_far out0 out1 _ so.rows);
-          messages = part_more told0 told1 (messages_from form 0 1 all) (more_refused form (refused_count all)) (part_so_far told0 told1 _ so.messages);
-        })
-
-    -- a fault that is none of what is read
-    pub stopped_in_part : (out0 out1 : Device W) (told0 told1 : Device E) (fault : SearchFault) (came : Came) → is_input_fault fault ≡ false → (came.ended ≡ true → IsOfLines (framing_by form.units) came.bytes)
-        → AnsweredInPart rows_in messages_in question form out0 out1 told0 told1 (answered question form came) → SearchStopped rows_in messages_in question form out0 out1 told0 told1 fault came
-    stopped_in_part out0 out1 told0 told1 faults.Read came e l h = absurd (cc)
-    stopped_in_part out0 out1 told0 told1 faults.Framing came e l h = absurd (cc)
-    stopped_in_part out0 out1 told0 told1 (faults.Foreign format) came e l h = absurd (cc)
-    stopped_in_part out0 out1 told0 told1 faults.Size came e l h = (l, h)
-    stopped_in_part out0 out1 told0 told1 faults.Write came e l h = (l, h)
-    stopped_in_part out0 out1 told0 told1 faults.Report came e l h = (l, h)
-    stopped_in_part out0 out1 told0 told1 faults.Memory came e l h = (l, h)
-
-    -- a fault by which the stream is refused as a whole, before which nothing was written, or another one
-    pub stopped_by : (out0 out1 : Device W) (told0 told1 : Device E) (fault : SearchFault) (came : Came) → false ≡ is_read_fault fault
-        → (is_front_fault fault ≡ true → IsRefused (framing_by form.units) came fault × Answered rows_in messages_in question form out0 out1 told0 told1 []) → (came.ended ≡ true → IsOfLines (framing_by form.units) came.bytes)
-        → AnsweredInPart rows_in messages_in question form out0 out1 told0 told1 (answered question form came) → SearchStopped rows_in messages_in question form out0 out1 told0 told1 fault came
-    stopped_by out0 out1 told0 told1 faults.Read came e front l h = absurd (cc)
-    stopped_by out0 out1 told0 told1 faults.Framing came e front l h = front refl
-    stopped_by out0 out1 told0 told1 (faults.Foreign format) came e front l h = front refl
-    stopped_by out0 out1 told0 told1 faults.Size came e front l h = (l, h)
-    stopped_by out0 out1 told0 told1 faults.Write came e front l h = (l, h)
-    stopped_by out0 out1 told0 told1 faults.Report came e front l h = (l, h)
-    stopped_by out0 out1 told0 told1 faults.Memory came e front l h = (l, h)
-
-    -- where the stream has ended and is not framed nothing was written, or it is one of lines
-    pub ended_by : (out0 out1 : Device W) (told0 told1 : Device E) (fault : SearchFault) (came : Came) → came.ended ≡ true → false ≡ is_read_fault fault
-        → (is_front_fault fault ≡ true → (fault ≡ faults.Framing) × (format_of came.bytes ≡ None) × (is_framed (framing_by form.units) came.bytes ≡ false) × Answered rows_in messages_in question form out0 out1 told0 told1 [])
-        → (is_front_fault fault ≡ false → IsOfLines (framing_by form.units) came.bytes)
-        → AnsweredInPart rows_in messages_in question form out0 out1 told0 told1 (answered question form came) → SearchStopped rows_in messages_in question form out0 out1 told0 told1 fault came
-    ended_by out0 out1 told0 told1 faults.Read came ended e front l h = absurd (cc)
-    ended_by out0 out1 told0 told1 faults.Framing came ended e front l h = let u = front refl in (inr (ended, refl, u.1, u.2), u.3)
-    ended_by out0 out1 told0 told1 (faults.Foreign format) came ended e front l h = let u = front refl in absurd (other u.0)
-      where
-        other : faults.Foreign format ≡ faults.Framing → ⊥
-        other e = cc
-    ended_by out0 out1 told0 told1 faults.Size came ended e front l h = ((λ _. l refl), h)
-    ended_by out0 out1 told0 told1 faults.Write came ended e front l h = ((λ _. l refl), h)
-    ended_by out0 out1 told0 told1 faults.Report came ended e front l h = ((λ _. l refl), h)
-    ended_by out0 out1 told0 told1 faults.Memory came ended e front l h = ((λ _. l refl), h)
-
-    -- fewer lines are selected than are wanted of what came
-    pub wants_more : (source : Source) (progress : Progress) (out0 out1 : Device W) (told0 told1 : Device E) (came : List ℕ) (lines : List Item) → SoFar source progress out0 out1 told0 told1 came lines → (progress.counts.selected ≡ form.most → ⊥)
-        → WantsMore question form came
-    wants_more source progress out0 out1 told0 told1 came lines so other = record {
-      front = goes_as form.units came source lines so.position;
-      fewer = subst (λ ls. selected_count question (answered_of question form 0 ls) < form.most) (sym (come source progress out0 out1 told0 told1 came lines so))
-          (fewer progress.counts.selected form.most _ so.under_way.wanted other so.selected);
-    }
-      where
-        fewer : (selected most count : ℕ) → selected ≤ most → (selected ≡ most → ⊥) → selected ≡ count → count < most
-        fewer selected most count l e is = omega (arith, l, e, is)
-
-    -- nothing at all was written
-    pub none_so_far : (source : Source) (progress : Progress) (out0 out1 out2 : Device W) (told0 told1 told2 : Device E) (came : List ℕ) (lines : List Item) → SoFar source progress out0 out1 told0 told1 came lines → lines ≡ [] → out2 ≡ out1 → told2 ≡ told1
-        → Answered rows_in messages_in question form out0 out2 told0 told2 []
-    none_so_far source progress out0 out1 out2 told0 told1 told2 came lines so none out told =
-        let is = ap (answered_of question form 0) none ∙ none_taken 0 in
-        record {
-          rows = subst (λ (o : Device W). Received rows_in out0 o []) (sym out) (subst (λ ls. Received rows_in out0 out1 (output_from question form 1 ls)) is so.rows);
-          messages = subst (λ (o : Device E). Received messages_in told0 o []) (sym told) (subst (λ ls. Received messages_in told0 told1 (messages_from form 0 1 ls)) is so.messages);
-        }
-
-    -- these were answered, too
-    pub goes_on_by : (source0 source1 : Source) (before after : Progress) (out0 out1 out2 : Device W) (told0 told1 told2 : Device E) (came piece : List ℕ) (lines more : List Item) → SoFar source0 before out0 out1 told0 told1 came lines
-        → Received rows_in out1 out2 (output_from question form before.number (answered_of question form before.counts.selected more))
-        → Received messages_in told1 told2 (messages_from form before.counts.refused before.number (answered_of question form before.counts.selected more))
-        → GoesOnBy question form before after (answered_of question form before.counts.selected more)
-        → Stands form.units (came ++ piece) source1 (lines ++ more)
-        → SoFar source1 after out0 out2 told0 told2 (came ++ piece) (lines ++ more)
-    goes_on_by source0 source1 before after out0 out1 out2 told0 told1 told2 came piece lines more so rows messages by position = record {
-      position = position;
-      rows = subst (λ t. Received rows_in out0 out2 t) (sym (rows_sum lines more before so.number so.selected)) (both_received out0 out1 out2 _ _ so.rows rows);
-      messages = subst (λ t. Received messages_in told0 told2 t) (sym (messages_sum lines more before so.number so.selected so.refused)) (both_received told0 told1 told2 _ _ so.messages messages);
-      number = number_sum lines more before so.number so.selected after by;
-      selected = selected_sum lines more before so.number so.selected after by;
-      refused = refused_sum lines more before so.number so.selected after so.refused by;
-      under_way = by.under_way;
-    }
-
-    -- the stream ended, and what its end leaves is answered
-    pub searched_all : (source : Source) (before after : Progress) (out0 out1 out2 : Device W) (told0 told1 told2 : Device E) (came : List ℕ) (lines more : List Item) (failed : Bool) → SoFar source before out0 out1 told0 told1 came lines
-        → Answers rows_in messages_in question form before after out1 out2 told1 told2 (Ok tt) more
-        → items_come form.units true came ≡ lines ++ more → IsOfLines (framing_by form.units) came
-        → SearchedLines rows_in messages_in question form out0 out2 told0 told2 (came_so came true failed) after.counts
-    searched_all source before after out0 out1 out2 told0 told1 told2 came lines more failed so answers all framed =
-        let is = ap (answered_of question form 0) (sym all) in
-        record {
-          format = framed.format;
-          framed = λ ended. framed.framed;
-          all = subst (λ ls. Answered rows_in messages_in question form out0 out2 told0 told2 ls) is (record {
-            rows = subst (λ t. Received rows_in out0 out2 t) (sym (rows_sum lines more before so.number so.selected)) (both_received out0 out1 out2 _ _ so.rows answers.rows);
-            messages = subst (λ t. Received messages_in told0 told2 t) (sym (messages_sum lines more before so.number so.selected so.refused)) (both_received told0 told1 told2 _ _ so.messages answers.messages);
-          });
-          selected = selected_sum lines more before so.number so.selected after answers.progress ∙ ap (selected_count question) is;
-          refused = refused_sum lines more before so.number so.selected after so.refused answers.progress ∙ ap refused_count is;
-          end = inl refl;
-        }
+-- what is refused at its end is not framed
+pub refused_at_end : (form : Form) (fault : SearchFault) (came : Came) → came.ended ≡ true → fault ≡ faults.Framing → format_of came.bytes ≡ None → is_framed (framing_by form.units) came.bytes ≡ false
+    → IsRefused (framing_by form.units) came fault
+refused_at_end form fault came ended is format framed = inr (ended, is, format, framed)

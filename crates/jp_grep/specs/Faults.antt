@@ -1,5 +1,5 @@
 -- What a fault of a search says.
-use Rattle.std.specs.Prelude.{◌≡◌, Bool, true, false, Result, MatchResult}
+use Rattle.std.specs.Prelude.{◌≡◌, Bool, true, false, Result, Ok, Err, MatchResult}
 use Rattle.jp_grep.specs.declared.fault.SearchFault.{SearchFault}
 use Rattle.jp_grep.specs.declared.fault.SearchFault.TheVariants as faults
 
@@ -34,6 +34,22 @@ abbrev pub is_inner_fault : SearchFault → Bool
 is_inner_fault faults.Size = true
 is_inner_fault faults.Memory = true
 is_inner_fault _ = false
+
+-- rows that were not written
+abbrev pub write_of : {E : Type 0} → Result Unit E → Result Unit SearchFault
+write_of (Ok done) = Ok done
+write_of (Err fault) = Err faults.Write
+
+-- a message that was not written
+abbrev pub report_of : {E : Type 0} → Result Unit E → Result Unit SearchFault
+report_of (Ok done) = Ok done
+report_of (Err fault) = Err faults.Report
+
+-- a fault of a writer
+abbrev pub is_writer_fault : SearchFault → Bool
+is_writer_fault faults.Write = true
+is_writer_fault faults.Report = true
+is_writer_fault _ = false
 
 -- no fault of a device
 pub record IsOfNoDevice (fault : SearchFault) : Type 0 where

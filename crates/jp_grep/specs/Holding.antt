@@ -1,8 +1,9 @@
 -- Rows that are held in front of a writer.
-use Rattle.std.specs.Prelude.{◌≡◌, List, ℕ, ◌++◌, false, Option, Result, MatchResult}
+use Rattle.std.specs.Prelude.{◌≡◌, List, ℕ, ◌++◌, true, Option, Result, MatchResult, IfErr}
 use Rattle.jp_devices.specs.Devices.{Begins, Device, Received}
-use Rattle.jp_grep.specs.Faults.{IsToldOf, is_input_fault, is_report_fault, is_write_fault}
+use Rattle.jp_grep.specs.Faults.{IsToldOf, is_report_fault, is_write_fault, is_writer_fault}
 use Rattle.jp_grep.specs.declared.fault.SearchFault.{SearchFault}
+use Rattle.jp_grep.specs.declared.fault.SearchFault.TheVariants as faults
 
 -- A text came behind what was held. From `old` to `new` the writer received the front of both, and the rest is held.
 abbrev pub HoldsBack : {W : Type 0} → (W → Option (List ℕ)) → Device W → Device W → List ℕ → List ℕ → List ℕ → Type 0
@@ -18,12 +19,12 @@ Puts contents old new was_held is_held result text = MatchResult result
     (λ _. HoldsBack contents old new was_held is_held text)
     (λ _. HoldsPart contents old new was_held is_held text)
 
--- Of the faults of devices `Write` alone is told, exactly where the writer failed, and no call of it follows one that failed.
+-- `Write` is the only fault, told exactly where the writer failed, and no call of it follows one that failed.
 abbrev pub TellsOfWriter : {W A : Type 0} → Result A SearchFault → Device W → Device W → Type 0
-TellsOfWriter result old new = IsToldOf is_write_fault result new.failed × IsToldOf is_report_fault result false × IsToldOf is_input_fault result false
-    × (new.after ≡ old.after)
+TellsOfWriter result old new = IsToldOf is_write_fault result new.failed × IfErr result (λ fault. fault ≡ faults.Write) × (new.after ≡ old.after)
 
--- The same of both writers: `Write` and `Report` are told exactly where the one of the rows and the one of the messages failed.
+-- The same of both writers: `Write` and `Report` are the only faults, told exactly where the one of the rows and the one of the
+-- messages failed.
 abbrev pub TellsOfBoth : {W E A : Type 0} → Result A SearchFault → Device W → Device W → Device E → Device E → Type 0
 TellsOfBoth result old new was_told is_told = IsToldOf is_write_fault result new.failed × IsToldOf is_report_fault result is_told.failed
-    × (new.after ≡ old.after) × (is_told.after ≡ was_told.after)
+    × IfErr result (λ fault. is_writer_fault fault ≡ true) × (new.after ≡ old.after) × (is_told.after ≡ was_told.after)

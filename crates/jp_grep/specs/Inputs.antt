@@ -1,7 +1,8 @@
 -- Which reads a search makes.
 use Rattle.std.specs.Prelude.{◌≡◌, ℕ, ◌<◌, List, ◌++◌, length, false, Result, Ok, Err, ◌⊎◌}
 use Rattle.jp_grep.specs.Fronts.{MayGoOn}
-use Rattle.jp_grep.specs.Items.{framing_by, items_come}
+use Rattle.jp_grep.specs.Items.{Item, framing_by, items_come}
+use Rattle.jp_grep.specs.Outcomes.{CameOfEach}
 use Rattle.jp_grep.specs.Rows.{selected_count}
 use Rattle.jp_grep.specs.Watching.{answered_of}
 use Rattle.jp_form.specs.declared.form.Form.{Form}
@@ -13,12 +14,24 @@ abbrev pub read_count : {E : Type 0} → Result ℕ E → ℕ
 read_count (Ok count) = count
 read_count (Err fault) = 0
 
--- Behind these bytes a search reads on: they may go on as lines, and fewer of their lines are selected than are wanted.
-pub record WantsMore (question : Question) (form : Form) (bytes : List ℕ) : Type 0 where
+-- Behind these bytes, whose items have these outcomes, a search reads on: they may go on as lines, and fewer of their lines are
+-- selected than are wanted.
+pub record WantsMore (question : Question) (form : Form) (bytes : List ℕ) (outcomes : List Item) : Type 0 where
   pub front : MayGoOn (framing_by form.units) bytes
-  pub fewer : selected_count question (answered_of question form 0 (items_come form.units false bytes)) < form.most
+  pub each : CameOfEach (items_come form.units false bytes) outcomes
+  pub fewer : selected_count question (answered_of question form 0 outcomes) < form.most
 
--- No read was made, or more was wanted behind what had come before the last one.
-abbrev pub ReadOn : {R : Type 0} → Question → Form → Input R → Input R → List ℕ → Type 0
-ReadOn question form old new came = (new ≡ old)
-    ⊎ (before : List ℕ) × (last : List ℕ) × (came ≡ before ++ last) × (length last ≡ new.last) × WantsMore question form before
+-- Some bytes came before the last read, and some items had come of them; behind those more was wanted.
+pub record ReadLast {R : Type 0} (question : Question) (form : Form) (new : Input R) (came : List ℕ) (outcomes : List Item) : Type 0 where
+  pub before : List ℕ
+  pub last : List ℕ
+  pub bytes : came ≡ before ++ last
+  pub count : length last ≡ new.last
+  pub first : List Item
+  pub others : List Item
+  pub items : outcomes ≡ first ++ others
+  pub wants : WantsMore question form before first
+
+-- no read was made, or more was wanted behind what had come before the last one
+abbrev pub ReadOn : {R : Type 0} → Question → Form → Input R → Input R → List ℕ → List Item → Type 0
+ReadOn question form old new came outcomes = (new ≡ old) ⊎ ReadLast question form new came outcomes

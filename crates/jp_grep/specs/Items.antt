@@ -1,5 +1,5 @@
 -- What plays the lines of a stream: its lines, the texts of a sequence, its JSON texts, or the elements of its arrays.
-use Rattle.std.specs.Prelude.{ℕ, ◌+◌, ◌-◌, ◌^◌, List, map, min, Bool, true, false, Option, Some, None}
+use Rattle.std.specs.Prelude.{ℕ, ◌+◌, ◌-◌, ◌^◌, List, map, min, Bool, true, false, Option, Some, None, is_some}
 use Rattle.jp_model.specs.declared.Framing.{Framing}
 use Rattle.jp_model.specs.declared.Framing.TheVariants as framings
 use Rattle.jp_model.specs.declared.LineFault.TheVariants as faults
@@ -10,15 +10,21 @@ use Rattle.jp_form.specs.declared.form.Units.{Units}
 use Rattle.jp_form.specs.declared.form.Units.TheVariants as unit
 use Rattle.jp_grep.specs.Streams.{lines_come}
 
--- one of them: its bytes, what it is, and the number of the line in which it begins, from 1, where that is told
+-- one of them: its bytes, what it is, the number of the line in which it begins, from 1, where that is told, and where memory was
+-- refused for its answer how many of its values were written before that
 pub record Item : Type 0 where
   pub text : List ℕ
   pub status : LineStatus
   pub from_line : Option ℕ
+  pub given_up : Option ℕ
+
+-- memory was refused for its answer
+abbrev pub is_given_up : Item → Bool
+is_given_up item = is_some item.given_up
 
 -- a line, or a text of a sequence
 abbrev pub line_item : Framing → List ℕ → Item
-line_item framing line = record { text = line; status = status_of framing line; from_line = None }
+line_item framing line = record { text = line; status = status_of framing line; from_line = None; given_up = None }
 
 -- a blank piece is no JSON text (RFC 8259, section 2)
 abbrev pub unblanked : LineStatus → LineStatus
@@ -42,6 +48,7 @@ item_with text is_closed line_feeds = record {
   text = text;
   status = piece_judged is_closed (status_of framings.Lines text);
   from_line = Some (line_after line_feeds);
+  given_up = None;
 }
 
 -- a JSON text or an element

@@ -26,6 +26,7 @@ numbered_values summary name silent most = record {
   summary = summary;
   name = name;
   named = false;
+  null = false;
   numbered = true;
   silent = silent;
   most = most;

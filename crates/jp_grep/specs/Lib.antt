@@ -1,12 +1,13 @@
 -- What jpgrep answers.
+pub mod Conditions
 pub mod Matching
 pub mod Spelled
 pub mod Tables
-pub mod Held
 pub mod Rows
 pub mod Told
 pub mod Streams
 pub mod Items
+pub mod Outcomes
 pub mod ReadItems
 pub mod Formats
 pub mod Fronts
@@ -21,5 +22,5 @@ pub mod Finding
 pub mod Searching
 pub mod Laws
 pub mod Once
-pub mod ReadBack
 pub mod Ends
+pub mod Lists

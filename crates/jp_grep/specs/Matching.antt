@@ -3,9 +3,12 @@ use Rattle.std.specs.Prelude.{List, [], ◌∷◌, map, flat_map, length, Bool, 
 use Rattle.jp_model.specs.Json.Status.{LineStatus, blank, refused, parsed}
 use Rattle.jp_model.specs.Json.Tree.{Tree}
 use Rattle.jp_model.specs.Meaning.Nodes.{Node, root_node}
-use Rattle.jp_model.specs.Meaning.Selecting.{nodes, truth}
-use Rattle.jp_model.specs.Query.Syntax.{Logical, Segments}
-use Rattle.jp_eval.specs.Compiled.{predicate_view, program_view}
+use Rattle.jp_model.specs.Meaning.Selecting.{nodes}
+use Rattle.jp_model.specs.Query.Syntax.{Segments}
+use Rattle.jp_eval.specs.Compiled.{program_view}
+use Rattle.jp_grep.specs.Conditions.{Condition, condition_holds, condition_view}
+use Rattle.jp_grep.specs.declared.question.Queries.{Queries}
+use Rattle.jp_grep.specs.declared.question.Queries.TheVariants as purposes
 use Rattle.jp_grep.specs.declared.question.Question.{Question}
 use Rattle.jp_grep.specs.declared.question.Wanted.{Wanted}
 use Rattle.jp_grep.specs.declared.question.Wanted.TheVariants as wanted
@@ -23,21 +26,26 @@ abbrev pub selects : List Segments → Tree → Bool
 selects [] t = false
 selects (query ∷ rest) t = has_nodes (selected_by query t) || selects rest t
 
--- each condition holds, where both `@` and `$` are the value of the line (RFC 9535, section 2.3.5)
-abbrev pub all_hold : List Logical → Tree → Bool
+-- each condition holds
+abbrev pub all_hold : List Condition → Tree → Bool
 all_hold [] t = true
-all_hold (condition ∷ rest) t = truth condition (root_node t) t && all_hold rest t
+all_hold (condition ∷ rest) t = condition_holds condition t && all_hold rest t
 
 -- the queries and the conditions of a question
 abbrev pub queries_of : Question → List Segments
 queries_of question = map program_view question.queries.items
 
-abbrev pub conditions_of : Question → List Logical
-conditions_of question = map predicate_view question.conditions.items
+abbrev pub conditions_of : Question → List Condition
+conditions_of question = map condition_view question.conditions.items
 
--- a value matches: each condition holds, and some query selects a node
+-- queries let a value match, by whether some of them selects a node: those that are columns always do
+abbrev pub let_match : Queries → Bool → Bool
+let_match purposes.Filter some = some
+let_match purposes.Columns some = true
+
+-- a value matches: each condition holds, and some query selects a node or the queries are columns
 abbrev pub matches : Question → Tree → Bool
-matches question t = all_hold (conditions_of question) t && selects (queries_of question) t
+matches question t = all_hold (conditions_of question) t && let_match question.purpose (selects (queries_of question) t)
 
 -- a value is wanted, by whether it matches
 abbrev pub wants_value : Wanted → Bool → Bool
@@ -65,7 +73,7 @@ wants_nodes_where wanted.Refused holding matching = false
 abbrev pub wants_nodes : Question → Tree → Bool
 wants_nodes question t = wants_nodes_where question.wanted (all_hold (conditions_of question) t) (matches question t)
 
--- such a value is wanted, by whether there is a node
+-- such a value is wanted, by whether the queries let it match
 abbrev pub wants_found : Wanted → Bool → Bool
 wants_found wanted.Matching some = some
 wants_found wanted.Others some = true

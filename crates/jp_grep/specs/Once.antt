@@ -26,6 +26,7 @@ bare_lines summary name silent most = record {
   summary = summary;
   name = name;
   named = false;
+  null = false;
   numbered = false;
   silent = silent;
   most = most;

@@ -1,5 +1,5 @@
 -- What is written of a line, and what is told of it.
-use Rattle.std.specs.Prelude.{ℕ, ◌+◌, List, [], ◌∷◌, ◌++◌, flat_map, codes, cond, decimal, count_by, Bool, true, false, ◌==◌, if◌then◌else◌, ltb, Option, Some, None}
+use Rattle.std.specs.Prelude.{ℕ, ◌+◌, List, [], ◌∷◌, ◌++◌, flat_map, codes, cond, decimal, count_by, Bool, true, false, ◌==◌, ◌&&◌, if◌then◌else◌, ltb, take, Option, Some, None}
 use Rattle.jp_model.specs.declared.Framing.TheVariants as framings
 use Rattle.jp_model.specs.declared.LineFault.{LineFault}
 use Rattle.jp_model.specs.Json.Status.{LineStatus, blank, refused, parsed}
@@ -9,7 +9,7 @@ use Rattle.jp_model.specs.Meaning.Paths.{path_text}
 use Rattle.jp_model.specs.Script.Machine.{is_refused_status}
 use Rattle.jp_model.specs.Rows.{row_start, line_fault_word, line_feed, source, tab}
 use Rattle.jp_grep.specs.Matching.{is_selected, nodes_of, queries_of}
-use Rattle.jp_grep.specs.Items.{Item, framing_by}
+use Rattle.jp_grep.specs.Items.{Item, framing_by, is_given_up}
 use Rattle.jp_grep.specs.Spelled.{printed, spelled}
 use Rattle.jp_grep.specs.Tables.{table_row}
 use Rattle.jp_form.specs.declared.form.Form.{Form}
@@ -23,10 +23,15 @@ use Rattle.jp_form.specs.declared.form.Summary.{Summary}
 use Rattle.jp_form.specs.declared.form.Summary.TheVariants as summaries
 use Rattle.jp_grep.specs.declared.question.Question.{Question}
 
+-- what follows the name of a stream: NUL where it is wanted, and else what is given
+abbrev pub behind_name : (null : Bool) → List ℕ → List ℕ
+behind_name false other = other
+behind_name true other = 0x00 ∷ []
+
 -- the name of the stream in front of a row
-abbrev pub name_front : Bool → List ℕ → List ℕ
-name_front false name = []
-name_front true name = name ++ codes ":"
+abbrev pub name_front : (named null : Bool) → List ℕ → List ℕ
+name_front false null name = []
+name_front true null name = name ++ behind_name null (codes ":")
 
 -- the number of the line in front of a row
 abbrev pub number_front : Bool → ℕ → List ℕ
@@ -35,7 +40,7 @@ number_front true n = decimal n ++ codes ":"
 
 -- all that stands in front of a row of line n: in a sequence RS first, as in front of each text there (RFC 7464, section 2.2)
 abbrev pub front : Form → ℕ → List ℕ
-front form n = row_start (framing_by form.units) ++ name_front form.named form.name.now ++ number_front form.numbered n
+front form n = row_start (framing_by form.units) ++ name_front form.named form.null form.name.now ++ number_front form.numbered n
 
 -- a row of line n
 abbrev pub row : Form → ℕ → List ℕ → List ℕ
@@ -95,11 +100,15 @@ abbrev pub from_line_text : Option ℕ → List ℕ
 from_line_text None = []
 from_line_text (Some line) = codes ", from line " ++ decimal line
 
+-- a message on a line: what is said of it after the program's name, that of the stream and the number of the line
+abbrev pub line_message : (name : List ℕ) → ℕ → (said : List ℕ) → (from_line : Option ℕ) → List ℕ
+line_message name n said from_line =
+    codes "jpgrep: " ++ name_front true false name ++ number_front true n ++ codes " " ++ said ++ (from_line_text from_line ++ line_feed)
+
 -- the message on a refused line, where messages are wanted
 abbrev pub refusal : Bool → List ℕ → ℕ → LineFault → (from_line : Option ℕ) → List ℕ
 refusal true name n fault from_line = []
-refusal false name n fault from_line =
-    codes "jpgrep: " ++ name_front true name ++ number_front true n ++ codes " " ++ line_fault_word fault ++ (from_line_text from_line ++ line_feed)
+refusal false name n fault from_line = line_message name n (line_fault_word fault) from_line
 
 -- the refused lines of a stream that are told one by one are the first ten (profile)
 abbrev pub most_told : ℕ
@@ -111,19 +120,44 @@ status_message form before n from_line blank = []
 status_message form before n from_line (refused fault) = if ltb before most_told then refusal form.silent form.name.now n fault from_line else []
 status_message form before n from_line (parsed t) = []
 
--- ---- all of a line, a text or an element
+-- the rows of the first values of a line, where each value has a row
+abbrev pub first_rows : (count : ℕ) → Shown → Question → Form → ℕ → List ℕ → LineStatus → List ℕ
+first_rows count (shown.Values paths) question form n line (parsed t) = node_rows form paths n line (take count (nodes_of (queries_of question) t))
+first_rows count shown question form n line status = []
+
+-- the message on a line that is given up for want of memory, which is always wanted
+abbrev pub given_up_message : List ℕ → ℕ → (from_line : Option ℕ) → List ℕ
+given_up_message name n from_line = line_message name n (codes "out of memory") from_line
+
+-- ---- all of a line, a text or an element, by whether it is given up
+
+abbrev pub selected_where : (given_up : Bool) → Question → LineStatus → Bool
+selected_where false question status = is_selected question status
+selected_where true question status = false
+
+abbrev pub refused_where : (given_up : Bool) → LineStatus → Bool
+refused_where false status = is_refused_status status
+refused_where true status = false
+
+abbrev pub rows_where : (given_up : Option ℕ) → Question → Form → ℕ → List ℕ → LineStatus → List ℕ
+rows_where None question form n line status = status_rows question form n line status
+rows_where (Some count) question form n line status = first_rows count form.shown question form n line status
+
+abbrev pub message_where : (given_up : Bool) → Form → (before : ℕ) → ℕ → (from_line : Option ℕ) → LineStatus → List ℕ
+message_where false form before n from_line status = status_message form before n from_line status
+message_where true form before n from_line status = given_up_message form.name.now n from_line
 
 abbrev pub selected_item : Question → Item → Bool
-selected_item question item = is_selected question item.status
+selected_item question item = selected_where (is_given_up item) question item.status
 
 abbrev pub refused_item : Item → Bool
-refused_item item = is_refused_status item.status
+refused_item item = refused_where (is_given_up item) item.status
 
 abbrev pub item_rows : Question → Form → ℕ → Item → List ℕ
-item_rows question form n item = status_rows question form n item.text item.status
+item_rows question form n item = rows_where item.given_up question form n item.text item.status
 
 abbrev pub item_message : Form → (before : ℕ) → ℕ → Item → List ℕ
-item_message form before n item = status_message form before n item.from_line item.status
+item_message form before n item = message_where (is_given_up item) form before n item.from_line item.status
 
 -- the output of some items, of which the first has number n
 abbrev pub output_from : Question → Form → ℕ → List Item → List ℕ
@@ -143,9 +177,10 @@ messages_from form before n (item ∷ rest) = item_message form before n item ++
 abbrev pub selected_count : Question → List Item → ℕ
 selected_count question items = count_by (selected_item question) items
 
--- what is written after the rows of a stream, where `count` of its lines were selected
-abbrev pub summary_of : Summary → Form → ℕ → List ℕ
-summary_of summaries.Nothing form count = []
-summary_of summaries.Count form count = name_front form.named form.name.now ++ (decimal count ++ line_feed)
-summary_of summaries.NameWith form count = if count == 0 then [] else form.name.now ++ line_feed
-summary_of summaries.NameWithout form count = if count == 0 then form.name.now ++ line_feed else []
+-- what is written after the rows of a stream, where `count` of its lines were selected, and all were answered or not: a stream
+-- without selected lines is one of which all were
+abbrev pub summary_of : Summary → Form → (count : ℕ) → (all : Bool) → List ℕ
+summary_of summaries.Nothing form count all = []
+summary_of summaries.Count form count all = name_front form.named form.null form.name.now ++ (decimal count ++ line_feed)
+summary_of summaries.NameWith form count all = if count == 0 then [] else form.name.now ++ behind_name form.null line_feed
+summary_of summaries.NameWithout form count all = if (count == 0) && all then form.name.now ++ behind_name form.null line_feed else []

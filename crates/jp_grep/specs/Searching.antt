@@ -1,40 +1,87 @@
 -- What the steps of a search come to.
-use Rattle.std.specs.Prelude.{◌≡◌, ℕ, ◌+◌, ◌<◌, ◌≤◌, List, [], ◌++◌, length, true, false, None, Option, Result, MatchResult, OnOk, IfErr}
+use Rattle.std.specs.Prelude.{◌≡◌, ℕ, ◌+◌, ◌<◌, ◌≤◌, List, [], ◌++◌, length, Bool, true, false, is_some, None, Option, Result, MatchResult, IfOk, OnOk, IfErr}
 use Rattle.jp_devices.specs.Devices.{Device, Received, Writes}
+use Rattle.jp_model.specs.Json.Status.{LineStatus}
 use Rattle.jp_model.specs.Lines.{is_framed}
-use Rattle.jp_grep.specs.Faults.{is_front_fault}
+use Rattle.jp_model.specs.Meaning.Nodes.{Node}
+use Rattle.jp_grep.specs.Faults.{is_front_fault, is_writer_fault}
 use Rattle.jp_grep.specs.Formats.{format_of}
 use Rattle.jp_grep.specs.Fronts.{AreRefused, IsOfLines}
-use Rattle.jp_grep.specs.Items.{Item, framing_by, items_come}
-use Rattle.jp_grep.specs.Rows.{messages_from, output_from, refused_count, selected_count}
+use Rattle.jp_grep.specs.Holding.{Puts}
+use Rattle.jp_grep.specs.Items.{Item, framing_by, is_given_up, items_come}
+use Rattle.jp_grep.specs.Outcomes.{CameOf, CameOfEach, given_up_count}
+use Rattle.jp_grep.specs.Rows.{item_message, item_rows, messages_from, node_rows, output_from, refused_count, refused_where, rows_where, selected_count, selected_where}
 use Rattle.jp_grep.specs.Stands.{Stands}
-use Rattle.jp_grep.specs.Watching.{answered_of}
+use Rattle.jp_grep.specs.Watching.{AreCounts, answered_of}
 use Rattle.jp_grep.specs.declared.fault.SearchFault.{SearchFault}
 use Rattle.jp_grep.specs.declared.fault.SearchFault.TheVariants as faults
 use Rattle.jp_form.specs.declared.form.Form.{Form}
 use Rattle.jp_grep.specs.declared.progress.Progress.{Progress}
+use Rattle.jp_grep.specs.declared.progress.Verdict.{Verdict}
 use Rattle.jp_grep.specs.declared.question.Question.{Question}
 use Rattle.jp_grep.specs.declared.source.Source.{Source}
 
--- no more items are selected than are wanted, and of those so far each is selected or refused at most once
+-- no more items are selected than are wanted, and of those so far each is selected, refused or given up at most once
 pub record IsUnderWay (form : Form) (progress : Progress) : Type 0 where
   pub wanted : progress.counts.selected ≤ form.most
   pub fewer_selected : progress.counts.selected < progress.number
   pub fewer_refused : progress.counts.refused < progress.number
+  pub fewer_given_up : progress.counts.given_up < progress.number
 
 -- the progress goes on by these items
 pub record GoesOnBy (question : Question) (form : Form) (before after : Progress) (items : List Item) : Type 0 where
   pub number : after.number ≡ before.number + length items
   pub selected : after.counts.selected ≡ before.counts.selected + selected_count question items
   pub refused : after.counts.refused ≡ before.counts.refused + refused_count items
+  pub given_up : after.counts.given_up ≡ before.counts.given_up + given_up_count items
   pub under_way : IsUnderWay form after
 
+-- the verdict is that of a line which is this, and given up or not
+pub record IsVerdict (question : Question) (verdict : Verdict) (lost : Bool) (status : LineStatus) : Type 0 where
+  pub selected : verdict.selected ≡ selected_where lost question status
+  pub refused : verdict.refused ≡ refused_where lost status
+  pub given_up : verdict.given_up ≡ lost
+
+-- The rows of the first of some nodes are put, at an Err a beginning, and those of all where it is said so.
+pub record PutsFirst {W A : Type 0} (rows_in : W → Option (List ℕ)) (form : Form) (paths : Bool) (n : ℕ) (line : List ℕ) (out0 out1 : Device W) (was_held is_held : List ℕ) (result : Result A SearchFault) (says_all : A → Bool) (nodes : List Node) : Type 0 where
+  pub first : List Node
+  pub others : List Node
+  pub split : nodes ≡ first ++ others
+  pub rows : Puts rows_in out0 out1 was_held is_held result (node_rows form paths n line first)
+  pub all : IfOk result (λ answer. says_all answer ≡ true → others ≡ [])
+
+-- A line is answered or given up: its rows are put, at an Err a beginning.
+pub record AnswersStatus {W : Type 0} (rows_in : W → Option (List ℕ)) (question : Question) (form : Form) (n : ℕ) (line : List ℕ) (out0 out1 : Device W) (was_held is_held : List ℕ) (result : Result Verdict SearchFault) (status : LineStatus) : Type 0 where
+  pub given_up : Option ℕ
+  pub rows : Puts rows_in out0 out1 was_held is_held result (rows_where given_up question form n line status)
+  pub verdict : IfOk result (λ verdict. IsVerdict question verdict (is_some given_up) status)
+
 module _ {W E : Type 0} (rows_in : W → Option (List ℕ)) (messages_in : E → Option (List ℕ)) where
-  -- These items are answered, as far as they are wanted: both writers received what is written of them, at an Err a beginning.
+  -- An item is answered or given up: its rows are put, and its message is written, at an Err a beginning.
+  pub record AnswersItem (question : Question) (form : Form) (progress : Progress) (out0 out1 : Device W) (was_held is_held : List ℕ) (told0 told1 : Device E) (result : Result Verdict SearchFault) (item : Item) : Type 0 where
+    pub outcome : Item
+    pub came : CameOf item outcome
+    pub rows : Puts rows_in out0 out1 was_held is_held result (item_rows question form progress.number outcome)
+    pub message : Writes messages_in told0 told1 result (item_message form progress.counts.refused progress.number outcome)
+    pub verdict : IfOk result (λ verdict. IsVerdict question verdict (is_given_up outcome) outcome.status)
+
+  -- These items are answered, as far as they are wanted, where rows are held in front of a writer.
+  pub record AnswersHeld (question : Question) (form : Form) (before after : Progress) (out0 out1 : Device W) (was_held is_held : List ℕ) (told0 told1 : Device E) (result : Result Unit SearchFault) (items : List Item) : Type 0 where
+    pub outcomes : List Item
+    pub each : CameOfEach items outcomes
+    pub rows : Puts rows_in out0 out1 was_held is_held result (output_from question form before.number (answered_of question form before.counts.selected outcomes))
+    pub messages : Writes messages_in told0 told1 result (messages_from form before.counts.refused before.number (answered_of question form before.counts.selected outcomes))
+    pub progress : OnOk result (GoesOnBy question form before after (answered_of question form before.counts.selected outcomes))
+
+  -- These items are answered, as far as they are wanted: both writers received what is written of what came of them, at an Err a
+  -- beginning, and nothing where no writer failed.
   pub record Answers (question : Question) (form : Form) (before after : Progress) (out0 out1 : Device W) (told0 told1 : Device E) (result : Result Unit SearchFault) (items : List Item) : Type 0 where
-    pub rows : Writes rows_in out0 out1 result (output_from question form before.number (answered_of question form before.counts.selected items))
-    pub messages : Writes messages_in told0 told1 result (messages_from form before.counts.refused before.number (answered_of question form before.counts.selected items))
-    pub progress : OnOk result (GoesOnBy question form before after (answered_of question form before.counts.selected items))
+    pub outcomes : List Item
+    pub each : CameOfEach items outcomes
+    pub rows : Writes rows_in out0 out1 result (output_from question form before.number (answered_of question form before.counts.selected outcomes))
+    pub messages : Writes messages_in told0 told1 result (messages_from form before.counts.refused before.number (answered_of question form before.counts.selected outcomes))
+    pub progress : OnOk result (GoesOnBy question form before after (answered_of question form before.counts.selected outcomes))
+    pub unwritten : IfErr result (λ fault. is_writer_fault fault ≡ false → (out1 ≡ out0) × (told1 ≡ told0) × (after ≡ before))
 
   -- bytes of the stream came, and what ends in them is answered, whatever came before
   pub record Advances (question : Question) (form : Form) (source0 source1 : Source) (before after : Progress) (out0 out1 : Device W) (told0 told1 : Device E) (result : Result Unit SearchFault) (bytes : List ℕ) : Type 0 where
@@ -43,8 +90,8 @@ module _ {W E : Type 0} (rows_in : W → Option (List ℕ)) (messages_in : E →
     pub position : OnOk result ((came : List ℕ) (answered : List Item) → Stands form.units came source0 answered → Stands form.units (came ++ bytes) source1 (answered ++ items))
     pub first : (came : List ℕ) (answered : List Item) → Stands form.units came source0 answered
         → (others : List Item) × (items_come form.units false (came ++ bytes) ≡ (answered ++ items) ++ others)
-    pub refused : IfErr result (λ fault. is_front_fault fault ≡ true → (out1 ≡ out0) × (told1 ≡ told0)
-        × ((came : List ℕ) (answered : List Item) → Stands form.units came source0 answered → (answered ≡ []) × AreRefused (framing_by form.units) (came ++ bytes) fault))
+    pub refused : IfErr result (λ fault. is_front_fault fault ≡ true
+        → (came : List ℕ) (answered : List Item) → Stands form.units came source0 answered → (answered ≡ []) × AreRefused (framing_by form.units) (came ++ bytes) fault)
 
   -- the stream has ended, and what its end leaves is answered, whatever came before
   pub record Ends (question : Question) (form : Form) (source : Source) (before after : Progress) (out0 out1 : Device W) (told0 told1 : Device E) (result : Result Unit SearchFault) : Type 0 where
@@ -55,15 +102,15 @@ module _ {W E : Type 0} (rows_in : W → Option (List ℕ)) (messages_in : E →
         → (others : List Item) × (items_come form.units true came ≡ (answered ++ items) ++ others)
     pub framed : (came : List ℕ) (answered : List Item) → Stands form.units came source answered
         → MatchResult result (λ _. IsOfLines (framing_by form.units) came) (λ fault. is_front_fault fault ≡ false → IsOfLines (framing_by form.units) came)
-    pub refused : IfErr result (λ fault. is_front_fault fault ≡ true → (fault ≡ faults.Framing) × (out1 ≡ out0) × (told1 ≡ told0)
+    pub refused : IfErr result (λ fault. is_front_fault fault ≡ true → (fault ≡ faults.Framing)
         × ((came : List ℕ) (answered : List Item) → Stands form.units came source answered → (answered ≡ []) × (format_of came ≡ None) × (is_framed (framing_by form.units) came ≡ false)))
 
-  -- The stream came so far: these bytes, and these items are answered.
-  pub record HasAnswered (question : Question) (form : Form) (source : Source) (progress : Progress) (out0 out1 : Device W) (told0 told1 : Device E) (came : List ℕ) (answered : List Item) : Type 0 where
+  -- The stream came so far: these bytes, and these items are answered, of which that came.
+  pub record HasAnswered (question : Question) (form : Form) (source : Source) (progress : Progress) (out0 out1 : Device W) (told0 told1 : Device E) (came : List ℕ) (answered outcomes : List Item) : Type 0 where
     pub position : Stands form.units came source answered
-    pub rows : Received rows_in out0 out1 (output_from question form 1 (answered_of question form 0 answered))
-    pub messages : Received messages_in told0 told1 (messages_from form 0 1 (answered_of question form 0 answered))
-    pub number : progress.number ≡ 1 + length (answered_of question form 0 answered)
-    pub selected : progress.counts.selected ≡ selected_count question (answered_of question form 0 answered)
-    pub refused : progress.counts.refused ≡ refused_count (answered_of question form 0 answered)
+    pub each : CameOfEach answered outcomes
+    pub rows : Received rows_in out0 out1 (output_from question form 1 (answered_of question form 0 outcomes))
+    pub messages : Received messages_in told0 told1 (messages_from form 0 1 (answered_of question form 0 outcomes))
+    pub number : progress.number ≡ 1 + length (answered_of question form 0 outcomes)
+    pub counts : AreCounts question progress.counts (answered_of question form 0 outcomes)
     pub under_way : IsUnderWay form progress

@@ -10,8 +10,13 @@ use Rattle.jp_nodes.specs.declared.Kind.TheVariants as kinds
 use Rattle.jp_canon.specs.Canonical.{canonical_text}
 use Rattle.jp_form.specs.declared.form.Units.{Units}
 use Rattle.jp_form.specs.declared.form.Units.TheVariants as unit
+use Rattle.jp_form.specs.declared.form.Table.{Table}
+use Rattle.jp_form.specs.declared.form.Table.TheVariants as tables
 use Rattle.jp_form.specs.declared.form.Spelling.{Spelling}
 use Rattle.jp_form.specs.declared.form.Spelling.TheVariants as spellings
+use Rattle.jp_table.specs.Cells.{Cell}
+use Rattle.jp_table.specs.declared.cell.CellKind.{CellKind}
+use Rattle.jp_table.specs.declared.cell.CellKind.TheVariants as cells
 
 -- a line feed or a carriage return: in a JSON text each of them is white space between two tokens (RFC 8259, section 2)
 abbrev pub is_line_break : ℕ → Bool
@@ -39,6 +44,23 @@ has_children kinds.Array = true
 has_children kinds.Object = true
 has_children _ = false
 
--- a value in a cell of a table: an array or an object in canonical form, any other plain (profile)
-abbrev pub cell_of : List ℕ → Tree → List ℕ
-cell_of line t = if has_children (kind_of (value_of t)) then canonical_text t else plain_or (source line t) t
+-- an array or an object in canonical form, any other value plain
+abbrev pub flat : List ℕ → Tree → List ℕ
+flat line t = if has_children (kind_of (value_of t)) then canonical_text t else plain_or (source line t) t
+
+-- a value as the cells of a table spell it (profile)
+abbrev pub cell_text_of : Table → List ℕ → Tree → List ℕ
+cell_text_of tables.Tabs line t = flat line t
+cell_text_of tables.Commas line t = flat line t
+cell_text_of tables.Canonical line t = canonical_text t
+
+-- what a cell with a value of a kind has
+abbrev pub cell_kind : Kind → CellKind
+cell_kind kinds.Text = cells.Text
+cell_kind kinds.Array = cells.Structure
+cell_kind kinds.Object = cells.Structure
+cell_kind _ = cells.Bare
+
+-- the cell of a value
+abbrev pub cell_of : Table → List ℕ → Tree → Cell
+cell_of table line t = record { kind = cell_kind (kind_of (value_of t)); text = cell_text_of table line t }

@@ -1,16 +1,17 @@
 -- What passed in a search, by the fault that it answers.
-use Rattle.std.specs.Prelude.{◌≡◌, ℕ, ◌-◌, List, [], ◌++◌, true, false, Option, None, ◌⊎◌}
+use Rattle.std.specs.Prelude.{◌≡◌, ℕ, ◌+◌, ◌-◌, List, [], ◌++◌, length, Bool, true, false, ◌&&◌, ◌==◌, is_none, Option, None, MatchOption, ◌⊎◌}
 use Rattle.jp_devices.specs.Devices.{Begins, Came, Device, Received}
-use Rattle.jp_model.specs.Lines.{is_framed}
 use Rattle.jp_grep.specs.Formats.{format_of}
 use Rattle.jp_grep.specs.Fronts.{IsOfLines, IsRefused}
 use Rattle.jp_grep.specs.Items.{Item, framing_by, items_come}
+use Rattle.jp_grep.specs.Outcomes.{CameOfEach, given_up_count}
 use Rattle.jp_grep.specs.Rows.{messages_from, output_from, refused_count, selected_count, selected_item, summary_of}
 use Rattle.jp_grep.specs.Streams.{up_to}
 use Rattle.jp_grep.specs.Told.{told_of}
 use Rattle.jp_grep.specs.declared.fault.SearchFault.{SearchFault}
 use Rattle.jp_grep.specs.declared.fault.SearchFault.TheVariants as faults
 use Rattle.jp_form.specs.declared.form.Form.{Form}
+use Rattle.jp_grep.specs.declared.found.Found.{Found}
 use Rattle.jp_grep.specs.declared.progress.Counts.{Counts}
 use Rattle.jp_grep.specs.declared.question.Question.{Question}
 
@@ -18,9 +19,22 @@ use Rattle.jp_grep.specs.declared.question.Question.{Question}
 abbrev pub answered_of : Question → Form → ℕ → List Item → List Item
 answered_of question form selected items = up_to (selected_item question) (form.most - selected) items
 
--- of what came the items that are answered
-abbrev pub answered : Question → Form → Came → List Item
-answered question form came = answered_of question form 0 (items_come form.units came.ended came.bytes)
+-- none is given up, and the rest of the stream was not passed over
+abbrev pub is_whole : Found → Bool
+is_whole found = is_none found.unread && (found.counts.given_up == 0)
+
+-- the counts are those of these items
+pub record AreCounts (question : Question) (counts : Counts) (items : List Item) : Type 0 where
+  pub selected : counts.selected ≡ selected_count question items
+  pub refused : counts.refused ≡ refused_count items
+  pub given_up : counts.given_up ≡ given_up_count items
+
+-- A search came to its end: all items that came have these outcomes, and the stream has ended or as many lines were selected as
+-- are wanted. Or the rest of the stream was passed over, from the first line on that is not answered.
+abbrev pub EndsWith : Question → Form → Came → List Item → Found → Type 0
+EndsWith question form came outcomes found = MatchOption found.unread
+    ((format_of came.bytes ≡ None) × CameOfEach (items_come form.units came.ended came.bytes) outcomes × ((came.ended ≡ true) ⊎ (found.counts.selected ≡ form.most)))
+    (λ unread. unread.line ≡ 1 + length (answered_of question form 0 outcomes))
 
 module _ {W E : Type 0} (rows_in : W → Option (List ℕ)) (messages_in : E → Option (List ℕ)) where
   -- both writers received what is answered of these items, and nothing else
@@ -34,42 +48,42 @@ module _ {W E : Type 0} (rows_in : W → Option (List ℕ)) (messages_in : E →
     pub messages : Received messages_in told0 told1 (told_of form items)
 
   -- the rows of these items, and what is written behind them
-  abbrev pub whole_output : Question → Form → List Item → List ℕ
-  whole_output question form items = output_from question form 1 items ++ summary_of form.summary form (selected_count question items)
+  abbrev pub whole_output : Question → Form → (all : Bool) → List Item → List ℕ
+  whole_output question form all items = output_from question form 1 items ++ summary_of form.summary form (selected_count question items) all
 
   -- both received a beginning of it, and nothing else
   pub record AnsweredInPart (question : Question) (form : Form) (out0 out1 : Device W) (told0 told1 : Device E) (items : List Item) : Type 0 where
-    pub rows : (part : List ℕ) × Begins part (whole_output question form items) × Received rows_in out0 out1 part
+    pub all : Bool
+    pub rows : (part : List ℕ) × Begins part (whole_output question form all items) × Received rows_in out0 out1 part
     pub messages : (part : List ℕ) × Begins part (told_of form items) × Received messages_in told0 told1 part
 
-  -- What passed while the lines of a stream were answered up to its end, or up to the last line that is wanted: all is
-  -- answered.
-  pub record SearchedLines (question : Question) (form : Form) (out0 out1 : Device W) (told0 told1 : Device E) (came : Came) (counts : Counts) : Type 0 where
-    pub format : format_of came.bytes ≡ None
-    pub framed : came.ended ≡ true → is_framed (framing_by form.units) came.bytes ≡ true
-    pub all : Answered question form out0 out1 told0 told1 (answered question form came)
-    pub selected : counts.selected ≡ selected_count question (answered question form came)
-    pub refused : counts.refused ≡ refused_count (answered question form came)
-    pub end : (came.ended ≡ true) ⊎ (counts.selected ≡ form.most)
+  -- What passed while the lines of a stream were answered, as far as they were.
+  pub record SearchedLines (question : Question) (form : Form) (out0 out1 : Device W) (told0 told1 : Device E) (came : Came) (outcomes : List Item) (found : Found) : Type 0 where
+    pub framed : came.ended ≡ true → IsOfLines (framing_by form.units) came.bytes
+    pub all : Answered question form out0 out1 told0 told1 (answered_of question form 0 outcomes)
+    pub counts : AreCounts question found.counts (answered_of question form 0 outcomes)
+    pub end : EndsWith question form came outcomes found
 
-  -- What passed in a search that came to its end: the stream ended, or as many lines were selected as are wanted.
-  pub record Searched (question : Question) (form : Form) (out0 out1 : Device W) (told0 told1 : Device E) (came : Came) (counts : Counts) : Type 0 where
-    pub format : format_of came.bytes ≡ None
-    pub framed : came.ended ≡ true → is_framed (framing_by form.units) came.bytes ≡ true
-    pub rows : Received rows_in out0 out1 (whole_output question form (answered question form came))
-    pub messages : Received messages_in told0 told1 (told_of form (answered question form came))
-    pub selected : counts.selected ≡ selected_count question (answered question form came)
-    pub refused : counts.refused ≡ refused_count (answered question form came)
-    pub end : (came.ended ≡ true) ⊎ (counts.selected ≡ form.most)
+  -- What passed in a search that came to its end, or passed over the rest of its stream.
+  pub record Searched (question : Question) (form : Form) (out0 out1 : Device W) (told0 told1 : Device E) (came : Came) (outcomes : List Item) (found : Found) : Type 0 where
+    pub framed : came.ended ≡ true → IsOfLines (framing_by form.units) came.bytes
+    pub rows : Received rows_in out0 out1 (whole_output question form (is_whole found) (answered_of question form 0 outcomes))
+    pub messages : Received messages_in told0 told1 (told_of form (answered_of question form 0 outcomes))
+    pub counts : AreCounts question found.counts (answered_of question form 0 outcomes)
+    pub end : EndsWith question form came outcomes found
 
   -- What passed in one that stopped, by the fault. A failed read leaves no line unanswered whose end came. Of a stream that is
-  -- refused as a whole nothing is answered. After any other fault the stream is one of lines, if it had ended.
-  abbrev pub SearchStopped : Question → Form → Device W → Device W → Device E → Device E → SearchFault → Came → Type 0
-  SearchStopped question form out0 out1 told0 told1 faults.Read came =
-      (came.ended ≡ false) × (format_of came.bytes ≡ None) × AnsweredToEnd question form out0 out1 told0 told1 (answered question form came)
-  SearchStopped question form out0 out1 told0 told1 faults.Framing came =
+  -- refused as a whole nothing is answered. After a write that failed the stream is one of lines, if it had ended. A size or a
+  -- growth stops none.
+  abbrev pub SearchStopped : Question → Form → Device W → Device W → Device E → Device E → SearchFault → Came → List Item → Type 0
+  SearchStopped question form out0 out1 told0 told1 faults.Read came outcomes =
+      (came.ended ≡ false) × (format_of came.bytes ≡ None) × CameOfEach (items_come form.units false came.bytes) outcomes
+      × AnsweredToEnd question form out0 out1 told0 told1 (answered_of question form 0 outcomes)
+  SearchStopped question form out0 out1 told0 told1 faults.Framing came outcomes =
       IsRefused (framing_by form.units) came faults.Framing × Answered question form out0 out1 told0 told1 []
-  SearchStopped question form out0 out1 told0 told1 (faults.Foreign format) came =
+  SearchStopped question form out0 out1 told0 told1 (faults.Foreign format) came outcomes =
       IsRefused (framing_by form.units) came (faults.Foreign format) × Answered question form out0 out1 told0 told1 []
-  SearchStopped question form out0 out1 told0 told1 fault came =
-      (came.ended ≡ true → IsOfLines (framing_by form.units) came.bytes) × AnsweredInPart question form out0 out1 told0 told1 (answered question form came)
+  SearchStopped question form out0 out1 told0 told1 faults.Size came outcomes = ⊥
+  SearchStopped question form out0 out1 told0 told1 faults.Memory came outcomes = ⊥
+  SearchStopped question form out0 out1 told0 told1 fault came outcomes =
+      (came.ended ≡ true → IsOfLines (framing_by form.units) came.bytes) × AnsweredInPart question form out0 out1 told0 told1 (answered_of question form 0 outcomes)

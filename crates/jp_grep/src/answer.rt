@@ -1,21 +1,22 @@
 //! The answer of lines: rows of those that are selected, messages on those that are refused.
 
-ghost use Rattle.std.specs.Prelude.{◌≡◌, ◌∷◌, ◌++◌, [], List, ℕ, false, map, IfOk, OnOk, if◌then◌else◌, true};
+ghost use Rattle.std.specs.Prelude.{◌≡◌, ◌+◌, ◌<◌, ◌^◌, ◌∷◌, ◌++◌, [], List, ℕ, false, is_some, length, map, IfOk, MatchOption, OnOk, ⊤, if◌then◌else◌};
 ghost use Rattle.jp_devices.specs.Devices.{Writes};
 ghost use Rattle.jp_model.specs.Json.Status.{parsed, refused};
 ghost use Rattle.jp_nodes.specs.Cursors.{node_of};
 ghost use Rattle.jp_children.specs.Found.{AreOf};
 ghost use Rattle.jp_lines.specs.Views.{text_of_view, tree_of_view};
 ghost use Rattle.jp_eval.specs.Compiled.{program_view};
-ghost use Rattle.jp_grep.specs.Held.{Holds};
+ghost use Rattle.jp_form.specs.declared.form.Shown.TheVariants as shown;
+ghost use Rattle.jp_table.specs.Cells.{Cell};
+ghost use Rattle.jp_table.specs.Held.{Holds, row_bytes};
 ghost use Rattle.jp_grep.specs.Holding.{Puts, TellsOfBoth, TellsOfWriter};
-ghost use Rattle.jp_grep.specs.Faults.{IsToldOf, is_input_fault};
+ghost use Rattle.jp_grep.specs.Faults.{IsToldOf, is_input_fault, is_report_fault, is_write_fault};
 ghost use Rattle.jp_grep.specs.Matching.{has_nodes, is_selected, nodes_of, queries_of, selected_by, selects, wants_nodes};
-ghost use Rattle.jp_grep.specs.ReadItems.{AreRead, IsReadItem, item_of, items_of};
-ghost use Rattle.jp_grep.specs.Rows.{item_message, item_rows, line_text, messages_from, node_rows, output_from, refused_item, row, row_at_once, selected_item, status_message, status_rows, whole};
-ghost use Rattle.jp_grep.specs.Searching.{Answers, GoesOnBy, IsUnderWay};
+ghost use Rattle.jp_grep.specs.ReadItems.{AreRead, IsReadItem, item_of, items_of, status_by};
+ghost use Rattle.jp_grep.specs.Rows.{line_text, message_where, row, row_at_once, status_rows, whole};
+ghost use Rattle.jp_grep.specs.Searching.{Answers, AnswersHeld, AnswersItem, AnswersStatus, IsUnderWay, PutsFirst};
 ghost use Rattle.jp_grep.specs.Tables.{nodes_cell, table_row};
-ghost use Rattle.jp_grep.specs.Watching.{answered_of};
 
 use crate::fault::SearchFault;
 use crate::items::{ReadItem, ReadItems};
@@ -23,16 +24,16 @@ use crate::outlet::Outlet;
 use crate::progress::{Progress, Verdict};
 use crate::question::{Question, Wanted, find_nodes};
 use crate::room::Room;
-use crate::rows::{add_front, add_refusal, add_refused, add_value};
-use crate::spelling::{Speller, append_printed};
-use crate::told::MOST_TOLD;
+use crate::rows::{add_front, add_refused, add_value};
+use crate::spelling::{Speller, append_printed, cell_kind};
+use crate::told::{tell_given_up, tell_refused, wants_refused};
 use itoa::Buffer;
 use jp_eval::Program;
 use jp_form::{Form, Shown, Spelling, Table, Units};
 use jp_lines::{LineState, LineView};
 use jp_model::{Framing, LineFault, Watched};
 use jp_nodes::Cursor;
-use jp_rows::write_whole;
+use jp_table::CellKind;
 use std::alloc::{AllocError, Global};
 use std::io::Write;
 
@@ -108,17 +109,18 @@ impl<'q> Answerer<'q> {
         line: LineView<'r>,
         room: &mut Room<'r>,
     ) -> Result<bool, AllocError>
-        ensures cell { (cells : List (List ℕ)) → Holds table room.old.cells cells → OnOk result (Holds table room.new.cells
-            (cells ++ nodes_cell (text_of_view line.entry) (selected_by (program_view query.now) (tree_of_view line.entry)) ∷ [])) }
+        ensures cell { (cells : List Cell) → Holds table room.old.cells cells → OnOk result (Holds table room.new.cells
+            (cells ++ nodes_cell table (text_of_view line.entry) (selected_by (program_view query.now) (tree_of_view line.entry)) ∷ [])) }
         ensures some { IfOk result (λ some. some ≡ has_nodes (selected_by (program_view query.now) (tree_of_view line.entry))) }
         ensures row { room.new.row ≡ room.old.row }
     {
         let some = find_nodes(query, self.alloc, line, &mut room.frame)?;
-        room.cell.clear();
-        if let Some(node) = room.frame.found().first() {
-            room.speller.append_cell(*node, &mut room.cell)?;
-        }
-        room.cells.add(table, &room.cell)?;
+        let Some(node) = room.frame.found().first() else {
+            room.cells.add(table, CellKind::Nothing, &[])?;
+            return Ok(some);
+        };
+        let text = room.speller.cell_text(table, *node, &mut room.cell)?;
+        room.cells.add(table, cell_kind(node.kind()), text)?;
         Ok(some)
     }
 
@@ -130,7 +132,7 @@ impl<'q> Answerer<'q> {
         line: LineView<'r>,
         room: &mut Room<'r>,
     ) -> Result<bool, AllocError>
-        ensures cells { OnOk result (room.new.cells.text.items ≡ table_row table (queries_of self.entry.question.now) self.entry.form.now number (text_of_view line.entry) (tree_of_view line.entry)) }
+        ensures cells { OnOk result (row_bytes room.new.cells ≡ table_row table (queries_of self.entry.question.now) self.entry.form.now number (text_of_view line.entry) (tree_of_view line.entry)) }
         ensures some { IfOk result (λ some. some ≡ selects (queries_of self.entry.question.now) (tree_of_view line.entry)) }
         ensures row { room.new.row ≡ room.old.row }
     {
@@ -159,31 +161,31 @@ impl<'q> Answerer<'q> {
         }
     }
 
-    /// Makes the row of a line of which the cells are shown, where it is selected. The queries are asked once.
+    /// Makes the row of a line of which the cells are shown, where it is selected, and tells whether it is. The queries are asked
+    /// once.
     fn make_table_row<'r>(
         self,
         table: Table,
         number: u64,
         line: LineView<'r>,
         room: &mut Room<'r>,
-    ) -> Result<Verdict, AllocError>
-        ensures refused { IfOk result (λ verdict. verdict.refused ≡ false) }
-        ensures selected { IfOk result (λ verdict. verdict.selected ≡ is_selected self.entry.question.now (parsed (tree_of_view line.entry))) }
+    ) -> Result<bool, AllocError>
+        ensures selected { IfOk result (λ selected. selected ≡ is_selected self.entry.question.now (parsed (tree_of_view line.entry))) }
         ensures row { OnOk result (room.new.row.items ≡ room.old.row.items ++ (if is_selected self.entry.question.now (parsed (tree_of_view line.entry))
             then table_row table (queries_of self.entry.question.now) self.entry.form.now number (text_of_view line.entry) (tree_of_view line.entry) else [])) }
     {
         if !self.wants_nodes(line, room)? {
-            return Ok(Verdict::unrefused(false));
+            return Ok(false);
         }
         let some = self.make_cells(table, number, line, room)?;
-        if !self.question.wanted.wants_found(some) {
-            return Ok(Verdict::unrefused(false));
+        if !self.question.wants_found(some) {
+            return Ok(false);
         }
-        room.row.extend_from_slice(&room.cells.text)?;
-        Ok(Verdict::unrefused(true))
+        room.row.extend_from_slice(room.cells.bytes())?;
+        Ok(true)
     }
 
-    /// Makes the row of a line of which nothing or the line is shown, where it is selected.
+    /// Makes the row of a line of which nothing or the line is shown, where it is selected, and tells whether it is.
     fn make_line_row<'r>(
         self,
         shown: bool,
@@ -191,34 +193,33 @@ impl<'q> Answerer<'q> {
         line: LineView<'r>,
         text: &'r [u8],
         room: &mut Room<'r>,
-    ) -> Result<Verdict, AllocError>
+    ) -> Result<bool, AllocError>
         requires text { text_of_view line ≡ text.now }
-        ensures refused { IfOk result (λ verdict. verdict.refused ≡ false) }
-        ensures selected { IfOk result (λ verdict. verdict.selected ≡ is_selected self.entry.question.now (parsed (tree_of_view line.entry))) }
+        ensures selected { IfOk result (λ selected. selected ≡ is_selected self.entry.question.now (parsed (tree_of_view line.entry))) }
         ensures row { OnOk result (room.new.row.items ≡ room.old.row.items ++ (if is_selected self.entry.question.now (parsed (tree_of_view line.entry))
             then (if shown then row self.entry.form.now number (line_text self.entry.form.now.spelling self.entry.form.now.units text.now (tree_of_view line.entry)) else []) else [])) }
     {
         let matching = self.question.matches(self.alloc, line, &mut room.frame)?;
         if !self.question.wanted.wants_value(matching) {
-            return Ok(Verdict::unrefused(false));
+            return Ok(false);
         }
         if shown {
             self.add_line(number, line, text, room)?;
         }
-        Ok(Verdict::unrefused(true))
+        Ok(true)
     }
 
-    /// Makes the row of a line that has a value, where it is selected, unless the values are shown that the queries select.
+    /// Makes the row of a line that has a value, where it is selected, unless the values are shown that the queries select, and
+    /// tells whether it is.
     fn make_row<'r>(
         self,
         number: u64,
         line: LineView<'r>,
         text: &'r [u8],
         room: &mut Room<'r>,
-    ) -> Result<Verdict, AllocError>
+    ) -> Result<bool, AllocError>
         requires text { text_of_view line ≡ text.now }
-        ensures refused { IfOk result (λ verdict. verdict.refused ≡ false) }
-        ensures selected { IfOk result (λ verdict. verdict.selected ≡ is_selected self.entry.question.now (parsed (tree_of_view line.entry))) }
+        ensures selected { IfOk result (λ selected. selected ≡ is_selected self.entry.question.now (parsed (tree_of_view line.entry))) }
         ensures row { OnOk result (room.new.row.items ≡ (if is_selected self.entry.question.now (parsed (tree_of_view line.entry))
             then row_at_once self.entry.form.now.shown self.entry.question.now self.entry.form.now number text.now (tree_of_view line.entry) else [])) }
     {
@@ -235,7 +236,7 @@ impl<'q> Answerer<'q> {
 
 // How lines are answered.
 impl<'q> Answerer<'q> {
-    /// Puts a row for each of some nodes of a line.
+    /// Puts a row for each of some nodes of a line, and tells whether there was memory for all.
     fn put_values<'r, W: Write>(
         self,
         paths: bool,
@@ -246,23 +247,24 @@ impl<'q> Answerer<'q> {
         row: &mut Vec<u8>,
         outlet: &mut Outlet,
         out: &mut Watched<W>,
-    ) -> Result<(), SearchFault>
+    ) -> Result<bool, SearchFault>
         requires lines { AreOf text.now nodes.now }
         requires working { out.old.failed ≡ false }
-        ensures rows { Puts W.contents out.old out.new outlet.old.held.items outlet.new.held.items result (node_rows self.entry.form.now paths number text.now (map node_of nodes.now)) }
+        ensures rows { PutsFirst W.contents self.entry.form.now paths number text.now out.old out.new outlet.old.held.items outlet.new.held.items result (λ whole. whole) (map node_of nodes.now) }
         ensures tells { TellsOfWriter result out.old out.new }
     {
         for node in nodes {
             row.clear();
             if add_value(self.form, paths, number, *node, speller, row).is_err() {
-                return Err(SearchFault::Memory);
+                return Ok(false);
             }
             outlet.put(row, out)?;
         }
-        Ok(())
+        Ok(true)
     }
 
-    /// Puts a row for each node that the queries select, query by query, and tells whether there is one.
+    /// Puts a row for each node that the queries select, query by query, and tells whether there is one. There is no answer where
+    /// memory was refused.
     fn put_nodes<'r, W: Write>(
         self,
         paths: bool,
@@ -272,20 +274,20 @@ impl<'q> Answerer<'q> {
         room: &mut Room<'r>,
         outlet: &mut Outlet,
         out: &mut Watched<W>,
-    ) -> Result<bool, SearchFault>
+    ) -> Result<Option<bool>, SearchFault>
         requires text { text_of_view line ≡ text.now }
         requires working { out.old.failed ≡ false }
-        ensures rows { Puts W.contents out.old out.new outlet.old.held.items outlet.new.held.items result (node_rows self.entry.form.now paths number text.now (nodes_of (queries_of self.entry.question.now) (tree_of_view line.entry))) }
-        ensures some { IfOk result (λ some. some ≡ selects (queries_of self.entry.question.now) (tree_of_view line.entry)) }
+        ensures rows { PutsFirst W.contents self.entry.form.now paths number text.now out.old out.new outlet.old.held.items outlet.new.held.items result is_some (nodes_of (queries_of self.entry.question.now) (tree_of_view line.entry)) }
+        ensures some { IfOk result (λ answer. MatchOption answer ⊤ (λ some. some ≡ selects (queries_of self.entry.question.now) (tree_of_view line.entry))) }
         ensures tells { TellsOfWriter result out.old out.new }
     {
         let mut some = false;
         for query in &self.question.queries {
             let Ok(found) = find_nodes(query, self.alloc, line, &mut room.frame) else {
-                return Err(SearchFault::Memory);
+                return Ok(None);
             };
             some |= found;
-            self.put_values(
+            let whole = self.put_values(
                 paths,
                 number,
                 text,
@@ -295,8 +297,11 @@ impl<'q> Answerer<'q> {
                 outlet,
                 out,
             )?;
+            if !whole {
+                return Ok(None);
+            }
         }
-        Ok(some)
+        Ok(Some(some))
     }
 
     /// Answers a line of which the values are shown that the queries select. These are asked once.
@@ -310,21 +315,21 @@ impl<'q> Answerer<'q> {
         outlet: &mut Outlet,
         out: &mut Watched<W>,
     ) -> Result<Verdict, SearchFault>
+        requires shown { self.form.now.shown ≡ shown.Values paths }
         requires text { text_of_view line ≡ text.now }
         requires working { out.old.failed ≡ false }
-        ensures refused { IfOk result (λ verdict. verdict.refused ≡ false) }
-        ensures selected { IfOk result (λ verdict. verdict.selected ≡ is_selected self.entry.question.now (parsed (tree_of_view line.entry))) }
-        ensures rows { Puts W.contents out.old out.new outlet.old.held.items outlet.new.held.items result (if is_selected self.entry.question.now (parsed (tree_of_view line.entry))
-            then node_rows self.entry.form.now paths number text.now (nodes_of (queries_of self.entry.question.now) (tree_of_view line.entry)) else []) }
+        ensures answers { AnswersStatus W.contents self.entry.question.now self.entry.form.now number text.now out.old out.new outlet.old.held.items outlet.new.held.items result (parsed (tree_of_view line.entry)) }
         ensures tells { TellsOfWriter result out.old out.new }
     {
         match self.wants_nodes(line, room) {
             Ok(true) => {}
-            Ok(false) => return Ok(Verdict::unrefused(false)),
-            Err(_) => return Err(SearchFault::Memory),
+            Ok(false) => return Ok(Verdict::of_value(false)),
+            Err(_) => return Ok(Verdict::of_given_up()),
         }
-        let some = self.put_nodes(paths, number, line, text, room, outlet, out)?;
-        Ok(Verdict::unrefused(self.question.wanted.wants_found(some)))
+        match self.put_nodes(paths, number, line, text, room, outlet, out)? {
+            Some(some) => Ok(Verdict::of_value(self.question.wants_found(some))),
+            None => Ok(Verdict::of_given_up()),
+        }
     }
 
     /// Answers a line that has a value.
@@ -339,51 +344,17 @@ impl<'q> Answerer<'q> {
     ) -> Result<Verdict, SearchFault>
         requires text { text_of_view line ≡ text.now }
         requires working { out.old.failed ≡ false }
-        ensures refused { IfOk result (λ verdict. verdict.refused ≡ false) }
-        ensures selected { IfOk result (λ verdict. verdict.selected ≡ is_selected self.entry.question.now (parsed (tree_of_view line.entry))) }
-        ensures rows { Puts W.contents out.old out.new outlet.old.held.items outlet.new.held.items result (status_rows self.entry.question.now self.entry.form.now number text.now (parsed (tree_of_view line.entry))) }
+        ensures answers { AnswersStatus W.contents self.entry.question.now self.entry.form.now number text.now out.old out.new outlet.old.held.items outlet.new.held.items result (parsed (tree_of_view line.entry)) }
         ensures tells { TellsOfWriter result out.old out.new }
     {
         if let Shown::Values { paths } = self.form.shown {
             return self.answer_nodes(paths, number, line, text, room, outlet, out);
         }
-        let Ok(verdict) = self.make_row(number, line, text, room) else {
-            return Err(SearchFault::Memory);
+        let Ok(selected) = self.make_row(number, line, text, room) else {
+            return Ok(Verdict::of_given_up());
         };
         outlet.put(&room.row, out)?;
-        Ok(verdict)
-    }
-
-    /// Tells of a refused line, where messages are wanted and few were told. The rows of the lines before it are written first.
-    fn tell<'r, W: Write, E: Write>(
-        self,
-        progress: Progress,
-        fault: LineFault,
-        from_line: Option<u64>,
-        room: &mut Room<'r>,
-        outlet: &mut Outlet,
-        out: &mut Watched<W>,
-        messages: &mut Watched<E>,
-    ) -> Result<(), SearchFault>
-        requires writes { out.old.failed ≡ false }
-        requires reports { messages.old.failed ≡ false }
-        ensures rows { Puts W.contents out.old out.new outlet.old.held.items outlet.new.held.items result [] }
-        ensures message { Writes E.contents messages.old messages.new result (status_message self.entry.form.now progress.counts.refused progress.number from_line (refused fault)) }
-        ensures tells { TellsOfBoth result out.old out.new messages.old messages.new }
-        ensures others { IsToldOf is_input_fault result false }
-    {
-        if self.form.silent || progress.counts.refused >= MOST_TOLD {
-            return Ok(());
-        }
-        room.row.clear();
-        if add_refusal(self.form, progress.number, fault, from_line, &mut room.row).is_err() {
-            return Err(SearchFault::Memory);
-        }
-        outlet.write_held(out)?;
-        match write_whole(&room.row, messages) {
-            Ok(()) => Ok(()),
-            Err(_) => Err(SearchFault::Report),
-        }
+        Ok(Verdict::of_value(selected))
     }
 
     /// Makes the row of a refused line, where refused lines are wanted, and tells whether they are.
@@ -419,19 +390,69 @@ impl<'q> Answerer<'q> {
         out: &mut Watched<W>,
     ) -> Result<Verdict, SearchFault>
         requires working { out.old.failed ≡ false }
-        ensures selected { IfOk result (λ verdict. verdict.selected ≡ is_selected self.entry.question.now (refused fault)) }
-        ensures refused { IfOk result (λ verdict. verdict.refused ≡ true) }
-        ensures rows { Puts W.contents out.old out.new outlet.old.held.items outlet.new.held.items result (status_rows self.entry.question.now self.entry.form.now number text.now (refused fault)) }
+        ensures answers { AnswersStatus W.contents self.entry.question.now self.entry.form.now number text.now out.old out.new outlet.old.held.items outlet.new.held.items result (refused fault) }
         ensures tells { TellsOfWriter result out.old out.new }
     {
         let Ok(selected) = self.make_refused_row(number, fault, text, &mut room.row) else {
-            return Err(SearchFault::Memory);
+            return Ok(Verdict::of_given_up());
         };
         outlet.put(&room.row, out)?;
-        Ok(Verdict {
-            selected,
-            refused: true,
-        })
+        Ok(Verdict::of_refused(selected))
+    }
+
+    /// Puts the rows of a line, a text or an element.
+    fn put_item<'r, W: Write>(
+        self,
+        number: u64,
+        item: ReadItem<'r>,
+        room: &mut Room<'r>,
+        outlet: &mut Outlet,
+        out: &mut Watched<W>,
+    ) -> Result<Verdict, SearchFault>
+        requires item { IsReadItem item }
+        requires writes { out.old.failed ≡ false }
+        ensures answers { AnswersStatus W.contents self.entry.question.now self.entry.form.now number item.entry.text.now out.old out.new outlet.old.held.items outlet.new.held.items result (status_by item.entry.state) }
+        ensures tells { TellsOfWriter result out.old out.new }
+    {
+        match item.state {
+            LineState::Blank => Ok(Verdict::of_value(false)),
+            LineState::Refused(fault) => {
+                self.answer_refused(number, fault, item.text, room, outlet, out)
+            }
+            LineState::Tree(view) => {
+                self.answer_value(number, view, item.text, room, outlet, out)
+            }
+        }
+    }
+
+    /// Tells of a line, a text or an element that was refused or given up. The rows so far are written first.
+    fn tell<W: Write, E: Write>(
+        self,
+        progress: Progress,
+        state: LineState<'_>,
+        from_line: Option<u64>,
+        given_up: bool,
+        outlet: &mut Outlet,
+        out: &mut Watched<W>,
+        messages: &mut Watched<E>,
+    ) -> Result<(), SearchFault>
+        requires writes { out.old.failed ≡ false }
+        requires reports { messages.old.failed ≡ false }
+        ensures rows { Puts W.contents out.old out.new outlet.old.held.items outlet.new.held.items result [] }
+        ensures message { Writes E.contents messages.old messages.new result (message_where given_up self.entry.form.now progress.counts.refused progress.number from_line (status_by state.entry)) }
+        ensures tells { TellsOfBoth result out.old out.new messages.old messages.new }
+    {
+        if given_up {
+            outlet.write_held(out)?;
+            return tell_given_up(self.form, progress.number, from_line, messages);
+        }
+        match state {
+            LineState::Refused(fault) if wants_refused(self.form, progress) => {
+                outlet.write_held(out)?;
+                tell_refused(self.form, progress, fault, from_line, messages)
+            }
+            _ => Ok(()),
+        }
     }
 
     /// Answers a line, a text or an element.
@@ -447,23 +468,20 @@ impl<'q> Answerer<'q> {
         requires item { IsReadItem item }
         requires writes { out.old.failed ≡ false }
         requires reports { messages.old.failed ≡ false }
-        ensures selected { IfOk result (λ verdict. verdict.selected ≡ selected_item self.entry.question.now (item_of item.entry)) }
-        ensures refused { IfOk result (λ verdict. verdict.refused ≡ refused_item (item_of item.entry)) }
-        ensures rows { Puts W.contents out.old out.new outlet.old.held.items outlet.new.held.items result (item_rows self.entry.question.now self.entry.form.now progress.number (item_of item.entry)) }
-        ensures messages { Writes E.contents messages.old messages.new result (item_message self.entry.form.now progress.counts.refused progress.number (item_of item.entry)) }
+        ensures answers { AnswersItem W.contents E.contents self.entry.question.now self.entry.form.now progress out.old out.new outlet.old.held.items outlet.new.held.items messages.old messages.new result (item_of item.entry) }
         ensures tells { TellsOfBoth result out.old out.new messages.old messages.new }
-        ensures others { IsToldOf is_input_fault result false }
     {
-        match item.state {
-            LineState::Blank => Ok(Verdict::unrefused(false)),
-            LineState::Refused(fault) => {
-                self.tell(progress, fault, item.from_line, room, outlet, out, messages)?;
-                self.answer_refused(progress.number, fault, item.text, room, outlet, out)
-            }
-            LineState::Tree(view) => {
-                self.answer_value(progress.number, view, item.text, room, outlet, out)
-            }
-        }
+        let verdict = self.put_item(progress.number, item, room, outlet, out)?;
+        self.tell(
+            progress,
+            item.state,
+            item.from_line,
+            verdict.given_up,
+            outlet,
+            out,
+            messages,
+        )?;
+        Ok(verdict)
     }
 
     /// Answers lines, texts or elements in turn, up to the last one that is wanted. Of their rows the last may be held.
@@ -476,14 +494,12 @@ impl<'q> Answerer<'q> {
         messages: &mut Watched<E>,
     ) -> Result<(), SearchFault>
         requires read { AreRead items }
+        requires numbers { progress.old.number + length (items_of items) < 2 ^ 64 }
         requires under_way { IsUnderWay self.form.now progress.old }
         requires writes { out.old.failed ≡ false }
         requires reports { messages.old.failed ≡ false }
-        ensures rows { Puts W.contents out.old out.new outlet.old.held.items outlet.new.held.items result (output_from self.entry.question.now self.entry.form.now progress.old.number (answered_of self.entry.question.now self.entry.form.now progress.old.counts.selected (items_of items.entry))) }
-        ensures messages { Writes E.contents messages.old messages.new result (messages_from self.entry.form.now progress.old.counts.refused progress.old.number (answered_of self.entry.question.now self.entry.form.now progress.old.counts.selected (items_of items.entry))) }
-        ensures progress { OnOk result (GoesOnBy self.entry.question.now self.entry.form.now progress.old progress.new (answered_of self.entry.question.now self.entry.form.now progress.old.counts.selected (items_of items.entry))) }
+        ensures answers { AnswersHeld W.contents E.contents self.entry.question.now self.entry.form.now progress.old progress.new out.old out.new outlet.old.held.items outlet.new.held.items messages.old messages.new result (items_of items.entry) }
         ensures tells { TellsOfBoth result out.old out.new messages.old messages.new }
-        ensures others { IsToldOf is_input_fault result false }
     {
         let mut room = Room::new(self.alloc);
         for index in 0..items.count() {
@@ -491,16 +507,18 @@ impl<'q> Answerer<'q> {
                 return Ok(());
             }
             let item = items.item(index);
-            match self.answer_item(*progress, item, &mut room, outlet, out, messages) {
-                Ok(verdict) => progress.pass(verdict)?,
-                Err(fault) => return Err(fault),
-            }
+            let verdict = self.answer_item(*progress, item, &mut room, outlet, out, messages)?;
+            progress.pass(verdict);
         }
         Ok(())
     }
 
-    /// Answers lines, texts or elements, up to the last one that is wanted, and writes their rows. Where one could not be
-    /// answered, the rows of those before it are written.
+    /// Answers lines, texts or elements, up to the last one that is wanted, and writes their rows.
+    ///
+    /// # Errors
+    ///
+    /// `Size` if there are more lines than a number of 64 bits counts: then nothing was written. `Write` and `Report` if a row or
+    /// a message was not written.
     pub(crate) fn answer_items<W: Write, E: Write>(
         self,
         items: ReadItems<'_>,
@@ -514,17 +532,17 @@ impl<'q> Answerer<'q> {
         requires writes { out.old.failed ≡ false }
         requires reports { messages.old.failed ≡ false }
         ensures answers { Answers W.contents E.contents self.entry.question.now self.entry.form.now progress.old progress.new out.old out.new messages.old messages.new result (items_of items.entry) }
-        ensures tells { TellsOfBoth result out.old out.new messages.old messages.new }
+        ensures write_fault { IsToldOf is_write_fault result out.new.failed }
+        ensures report_fault { IsToldOf is_report_fault result messages.new.failed }
         ensures others { IsToldOf is_input_fault result false }
+        ensures after { out.new.after ≡ out.old.after }
+        ensures messages_after { messages.new.after ≡ messages.old.after }
     {
+        if !progress.has_numbers(items.count()) {
+            return Err(SearchFault::Size);
+        }
         outlet.clear();
-        let answered = self.answer_each(items, progress, outlet, out, messages);
-        if out.failed() || messages.failed() {
-            return answered;
-        }
-        match outlet.write_held(out) {
-            Ok(()) => answered,
-            Err(fault) => Err(fault),
-        }
+        self.answer_each(items, progress, outlet, out, messages)?;
+        outlet.write_held(out)
     }
 }

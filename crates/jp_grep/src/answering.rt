@@ -54,6 +54,7 @@ impl Answering {
         ensures number { result.progress.number ≡ 1 }
         ensures selected { result.progress.counts.selected ≡ 0 }
         ensures refused { result.progress.counts.refused ≡ 0 }
+        ensures given_up { result.progress.counts.given_up ≡ 0 }
     {
         Answering {
             room: BatchRoom::new(alloc),
@@ -121,7 +122,8 @@ impl Answering {
             None => Ok(()),
             Some(end) => {
                 self.answer_until(answerer, stream, from + end, out, messages)?;
-                stream.let_go(from + end)
+                stream.let_go(from + end);
+                Ok(())
             }
         }
     }

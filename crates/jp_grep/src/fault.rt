@@ -11,12 +11,13 @@ pub enum SearchFault {
     Framing,
     /// The stream begins with the mark of another format.
     Foreign(Format),
-    /// A line is longer than 4,294,967,294 bytes, or there are more lines or reads than a number of 64 bits counts.
+    /// A line is longer than 4,294,967,294 bytes, or there are more lines or reads than a number of 64 bits counts. No search
+    /// answers it: there it is told by `Found::unread`.
     Size,
     /// A row was not written: a write failed or took no byte, or a flush failed.
     Write,
     /// A message was not written, in the same way.
     Report,
-    /// A growth was refused.
+    /// A growth was refused. No search answers it, in the same way.
     Memory,
 }

@@ -3,13 +3,14 @@
 ghost use Rattle.std.specs.Prelude.{◌≡◌, false, map, IfOk};
 ghost use Rattle.jp_devices.specs.Devices.{Writes};
 ghost use Rattle.jp_grep.specs.Faults.{IsToldOf, is_input_fault, is_report_fault, is_write_fault};
+ghost use Rattle.jp_table.specs.Held.{row_bytes};
 ghost use Rattle.jp_grep.specs.Tables.{header_row, header_text};
 
 use crate::fault::SearchFault;
 use crate::outlet::write_bytes;
-use crate::table::TableRow;
 use jp_form::{Form, Shown, Table};
 use jp_model::Watched;
+use jp_table::{CellKind, TableRow};
 use std::alloc::{AllocError, Global};
 use std::io::Write;
 
@@ -18,21 +19,21 @@ fn make_header(
     alloc: Global,
     table: Table,
     form: &Form<'_>,
-    queries: &[&str],
+    names: &[&str],
 ) -> Result<TableRow, AllocError>
-    ensures { IfOk result (λ row. row.text.items ≡ header_row table form.now (map (λ query. query.now) queries.now)) }
+    ensures { IfOk result (λ row. row_bytes row ≡ header_row table form.now (map (λ name. name.now) names.now)) }
 {
     let mut row = TableRow::new(alloc);
     row.begin(table, form, b"file", b"line")?;
-    for query in queries {
-        row.add(table, query.as_bytes())?;
+    for name in names {
+        row.add(table, CellKind::Bare, name.as_bytes())?;
     }
     row.end()?;
     Ok(row)
 }
 
-/// Writes what stands above the rows, where they are those of a table: the queries as they were given, behind the names of the
-/// cells in front.
+/// Writes what stands above the rows, where they are those of a table: the names of the columns, behind those of the cells in
+/// front.
 ///
 /// # Errors
 ///
@@ -40,11 +41,11 @@ fn make_header(
 pub(crate) fn write_header<W: Write>(
     alloc: Global,
     form: &Form<'_>,
-    queries: &[&str],
+    names: &[&str],
     out: &mut Watched<W>,
 ) -> Result<(), SearchFault>
     requires { out.old.failed ≡ false }
-    ensures header { Writes W.contents out.old out.new result (header_text form.now.shown form.now (map (λ query. query.now) queries.now)) }
+    ensures header { Writes W.contents out.old out.new result (header_text form.now.shown form.now (map (λ name. name.now) names.now)) }
     ensures write_fault { IsToldOf is_write_fault result out.new.failed }
     ensures report_fault { IsToldOf is_report_fault result false }
     ensures inner { IsToldOf is_input_fault result false }
@@ -53,8 +54,8 @@ pub(crate) fn write_header<W: Write>(
     let Shown::Cells(table) = form.shown else {
         return Ok(());
     };
-    let Ok(row) = make_header(alloc, table, form, queries) else {
+    let Ok(row) = make_header(alloc, table, form, names) else {
         return Err(SearchFault::Memory);
     };
-    write_bytes(&row.text, out)
+    write_bytes(row.bytes(), out)
 }

@@ -15,7 +15,7 @@ use jp_model::LineFault;
 pub(crate) struct ReadItem<'r> {
     pub(crate) text: &'r [u8],
     pub(crate) state: LineState<'r>,
-    /// The number of the line of the stream in which it begins, from 1, where that is another than its own.
+    /// The number of the line of the stream in which it begins, from 1, where that is told.
     pub(crate) from_line: Option<u64>,
 }
 

@@ -2,7 +2,7 @@
 
 ghost use Rattle.jp_grep.specs.Laws.{RowsAreThoseOfAQuery};
 ghost use Rattle.jp_grep.specs.Once.{EachLineIsSelectedOnce};
-ghost use Rattle.jp_grep.specs.ReadBack.{RowsLeadBack};
+ghost use Rattle.jp_grep.specs.Tables.{CanonicalTextsMayStand, CellsHaveTexts};
 
 /// The rows of values with their numbers and paths are, line by line and node by node, those that `query` of jpq answers, with
 /// a colon behind the number in place of a tab. A filter that lets a second path to a node count as none is no such filter: RFC
@@ -17,8 +17,14 @@ pub fn each_line_is_selected_once()
     ensures { EachLineIsSelectedOnce }
 {}
 
-/// A row of a table leads back to its cells and to where it ends, whatever bytes its cells have and whatever follows it:
-/// between tabs by what stands behind a backslash, between commas as RFC 4180 has it (section 2).
-pub fn rows_lead_back_to_their_cells()
-    ensures { RowsLeadBack }
+/// The cell of a value that a line spells has a text that is one of what it has: a number's is a number, that of an array or an
+/// object begins with a bracket. So what the laws of `jp_table` say of a row holds of each row of a table.
+pub fn cells_have_texts()
+    ensures { CellsHaveTexts }
+{}
+
+/// The canonical text of any value may stand in a cell between tabs as it is: it has no tab and no line feed. So a row of
+/// canonical texts leads back to them.
+pub fn canonical_texts_may_stand()
+    ensures { CanonicalTextsMayStand }
 {}

@@ -2,22 +2,28 @@
 //!
 //! Public calls:
 //!
-//! - `Question`, `Wanted`: the queries and the conditions that a line is asked, and which lines are selected
+//! - `Question`, `Queries`, `Wanted`: the queries, the conditions and the lists that a line is asked, whether the queries are
+//!   columns, and which lines are selected
+//! - `read_list`, `Listed`: the values of a stream's lines, of which a line's may be one
 //! - `Form`, `Units`, `Shown`, `Spelling`, `Table`, `Summary`: what is written of a stream, of the crate `jp_form`
-//! - `search`, `Input`, `SearchFault`, `Format`: the lines, texts or elements of a stream, each answered as it comes
+//! - `search`, `Input`, `Found`, `Counts`, `SearchFault`, `Format`: the lines, texts or elements of a stream, each answered as it
+//!   comes
 //! - `Run`, `Finished`: the streams in turn, through two buffers that are written out at the end
 #![tactic(auto)]
 
 mod answer;
 mod answering;
+mod condition;
 mod cutting;
 mod fault;
 mod finding;
 mod format;
+mod found;
 mod header;
 mod input;
 mod items;
 pub mod laws;
+mod list;
 mod outlet;
 mod progress;
 mod question;
@@ -28,15 +34,17 @@ mod searching;
 mod source;
 mod spelling;
 mod stream;
-mod table;
 mod told;
 
 pub use fault::SearchFault;
 pub use format::Format;
+pub use found::{Found, Limit, Unread};
 pub use input::Input;
 pub use jp_form::{Form, Pieces, Shown, Spelling, Summary, Table, Units};
+pub use jp_listed::Listed;
 pub use jp_model::Framing;
+pub use list::read_list;
 pub use progress::Counts;
-pub use question::{Question, Wanted};
+pub use question::{Queries, Question, Wanted};
 pub use run::{Finished, Run};
 pub use searching::search;

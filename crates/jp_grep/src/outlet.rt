@@ -1,17 +1,32 @@
 //! Rows on their way to a writer.
 
-ghost use Rattle.std.specs.Prelude.{◌≡◌, ◌<◌, [], false, OnOk};
-ghost use Rattle.jp_devices.specs.Devices.{Writes};
+ghost use Rattle.std.specs.Prelude.{◌≡◌, ◌<◌, ◌++◌, [], List, ℕ, decimal, false, is_err, OnOk};
+ghost use Rattle.jp_devices.specs.Devices.{Device, Writes};
+ghost use Rattle.jp_model.specs.Rows.{line_feed};
+ghost use Rattle.jp_grep.specs.Faults.{write_of};
 ghost use Rattle.jp_grep.specs.Holding.{Puts, TellsOfWriter};
+ghost use Rattle.jp_grep.specs.Rows.{behind_name, name_front, summary_of};
 
 use crate::fault::SearchFault;
+use itoa::Buffer;
+use jp_form::{Form, Summary};
 use jp_model::Watched;
-use jp_rows::write_whole;
+use jp_rows::{WriteFault, write_whole};
 use std::alloc::Global;
 use std::io::Write;
 
 /// The bytes that are held at most.
 const MOST: usize = 65_536;
+
+/// Whether a text of the rows was written.
+fn told(written: Result<(), WriteFault>) -> Result<(), SearchFault>
+    ensures { result ≡ write_of written }
+{
+    match written {
+        Ok(()) => Ok(()),
+        Err(_) => Err(SearchFault::Write),
+    }
+}
 
 /// Writes bytes.
 ///
@@ -23,9 +38,99 @@ pub(crate) fn write_bytes<W: Write>(bytes: &[u8], out: &mut Watched<W>) -> Resul
     ensures text { Writes W.contents out.old out.new result bytes.now }
     ensures tells { TellsOfWriter result out.old out.new }
 {
-    match write_whole(bytes, out) {
-        Ok(()) => Ok(()),
-        Err(_) => Err(SearchFault::Write),
+    told(write_whole(bytes, out))
+}
+
+/// Writes a part behind those before it, unless one of these was not written.
+pub(crate) fn then_write<W: Write>(
+    before: Result<(), WriteFault>,
+    part: &[u8],
+    out: &mut Watched<W>,
+) -> Result<(), WriteFault>
+    requires working { out.old.failed ≡ is_err before }
+    ensures text { (start : Device W) (text : List ℕ) → Writes W.contents start out.old before text → Writes W.contents start out.new result (text ++ part.now) }
+    ensures fault { out.new.failed ≡ is_err result }
+    ensures after { out.new.after ≡ out.old.after }
+{
+    match before {
+        Ok(()) => write_whole(part, out),
+        Err(fault) => Err(fault),
+    }
+}
+
+/// Writes the name of a stream and what follows it: a NUL where it is wanted, and else other bytes.
+fn write_name<W: Write>(
+    form: &Form<'_>,
+    other: &[u8],
+    out: &mut Watched<W>,
+) -> Result<(), WriteFault>
+    requires working { out.old.failed ≡ false }
+    ensures text { Writes W.contents out.old out.new result (form.now.name.now ++ behind_name form.now.null other.now) }
+    ensures fault { out.new.failed ≡ is_err result }
+    ensures after { out.new.after ≡ out.old.after }
+{
+    let written = write_whole(form.name.as_bytes(), out);
+    if form.null {
+        return then_write(written, b"\0", out);
+    }
+    then_write(written, other, out)
+}
+
+/// Writes a number and a line feed behind what was written.
+fn write_number<W: Write>(
+    before: Result<(), WriteFault>,
+    number: u64,
+    out: &mut Watched<W>,
+) -> Result<(), WriteFault>
+    requires working { out.old.failed ≡ is_err before }
+    ensures text { (start : Device W) (front : List ℕ) → Writes W.contents start out.old before front → Writes W.contents start out.new result (front ++ (decimal number ++ line_feed)) }
+    ensures fault { out.new.failed ≡ is_err result }
+    ensures after { out.new.after ≡ out.old.after }
+{
+    let mut digits = Buffer::new();
+    let written = then_write(before, digits.format(number).as_bytes(), out);
+    then_write(written, b"\n", out)
+}
+
+/// Writes a number in a line, with the name of the stream in front where it is wanted.
+fn write_count<W: Write>(
+    form: &Form<'_>,
+    count: u64,
+    out: &mut Watched<W>,
+) -> Result<(), WriteFault>
+    requires working { out.old.failed ≡ false }
+    ensures text { Writes W.contents out.old out.new result (name_front form.now.named form.now.null form.now.name.now ++ (decimal count ++ line_feed)) }
+    ensures fault { out.new.failed ≡ is_err result }
+    ensures after { out.new.after ≡ out.old.after }
+{
+    if !form.named {
+        return write_number(Ok(()), count, out);
+    }
+    let named = write_name(form, b":", out);
+    write_number(named, count, out)
+}
+
+/// Writes what stands behind the rows of a stream of which `count` lines were selected, where `all` were answered or not. No
+/// memory is asked for it.
+///
+/// # Errors
+///
+/// `Write` if it was not written: then a beginning of it was.
+pub(crate) fn write_summary<W: Write>(
+    form: &Form<'_>,
+    count: u64,
+    all: bool,
+    out: &mut Watched<W>,
+) -> Result<(), SearchFault>
+    requires working { out.old.failed ≡ false }
+    ensures text { Writes W.contents out.old out.new result (summary_of form.now.summary form.now count all) }
+    ensures tells { TellsOfWriter result out.old out.new }
+{
+    match form.summary {
+        Summary::Count => told(write_count(form, count, out)),
+        Summary::NameWith if count > 0 => told(write_name(form, b"\n", out)),
+        Summary::NameWithout if count == 0 && all => told(write_name(form, b"\n", out)),
+        _ => Ok(()),
     }
 }
 
@@ -77,13 +182,12 @@ impl Outlet {
         Ok(())
     }
 
-    /// Puts a row behind what is held. What is held is written where both are too much, and a row that is too much by itself is
-    /// written too.
+    /// Puts a row behind what is held. What is held is written where both are too much, or where there is no memory for both, and
+    /// a row that is too much by itself is written too.
     ///
     /// # Errors
     ///
-    /// `Write` if a write failed: then a beginning of what was held and of the row was written. `Memory` if a growth was
-    /// refused.
+    /// `Write` if a write failed: then a beginning of what was held and of the row was written.
     pub(crate) fn put<W: Write>(
         &mut self,
         row: &[u8],
@@ -97,9 +201,10 @@ impl Outlet {
         if row.len() > MOST {
             return write_bytes(row, out);
         }
-        match self.held.extend_from_slice(row) {
-            Ok(()) => Ok(()),
-            Err(_) => Err(SearchFault::Memory),
+        if self.held.extend_from_slice(row).is_ok() {
+            return Ok(());
         }
+        self.write_held(out)?;
+        write_bytes(row, out)
     }
 }

@@ -1,35 +1,68 @@
 //! How far a search has come.
 
-ghost use Rattle.std.specs.Prelude.{◌≡◌, ◌+◌, ◌<◌, ◌^◌, IfErr, OnOk, cond, false, true};
+ghost use Rattle.std.specs.Prelude.{◌≡◌, ◌+◌, ◌<◌, ◌^◌, None, Some, MatchResult, cond, false, true};
 ghost use Rattle.jp_grep.specs.Faults.{is_inner_fault};
+ghost use Rattle.jp_grep.specs.declared.found.Limit.{Limit};
 
 use crate::fault::SearchFault;
+use crate::found::{Found, Limit, Unread};
 
 /// What came of a line.
 #[derive(Clone, Copy, Debug, PartialEq, Eq)]
 pub(crate) struct Verdict {
     pub(crate) selected: bool,
     pub(crate) refused: bool,
+    /// Memory was refused for its answer.
+    pub(crate) given_up: bool,
 }
 
 impl Verdict {
-    /// That of a line that is not refused.
-    pub(crate) fn unrefused(selected: bool) -> Verdict
+    /// That of a line that has a value, or is blank.
+    pub(crate) fn of_value(selected: bool) -> Verdict
         ensures selected { result.selected ≡ selected }
         ensures refused { result.refused ≡ false }
+        ensures given_up { result.given_up ≡ false }
     {
         Verdict {
             selected,
             refused: false,
+            given_up: false,
+        }
+    }
+
+    /// That of a refused line.
+    pub(crate) fn of_refused(selected: bool) -> Verdict
+        ensures selected { result.selected ≡ selected }
+        ensures refused { result.refused ≡ true }
+        ensures given_up { result.given_up ≡ false }
+    {
+        Verdict {
+            selected,
+            refused: true,
+            given_up: false,
+        }
+    }
+
+    /// That of a line for whose answer memory was refused.
+    pub(crate) fn of_given_up() -> Verdict
+        ensures selected { result.selected ≡ false }
+        ensures refused { result.refused ≡ false }
+        ensures given_up { result.given_up ≡ true }
+    {
+        Verdict {
+            selected: false,
+            refused: false,
+            given_up: true,
         }
     }
 }
 
-/// How many lines of a stream were selected, and how many refused.
+/// How many lines of a stream were selected, how many refused, and for the answer of how many memory was refused.
 #[derive(Clone, Copy, Debug, PartialEq, Eq)]
 pub struct Counts {
     pub selected: u64,
     pub refused: u64,
+    pub given_up: u64,
 }
 
 /// How far a search has come.
@@ -46,39 +79,77 @@ impl Progress {
         ensures number { result.number ≡ 1 }
         ensures selected { result.counts.selected ≡ 0 }
         ensures refused { result.counts.refused ≡ 0 }
+        ensures given_up { result.counts.given_up ≡ 0 }
     {
         Progress {
             number: 1,
             counts: Counts {
                 selected: 0,
                 refused: 0,
+                given_up: 0,
             },
         }
     }
 
+    /// Whether some more lines have numbers of 64 bits, and the line behind them has one too.
+    pub(crate) fn has_numbers(&self, count: usize) -> bool
+        ensures { result ≡ true → self.now.number + count < 2 ^ 64 }
+    {
+        self.number.checked_add(count as u64).is_some()
+    }
+
     /// Goes behind a line of which that came.
-    ///
-    /// # Errors
-    ///
-    /// `Size` if no number of 64 bits is that of the next line.
-    pub(crate) fn pass(&mut self, verdict: Verdict) -> Result<(), SearchFault>
+    pub(crate) fn pass(&mut self, verdict: Verdict)
+        requires number { self.old.number + 1 < 2 ^ 64 }
         requires selected { self.old.counts.selected < self.old.number }
         requires refused { self.old.counts.refused < self.old.number }
-        ensures number { OnOk result (self.new.number ≡ self.old.number + 1) }
-        ensures selected { OnOk result (self.new.counts.selected ≡ self.old.counts.selected + cond verdict.selected 1 0) }
-        ensures refused { OnOk result (self.new.counts.refused ≡ self.old.counts.refused + cond verdict.refused 1 0) }
-        ensures fault { IfErr result (λ fault. is_inner_fault fault ≡ true) }
+        requires given_up { self.old.counts.given_up < self.old.number }
+        ensures number { self.new.number ≡ self.old.number + 1 }
+        ensures selected { self.new.counts.selected ≡ self.old.counts.selected + cond verdict.selected 1 0 }
+        ensures refused { self.new.counts.refused ≡ self.old.counts.refused + cond verdict.refused 1 0 }
+        ensures given_up { self.new.counts.given_up ≡ self.old.counts.given_up + cond verdict.given_up 1 0 }
     {
-        match self.number.checked_add(1) {
-            Some(number) => self.number = number,
-            None => return Err(SearchFault::Size),
-        }
+        self.number += 1;
         if verdict.selected {
             self.counts.selected += 1;
         }
         if verdict.refused {
             self.counts.refused += 1;
         }
-        Ok(())
+        if verdict.given_up {
+            self.counts.given_up += 1;
+        }
+    }
+
+    /// What was found so far, where all lines were answered.
+    pub(crate) fn found(&self) -> Found
+        ensures counts { result.counts ≡ self.now.counts }
+        ensures unread { result.unread ≡ None }
+    {
+        Found {
+            counts: self.counts,
+            unread: None,
+        }
+    }
+
+    /// What was found so far, where a size or a growth is why the rest is passed over. Any other fault is answered.
+    pub(crate) fn stop(&self, fault: SearchFault) -> Result<Found, SearchFault>
+        ensures { MatchResult result
+            (λ found. (is_inner_fault fault ≡ true) × (found.counts ≡ self.now.counts)
+            × ((limit : Limit) × (found.unread ≡ Some (record { limit = limit; line = self.now.number }))))
+            (λ told. (told ≡ fault) × (is_inner_fault fault ≡ false)) }
+    {
+        let limit = match fault {
+            SearchFault::Size => Limit::Size,
+            SearchFault::Memory => Limit::Memory,
+            other => return Err(other),
+        };
+        Ok(Found {
+            counts: self.counts,
+            unread: Some(Unread {
+                limit,
+                line: self.number,
+            }),
+        })
     }
 }

@@ -8,10 +8,15 @@ ghost use Rattle.jp_eval.specs.Compiled.{program_view};
 ghost use Rattle.jp_eval.specs.Found.{found_in};
 ghost use Rattle.jp_children.specs.Found.{AreOf};
 ghost use Rattle.jp_lines.specs.Views.{text_of_view, tree_of_view};
-ghost use Rattle.jp_grep.specs.Matching.{all_hold, conditions_of, has_nodes, matches, queries_of, selected_by, selects, wants_found, wants_refused, wants_value};
+ghost use Rattle.jp_syntax.specs.SingularPaths.{path_steps};
+ghost use Rattle.jp_grep.specs.Conditions.{expression, membership};
+ghost use Rattle.jp_grep.specs.Matching.{all_hold, conditions_of, has_nodes, let_match, matches, queries_of, selected_by, selects, wants_found, wants_refused, wants_value};
 
+use crate::condition::Condition;
 use jp_eval::{Frame, Predicate, Program};
 use jp_lines::LineView;
+use jp_listed::Listed;
+use jp_syntax::SingularPath;
 use jp_types::{Checked, CheckedCondition};
 use std::alloc::{AllocError, Global};
 
@@ -38,8 +43,8 @@ impl Wanted {
         }
     }
 
-    /// Whether a value is wanted of which the nodes were asked for, by whether there is one.
-    pub(crate) fn wants_found(self, some: bool) -> bool
+    /// Whether a value is wanted of which the nodes were asked for, by whether they let it match.
+    fn wants_found(self, some: bool) -> bool
         ensures { result ≡ wants_found self some }
     {
         match self {
@@ -60,11 +65,34 @@ impl Wanted {
     }
 }
 
-/// What a line is asked: it matches where each condition holds of its value, and some query selects a node of it.
+/// What the queries of a question are for.
+#[derive(Clone, Copy, Debug, PartialEq, Eq)]
+pub enum Queries {
+    /// They filter: a line matches only where one of them selects a node of it.
+    Filter,
+    /// They are columns: a line matches whether or not they select a node.
+    Columns,
+}
+
+impl Queries {
+    /// Whether they let a line match, by whether one of them selects a node of it.
+    pub(crate) fn let_match(self, some: bool) -> bool
+        ensures { result ≡ let_match self some }
+    {
+        match self {
+            Queries::Filter => some,
+            Queries::Columns => true,
+        }
+    }
+}
+
+/// What a line is asked: it matches where each condition holds of its value, and some query selects a node of it or the queries
+/// are columns.
 #[derive(Drop)]
 pub struct Question {
+    pub(crate) purpose: Queries,
     pub(crate) queries: Vec<Program>,
-    pub(crate) conditions: Vec<Predicate>,
+    pub(crate) conditions: Vec<Condition>,
     pub(crate) wanted: Wanted,
 }
 
@@ -97,12 +125,14 @@ fn has_node<'a>(
 
 impl Question {
     /// With no query and no condition yet.
-    pub fn new(alloc: Global, wanted: Wanted) -> Question
+    pub fn new(alloc: Global, wanted: Wanted, purpose: Queries) -> Question
         ensures queries { queries_of result ≡ [] }
         ensures conditions { conditions_of result ≡ [] }
         ensures wanted { result.wanted ≡ wanted }
+        ensures purpose { result.purpose ≡ purpose }
     {
         Question {
+            purpose,
             queries: Vec::new(alloc),
             conditions: Vec::new(alloc),
             wanted,
@@ -117,6 +147,7 @@ impl Question {
         ensures refused { OnErr result (queries_of self.new ≡ queries_of self.old) }
         ensures conditions { conditions_of self.new ≡ conditions_of self.old }
         ensures wanted { self.new.wanted ≡ self.old.wanted }
+        ensures purpose { self.new.purpose ≡ self.old.purpose }
     {
         let program = Program::compile(alloc, query.segments())?;
         self.queries.push(program)?;
@@ -131,13 +162,38 @@ impl Question {
         alloc: Global,
         condition: &CheckedCondition,
     ) -> Result<(), AllocError>
-        ensures added { OnOk result (conditions_of self.new ≡ conditions_of self.old ++ checked_condition_view condition.now ∷ []) }
+        ensures added { OnOk result (conditions_of self.new ≡ conditions_of self.old ++ expression (checked_condition_view condition.now) ∷ []) }
         ensures refused { OnErr result (conditions_of self.new ≡ conditions_of self.old) }
         ensures queries { queries_of self.new ≡ queries_of self.old }
         ensures wanted { self.new.wanted ≡ self.old.wanted }
+        ensures purpose { self.new.purpose ≡ self.old.purpose }
     {
         let predicate = Predicate::compile(alloc, condition.expression())?;
-        self.conditions.push(predicate)?;
+        self.conditions.push(Condition::Expression(predicate))?;
+        Ok(())
+    }
+
+    /// Adds behind the others the condition that the value of a singular query is one of a list, or, where that is not wanted,
+    /// is none of it. A query that selects nothing has no value, which is in no list.
+    ///
+    /// If memory is refused, the answer is `AllocError`, and the question is as before.
+    pub fn add_list(
+        &mut self,
+        query: SingularPath,
+        listed: Listed,
+        wanted: bool,
+    ) -> Result<(), AllocError>
+        ensures added { OnOk result (conditions_of self.new ≡ conditions_of self.old ++ membership (path_steps query) listed wanted ∷ []) }
+        ensures refused { OnErr result (conditions_of self.new ≡ conditions_of self.old) }
+        ensures queries { queries_of self.new ≡ queries_of self.old }
+        ensures wanted { self.new.wanted ≡ self.old.wanted }
+        ensures purpose { self.new.purpose ≡ self.old.purpose }
+    {
+        self.conditions.push(Condition::Membership {
+            query,
+            listed,
+            wanted,
+        })?;
         Ok(())
     }
 
@@ -151,7 +207,7 @@ impl Question {
         ensures { IfOk result (λ answer. answer ≡ all_hold (conditions_of self.now) (tree_of_view line.entry)) }
     {
         for condition in &self.conditions {
-            if !condition.holds_in(alloc, line.root(), line.root(), frame)? {
+            if !condition.holds(alloc, line, frame)? {
                 return Ok(false);
             }
         }
@@ -175,6 +231,13 @@ impl Question {
         Ok(false)
     }
 
+    /// Whether a value is wanted of which the nodes were asked for, by whether there is one.
+    pub(crate) fn wants_found(&self, some: bool) -> bool
+        ensures { result ≡ wants_found self.now.wanted (let_match self.now.purpose some) }
+    {
+        self.wanted.wants_found(self.purpose.let_match(some))
+    }
+
     /// Whether the value of a line matches.
     pub(crate) fn matches<'a>(
         &self,
@@ -184,6 +247,12 @@ impl Question {
     ) -> Result<bool, AllocError>
         ensures { IfOk result (λ answer. answer ≡ matches self.now (tree_of_view line.entry)) }
     {
-        Ok(self.all_hold(alloc, line, frame)? && self.selects(alloc, line, frame)?)
+        if !self.all_hold(alloc, line, frame)? {
+            return Ok(false);
+        }
+        match self.purpose {
+            Queries::Filter => self.selects(alloc, line, frame),
+            Queries::Columns => Ok(true),
+        }
     }
 }

@@ -1,8 +1,8 @@
 //! What lines lend to each other.
 
 use crate::spelling::Speller;
-use crate::table::TableRow;
 use jp_eval::Frame;
+use jp_table::TableRow;
 use std::alloc::Global;
 
 /// The nodes that are found, what spells values, the row that is made, and where it is one of a table its cells.
@@ -12,7 +12,7 @@ pub(crate) struct Room<'r> {
     pub(crate) speller: Speller,
     pub(crate) row: Vec<u8>,
     pub(crate) cells: TableRow,
-    /// The cell that is made.
+    /// A cell that is made, where it does not stand in the line.
     pub(crate) cell: Vec<u8>,
 }
 

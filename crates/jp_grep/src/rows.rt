@@ -1,17 +1,17 @@
-//! Rows, messages on refused lines, and what stands behind the rows, as text.
+//! Rows as text.
 //!
 //! If memory is refused, what was added to the text is to be forgotten.
 
-ghost use Rattle.std.specs.Prelude.{◌≡◌, ◌++◌, OnOk, decimal};
+ghost use Rattle.std.specs.Prelude.{◌≡◌, ◌∷◌, ◌++◌, [], OnOk};
 ghost use Rattle.jp_model.specs.Rows.{line_feed, row_start};
 ghost use Rattle.jp_nodes.specs.Cursors.{line_of, node_of};
 ghost use Rattle.jp_grep.specs.Spelled.{spelled};
 ghost use Rattle.jp_grep.specs.Items.{framing_by};
-ghost use Rattle.jp_grep.specs.Rows.{fault_front, from_line_text, front, name_front, number_front, path_front, refusal, row, summary_of};
+ghost use Rattle.jp_grep.specs.Rows.{behind_name, fault_front, front, name_front, number_front, path_front, row};
 
 use crate::spelling::Speller;
 use itoa::Buffer;
-use jp_form::{Form, Summary, Units};
+use jp_form::{Form, Units};
 use jp_model::{Framing, LineFault};
 use jp_nodes::Cursor;
 use jp_rows::push_path;
@@ -27,15 +27,22 @@ fn add_row_start(units: Units, text: &mut Vec<u8>) -> Result<(), AllocError>
     }
 }
 
-/// Adds a name and a colon, where it is wanted.
-fn add_name(named: bool, name: &str, text: &mut Vec<u8>) -> Result<(), AllocError>
-    ensures { OnOk result (text.new.items ≡ text.old.items ++ name_front named name.now) }
+/// Adds a name and what follows it: a NUL where it is wanted, and else another byte.
+fn add_ended_name(null: bool, name: &str, other: u8, text: &mut Vec<u8>) -> Result<(), AllocError>
+    ensures { OnOk result (text.new.items ≡ text.old.items ++ (name.now ++ behind_name null (other ∷ []))) }
+{
+    text.extend_from_slice(name.as_bytes())?;
+    Ok(text.push(if null { b'\0' } else { other })?)
+}
+
+/// Adds a name and a colon or a NUL, where it is wanted.
+fn add_name(named: bool, null: bool, name: &str, text: &mut Vec<u8>) -> Result<(), AllocError>
+    ensures { OnOk result (text.new.items ≡ text.old.items ++ name_front named null name.now) }
 {
     if !named {
         return Ok(());
     }
-    text.extend_from_slice(name.as_bytes())?;
-    text.extend_from_slice(b":")
+    add_ended_name(null, name, b':', text)
 }
 
 /// Adds the number of a line and a colon, where it is wanted.
@@ -55,7 +62,7 @@ pub(crate) fn add_front(form: &Form<'_>, number: u64, text: &mut Vec<u8>) -> Res
     ensures { OnOk result (text.new.items ≡ text.old.items ++ front form.now number) }
 {
     add_row_start(form.units, text)?;
-    add_name(form.named, form.name, text)?;
+    add_name(form.named, form.null, form.name, text)?;
     add_number(form.numbered, number, text)
 }
 
@@ -120,60 +127,4 @@ pub(crate) fn add_refused(
     add_front(form, number, text)?;
     add_fault_front(faults, fault, text)?;
     add_ended(line, text)
-}
-
-/// Adds the number of the line of the stream in which a text or an element begins, where it is told.
-fn add_from_line(from_line: Option<u64>, text: &mut Vec<u8>) -> Result<(), AllocError>
-    ensures { OnOk result (text.new.items ≡ text.old.items ++ from_line_text from_line) }
-{
-    let Some(line) = from_line else {
-        return Ok(());
-    };
-    let mut digits = Buffer::new();
-    text.extend_from_slice(b", from line ")?;
-    text.extend_from_slice(digits.format(line).as_bytes())
-}
-
-/// Adds the message on a refused line, where messages are wanted: the program's name, that of the stream, the number of the
-/// line, from 1, the word of its fault, and where it is told the number of the line in which it begins.
-pub(crate) fn add_refusal(
-    form: &Form<'_>,
-    number: u64,
-    fault: LineFault,
-    from_line: Option<u64>,
-    text: &mut Vec<u8>,
-) -> Result<(), AllocError>
-    ensures { OnOk result (text.new.items ≡ text.old.items ++ refusal form.now.silent form.now.name.now number fault from_line) }
-{
-    if form.silent {
-        return Ok(());
-    }
-    text.extend_from_slice(b"jpgrep: ")?;
-    add_name(true, form.name, text)?;
-    add_number(true, number, text)?;
-    text.extend_from_slice(b" ")?;
-    text.extend_from_slice(fault.word().as_bytes())?;
-    add_from_line(from_line, text)?;
-    text.extend_from_slice(b"\n")
-}
-
-/// Adds the number of selected lines, with the name in front where it is wanted.
-fn add_count(form: &Form<'_>, count: u64, text: &mut Vec<u8>) -> Result<(), AllocError>
-    ensures { OnOk result (text.new.items ≡ text.old.items ++ (name_front form.now.named form.now.name.now ++ (decimal count ++ line_feed))) }
-{
-    let mut digits = Buffer::new();
-    add_name(form.named, form.name, text)?;
-    add_ended(digits.format(count).as_bytes(), text)
-}
-
-/// Adds what stands behind the rows of a stream of which `count` lines were selected.
-pub(crate) fn add_summary(form: &Form<'_>, count: u64, text: &mut Vec<u8>) -> Result<(), AllocError>
-    ensures { OnOk result (text.new.items ≡ text.old.items ++ summary_of form.now.summary form.now count) }
-{
-    match form.summary {
-        Summary::Count => add_count(form, count, text),
-        Summary::NameWith if count > 0 => add_ended(form.name.as_bytes(), text),
-        Summary::NameWithout if count == 0 => add_ended(form.name.as_bytes(), text),
-        _ => Ok(()),
-    }
 }

@@ -1,18 +1,20 @@
 //! A run: the files in turn, and the two writers, each behind a buffer that is written out at the end.
 
-ghost use Rattle.std.specs.Prelude.{◌≡◌, ◌&&◌, ◌||◌, false, true, not, is_err, map, IfOk, MatchResult};
+ghost use Rattle.std.specs.Prelude.{◌≡◌, ◌&&◌, ◌||◌, false, true, not, is_err, map, IfOk, List, MatchResult};
 ghost use Rattle.jp_devices.specs.Devices.{Came, GaveUpTo, Writes};
 ghost use Rattle.jp_devices.specs.Buffered.{Took, filled, untold};
 ghost use Rattle.jp_grep.specs.Ends.{NotesSearch, status_of};
 ghost use Rattle.jp_grep.specs.Inputs.{ReadOn};
+ghost use Rattle.jp_grep.specs.Items.{Item};
+ghost use Rattle.jp_grep.specs.Outcomes.{CameOfStream};
 ghost use Rattle.jp_grep.specs.Faults.{IsToldOf, is_input_fault, is_read_fault, is_report_fault, is_write_fault};
 ghost use Rattle.jp_grep.specs.Tables.{header_text};
 ghost use Rattle.jp_grep.specs.Watching.{SearchStopped, Searched};
 
 use crate::fault::SearchFault;
+use crate::found::Found;
 use crate::header::write_header;
 use crate::input::Input;
-use crate::progress::Counts;
 use crate::question::Question;
 use crate::searching::search;
 use jp_devices::{flush_written, write_out};
@@ -112,21 +114,21 @@ impl<'q, W: Write + Drop, E: Write + Drop> Run<'q, W, E> {
         self.quiet && self.selected
     }
 
-    /// Writes what stands above the rows of all files, where they are those of a table: the queries as they were given.
+    /// Writes what stands above the rows of all files, where they are those of a table: the names of the columns.
     ///
     /// # Errors
     ///
     /// `Write` if it was not written: then a beginning of it was. `Memory` if a growth was refused: then nothing was.
-    pub fn write_header(&mut self, form: &Form<'_>, queries: &[&str]) -> Result<(), SearchFault>
+    pub fn write_header(&mut self, form: &Form<'_>, names: &[&str]) -> Result<(), SearchFault>
         requires writes { self.old.rows.failed ≡ false }
-        ensures header { Writes untold (filled self.old.rows.device) (filled self.new.rows.device) result (header_text form.now.shown form.now (map (λ query. query.now) queries.now)) }
+        ensures header { Writes untold (filled self.old.rows.device) (filled self.new.rows.device) result (header_text form.now.shown form.now (map (λ name. name.now) names.now)) }
         ensures write_fault { IsToldOf is_write_fault result self.new.rows.failed }
         ensures report_fault { IsToldOf is_report_fault result false }
         ensures inner { IsToldOf is_input_fault result false }
         ensures noted { (self.new.selected ≡ self.old.selected) × (self.new.failed ≡ (self.old.failed || is_err result)) }
         ensures same { (self.new.messages ≡ self.old.messages) × (self.new.question ≡ self.old.question) × (self.new.quiet ≡ self.old.quiet) }
     {
-        let written = write_header(self.alloc, form, queries, &mut self.rows);
+        let written = write_header(self.alloc, form, names, &mut self.rows);
         self.failed |= written.is_err();
         written
     }
@@ -141,16 +143,17 @@ impl<'q, W: Write + Drop, E: Write + Drop> Run<'q, W, E> {
         &mut self,
         form: &Form<'_>,
         input: &mut Input<R>,
-    ) -> Result<Counts, SearchFault>
+    ) -> Result<Found, SearchFault>
         requires reads { input.old.reader.failed ≡ false }
         requires unended { input.old.reader.ended ≡ false }
         requires writes { self.old.rows.failed ≡ false }
         requires reports { self.old.messages.failed ≡ false }
-        ensures output { (came : Came) × GaveUpTo R.remaining input.old.reader input.new.reader came × ReadOn self.old.question.now form.now input.old input.new came.bytes × MatchResult result
-            (λ counts. Searched untold untold self.old.question.now form.now (filled self.old.rows.device) (filled self.new.rows.device)
-            (filled self.old.messages.device) (filled self.new.messages.device) came counts)
+        ensures output { (came : Came) × (outcomes : List Item) × GaveUpTo R.remaining input.old.reader input.new.reader came
+            × CameOfStream form.now came outcomes × ReadOn self.old.question.now form.now input.old input.new came.bytes outcomes × MatchResult result
+            (λ found. Searched untold untold self.old.question.now form.now (filled self.old.rows.device) (filled self.new.rows.device)
+            (filled self.old.messages.device) (filled self.new.messages.device) came outcomes found)
             (λ fault. SearchStopped untold untold self.old.question.now form.now (filled self.old.rows.device) (filled self.new.rows.device)
-            (filled self.old.messages.device) (filled self.new.messages.device) fault came) }
+            (filled self.old.messages.device) (filled self.new.messages.device) fault came outcomes) }
         ensures read_fault { IsToldOf is_read_fault result (input.new.reader.failed && not self.new.messages.failed) }
         ensures write_fault { IsToldOf is_write_fault result self.new.rows.failed }
         ensures report_fault { IsToldOf is_report_fault result self.new.messages.failed }
@@ -170,9 +173,9 @@ impl<'q, W: Write + Drop, E: Write + Drop> Run<'q, W, E> {
             &mut self.messages,
         );
         match found {
-            Ok(counts) => {
-                self.selected |= counts.selected > 0;
-                self.failed |= !form.silent && counts.refused > 0;
+            Ok(found) => {
+                self.selected |= found.counts.selected > 0;
+                self.failed |= (!form.silent && found.counts.refused > 0) || !found.is_whole();
             }
             Err(_) => self.failed = true,
         }

@@ -1,11 +1,11 @@
 //! A search: the lines, texts or elements of a stream, each answered as it comes.
 
-ghost use Rattle.std.specs.Prelude.{◌≡◌, ◌&&◌, ◌||◌, not, [], false, IfErr, MatchResult, OnOk, true};
-ghost use Rattle.jp_devices.specs.Devices.{Came, GaveUpTo, Received, Writes};
-ghost use Rattle.jp_grep.specs.Faults.{IsToldOf, is_input_fault, is_read_fault, is_report_fault, is_write_fault};
-ghost use Rattle.jp_grep.specs.Holding.{TellsOfWriter};
+ghost use Rattle.std.specs.Prelude.{◌≡◌, ◌&&◌, ◌||◌, not, [], List, false, IfErr, MatchResult, OnOk, true};
+ghost use Rattle.jp_devices.specs.Devices.{Came, GaveUpTo, Received};
+ghost use Rattle.jp_grep.specs.Faults.{IsToldOf, is_read_fault, is_report_fault, is_write_fault, is_writer_fault};
 ghost use Rattle.jp_grep.specs.Inputs.{ReadOn};
-ghost use Rattle.jp_grep.specs.Rows.{summary_of};
+ghost use Rattle.jp_grep.specs.Items.{Item};
+ghost use Rattle.jp_grep.specs.Outcomes.{CameOfStream};
 ghost use Rattle.jp_grep.specs.Searching.{Advances, Ends, IsUnderWay};
 ghost use Rattle.jp_grep.specs.Stands.{HasStood};
 ghost use Rattle.jp_grep.specs.Watching.{SearchStopped, Searched, SearchedLines};
@@ -13,11 +13,10 @@ ghost use Rattle.jp_grep.specs.Watching.{SearchStopped, Searched, SearchedLines}
 use crate::answer::Answerer;
 use crate::answering::Answering;
 use crate::fault::SearchFault;
+use crate::found::Found;
 use crate::input::Input;
-use crate::outlet::write_bytes;
-use crate::progress::Counts;
+use crate::outlet::write_summary;
 use crate::question::Question;
-use crate::rows::add_summary;
 use crate::source::Source;
 use crate::told::tell_more;
 use jp_devices::flush_written;
@@ -41,7 +40,7 @@ fn flush_all<W: Write, E: Write>(
     ensures flushed { OnOk result ((out.new.unflushed ≡ false) × (messages.new.unflushed ≡ false)) }
     ensures write_fault { IsToldOf is_write_fault result out.new.failed }
     ensures report_fault { IsToldOf is_report_fault result messages.new.failed }
-    ensures others { IsToldOf is_input_fault result false }
+    ensures fault { IfErr result (λ fault. is_writer_fault fault ≡ true) }
     ensures after { out.new.after ≡ out.old.after }
     ensures messages_after { messages.new.after ≡ messages.old.after }
 {
@@ -118,20 +117,22 @@ impl Searcher {
     }
 }
 
-/// Answers the lines of a stream, piece by piece, up to its end or to the last line that is wanted.
+/// Answers the lines of a stream, piece by piece, up to its end, to the last line that is wanted, or to the first one that there is
+/// no memory or no number for.
 fn search_lines<R: Read, W: Write, E: Write>(
     answerer: Answerer<'_>,
     input: &mut Input<R>,
     out: &mut Watched<W>,
     messages: &mut Watched<E>,
-) -> Result<Counts, SearchFault>
+) -> Result<Found, SearchFault>
     requires reads { input.old.reader.failed ≡ false }
     requires unended { input.old.reader.ended ≡ false }
     requires writes { out.old.failed ≡ false }
     requires reports { messages.old.failed ≡ false }
-    ensures output { (came : Came) × GaveUpTo R.remaining input.old.reader input.new.reader came × ReadOn answerer.entry.question.now answerer.entry.form.now input.old input.new came.bytes × MatchResult result
-        (λ counts. SearchedLines W.contents E.contents answerer.entry.question.now answerer.entry.form.now out.old out.new messages.old messages.new came counts)
-        (λ fault. SearchStopped W.contents E.contents answerer.entry.question.now answerer.entry.form.now out.old out.new messages.old messages.new fault came) }
+    ensures output { (came : Came) × (outcomes : List Item) × GaveUpTo R.remaining input.old.reader input.new.reader came
+        × CameOfStream answerer.entry.form.now came outcomes × ReadOn answerer.entry.question.now answerer.entry.form.now input.old input.new came.bytes outcomes × MatchResult result
+        (λ found. SearchedLines W.contents E.contents answerer.entry.question.now answerer.entry.form.now out.old out.new messages.old messages.new came outcomes found)
+        (λ fault. SearchStopped W.contents E.contents answerer.entry.question.now answerer.entry.form.now out.old out.new messages.old messages.new fault came outcomes) }
     ensures read_fault { IsToldOf is_read_fault result (input.new.reader.failed && not messages.new.failed) }
     ensures write_fault { IsToldOf is_write_fault result out.new.failed }
     ensures report_fault { IsToldOf is_report_fault result messages.new.failed }
@@ -148,7 +149,7 @@ fn search_lines<R: Read, W: Write, E: Write>(
     for _read in 0..u64::MAX {
         let counts = searcher.answering.progress.counts;
         if counts.selected == answerer.form.most {
-            return Ok(counts);
+            return Ok(searcher.answering.progress.found());
         }
         flush_all(out, messages)?;
         let Ok(count) = input.read_after(out, &mut buffer) else {
@@ -156,34 +157,25 @@ fn search_lines<R: Read, W: Write, E: Write>(
             return Err(SearchFault::Read);
         };
         if count == 0 {
-            searcher.answer_rest(answerer, out, messages)?;
-            return Ok(searcher.answering.progress.counts);
+            if let Err(fault) = searcher.answer_rest(answerer, out, messages) {
+                return searcher.answering.progress.stop(fault);
+            }
+            return Ok(searcher.answering.progress.found());
         }
-        searcher.answer_read(answerer, &buffer[..count], out, messages)?;
+        if let Err(fault) = searcher.answer_read(answerer, &buffer[..count], out, messages) {
+            return searcher.answering.progress.stop(fault);
+        }
     }
-    Err(SearchFault::Size)
-}
-
-/// Writes what stands behind the rows of a stream of which `count` lines were selected.
-fn write_summary<W: Write>(
-    answerer: Answerer<'_>,
-    count: u64,
-    out: &mut Watched<W>,
-) -> Result<(), SearchFault>
-    requires working { out.old.failed ≡ false }
-    ensures text { Writes W.contents out.old out.new result (summary_of answerer.entry.form.now.summary answerer.entry.form.now count) }
-    ensures tells { TellsOfWriter result out.old out.new }
-{
-    let mut text = Vec::new(answerer.alloc);
-    if add_summary(answerer.form, count, &mut text).is_err() {
-        return Err(SearchFault::Memory);
-    }
-    write_bytes(&text, out)
+    searcher.answering.progress.stop(SearchFault::Size)
 }
 
 /// Searches a stream: reads it piece by piece, and answers each line as it comes. A row is written for each selected line, and
 /// a message for each of the first ten refused ones; behind these how many more there are, and behind the rows what the form
 /// asks for. A byte order mark at the front is dropped.
+///
+/// A line for whose answer memory is refused is given up: a message tells so behind the first of its rows, and the next line is
+/// answered. Where there is no memory for the lines that came, or one is longer than 4,294,967,294 bytes, the rest of the stream
+/// is passed over, from the first line on that is not answered: `Found::unread` tells it.
 ///
 /// Before each read both writers are flushed where they took bytes since, and each line that ended is answered. No read follows
 /// one that answered 0, one that failed, the last line that is wanted, or bytes that refuse the stream as a whole, and no write
@@ -193,8 +185,8 @@ fn write_summary<W: Write>(
 ///
 /// `Read` if a read failed: each line that ended before is answered, and told is how many more are refused. `Foreign` if the
 /// stream begins with the mark of another format, and `Framing` if bytes other than white space come before the first separator
-/// of a sequence: nothing is written then. `Size` if a line is longer than 4,294,967,294 bytes, `Memory` if a growth was
-/// refused, `Write` and `Report` if a row or a message was not written: then a beginning of the answer was.
+/// of a sequence: nothing is written then. `Write` and `Report` if a row or a message was not written: then a beginning of the
+/// answer was.
 pub fn search<R: Read, W: Write, E: Write>(
     alloc: Global,
     question: &Question,
@@ -202,16 +194,18 @@ pub fn search<R: Read, W: Write, E: Write>(
     input: &mut Input<R>,
     out: &mut Watched<W>,
     messages: &mut Watched<E>,
-) -> Result<Counts, SearchFault>
+) -> Result<Found, SearchFault>
     requires reads { input.old.reader.failed ≡ false }
     requires unended { input.old.reader.ended ≡ false }
     requires writes { out.old.failed ≡ false }
     requires reports { messages.old.failed ≡ false }
-    // The reader gave some bytes, and no read followed where no more were wanted. At Ok all lines up to the last one that is
-    // wanted are answered; else what `SearchStopped` says.
-    ensures output { (came : Came) × GaveUpTo R.remaining input.old.reader input.new.reader came × ReadOn question.now form.now input.old input.new came.bytes × MatchResult result
-        (λ counts. Searched W.contents E.contents question.now form.now out.old out.new messages.old messages.new came counts)
-        (λ fault. SearchStopped W.contents E.contents question.now form.now out.old out.new messages.old messages.new fault came) }
+    // The reader gave some bytes, the first of their lines were answered or given up, and no read followed where no more were
+    // wanted. At Ok these are all lines up to the last one that is wanted, or those in front of the one that `unread` tells; else
+    // what `SearchStopped` says.
+    ensures output { (came : Came) × (outcomes : List Item) × GaveUpTo R.remaining input.old.reader input.new.reader came
+        × CameOfStream form.now came outcomes × ReadOn question.now form.now input.old input.new came.bytes outcomes × MatchResult result
+        (λ found. Searched W.contents E.contents question.now form.now out.old out.new messages.old messages.new came outcomes found)
+        (λ fault. SearchStopped W.contents E.contents question.now form.now out.old out.new messages.old messages.new fault came outcomes) }
     // Each device's fault is answered exactly where that device failed, and that of a message in place of that of a read.
     ensures read_fault { IsToldOf is_read_fault result (input.new.reader.failed && not messages.new.failed) }
     ensures write_fault { IsToldOf is_write_fault result out.new.failed }
@@ -228,8 +222,8 @@ pub fn search<R: Read, W: Write, E: Write>(
         question,
         form,
     };
-    let counts = search_lines(answerer, input, out, messages)?;
-    tell_more(form, counts.refused, messages)?;
-    write_summary(answerer, counts.selected, out)?;
-    Ok(counts)
+    let found = search_lines(answerer, input, out, messages)?;
+    tell_more(form, found.counts.refused, messages)?;
+    write_summary(form, found.counts.selected, found.is_whole(), out)?;
+    Ok(found)
 }

@@ -1,16 +1,17 @@
 //! Values as they are printed.
 
-ghost use Rattle.std.specs.Prelude.{◌≡◌, ◌++◌, OnOk, encode_utf8_all, filter, not};
+ghost use Rattle.std.specs.Prelude.{◌≡◌, ◌++◌, IfOk, OnOk, encode_utf8_all, filter, not};
 ghost use Rattle.jp_strings.specs.Points.{IsText, points_of};
 ghost use Rattle.jp_model.specs.Rows.{source};
 ghost use Rattle.jp_nodes.specs.Cursors.{line_of, node_of};
-ghost use Rattle.jp_grep.specs.Spelled.{cell_of, is_line_break, plain_or, printed, spelled};
+ghost use Rattle.jp_grep.specs.Spelled.{cell_kind, cell_text_of, is_line_break, plain_or, printed, spelled};
 
 use jp_canon::Printer;
-use jp_form::{Spelling, Units};
+use jp_form::{Spelling, Table, Units};
 use jp_model::Framing;
 use jp_nodes::{Cursor, Kind};
 use jp_strings::{Scalars, plain_text};
+use jp_table::CellKind;
 use memchr::memchr2;
 use std::alloc::{AllocError, Global};
 
@@ -27,6 +28,19 @@ fn append_body(body: &[u8], text: &mut Vec<u8>) -> Result<(), AllocError>
         text.extend_from_slice(scalar.encode_utf8(&mut [0; 4]).as_bytes())?;
     }
     Ok(())
+}
+
+/// The characters that the body of a string spells. They stand in the body, or where it has an escape are made in the room.
+fn body_text<'a: 'b, 'b>(body: &'a [u8], room: &'b mut Vec<u8>) -> Result<&'b [u8], AllocError>
+    requires { IsText body.now }
+    ensures { IfOk result (λ text. text.now ≡ encode_utf8_all (points_of body.entry.now)) }
+{
+    if let Some(plain) = plain_text(body) {
+        return Ok(plain.as_bytes());
+    }
+    room.clear();
+    append_body(body, room)?;
+    Ok(room)
 }
 
 /// Appends bytes without line feeds and carriage returns.
@@ -65,6 +79,17 @@ fn append_plain(units: Units, node: Cursor<'_>, text: &mut Vec<u8>) -> Result<()
     }
 }
 
+/// What a cell with a value of a kind has.
+pub(crate) fn cell_kind(kind: Kind) -> CellKind
+    ensures { result ≡ cell_kind kind }
+{
+    match kind {
+        Kind::Null | Kind::False | Kind::True | Kind::Number => CellKind::Bare,
+        Kind::Text => CellKind::Text,
+        Kind::Array | Kind::Object => CellKind::Structure,
+    }
+}
+
 /// What spells values. It lends its room from one to the next. If memory is refused, what was appended is to be forgotten.
 #[derive(Drop)]
 pub(crate) struct Speller {
@@ -96,17 +121,24 @@ impl Speller {
         }
     }
 
-    /// Appends a value as a cell has it: an array or an object in canonical form.
-    pub(crate) fn append_cell(
+    /// The bytes of a value as the cells of a table spell it: an array or an object in canonical form, and in a table of
+    /// canonical cells any value. They stand in the line, or are made in the room.
+    pub(crate) fn cell_text<'a: 'b, 'b>(
         &mut self,
-        node: Cursor<'_>,
-        text: &mut Vec<u8>,
-    ) -> Result<(), AllocError>
-        ensures { OnOk result (text.new.items ≡ text.old.items ++ cell_of (line_of node.entry) (node_of node.entry).tree) }
+        table: Table,
+        node: Cursor<'a>,
+        room: &'b mut Vec<u8>,
+    ) -> Result<&'b [u8], AllocError>
+        ensures { IfOk result (λ cell. cell.now ≡ cell_text_of table (line_of node.entry) (node_of node.entry).tree) }
     {
-        match node.kind() {
-            Kind::Array | Kind::Object => self.printer.append(node, text),
-            _ => append_plain(Units::Lines(Framing::Lines), node, text),
+        match (table, node.kind()) {
+            (Table::Canonical, _) | (_, Kind::Array | Kind::Object) => {
+                room.clear();
+                self.printer.append(node, room)?;
+                Ok(room)
+            }
+            (_, Kind::Text) => body_text(node.text().unwrap(), room),
+            _ => Ok(node.source()),
         }
     }
 }

@@ -44,8 +44,6 @@ fn may_be_framed(framing: Framing, bytes: &[u8]) -> bool
 pub(crate) struct Stream {
     pub(crate) framing: Framing,
     pub(crate) held: Vec<u8>,
-    /// Lends its room.
-    spare: Vec<u8>,
     /// Whether no line was answered yet, so that the front of the stream is held.
     pub(crate) is_first: bool,
 }
@@ -60,7 +58,6 @@ impl Stream {
         Stream {
             framing,
             held: Vec::new(alloc),
-            spare: Vec::new(alloc),
             is_first: true,
         }
     }
@@ -155,24 +152,16 @@ impl Stream {
         Ok(())
     }
 
-    /// Lets go what is answered, up to an end of a line.
-    ///
-    /// # Errors
-    ///
-    /// `Memory` if a growth was refused.
-    pub(crate) fn let_go(&mut self, end: usize) -> Result<(), SearchFault>
+    /// Lets go what is answered, up to an end of a line: the bytes behind it move to the front.
+    pub(crate) fn let_go(&mut self, end: usize)
         requires { end ≤ length self.old.held.items }
-        ensures held { OnOk result (self.new.held.items ≡ drop end self.old.held.items) }
+        ensures held { self.new.held.items ≡ drop end self.old.held.items }
         ensures framing { self.new.framing ≡ self.old.framing }
-        ensures first { OnOk result (self.new.is_first ≡ false) }
-        ensures fault { IfErr result (λ fault. is_inner_fault fault ≡ true) }
+        ensures first { self.new.is_first ≡ false }
     {
-        self.spare.clear();
-        if self.spare.extend_from_slice(&self.held[end..]).is_err() {
-            return Err(SearchFault::Memory);
-        }
-        std::mem::swap(&mut self.held, &mut self.spare);
+        let rest = self.held.len() - end;
+        self.held.copy_within(end.., 0);
+        self.held.truncate(rest);
         self.is_first = false;
-        Ok(())
     }
 }

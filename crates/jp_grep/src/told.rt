@@ -1,38 +1,132 @@
-//! What is told behind the messages on the refused lines of a stream.
+//! What is told of the lines of a stream. No memory is asked for it.
 
-ghost use Rattle.std.specs.Prelude.{◌≡◌, false, IfErr, true};
-ghost use Rattle.jp_devices.specs.Devices.{Writes};
-ghost use Rattle.jp_grep.specs.Faults.{IsToldOf, is_input_fault, is_report_fault, is_write_fault};
+ghost use Rattle.std.specs.Prelude.{◌≡◌, ◌&&◌, ◌++◌, List, ℕ, false, is_err, IfErr, codes, ltb, not, true};
+ghost use Rattle.jp_devices.specs.Devices.{Device, Writes};
+ghost use Rattle.jp_grep.specs.Faults.{IsToldOf, is_report_fault, report_of};
+ghost use Rattle.jp_grep.specs.Rows.{from_line_text, line_message, status_message};
 ghost use Rattle.jp_grep.specs.Told.{more_message, more_refused, more_words};
+ghost use Rattle.jp_model.specs.Json.Status.{refused};
 
 use crate::fault::SearchFault;
+use crate::outlet::then_write;
+use crate::progress::Progress;
 use itoa::Buffer;
 use jp_form::Form;
-use jp_model::Watched;
-use jp_rows::write_whole;
+use jp_model::{LineFault, Watched};
+use jp_rows::{WriteFault, write_whole};
 use std::io::Write;
 
 /// The refused lines of a stream that are told one by one.
-pub(crate) const MOST_TOLD: u64 = 10;
+const MOST_TOLD: u64 = 10;
 
-/// Writes a part of a message.
-///
-/// # Errors
-///
-/// `Report` if a write failed or took no byte: then a beginning of it was written.
-fn write_part<E: Write>(part: &[u8], messages: &mut Watched<E>) -> Result<(), SearchFault>
-    requires working { messages.old.failed ≡ false }
-    ensures text { Writes E.contents messages.old messages.new result part.now }
-    ensures report_fault { IsToldOf is_report_fault result messages.new.failed }
-    ensures fault { IfErr result (λ fault. is_report_fault fault ≡ true) }
-    ensures write_fault { IsToldOf is_write_fault result false }
-    ensures others { IsToldOf is_input_fault result false }
-    ensures after { messages.new.after ≡ messages.old.after }
+/// Whether a message was written.
+fn told(written: Result<(), WriteFault>) -> Result<(), SearchFault>
+    ensures { result ≡ report_of written }
 {
-    match write_whole(part, messages) {
+    match written {
         Ok(()) => Ok(()),
         Err(_) => Err(SearchFault::Report),
     }
+}
+
+/// Writes the number of the line in which a text or an element begins, where it is told.
+fn write_from_line<E: Write>(
+    before: Result<(), WriteFault>,
+    from_line: Option<u64>,
+    messages: &mut Watched<E>,
+) -> Result<(), WriteFault>
+    requires working { messages.old.failed ≡ is_err before }
+    ensures text { (start : Device E) (text : List ℕ) → Writes E.contents start messages.old before text → Writes E.contents start messages.new result (text ++ from_line_text from_line) }
+    ensures fault { messages.new.failed ≡ is_err result }
+    ensures after { messages.new.after ≡ messages.old.after }
+{
+    let Some(line) = from_line else {
+        return before;
+    };
+    let mut digits = Buffer::new();
+    let written = then_write(before, b", from line ", messages);
+    then_write(written, digits.format(line).as_bytes(), messages)
+}
+
+/// Writes what is said of a line of a stream: its number, from 1, and where it is told that of the line in which it begins.
+fn write_line_message<E: Write>(
+    name: &str,
+    number: u64,
+    said: &str,
+    from_line: Option<u64>,
+    messages: &mut Watched<E>,
+) -> Result<(), WriteFault>
+    requires working { messages.old.failed ≡ false }
+    ensures text { Writes E.contents messages.old messages.new result (line_message name.now number said.now from_line) }
+    ensures fault { messages.new.failed ≡ is_err result }
+    ensures after { messages.new.after ≡ messages.old.after }
+{
+    let mut digits = Buffer::new();
+    let written = write_whole(b"jpgrep: ", messages);
+    let written = then_write(written, name.as_bytes(), messages);
+    let written = then_write(written, b":", messages);
+    let written = then_write(written, digits.format(number).as_bytes(), messages);
+    let written = then_write(written, b": ", messages);
+    let written = then_write(written, said.as_bytes(), messages);
+    let written = write_from_line(written, from_line, messages);
+    then_write(written, b"\n", messages)
+}
+
+/// Tells of a refused line, where messages are wanted and few were told.
+///
+/// # Errors
+///
+/// `Report` if it was not written: then a beginning of it was.
+pub(crate) fn tell_refused<E: Write>(
+    form: &Form<'_>,
+    progress: Progress,
+    fault: LineFault,
+    from_line: Option<u64>,
+    messages: &mut Watched<E>,
+) -> Result<(), SearchFault>
+    requires working { messages.old.failed ≡ false }
+    ensures text { Writes E.contents messages.old messages.new result (status_message form.now progress.counts.refused progress.number from_line (refused fault)) }
+    ensures report_fault { IsToldOf is_report_fault result messages.new.failed }
+    ensures fault { IfErr result (λ fault. is_report_fault fault ≡ true) }
+    ensures after { messages.new.after ≡ messages.old.after }
+{
+    if !wants_refused(form, progress) {
+        return Ok(());
+    }
+    told(write_line_message(
+        form.name,
+        progress.number,
+        fault.word(),
+        from_line,
+        messages,
+    ))
+}
+
+/// Tells of a line that is given up for want of memory.
+///
+/// # Errors
+///
+/// `Report` if it was not written: then a beginning of it was.
+pub(crate) fn tell_given_up<E: Write>(
+    form: &Form<'_>,
+    number: u64,
+    from_line: Option<u64>,
+    messages: &mut Watched<E>,
+) -> Result<(), SearchFault>
+    requires working { messages.old.failed ≡ false }
+    ensures text { Writes E.contents messages.old messages.new result (line_message form.now.name.now number (codes "out of memory") from_line) }
+    ensures report_fault { IsToldOf is_report_fault result messages.new.failed }
+    ensures fault { IfErr result (λ fault. is_report_fault fault ≡ true) }
+    ensures after { messages.new.after ≡ messages.old.after }
+{
+    told(write_line_message(form.name, number, "out of memory", from_line, messages))
+}
+
+/// Whether a refused line is told, as messages are wanted and few were told.
+pub(crate) fn wants_refused(form: &Form<'_>, progress: Progress) -> bool
+    ensures { result ≡ (not form.now.silent && ltb progress.counts.refused 10) }
+{
+    !form.silent && progress.counts.refused < MOST_TOLD
 }
 
 /// What is said of lines by their number.
@@ -46,26 +140,19 @@ fn more_words(count: u64) -> &'static [u8]
     }
 }
 
-/// Writes the message on lines of a stream that are not told one by one, for which no memory is asked.
-///
-/// # Errors
-///
-/// `Report` if it was not written: then a beginning of it was.
-fn write_more<E: Write>(name: &str, more: u64, messages: &mut Watched<E>) -> Result<(), SearchFault>
+/// Writes the message on lines of a stream that are not told one by one.
+fn write_more<E: Write>(name: &str, more: u64, messages: &mut Watched<E>) -> Result<(), WriteFault>
     requires working { messages.old.failed ≡ false }
     ensures text { Writes E.contents messages.old messages.new result (more_message name.now more) }
-    ensures report_fault { IsToldOf is_report_fault result messages.new.failed }
-    ensures fault { IfErr result (λ fault. is_report_fault fault ≡ true) }
-    ensures write_fault { IsToldOf is_write_fault result false }
-    ensures others { IsToldOf is_input_fault result false }
+    ensures fault { messages.new.failed ≡ is_err result }
     ensures after { messages.new.after ≡ messages.old.after }
 {
     let mut digits = Buffer::new();
-    write_part(b"jpgrep: ", messages)?;
-    write_part(name.as_bytes(), messages)?;
-    write_part(b": ", messages)?;
-    write_part(digits.format(more).as_bytes(), messages)?;
-    write_part(more_words(more), messages)
+    let written = write_whole(b"jpgrep: ", messages);
+    let written = then_write(written, name.as_bytes(), messages);
+    let written = then_write(written, b": ", messages);
+    let written = then_write(written, digits.format(more).as_bytes(), messages);
+    then_write(written, more_words(more), messages)
 }
 
 /// Tells how many of the refused lines of a stream were not told one by one, where there are any and messages are wanted.
@@ -82,12 +169,10 @@ pub(crate) fn tell_more<E: Write>(
     ensures text { Writes E.contents messages.old messages.new result (more_refused form.now refused) }
     ensures report_fault { IsToldOf is_report_fault result messages.new.failed }
     ensures fault { IfErr result (λ fault. is_report_fault fault ≡ true) }
-    ensures write_fault { IsToldOf is_write_fault result false }
-    ensures others { IsToldOf is_input_fault result false }
     ensures after { messages.new.after ≡ messages.old.after }
 {
     if form.silent || refused <= MOST_TOLD {
         return Ok(());
     }
-    write_more(form.name, refused - MOST_TOLD, messages)
+    told(write_more(form.name, refused - MOST_TOLD, messages))
 }

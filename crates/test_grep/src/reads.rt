@@ -2,8 +2,8 @@
 
 use super::devices::{Behind, Reads, Taking};
 use jp_grep::{
-    Form, Format, Framing, Input, Pieces, Question, SearchFault, Shown, Spelling, Summary, Units,
-    Wanted, search,
+    Form, Format, Framing, Input, Pieces, Queries, Question, SearchFault, Shown, Spelling, Summary,
+    Units, Wanted, search,
 };
 use jp_model::Watched;
 use jp_query::{Refusal, read_query};
@@ -33,7 +33,7 @@ struct Ended {
 
 /// The question whether a line has a member `a`.
 fn question(alloc: Global) -> Result<Question, AllocError> {
-    let mut question = Question::new(alloc, Wanted::Matching);
+    let mut question = Question::new(alloc, Wanted::Matching, Queries::Filter);
     match read_query(alloc, b"$.a") {
         Ok(query) => question.add_query(alloc, &query)?,
         Err(Refusal::Memory | Refusal::Fault(_)) => return Err(AllocError),
@@ -57,6 +57,7 @@ fn searched(
         summary: Summary::Nothing,
         name: "x",
         named: false,
+        null: false,
         numbered: false,
         silent: false,
         most,
@@ -74,7 +75,7 @@ fn searched(
     );
     Ok(Ended {
         found: match found {
-            Ok(counts) => Ok(counts.selected),
+            Ok(found) => Ok(found.counts.selected),
             Err(fault) => Err(fault),
         },
         reads: input.into_reader().calls(),

@@ -6,22 +6,30 @@ use Rattle.jp_model.specs.declared.Framing.TheVariants as framings
 use Rattle.jp_model.specs.Json.Status.{LineStatus, blank, refused, parsed}
 use Rattle.jp_model.specs.Json.Reader.{status_of}
 use Rattle.jp_model.specs.Json.Tree.{Tree}
-use Rattle.jp_model.specs.Query.Syntax.{Logical, Segments}
+use Rattle.jp_model.specs.Query.Syntax.{Segments}
+use Rattle.jp_grep.specs.Conditions.{Condition}
 use Rattle.jp_model.specs.Rows.{line_feed}
-use Rattle.jp_grep.specs.Matching.{all_hold, is_selected, matches, queries_of, selects, wants_refused, wants_value}
+use Rattle.jp_grep.specs.Matching.{all_hold, is_selected, let_match, matches, queries_of, selects, wants_refused, wants_value}
 use Rattle.jp_grep.specs.Once.{AsksRoot, bare_lines}
 use Rattle.jp_grep.specs.Rows.{status_rows}
 use Rattle.jp_form.specs.declared.form.Summary.{Summary}
+use Rattle.jp_grep.specs.declared.question.Queries.{Queries}
+use Rattle.jp_grep.specs.declared.question.Queries.TheVariants as purposes
 use Rattle.jp_grep.specs.declared.question.Question.{Question}
 use Rattle.jp_grep.specs.declared.question.Wanted.{Wanted}
 use Rattle.jp_grep.specs.declared.question.Wanted.TheVariants as wanted
 use Rattle.jp_grep.proofs.laws.each_line_is_selected_once.Goals as goal
 
+some_match : (purpose : Queries) → let_match purpose true ≡ true
+some_match purposes.Filter = refl
+some_match purposes.Columns = refl
+
 selected_root : (root : Question) (t : Tree) → AsksRoot root → is_selected root (parsed t) ≡ true
 selected_root root t asks =
     ap (λ (w : Wanted). wants_value w (matches root t)) asks.wanted
-    ∙ ap (λ (cs : List Logical). all_hold cs t && selects (queries_of root) t) asks.conditions
-    ∙ ap (λ (qs : List Segments). selects qs t) asks.queries
+    ∙ ap (λ (cs : List Condition). all_hold cs t && let_match root.purpose (selects (queries_of root) t)) asks.conditions
+    ∙ ap (λ (qs : List Segments). let_match root.purpose (selects qs t)) asks.queries
+    ∙ some_match root.purpose
 
 unwanted : (other : Question) (t : Tree) → other.wanted ≡ wanted.Refused → is_selected other (parsed t) ≡ false
 unwanted other t refuses = ap (λ (w : Wanted). wants_value w (matches other t)) refuses

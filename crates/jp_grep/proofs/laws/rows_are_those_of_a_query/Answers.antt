@@ -8,13 +8,16 @@ use Rattle.jp_model.specs.declared.Framing.TheVariants as framings
 use Rattle.jp_model.specs.Json.Status.{LineStatus, blank, refused, parsed}
 use Rattle.jp_model.specs.Json.Reader.{status_of}
 use Rattle.jp_model.specs.Meaning.Nodes.{Node}
-use Rattle.jp_model.specs.Query.Syntax.{Logical, Segments}
+use Rattle.jp_model.specs.Query.Syntax.{Segments}
+use Rattle.jp_grep.specs.Conditions.{Condition}
 use Rattle.jp_model.specs.Rows.{node_row, source, status_rows as query_rows}
 use Rattle.jp_grep.specs.Laws.{numbered_values, row_with_colon}
-use Rattle.jp_grep.specs.Matching.{all_hold, conditions_of, matches, nodes_of, queries_of, selected_by, selects, wants_refused, wants_value}
+use Rattle.jp_grep.specs.Matching.{all_hold, conditions_of, let_match, matches, nodes_of, queries_of, selected_by, selects, wants_refused, wants_value}
 use Rattle.jp_grep.specs.Rows.{node_rows, path_front, row, status_rows}
 use Rattle.jp_form.specs.declared.form.Form.{Form}
 use Rattle.jp_form.specs.declared.form.Summary.{Summary}
+use Rattle.jp_grep.specs.declared.question.Queries.{Queries}
+use Rattle.jp_grep.specs.declared.question.Queries.TheVariants as purposes
 use Rattle.jp_grep.specs.declared.question.Question.{Question}
 use Rattle.jp_grep.specs.declared.question.Wanted.{Wanted}
 use Rattle.jp_grep.specs.declared.question.Wanted.TheVariants as wanted
@@ -38,16 +41,21 @@ module _ (summary : Summary) (name : Bor (List ℕ)) (silent : Bool) (most n : �
       ap (λ (b : Bool). if not b || false then node_rows (numbered_values summary name silent most) true n line (x ∷ ns) else []) (ne_eqb (length (x ∷ ns)) 0 (λ e. absurd (omega (arith, e))))
       ∙ each (x ∷ ns)
 
+  -- nor is anything lost where it is, whatever the query is for
+  where_matching : (purpose : Queries) (ns : List Node) → (if let_match purpose (not (length ns == 0) || false) then node_rows (numbered_values summary name silent most) true n line ns else []) ≡ flat_map (row_with_colon line) (map (node_row n) ns)
+  where_matching purposes.Filter ns = where_some ns
+  where_matching purposes.Columns ns = each ns
+
   by_status : (question : Question) (query : Segments) → queries_of question ≡ query ∷ [] → conditions_of question ≡ [] → question.wanted ≡ wanted.Matching → (s : LineStatus)
       → status_rows question (numbered_values summary name silent most) n line s ≡ flat_map (row_with_colon line) (query_rows query n s)
   by_status question query queries conditions matching blank = refl
   by_status question query queries conditions matching (refused fault) = ap (λ (b : Bool). if b then [] else []) (ap wants_refused matching)
   by_status question query queries conditions matching (parsed t) =
       ap (λ (w : Wanted). if wants_value w (matches question t) then node_rows (numbered_values summary name silent most) true n line (nodes_of (queries_of question) t) else []) matching
-      ∙ ap (λ (cs : List Logical). if (all_hold cs t && selects (queries_of question) t) then node_rows (numbered_values summary name silent most) true n line (nodes_of (queries_of question) t) else []) conditions
-      ∙ ap (λ (qs : List Segments). if selects qs t then node_rows (numbered_values summary name silent most) true n line (nodes_of qs t) else []) queries
-      ∙ ap (λ (ns : List Node). if (not (length (selected_by query t) == 0) || false) then node_rows (numbered_values summary name silent most) true n line ns else []) (flat_map-cons (λ (q : Segments). selected_by q t) query [] ∙ append-nil (selected_by query t))
-      ∙ where_some (selected_by query t)
+      ∙ ap (λ (cs : List Condition). if (all_hold cs t && let_match question.purpose (selects (queries_of question) t)) then node_rows (numbered_values summary name silent most) true n line (nodes_of (queries_of question) t) else []) conditions
+      ∙ ap (λ (qs : List Segments). if let_match question.purpose (selects qs t) then node_rows (numbered_values summary name silent most) true n line (nodes_of qs t) else []) queries
+      ∙ ap (λ (ns : List Node). if let_match question.purpose (not (length (selected_by query t) == 0) || false) then node_rows (numbered_values summary name silent most) true n line ns else []) (flat_map-cons (λ (q : Segments). selected_by q t) query [] ∙ append-nil (selected_by query t))
+      ∙ where_matching question.purpose (selected_by query t)
 
 pub returns : goal.returns
 returns c = λ question query queries conditions matching summary name silent most n line. by_status summary name silent most n line question query queries conditions matching (status_of framings.Lines line)

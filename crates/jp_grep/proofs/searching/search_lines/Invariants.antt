@@ -8,8 +8,9 @@ use Rattle.jp_grep.proofs.searching.search_lines.Given as goal
 
 abbrev pub invariant-loop-read : goal.invariant-loop-read
 invariant-loop-read g l = record {
-  so_far : (came : List ℕ) × (answered : List Item) × Gave g.R.Read.remaining l.fn.input.reader l.input.reader came
-      × HasAnswered g.W.Write.contents g.E.Write.contents l.answerer.question.now l.answerer.form.now l.searcher.source l.searcher.answering.progress l.fn.out l.out l.fn.messages l.messages came answered × ReadOn l.answerer.question.now l.answerer.form.now l.fn.input l.input came;
+  so_far : (came : List ℕ) × (answered : List Item) × (outcomes : List Item) × Gave g.R.Read.remaining l.fn.input.reader l.input.reader came
+      × HasAnswered g.W.Write.contents g.E.Write.contents l.answerer.question.now l.answerer.form.now l.searcher.source l.searcher.answering.progress l.fn.out l.out l.fn.messages l.messages came answered outcomes
+      × ReadOn l.answerer.question.now l.answerer.form.now l.fn.input l.input came outcomes;
   room : length l.buffer ≡ 65536;
   reads : l.input.reader.failed ≡ false;
   unended : l.input.reader.ended ≡ false;

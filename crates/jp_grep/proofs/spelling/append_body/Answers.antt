@@ -4,7 +4,7 @@ use Rattle.std.specs.Prelude.{encode_utf8}
 use Rattle.std.proofs.lemmas.Str.{encodes-append, encodes-chars}
 use Rattle.jp_strings.specs.Points.{points_of}
 use Rattle.jp_strings.specs.Scalars.{scalars_left}
-use Rattle.jp_grep.proofs.Celled.{ok_items}
+use Rattle.jp_grep.proofs.Appended.{ok_items}
 use Rattle.jp_grep.proofs.spelling.append_body.Goals as goal
 
 pub returns-in-Some : goal.returns-in-Some

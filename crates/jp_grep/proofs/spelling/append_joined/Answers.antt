@@ -1,7 +1,7 @@
 -- Each turn appends the bytes in front of a line break, and the last call those after the last one.
 use Rattle.std.proofs.Common.{◌∙◌, ◌++◌, sym, ap, subst}
 use Rattle.memchr.specs.Find.{IsFirstByte, is_byte2}
-use Rattle.jp_grep.proofs.Celled.{ok_items_from}
+use Rattle.jp_grep.proofs.Appended.{ok_items_from}
 use Rattle.jp_grep.proofs.Joining.{all_kept, appended_front}
 use Rattle.jp_grep.proofs.spelling.append_joined.Goals as goal
 

@@ -1,17 +1,23 @@
 -- One of them is answered behind the others.
-use Rattle.std.proofs.Common.{◌≡◌, ◌∙◌, ◌<◌, ◌≤◌, ◌+◌, ℕ, ap, ap₂, sym, subst, length, take, refl, arith, rules, true, false, Bool}
-use Rattle.std.specs.Prelude.{cond}
-use Rattle.std.proofs.lemmas.List.{length-take-le}
+use Rattle.std.proofs.Common.{◌≡◌, ◌∙◌, ◌<◌, ◌≤◌, ◌+◌, ◌++◌, [], ◌∷◌, ℕ, List, ap, ap₂, sym, subst, append_assoc, drop, length, length-append, take, take-append-drop, refl, arith, true, false, Bool}
+use Rattle.std.specs.Prelude.{cond, count_by}
+use Rattle.std.proofs.lemmas.List.{take_more}
 use Rattle.std.proofs.lemmas.Option.{get_or_from_slice_get}
 use Rattle.jp_devices.specs.Devices.{Received}
 use Rattle.jp_devices.proofs.Chains.{Part, both_received, ends_in_part}
-use Rattle.jp_grep.specs.ReadItems.{item_of, items_of}
 use Rattle.jp_grep.specs.Holding.{HoldsBack, HoldsPart}
-use Rattle.jp_grep.specs.Rows.{item_message, item_rows, messages_from, output_from, refused_count, selected_count}
+use Rattle.jp_grep.specs.Items.{Item, is_given_up}
+use Rattle.jp_grep.specs.Outcomes.{CameOfEach}
+use Rattle.jp_grep.specs.ReadItems.{item_of, items_of}
+use Rattle.jp_grep.specs.Rows.{item_message, item_rows, messages_from, output_from, refused_count, refused_item, selected_item}
+use Rattle.jp_grep.specs.Searching.{GoesOnBy}
 use Rattle.jp_grep.specs.Watching.{answered_of}
-use Rattle.jp_grep.proofs.Batched.{at_end, enough, goes_on, messages_around, messages_more, refused_more, rows_around, rows_more, selected_more}
-use Rattle.jp_grep.proofs.Putting.{both_put, ends_put, none_put, put_next, put_so_far}
-use Rattle.jp_grep.proofs.Written.{none_received, part_next, part_so_far}
+use Rattle.jp_grep.proofs.Advancing.{none_answered, none_by, says_nothing}
+use Rattle.jp_grep.proofs.Batched.{enough, messages_around, messages_more, one_more, rows_around, rows_more, with_next}
+use Rattle.jp_grep.proofs.Coming.{came_next, came_one, came_same}
+use Rattle.jp_grep.proofs.Counted.{count-append, count_one}
+use Rattle.jp_grep.proofs.Putting.{both_put, ends_put, none_put, put_next}
+use Rattle.jp_grep.proofs.Written.{around, none_received, part_next}
 use Rattle.jp_grep.proofs.answer.Answerer.answer_each.Goals as goal
 
 -- the counts go on by one at most
@@ -23,94 +29,86 @@ one_wanted : (before after most : ℕ) (b : Bool) → after ≡ before + cond b 
 one_wanted before after most true e l = omega (arith, e, l)
 one_wanted before after most false e l = omega (arith, e, l)
 
-pub returns-then-progress-self-clause-rows : goal.returns-then-progress-self-clause-rows
-returns-then-progress-self-clause-rows g c =
-    let q = c.args.self.question.now in
-    let f = c.args.self.form.now in
-    subst (λ ls. HoldsBack g.W.Write.contents c.args.out.now c.loop-index.out c.args.outlet.now.held.items c.loop-index.outlet.held.items (output_from q f c.args.progress.now.number ls))
-    (sym (enough q f _ _ _ _ c.if-progress-self.true c.loop-index.invariant.lines)) c.loop-index.invariant.rows
+-- one more is counted
+counted : (test : Item → Bool) (before was is : ℕ) (done : List Item) (item : Item) (b : Bool) → was ≡ before + count_by test done → is ≡ was + cond b 1 0 → b ≡ test item → is ≡ before + count_by test (done ++ item ∷ [])
+counted test before was is done item b e f same =
+    f ∙ ap₂ (λ n (c : Bool). n + cond c 1 0) e same ∙ together before (count_by test done) (cond (test item) 1 0) (count_by test (done ++ item ∷ []))
+    (count-append test done (item ∷ []) ∙ ap (λ n. count_by test done + n) (count_one test item))
+  where
+    together : (a b c d : ℕ) → d ≡ b + c → (a + b) + c ≡ a + d
+    together a b c d e = omega (arith, e)
 
-pub returns-then-progress-self-clause-progress : goal.returns-then-progress-self-clause-progress
-returns-then-progress-self-clause-progress g c =
+pub loop-index-init : goal.loop-index-init
+loop-index-init g c =
     let q = c.args.self.question.now in
     let f = c.args.self.form.now in
-    let all = items_of c.args.items in
-    let whole = sym (enough q f _ _ _ _ c.if-progress-self.true c.loop-index.invariant.lines) in
     record {
-      number = c.loop-index.invariant.number
-          ∙ ap (λ k. c.args.progress.now.number + k) (sym (length-take-le c.loop-index.index all (omega (arith, c.loop-index.auto.index-end, c.count-index-end.ensures))) ∙ ap length whole);
-      selected = c.loop-index.invariant.selected ∙ ap (λ ls. c.args.progress.now.counts.selected + selected_count q ls) whole;
-      refused = c.loop-index.invariant.refused ∙ ap (λ ls. c.args.progress.now.counts.refused + refused_count ls) whole;
-      under_way = c.loop-index.invariant.under_way;
+      so_far = (
+        [],
+        refl,
+        record { each = tt; all = none_answered q f c.args.progress.now.counts.selected; by = none_by q f c.args.progress.now c.requires.under_way },
+        none_put c.args.out.now c.args.outlet.now.held.items,
+        none_received c.args.messages.now,
+      );
+      writes = c.requires.writes;
+      reports = c.requires.reports;
+      after = refl;
+      messages_after = refl;
     }
 
-pub returns-in_err-pass-in-Ok-clause-rows : goal.returns-in_err-pass-in-Ok-clause-rows
-returns-in_err-pass-in-Ok-clause-rows g c =
+pub returns-then-progress-self-clause-answers : goal.returns-then-progress-self-clause-answers
+returns-then-progress-self-clause-answers g c =
     let q = c.args.self.question.now in
     let f = c.args.self.form.now in
     let all = items_of c.args.items in
     let i = c.loop-index.index in
-    let line = item_of c.item-item.result in
-    let within : i < length all = omega (arith, c.loop-index-test.true, c.count-index-end.ensures) in
-    let is = sym (get_or_from_slice_get all i line line c.item-item.ensures.item) in
-    let n = c.args.progress.now.number in
-    let fewer : c.loop-index.progress.counts.selected < f.most = omega (arith, c.loop-index.invariant.under_way.wanted, c.if-progress-self.false) in
-    let answered = goes_on q f all i line within is _ _ _ fewer refl c.loop-index.invariant.lines in
-    let mine = subst (λ k. HoldsBack g.W.Write.contents c.loop-index.out c.answer_item.new.out c.loop-index.outlet.held.items c.answer_item.new.outlet.held.items (item_rows q f k line)) c.loop-index.invariant.number c.in-Ok.ensures.rows in
-    ends_put c.from_residual.result c.args.out.now c.answer_item.new.out c.args.outlet.now.held.items c.answer_item.new.outlet.held.items (output_from q f n (answered_of q f c.args.progress.now.counts.selected all)) c.from_residual.ensures.0
-    (put_next c.args.out.now c.loop-index.out c.answer_item.new.out _ _ _ _ (item_rows q f (n + i) line) _ _
-    (rows_around q f all i line within is n _ _ answered) c.loop-index.invariant.rows (put_so_far c.loop-index.out c.answer_item.new.out c.loop-index.outlet.held.items c.answer_item.new.outlet.held.items (item_rows q f (n + i) line) mine))
+    let before = c.args.progress.now in
+    let so = c.loop-index.invariant.so_far in
+    let done = so.0 in
+    let is = sym (enough q f before.counts.selected done so.2.all (drop i all) (sym so.2.by.selected ∙ c.if-progress-self.true)) in
+    record {
+      outcomes = done ++ drop i all;
+      each = subst (λ (ls : List Item). CameOfEach ls (done ++ drop i all)) (take-append-drop i all) (came_next (take i all) done (drop i all) (drop i all) so.2.each (came_same (drop i all)));
+      rows = subst (λ (ls : List Item). HoldsBack g.W.Write.contents c.args.out.now c.loop-index.out c.args.outlet.now.held.items c.loop-index.outlet.held.items (output_from q f before.number ls)) is so.3;
+      messages = subst (λ (ls : List Item). Received g.E.Write.contents c.args.messages.now c.loop-index.messages (messages_from f before.counts.refused before.number ls)) is so.4;
+      progress = subst (λ (ls : List Item). GoesOnBy q f before c.loop-index.progress ls) is so.2.by;
+    }
 
-pub returns-in_err-pass-in-Ok-clause-messages : goal.returns-in_err-pass-in-Ok-clause-messages
-returns-in_err-pass-in-Ok-clause-messages g c =
+pub returns-in_err-verdict-clause-answers : goal.returns-in_err-verdict-clause-answers
+returns-in_err-verdict-clause-answers g c =
     let q = c.args.self.question.now in
     let f = c.args.self.form.now in
     let all = items_of c.args.items in
     let i = c.loop-index.index in
-    let line = item_of c.item-item.result in
+    let item = item_of c.item-item.result in
+    let before = c.args.progress.now in
+    let so = c.loop-index.invariant.so_far in
+    let done = so.0 in
+    let said = c.in_err-verdict.ensures.answers in
+    let out = c.answer_item.new.out in
+    let held = c.answer_item.new.outlet.held.items in
+    let told = c.answer_item.new.messages in
+    let r = c.from_residual.result in
+    let failed = c.from_residual.ensures.0 in
     let within : i < length all = omega (arith, c.loop-index-test.true, c.count-index-end.ensures) in
-    let is = sym (get_or_from_slice_get all i line line c.item-item.ensures.item) in
-    let n = c.args.progress.now.number in
-    let fewer : c.loop-index.progress.counts.selected < f.most = omega (arith, c.loop-index.invariant.under_way.wanted, c.if-progress-self.false) in
-    let answered = goes_on q f all i line within is _ _ _ fewer refl c.loop-index.invariant.lines in
-    let before = c.args.progress.now.counts.refused in
-    let mine = subst (λ l. Received g.E.Write.contents c.loop-index.messages c.answer_item.new.messages l) (ap₂ (λ j k. item_message f j k line) c.loop-index.invariant.refused c.loop-index.invariant.number) c.in-Ok.ensures.messages in
-    ends_in_part c.from_residual.result _ _ _ c.from_residual.ensures.0
-    (part_next c.args.messages.now c.loop-index.messages c.answer_item.new.messages _ (item_message f (before + refused_count (take i all)) (n + i) line) _ _
-    (messages_around q f all i line within is before n _ _ answered) c.loop-index.invariant.messages (part_so_far _ _ _ mine))
-
-pub returns-in-Err-clause-rows : goal.returns-in-Err-clause-rows
-returns-in-Err-clause-rows g c =
-    let q = c.args.self.question.now in
-    let f = c.args.self.form.now in
-    let all = items_of c.args.items in
-    let i = c.loop-index.index in
-    let line = item_of c.item-item.result in
-    let within : i < length all = omega (arith, c.loop-index-test.true, c.count-index-end.ensures) in
-    let is = sym (get_or_from_slice_get all i line line c.item-item.ensures.item) in
-    let n = c.args.progress.now.number in
-    let fewer : c.loop-index.progress.counts.selected < f.most = omega (arith, c.loop-index.invariant.under_way.wanted, c.if-progress-self.false) in
-    let answered = goes_on q f all i line within is _ _ _ fewer refl c.loop-index.invariant.lines in
-    let part = subst (λ k. HoldsPart g.W.Write.contents c.loop-index.out c.answer_item.new.out c.loop-index.outlet.held.items c.answer_item.new.outlet.held.items (item_rows q f k line)) c.loop-index.invariant.number c.in-Err.ensures.rows in
-    put_next c.args.out.now c.loop-index.out c.answer_item.new.out _ _ _ _ (item_rows q f (n + i) line) _ _
-    (rows_around q f all i line within is n _ _ answered) c.loop-index.invariant.rows part
-
-pub returns-in-Err-clause-messages : goal.returns-in-Err-clause-messages
-returns-in-Err-clause-messages g c =
-    let q = c.args.self.question.now in
-    let f = c.args.self.form.now in
-    let all = items_of c.args.items in
-    let i = c.loop-index.index in
-    let line = item_of c.item-item.result in
-    let within : i < length all = omega (arith, c.loop-index-test.true, c.count-index-end.ensures) in
-    let is = sym (get_or_from_slice_get all i line line c.item-item.ensures.item) in
-    let n = c.args.progress.now.number in
-    let fewer : c.loop-index.progress.counts.selected < f.most = omega (arith, c.loop-index.invariant.under_way.wanted, c.if-progress-self.false) in
-    let answered = goes_on q f all i line within is _ _ _ fewer refl c.loop-index.invariant.lines in
-    let before = c.args.progress.now.counts.refused in
-    let part = subst (λ l. Part g.E.Write.contents c.loop-index.messages c.answer_item.new.messages l) (ap₂ (λ j k. item_message f j k line) c.loop-index.invariant.refused c.loop-index.invariant.number) c.in-Err.ensures.messages in
-    part_next c.args.messages.now c.loop-index.messages c.answer_item.new.messages _ (item_message f (before + refused_count (take i all)) (n + i) line) _ _
-    (messages_around q f all i line within is before n _ _ answered) c.loop-index.invariant.messages part
+    let is = sym (get_or_from_slice_get all i item item c.item-item.ensures.item) in
+    let rest = drop (i + 1) all in
+    let fewer : before.counts.selected + count_by (selected_item q) done < f.most = omega (arith, so.2.by.under_way.wanted, c.if-progress-self.false, so.2.by.selected) in
+    let next = one_more q f before.counts.selected done so.2.all said.outcome rest fewer in
+    let rows = subst (λ k. HoldsPart g.W.Write.contents c.loop-index.out out c.loop-index.outlet.held.items held (item_rows q f k said.outcome)) so.2.by.number said.rows in
+    let part = subst (λ (l : List ℕ). Part g.E.Write.contents c.loop-index.messages told l) (ap₂ (λ j k. item_message f j k said.outcome) so.2.by.refused so.2.by.number) said.message in
+    record {
+      outcomes = done ++ said.outcome ∷ rest;
+      each = subst (λ (ls : List Item). CameOfEach ls (done ++ said.outcome ∷ rest)) (sym (around all i item within ∙ ap (λ (x : Item). (take i all ++ x ∷ []) ++ rest) (sym is) ∙ append_assoc (take i all) (item ∷ []) rest))
+          (came_next (take i all) done (item ∷ rest) (said.outcome ∷ rest) so.2.each (said.came, came_same rest));
+      rows = ends_put r c.args.out.now out c.args.outlet.now.held.items held (output_from q f before.number (answered_of q f before.counts.selected (done ++ said.outcome ∷ rest))) failed
+          (put_next c.args.out.now c.loop-index.out out _ _ _ _ (item_rows q f (before.number + length done) said.outcome) _ _
+          (rows_around q f done said.outcome before.number _ next.0 next.1) so.3 rows);
+      messages = ends_in_part r _ _ _ failed
+          (part_next c.args.messages.now c.loop-index.messages told _ (item_message f (before.counts.refused + refused_count done) (before.number + length done) said.outcome) _ _
+          (messages_around q f done said.outcome before.counts.refused before.number _ next.0 next.1) so.4 part);
+      progress = says_nothing _ r failed;
+    }
 
 pub loop-index-preserved : goal.loop-index-preserved
 loop-index-preserved g c =
@@ -118,77 +116,55 @@ loop-index-preserved g c =
     let f = c.args.self.form.now in
     let all = items_of c.args.items in
     let i = c.loop-index.index in
-    let line = item_of c.item-item.result in
-    let within : i < length all = omega (arith, c.loop-index-test.true, c.count-index-end.ensures) in
-    let is = sym (get_or_from_slice_get all i line line c.item-item.ensures.item) in
-    let n = c.args.progress.now.number in
+    let item = item_of c.item-item.result in
+    let before = c.args.progress.now in
     let inv = c.loop-index.invariant in
-    let passed = c.in_ok-pass-in-Ok.ensures in
-    let fewer : c.loop-index.progress.counts.selected < f.most = omega (arith, inv.under_way.wanted, c.if-progress-self.false) in
-    let counted = passed.selected ∙ ap (λ b. c.loop-index.progress.counts.selected + cond b 1 0) c.in-Ok.ensures.selected in
-    let refused = passed.refused ∙ ap (λ b. c.loop-index.progress.counts.refused + cond b 1 0) c.in-Ok.ensures.refused in
-    let mine = subst (λ k. HoldsBack g.W.Write.contents c.loop-index.out c.answer_item.new.out c.loop-index.outlet.held.items c.answer_item.new.outlet.held.items (item_rows q f k line)) inv.number c.in-Ok.ensures.rows in
-    let told = subst (λ l. Received g.E.Write.contents c.loop-index.messages c.answer_item.new.messages l) (ap₂ (λ j k. item_message f j k line) inv.refused inv.number) c.in-Ok.ensures.messages in
+    let so = inv.so_far in
+    let done = so.0 in
+    let by = so.2.by in
+    let said = c.in_ok-verdict.ensures.answers in
+    let tells = c.in_ok-verdict.ensures.tells in
+    let out = c.answer_item.new.out in
+    let held = c.answer_item.new.outlet.held.items in
+    let told = c.answer_item.new.messages in
+    let passed = c.pass.ensures in
+    let now = c.pass.new.self in
+    let verdict = c.in_ok-verdict.verdict in
+    let within : i < length all = omega (arith, c.loop-index-test.true, c.count-index-end.ensures) in
+    let is = sym (get_or_from_slice_get all i item item c.item-item.ensures.item) in
+    let fewer : before.counts.selected + count_by (selected_item q) done < f.most = omega (arith, by.under_way.wanted, c.if-progress-self.false, by.selected) in
+    let less : c.loop-index.progress.counts.selected < f.most = omega (arith, by.under_way.wanted, c.if-progress-self.false) in
+    let rows = subst (λ k. HoldsBack g.W.Write.contents c.loop-index.out out c.loop-index.outlet.held.items held (item_rows q f k said.outcome)) by.number said.rows in
+    let message = subst (λ (l : List ℕ). Received g.E.Write.contents c.loop-index.messages told l) (ap₂ (λ j k. item_message f j k said.outcome) by.refused by.number) said.message in
     record {
-      lines = goes_on q f all i line within is _ _ _ fewer counted inv.lines;
-      rows = subst (λ l. HoldsBack g.W.Write.contents c.args.out.now c.answer_item.new.out c.args.outlet.now.held.items c.answer_item.new.outlet.held.items l) (sym (rows_more q f all i line within is n))
-          (both_put c.args.out.now c.loop-index.out c.answer_item.new.out _ _ _ _ _ inv.rows mine);
-      messages = subst (λ l. Received g.E.Write.contents c.args.messages.now c.answer_item.new.messages l) (sym (messages_more q f all i line within is c.args.progress.now.counts.refused n)) (both_received _ _ _ _ _ inv.messages told);
-      number = omega (arith, passed.number, inv.number);
-      selected = omega (arith, counted, inv.selected, selected_more q f all i line within is);
-      refused = omega (arith, refused, inv.refused, refused_more q f all i line within is);
-      under_way = record {
-        wanted = one_wanted _ _ _ _ counted fewer;
-        fewer_selected = one_fewer _ _ _ _ _ counted passed.number inv.under_way.fewer_selected;
-        fewer_refused = one_fewer _ _ _ _ _ refused passed.number inv.under_way.fewer_refused;
-      };
-      writes = c.in-Ok.ensures.tells.0;
-      reports = c.in-Ok.ensures.tells.1;
-      after = c.in-Ok.ensures.tells.2 ∙ inv.after;
-      messages_after = c.in-Ok.ensures.tells.3 ∙ inv.messages_after;
+      so_far = (
+        done ++ said.outcome ∷ [],
+        length-append done (said.outcome ∷ []) ∙ ap (λ n. n + 1) so.1,
+        record {
+          each = subst (λ (ls : List Item). CameOfEach ls (done ++ said.outcome ∷ [])) (sym (take_more all i item within ∙ ap (λ (x : Item). take i all ++ x ∷ []) (sym is)))
+              (came_next (take i all) done (item ∷ []) (said.outcome ∷ []) so.2.each (came_one item said.outcome said.came));
+          all = with_next q f before.counts.selected done so.2.all said.outcome fewer;
+          by = record {
+            number = passed.number ∙ ap (λ n. n + 1) by.number ∙ longer before.number (length done) (length (done ++ said.outcome ∷ [])) (length-append done (said.outcome ∷ []));
+            selected = counted (selected_item q) before.counts.selected _ _ done said.outcome verdict.selected by.selected passed.selected said.verdict.selected;
+            refused = counted refused_item before.counts.refused _ _ done said.outcome verdict.refused by.refused passed.refused said.verdict.refused;
+            given_up = counted is_given_up before.counts.given_up _ _ done said.outcome verdict.given_up by.given_up passed.given_up said.verdict.given_up;
+            under_way = record {
+              wanted = one_wanted _ _ _ _ passed.selected less;
+              fewer_selected = one_fewer _ _ _ _ _ passed.selected passed.number by.under_way.fewer_selected;
+              fewer_refused = one_fewer _ _ _ _ _ passed.refused passed.number by.under_way.fewer_refused;
+              fewer_given_up = one_fewer _ _ _ _ _ passed.given_up passed.number by.under_way.fewer_given_up;
+            };
+          };
+        },
+        subst (λ (l : List ℕ). HoldsBack g.W.Write.contents c.args.out.now out c.args.outlet.now.held.items held l) (sym (rows_more q f done said.outcome before.number)) (both_put c.args.out.now c.loop-index.out out _ _ _ _ _ so.3 rows),
+        subst (λ (l : List ℕ). Received g.E.Write.contents c.args.messages.now told l) (sym (messages_more q f done said.outcome before.counts.refused before.number)) (both_received _ _ _ _ _ so.4 message),
+      );
+      writes = tells.0;
+      reports = tells.1;
+      after = tells.3 ∙ inv.after;
+      messages_after = tells.4 ∙ inv.messages_after;
     }
-
-pub returns-clause-rows : goal.returns-clause-rows
-returns-clause-rows g c =
-    let q = c.args.self.question.now in
-    let f = c.args.self.form.now in
-    let past : length (items_of c.args.items) ≤ c.loop-index.index = omega (arith, c.loop-index-test.false, c.count-index-end.ensures) in
-    subst (λ ls. HoldsBack g.W.Write.contents c.args.out.now c.loop-index.out c.args.outlet.now.held.items c.loop-index.outlet.held.items (output_from q f c.args.progress.now.number ls))
-    (sym (at_end q f (items_of c.args.items) c.loop-index.index _ _ past c.loop-index.invariant.lines)) c.loop-index.invariant.rows
-
-pub returns-clause-messages : goal.returns-clause-messages
-returns-clause-messages g c =
-    let q = c.args.self.question.now in
-    let f = c.args.self.form.now in
-    let past : length (items_of c.args.items) ≤ c.loop-index.index = omega (arith, c.loop-index-test.false, c.count-index-end.ensures) in
-    subst (λ ls. Received g.E.Write.contents c.args.messages.now c.loop-index.messages (messages_from f c.args.progress.now.counts.refused c.args.progress.now.number ls)) (sym (at_end q f (items_of c.args.items) c.loop-index.index _ _ past c.loop-index.invariant.lines)) c.loop-index.invariant.messages
-
-pub returns-clause-progress : goal.returns-clause-progress
-returns-clause-progress g c =
-    let q = c.args.self.question.now in
-    let f = c.args.self.form.now in
-    let all = items_of c.args.items in
-    let past : length (items_of c.args.items) ≤ c.loop-index.index = omega (arith, c.loop-index-test.false, c.count-index-end.ensures) in
-    let whole = sym (at_end q f all c.loop-index.index _ _ past c.loop-index.invariant.lines) in
-    record {
-      number = c.loop-index.invariant.number
-          ∙ ap (λ k. c.args.progress.now.number + k) (sym (length-take-le c.loop-index.index all (omega (arith, c.loop-index.auto.index-end, c.count-index-end.ensures))) ∙ ap length whole);
-      selected = c.loop-index.invariant.selected ∙ ap (λ ls. c.args.progress.now.counts.selected + selected_count q ls) whole;
-      refused = c.loop-index.invariant.refused ∙ ap (λ ls. c.args.progress.now.counts.refused + refused_count ls) whole;
-      under_way = c.loop-index.invariant.under_way;
-    }
-
-pub loop-index-init : goal.loop-index-init
-loop-index-init g c = record {
-  lines = search rules;
-  rows = none_put c.args.out.now c.args.outlet.now.held.items;
-  messages = none_received c.args.messages.now;
-  number = omega arith;
-  selected = search rules;
-  refused = search rules;
-  under_way = c.requires.under_way;
-  writes = c.requires.writes;
-  reports = c.requires.reports;
-  after = refl;
-  messages_after = refl;
-}
+  where
+    longer : (a b c : ℕ) → c ≡ b + 1 → (a + b) + 1 ≡ a + c
+    longer a b c e = omega (arith, e)

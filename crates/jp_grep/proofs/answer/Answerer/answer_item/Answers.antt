@@ -1,42 +1,65 @@
--- Nothing is written of a blank line, and nothing is told of a line that has a value.
-use Rattle.std.proofs.Common.{[], sym, subst}
-use Rattle.jp_devices.specs.Devices.{Writes}
-use Rattle.jp_grep.specs.Holding.{HoldsBack, Puts}
-use Rattle.jp_grep.specs.ReadItems.{item_of, status_by}
-use Rattle.jp_grep.specs.Rows.{item_rows, status_message, status_rows}
-use Rattle.jp_grep.proofs.Advancing.{whole_written}
-use Rattle.jp_grep.proofs.Putting.{ends_put, none_put, part_put_more, put_first}
-use Rattle.jp_grep.proofs.Written.{none_written}
+-- The rows are put, and behind them the message is written.
+use Rattle.std.proofs.Common.{[], ℕ, List, Bool, append-nil, subst}
+use Rattle.jp_devices.specs.Devices.{Received}
+use Rattle.jp_devices.proofs.Chains.{Part, ends_in_part}
+use Rattle.jp_grep.specs.Holding.{HoldsBack, HoldsPart}
+use Rattle.jp_grep.specs.ReadItems.{status_by}
+use Rattle.jp_grep.specs.Rows.{message_where, rows_where}
+use Rattle.jp_grep.proofs.Advancing.{nothing_of}
+use Rattle.jp_grep.proofs.GivenUp.{came_by, no_answer}
+use Rattle.jp_grep.proofs.Putting.{both_put, ends_put, part_put}
 use Rattle.jp_grep.proofs.answer.Answerer.answer_item.Goals as goal
 
-pub returns-in-Tree-clause-messages : goal.returns-in-Tree-clause-messages
-returns-in-Tree-clause-messages g c =
-    subst (λ state. Writes g.E.Write.contents c.args.messages.now c.args.messages.now c.answer_value.result
-    (status_message c.args.self.form.now c.args.progress.counts.refused c.args.progress.number c.args.item.from_line (status_by state))) (sym c.in-Tree.is)
-    (none_written g.E.Write.contents c.answer_value.result c.args.messages.now)
+pub returns-in_err-verdict-clause-answers : goal.returns-in_err-verdict-clause-answers
+returns-in_err-verdict-clause-answers g c =
+    let item = c.args.item in
+    let said = c.in_err-verdict.ensures.answers in
+    let r = c.from_residual.result in
+    let failed = c.from_residual.ensures.0 in
+    record {
+      outcome = record { text = item.text.now; status = status_by item.state; from_line = item.from_line; given_up = said.given_up };
+      came = came_by item.text.now (status_by item.state) item.from_line said.given_up;
+      rows = ends_put r c.args.out.now c.put_item.new.out c.args.outlet.now.held.items c.put_item.new.outlet.held.items _ failed said.rows;
+      message = ends_in_part r c.args.messages.now c.args.messages.now _ failed (nothing_of c.args.messages.now _);
+      verdict = no_answer _ r failed;
+    }
 
-pub returns-in_err-tell-in-Refused-clause-rows : goal.returns-in_err-tell-in-Refused-clause-rows
-returns-in_err-tell-in-Refused-clause-rows g c =
-    let text = item_rows c.args.self.question.now c.args.self.form.now c.args.progress.number (item_of c.args.item) in
-    ends_put c.from_residual.result c.args.out.now c.tell.new.out c.args.outlet.now.held.items c.tell.new.outlet.held.items text c.from_residual.ensures.0
-    (part_put_more c.args.out.now c.tell.new.out c.args.outlet.now.held.items c.tell.new.outlet.held.items [] text c.in_err-tell-in-Refused.ensures.rows)
+pub returns-in_err-tell-clause-answers : goal.returns-in_err-tell-clause-answers
+returns-in_err-tell-clause-answers g c =
+    let item = c.args.item in
+    let q = c.args.self.question.now in
+    let f = c.args.self.form.now in
+    let said = c.in_ok-verdict.ensures.answers in
+    let told = c.in_err-tell.ensures in
+    let r = c.from_residual-in_err-tell.result in
+    let failed = c.from_residual-in_err-tell.ensures.0 in
+    let rows = rows_where said.given_up q f c.args.progress.number item.text.now (status_by item.state) in
+    record {
+      outcome = record { text = item.text.now; status = status_by item.state; from_line = item.from_line; given_up = said.given_up };
+      came = came_by item.text.now (status_by item.state) item.from_line said.given_up;
+      rows = ends_put r c.args.out.now c.tell.new.out c.args.outlet.now.held.items c.tell.new.outlet.held.items rows failed
+          (subst (λ (l : List ℕ). HoldsPart g.W.Write.contents c.args.out.now c.tell.new.out c.args.outlet.now.held.items c.tell.new.outlet.held.items l) (append-nil rows)
+          (part_put c.args.out.now c.put_item.new.out c.tell.new.out c.args.outlet.now.held.items c.put_item.new.outlet.held.items c.tell.new.outlet.held.items rows [] said.rows told.rows));
+      message = ends_in_part r c.args.messages.now c.tell.new.messages _ failed
+          (subst (λ (b : Bool). Part g.E.Write.contents c.args.messages.now c.tell.new.messages (message_where b f c.args.progress.counts.refused c.args.progress.number item.from_line (status_by item.state)))
+          said.verdict.given_up told.message);
+      verdict = no_answer _ r failed;
+    }
 
-pub returns-in_ok-tell-in-Refused-clause-rows : goal.returns-in_ok-tell-in-Refused-clause-rows
-returns-in_ok-tell-in-Refused-clause-rows g c =
-    put_first g.W.Write.contents c.answer_refused.result c.args.out.now c.tell.new.out c.answer_refused.new.out c.args.outlet.now.held.items c.tell.new.outlet.held.items c.answer_refused.new.outlet.held.items _
-    c.in_ok-tell-in-Refused.ensures.rows
-    (subst (λ state. Puts g.W.Write.contents c.tell.new.out c.answer_refused.new.out c.tell.new.outlet.held.items c.answer_refused.new.outlet.held.items c.answer_refused.result
-    (status_rows c.args.self.question.now c.args.self.form.now c.args.progress.number c.args.item.text.now (status_by state))) (sym c.in-Refused.is) c.answer_refused.ensures.rows)
-
-pub returns-in_ok-tell-in-Refused-clause-messages : goal.returns-in_ok-tell-in-Refused-clause-messages
-returns-in_ok-tell-in-Refused-clause-messages g c =
-    subst (λ state. Writes g.E.Write.contents c.args.messages.now c.tell.new.messages c.answer_refused.result
-    (status_message c.args.self.form.now c.args.progress.counts.refused c.args.progress.number c.args.item.from_line (status_by state))) (sym c.in-Refused.is)
-    (whole_written c.answer_refused.result c.args.messages.now c.tell.new.messages _ c.in_ok-tell-in-Refused.ensures.message)
-
-pub returns-in-Blank-clause-rows : goal.returns-in-Blank-clause-rows
-returns-in-Blank-clause-rows g c =
-    let held = c.args.outlet.now.held.items in
-    subst (λ state. HoldsBack g.W.Write.contents c.args.out.now c.args.out.now held held
-    (status_rows c.args.self.question.now c.args.self.form.now c.args.progress.number c.args.item.text.now (status_by state))) (sym c.in-Blank.is)
-    (none_put c.args.out.now held)
+pub returns-clause-answers : goal.returns-clause-answers
+returns-clause-answers g c =
+    let item = c.args.item in
+    let q = c.args.self.question.now in
+    let f = c.args.self.form.now in
+    let said = c.in_ok-verdict.ensures.answers in
+    let told = c.in_ok-tell.ensures in
+    let rows = rows_where said.given_up q f c.args.progress.number item.text.now (status_by item.state) in
+    record {
+      outcome = record { text = item.text.now; status = status_by item.state; from_line = item.from_line; given_up = said.given_up };
+      came = came_by item.text.now (status_by item.state) item.from_line said.given_up;
+      rows = subst (λ (l : List ℕ). HoldsBack g.W.Write.contents c.args.out.now c.tell.new.out c.args.outlet.now.held.items c.tell.new.outlet.held.items l) (append-nil rows)
+          (both_put c.args.out.now c.put_item.new.out c.tell.new.out c.args.outlet.now.held.items c.put_item.new.outlet.held.items c.tell.new.outlet.held.items rows [] said.rows told.rows);
+      message = subst (λ (b : Bool). Received g.E.Write.contents c.args.messages.now c.tell.new.messages (message_where b f c.args.progress.counts.refused c.args.progress.number item.from_line (status_by item.state)))
+          said.verdict.given_up told.message;
+      verdict = said.verdict;
+    }

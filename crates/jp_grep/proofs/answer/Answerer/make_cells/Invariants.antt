@@ -2,16 +2,17 @@
 use Rattle.std.proofs.Common.{◌≡◌, ◌++◌, decimal, map, take}
 use Rattle.jp_eval.specs.Compiled.{program_view}
 use Rattle.jp_lines.specs.Views.{text_of_view, tree_of_view}
-use Rattle.jp_grep.specs.Held.{Holds}
+use Rattle.jp_table.specs.Held.{Holds}
+use Rattle.jp_table.specs.Tables.{front_cells}
 use Rattle.jp_grep.specs.Matching.{selects}
-use Rattle.jp_grep.specs.Tables.{front_cells, query_cells}
+use Rattle.jp_grep.specs.Tables.{query_cells}
 use Rattle.jp_grep.proofs.answer.Answerer.make_cells.Given as goal
 
 abbrev pub invariant-loop-query : goal.invariant-loop-query
 invariant-loop-query l = record {
   cells : Holds l.table l.room.cells
       (front_cells l.self.form.now l.self.form.now.name.now (decimal l.number)
-      ++ query_cells (map program_view (take l.query-index l.self.question.now.queries.items)) (text_of_view l.line) (tree_of_view l.line));
+      ++ query_cells l.table (map program_view (take l.query-index l.self.question.now.queries.items)) (text_of_view l.line) (tree_of_view l.line));
   some : l.some ≡ selects (map program_view (take l.query-index l.self.question.now.queries.items)) (tree_of_view l.line);
   row : l.room.row ≡ l.fn.room.row;
 }

@@ -1,5 +1,5 @@
 -- The stream is not framed, or the lines of what is held are the others.
-use Rattle.std.proofs.Common.{◌≡◌, ◌∙◌, ℕ, List, [], ◌++◌, refl, ap, arith, map, subst, sym, take, append-nil, false, true}
+use Rattle.std.proofs.Common.{◌≡◌, ◌∙◌, ℕ, List, [], ◌++◌, ap, arith, map, subst, sym, take, append-nil, false, true}
 use Rattle.std.proofs.lemmas.List.{take_all}
 use Rattle.jp_model.specs.Lines.{is_framed}
 use Rattle.jp_masks.specs.Found.{lines_in}
@@ -35,8 +35,6 @@ returns-in_err-check_end-clause-ends g c =
       framed = λ came answered st. handed _ _ r e c.from_residual.ensures.1 (λ other. absurd (apart (sym (ap is_front_fault said.0) ∙ other)));
       refused = handed_on _ r e c.from_residual.ensures.1 (λ front. (
         said.0,
-        refl,
-        refl,
         λ came answered st. let none = none_answered units came stream answered st said.1 in
             (none.0, none.1, unframed_so units came stream answered st (ap (is_framed stream.framing) (sym none.2) ∙ said.2)),
       ));

@@ -1,5 +1,5 @@
 -- No line ends among the bytes, or those in front of the cut are answered.
-use Rattle.std.proofs.Common.{◌≡◌, ◌∙◌, ◌+◌, ◌<◌, ℕ, List, [], ◌++◌, refl, ap, arith, drop, length, map, subst, sym, take, take-append-drop, append-nil, length-drop, false, true, Bool, Ok, Err}
+use Rattle.std.proofs.Common.{◌≡◌, ◌∙◌, ◌+◌, ◌<◌, ℕ, List, [], ◌++◌, ap, arith, drop, length, map, subst, sym, take, take-append-drop, append-nil, length-drop, false, true, Bool, Ok, Err}
 use Rattle.std.proofs.Math.Seq.{take-append-add, drop-append-add}
 use Rattle.jp_model.specs.declared.Framing.{Framing}
 use Rattle.jp_masks.specs.Found.{lines_in}
@@ -8,7 +8,7 @@ use Rattle.jp_grep.specs.Items.{Item, line_item}
 use Rattle.jp_grep.specs.Positions.{IsAt}
 use Rattle.jp_grep.specs.Searching.{Answers}
 use Rattle.jp_grep.specs.Fronts.{AreRefused, MayGoOn}
-use Rattle.jp_grep.proofs.Advancing.{all_first, answers_in_part, answers_later, answers_none, both_at_ok, handed_on, held_refused, inner_of_front, none_first, not_of_front, other_no_front, says_nothing}
+use Rattle.jp_grep.proofs.Advancing.{all_first, answers_in_part, answers_none, handed_on, held_refused, none_first, not_of_front, other_no_front, says_nothing}
 use Rattle.jp_grep.proofs.Lifted.{first_more, front_goes, in_lines, refused_more, stand_more}
 use Rattle.jp_grep.proofs.Position.{cut_off, held_more}
 use Rattle.jp_grep.proofs.answering.Answering.answer_lines.Goals as goal
@@ -90,12 +90,8 @@ returns-in_err-check_front-clause-advances g c =
           let none = none_first framing came stream.held.items bytes s.lines stream.is_first s.at in
           first_more units came stream answered st bytes [] none.0 none.1;
       refused = handed_on _ r e c.from_residual-in_err-check_front.ensures.1
-          (λ front. (
-            refl,
-            refl,
-            λ came answered st. let s = in_lines units came stream answered st in
-                refused_more units came stream answered st bytes e (held_refused framing came stream.held.items bytes s.lines stream.is_first e (sym first ∙ said.0) refused s.at),
-          ));
+          (λ front came answered st. let s = in_lines units came stream answered st in
+          refused_more units came stream answered st bytes e (held_refused framing came stream.held.items bytes s.lines stream.is_first e (sym first ∙ said.0) refused s.at));
     }
 
 -- what is held goes on as lines
@@ -154,7 +150,7 @@ returns-in_err-answer_until-in-Some-clause-advances g c =
     (read_as now.framing framing now.is_first stream.is_first _ _ c.in_ok-hold.ensures.framing c.in_ok-hold.ensures.first front) said.answers in
     record {
       items = map (line_item framing) lines;
-      answers = answers_in_part q f before after c.args.out.now c.answer_until.new.out c.args.messages.now c.answer_until.new.messages _ _ r c.from_residual-in_err-answer_until-in-Some.ensures.0 answers;
+      answers = answers_in_part q f before after c.args.out.now c.answer_until.new.out c.args.messages.now c.answer_until.new.messages _ _ r c.from_residual-in_err-answer_until-in-Some.ensures.0 c.from_residual-in_err-answer_until-in-Some.ensures.1 answers;
       position = says_nothing _ r c.from_residual-in_err-answer_until-in-Some.ensures.0;
       first = λ came answered st. let s = in_lines units came stream answered st in
           let all = all_first framing came stream.held.items bytes (take end bytes) (drop end bytes) s.lines stream.is_first whole cut s.at in
@@ -176,7 +172,6 @@ returns-in_ok-answer_until-in-Some-clause-advances g c =
     let from : c.len-from.result ≡ length stream.held.items = omega (arith, c.len-from.ensures, stream.held.ok) in
     let before = c.args.self.now.progress in
     let after = c.answer_until.new.self.progress in
-    let r = c.let_go.result in
     let front = front_is stream.held.items bytes c.len-from.result end grown.held.items from c.in_ok-hold.ensures.held in
     let cut = c.in-Some.ensures.1 in
     let whole = sym (take-append-drop end bytes) in
@@ -190,18 +185,20 @@ returns-in_ok-answer_until-in-Some-clause-advances g c =
     let few = shorter (c.len-from.result + end) grown.held.items c.in_ok-hold.ensures.few in
     record {
       items = map (line_item framing) lines;
-      answers = answers_later q f before after c.args.out.now c.answer_until.new.out c.args.messages.now c.answer_until.new.messages _ tt r answers;
-      position = both_at_ok r (λ held first came answered st. let s = in_lines units came stream answered st in
+      answers = answers;
+      position = λ came answered st. let s = in_lines units came stream answered st in
+          let first = c.let_go.ensures.first in
+          let held = c.let_go.ensures.held in
           stand_more units came stream answered st now bytes lines
           (subst (λ (b : Bool). IsAt framing (came ++ bytes) now.held.items (s.lines ++ lines) b) (sym first)
           (subst (λ (l : List ℕ). IsAt framing (came ++ bytes) l (s.lines ++ lines) false) (sym (held ∙ rest))
           (subst (λ (l : List ℕ). IsAt framing (came ++ l) (drop end bytes) (s.lines ++ lines) false) (sym whole)
           (cut_off framing came stream.held.items (take end bytes) (drop end bytes) s.lines stream.is_first cut s.at parted))))
-          (c.let_go.ensures.framing ∙ c.in_ok-hold.ensures.framing) (subst (λ l. length l < 4294967296) (sym held) few)) c.let_go.ensures.held c.let_go.ensures.first;
+          (c.let_go.ensures.framing ∙ c.in_ok-hold.ensures.framing) (subst (λ l. length l < 4294967296) (sym held) few);
       first = λ came answered st. let s = in_lines units came stream answered st in
           let all = all_first framing came stream.held.items bytes (take end bytes) (drop end bytes) s.lines stream.is_first whole cut s.at in
           first_more units came stream answered st bytes lines all.0 all.1;
-      refused = inner_of_front _ r c.let_go.ensures.fault;
+      refused = tt;
     }
   where
     shorter : (n : ℕ) (l : List ℕ) → length l < 4294967296 → length (drop n l) < 4294967296

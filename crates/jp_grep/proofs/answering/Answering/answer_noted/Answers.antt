@@ -1,5 +1,5 @@
--- The pieces are those that are noted.
-use Rattle.std.proofs.Common.{◌≡◌, ◌∙◌, ℕ, List, All, OnOk, Result, Ok, Err, ap, ap₂, false, true, Bool, map, subst, sym, zip}
+-- The pieces are those that are noted, or there is no memory for them.
+use Rattle.std.proofs.Common.{◌≡◌, ◌∙◌, ℕ, List, All, OnOk, Result, Ok, Err, ap, ap₂, refl, false, true, Bool, map, subst, sym, zip}
 use Rattle.std.specs.Prelude.{is_err}
 use Rattle.std.proofs.lemmas.List.Elements.{All-map}
 use Rattle.jp_model.specs.declared.Span.{Span}
@@ -9,6 +9,8 @@ use Rattle.jp_grep.specs.Finding.{span_of}
 use Rattle.jp_grep.specs.Items.{Item}
 use Rattle.jp_grep.specs.ReadItems.{piece_text, piece_with}
 use Rattle.jp_grep.specs.Searching.{Answers}
+use Rattle.jp_grep.specs.declared.fault.SearchFault.TheVariants as faults
+use Rattle.jp_grep.proofs.Advancing.{answers_nothing}
 use Rattle.jp_grep.proofs.Noted.{texts_at, zipped}
 use Rattle.jp_grep.proofs.answering.Answering.answer_noted.Goals as goal
 
@@ -28,6 +30,14 @@ read_texts-requires-clause-within g c =
     ∙ ap (map span_of) c.deref.ensures.value in
     let all : All (IsSpanOf held) (map span_of pieces) = All-map (IsSpanOf held) span_of pieces (λ k d l. let is = c.requires.held k d l in (is.order, is.within)) in
     subst (λ (h : List ℕ). All (IsSpanOf h) c.deref-2.result.now) (sym c.held.ensures) (subst (λ (s : List Span). All (IsSpanOf held) s) (sym (c.deref-2.ensures.value ∙ listed)) all)
+
+pub returns-then-is_err-clause-answers : goal.returns-then-is_err-clause-answers
+returns-then-is_err-clause-answers g c =
+    answers_nothing c.args.answerer.question.now c.args.answerer.form.now g.W.Write.contents g.E.Write.contents c.args.self.now.progress c.args.out.now c.args.messages.now (Err faults.Memory) _ refl
+
+pub returns-in_default-clause-answers : goal.returns-in_default-clause-answers
+returns-in_default-clause-answers g c =
+    answers_nothing c.args.answerer.question.now c.args.answerer.form.now g.W.Write.contents g.E.Write.contents c.args.self.now.progress c.args.out.now c.args.messages.now (Err faults.Memory) _ refl
 
 pub returns-clause-answers : goal.returns-clause-answers
 returns-clause-answers g c =

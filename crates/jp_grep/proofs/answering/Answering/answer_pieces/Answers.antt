@@ -1,5 +1,5 @@
 -- The front of the stream is held, or the pieces that ended are answered.
-use Rattle.std.proofs.Common.{ℕ, List, [], ◌++◌, refl, false}
+use Rattle.std.proofs.Common.{ℕ, List, [], ◌++◌, false}
 use Rattle.jp_grep.specs.Finding.{noted_items}
 use Rattle.jp_grep.specs.Items.{Item}
 use Rattle.jp_grep.specs.Stands.{Stands}
@@ -22,12 +22,8 @@ returns-in_err-take_in-clause-advances g c =
       answers = answers_none q f g.W.Write.contents g.E.Write.contents c.args.self.now.progress c.args.out.now c.args.messages.now r c.requires.under_way;
       position = says_nothing _ r c.from_residual.ensures.0;
       first = λ came answered st. first_come units came cutting answered st false bytes;
-      refused = handed_on _ r e c.from_residual.ensures.1 (λ front. (
-        refl,
-        refl,
-        λ came answered st. let s = in_pieces units came cutting answered st in
-            refused_so units came cutting answered st bytes e (c.in_err-take_in.ensures.taken (pieces_of_it units came cutting answered st) came s.handed s.at front),
-      ));
+      refused = handed_on _ r e c.from_residual.ensures.1 (λ front came answered st. let s = in_pieces units came cutting answered st in
+          refused_so units came cutting answered st bytes e (c.in_err-take_in.ensures.taken (pieces_of_it units came cutting answered st) came s.handed s.at front));
     }
 
 pub returns-then-cutting-clause-advances : goal.returns-then-cutting-clause-advances

@@ -1,10 +1,16 @@
--- The lines are those of the text.
-use Rattle.std.proofs.Common.{◌∙◌, ℕ, List, ap, ap₂, map, subst}
+-- The lines are those of the text, or there is no memory for them.
+use Rattle.std.proofs.Common.{◌∙◌, ℕ, List, Err, ap, ap₂, map, refl, subst}
 use Rattle.jp_model.specs.declared.Framing.{Framing}
 use Rattle.jp_masks.specs.Found.{lines_in}
 use Rattle.jp_grep.specs.Items.{Item, line_item}
 use Rattle.jp_grep.specs.Searching.{Answers}
+use Rattle.jp_grep.specs.declared.fault.SearchFault.TheVariants as faults
+use Rattle.jp_grep.proofs.Advancing.{answers_nothing}
 use Rattle.jp_grep.proofs.answering.Answering.answer_until.Goals as goal
+
+pub returns-in_default-clause-answers : goal.returns-in_default-clause-answers
+returns-in_default-clause-answers g c =
+    answers_nothing c.args.answerer.question.now c.args.answerer.form.now g.W.Write.contents g.E.Write.contents c.args.self.now.progress c.args.out.now c.args.messages.now (Err faults.Memory) _ refl
 
 pub returns-clause-answers : goal.returns-clause-answers
 returns-clause-answers g c =

@@ -1,5 +1,5 @@
 -- A text beside what is known of its piece.
-use Rattle.std.proofs.Common.{◌≡◌, ◌∙◌, ◌<◌, ℕ, List, length, map, ap, ap₂, arith, get_or, slice_get, zip, Some, sym, subst, false, Option}
+use Rattle.std.proofs.Common.{◌≡◌, ◌∙◌, ◌<◌, ℕ, List, length, map, ap, ap₂, arith, get_or, slice_get, zip, None, Some, sym, subst, false, Option}
 use Rattle.std.specs.Prelude.{MatchOption, option_map}
 use denote.Ref.{Bor}
 use Rattle.std.proofs.lemmas.Option.{get_or_from_slice_get, slice_get-get_or, slice_get-map}
@@ -40,9 +40,9 @@ pair_at texts pieces i text other within pieced is =
 -- what is told of a piece
 made : (framing : Framing) (text : List ℕ) (state judged : LineState) (at : PieceAt) (line : ℕ) → framing ≡ framings.Lines → status_of framing text ≡ status_by state
     → status_by judged ≡ piece_judged at.is_closed (status_by state) → line ≡ line_after at.line_feeds
-    → piece_with (text, at) ≡ record { text = text; status = status_by judged; from_line = Some line }
+    → piece_with (text, at) ≡ record { text = text; status = status_by judged; from_line = Some line; given_up = None }
 made framing text state judged at line lines status is after =
-    ap₂ (λ (s : LineStatus) (n : ℕ). let item : Item = record { text = text; status = s; from_line = Some n } in item)
+    ap₂ (λ (s : LineStatus) (n : ℕ). let item : Item = record { text = text; status = s; from_line = Some n; given_up = None } in item)
     (ap (λ f. piece_judged at.is_closed (status_of f text)) (sym lines) ∙ ap (piece_judged at.is_closed) status ∙ sym is) (sym after)
 
 pub line-line-requires-clause-within : goal.line-line-requires-clause-within

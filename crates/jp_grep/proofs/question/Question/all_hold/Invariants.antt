@@ -1,9 +1,9 @@
 -- Whether the conditions from here on hold decides.
 use Rattle.std.proofs.Common.{◌≡◌, map, drop}
-use Rattle.jp_eval.specs.Compiled.{predicate_view}
+use Rattle.jp_grep.specs.Conditions.{condition_view}
 use Rattle.jp_lines.specs.Views.{tree_of_view}
 use Rattle.jp_grep.specs.Matching.{all_hold, conditions_of}
 use Rattle.jp_grep.proofs.question.Question.all_hold.Given as goal
 
 abbrev pub invariant-loop-condition : goal.invariant-loop-condition
-invariant-loop-condition l = all_hold (map predicate_view (drop l.condition-index l.self.conditions.items)) (tree_of_view l.line) ≡ all_hold (conditions_of l.self) (tree_of_view l.line)
+invariant-loop-condition l = all_hold (map condition_view (drop l.condition-index l.self.conditions.items)) (tree_of_view l.line) ≡ all_hold (conditions_of l.self) (tree_of_view l.line)

@@ -24,18 +24,19 @@ module _ {V W X Y : Type 0} {near : V → Option (List ℕ)} {near_told : X → 
 
   part_behind : (lines : List Item) → AnsweredInPart near near_told question form a b a_told b_told lines → AnsweredInPart far far_told question form c d c_told d_told lines
   part_behind lines h = record {
+    all = h.all;
     rows = (h.rows.0, h.rows.1, rows h.rows.0 h.rows.2);
     messages = (h.messages.0, h.messages.1, messages h.messages.0 h.messages.2);
   }
 
-  stopped_behind : (fault : SearchFault) (came : Came) → SearchStopped near near_told question form a b a_told b_told fault came → SearchStopped far far_told question form c d c_told d_told fault came
-  stopped_behind faults.Read came h = (h.0, h.1, told_behind _ h.2)
-  stopped_behind faults.Framing came h = (h.0, all_behind _ h.1)
-  stopped_behind (faults.Foreign format) came h = (h.0, all_behind _ h.1)
-  stopped_behind faults.Size came h = (h.0, part_behind _ h.1)
-  stopped_behind faults.Write came h = (h.0, part_behind _ h.1)
-  stopped_behind faults.Report came h = (h.0, part_behind _ h.1)
-  stopped_behind faults.Memory came h = (h.0, part_behind _ h.1)
+  stopped_behind : (fault : SearchFault) (came : Came) (outcomes : List Item) → SearchStopped near near_told question form a b a_told b_told fault came outcomes → SearchStopped far far_told question form c d c_told d_told fault came outcomes
+  stopped_behind faults.Read came outcomes h = (h.0, h.1, h.2, told_behind _ h.3)
+  stopped_behind faults.Framing came outcomes h = (h.0, all_behind _ h.1)
+  stopped_behind (faults.Foreign format) came outcomes h = (h.0, all_behind _ h.1)
+  stopped_behind faults.Size came outcomes h = h
+  stopped_behind faults.Write came outcomes h = (h.0, part_behind _ h.1)
+  stopped_behind faults.Report came outcomes h = (h.0, part_behind _ h.1)
+  stopped_behind faults.Memory came outcomes h = h
 
 pub returns-in-Err-clause-output : goal.returns-in-Err-clause-output
 returns-in-Err-clause-output g c =
@@ -43,6 +44,8 @@ returns-in-Err-clause-output g c =
       told.0,
       told.1,
       told.2,
+      told.3,
+      told.4,
       at_err _ _ c.search-found.result c.in-Err.field-0 c.in-Err.is
-          (stopped_behind c.args.self.now.question.now c.args.form.now (λ bytes w. record { taken = w.held; held = tt }) (λ bytes w. record { taken = w.held; held = tt }) c.in-Err.field-0 told.0 told.3),
+          (stopped_behind c.args.self.now.question.now c.args.form.now (λ bytes w. record { taken = w.held; held = tt }) (λ bytes w. record { taken = w.held; held = tt }) c.in-Err.field-0 told.0 told.1 told.5),
     )

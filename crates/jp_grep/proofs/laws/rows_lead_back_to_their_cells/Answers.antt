@@ -1,6 +1,0 @@
--- Cell by cell.
-use Rattle.jp_grep.proofs.Cells.{row_leads_back}
-use Rattle.jp_grep.proofs.laws.rows_lead_back_to_their_cells.Goals as goal
-
-pub returns : goal.returns
-returns c = row_leads_back
