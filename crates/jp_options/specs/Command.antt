@@ -1,6 +1,6 @@
 -- The program's words (profile), read as the crate `clap` reads words: `jpgrep [OPTION].. QUERY [FILE]..`, or with `-e QUERY`
 -- or `-w CONDITION` the files alone.
-use Rattle.std.specs.Prelude.{◌≡◌, ◌++◌, ◌&&◌, ◌||◌, not, ℕ, Bool, true, false, List, [], ◌∷◌, Option, Some, codes, if◌then◌else◌, map, option_map, unwrap_or}
+use Rattle.std.specs.Prelude.{◌≡◌, ◌++◌, ◌&&◌, ◌||◌, not, ℕ, Bool, true, false, List, [], ◌∷◌, Option, Some, codes, ◌==◌, if◌then◌else◌, length, map, max, option_map, unwrap_or}
 use Rattle.std.specs.Option.{option_map_or}
 use Rattle.std.specs.Str.{bytes_eq}
 use Rattle.std.specs.Str.Parse.{digits_value, without_leading_plus}
@@ -9,7 +9,8 @@ use Rattle.clap.specs.ValueTests.{is_unsigned_in}
 use Rattle.clap.specs.Walk.{is_empty}
 use Rattle.clap.specs.Words.{App, Kinds, Row, Rule, Text, all_of, fault_of, first_of, matches_of, new_app, new_rule}
 use Rattle.clap.specs.declared.builder.action.ArgAction.TheVariants.{Append, Help, Set, SetTrue}
-use Rattle.clap.specs.declared.error.kind.ErrorKind.TheVariants.{ArgumentConflict, InvalidValue, MissingRequiredArgument}
+use Rattle.clap.specs.declared.error.kind.ErrorKind.TheVariants.{ArgumentConflict, InvalidValue, MissingRequiredArgument, WrongNumberOfValues}
+use Rattle.jp_model.specs.Lines.{pieces}
 use Rattle.jp_options.specs.declared.options.Options.{Options}
 
 -- the words that belong to no option, as many as there are
@@ -25,9 +26,17 @@ option_rule id letter word = record (new_rule id) {
   value_names = 1;
 }
 
+-- `--in` and `--not-in`, which take a value each time that they are given
+abbrev pub list_rule : Text → Rule
+list_rule id = record (new_rule id) { long = Some id; action = Some Append; value_names = 1 }
+
 -- `-m`, of which the last value counts
 abbrev pub most_rule : Rule
 most_rule = record (option_rule (codes "most") 0x6D (codes "max-count")) { action = Some Set }
+
+-- `--names`, of which the last value counts
+abbrev pub names_rule : Rule
+names_rule = record (new_rule (codes "names")) { long = Some (codes "names"); action = Some Set; value_names = 1 }
 
 -- a flag with a letter and a word
 abbrev pub flag_rule : Text → ℕ → Text → Rule
@@ -41,16 +50,18 @@ word_rule id = record (new_rule id) { long = Some id; action = Some SetTrue }
 abbrev pub help_rule : Rule
 help_rule = record (new_rule (codes "help")) { long = Some (codes "help"); action = Some Help }
 
--- which lines are selected: QUERY and FILE, `-e`, `-w`, `-v`, `--refused`
+-- which lines are selected: QUERY and FILE, `-e`, `-w`, `--in`, `--not-in`, `-v`, `--refused`
 abbrev pub asking_rules : List Rule
 asking_rules = words_rule
     ∷ option_rule (codes "query") 0x65 (codes "query")
     ∷ option_rule (codes "where") 0x77 (codes "where")
+    ∷ list_rule (codes "in")
+    ∷ list_rule (codes "not-in")
     ∷ flag_rule (codes "invert") 0x76 (codes "invert-match")
     ∷ word_rule (codes "refused")
     ∷ []
 
--- what is printed: `-o`, `-p`, `-c`, `-l`, `-L`, `-q`
+-- what is printed: `-o`, `-p`, `-c`, `-l`, `-L`, `-q`, `--tally`
 abbrev pub printing_rules : List Rule
 printing_rules = flag_rule (codes "only") 0x6F (codes "only-matching")
     ∷ flag_rule (codes "path") 0x70 (codes "path")
@@ -58,22 +69,25 @@ printing_rules = flag_rule (codes "only") 0x6F (codes "only-matching")
     ∷ flag_rule (codes "with") 0x6C (codes "files-with-matches")
     ∷ flag_rule (codes "without") 0x4C (codes "files-without-match")
     ∷ flag_rule (codes "quiet") 0x71 (codes "quiet")
+    ∷ word_rule (codes "tally")
     ∷ []
 
--- how it is spelled: `-r`, `-j`, `--tsv`, `--csv`, `--header`
+-- how it is spelled: `-r`, `-j`, `--tsv`, `--csv`, `--header`, `--names`
 abbrev pub spelling_rules : List Rule
 spelling_rules = flag_rule (codes "raw") 0x72 (codes "raw")
     ∷ flag_rule (codes "canonical") 0x6A (codes "canonical")
     ∷ word_rule (codes "tsv")
     ∷ word_rule (codes "csv")
     ∷ word_rule (codes "header")
+    ∷ names_rule
     ∷ []
 
--- what stands in front, and how many lines are wanted: `-n`, `-H`, `-h`, `-m`
+-- what stands in front, and how many lines are wanted: `-n`, `-H`, `-h`, `-Z`, `-m`
 abbrev pub front_rules : List Rule
 front_rules = flag_rule (codes "number") 0x6E (codes "line-number")
     ∷ flag_rule (codes "name") 0x48 (codes "with-filename")
     ∷ flag_rule (codes "unnamed") 0x68 (codes "no-filename")
+    ∷ flag_rule (codes "null") 0x5A (codes "null")
     ∷ most_rule
     ∷ []
 
@@ -122,11 +136,17 @@ is_count value = option_map_or (is_unsigned_in 0 18446744073709551615) value tru
 abbrev pub count_of : Option Text → Option ℕ
 count_of value = option_map (λ word. digits_value 10 (without_leading_plus word)) value
 
+-- the names that a value of `--names` lists, with a comma between two of them, and none where there is no value
+abbrev pub names_of : Option Text → List Text
+names_of value = option_map_or (pieces 0x2C) value []
+
 -- the options are what the words give the arguments
 pub record IsAskedBy (found : List Row) (o : Options) : Type 0 where
   pub words : map (λ s. s.now) o.words.items ≡ values_in (codes "words") found
   pub queries : map (λ s. s.now) o.queries.items ≡ values_in (codes "query") found
   pub conditions : map (λ s. s.now) o.conditions.items ≡ values_in (codes "where") found
+  pub lists : map (λ s. s.now) o.lists.items ≡ values_in (codes "in") found
+  pub other_lists : map (λ s. s.now) o.other_lists.items ≡ values_in (codes "not-in") found
   pub most : o.most ≡ count_of (first_of (codes "most") found)
   pub inverted : o.inverted ≡ is_given (codes "invert") found
   pub refused : o.refused ≡ is_given (codes "refused") found
@@ -137,6 +157,8 @@ pub record IsAskedBy (found : List Row) (o : Options) : Type 0 where
   pub tabs : o.tabs ≡ is_given (codes "tsv") found
   pub commas : o.commas ≡ is_given (codes "csv") found
   pub header : o.header ≡ is_given (codes "header") found
+  pub names : map (λ s. s.now) o.names.items ≡ names_of (first_of (codes "names") found)
+  pub tally : o.tally ≡ is_given (codes "tally") found
   pub numbered : o.numbered ≡ is_given (codes "number") found
   pub counted : o.counted ≡ is_given (codes "count") found
   pub quiet : o.quiet ≡ is_given (codes "quiet") found
@@ -144,17 +166,19 @@ pub record IsAskedBy (found : List Row) (o : Options) : Type 0 where
   pub without_matches : o.without_matches ≡ is_given (codes "without") found
   pub named : o.named ≡ is_given (codes "name") found
   pub unnamed : o.unnamed ≡ is_given (codes "unnamed") found
+  pub null : o.null ≡ is_given (codes "null") found
   pub silent : o.silent ≡ is_given (codes "silent") found
   pub checks : o.checks ≡ is_given (codes "check") found
   pub texts : o.texts ≡ is_given (codes "json") found
   pub elements : o.elements ≡ is_given (codes "elements") found
   pub sequence : o.sequence ≡ is_given (codes "seq") found
 
--- neither `-e` nor `-w` was given
+-- none of `-e`, `-w`, `--in` and `--not-in` was given
 abbrev pub names_nothing : List Row → Bool
 names_nothing found = is_empty (values_in (codes "query") found) && is_empty (values_in (codes "where") found)
+    && is_empty (values_in (codes "in") found) && is_empty (values_in (codes "not-in") found)
 
--- neither a query nor a condition was given, nor `--refused`: there is no word, no `-e` and no `-w`
+-- neither a query nor a condition was given, nor `--refused`: there is no word, and none of `-e`, `-w`, `--in` and `--not-in`
 abbrev pub asks_nothing : List Row → Bool
 asks_nothing found = not (is_given (codes "refused") found) && is_empty (values_in (codes "words") found) && names_nothing found
 
@@ -169,17 +193,29 @@ asks_table found = is_given (codes "tsv") found || is_given (codes "csv") found
 abbrev pub asks_spelling : List Row → Bool
 asks_spelling found = is_given (codes "raw") found || is_given (codes "canonical") found
 
--- something is asked of values, which a refused line has none of: `-e`, `-w`, `-v`, `-o`, `-r`, `-j` or a table
+-- something is asked of values, which a refused line has none of: `-e`, `-w`, `--in`, `--not-in`, `-v`, `-o`, `-r`, `-j` or a table
 abbrev pub asks_of_values : List Row → Bool
 asks_of_values found = not (names_nothing found) || is_given (codes "invert") found || is_given (codes "only") found || asks_spelling found || asks_table found
 
+-- the names of columns are asked for: `--header` or `--names`
+abbrev pub asks_header : List Row → Bool
+asks_header found = is_given (codes "header") found || not (is_empty (names_of (first_of (codes "names") found)))
+
+-- the names of `--names` are given, and are not as many as the queries, of which there is one where there is no `-e`
+abbrev pub has_other_names : List Row → Bool
+has_other_names found =
+    let names = names_of (first_of (codes "names") found) in
+    not (is_empty names) && not (length names == max (length (values_in (codes "query") found)) 1)
+
 -- why the words of what is printed do not go together: `-r` with `-j`, `--tsv` with `--csv`, a table with what spells or
--- selects otherwise, `--header` without a table, `-v` with what prints values; and none where they do
+-- selects otherwise, `--header` or `--names` without a table or a tally, more names than queries or fewer, `-v` with what prints values;
+-- and none where they do
 abbrev pub form_conflicts : List Row → Kinds
 form_conflicts found = if is_given (codes "raw") found && is_given (codes "canonical") found then ArgumentConflict ∷ []
     else if is_given (codes "tsv") found && is_given (codes "csv") found then ArgumentConflict ∷ []
     else if asks_table found && (asks_values found || asks_spelling found) then ArgumentConflict ∷ []
-    else if is_given (codes "header") found && not (asks_table found) then MissingRequiredArgument ∷ []
+    else if asks_header found && not (asks_table found) && not (is_given (codes "tally") found) then MissingRequiredArgument ∷ []
+    else if has_other_names found then WrongNumberOfValues ∷ []
     else if is_given (codes "invert") found && (asks_table found || asks_values found) then ArgumentConflict ∷ [] else []
 
 -- why the words of what plays the lines do not go together: `--json` with `--elements`, `--seq` with either of them; and none
@@ -188,12 +224,22 @@ abbrev pub stream_conflicts : List Row → Kinds
 stream_conflicts found = if is_given (codes "json") found && is_given (codes "elements") found then ArgumentConflict ∷ []
     else if is_given (codes "seq") found && (is_given (codes "json") found || is_given (codes "elements") found) then ArgumentConflict ∷ [] else []
 
--- why the words do not go together: `-l` with `-L`, `-H` with `-h`, `--refused` with what asks of values, what is printed, what
--- plays the lines, no query; and none where they do
+-- something is asked for that a tally has none of: `-o`, `-p`, `-c`, `-l`, `-L`, `-q`, `-n`, `-H`, `-Z`, `-v`, `--seq`,
+-- `--refused`
+abbrev pub refuses_tally : List Row → Bool
+refuses_tally found =
+    asks_values found
+    || (is_given (codes "count") found || is_given (codes "with") found || is_given (codes "without") found || is_given (codes "quiet") found)
+    || (is_given (codes "number") found || is_given (codes "name") found || is_given (codes "null") found)
+    || is_given (codes "invert") found || is_given (codes "seq") found || is_given (codes "refused") found
+
+-- why the words do not go together: `-l` with `-L`, `-H` with `-h`, `--refused` with what asks of values, `--tally` with what it
+-- has none of, what is printed, what plays the lines, no query; and none where they do
 abbrev pub conflicts_in : List Row → Kinds
 conflicts_in found = if is_given (codes "with") found && is_given (codes "without") found then ArgumentConflict ∷ []
     else if is_given (codes "name") found && is_given (codes "unnamed") found then ArgumentConflict ∷ []
     else if is_given (codes "refused") found && asks_of_values found then ArgumentConflict ∷ []
+    else if is_given (codes "tally") found && refuses_tally found then ArgumentConflict ∷ []
     else or_else (form_conflicts found) (or_else (stream_conflicts found) (if asks_nothing found then MissingRequiredArgument ∷ [] else []))
 
 -- why the words are refused as they are read: the kinds that the error may have, and none where they are taken

@@ -1,3 +1,4 @@
 -- What the words of jpgrep ask for.
 pub mod Words
+pub mod Pairs
 pub mod Command

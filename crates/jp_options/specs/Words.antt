@@ -7,6 +7,7 @@ use Rattle.jp_form.specs.declared.form.Spelling.{Spelling}
 use Rattle.jp_form.specs.declared.form.Spelling.TheVariants as spellings
 use Rattle.jp_form.specs.declared.form.Summary.{Summary}
 use Rattle.jp_form.specs.declared.form.Summary.TheVariants as summaries
+use Rattle.jp_form.specs.declared.form.Table.{Table}
 use Rattle.jp_form.specs.declared.form.Table.TheVariants as tables
 use Rattle.jp_form.specs.declared.form.Units.{Units}
 use Rattle.jp_form.specs.declared.form.Units.TheVariants as units
@@ -20,16 +21,29 @@ words_of o = map (λ s. s.now) o.words.items
 abbrev pub given_queries : Options → List (List ℕ)
 given_queries o = map (λ s. s.now) o.queries.items
 
--- there is neither `-e` nor `-w` nor `--refused`, so that the first word is the query
-abbrev pub begins_with_query : Options → Bool
-begins_with_query o = not o.refused && not (ltb 0 (length o.queries.items)) && not (ltb 0 (length o.conditions.items))
+-- there is `--in` or `--not-in`
+abbrev pub names_list : Options → Bool
+names_list o = ltb 0 (length o.lists.items) || ltb 0 (length o.other_lists.items)
 
--- the queries: the first word, or those of `-e`, or `$` where there is `-w` alone, or none where there is `--refused`
+-- there is none of `-e`, `-w`, `--in`, `--not-in` and `--refused`, so that the first word is the query
+abbrev pub begins_with_query : Options → Bool
+begins_with_query o = not o.refused && not (ltb 0 (length o.queries.items)) && not (ltb 0 (length o.conditions.items)) && not (names_list o)
+
+-- the queries: the first word, or those of `-e`, or `$` where there are conditions or lists alone, or none where there is
+-- `--refused`
 abbrev pub asked_queries : Options → List (List ℕ)
 asked_queries o =
     if begins_with_query o then take 1 (words_of o)
     else if not o.refused && not (ltb 0 (length o.queries.items)) then codes "$" ∷ []
     else given_queries o
+
+-- the names of the columns are wanted
+abbrev pub has_header : Options → Bool
+has_header o = o.header || ltb 0 (length o.names.items)
+
+-- the names of the columns: those of `--names`, or else the queries
+abbrev pub asked_columns : Options → List (List ℕ)
+asked_columns o = if ltb 0 (length o.names.items) then map (λ s. s.now) o.names.items else asked_queries o
 
 -- the files: the words behind the query, or all of them
 abbrev pub asked_files : Options → List (List ℕ)
@@ -55,25 +69,42 @@ asked_units o =
     else if o.sequence then units.Lines framings.Sequence
     else units.Lines framings.Lines
 
--- what a row shows: nothing where something else is printed, cells where `--tsv` or `--csv` asks for them, values where `-o` or
+-- there are several queries
+abbrev pub has_several : Options → Bool
+has_several o = ltb 1 (length o.queries.items)
+
+-- each query is a column: those of a table, or several of a tally
+abbrev pub has_columns : Options → Bool
+has_columns o = if o.tally then has_several o else o.tabs || o.commas
+
+-- what of a line is tallied: the values of one query, or a row of the values of several
+abbrev pub tally_rows : Options → Shown
+tally_rows o = if has_several o then shown.Cells tables.Canonical else shown.Values false
+
+-- how the cells of a tally are shown: as in a table, or in canonical form; `-r` shows them as `--tsv` does
+abbrev pub tally_table : Options → Table
+tally_table o = if o.commas then tables.Commas else if o.tabs || o.raw then tables.Tabs else tables.Canonical
+
+-- what a row shows: nothing where something else is printed, what is tallied, cells where `--tsv` or `--csv` asks for them, values where `-o` or
 -- `-p` does, and of a refused line with `-p` the word of its fault
 abbrev pub asked_rows : Options → Shown
 asked_rows o =
     if first_decides o || o.counted then shown.Nothing
+    else if o.tally then tally_rows o
     else if o.tabs then shown.Cells tables.Tabs
     else if o.commas then shown.Cells tables.Commas
     else if o.refused then shown.Line o.paths
     else if o.only_matching || o.paths then shown.Values o.paths
     else shown.Line false
 
--- how a row spells it, as `-r` and `-j` ask for
+-- how a row spells it, as `-r` and `-j` ask for; what is tallied is in canonical form
 abbrev pub asked_spelling : Options → Spelling
-asked_spelling o = if o.raw then spellings.Text else if o.canonical then spellings.Canonical else spellings.Source
+asked_spelling o = if o.tally then spellings.Canonical else if o.raw then spellings.Text else if o.canonical then spellings.Canonical else spellings.Source
 
 -- what is printed in place of rows: of `-q`, `-l`, `-L`, `-c` the first decides
 abbrev pub asked_summary : Options → Summary
 asked_summary o = if o.quiet then summaries.Nothing else if o.with_matches then summaries.NameWith else if o.without_matches then summaries.NameWithout else if o.counted then summaries.Count else summaries.Nothing
 
--- the name of the file stands in front: as `-H` and `-h` ask for, and else where there are several
+-- the name of the file stands in front: as `-H` and `-h` ask for, and else where there are several; and of no tally
 abbrev pub asks_names : Options → Bool
-asks_names o = o.named || (not o.unnamed && ltb 1 (length (asked_files o)))
+asks_names o = not o.tally && (o.named || (not o.unnamed && ltb 1 (length (asked_files o))))

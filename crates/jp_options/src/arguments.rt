@@ -2,7 +2,7 @@
 
 ghost use Rattle.std.specs.Prelude.{◌≡◌, IfOk, codes, false};
 ghost use Rattle.clap.specs.Words.{app_of, new_app, rule_of};
-ghost use Rattle.jp_options.specs.Command.{asking_rules, flag_rule, front_rules, general_rules, help_rule, most_rule, option_rule, printing_rules, program, spelling_rules, with_rules, with_settings, word_rule, words_rule};
+ghost use Rattle.jp_options.specs.Command.{asking_rules, flag_rule, front_rules, general_rules, help_rule, list_rule, most_rule, names_rule, option_rule, printing_rules, program, spelling_rules, with_rules, with_settings, word_rule, words_rule};
 
 use clap::{Arg, ArgAction, Command};
 use std::alloc::{AllocError, Global};
@@ -13,14 +13,15 @@ const VERSION: &str = "0.3.0";
 /// What follows the options in the program's help.
 const AFTER_HELP: &str =
     "A line is selected if its value matches: every CONDITION holds, and some QUERY (RFC 9535) selects a node.
+With --csv or --tsv each QUERY is a column, and a line matches if every CONDITION holds.
 Lines that are blank or no JSON never match; those that are no JSON are told on standard error, ten of each file.
-With -e, -w or --refused every word is a FILE. With no FILE, or where FILE is -, standard input is read.
+With -e, -w, --in, --not-in or --refused every word is a FILE. With no FILE, or where FILE is -, standard input is read.
 The exit status is 0 if a line is selected, 1 if none is, and 2 if anything is refused or fails.
 
 Examples:
   jpgrep '$[?$.level==\"error\"]' log.jsonl
   jpgrep -w '@.level == \"error\" && @.ms > 200' log.jsonl
-  jpgrep --csv --header -e '$.time' -e '$.ms' log.jsonl
+  jpgrep --csv --names time,ms -e '$.time' -e '$.ms' log.jsonl
   tail -f log.jsonl | jpgrep -or '$.msg'
   jpgrep --refused -np log.jsonl
   jpgrep --elements -w '@.ms > 200' export.json";
@@ -44,7 +45,7 @@ fn bare_command<'a>(alloc: Global) -> Command<'a>
             "Prints the lines of JSON Lines files whose values match a JSONPath query (RFC 9535)",
         )
         .override_usage(
-            "jpgrep [OPTIONS] <QUERY> [FILE]...\n       jpgrep [OPTIONS] (-e <QUERY> | -w <CONDITION>)... [FILE]...\n       jpgrep [OPTIONS] --refused [FILE]...",
+            "jpgrep [OPTIONS] <QUERY> [FILE]...\n       jpgrep [OPTIONS] (-e <QUERY> | -w <CONDITION> | --in <QUERY> <FILE>)... [FILE]...\n       jpgrep [OPTIONS] --refused [FILE]...",
         )
         .after_help(AFTER_HELP)
         .disable_help_flag(true)
@@ -71,7 +72,9 @@ fn words_argument<'a>(alloc: Global) -> Arg<'a>
     Arg::new(alloc, "words")
         .value_name("WORDS")
         .action(ArgAction::Append)
-        .help("The query, unless -e, -w or --refused is given, and the files; - is standard input")
+        .help(
+            "The query, unless -e, -w, --in, --not-in or --refused is given, and the files; - is standard input",
+        )
 }
 
 /// `-e QUERY`, as often as wanted.
@@ -100,6 +103,18 @@ fn where_argument<'a>(alloc: Global) -> Arg<'a>
         .help("A condition that has to hold, in which @ and $ are the line's value")
 }
 
+/// `--in QUERY FILE` or `--not-in QUERY FILE`, as often as wanted. Its word stands before each of the two (`pair_words`).
+fn list_argument<'a>(alloc: Global, id: &'a str, help: &'a str) -> Arg<'a>
+    ensures rule { rule_of result ≡ list_rule id.entry.now }
+    ensures local { result.global ≡ false }
+{
+    Arg::new(alloc, id)
+        .long(id)
+        .value_name("QUERY> <FILE")
+        .action(ArgAction::Append)
+        .help(help)
+}
+
 /// `-m NUMBER`.
 fn most_argument<'a>(alloc: Global) -> Arg<'a>
     ensures rule { rule_of result ≡ most_rule }
@@ -111,6 +126,18 @@ fn most_argument<'a>(alloc: Global) -> Arg<'a>
         .value_name("NUMBER")
         .action(ArgAction::Set)
         .help("Stops after NUMBER selected lines of each file")
+}
+
+/// `--names NAMES`.
+fn names_argument<'a>(alloc: Global) -> Arg<'a>
+    ensures rule { rule_of result ≡ names_rule }
+    ensures local { result.global ≡ false }
+{
+    Arg::new(alloc, "names")
+        .long("names")
+        .value_name("NAMES")
+        .action(ArgAction::Set)
+        .help("Prints NAMES above the rows, with commas between them, in place of the queries")
 }
 
 /// A flag with a word alone.
@@ -143,6 +170,16 @@ fn add_asking<'a>(alloc: Global, command: Command<'a>) -> Result<Command<'a>, Al
         .arg(words_argument(alloc))?
         .arg(query_argument(alloc))?
         .arg(where_argument(alloc))?
+        .arg(list_argument(
+            alloc,
+            "in",
+            "A condition: QUERY selects a value that is one of FILE's lines",
+        ))?
+        .arg(list_argument(
+            alloc,
+            "not-in",
+            "A condition: QUERY selects none of them, or nothing",
+        ))?
         .arg(flag(
             alloc,
             "invert",
@@ -203,6 +240,11 @@ fn add_printing<'a>(alloc: Global, command: Command<'a>) -> Result<Command<'a>, 
             'q',
             "quiet",
             "Prints nothing, and ends at the first selected line",
+        ))?
+        .arg(word_flag(
+            alloc,
+            "tally",
+            "Prints how often each selected value came, the most frequent first",
         ))
 }
 
@@ -239,7 +281,8 @@ fn add_spelling<'a>(alloc: Global, command: Command<'a>) -> Result<Command<'a>, 
             alloc,
             "header",
             "Prints the queries above the rows of --tsv or --csv",
-        ))
+        ))?
+        .arg(names_argument(alloc))
 }
 
 /// The words that say what stands in front, and how many lines are wanted.
@@ -267,6 +310,13 @@ fn add_fronts<'a>(alloc: Global, command: Command<'a>) -> Result<Command<'a>, Al
             'h',
             "no-filename",
             "Prints no name of a file in front",
+        ))?
+        .arg(flag(
+            alloc,
+            "null",
+            'Z',
+            "null",
+            "Prints a NUL behind the name of a file, in place of what follows it",
         ))?
         .arg(most_argument(alloc))
 }

@@ -2,13 +2,17 @@
 //!
 //! Public calls:
 //!
-//! - `read_words`: the words as options
+//! - `pair_words`, `read_words`: the words as options
 //! - `Options`: the queries, the conditions and the files, and the form of what is written of a file
 #![tactic(auto)]
 
 mod arguments;
+mod columns;
+mod messages;
 mod options;
+mod pairs;
 mod words;
 
 pub use options::Options;
+pub use pairs::pair_words;
 pub use words::read_words;

@@ -4,8 +4,12 @@ ghost use Rattle.std.specs.Prelude.{◌≡◌, ◌||◌, ◌∷◌, [], List, ma
 ghost use Rattle.std.specs.Option.{option_map_or};
 ghost use Rattle.clap.specs.Words.{Row};
 ghost use Rattle.jp_options.specs.Command.{IsAskedBy, asks_of_values, asks_spelling, conflicts_in, form_conflicts, names_nothing, stream_conflicts};
-ghost use Rattle.jp_options.specs.Words.{asked_files, asked_most, asked_queries, asked_rows, asked_spelling, asked_summary, asked_units, asks_names, begins_with_query};
+ghost use Rattle.jp_options.specs.Words.{asked_files, asked_most, asked_queries, asked_rows, asked_spelling, asked_summary, asked_units, asks_names, begins_with_query, names_list};
 
+use crate::messages::{
+    BOTH_FRONTS, BOTH_NAMES, BOTH_PIECES, BOTH_SPELLINGS, BOTH_TABLES, NO_NAMES, NO_PIECES,
+    NO_QUERY, NO_QUESTION, NO_SPELLING, NO_TABLE, NO_TALLY, NO_VALUES,
+};
 use clap::error::ErrorKind;
 use jp_form::{Form, Pieces, Shown, Spelling, Summary, Table, Units};
 use jp_model::Framing;
@@ -13,12 +17,16 @@ use jp_model::Framing;
 /// What the program's words ask for.
 #[derive(Drop)]
 pub struct Options<'a> {
-    /// The words that belong to no option: the files, and before them the query where neither `-e` nor `-w` is given.
+    /// The words that belong to no option: the files, and before them the query where no option gives one or a condition.
     pub words: Vec<&'a str>,
     /// The queries of `-e`, in their order.
     pub queries: Vec<&'a str>,
     /// The conditions of `-w`, in their order.
     pub conditions: Vec<&'a str>,
+    /// The words behind each `--in`, in their order: a query, and the file of a list.
+    pub lists: Vec<&'a str>,
+    /// Those behind each `--not-in`.
+    pub other_lists: Vec<&'a str>,
     /// `-m`: how many selected lines of each file are wanted.
     pub most: Option<u64>,
     /// `-v`: the lines that do not match are selected.
@@ -39,6 +47,10 @@ pub struct Options<'a> {
     pub commas: bool,
     /// `--header`: the queries are printed above the cells.
     pub header: bool,
+    /// `--names`: what is printed above the cells in place of the queries, if it is given.
+    pub names: Vec<&'a str>,
+    /// `--tally`: how often each value came is printed.
+    pub tally: bool,
     /// `-n`: the number of each line is printed in front.
     pub numbered: bool,
     /// `-c`: how many lines are selected is printed.
@@ -53,6 +65,8 @@ pub struct Options<'a> {
     pub named: bool,
     /// `-h`: it is not.
     pub unnamed: bool,
+    /// `-Z`: a NUL stands behind it.
+    pub null: bool,
     /// `-s`: refused lines are passed over, and no message tells of a file that cannot be read.
     pub silent: bool,
     /// `--check`: no file is read, and queries and conditions are looked at alone.
@@ -66,11 +80,18 @@ pub struct Options<'a> {
 }
 
 impl<'a> Options<'a> {
-    /// Whether neither `-e` nor `-w` is given.
+    /// Whether `--in` or `--not-in` is given.
+    fn names_list(&self) -> bool
+        ensures { result ≡ names_list self.now }
+    {
+        !self.lists.is_empty() || !self.other_lists.is_empty()
+    }
+
+    /// Whether none of `-e`, `-w`, `--in` and `--not-in` is given.
     fn names_nothing(&self) -> bool
         ensures { (found : List Row) → IsAskedBy found self.now → result ≡ names_nothing found }
     {
-        self.queries.is_empty() && self.conditions.is_empty()
+        self.queries.is_empty() && self.conditions.is_empty() && !self.names_list()
     }
 
     /// Whether a value is spelled otherwise than its line spells it.
@@ -106,8 +127,11 @@ impl<'a> Options<'a> {
         if table && (values || self.asks_spelling()) {
             return Some((ErrorKind::ArgumentConflict, NO_SPELLING));
         }
-        if self.header && !table {
+        if self.has_header() && !table && !self.tally {
             return Some((ErrorKind::MissingRequiredArgument, NO_TABLE));
+        }
+        if !self.names.is_empty() && self.names.len() != self.queries.len().max(1) {
+            return Some((ErrorKind::WrongNumberOfValues, NO_NAMES));
         }
         if self.inverted && (table || values) {
             return Some((ErrorKind::ArgumentConflict, NO_VALUES));
@@ -143,6 +167,9 @@ impl<'a> Options<'a> {
         if self.refused && self.asks_of_values() {
             return Some((ErrorKind::ArgumentConflict, NO_QUESTION));
         }
+        if self.tally && self.refuses_tally() {
+            return Some((ErrorKind::ArgumentConflict, NO_TALLY));
+        }
         if let Some(conflict) = self.form_conflict() {
             return Some(conflict);
         }
@@ -161,11 +188,11 @@ impl<'a> Options<'a> {
     fn begins_with_query(&self) -> bool
         ensures { result ≡ begins_with_query self.now }
     {
-        !self.refused && self.queries.is_empty() && self.conditions.is_empty()
+        !self.refused && self.queries.is_empty() && self.conditions.is_empty() && !self.names_list()
     }
 
-    /// The queries that the words name: those of `-e`, or the first word where there is neither `-e` nor `-w`. With `-w` alone
-    /// it is `$`, and with `--refused` there is none.
+    /// The queries that the words name: those of `-e`, or the first word where there is none of `-e`, `-w`, `--in` and
+    /// `--not-in`. Without `-e` it is `$` otherwise, and with `--refused` there is none.
     pub fn queries(&self) -> &[&'a str]
         ensures { map (λ s. s.now) result.now ≡ asked_queries self.now }
     {
@@ -230,6 +257,8 @@ impl<'a> Options<'a> {
     {
         if self.quiet || self.with_matches || self.without_matches || self.counted {
             Shown::Nothing
+        } else if self.tally {
+            self.tallied()
         } else if self.tabs {
             Shown::Cells(Table::Tabs)
         } else if self.commas {
@@ -247,7 +276,9 @@ impl<'a> Options<'a> {
     fn spelling(&self) -> Spelling
         ensures { result ≡ asked_spelling self.now }
     {
-        if self.raw {
+        if self.tally {
+            Spelling::Canonical
+        } else if self.raw {
             Spelling::Text
         } else if self.canonical {
             Spelling::Canonical
@@ -280,6 +311,7 @@ impl<'a> Options<'a> {
         ensures summary { result.summary ≡ asked_summary self.now }
         ensures name { result.name ≡ name.entry }
         ensures named { result.named ≡ asks_names self.now }
+        ensures null { result.null ≡ self.now.null }
         ensures numbered { result.numbered ≡ self.now.numbered }
         ensures silent { result.silent ≡ (self.now.silent || self.now.refused) }
         ensures units { result.units ≡ asked_units self.now }
@@ -291,48 +323,11 @@ impl<'a> Options<'a> {
             spelling: self.spelling(),
             summary: self.summary(),
             name,
-            named: self.named || (!self.unnamed && self.files().len() > 1),
+            named: self.is_named(),
+            null: self.null,
             numbered: self.numbered,
             silent: self.silent || self.refused,
             most: self.most(),
         }
     }
 }
-
-/// What is said if `-l` is used with `-L`.
-const BOTH_NAMES: &str =
-    "the argument '--files-with-matches' cannot be used with '--files-without-match'";
-
-/// What is said if `-H` is used with `-h`.
-const BOTH_FRONTS: &str = "the argument '--with-filename' cannot be used with '--no-filename'";
-
-/// What is said if `--refused` is used with what asks of values.
-const NO_QUESTION: &str =
-    "the argument '--refused' cannot be used with '--query', '--where', '--invert-match', '--only-matching', '--raw', '--canonical', '--tsv' or '--csv'";
-
-/// What is said if `-r` is used with `-j`.
-const BOTH_SPELLINGS: &str = "the argument '--raw' cannot be used with '--canonical'";
-
-/// What is said if `--tsv` is used with `--csv`.
-const BOTH_TABLES: &str = "the argument '--tsv' cannot be used with '--csv'";
-
-/// What is said if a table is to show values otherwise.
-const NO_SPELLING: &str =
-    "the arguments '--tsv' and '--csv' cannot be used with '--only-matching', '--path', '--raw' or '--canonical'";
-
-/// What is said if `--header` is used without a table.
-const NO_TABLE: &str = "the argument '--header' is used with '--tsv' or '--csv' alone";
-
-/// What is said if `-v` is used with what shows values.
-const NO_VALUES: &str =
-    "the argument '--invert-match' cannot be used with '--only-matching', '--path', '--tsv' or '--csv'";
-
-/// What is said if `--json` is used with `--elements`.
-const BOTH_PIECES: &str = "the argument '--json' cannot be used with '--elements'";
-
-/// What is said if `--seq` is used with what cuts the files otherwise.
-const NO_PIECES: &str = "the argument '--seq' cannot be used with '--json' or '--elements'";
-
-/// What is said if no word is a query.
-const NO_QUERY: &str =
-    "no QUERY was given, nor '--query <QUERY>', '--where <CONDITION>' or '--refused'";

@@ -2,7 +2,8 @@
 
 ghost use Rattle.std.specs.Prelude.{◌≡◌, IfOk, OkIff, codes, map, option_map, true};
 ghost use Rattle.clap.specs.Words.{FailsBy, first_of, found_of, rows_of};
-ghost use Rattle.jp_options.specs.Command.{IsAskedBy, count_of, faults_in, found_in, is_count, is_given, reading_faults, values_in};
+ghost use Rattle.jp_model.specs.Lines.{pieces};
+ghost use Rattle.jp_options.specs.Command.{IsAskedBy, count_of, faults_in, found_in, is_count, is_given, names_of, reading_faults, values_in};
 
 use crate::arguments::program_command;
 use crate::options::Options;
@@ -61,6 +62,23 @@ fn values<'a>(alloc: Global, matches: &ArgMatches<'a>, id: &str) -> Result<Vec<&
     Vec::from_slice(alloc, matches.get_strs(id).unwrap_or(&[]))
 }
 
+/// The parts of a list, with a comma between two of them.
+fn split_list<'a>(alloc: Global, list: &'a str) -> Result<Vec<&'a str>, AllocError>
+    ensures { IfOk result (λ parts. map (λ s. s.now) parts.items ≡ pieces 0x2C list.entry.now) }
+{
+    list.split(',').collect(alloc)
+}
+
+/// The names of columns that `--names` lists, and none where it is not given.
+fn read_names<'a>(alloc: Global, matches: &ArgMatches<'a>) -> Result<Vec<&'a str>, AllocError>
+    ensures { IfOk result (λ names. map (λ s. s.now) names.items ≡ names_of (first_of (codes "names") (rows_of (found_of matches.now)))) }
+{
+    match matches.get_str("names") {
+        Some(list) => split_list(alloc, list),
+        None => Ok(Vec::new(alloc)),
+    }
+}
+
 /// Whether a flag is given.
 fn is_given(matches: &ArgMatches<'_>, id: &str) -> bool
     ensures { result ≡ is_given id.now (rows_of (found_of matches.now)) }
@@ -84,6 +102,8 @@ fn read_matches<'a>(
         words: values(alloc, matches, "words")?,
         queries: values(alloc, matches, "query")?,
         conditions: values(alloc, matches, "where")?,
+        lists: values(alloc, matches, "in")?,
+        other_lists: values(alloc, matches, "not-in")?,
         most,
         inverted: is_given(matches, "invert"),
         refused: is_given(matches, "refused"),
@@ -94,6 +114,8 @@ fn read_matches<'a>(
         tabs: is_given(matches, "tsv"),
         commas: is_given(matches, "csv"),
         header: is_given(matches, "header"),
+        names: read_names(alloc, matches)?,
+        tally: is_given(matches, "tally"),
         numbered: is_given(matches, "number"),
         counted: is_given(matches, "count"),
         quiet: is_given(matches, "quiet"),
@@ -101,6 +123,7 @@ fn read_matches<'a>(
         without_matches: is_given(matches, "without"),
         named: is_given(matches, "name"),
         unnamed: is_given(matches, "unnamed"),
+        null: is_given(matches, "null"),
         silent: is_given(matches, "silent"),
         checks: is_given(matches, "check"),
         texts: is_given(matches, "json"),

@@ -3,10 +3,18 @@
 use crate::note::meant_condition;
 use crate::patterns::Warner;
 use crate::refusal::{Refusal, Text};
-use jp_grep::{Question, Wanted};
+use jp_grep::{Queries, Question, Wanted};
 use jp_options::Options;
 use jp_query::{read_condition, read_query};
-use jp_syntax::is_singular;
+use jp_syntax::{SingularPath, is_singular, singular};
+
+/// A list that is asked of: the query of the value, the file of the list, and whether the value is to be in it.
+#[derive(Drop)]
+pub(crate) struct AskedList<'a> {
+    pub(crate) query: SingularPath,
+    pub(crate) file: &'a str,
+    pub(crate) wanted: bool,
+}
 
 /// The question that is read, what is warned of, and the condition that its first such query probably means.
 #[derive(Drop)]
@@ -15,18 +23,21 @@ struct Reader<'r, 'a> {
     question: Question,
     warner: Warner<'r>,
     meant: Option<&'a str>,
+    lists: Vec<AskedList<'a>>,
 }
 
-/// The question, whether a pattern of it is not valid, and the condition that a filter of it probably means.
+/// The question without its lists, whether a pattern of it is not valid, the condition that a filter of it probably means, and
+/// the lists.
 #[derive(Drop)]
 pub(crate) struct Asked<'a> {
     pub(crate) question: Question,
     pub(crate) has_warnings: bool,
     pub(crate) meant: Option<&'a str>,
+    pub(crate) lists: Vec<AskedList<'a>>,
 }
 
 impl<'r, 'a> Reader<'r, 'a> {
-    /// Adds a query, and warns of its patterns. One that is a column of a table selects no more than one node of any line.
+    /// Adds a query, and warns of its patterns. One that is a column selects no more than one node of any line.
     fn add_query(&mut self, text: &'a str, is_column: bool) -> Result<(), Refusal<'a>> {
         match read_query(self.rt.alloc(), text.as_bytes()) {
             Ok(query) => {
@@ -53,6 +64,43 @@ impl<'r, 'a> Reader<'r, 'a> {
             Err(refusal) => Err(Refusal::of(Text::Condition(text), refusal)),
         }
     }
+
+    /// Adds the lists of some words, of which each query is followed by its file.
+    fn add_lists(&mut self, words: &[&'a str], wanted: bool) -> Result<(), Refusal<'a>> {
+        for pair in words.chunks_exact(2) {
+            if let [text, file] = pair {
+                let query = read_list_query(self.rt, text)?;
+                let list = AskedList {
+                    query,
+                    file,
+                    wanted,
+                };
+                if self.lists.push(list).is_err() {
+                    return Err(Refusal::Memory);
+                }
+            }
+        }
+        Ok(())
+    }
+}
+
+/// The singular query of a list's words (RFC 9535, section 2.3.5.1). As in a condition, `@` at its front is `$`.
+fn read_list_query<'a>(rt: &HostRuntime, text: &'a str) -> Result<SingularPath, Refusal<'a>> {
+    let mut rooted = String::new(rt.alloc());
+    match text.strip_prefix('@') {
+        Some(rest) => {
+            rooted.push('$')?;
+            rooted.push_str(rest)?;
+        }
+        None => rooted.push_str(text)?,
+    }
+    match read_query(rt.alloc(), rooted.as_bytes()) {
+        Ok(query) => match singular(rt.alloc(), query.query())? {
+            Some(path) => Ok(path),
+            None => Err(Refusal::of_many(text, query.segments())),
+        },
+        Err(refusal) => Err(Refusal::of(Text::ListQuery(text), refusal)),
+    }
 }
 
 /// Which lines the words select.
@@ -66,6 +114,15 @@ fn wanted(options: &Options<'_>) -> Wanted {
     }
 }
 
+/// What the queries of the words are for.
+fn purpose(options: &Options<'_>) -> Queries {
+    if options.has_columns() {
+        Queries::Columns
+    } else {
+        Queries::Filter
+    }
+}
+
 /// The question of the words: their queries and conditions. Without a query it is `$`, and none is asked of refused lines.
 pub(crate) fn read_question<'a>(
     rt: &HostRuntime,
@@ -73,19 +130,23 @@ pub(crate) fn read_question<'a>(
 ) -> Result<Asked<'a>, Refusal<'a>> {
     let mut reader = Reader {
         rt,
-        question: Question::new(rt.alloc(), wanted(options)),
+        question: Question::new(rt.alloc(), wanted(options), purpose(options)),
         warner: Warner::new(rt),
         meant: None,
+        lists: Vec::new(rt.alloc()),
     };
     for text in options.queries() {
-        reader.add_query(text, options.is_table())?;
+        reader.add_query(text, options.has_columns())?;
     }
     for text in &options.conditions {
         reader.add_condition(text)?;
     }
+    reader.add_lists(&options.lists, true)?;
+    reader.add_lists(&options.other_lists, false)?;
     Ok(Asked {
         has_warnings: reader.warner.has_warned,
         meant: reader.meant,
         question: reader.question,
+        lists: reader.lists,
     })
 }

@@ -1,26 +1,30 @@
 //! The files in turn.
 
 use crate::foreign::foreign_message;
+use crate::lists::Lists;
 use crate::opening::Looking;
 use crate::output::{Output, RegularFile};
 use jp_devices::StandardInput;
 use jp_grep::{
-    Finished, Format, Framing, Input, Question, Run, SearchFault, Shown, Summary, Units,
+    Finished, Format, Framing, Input, Limit, Question, Run, SearchFault, Shown, Summary, Units,
+    Unread,
 };
 use jp_model::Watched;
 use jp_options::Options;
 use std::alloc::AllocError;
 use std::fs;
-use std::io::{ErrorKind, Read, Stderr};
+use std::io::{ErrorKind, Read, Stderr, Write};
 
-/// What goes through the files.
+/// What goes through the files, and writes the rows that they give to `W`.
 #[derive(Drop)]
-struct Searcher<'q> {
-    rt: &'q HostRuntime,
-    options: &'q Options<'q>,
-    run: Run<'q, Output, Stderr>,
+pub(crate) struct Searcher<'q, W: Write + Drop> {
+    pub(crate) rt: &'q HostRuntime,
+    pub(crate) options: &'q Options<'q>,
+    pub(crate) run: Run<'q, W, Stderr>,
     /// The file that more than one row may be added to.
-    output: Option<RegularFile>,
+    pub(crate) output: Option<RegularFile>,
+    /// Whether memory was refused, of which it has told.
+    pub(crate) lacks_memory: bool,
 }
 
 /// How a search of all files ended.
@@ -40,14 +44,22 @@ enum Next {
 }
 
 /// What is said of a file that was not searched to its end.
-fn message_of(fault: SearchFault) -> &'static str {
+pub(crate) fn message_of(fault: SearchFault) -> &'static str {
     match fault {
         SearchFault::Read => "cannot read",
         SearchFault::Framing => "bytes before first separator",
         SearchFault::Foreign(_) => "data of another format",
-        SearchFault::Size => "line too long",
+        SearchFault::Size => limit_message(Limit::Size),
         SearchFault::Write | SearchFault::Report => CANNOT_WRITE,
-        SearchFault::Memory => "out of memory",
+        SearchFault::Memory => limit_message(Limit::Memory),
+    }
+}
+
+/// What is said of a line that there is no number or no memory for.
+fn limit_message(limit: Limit) -> &'static str {
+    match limit {
+        Limit::Size => "line too long",
+        Limit::Memory => "out of memory",
     }
 }
 
@@ -63,6 +75,13 @@ fn unopened_message(word: &str, refused: bool, error: ErrorKind) -> &'static str
         ErrorKind::NotFound if word.starts_with('$') => {
             "cannot open: no such file (a query is given by -e)"
         }
+        error => open_message(error),
+    }
+}
+
+/// What is said of a file that cannot be opened.
+pub(crate) fn open_message(error: ErrorKind) -> &'static str {
+    match error {
         ErrorKind::NotFound => "cannot open: no such file",
         ErrorKind::PermissionDenied => "cannot open: permission denied",
         _ => "cannot open",
@@ -70,7 +89,7 @@ fn unopened_message(word: &str, refused: bool, error: ErrorKind) -> &'static str
 }
 
 /// What is said of a directory, which has no lines.
-const IS_DIRECTORY: &str = "cannot read: is a directory";
+pub(crate) const IS_DIRECTORY: &str = "cannot read: is a directory";
 
 /// What is said of the file that the rows go to: it would be read without end.
 const IS_OUTPUT: &str = "input file is also the output";
@@ -80,23 +99,28 @@ const GOES_ON: &str =
     "a JSON text goes on in the next line; --json reads it whole, --elements each element of an array";
 
 /// How the standard input is named.
-const STANDARD_INPUT: &str = "(standard input)";
+pub(crate) const STANDARD_INPUT: &str = "(standard input)";
 
-impl<'q> Searcher<'q> {
+impl<W: Write + Drop> Searcher<'_, W> {
     /// Writes the header of a table.
     fn write_header(&mut self) -> Next {
         if !self.run.is_open() {
             return Next::Stop;
         }
         let form = self.options.form(STANDARD_INPUT);
-        match self.run.write_header(&form, self.options.queries()) {
+        match self.run.write_header(&form, self.options.columns()) {
             Ok(()) => Next::GoOn,
-            Err(SearchFault::Memory) => {
-                tell_memory(self.rt);
-                Next::Stop
-            }
+            Err(SearchFault::Memory) => self.stop_for_memory(),
             Err(_) => Next::Stop,
         }
+    }
+
+    /// Tells that memory was refused.
+    fn stop_for_memory(&mut self) -> Next {
+        self.run.refuse();
+        self.lacks_memory = true;
+        tell_memory(self.rt);
+        Next::Stop
     }
 
     /// Tells of a file, where messages are wanted.
@@ -115,15 +139,21 @@ impl<'q> Searcher<'q> {
             Some(name)
         };
         match foreign_message(self.rt.alloc(), file, format) {
-            Ok(message) => {
-                self.tell(name, &message);
-                Next::GoOn
-            }
-            Err(_) => {
-                self.run.refuse();
-                tell_memory(self.rt);
-                Next::Stop
-            }
+            Ok(message) => self.tell(name, &message),
+            Err(_) => self.tell(name, message_of(SearchFault::Foreign(format))),
+        }
+        Next::GoOn
+    }
+
+    /// Tells where the rest of a file was passed over, whether messages are wanted or not, since answers may be missing.
+    fn tell_unread(&mut self, name: &str, unread: Unread) {
+        if self.run.is_open() {
+            self.run.flush_messages();
+            let why = limit_message(unread.limit);
+            let _ = eprintln!(self.rt;
+                "jpgrep: {name}:{}: {why}; the rest is not searched",
+                unread.line
+            );
         }
     }
 
@@ -147,23 +177,22 @@ impl<'q> Searcher<'q> {
         let opening = input.into_reader().into_inner().opening();
         match &found {
             // The line may have come and not be refused yet.
-            Err(SearchFault::Memory) => {}
+            Ok(found) if found.unread.is_some() => {}
             _ if opening.goes_on() && form.units == Units::Lines(Framing::Lines) => self.hint(name),
             _ => {}
         }
         match found {
-            Ok(_) if self.run.is_decided() => Next::Stop,
-            Ok(_) => Next::GoOn,
+            Ok(found) => {
+                if let Some(unread) = found.unread {
+                    self.tell_unread(name, unread);
+                }
+                if self.run.is_decided() {
+                    Next::Stop
+                } else {
+                    Next::GoOn
+                }
+            }
             Err(SearchFault::Write | SearchFault::Report) => Next::Stop,
-            Err(SearchFault::Memory) => {
-                self.run.refuse();
-                tell_memory(self.rt);
-                Next::Stop
-            }
-            Err(SearchFault::Size) => {
-                self.tell(name, message_of(SearchFault::Size));
-                Next::Stop
-            }
             Err(SearchFault::Foreign(format)) => self.tell_foreign(name, format),
             Err(fault) => {
                 self.tell(name, message_of(fault));
@@ -210,6 +239,24 @@ impl<'q> Searcher<'q> {
         }
     }
 
+    /// Searches the files of the words in turn, as far as they matter.
+    pub(crate) fn search_all(&mut self, stdin: StandardInput) {
+        if reads_nothing(self.options) {
+            return;
+        }
+        let files = self.options.files();
+        if files.is_empty() {
+            self.search_word("-", stdin);
+        }
+        for file in files {
+            if self.search_word(file, stdin) == Next::Stop {
+                break;
+            }
+        }
+    }
+}
+
+impl Searcher<'_, Output> {
     /// Ends the run, tells of rows or messages that were not written, and gives the exit status. A pipe that nobody reads any
     /// more is no news.
     fn end(self) -> Searched {
@@ -234,10 +281,16 @@ pub(crate) fn tell_memory(rt: &HostRuntime) {
     let _ = eprintln!(rt; "jpgrep: {}", message_of(SearchFault::Memory));
 }
 
+/// Standard input, which is looked at where it is to be read.
+pub(crate) fn find_input(rt: &HostRuntime, options: &Options<'_>) -> StandardInput {
+    let files = options.files();
+    StandardInput::find(rt, files.is_empty() || files.contains(&"-"))
+}
+
 /// The file that more than one row may be added to.
 fn find_output(rt: &HostRuntime, options: &Options<'_>) -> Option<RegularFile> {
     let form = options.form(STANDARD_INPUT);
-    if form.shown != Shown::Nothing && (form.most > 1 || options.header) {
+    if form.shown != Shown::Nothing && (form.most > 1 || options.has_header()) {
         RegularFile::of_output(rt)
     } else {
         None
@@ -251,7 +304,7 @@ fn reads_nothing(options: &Options<'_>) -> bool {
 }
 
 /// Searches the files of the words in turn, and gives the exit status: 0 if a line was selected, 1 if none was, 2 if something
-/// was refused or failed. The header of a table stands above all rows.
+/// was refused or failed, in the lists or in the files. The header of a table stands above all rows.
 ///
 /// # Errors
 ///
@@ -260,9 +313,9 @@ pub(crate) fn search_files(
     rt: &HostRuntime,
     options: &Options<'_>,
     question: &Question,
+    lists: Lists,
 ) -> Result<Searched, AllocError> {
-    let files = options.files();
-    let stdin = StandardInput::find(rt, files.is_empty() || files.contains(&"-"));
+    let stdin = find_input(rt, options);
     let rows = Watched::new(Output::new(rt));
     let messages = Watched::new(rt.stderr());
     let run = Run::new(rt.alloc(), question, options.quiet, rows, messages)?;
@@ -272,17 +325,13 @@ pub(crate) fn search_files(
         options,
         run,
         output,
+        lacks_memory: false,
     };
-    if (options.header && searcher.write_header() == Next::Stop) || reads_nothing(options) {
-        return Ok(searcher.end());
+    if lists != Lists::Read {
+        searcher.run.refuse();
     }
-    if files.is_empty() {
-        searcher.search_word("-", stdin);
-    }
-    for file in files {
-        if searcher.search_word(file, stdin) == Next::Stop {
-            break;
-        }
+    if !options.has_header() || searcher.write_header() == Next::GoOn {
+        searcher.search_all(stdin);
     }
     Ok(searcher.end())
 }

@@ -6,23 +6,27 @@ mod excerpt;
 mod files;
 mod foreign;
 mod help;
+mod lists;
 mod note;
 mod opening;
 mod output;
 mod patterns;
 mod refusal;
 mod shell;
+mod tallied;
 mod unknown;
 
-use crate::asked::read_question;
+use crate::asked::{Asked, read_question};
 use crate::files::{CANNOT_WRITE, search_files};
+use crate::lists::{Lists, read_lists};
 use crate::note::tell_note;
 use crate::refusal::Refusal;
+use crate::tallied::tally_files;
 use crate::unknown::find_foreign;
 use clap::Error;
 use clap::error::ErrorKind;
 use jp_devices::refuse_word;
-use jp_options::{Options, read_words};
+use jp_options::{Options, pair_words, read_words};
 use std::alloc::AllocError;
 use std::process::ExitCode;
 use std::{env, io};
@@ -71,14 +75,27 @@ fn tell_meant(
 
 /// Reads the question, searches the files, and gives the exit status.
 fn answer<'a>(rt: &HostRuntime, options: &Options<'a>) -> Result<u8, Refusal<'a>> {
-    let asked = read_question(rt, options)?;
+    let Asked {
+        mut question,
+        has_warnings,
+        meant,
+        lists,
+    } = read_question(rt, options)?;
     if options.checks {
-        tell_meant(rt, options, asked.meant)?;
-        return Ok(if asked.has_warnings { WARNED } else { TOLD });
+        tell_meant(rt, options, meant)?;
+        return Ok(if has_warnings { WARNED } else { TOLD });
     }
-    let searched = search_files(rt, options, &asked.question)?;
+    let lists = read_lists(rt, options, lists, &mut question)?;
+    if lists == Lists::Unread {
+        return Ok(FAULT);
+    }
+    let searched = if options.tally {
+        tally_files(rt, options, &question, lists)?
+    } else {
+        search_files(rt, options, &question, lists)?
+    };
     if !searched.has_selected {
-        tell_meant(rt, options, asked.meant)?;
+        tell_meant(rt, options, meant)?;
     }
     Ok(searched.status)
 }
@@ -133,7 +150,13 @@ fn run_arguments(rt: &HostRuntime) -> u8 {
             return FAULT;
         }
     }
-    run_words(rt, texts.as_slice())
+    match pair_words(rt.alloc(), texts.as_slice()) {
+        Ok(paired) => run_words(rt, paired.as_slice()),
+        Err(_) => {
+            Refusal::Memory.tell(rt);
+            FAULT
+        }
+    }
 }
 
 /// Runs the program.

@@ -4,7 +4,7 @@ use crate::excerpt::Excerpt;
 use crate::files::tell_memory;
 use crate::help::{function_at, help_with};
 use jp_model::QueryFault;
-use jp_query::FaultPlace;
+use jp_query::{FaultPlace, Segment, singular_selector};
 use std::alloc::AllocError;
 
 /// Which of the program's words a text is.
@@ -14,20 +14,22 @@ pub(crate) enum Text<'a> {
     Query(&'a str),
     /// A condition.
     Condition(&'a str),
+    /// The query of a list.
+    ListQuery(&'a str),
 }
 
 impl<'a> Text<'a> {
     /// The text itself.
     pub(crate) fn text(self) -> &'a str {
         match self {
-            Text::Query(text) | Text::Condition(text) => text,
+            Text::Query(text) | Text::Condition(text) | Text::ListQuery(text) => text,
         }
     }
 
     /// The bytes that it has at most. A condition is read between `$[?` and `]`, within the limits of a query.
     fn most_bytes(self) -> usize {
         match self {
-            Text::Query(_) => 65_535,
+            Text::Query(_) | Text::ListQuery(_) => 65_535,
             Text::Condition(_) => 65_531,
         }
     }
@@ -35,7 +37,7 @@ impl<'a> Text<'a> {
     /// The bytes `(` and `[` that it has at most, together.
     fn most_brackets(self) -> usize {
         match self {
-            Text::Query(_) => 512,
+            Text::Query(_) | Text::ListQuery(_) => 512,
             Text::Condition(_) => 511,
         }
     }
@@ -43,7 +45,7 @@ impl<'a> Text<'a> {
     /// What it is, in a word.
     fn word(self) -> &'static str {
         match self {
-            Text::Query(_) => "query",
+            Text::Query(_) | Text::ListQuery(_) => "query",
             Text::Condition(_) => "condition",
         }
     }
@@ -56,6 +58,10 @@ pub(crate) enum Refusal<'a> {
     Fault(Text<'a>, FaultPlace),
     /// A query that is a column of a table is not singular (RFC 9535, section 2.3.5.1).
     NotSingular(&'a str),
+    /// The query of a list is not singular, from a byte of it on.
+    Many(&'a str, usize),
+    /// Standard input is asked for twice.
+    Twice,
     /// A growth was refused.
     Memory,
 }
@@ -125,7 +131,54 @@ fn tell_not_singular(rt: &HostRuntime, text: &str) -> Result<(), AllocError> {
     Ok(())
 }
 
+/// Says that the query of a list is not singular, shows it, and points at its first segment that is not.
+fn tell_many(rt: &HostRuntime, text: &str, place: usize) -> Result<(), AllocError> {
+    let _ = eprintln!(rt;
+        "jpgrep: query: what is looked for in a list has names and indexes alone, so that it is one value"
+    );
+    point_at(rt, Text::ListQuery(text), place)
+}
+
+/// The byte at which a segment of a query begins, by the number of those before it: at a dot or a bracket that stands in no
+/// quotes and no other bracket, and behind no other dot.
+fn place_of_segment(text: &str, number: usize) -> usize {
+    let mut begun: usize = 0;
+    let mut open: usize = 0;
+    let mut quote = None;
+    let mut before = '$';
+    for (at, scalar) in text.char_indices() {
+        let begins = quote.is_none() && open == 0 && before != '.' && matches!(scalar, '.' | '[');
+        if begins {
+            if begun == number {
+                return at;
+            }
+            begun = begun.saturating_add(1);
+        }
+        match (quote, scalar) {
+            (None, '\'' | '"') => quote = Some(scalar),
+            (None, '[') => open = open.saturating_add(1),
+            (None, ']') => open = open.saturating_sub(1),
+            (Some(mark), _) if scalar == mark && before != '\\' => quote = None,
+            _ => {}
+        }
+        before = if before == '\\' { ' ' } else { scalar };
+    }
+    0
+}
+
 impl<'a> Refusal<'a> {
+    /// The refusal of a list's query, which is not singular.
+    pub(crate) fn of_many(text: &'a str, segments: &[Segment]) -> Refusal<'a> {
+        let mut number: usize = 0;
+        for segment in segments {
+            if singular_selector(segment).is_none() {
+                return Refusal::Many(text, place_of_segment(text, number));
+            }
+            number = number.saturating_add(1);
+        }
+        Refusal::Many(text, 0)
+    }
+
     /// The refusal of a text.
     pub(crate) fn of(text: Text<'a>, refusal: jp_query::Refusal) -> Refusal<'a> {
         match refusal {
@@ -139,6 +192,13 @@ impl<'a> Refusal<'a> {
         let told = match self {
             Refusal::Fault(text, found) => tell_fault(rt, *text, *found),
             Refusal::NotSingular(text) => tell_not_singular(rt, text),
+            Refusal::Many(text, place) => tell_many(rt, text, *place),
+            Refusal::Twice => {
+                let _ = eprintln!(rt;
+                    "jpgrep: standard input is read once: it is one list, or it is searched"
+                );
+                Ok(())
+            }
             Refusal::Memory => Err(AllocError),
         };
         if told.is_err() {

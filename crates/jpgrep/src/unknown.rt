@@ -59,7 +59,7 @@ const FOREIGN: &[Foreign] = &[
     Foreign {
         letter: Some('f'),
         words: &["file", "from-file"],
-        instead: "there is no file of queries: each is given by -e",
+        instead: "there is no file of queries: each is given by -e, and a list of values by --in",
     },
     Foreign {
         letter: Some('a'),
@@ -115,11 +115,6 @@ const FOREIGN: &[Foreign] = &[
         letter: Some('C'),
         words: &["context"],
         instead: CONTEXT,
-    },
-    Foreign {
-        letter: Some('Z'),
-        words: &["null"],
-        instead: "there is none: -l prints a line for each name",
     },
     Foreign {
         letter: None,

@@ -13,6 +13,7 @@ returns c =
     let e3 = with_one_more c.in_ok-arg-2.field-0 c.in_ok-arg-3.field-0 c.flag-3.result start (flag_rule (codes "only") 0x6F (codes "only-matching") ∷ flag_rule (codes "path") 0x70 (codes "path") ∷ []) _ c.in_ok-arg-3.ensures c.flag-3.ensures.local c.flag-3.ensures.rule e2 in
     let e4 = with_one_more c.in_ok-arg-3.field-0 c.in_ok-arg-4.field-0 c.flag-4.result start (flag_rule (codes "only") 0x6F (codes "only-matching") ∷ flag_rule (codes "path") 0x70 (codes "path") ∷ flag_rule (codes "count") 0x63 (codes "count") ∷ []) _ c.in_ok-arg-4.ensures c.flag-4.ensures.local c.flag-4.ensures.rule e3 in
     let e5 = with_one_more c.in_ok-arg-4.field-0 c.in_ok-arg-5.field-0 c.flag-5.result start (flag_rule (codes "only") 0x6F (codes "only-matching") ∷ flag_rule (codes "path") 0x70 (codes "path") ∷ flag_rule (codes "count") 0x63 (codes "count") ∷ flag_rule (codes "with") 0x6C (codes "files-with-matches") ∷ []) _ c.in_ok-arg-5.ensures c.flag-5.ensures.local c.flag-5.ensures.rule e4 in
-    IfOk-weaker c.arg-6.result (AddsArg c.in_ok-arg-5.field-0 c.flag-6.result) (λ more. app_of more ≡ with_rules start printing_rules)
-    (λ more adds. with_one_more c.in_ok-arg-5.field-0 more c.flag-6.result start (flag_rule (codes "only") 0x6F (codes "only-matching") ∷ flag_rule (codes "path") 0x70 (codes "path") ∷ flag_rule (codes "count") 0x63 (codes "count") ∷ flag_rule (codes "with") 0x6C (codes "files-with-matches") ∷ flag_rule (codes "without") 0x4C (codes "files-without-match") ∷ []) _ adds c.flag-6.ensures.local c.flag-6.ensures.rule e5)
-    c.arg-6.ensures
+    let e6 = with_one_more c.in_ok-arg-5.field-0 c.in_ok-arg-6.field-0 c.flag-6.result start (flag_rule (codes "only") 0x6F (codes "only-matching") ∷ flag_rule (codes "path") 0x70 (codes "path") ∷ flag_rule (codes "count") 0x63 (codes "count") ∷ flag_rule (codes "with") 0x6C (codes "files-with-matches") ∷ flag_rule (codes "without") 0x4C (codes "files-without-match") ∷ []) _ c.in_ok-arg-6.ensures c.flag-6.ensures.local c.flag-6.ensures.rule e5 in
+    IfOk-weaker c.arg-7.result (AddsArg c.in_ok-arg-6.field-0 c.word_flag.result) (λ more. app_of more ≡ with_rules start printing_rules)
+    (λ more adds. with_one_more c.in_ok-arg-6.field-0 more c.word_flag.result start (flag_rule (codes "only") 0x6F (codes "only-matching") ∷ flag_rule (codes "path") 0x70 (codes "path") ∷ flag_rule (codes "count") 0x63 (codes "count") ∷ flag_rule (codes "with") 0x6C (codes "files-with-matches") ∷ flag_rule (codes "without") 0x4C (codes "files-without-match") ∷ flag_rule (codes "quiet") 0x71 (codes "quiet") ∷ []) _ adds c.word_flag.ensures.local c.word_flag.ensures.rule e6)
+    c.arg-7.ensures
