@@ -6,9 +6,7 @@ jpq on the same collections.
 How an example is written stands at the head of the examples. Without an executable JPQ the comparison with it is left out.
 """
 import array
-import csv
 import fcntl
-import io
 import json
 import os
 import pathlib
@@ -23,7 +21,10 @@ import termios
 import threading
 import time
 
+from jpgrep_lists import model_of_text, random_list
 from jpgrep_pieces import BYTE_ORDER_MARK, answers_of, random_stream
+from jpgrep_tables import table
+from jpgrep_tally import tally
 
 PROGRAM, JPQ = (os.path.abspath(word) for word in sys.argv[1:])
 EXAMPLES = pathlib.Path(__file__).with_name("jpgrep.examples")
@@ -323,10 +324,6 @@ def canonical(value):
     return json.dumps(value, sort_keys=True, separators=(",", ":"), ensure_ascii=False)
 
 
-def random_text(dice):
-    return "".join(dice.choice(("a", "é", ",", '"', "\t", "\n", "\r", "\\", " ", "\x01")) for _ in range(dice.randrange(6)))
-
-
 def each_line_once(room):
     """Each line that is not blank is printed by the query `$` or by `--refused`, as it is, and never by both."""
     dice = random.Random(8259)
@@ -355,23 +352,30 @@ def pieces_once(room):
 
 
 def read_back(room):
-    """Tables lead back to the values of their cells: by the reader of CSV that Python has, and by what stands behind a backslash.
-    Canonical form is what Python writes of a value with its names in order."""
+    """Tables lead back to the values of their cells. Canonical form is what Python writes of a value with its names in order."""
     dice = random.Random(4180)
-    names = ("a", "b", "d e", "'", '"')
-    words = [word for name in names for word in ("-e", f"$[{json.dumps(name)}]")]
-    letters = {"t": "\t", "n": "\n", "r": "\r", "\\": "\\"}
+    for number in range(int(os.environ.get("JPGREP_TABLES", "300"))):
+        table(number, dice, ended, check, room)
+    for number in range(int(os.environ.get("JPGREP_TALLIES", "300"))):
+        tally(number, dice, ended, check, room)
     for number in range(100):
-        pick = lambda: random_text(dice) if dice.random() < 0.5 else random_value(dice, 2)
-        lines = [{name: pick() for name in dice.sample(names, dice.randrange(1, 6))} for _ in range(dice.randrange(1, 6))]
+        lines = [random_value(dice, 3) for _ in range(dice.randrange(1, 6))]
         pathlib.Path(room, "lines").write_text("".join(json.dumps(line, ensure_ascii=dice.random() < 0.5) + "\n" for line in lines), "utf-8")
-        shown = lambda value: value if isinstance(value, str) else canonical(value)
-        stated = [[shown(line[name]) if name in line else "" for name in names] for line in lines]
-        text = ended(["--csv", *words, "lines"], room)[0].decode()
-        check(f"table {number} with commas", list(csv.reader(io.StringIO(text, newline=""))), stated)
-        rows = ended(["--tsv", *words, "lines"], room)[0].decode().split("\n")[:-1]
-        check(f"table {number} with tabs", [[re.sub(r"\\(.)", lambda found: letters[found[1]], cell) for cell in row.split("\t")] for row in rows], stated)
-        check(f"table {number} as lines", ended(["-j", "$", "lines"], room)[0].decode(), "".join(canonical(line) + "\n" for line in lines))
+        check(f"values {number} in canonical form", ended(["-j", "$", "lines"], room)[0].decode(), "".join(canonical(line) + "\n" for line in lines))
+
+
+def in_lists(room):
+    """`--in` and `--not-in` of random lists, beside a model. So many as LISTS says."""
+    dice = random.Random(9535)
+    for number in range(int(os.environ.get("LISTS", "300"))):
+        listed, asked = random_list(dice)
+        pathlib.Path(room, "list").write_text("\n".join(listed) + dice.choice(("", "\n")), "utf-8")
+        text = "".join(line + "\n" for line, _ in asked).encode()
+        values = {model_of_text(value) for value in listed if value}
+        are_in = [value is not None and model_of_text(value) in values for _, value in asked]
+        for words, wanted in ((["--in", "@.k"], True), (["--not-in", "$.k"], False)):
+            stated = "".join(f"{at + 1}:{asked[at][0]}\n" for at in range(len(asked)) if are_in[at] == wanted)
+            check(f"list {number} by {words[0]}", ended(["-n", *words, "list", "-"], room, text)[:2], (stated.encode(), b""))
 
 
 def main():
@@ -394,6 +398,7 @@ def main():
         each_line_once(room)
         pieces_once(room)
         read_back(room)
+        in_lists(room)
         if os.access(JPQ, os.X_OK):
             beside_jpq(room)
         else:

@@ -4,19 +4,25 @@
 
 FOLDER is for files. LIBRARY is `refuse.c` as it was built; where it is empty no growth can be refused, and nothing is tried.
 
-A run in which a growth was refused has to end with status 2, to say `jpgrep: out of memory` last, and to write a beginning of what
-it writes without the refusal, and to say a beginning of what it says. A growth that the library asks for again at once, since it
-may have been asked for with too high a hint, may leave the run as it is without a refusal; it is then refused both times.
+A run in which a growth was refused ends in one of three ways. It has no need of the growth, and is as without the refusal. Or it
+begins no search: then it ends with status 2, says `jpgrep: out of memory` last, and writes and says a beginning of what it writes and
+says without the refusal. Or it gives up a line, or passes over the rest of a stream: then it says which line of which stream, ends
+with status 2, and what it writes, and says beside that, is what it writes and says without the refusal, less one piece of it (and
+with other counts). A growth that the library asks for again at once, since it may have been asked for with too high a hint, is then
+refused both times.
 """
 import os
+import re
 import subprocess
 import sys
 import time
 
 PROGRAM, FOLDER, LIBRARY = sys.argv[1:]
 NO_MEMORY = b"jpgrep: out of memory\n"
+LINE_LOST = re.compile(rb"^jpgrep: [^\n]*:\d+: out of memory(, from line \d+|; the rest is not searched)?\n", re.MULTILINE)
+COUNT = re.compile(rb"\b\d+$|\d+ more lines? (is|are) refused; --refused lists them$", re.MULTILINE)
 ASKED_AGAIN = "refused\nasked again\n"
-END = time.monotonic() + 60
+END = time.monotonic() + 240
 MOST_TOLD = 20
 
 LINES = b"""{"level":"error","ms":340,"tags":["a","b"]}
@@ -27,6 +33,8 @@ LINES = b"""{"level":"error","ms":340,"tags":["a","b"]}
 {"level":"\\u0065rror","ms":1.50e2}
 """ + b'{"level":"error","long":"' + b"x" * 70_000 + b'"}\n' + b'{"a":"\xff"}\n{"level":"error"}'
 SEQUENCE = b'\x1e{"level":"error"}\n\x1e[1,\n\x1e{"level":\n"info"}\n'
+
+IDS = b"".join(b'"id%d"\n' % number for number in range(40)) + b'"err\\u006fr"\n{"b":[1,{}],"a":1e9}\n'
 
 DOCUMENTS = b'{"level":\n"error"}[1,\n2]"x" tru {"a" 1}' + b"[" + LINES.replace(b"\n", b",\n")
 
@@ -44,9 +52,15 @@ RUNS = [
     (["-j", "-o", "$", "lines"], b""),
     (["-o", "-p", "-e", "$.deep..*..*[?@..*..*]..*", "-e", "$..[?count(@..*..*)>2]..*..[?value(@..*..*)==0]", "lines"], b""),
     (["--csv", "--header", "-n", "-H", "-e", "$.level", "-e", "$.ms", "-e", "$.tags", "-e", "$.deep", "-e", "$.long", "lines"], b""),
-    (["--tsv", "--header", "-e", "$", "lines"], b""),
+    (["--tally", "$..*", "lines"], b""),
+    (["--tally", "-r", "$.level"], LINES * 2),
+    (["--tally", "--csv", "--names", "level,ms,tags", "-e", "$.level", "-e", "$.ms", "-e", "$.tags", "lines", "lines"], b""),
+    (["--tsv", "--names", "value", "-e", "$", "lines"], b""),
     (["--refused", "-n", "-p", "lines", "-"], b"{\n" * 3 + LINES),
     (["-q", "$.absent", "lines"], b""),
+    (["-c", "--in", "@.level", "ids", "--not-in", "$.ms", "-", "lines"], b"1.5e2\n{\n"),
+    (["--in", "@", "gone", "lines"], b""),
+    (["--in", "@[*]", "ids", "lines"], b""),
     (["-l", "-m", "1", "-s", "$", "lines", "sequence"], b""),
     (["--help"], b""),
     (["-l", "-L", "$"], b""),
@@ -82,15 +96,37 @@ class Run:
         return int(self.told) if self.told.strip().isdigit() else -1
 
 
-def refused_fault(got, whole):
+def lacks_a_piece(part, whole):
+    """Whether a text is another one less one piece of it, whatever the counts in it."""
+    part, whole = COUNT.sub(b"", part), COUNT.sub(b"", whole)
+    before = len(os.path.commonprefix([part, whole]))
+    behind = len(os.path.commonprefix([part[:before - 1:-1] if before else part[::-1], whole[::-1]]))
+    return before + behind >= len(part)
+
+
+def counts_less(part, whole):
+    """Whether each row of a tally is one of another, which came no less often."""
+    rows = [dict(row.split(b"\t" if b"\t" in row else b",", 1)[::-1] for row in text.splitlines()) for text in (part, whole)]
+    return all(row in rows[1] and (count == rows[1][row] or int(count) <= int(rows[1][row])) for row, count in rows[0].items())
+
+
+def refused_fault(words, got, whole):
     """What is wrong with a run in which a growth was refused, or None."""
     (status, out, said), (_, whole_out, whole_said) = got, whole
+    if got == whole:
+        return None
     if status != 2:
         return f"status {status} for 2, said {said[-200:]!r}"
-    if not said.endswith(NO_MEMORY) or not whole_said.startswith(said.removesuffix(NO_MEMORY)):
+    if said.endswith(NO_MEMORY):
+        is_stated = whole_out.startswith(out) and whole_said.startswith(said.removesuffix(NO_MEMORY))
+        return None if is_stated else f"wrote {out[-200:]!r} and said {said[-200:]!r}, which are no beginnings"
+    lost = LINE_LOST.findall(said)
+    if len(lost) != 1:
         return f"said {said[-200:]!r}"
-    if not whole_out.startswith(out):
-        return f"wrote {out[-200:]!r}, which is no beginning of what it writes without that"
+    if not lacks_a_piece(LINE_LOST.sub(b"", said), whole_said):
+        return f"said {said[-200:]!r} for {whole_said[-200:]!r}"
+    if not (counts_less if "--tally" in words else lacks_a_piece)(out, whole_out):
+        return f"wrote {out[-200:]!r}, which is not what it writes without that, less one piece"
     return None
 
 
@@ -106,7 +142,7 @@ def each_refused(words, text, counts):
         if run.told == ASKED_AGAIN and run.result == whole.result:
             again += 1
             run = Run(words, text, number, next_too=True)
-        fault = refused_fault(run.result, whole.result)
+        fault = refused_fault(words, run.result, whole.result)
         counts[fault is None] += 1
         if fault and counts[False] <= MOST_TOLD:
             print(f"jpgrep {words}, growth {number} refused: NOT AS STATED: {fault}")
@@ -121,7 +157,7 @@ def main():
     if not LIBRARY:
         print("left out: every refusal, as there is no `cc` to build what refuses")
         return 0
-    for name, text in (("lines", LINES), ("sequence", SEQUENCE)):
+    for name, text in (("lines", LINES), ("sequence", SEQUENCE), ("ids", IDS)):
         with open(os.path.join(FOLDER, name), "wb") as file:
             file.write(text)
     counts = {False: 0, True: 0}

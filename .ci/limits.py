@@ -399,6 +399,40 @@ def questions_of_a_filter(checks):
             checks.check(f"seconds of {name}", seconds_so_far() - before <= 0.5, True)
 
 
+def lines_beyond_memory(checks):
+    """In little memory jpgrep gives up a line whose answer needs more, and reads on; of a file with a line that needs more it passes
+    over the rest, and reads the next file. It tells which line of which file, and its status is 2."""
+    limit = lambda: resource.setrlimit(resource.RLIMIT_AS, (2**26, 2**26))
+    nested = "[" * 400 + "]" * 400
+    asked = file_of("asked", '{"a":1}\n' + nested + '\n{"a":3}\nx\n[[4]]\n')
+    long = file_of("long", '{"a":1}\n\n{"a":[' + "1," * 9 * MILLION + '1]}\n{"a":3}\nx\n')
+    short = file_of("short", '{"a":5}\n{"b":6}\n')
+    given_up, unread = f"jpgrep: {asked}:2: out of memory\n", f"jpgrep: {long}:3: out of memory; the rest is not searched\n"
+    refused = f"jpgrep: {asked}:4: grammar\n"
+    for words, written, told in (
+        (["-o", "-n", "-e", "$.a", "-e", "$..*..*..*..*", asked, short], f"{asked}:1:1\n{asked}:3:3\n{short}:1:5\n", given_up + refused),
+        (["-o", "-h", "-s", "-m2", "-e", "$..*..*..*..*", "-e", "$[0][0]", "-e", "$.a", asked], "1\n3\n", given_up),
+        (["-c", "-e", "$..*..*..*..*", asked, short], f"{asked}:1\n{short}:0\n", refused),
+        (["-n", "-e", "$.a", long, short], f'{long}:1:{{"a":1}}\n{short}:1:{{"a":5}}\n', unread),
+        (["-c", "-s", "-e", "$", long, short], f"{long}:1\n{short}:2\n", unread),
+        (["-L", "-e", "$.z", long, short], short + "\n", unread),
+        (["-l", "-e", "$.a", long, short], f"{long}\n{short}\n", ""),
+        (["--json", "-n", "-e", "$.a", long, short], f'{long}:1:{{"a":1}}\n{short}:1:{{"a":5}}\n', unread.replace(":3:", ":2:")),
+    ):
+        run = subprocess.run([FILTER, *words], capture_output=True, timeout=SECONDS, preexec_fn=limit)
+        status = 0 if not told else 2
+        checks.check(f"jpgrep {words[:3]} in little memory", (run.returncode, run.stdout.decode(), run.stderr.decode()), (status, written, told))
+
+
+def lines_of_megabytes(checks):
+    """A line of many bytes is a line, however it is cut into reads, and the lines behind it are answered."""
+    text = "x" * 5 * MILLION
+    lines = file_of("lines", f'{{"a":1}}\n{{"a":"{text}"}}\n{{"a":3}}\n')
+    for words, written in ((["-c", "$"], "3\n"), (["-on", "$.a"], f'1:1\n2:"{text}"\n3:3\n'), (["--json", "-c", "$"], "3\n")):
+        run = subprocess.run([FILTER, *words, lines], capture_output=True, timeout=SECONDS)
+        checks.check(f"jpgrep {words} of a line of {len(text)} bytes", (run.returncode, run.stdout.decode(), run.stderr), (0, written, b""))
+
+
 def conditions_of_the_root(checks):
     """What a filter asks of the root is answered once in a line, beside whatever it asks of each child."""
     text, numbers = "ab" * 200_000, list(range(20_000))
@@ -565,7 +599,7 @@ def main():
                  texts_of_backslashes, texts_of_each_form_of_tape, lines_behind_long_ones, objects_of_many_members,
                  many_lines, lines_of_one_key, edits_of_many_lines, texts_of_numbers, texts_of_names, queries, patterns,
                  long_texts, turns_in_turns, long_numbers, objects_turned, large_objects, filters_from_the_root,
-                 filters_of_many_roots, questions_of_a_filter, conditions_of_the_root, texts_from_the_root, counts_of_many_nodes, nodes_met_again, indexes_of_one_array,
+                 filters_of_many_roots, questions_of_a_filter, lines_beyond_memory, lines_of_megabytes, conditions_of_the_root, texts_from_the_root, counts_of_many_nodes, nodes_met_again, indexes_of_one_array,
                  checks_of_many_lines, queries_of_one_line, devices, sizes):
         part(checks)
     print(f"{checks.passed} passed, {checks.failed} failed")
