@@ -6,10 +6,10 @@ FOLDER is for files. LIBRARY is `refuse.c` as it was built; where it is empty no
 
 A run in which a growth was refused ends in one of three ways. It has no need of the growth, and is as without the refusal. Or it
 begins no search: then it ends with status 2, says `jpgrep: out of memory` last, and writes and says a beginning of what it writes and
-says without the refusal. Or it gives up a line, or passes over the rest of a stream: then it says which line of which stream, ends
-with status 2, and what it writes, and says beside that, is what it writes and says without the refusal, less one piece of it (and
-with other counts). A growth that the library asks for again at once, since it may have been asked for with too high a hint, is then
-refused both times.
+says without the refusal, but for which line of a list was given up. Or it gives up a line, or passes over the rest of a stream: then
+it says which line of which stream, ends with status 2, and what it writes, and says beside that, is what it writes and says without
+the refusal, less one piece of it (and with other counts). A growth that the library asks for again at once, since it may have been
+asked for with too high a hint, is then refused both times.
 """
 import os
 import re
@@ -118,7 +118,7 @@ def refused_fault(words, got, whole):
     if status != 2:
         return f"status {status} for 2, said {said[-200:]!r}"
     if said.endswith(NO_MEMORY):
-        is_stated = whole_out.startswith(out) and whole_said.startswith(said.removesuffix(NO_MEMORY))
+        is_stated = whole_out.startswith(out) and whole_said.startswith(LINE_LOST.sub(b"", said.removesuffix(NO_MEMORY)))
         return None if is_stated else f"wrote {out[-200:]!r} and said {said[-200:]!r}, which are no beginnings"
     lost = LINE_LOST.findall(said)
     if len(lost) != 1:
