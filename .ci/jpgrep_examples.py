@@ -367,7 +367,7 @@ def read_back(room):
 def in_lists(room):
     """`--in` and `--not-in` of random lists, beside a model. So many as LISTS says."""
     dice = random.Random(9535)
-    for number in range(int(os.environ.get("LISTS", "300"))):
+    for number in range(int(os.environ.get("JPGREP_LISTS", "300"))):
         listed, asked = random_list(dice)
         pathlib.Path(room, "list").write_text("\n".join(listed) + dice.choice(("", "\n")), "utf-8")
         text = "".join(line + "\n" for line, _ in asked).encode()
