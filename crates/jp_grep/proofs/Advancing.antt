@@ -11,7 +11,7 @@ use Rattle.jp_grep.specs.Faults.{IsToldOf, is_front_fault, is_inner_fault, is_in
 use Rattle.jp_grep.specs.Fronts.{AreRefused}
 use Rattle.jp_grep.specs.Items.{Item}
 use Rattle.jp_grep.specs.Positions.{IsAt}
-use Rattle.jp_grep.specs.Rows.{messages_from, output_from, selected_item}
+use Rattle.jp_grep.specs.Rows.{messages_from, output_from}
 use Rattle.jp_grep.specs.Searching.{Answers, GoesOnBy, IsUnderWay}
 use Rattle.jp_grep.specs.Streams.{closed_in}
 use Rattle.jp_grep.specs.Watching.{answered_of}
@@ -100,7 +100,7 @@ so_anyhow P (Err e) p = λ _. p
 
 module _ (question : Question) (form : Form) where
   pub none_answered : (selected : ℕ) → answered_of question form selected [] ≡ []
-  none_answered selected = none_up_to (selected_item question) (form.most - selected)
+  none_answered selected = none_up_to question (form.most - selected)
 
   pub none_by : (progress : Progress) → IsUnderWay form progress → GoesOnBy question form progress progress []
   none_by progress h = record { number = omega arith; selected = omega arith; refused = omega arith; given_up = omega arith; under_way = h }

@@ -1,48 +1,51 @@
 -- Those that were read, answered one after another.
 use Rattle.std.proofs.Common.{◌≡◌, ◌∙◌, ◌<◌, ◌+◌, ◌-◌, ℕ, List, [], ◌∷◌, ◌++◌, length, sym, ap, append_assoc, append-nil, arith}
-use Rattle.std.specs.Prelude.{count_by}
 use Rattle.jp_grep.specs.Items.{Item}
-use Rattle.jp_grep.specs.Rows.{item_message, item_rows, messages_from, output_from, refused_count, selected_count, selected_item}
+use Rattle.jp_grep.specs.Rows.{item_message, item_rows, messages_from, output_from, refused_count, selected_count, selected_in}
 use Rattle.jp_grep.specs.Outcomes.{CameOfEach}
 use Rattle.jp_grep.specs.Searching.{GoesOnBy}
-use Rattle.jp_grep.specs.Streams.{up_to}
-use Rattle.jp_grep.specs.Watching.{answered_of}
+use Rattle.jp_grep.specs.Watching.{answered_of, cut_to, up_to}
 use Rattle.jp_form.specs.declared.form.Form.{Form}
 use Rattle.jp_grep.specs.declared.progress.Progress.{Progress}
 use Rattle.jp_grep.specs.declared.question.Question.{Question}
 use Rattle.jp_grep.proofs.Counted.{messages-append, messages_one, next_up_to, none_up_to, output-append, output_one, up_to-append}
 
-left_of : (most before count : ℕ) → before + count < most → 0 < (most - before) - count
-left_of most before count l = omega (arith, l)
-
 none_left : (most before count : ℕ) → before + count ≡ most → (most - before) - count ≡ 0
 none_left most before count e = omega (arith, e)
 
-module _ (question : Question) (form : Form) (before : ℕ) (done : List Item) (all : answered_of question form before done ≡ done) where
+module _ (question : Question) (form : Form) (before : ℕ) (done : List Item) where
   -- behind those that are answered as many are as are left
-  behind : (rest : List Item) → answered_of question form before (done ++ rest) ≡ done ++ up_to (selected_item question) ((form.most - before) - selected_count question done) rest
-  behind rest =
-      up_to-append (selected_item question) (form.most - before) done rest
-      ∙ ap (λ ls. ls ++ up_to (selected_item question) ((form.most - before) - count_by (selected_item question) ls) rest) all
+  behind : (rest : List Item) → answered_of question form before (done ++ rest)
+      ≡ answered_of question form before done ++ up_to question ((form.most - before) - selected_count question (answered_of question form before done)) rest
+  behind rest = up_to-append question (form.most - before) done rest
 
   -- no more are wanted
-  pub enough : (rest : List Item) → before + selected_count question done ≡ form.most → answered_of question form before (done ++ rest) ≡ done
-  enough rest e = behind rest ∙ ap (λ n. done ++ up_to (selected_item question) n rest) (none_left form.most before (selected_count question done) e) ∙ append-nil done
+  pub enough : (rest : List Item) → before + selected_count question (answered_of question form before done) ≡ form.most → answered_of question form before (done ++ rest) ≡ answered_of question form before done
+  enough rest e =
+      behind rest
+      ∙ ap (λ n. answered_of question form before done ++ up_to question n rest) (none_left form.most before (selected_count question (answered_of question form before done)) e)
+      ∙ append-nil (answered_of question form before done)
 
-  -- the next one is answered too
-  pub one_more : (item : Item) (rest : List Item) → before + selected_count question done < form.most
-      → (others : List Item) × (answered_of question form before (done ++ item ∷ rest) ≡ (done ++ item ∷ []) ++ others)
-  one_more item rest fewer =
-      let left = (form.most - before) - selected_count question done in
-      let next = next_up_to (selected_item question) left item rest (left_of form.most before (selected_count question done) fewer) in (
-        _,
-        behind (item ∷ rest) ∙ ap (λ l. done ++ l) next ∙ sym (append_assoc done (item ∷ []) _),
-      )
+  module _ (now : ℕ) (counted : now ≡ before + selected_count question (answered_of question form before done)) (fewer : now < form.most) (item : Item) where
+    left : (form.most - before) - selected_count question (answered_of question form before done) ≡ form.most - now
+    left = omega (arith, counted)
 
-  pub with_next : (item : Item) → before + selected_count question done < form.most → answered_of question form before (done ++ item ∷ []) ≡ done ++ item ∷ []
-  with_next item fewer =
-      let left = (form.most - before) - selected_count question done in
-      behind (item ∷ []) ∙ ap (λ l. done ++ l) (next_up_to (selected_item question) left item [] (left_of form.most before (selected_count question done) fewer) ∙ ap (λ l. item ∷ l) (none_up_to (selected_item question) _))
+    -- the next one is answered too, as far as its nodes are wanted
+    pub one_more : (rest : List Item)
+        → (others : List Item) × (answered_of question form before (done ++ item ∷ rest) ≡ (answered_of question form before done ++ cut_to (form.most - now) item ∷ []) ++ others)
+    one_more rest = (
+      up_to question ((form.most - now) - selected_in question (cut_to (form.most - now) item)) rest,
+      behind (item ∷ rest)
+          ∙ ap (λ n. answered_of question form before done ++ up_to question n (item ∷ rest)) left
+          ∙ ap (λ l. answered_of question form before done ++ l) (next_up_to question (form.most - now) item rest (omega (arith, fewer)))
+          ∙ sym (append_assoc (answered_of question form before done) (cut_to (form.most - now) item ∷ []) _),
+    )
+
+    pub with_next : answered_of question form before (done ++ item ∷ []) ≡ answered_of question form before done ++ cut_to (form.most - now) item ∷ []
+    with_next =
+        behind (item ∷ [])
+        ∙ ap (λ n. answered_of question form before done ++ up_to question n (item ∷ [])) left
+        ∙ ap (λ l. answered_of question form before done ++ l) (next_up_to question (form.most - now) item [] (omega (arith, fewer)) ∙ ap (λ l. cut_to (form.most - now) item ∷ l) (none_up_to question _))
 
 module _ (question : Question) (form : Form) (done : List Item) (item : Item) where
   pub rows_more : (n : ℕ) → output_from question form n (done ++ item ∷ []) ≡ output_from question form n done ++ item_rows question form (n + length done) item
@@ -69,8 +72,7 @@ module _ (question : Question) (form : Form) (done : List Item) (item : Item) wh
       ∙ messages-append question form before n (done ++ item ∷ []) rest
       ∙ ap (λ l. l ++ messages_from form (before + refused_count (done ++ item ∷ [])) (n + length (done ++ item ∷ [])) rest) (messages_more before n)
 
--- These are done: what came of each of the first items, all of them answered, one after another.
+-- These are done: what came of each of the first items, answered one after another.
 pub record AreDone (question : Question) (form : Form) (before after : Progress) (items done : List Item) : Type 0 where
   pub each : CameOfEach items done
-  pub all : answered_of question form before.counts.selected done ≡ done
-  pub by : GoesOnBy question form before after done
+  pub by : GoesOnBy question form before after (answered_of question form before.counts.selected done)

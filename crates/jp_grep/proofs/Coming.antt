@@ -1,9 +1,11 @@
 -- What came of items that were answered one after another.
-use Rattle.std.proofs.Common.{◌≡◌, ◌∙◌, ◌+◌, ℕ, List, [], ◌∷◌, ◌++◌, ap, arith, refl, sym, inl, inr, Bool, if◌then◌else◌}
+use Rattle.std.proofs.Common.{◌≡◌, ◌∙◌, ◌+◌, ◌-◌, ℕ, List, [], ◌∷◌, ◌++◌, ap, arith, refl, sym, inl, inr}
 use Rattle.std.specs.Prelude.{zero, suc, cond}
 use Rattle.jp_grep.specs.Items.{Item, is_given_up}
 use Rattle.jp_grep.specs.Outcomes.{CameOf, CameOfEach, given_up_count}
-use Rattle.jp_grep.specs.Streams.{up_to}
+use Rattle.jp_grep.specs.Rows.{selected_in}
+use Rattle.jp_grep.specs.Watching.{cut_to, up_to}
+use Rattle.jp_grep.specs.declared.question.Question.{Question}
 use Rattle.jp_grep.proofs.Counted.{count-cons}
 
 -- none was given up
@@ -26,18 +28,19 @@ none_came [] h = refl
 none_came (outcome ∷ outcomes) h = absurd h
 
 -- where none of those that are answered was given up, they are the items
-pub none_lost : (test : Item → Bool) (most : ℕ) (items outcomes : List Item) → CameOfEach items outcomes → given_up_count (up_to test most outcomes) ≡ 0 → up_to test most outcomes ≡ up_to test most items
-none_lost test zero items outcomes h none = refl
-none_lost test (suc most) [] [] h none = refl
-none_lost test (suc most) [] (outcome ∷ outcomes) h none = absurd h
-none_lost test (suc most) (item ∷ items) [] h none = absurd h
-none_lost test (suc most) (item ∷ items) (outcome ∷ outcomes) h none =
-    let left : ℕ = if test outcome then most else suc most in
-    let taken = up_to test left outcomes in
-    let counted = count-cons is_given_up outcome taken in
-    let rest = none_lost test left items outcomes h.1 (second (cond (is_given_up outcome) 1 0) (given_up_count taken) (given_up_count (outcome ∷ taken)) counted none) in
-    let same = kept item outcome h.0 (first (cond (is_given_up outcome) 1 0) (given_up_count taken) (given_up_count (outcome ∷ taken)) counted none) in
-    ap (λ ls. outcome ∷ ls) rest ∙ ap (λ (x : Item). x ∷ up_to test (if test x then most else suc most) items) same
+pub none_lost : (question : Question) (most : ℕ) (items outcomes : List Item) → CameOfEach items outcomes → given_up_count (up_to question most outcomes) ≡ 0 → up_to question most outcomes ≡ up_to question most items
+none_lost question zero items outcomes h none = refl
+none_lost question (suc most) [] [] h none = refl
+none_lost question (suc most) [] (outcome ∷ outcomes) h none = absurd h
+none_lost question (suc most) (item ∷ items) [] h none = absurd h
+none_lost question (suc most) (item ∷ items) (outcome ∷ outcomes) h none =
+    let one = cut_to (suc most) outcome in
+    let left : ℕ = suc most - selected_in question one in
+    let taken = up_to question left outcomes in
+    let counted = count-cons is_given_up one taken in
+    let rest = none_lost question left items outcomes h.1 (second (cond (is_given_up outcome) 1 0) (given_up_count taken) (given_up_count (one ∷ taken)) counted none) in
+    let same = kept item outcome h.0 (first (cond (is_given_up outcome) 1 0) (given_up_count taken) (given_up_count (one ∷ taken)) counted none) in
+    ap (λ ls. one ∷ ls) rest ∙ ap (λ (x : Item). cut_to (suc most) x ∷ up_to question (suc most - selected_in question (cut_to (suc most) x)) items) same
   where
     second : (a b c : ℕ) → c ≡ a + b → c ≡ 0 → b ≡ 0
     second a b c e f = omega (arith, e, f)

@@ -1,10 +1,10 @@
 -- Lines, texts and elements that are answered one after another.
-use Rattle.std.proofs.Common.{◌≡◌, ◌∙◌, ◌<◌, ℕ, ◌+◌, ◌-◌, List, [], ◌∷◌, ◌++◌, length, refl, sym, ap, ap₂, append_assoc, append-nil, arith, Bool, true, false, if◌then◌else◌}
+use Rattle.std.proofs.Common.{◌≡◌, ◌∙◌, ◌<◌, ◌≤◌, ℕ, ◌+◌, ◌-◌, List, [], ◌∷◌, ◌++◌, length, refl, sym, ap, ap₂, append_assoc, append-nil, arith, Bool}
 use Rattle.std.specs.Prelude.{zero, suc, count_by, cond}
 use Rattle.std.proofs.lemmas.List.Sums.{sum_by-append, sum_by-cons}
 use Rattle.jp_grep.specs.Items.{Item}
-use Rattle.jp_grep.specs.Rows.{item_message, item_rows, messages_from, output_from, refused_count, refused_item}
-use Rattle.jp_grep.specs.Streams.{up_to}
+use Rattle.jp_grep.specs.Rows.{item_message, item_rows, messages_from, output_from, refused_count, refused_item, selected_count, selected_in}
+use Rattle.jp_grep.specs.Watching.{cut_to, up_to}
 use Rattle.jp_form.specs.declared.form.Form.{Form}
 use Rattle.jp_grep.specs.declared.question.Question.{Question}
 
@@ -12,44 +12,47 @@ module _ {A : Type 0} (test : A → Bool) where
   pub count-cons : (x : A) (xs : List A) → count_by test (x ∷ xs) ≡ cond (test x) 1 0 + count_by test xs
   count-cons x xs = sum_by-cons (λ y. cond (test y) 1 0) x xs
 
-  less : (b : Bool) (most count : ℕ) → (if b then most else suc most) - count ≡ suc most - (cond b 1 0 + count)
-  less true most count = omega arith
-  less false most count = omega arith
-
-  -- the line that comes next is among them, where some are wanted
-  pub next_up_to : (most : ℕ) (line : A) (rest : List A) → 0 < most → up_to test most (line ∷ rest) ≡ line ∷ up_to test (most - cond (test line) 1 0) rest
-  next_up_to zero line rest l = absurd (omega arith)
-  next_up_to (suc most) line rest l = ap (λ n. line ∷ up_to test n rest) (by (test line))
-    where
-      by : (b : Bool) → (if b then most else suc most) ≡ suc most - cond b 1 0
-      by true = omega arith
-      by false = omega arith
-
-  pub none_up_to : (most : ℕ) → up_to test most [] ≡ []
-  none_up_to zero = refl
-  none_up_to (suc most) = refl
-
-  -- of more lines, those behind the first are taken as far as they are wanted then
-  pub up_to-append : (most : ℕ) (xs ys : List A) → up_to test most (xs ++ ys) ≡ up_to test most xs ++ up_to test (most - count_by test (up_to test most xs)) ys
-  up_to-append zero xs ys = ap (λ n. up_to test n ys) (none_less (count_by test (up_to test zero xs)))
-    where
-      none_less : (n : ℕ) → zero ≡ zero - n
-      none_less n = omega arith
-  up_to-append (suc most) [] ys = ap (λ n. up_to test n ys) (all_left (suc most))
-    where
-      all_left : (n : ℕ) → n ≡ n - 0
-      all_left n = omega arith
-  up_to-append (suc most) (x ∷ xs) ys =
-      let k : ℕ = if test x then most else suc most in
-      let taken = up_to test k xs in
-      ap (λ l. x ∷ l) (up_to-append k xs ys)
-      ∙ ap (λ n. x ∷ (taken ++ up_to test n ys)) (less (test x) most (count_by test taken) ∙ ap (λ n. suc most - n) (sym (count-cons x taken)))
-
   pub count-append : (xs ys : List A) → count_by test (xs ++ ys) ≡ count_by test xs + count_by test ys
   count-append xs ys = sum_by-append (λ y. cond (test y) 1 0) xs ys
 
   pub count_one : (x : A) → count_by test (x ∷ []) ≡ cond (test x) 1 0
   count_one x = omega (arith, count-cons x [])
+
+module _ (question : Question) where
+  less : (most one rest all : ℕ) → all ≡ one + rest → (most - one) - rest ≡ most - all
+  less most one rest all e = omega (arith, e)
+
+  -- the item that comes next is among them, where some are wanted
+  pub next_up_to : (most : ℕ) (item : Item) (rest : List Item) → 0 < most → up_to question most (item ∷ rest) ≡ cut_to most item ∷ up_to question (most - selected_in question (cut_to most item)) rest
+  next_up_to zero item rest l = absurd (omega arith)
+  next_up_to (suc most) item rest l = refl
+
+  pub none_up_to : (most : ℕ) → up_to question most [] ≡ []
+  none_up_to zero = refl
+  none_up_to (suc most) = refl
+
+  -- no more are taken than there are
+  pub few_up_to : (most : ℕ) (items : List Item) → length (up_to question most items) ≤ length items
+  few_up_to zero items = omega arith
+  few_up_to (suc most) [] = omega arith
+  few_up_to (suc most) (item ∷ rest) = let l = few_up_to (suc most - selected_in question (cut_to (suc most) item)) rest in omega (arith, l)
+
+  -- of more items, those behind the first are taken as far as they are wanted then
+  pub up_to-append : (most : ℕ) (xs ys : List Item) → up_to question most (xs ++ ys) ≡ up_to question most xs ++ up_to question (most - selected_count question (up_to question most xs)) ys
+  up_to-append zero xs ys = ap (λ n. up_to question n ys) (none_less (selected_count question (up_to question zero xs)))
+    where
+      none_less : (n : ℕ) → zero ≡ zero - n
+      none_less n = omega arith
+  up_to-append (suc most) [] ys = ap (λ n. up_to question n ys) (all_left (suc most))
+    where
+      all_left : (n : ℕ) → n ≡ n - 0
+      all_left n = omega arith
+  up_to-append (suc most) (x ∷ xs) ys =
+      let one = cut_to (suc most) x in
+      let k : ℕ = suc most - selected_in question one in
+      let taken = up_to question k xs in
+      ap (λ l. one ∷ l) (up_to-append k xs ys)
+      ∙ ap (λ n. one ∷ (taken ++ up_to question n ys)) (less (suc most) (selected_in question one) (selected_count question taken) (selected_count question (one ∷ taken)) (sum_by-cons (selected_in question) one taken))
 
 module _ (question : Question) (form : Form) where
   pub output-append : (n : ℕ) (xs ys : List Item) → output_from question form n (xs ++ ys) ≡ output_from question form n xs ++ output_from question form (n + length xs) ys

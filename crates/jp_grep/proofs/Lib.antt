@@ -14,6 +14,8 @@ pub mod Counted
 pub mod Coming
 pub mod Written
 pub mod Putting
+pub mod RowLists
+pub mod Asking
 pub mod Selecting
 pub mod GivenUp
 pub mod Appended

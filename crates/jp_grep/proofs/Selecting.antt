@@ -6,11 +6,12 @@ use Rattle.std.proofs.lemmas.List.{map-append, take_more}
 use Rattle.std.proofs.lemmas.List.Concat.{flat_map-cons}
 use Rattle.jp_model.specs.Json.Tree.{Tree}
 use Rattle.jp_model.specs.Meaning.Nodes.{Node}
-use Rattle.jp_model.specs.Query.Syntax.{Segments}
+use Rattle.jp_model.specs.Meaning.Selecting.{path_nodes}
+use Rattle.jp_model.specs.Query.Syntax.{Path}
 use Rattle.jp_devices.proofs.Devices.{or_false}
-use Rattle.jp_eval.specs.Compiled.{program_view}
-use Rattle.jp_eval.specs.declared.evaluate.Program.{Program}
-use Rattle.jp_grep.specs.Matching.{has_nodes, let_match, nodes_of, selected_by, selects, wants_nodes_where, wants_value}
+use Rattle.jp_grep.specs.Asked.{query_path}
+use Rattle.jp_grep.specs.Matching.{has_nodes, let_match, nodes_of, selects, wants_nodes_where, wants_value}
+use Rattle.jp_grep.specs.declared.asked.AskedQuery.{AskedQuery}
 use Rattle.jp_grep.specs.declared.question.Queries.{Queries}
 use Rattle.jp_grep.specs.declared.question.Queries.TheVariants as purposes
 use Rattle.jp_grep.specs.declared.question.Wanted.{Wanted}
@@ -20,18 +21,18 @@ or_assoc : (a b c : Bool) → ((a || b) || c) ≡ (a || (b || c))
 or_assoc true b c = refl
 or_assoc false b c = refl
 
-selects-append : (xs ys : List Segments) (t : Tree) → selects (xs ++ ys) t ≡ (selects xs t || selects ys t)
-selects-append [] ys t = refl
-selects-append (x ∷ xs) ys t = ap (λ b. has_nodes (selected_by x t) || b) (selects-append xs ys t) ∙ sym (or_assoc (has_nodes (selected_by x t)) (selects xs t) (selects ys t))
+selects-append : (xs ys : List Path) (node : Node) (t : Tree) → selects (xs ++ ys) node t ≡ (selects xs node t || selects ys node t)
+selects-append [] ys node t = refl
+selects-append (x ∷ xs) ys node t = ap (λ b. has_nodes (path_nodes x node t) || b) (selects-append xs ys node t) ∙ sym (or_assoc (has_nodes (path_nodes x node t)) (selects xs node t) (selects ys node t))
 
 -- one query more
-pub selects_more : (programs : List Program) (i : ℕ) (program : Program) (t : Tree) → i < length programs → program ≡ get_or programs i program
-    → selects (map program_view (take (i + 1) programs)) t ≡ (selects (map program_view (take i programs)) t || has_nodes (selected_by (program_view program) t))
-selects_more programs i program t within is =
-    ap (λ l. selects (map program_view l) t) (take_more programs i program within ∙ ap (λ p. take i programs ++ p ∷ []) (sym is))
-    ∙ ap (λ l. selects l t) (map-append program_view (take i programs) (program ∷ []))
-    ∙ selects-append (map program_view (take i programs)) (program_view program ∷ []) t
-    ∙ ap (λ b. selects (map program_view (take i programs)) t || b) (sym (or_false (has_nodes (selected_by (program_view program) t))))
+pub selects_more : (queries : List AskedQuery) (i : ℕ) (query : AskedQuery) (node : Node) (t : Tree) → i < length queries → query ≡ get_or queries i query
+    → selects (map query_path (take (i + 1) queries)) node t ≡ (selects (map query_path (take i queries)) node t || has_nodes (path_nodes (query_path query) node t))
+selects_more queries i query node t within is =
+    ap (λ l. selects (map query_path l) node t) (take_more queries i query within ∙ ap (λ p. take i queries ++ p ∷ []) (sym is))
+    ∙ ap (λ l. selects l node t) (map-append query_path (take i queries) (query ∷ []))
+    ∙ selects-append (map query_path (take i queries)) (query_path query ∷ []) node t
+    ∙ ap (λ b. selects (map query_path (take i queries)) node t || b) (sym (or_false (has_nodes (path_nodes (query_path query) node t))))
 
 some_node : (n : Node) (ns : List Node) → has_nodes (n ∷ ns) ≡ true
 some_node n ns = ap not (ne_eqb (length (n ∷ ns)) 0 (λ e. omega (arith, e)))
@@ -55,16 +56,16 @@ second_false true b e = absurd (apart e)
 second_false false b e = e
 
 -- where none selects a node there are no nodes
-pub none_selected : (queries : List Segments) (t : Tree) → selects queries t ≡ false → nodes_of queries t ≡ []
-none_selected [] t e = refl
-none_selected (query ∷ rest) t e =
-    let some = has_nodes (selected_by query t) in
-    flat_map-cons (λ (q : Segments). selected_by q t) query rest
-    ∙ ap (λ ns. ns ++ nodes_of rest t) (none_there (selected_by query t) (first_false some (selects rest t) e))
-    ∙ none_selected rest t (second_false some (selects rest t) e)
+pub none_selected : (queries : List Path) (node : Node) (t : Tree) → selects queries node t ≡ false → nodes_of queries node t ≡ []
+none_selected [] node t e = refl
+none_selected (query ∷ rest) node t e =
+    let some = has_nodes (path_nodes query node t) in
+    flat_map-cons (λ (q : Path). path_nodes q node t) query rest
+    ∙ ap (λ ns. ns ++ nodes_of rest node t) (none_there (path_nodes query node t) (first_false some (selects rest node t) e))
+    ∙ none_selected rest node t (second_false some (selects rest node t) e)
 
 -- where nodes are asked for, no row is left out, whether some is selected or none
-pub wanted_rows : (w : Wanted) (q : Queries) (holds some : Bool) (rows : List ℕ) → (some ≡ false → rows ≡ []) → wants_nodes_where w holds (holds && let_match q some) ≡ true
+pub wanted_rows : (w : Wanted) (q : Queries) (holds some : Bool) (rows : List (List ℕ)) → (some ≡ false → rows ≡ []) → wants_nodes_where w holds (holds && let_match q some) ≡ true
     → (if wants_value w (holds && let_match q some) then rows else []) ≡ rows
 wanted_rows wanted.Matching purposes.Columns true some rows none asked = refl
 wanted_rows wanted.Matching purposes.Filter true true rows none asked = refl

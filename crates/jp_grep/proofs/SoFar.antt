@@ -1,6 +1,7 @@
 -- What is answered of a stream so far, and what a step makes of it.
 use Rattle.std.proofs.Common.{◌≡◌, ◌∙◌, ◌+◌, ◌-◌, ◌<◌, ◌≤◌, ℕ, List, [], ◌++◌, length, refl, sym, ap, ap₂, subst, append-nil, length-append, arith, Bool, true, false, ◌||◌, ◌&&◌, eqb, ltb, Option, None, Some, Result, Ok, Err, inl, inr}
-use Rattle.std.specs.Prelude.{IsErrAnd, is_none, MatchOption, MatchResult, count_by, not, ◌⊎◌}
+use Rattle.std.specs.Prelude.{IsErrAnd, is_none, MatchOption, MatchResult, cond, sum_by, not, ◌⊎◌}
+use Rattle.std.proofs.lemmas.List.Sums.{sum_by-append}
 use Rattle.std.proofs.lemmas.Bool.{eq-eqb, eqb-true, false≢true, lt-ltb, ne_eqb}
 use Rattle.jp_devices.specs.Devices.{Came, Device, HasEnded, Received, has_no_room, one_more_where}
 use Rattle.jp_devices.proofs.Devices.{CameToEnd, came_so, was_ended}
@@ -12,12 +13,11 @@ use Rattle.jp_grep.specs.Fronts.{IsOfLines, IsRefused}
 use Rattle.jp_grep.specs.Inputs.{WantsMore}
 use Rattle.jp_grep.specs.Items.{Item, framing_by, is_given_up, items_come}
 use Rattle.jp_grep.specs.Outcomes.{CameOfEach, CameOfStream, given_up_count}
-use Rattle.jp_grep.specs.Rows.{messages_from, output_from, refused_count, refused_item, selected_count, selected_item, summary_of}
+use Rattle.jp_grep.specs.Rows.{messages_from, output_from, refused_count, refused_item, selected_count, selected_in, summary_of}
 use Rattle.jp_grep.specs.Searching.{Answers, GoesOnBy, HasAnswered}
 use Rattle.jp_grep.specs.Stands.{Stands}
-use Rattle.jp_grep.specs.Streams.{up_to}
 use Rattle.jp_grep.specs.Told.{more_refused}
-use Rattle.jp_grep.specs.Watching.{Answered, AnsweredInPart, AnsweredToEnd, AreCounts, EndsWith, SearchStopped, SearchedLines, answered_of, is_whole}
+use Rattle.jp_grep.specs.Watching.{Answered, AnsweredInPart, AnsweredToEnd, AreCounts, EndsWith, SearchStopped, SearchedLines, answered_of, is_whole, up_to}
 use Rattle.jp_grep.specs.declared.fault.SearchFault.{SearchFault}
 use Rattle.jp_grep.specs.declared.fault.SearchFault.TheVariants as faults
 use Rattle.jp_grep.specs.declared.found.Found.{Found}
@@ -29,7 +29,7 @@ use Rattle.jp_grep.specs.declared.progress.Progress.{Progress}
 use Rattle.jp_grep.specs.declared.question.Question.{Question}
 use Rattle.jp_grep.specs.declared.source.Source.{Source}
 use Rattle.jp_grep.proofs.Coming.{came_next, none_came}
-use Rattle.jp_grep.proofs.Counted.{count-append, messages-append, none_up_to, output-append, up_to-append}
+use Rattle.jp_grep.proofs.Counted.{messages-append, none_up_to, output-append, up_to-append}
 use Rattle.jp_grep.proofs.Standing.{come_now, goes_as}
 use Rattle.jp_grep.proofs.Written.{none_received, part_so_far}
 
@@ -74,7 +74,7 @@ zero_first n = omega arith
 
 module _ (question : Question) (form : Form) where
   none_taken : (selected : ℕ) → answered_of question form selected [] ≡ []
-  none_taken selected = none_up_to (selected_item question) (form.most - selected)
+  none_taken selected = none_up_to question (form.most - selected)
 
   counts_as : (outcomes : List Item) (found : Found) (counts : Counts) → found.counts ≡ counts → AreCounts question counts (answered_of question form 0 outcomes) → AreCounts question found.counts (answered_of question form 0 outcomes)
   counts_as outcomes found counts e h = subst (λ (n : Counts). AreCounts question n (answered_of question form 0 outcomes)) (sym e) h
@@ -113,8 +113,8 @@ module _ (question : Question) (form : Form) where
   taken_more : (before more : List Item) (selected : ℕ) → selected ≡ selected_count question (answered_of question form 0 before)
       → answered_of question form 0 (before ++ more) ≡ answered_of question form 0 before ++ answered_of question form selected more
   taken_more before more selected e =
-      up_to-append (selected_item question) (form.most - 0) before more
-      ∙ ap (λ n. answered_of question form 0 before ++ up_to (selected_item question) n more) (left form.most selected (selected_count question (answered_of question form 0 before)) e)
+      up_to-append question (form.most - 0) before more
+      ∙ ap (λ n. answered_of question form 0 before ++ up_to question n more) (left form.most selected (selected_count question (answered_of question form 0 before)) e)
     where
       left : (most selected count : ℕ) → selected ≡ count → (most - 0) - count ≡ most - selected
       left most selected count e = omega (arith, e)
@@ -145,16 +145,16 @@ module _ (question : Question) (form : Form) where
         lengths : (a b c : ℕ) → c ≡ a + b → (1 + a) + b ≡ 1 + c
         lengths a b c e = omega (arith, e)
 
-    count_sum : (test : Item → Bool) (was is : ℕ) → was ≡ count_by test (answered_of question form 0 before) → is ≡ was + count_by test (answered_of question form progress.counts.selected more)
-        → is ≡ count_by test (answered_of question form 0 (before ++ more))
-    count_sum test was is e f = f ∙ ap (λ k. k + count_by test (answered_of question form progress.counts.selected more)) e
-        ∙ sym (ap (count_by test) sum ∙ count-append test (answered_of question form 0 before) (answered_of question form progress.counts.selected more))
+    count_sum : (of : Item → ℕ) (was is : ℕ) → was ≡ sum_by of (answered_of question form 0 before) → is ≡ was + sum_by of (answered_of question form progress.counts.selected more)
+        → is ≡ sum_by of (answered_of question form 0 (before ++ more))
+    count_sum of was is e f = f ∙ ap (λ k. k + sum_by of (answered_of question form progress.counts.selected more)) e
+        ∙ sym (ap (sum_by of) sum ∙ sum_by-append of (answered_of question form 0 before) (answered_of question form progress.counts.selected more))
 
     pub counts_sum : (after : Progress) → GoesOnBy question form progress after (answered_of question form progress.counts.selected more) → AreCounts question after.counts (answered_of question form 0 (before ++ more))
     counts_sum after by = record {
-      selected = count_sum (selected_item question) progress.counts.selected after.counts.selected counts_are.selected by.selected;
-      refused = count_sum refused_item progress.counts.refused after.counts.refused counts_are.refused by.refused;
-      given_up = count_sum is_given_up progress.counts.given_up after.counts.given_up counts_are.given_up by.given_up;
+      selected = count_sum (selected_in question) progress.counts.selected after.counts.selected counts_are.selected by.selected;
+      refused = count_sum (λ item. cond (refused_item item) 1 0) progress.counts.refused after.counts.refused counts_are.refused by.refused;
+      given_up = count_sum (λ item. cond (is_given_up item) 1 0) progress.counts.given_up after.counts.given_up counts_are.given_up by.given_up;
     }
 
   module _ {W E : Type 0} (rows_in : W → Option (List ℕ)) (messages_in : E → Option (List ℕ)) where
@@ -177,7 +177,6 @@ module _ (question : Question) (form : Form) where
       };
       under_way = record {
         wanted = omega (arith, selected);
-        fewer_selected = omega (arith, selected, number);
         fewer_refused = omega (arith, refused, number);
         fewer_given_up = omega (arith, given_up, number);
       };

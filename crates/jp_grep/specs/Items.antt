@@ -10,12 +10,13 @@ use Rattle.jp_form.specs.declared.form.Units.{Units}
 use Rattle.jp_form.specs.declared.form.Units.TheVariants as unit
 use Rattle.jp_grep.specs.Streams.{lines_come}
 
--- one of them: its bytes, what it is, the number of the line in which it begins, from 1, where that is told, and where memory was
--- refused for its answer how many of its values were written before that
+-- one of them: its bytes, what it is, the number of the line in which it begins, from 1, where that is told, how many of its nodes
+-- are wanted, where not all are, and where memory was refused for its answer how many of its rows were written before that
 pub record Item : Type 0 where
   pub text : List ℕ
   pub status : LineStatus
   pub from_line : Option ℕ
+  pub most : Option ℕ
   pub given_up : Option ℕ
 
 -- memory was refused for its answer
@@ -24,7 +25,7 @@ is_given_up item = is_some item.given_up
 
 -- a line, or a text of a sequence
 abbrev pub line_item : Framing → List ℕ → Item
-line_item framing line = record { text = line; status = status_of framing line; from_line = None; given_up = None }
+line_item framing line = record { text = line; status = status_of framing line; from_line = None; most = None; given_up = None }
 
 -- a blank piece is no JSON text (RFC 8259, section 2)
 abbrev pub unblanked : LineStatus → LineStatus
@@ -48,6 +49,7 @@ item_with text is_closed line_feeds = record {
   text = text;
   status = piece_judged is_closed (status_of framings.Lines text);
   from_line = Some (line_after line_feeds);
+  most = None;
   given_up = None;
 }
 

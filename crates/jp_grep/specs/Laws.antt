@@ -1,14 +1,14 @@
 -- What the rows of a filter have to do with those of a query.
-use Rattle.std.specs.Prelude.{◌≡◌, ℕ, List, [], ◌∷◌, ◌++◌, flat_map, codes, decimal, Bool, true, false}
+use Rattle.std.specs.Prelude.{◌≡◌, ℕ, List, [], ◌∷◌, ◌++◌, flat_map, codes, decimal, Bool, true, false, None, Some}
 use denote.Ref.{Bor}
 use Rattle.jp_model.specs.declared.Framing.TheVariants as framings
 use Rattle.jp_model.specs.Json.Reader.{status_of}
 use Rattle.jp_model.specs.Meaning.Paths.{path_text}
-use Rattle.jp_model.specs.Query.Syntax.{Segments}
+use Rattle.jp_model.specs.Query.Syntax.{Segments, no_segments, path, root}
 use Rattle.jp_model.specs.Rows.{Row, node_row, refusal_row, line_feed, source, tab, status_rows as query_rows}
-use Rattle.jp_grep.specs.Matching.{conditions_of, queries_of}
-use Rattle.jp_grep.specs.Rows.{item_rows}
-use Rattle.jp_grep.specs.Items.{line_item}
+use Rattle.jp_grep.specs.Matching.{conditions_of, each_of, queries_of}
+use Rattle.jp_grep.specs.Rows.{item_rows, selected_in}
+use Rattle.jp_grep.specs.Items.{Item, line_item}
 use Rattle.jp_form.specs.declared.form.Form.{Form}
 use Rattle.jp_form.specs.declared.form.Shown.TheVariants as shown
 use Rattle.jp_form.specs.declared.form.Spelling.TheVariants as spellings
@@ -39,6 +39,20 @@ row_with_colon line (refusal_row n fault) = []
 
 -- Asked one query and no condition, the rows of each line are those that the query answers, node by node.
 abbrev pub RowsAreThoseOfAQuery : Type 0
-RowsAreThoseOfAQuery = (question : Question) (query : Segments) → queries_of question ≡ query ∷ [] → conditions_of question ≡ [] → question.wanted ≡ wanted.Matching
+RowsAreThoseOfAQuery = (question : Question) (query : Segments) → each_of question ≡ None → queries_of question ≡ path root query ∷ [] → conditions_of question ≡ [] → question.wanted ≡ wanted.Matching
     → (summary : Summary) (name : Bor (List ℕ)) (silent : Bool) (most n : ℕ) (line : List ℕ)
     → item_rows question (numbered_values summary name silent most) n (line_item framings.Lines line) ≡ flat_map (row_with_colon line) (query_rows query n (status_of framings.Lines line))
+
+-- two questions that ask the same, the one of each line, the other of each node that `$` selects, which is its root
+pub record AsksEachRoot (lines each : Question) : Type 0 where
+  pub of_lines : each_of lines ≡ None
+  pub of_roots : each_of each ≡ Some no_segments
+  pub queries : queries_of each ≡ queries_of lines
+  pub purpose : each.purpose ≡ lines.purpose
+  pub conditions : conditions_of each ≡ conditions_of lines
+  pub wanted : each.wanted ≡ lines.wanted
+
+-- They select alike, and what is written is the same.
+abbrev pub EachRootIsItsLine : Type 0
+EachRootIsItsLine = (lines each : Question) → AsksEachRoot lines each → (form : Form) (n : ℕ) (item : Item)
+    → (item_rows each form n item ≡ item_rows lines form n item) × (selected_in each item ≡ selected_in lines item)

@@ -1,4 +1,5 @@
 -- What jpgrep answers.
+pub mod Asked
 pub mod Conditions
 pub mod Matching
 pub mod Spelled

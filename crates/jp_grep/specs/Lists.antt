@@ -1,5 +1,5 @@
 -- How a list is read.
-use Rattle.std.specs.Prelude.{◌≡◌, List, [], ℕ, false}
+use Rattle.std.specs.Prelude.{◌≡◌, List, [], ℕ, false, None}
 use denote.Ref.{Bor}
 use Rattle.jp_devices.specs.Devices.{Came}
 use Rattle.jp_listed.specs.Sets.{HasLines}
@@ -11,15 +11,18 @@ use Rattle.jp_form.specs.declared.form.Shown.TheVariants as shown
 use Rattle.jp_form.specs.declared.form.Spelling.TheVariants as spellings
 use Rattle.jp_form.specs.declared.form.Summary.TheVariants as summaries
 use Rattle.jp_form.specs.declared.form.Units.TheVariants as units
-use Rattle.jp_grep.specs.Matching.{conditions_of, queries_of}
+use Rattle.jp_grep.specs.Matching.{conditions_of, each_of, queries_of}
 use Rattle.jp_grep.specs.Rows.{output_from}
 use Rattle.jp_grep.specs.Items.{items_come}
 use Rattle.jp_grep.specs.Watching.{answered_of}
+use Rattle.jp_grep.specs.declared.question.Queries.TheVariants as purposes
 use Rattle.jp_grep.specs.declared.question.Question.{Question}
 use Rattle.jp_grep.specs.declared.question.Wanted.TheVariants as wanted
 
 -- nothing is asked for, so that each value is another than what is asked for
 pub record AsksForNothing (question : Question) : Type 0 where
+  pub each : each_of question ≡ None
+  pub purpose : question.purpose ≡ purposes.Filter
   pub queries : queries_of question ≡ []
   pub conditions : conditions_of question ≡ []
   pub wanted : question.wanted ≡ wanted.Others

@@ -1,13 +1,13 @@
 -- What the query `$` and the question for refused lines have to do with each other.
-use Rattle.std.specs.Prelude.{◌≡◌, ℕ, List, [], ◌∷◌, ◌++◌, Bool, false, not}
+use Rattle.std.specs.Prelude.{◌≡◌, ℕ, ◌+◌, List, [], ◌∷◌, ◌++◌, Bool, false, None}
 use denote.Ref.{Bor}
 use Rattle.jp_model.specs.declared.Framing.TheVariants as framings
 use Rattle.jp_model.specs.Json.Reader.{status_of}
 use Rattle.jp_model.specs.Json.Status.{blank}
-use Rattle.jp_model.specs.Query.Syntax.{no_segments}
+use Rattle.jp_model.specs.Query.Syntax.{no_segments, path, root as from_root}
 use Rattle.jp_model.specs.Rows.{line_feed}
-use Rattle.jp_grep.specs.Matching.{conditions_of, queries_of}
-use Rattle.jp_grep.specs.Rows.{item_rows, selected_item}
+use Rattle.jp_grep.specs.Matching.{conditions_of, each_of, queries_of}
+use Rattle.jp_grep.specs.Rows.{item_rows, selected_in}
 use Rattle.jp_grep.specs.Items.{Item, line_item}
 use Rattle.jp_form.specs.declared.form.Form.{Form}
 use Rattle.jp_form.specs.declared.form.Shown.TheVariants as shown
@@ -32,16 +32,17 @@ bare_lines summary name silent most = record {
   most = most;
 }
 
--- the query `$` is asked, which has no segments, and no condition
+-- lines are asked the query `$`, which has no segments, and no condition
 pub record AsksRoot (question : Question) : Type 0 where
-  pub queries : queries_of question ≡ no_segments ∷ []
+  pub each : each_of question ≡ None
+  pub queries : queries_of question ≡ path from_root no_segments ∷ []
   pub conditions : conditions_of question ≡ []
   pub wanted : question.wanted ≡ wanted.Matching
 
 -- Each line that is not blank is selected by one of both questions, and not by the other. Of whichever selects it, the row is
 -- the line and a line feed.
 pub record IsSelectedOnce (root refused : Question) (form : Form) (n : ℕ) (line : Item) : Type 0 where
-  pub once : selected_item refused line ≡ not (selected_item root line)
+  pub once : selected_in root line + selected_in refused line ≡ 1
   pub same : item_rows root form n line ++ item_rows refused form n line ≡ line.text ++ line_feed
 
 abbrev pub EachLineIsSelectedOnce : Type 0

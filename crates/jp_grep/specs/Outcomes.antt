@@ -4,9 +4,9 @@ use Rattle.jp_devices.specs.Devices.{Came}
 use Rattle.jp_form.specs.declared.form.Form.{Form}
 use Rattle.jp_grep.specs.Items.{Item, is_given_up, items_come}
 
--- an item that was given up after as many of its values were written
+-- an item that was given up after as many of its rows were written
 abbrev pub give_up : ℕ → Item → Item
-give_up count item = record { text = item.text; status = item.status; from_line = item.from_line; given_up = Some count }
+give_up count item = record { text = item.text; status = item.status; from_line = item.from_line; most = item.most; given_up = Some count }
 
 -- what came of an item: itself, or that it was given up
 abbrev pub CameOf : Item → Item → Type 0

@@ -22,7 +22,7 @@ status_by (states.Tree view) = parsed (tree_of_view view)
 
 -- a line, text or element that was read
 abbrev pub item_of : ReadItem → Item
-item_of item = record { text = item.text.now; status = status_by item.state; from_line = item.from_line; given_up = None }
+item_of item = record { text = item.text.now; status = status_by item.state; from_line = item.from_line; most = None; given_up = None }
 
 -- where it has a tree, that is opened over its text
 abbrev pub IsOpened : LineState → List ℕ → Type 0

@@ -1,5 +1,6 @@
 -- What is written of a line, and what is told of it.
-use Rattle.std.specs.Prelude.{ℕ, ◌+◌, List, [], ◌∷◌, ◌++◌, flat_map, codes, cond, decimal, count_by, Bool, true, false, ◌==◌, ◌&&◌, if◌then◌else◌, ltb, take, Option, Some, None}
+use Rattle.std.specs.Prelude.{ℕ, ◌+◌, List, [], ◌∷◌, ◌++◌, map, flat_map, codes, cond, decimal, count_by, sum_by, Bool, true, false, ◌==◌, ◌&&◌, if◌then◌else◌, ltb, take, Option, Some, None}
+use Rattle.std.specs.List.{concat}
 use Rattle.jp_model.specs.declared.Framing.TheVariants as framings
 use Rattle.jp_model.specs.declared.LineFault.{LineFault}
 use Rattle.jp_model.specs.Json.Status.{LineStatus, blank, refused, parsed}
@@ -8,7 +9,7 @@ use Rattle.jp_model.specs.Meaning.Nodes.{Node}
 use Rattle.jp_model.specs.Meaning.Paths.{path_text}
 use Rattle.jp_model.specs.Script.Machine.{is_refused_status}
 use Rattle.jp_model.specs.Rows.{row_start, line_fault_word, line_feed, source, tab}
-use Rattle.jp_grep.specs.Matching.{is_selected, nodes_of, queries_of}
+use Rattle.jp_grep.specs.Matching.{is_selected, nodes_of, queries_of, selected_nodes, selected_of, wanted_of, wants_refused}
 use Rattle.jp_grep.specs.Items.{Item, framing_by, is_given_up}
 use Rattle.jp_grep.specs.Spelled.{printed, spelled}
 use Rattle.jp_grep.specs.Tables.{table_row}
@@ -63,37 +64,48 @@ abbrev pub path_front : Bool → Node → List ℕ
 path_front false node = []
 path_front true node = path_text node.location ++ tab
 
--- a row for each of some nodes of line n
-abbrev pub node_rows : Form → Bool → ℕ → List ℕ → List Node → List ℕ
-node_rows form paths n line nodes = flat_map (λ node. row form n (path_front paths node ++ spelled form.spelling form.units line node.tree)) nodes
+-- the row of a value in line n
+abbrev pub value_row : Form → Bool → ℕ → List ℕ → Node → List ℕ
+value_row form paths n line node = row form n (path_front paths node ++ spelled form.spelling form.units line node.tree)
 
--- what is written of a selected line with this value
-abbrev pub shown_rows : Shown → Question → Form → ℕ → List ℕ → Tree → List ℕ
-shown_rows shown.Nothing question form n line t = []
-shown_rows (shown.Line faults) question form n line t = row form n (line_text form.spelling form.units line t)
-shown_rows (shown.Values paths) question form n line t = node_rows form paths n line (nodes_of (queries_of question) t)
-shown_rows (shown.Cells table) question form n line t = table_row table (queries_of question) form n line t
+-- the rows of a node of line n that is selected
+abbrev pub node_rows : Shown → Question → Form → ℕ → List ℕ → Tree → Node → List (List ℕ)
+node_rows shown.Nothing question form n line t node = []
+node_rows (shown.Line faults) question form n line t node = row form n (line_text form.spelling form.units line t) ∷ []
+node_rows (shown.Values paths) question form n line t node = map (value_row form paths n line) (nodes_of (queries_of question) node t)
+node_rows (shown.Cells table) question form n line t node = table_row table (queries_of question) form n line t node ∷ []
 
--- the same but for the rows of values, of which there may be many
-abbrev pub row_at_once : Shown → Question → Form → ℕ → List ℕ → Tree → List ℕ
-row_at_once (shown.Values paths) question form n line t = []
-row_at_once shown question form n line t = shown_rows shown question form n line t
+-- the rows of a node that is asked
+abbrev pub asked_rows : Question → Form → ℕ → List ℕ → Tree → Node → List (List ℕ)
+asked_rows question form n line t node = if is_selected question t node then node_rows form.shown question form n line t node else []
+
+-- the same as one text, but for the rows of values, since there may be many
+abbrev pub row_at_once : Shown → Question → Form → ℕ → List ℕ → Tree → Node → List ℕ
+row_at_once shown.Nothing question form n line t node = []
+row_at_once (shown.Line faults) question form n line t node = row form n (line_text form.spelling form.units line t)
+row_at_once (shown.Values paths) question form n line t node = []
+row_at_once (shown.Cells table) question form n line t node = table_row table (queries_of question) form n line t node
 
 -- the word of its fault in front of a refused line
 abbrev pub fault_front : Bool → LineFault → List ℕ
 fault_front false fault = []
 fault_front true fault = line_fault_word fault ++ tab
 
--- what is written of a selected line that is refused: its bytes, and no values or cells, since it has none
-abbrev pub refused_rows : Shown → Form → ℕ → List ℕ → LineFault → List ℕ
-refused_rows (shown.Line faults) form n line fault = row form n (fault_front faults fault ++ line)
+-- the rows of a refused line that is selected: its bytes, and no values or cells, since it has none
+abbrev pub refused_rows : Shown → Form → ℕ → List ℕ → LineFault → List (List ℕ)
+refused_rows (shown.Line faults) form n line fault = row form n (fault_front faults fault ++ line) ∷ []
 refused_rows _ form n line fault = []
 
--- what is written of a line, a text or an element
-abbrev pub status_rows : Question → Form → ℕ → List ℕ → LineStatus → List ℕ
-status_rows question form n line blank = []
-status_rows question form n line (refused fault) = if is_selected question (refused fault) then refused_rows form.shown form n line fault else []
-status_rows question form n line (parsed t) = if is_selected question (parsed t) then shown_rows form.shown question form n line t else []
+-- the rows of a line, a text or an element, as far as its nodes are wanted
+abbrev pub status_rows : Question → Form → ℕ → List ℕ → (most : Option ℕ) → LineStatus → List (List ℕ)
+status_rows question form n line most blank = []
+status_rows question form n line most (refused fault) = if wants_refused question.wanted then refused_rows form.shown form n line fault else []
+status_rows question form n line most (parsed t) = flat_map (node_rows form.shown question form n line t) (wanted_of most (selected_nodes question t))
+
+-- those that are written: all, or where memory was refused the first
+abbrev pub written_of : (given_up : Option ℕ) → List (List ℕ) → List ℕ
+written_of None rows = concat rows
+written_of (Some count) rows = concat (take count rows)
 
 -- the number of the line of the stream in which a text or an element begins, after the word of its fault
 abbrev pub from_line_text : Option ℕ → List ℕ
@@ -120,41 +132,33 @@ status_message form before n from_line blank = []
 status_message form before n from_line (refused fault) = if ltb before most_told then refusal form.silent form.name.now n fault from_line else []
 status_message form before n from_line (parsed t) = []
 
--- the rows of the first values of a line, where each value has a row
-abbrev pub first_rows : (count : ℕ) → Shown → Question → Form → ℕ → List ℕ → LineStatus → List ℕ
-first_rows count (shown.Values paths) question form n line (parsed t) = node_rows form paths n line (take count (nodes_of (queries_of question) t))
-first_rows count shown question form n line status = []
-
 -- the message on a line that is given up for want of memory, which is always wanted
 abbrev pub given_up_message : List ℕ → ℕ → (from_line : Option ℕ) → List ℕ
 given_up_message name n from_line = line_message name n (codes "out of memory") from_line
 
 -- ---- all of a line, a text or an element, by whether it is given up
 
-abbrev pub selected_where : (given_up : Bool) → Question → LineStatus → Bool
-selected_where false question status = is_selected question status
-selected_where true question status = false
+abbrev pub selected_where : (given_up : Bool) → Question → (most : Option ℕ) → LineStatus → ℕ
+selected_where false question most status = selected_of question most status
+selected_where true question most status = 0
 
 abbrev pub refused_where : (given_up : Bool) → LineStatus → Bool
 refused_where false status = is_refused_status status
 refused_where true status = false
 
-abbrev pub rows_where : (given_up : Option ℕ) → Question → Form → ℕ → List ℕ → LineStatus → List ℕ
-rows_where None question form n line status = status_rows question form n line status
-rows_where (Some count) question form n line status = first_rows count form.shown question form n line status
-
 abbrev pub message_where : (given_up : Bool) → Form → (before : ℕ) → ℕ → (from_line : Option ℕ) → LineStatus → List ℕ
 message_where false form before n from_line status = status_message form before n from_line status
 message_where true form before n from_line status = given_up_message form.name.now n from_line
 
-abbrev pub selected_item : Question → Item → Bool
-selected_item question item = selected_where (is_given_up item) question item.status
+-- how many of its nodes are selected, as far as they are wanted: of one that is given up none
+abbrev pub selected_in : Question → Item → ℕ
+selected_in question item = selected_where (is_given_up item) question item.most item.status
 
 abbrev pub refused_item : Item → Bool
 refused_item item = refused_where (is_given_up item) item.status
 
 abbrev pub item_rows : Question → Form → ℕ → Item → List ℕ
-item_rows question form n item = rows_where item.given_up question form n item.text item.status
+item_rows question form n item = written_of item.given_up (status_rows question form n item.text item.most item.status)
 
 abbrev pub item_message : Form → (before : ℕ) → ℕ → Item → List ℕ
 item_message form before n item = message_where (is_given_up item) form before n item.from_line item.status
@@ -173,9 +177,9 @@ abbrev pub messages_from : Form → (before : ℕ) → ℕ → List Item → Lis
 messages_from form before n [] = []
 messages_from form before n (item ∷ rest) = item_message form before n item ++ messages_from form (before + cond (refused_item item) 1 0) (n + 1) rest
 
--- how many of them are selected
+-- how many of their nodes are selected
 abbrev pub selected_count : Question → List Item → ℕ
-selected_count question items = count_by (selected_item question) items
+selected_count question items = sum_by (selected_in question) items
 
 -- what is written after the rows of a stream, where `count` of its lines were selected, and all were answered or not: a stream
 -- without selected lines is one of which all were

@@ -1,18 +1,21 @@
 -- What the steps of a search come to.
-use Rattle.std.specs.Prelude.{◌≡◌, ℕ, ◌+◌, ◌<◌, ◌≤◌, List, [], ◌++◌, length, Bool, true, false, is_some, None, Option, Result, MatchResult, IfOk, OnOk, IfErr}
+use Rattle.std.specs.Prelude.{◌≡◌, ℕ, ◌+◌, ◌-◌, ◌<◌, ◌≤◌, List, [], ◌++◌, length, Bool, true, false, is_some, None, Some, Option, Result, MatchOption, MatchResult, ⊤, IfOk, OnOk, IfErr}
 use Rattle.jp_devices.specs.Devices.{Device, Received, Writes}
 use Rattle.jp_model.specs.Json.Status.{LineStatus}
 use Rattle.jp_model.specs.Lines.{is_framed}
+use Rattle.jp_model.specs.Json.Tree.{Tree}
 use Rattle.jp_model.specs.Meaning.Nodes.{Node}
 use Rattle.jp_grep.specs.Faults.{is_front_fault, is_writer_fault}
 use Rattle.jp_grep.specs.Formats.{format_of}
 use Rattle.jp_grep.specs.Fronts.{AreRefused, IsOfLines}
 use Rattle.jp_grep.specs.Holding.{Puts}
+use Rattle.jp_grep.specs.Matching.{is_selected}
+use Rattle.std.specs.List.{concat}
 use Rattle.jp_grep.specs.Items.{Item, framing_by, is_given_up, items_come}
 use Rattle.jp_grep.specs.Outcomes.{CameOf, CameOfEach, given_up_count}
-use Rattle.jp_grep.specs.Rows.{item_message, item_rows, messages_from, node_rows, output_from, refused_count, refused_where, rows_where, selected_count, selected_where}
+use Rattle.jp_grep.specs.Rows.{asked_rows, item_message, item_rows, messages_from, output_from, refused_count, refused_where, selected_count, selected_where, status_rows, written_of}
 use Rattle.jp_grep.specs.Stands.{Stands}
-use Rattle.jp_grep.specs.Watching.{AreCounts, answered_of}
+use Rattle.jp_grep.specs.Watching.{AreCounts, answered_of, cut_to}
 use Rattle.jp_grep.specs.declared.fault.SearchFault.{SearchFault}
 use Rattle.jp_grep.specs.declared.fault.SearchFault.TheVariants as faults
 use Rattle.jp_form.specs.declared.form.Form.{Form}
@@ -21,10 +24,9 @@ use Rattle.jp_grep.specs.declared.progress.Verdict.{Verdict}
 use Rattle.jp_grep.specs.declared.question.Question.{Question}
 use Rattle.jp_grep.specs.declared.source.Source.{Source}
 
--- no more items are selected than are wanted, and of those so far each is selected, refused or given up at most once
+-- no more nodes are selected than are wanted, and of the items so far each is refused or given up at most once
 pub record IsUnderWay (form : Form) (progress : Progress) : Type 0 where
   pub wanted : progress.counts.selected ≤ form.most
-  pub fewer_selected : progress.counts.selected < progress.number
   pub fewer_refused : progress.counts.refused < progress.number
   pub fewer_given_up : progress.counts.given_up < progress.number
 
@@ -36,34 +38,41 @@ pub record GoesOnBy (question : Question) (form : Form) (before after : Progress
   pub given_up : after.counts.given_up ≡ before.counts.given_up + given_up_count items
   pub under_way : IsUnderWay form after
 
--- the verdict is that of a line which is this, and given up or not
-pub record IsVerdict (question : Question) (verdict : Verdict) (lost : Bool) (status : LineStatus) : Type 0 where
-  pub selected : verdict.selected ≡ selected_where lost question status
+-- the verdict is that of a line which is this, of which no more nodes are wanted, and given up or not
+pub record IsVerdict (question : Question) (verdict : Verdict) (most : ℕ) (lost : Bool) (status : LineStatus) : Type 0 where
+  pub selected : verdict.selected ≡ selected_where lost question (Some most) status
   pub refused : verdict.refused ≡ refused_where lost status
   pub given_up : verdict.given_up ≡ lost
 
--- The rows of the first of some nodes are put, at an Err a beginning, and those of all where it is said so.
-pub record PutsFirst {W A : Type 0} (rows_in : W → Option (List ℕ)) (form : Form) (paths : Bool) (n : ℕ) (line : List ℕ) (out0 out1 : Device W) (was_held is_held : List ℕ) (result : Result A SearchFault) (says_all : A → Bool) (nodes : List Node) : Type 0 where
-  pub first : List Node
-  pub others : List Node
-  pub split : nodes ≡ first ++ others
-  pub rows : Puts rows_in out0 out1 was_held is_held result (node_rows form paths n line first)
+-- The first of some rows are put, at an Err a beginning, and all where it is said so.
+pub record PutsFirst {W A : Type 0} (rows_in : W → Option (List ℕ)) (out0 out1 : Device W) (was_held is_held : List ℕ) (result : Result A SearchFault) (says_all : A → Bool) (rows : List (List ℕ)) : Type 0 where
+  pub first : List (List ℕ)
+  pub others : List (List ℕ)
+  pub split : rows ≡ first ++ others
+  pub puts : Puts rows_in out0 out1 was_held is_held result (concat first)
   pub all : IfOk result (λ answer. says_all answer ≡ true → others ≡ [])
 
--- A line is answered or given up: its rows are put, at an Err a beginning.
-pub record AnswersStatus {W : Type 0} (rows_in : W → Option (List ℕ)) (question : Question) (form : Form) (n : ℕ) (line : List ℕ) (out0 out1 : Device W) (was_held is_held : List ℕ) (result : Result Verdict SearchFault) (status : LineStatus) : Type 0 where
+-- A node is answered: its rows are put, at an Err a beginning, and it is told whether it is selected. There is no answer where memory
+-- was refused, and then the first of its rows are put.
+pub record AnswersNode {W : Type 0} (rows_in : W → Option (List ℕ)) (question : Question) (form : Form) (n : ℕ) (line : List ℕ) (out0 out1 : Device W) (was_held is_held : List ℕ) (result : Result (Option Bool) SearchFault) (t : Tree) (node : Node) : Type 0 where
+  pub rows : PutsFirst rows_in out0 out1 was_held is_held result is_some (asked_rows question form n line t node)
+  pub selected : IfOk result (λ answer. MatchOption answer ⊤ (λ selected. selected ≡ is_selected question t node))
+
+-- A line of which no more nodes are wanted is answered or given up: its rows are put, at an Err a beginning.
+pub record AnswersStatus {W : Type 0} (rows_in : W → Option (List ℕ)) (question : Question) (form : Form) (n : ℕ) (line : List ℕ) (most : ℕ) (out0 out1 : Device W) (was_held is_held : List ℕ) (result : Result Verdict SearchFault) (status : LineStatus) : Type 0 where
   pub given_up : Option ℕ
-  pub rows : Puts rows_in out0 out1 was_held is_held result (rows_where given_up question form n line status)
-  pub verdict : IfOk result (λ verdict. IsVerdict question verdict (is_some given_up) status)
+  pub rows : Puts rows_in out0 out1 was_held is_held result (written_of given_up (status_rows question form n line (Some most) status))
+  pub verdict : IfOk result (λ verdict. IsVerdict question verdict most (is_some given_up) status)
 
 module _ {W E : Type 0} (rows_in : W → Option (List ℕ)) (messages_in : E → Option (List ℕ)) where
-  -- An item is answered or given up: its rows are put, and its message is written, at an Err a beginning.
+  -- An item is answered, as far as its nodes are wanted, or given up: its rows are put, and its message is written, at an Err a
+  -- beginning.
   pub record AnswersItem (question : Question) (form : Form) (progress : Progress) (out0 out1 : Device W) (was_held is_held : List ℕ) (told0 told1 : Device E) (result : Result Verdict SearchFault) (item : Item) : Type 0 where
     pub outcome : Item
     pub came : CameOf item outcome
-    pub rows : Puts rows_in out0 out1 was_held is_held result (item_rows question form progress.number outcome)
+    pub rows : Puts rows_in out0 out1 was_held is_held result (item_rows question form progress.number (cut_to (form.most - progress.counts.selected) outcome))
     pub message : Writes messages_in told0 told1 result (item_message form progress.counts.refused progress.number outcome)
-    pub verdict : IfOk result (λ verdict. IsVerdict question verdict (is_given_up outcome) outcome.status)
+    pub verdict : IfOk result (λ verdict. IsVerdict question verdict (form.most - progress.counts.selected) (is_given_up outcome) outcome.status)
 
   -- These items are answered, as far as they are wanted, where rows are held in front of a writer.
   pub record AnswersHeld (question : Question) (form : Form) (before after : Progress) (out0 out1 : Device W) (was_held is_held : List ℕ) (told0 told1 : Device E) (result : Result Unit SearchFault) (items : List Item) : Type 0 where

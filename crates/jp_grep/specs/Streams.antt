@@ -1,5 +1,5 @@
 -- The lines of a stream, as far as they are answered.
-use Rattle.std.specs.Prelude.{ℕ, zero, suc, List, [], ◌∷◌, drop, Bool, true, false, if◌then◌else◌}
+use Rattle.std.specs.Prelude.{ℕ, List, drop, Bool, true, false}
 use Rattle.jp_model.specs.declared.Framing.{Framing}
 use Rattle.jp_model.specs.declared.Framing.TheVariants as framings
 use Rattle.jp_model.specs.Lines.{closed_lines, closed_pieces, lines, without_byte_order_mark, without_empty}
@@ -13,9 +13,3 @@ closed_in framings.Sequence text = without_empty (drop 1 (closed_pieces 0x1E tex
 abbrev pub lines_come : Framing → Bool → List ℕ → List (List ℕ)
 lines_come framing true bytes = lines framing bytes
 lines_come framing false bytes = closed_in framing (without_byte_order_mark bytes)
-
--- the items up to the one with which a given number of items pass a test, or all where fewer do
-abbrev pub up_to : {A : Type 0} → (A → Bool) → ℕ → List A → List A
-up_to test zero items = []
-up_to test (suc most) [] = []
-up_to test (suc most) (item ∷ rest) = item ∷ up_to test (if test item then most else suc most) rest

@@ -3,7 +3,8 @@ use Rattle.std.specs.Prelude.{ℕ, List, [], ◌∷◌, ◌++◌, map, codes, de
 use Rattle.jp_model.specs.Json.Spelling.{Spells}
 use Rattle.jp_model.specs.Json.Tree.{Tree}
 use Rattle.jp_model.specs.Meaning.Nodes.{Node}
-use Rattle.jp_model.specs.Query.Syntax.{Segments}
+use Rattle.jp_model.specs.Meaning.Selecting.{path_nodes}
+use Rattle.jp_model.specs.Query.Syntax.{Path}
 use Rattle.jp_model.specs.Rows.{line_feed}
 use Rattle.jp_canon.specs.Canonical.{canonical_text}
 use Rattle.jp_form.specs.declared.form.Form.{Form}
@@ -14,7 +15,6 @@ use Rattle.jp_form.specs.declared.form.Table.TheVariants as tables
 use Rattle.jp_table.specs.Cells.{Cell, bare_cell, no_cell}
 use Rattle.jp_table.specs.ReadBack.{HasText, MayStand}
 use Rattle.jp_table.specs.Tables.{front_cells, joined}
-use Rattle.jp_grep.specs.Matching.{selected_by}
 use Rattle.jp_grep.specs.Spelled.{cell_of}
 
 -- the cell of a query that selects these nodes, of which it is one at most where the query is singular (RFC 9535,
@@ -32,13 +32,13 @@ CellsHaveTexts = (line : List ℕ) (t : Tree) → Spells line t → HasText (cel
 abbrev pub CanonicalTextsMayStand : Type 0
 CanonicalTextsMayStand = (t : Tree) → MayStand tables.Canonical (canonical_text t)
 
--- a cell for each query, asked of the value of a line
-abbrev pub query_cells : Table → List Segments → List ℕ → Tree → List Cell
-query_cells table queries line t = map (λ query. nodes_cell table line (selected_by query t)) queries
+-- a cell for each query, asked of a node of a line
+abbrev pub query_cells : Table → List Path → List ℕ → Tree → Node → List Cell
+query_cells table queries line t node = map (λ query. nodes_cell table line (path_nodes query node t)) queries
 
--- the row of line n
-abbrev pub table_row : Table → List Segments → Form → ℕ → List ℕ → Tree → List ℕ
-table_row table queries form n line t = joined table (front_cells form form.name.now (decimal n) ++ query_cells table queries line t) ++ line_feed
+-- the row of a node of line n
+abbrev pub table_row : Table → List Path → Form → ℕ → List ℕ → Tree → Node → List ℕ
+table_row table queries form n line t node = joined table (front_cells form form.name.now (decimal n) ++ query_cells table queries line t node) ++ line_feed
 
 -- the row above the others: the names of the columns, behind those of the cells in front
 abbrev pub header_row : Table → Form → List (List ℕ) → List ℕ

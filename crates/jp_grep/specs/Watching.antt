@@ -1,12 +1,11 @@
 -- What passed in a search, by the fault that it answers.
-use Rattle.std.specs.Prelude.{◌≡◌, ℕ, ◌+◌, ◌-◌, List, [], ◌++◌, length, Bool, true, false, ◌&&◌, ◌==◌, is_none, Option, None, MatchOption, ◌⊎◌}
+use Rattle.std.specs.Prelude.{◌≡◌, ℕ, zero, suc, ◌+◌, ◌-◌, List, [], ◌∷◌, ◌++◌, length, Bool, true, false, ◌&&◌, ◌==◌, is_none, Option, Some, None, MatchOption, ◌⊎◌}
 use Rattle.jp_devices.specs.Devices.{Begins, Came, Device, Received}
 use Rattle.jp_grep.specs.Formats.{format_of}
 use Rattle.jp_grep.specs.Fronts.{IsOfLines, IsRefused}
 use Rattle.jp_grep.specs.Items.{Item, framing_by, items_come}
 use Rattle.jp_grep.specs.Outcomes.{CameOfEach, given_up_count}
-use Rattle.jp_grep.specs.Rows.{messages_from, output_from, refused_count, selected_count, selected_item, summary_of}
-use Rattle.jp_grep.specs.Streams.{up_to}
+use Rattle.jp_grep.specs.Rows.{messages_from, output_from, refused_count, selected_count, selected_in, summary_of}
 use Rattle.jp_grep.specs.Told.{told_of}
 use Rattle.jp_grep.specs.declared.fault.SearchFault.{SearchFault}
 use Rattle.jp_grep.specs.declared.fault.SearchFault.TheVariants as faults
@@ -15,9 +14,20 @@ use Rattle.jp_grep.specs.declared.found.Found.{Found}
 use Rattle.jp_grep.specs.declared.progress.Counts.{Counts}
 use Rattle.jp_grep.specs.declared.question.Question.{Question}
 
--- of some items those that are answered, where `selected` items were selected before
+-- an item of which no more nodes are wanted
+abbrev pub cut_to : (most : ℕ) → Item → Item
+cut_to most item = record { text = item.text; status = item.status; from_line = item.from_line; most = Some most; given_up = item.given_up }
+
+-- The items up to the one with which a given number of nodes are selected, or all where fewer are. Of each no more nodes are
+-- wanted than are left of that number.
+abbrev pub up_to : Question → ℕ → List Item → List Item
+up_to question zero items = []
+up_to question (suc most) [] = []
+up_to question (suc most) (item ∷ rest) = cut_to (suc most) item ∷ up_to question (suc most - selected_in question (cut_to (suc most) item)) rest
+
+-- of some items those that are answered, where `selected` nodes were selected before
 abbrev pub answered_of : Question → Form → ℕ → List Item → List Item
-answered_of question form selected items = up_to (selected_item question) (form.most - selected) items
+answered_of question form selected items = up_to question (form.most - selected) items
 
 -- none is given up, and the rest of the stream was not passed over
 abbrev pub is_whole : Found → Bool

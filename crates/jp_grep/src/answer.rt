@@ -1,39 +1,34 @@
 //! The answer of lines: rows of those that are selected, messages on those that are refused.
 
-ghost use Rattle.std.specs.Prelude.{◌≡◌, ◌+◌, ◌<◌, ◌^◌, ◌∷◌, ◌++◌, [], List, ℕ, false, is_some, length, map, IfOk, MatchOption, OnOk, ⊤, if◌then◌else◌};
+ghost use Rattle.std.specs.Prelude.{◌≡◌, ◌+◌, ◌<◌, ◌≤◌, ◌^◌, ◌∷◌, [], false, length, map, IfOk, OnOk, if◌then◌else◌};
+ghost use Rattle.std.specs.List.{concat};
 ghost use Rattle.jp_devices.specs.Devices.{Writes};
 ghost use Rattle.jp_model.specs.Json.Status.{parsed, refused};
+ghost use Rattle.jp_model.specs.Meaning.Nodes.{root_node};
 ghost use Rattle.jp_nodes.specs.Cursors.{node_of};
 ghost use Rattle.jp_children.specs.Found.{AreOf};
 ghost use Rattle.jp_lines.specs.Views.{text_of_view, tree_of_view};
-ghost use Rattle.jp_eval.specs.Compiled.{program_view};
-ghost use Rattle.jp_form.specs.declared.form.Shown.TheVariants as shown;
-ghost use Rattle.jp_table.specs.Cells.{Cell};
-ghost use Rattle.jp_table.specs.Held.{Holds, row_bytes};
 ghost use Rattle.jp_grep.specs.Holding.{Puts, TellsOfBoth, TellsOfWriter};
 ghost use Rattle.jp_grep.specs.Faults.{IsToldOf, is_input_fault, is_report_fault, is_write_fault};
-ghost use Rattle.jp_grep.specs.Matching.{has_nodes, is_selected, nodes_of, queries_of, selected_by, selects, wants_nodes};
+ghost use Rattle.jp_grep.specs.Matching.{each_of, nodes_asked, wants_refused};
 ghost use Rattle.jp_grep.specs.ReadItems.{AreRead, IsReadItem, item_of, items_of, status_by};
-ghost use Rattle.jp_grep.specs.Rows.{line_text, message_where, row, row_at_once, status_rows, whole};
-ghost use Rattle.jp_grep.specs.Searching.{Answers, AnswersHeld, AnswersItem, AnswersStatus, IsUnderWay, PutsFirst};
-ghost use Rattle.jp_grep.specs.Tables.{nodes_cell, table_row};
+ghost use Rattle.jp_grep.specs.Rows.{message_where, refused_rows};
+ghost use Rattle.jp_grep.specs.Searching.{Answers, AnswersHeld, AnswersItem, AnswersStatus, IsUnderWay};
 
+use crate::asked::AskedNode;
 use crate::fault::SearchFault;
 use crate::items::{ReadItem, ReadItems};
 use crate::outlet::Outlet;
 use crate::progress::{Progress, Verdict};
-use crate::question::{Question, Wanted, find_nodes};
-use crate::room::Room;
-use crate::rows::{add_front, add_refused, add_value};
-use crate::spelling::{Speller, append_printed, cell_kind};
+use crate::question::Question;
+use crate::room::{NodeRoom, Room};
+use crate::rows::add_refused;
 use crate::told::{tell_given_up, tell_refused, wants_refused};
-use itoa::Buffer;
-use jp_eval::Program;
-use jp_form::{Form, Shown, Spelling, Table, Units};
+use jp_eval::Frame;
+use jp_form::{Form, Shown};
 use jp_lines::{LineState, LineView};
-use jp_model::{Framing, LineFault, Watched};
+use jp_model::{LineFault, Watched};
 use jp_nodes::Cursor;
-use jp_table::CellKind;
 use std::alloc::{AllocError, Global};
 use std::io::Write;
 
@@ -45,297 +40,33 @@ pub(crate) struct Answerer<'q> {
     pub(crate) form: &'q Form<'q>,
 }
 
-// How the row of a line is made.
 impl<'q> Answerer<'q> {
-    /// Appends a line as it is printed: its bytes, and of a text or an element those from the first of its value to the last.
-    fn append_whole<'r>(
+    /// The nodes of a line that are asked one by one: those that a query selects, which the frame has then, or else its root.
+    fn nodes_asked<'r: 'f, 'f>(
         self,
+        root: &'f [Cursor<'r>],
         line: LineView<'r>,
-        text: &'r [u8],
-        row: &mut Vec<u8>,
-    ) -> Result<(), AllocError>
-        requires { text_of_view line ≡ text.now }
-        ensures { OnOk result (row.new.items ≡ row.old.items ++ whole self.entry.form.now.units text.now (tree_of_view line.entry)) }
+        frame: &'f mut Frame<'r>,
+    ) -> Result<&'f [Cursor<'r>], AllocError>
+        requires root { map node_of root.now ≡ root_node (tree_of_view line) ∷ [] }
+        requires of { AreOf (text_of_view line) root.now }
+        ensures nodes { IfOk result (λ nodes. map node_of nodes.now ≡ nodes_asked (each_of self.entry.question.now) (tree_of_view line.entry)) }
+        ensures lines { IfOk result (λ nodes. AreOf (text_of_view line.entry) nodes.now) }
     {
-        match self.form.units {
-            Units::Lines(Framing::Lines) => row.extend_from_slice(text),
-            Units::Lines(Framing::Sequence) => row.extend_from_slice(line.root().source()),
-            Units::Pieces(_) => append_printed(self.form.units, line.root().source(), row),
-        }
-    }
-
-    /// Appends a line as its form spells it.
-    fn append_line<'r>(
-        self,
-        line: LineView<'r>,
-        text: &'r [u8],
-        room: &mut Room<'r>,
-    ) -> Result<(), AllocError>
-        requires { text_of_view line ≡ text.now }
-        ensures { OnOk result (room.new.row.items ≡ room.old.row.items ++ line_text self.entry.form.now.spelling self.entry.form.now.units text.now (tree_of_view line.entry)) }
-    {
-        let (units, row) = (self.form.units, &mut room.row);
-        match self.form.spelling {
-            Spelling::Source => self.append_whole(line, text, row),
-            Spelling::Text => room.speller.append(Spelling::Text, units, line.root(), row),
-            Spelling::Canonical => {
-                room.speller
-                    .append(Spelling::Canonical, units, line.root(), row)
+        match &self.question.each {
+            None => Ok(root),
+            Some(query) => {
+                query.run_in(self.alloc, line.root(), line.root(), frame)?;
+                Ok(frame.found())
             }
         }
     }
 
-    /// Adds the row of a line.
-    fn add_line<'r>(
-        self,
-        number: u64,
-        line: LineView<'r>,
-        text: &'r [u8],
-        room: &mut Room<'r>,
-    ) -> Result<(), AllocError>
-        requires { text_of_view line ≡ text.now }
-        ensures { OnOk result (room.new.row.items ≡ room.old.row.items ++ row self.entry.form.now number (line_text self.entry.form.now.spelling self.entry.form.now.units text.now (tree_of_view line.entry))) }
-    {
-        add_front(self.form, number, &mut room.row)?;
-        self.append_line(line, text, room)?;
-        room.row.extend_from_slice(b"\n")
-    }
-
-    /// Adds the cell of a query to the cells of a line, and tells whether it selects a node.
-    fn add_cell<'r>(
-        self,
-        table: Table,
-        query: &Program,
-        line: LineView<'r>,
-        room: &mut Room<'r>,
-    ) -> Result<bool, AllocError>
-        ensures cell { (cells : List Cell) → Holds table room.old.cells cells → OnOk result (Holds table room.new.cells
-            (cells ++ nodes_cell table (text_of_view line.entry) (selected_by (program_view query.now) (tree_of_view line.entry)) ∷ [])) }
-        ensures some { IfOk result (λ some. some ≡ has_nodes (selected_by (program_view query.now) (tree_of_view line.entry))) }
-        ensures row { room.new.row ≡ room.old.row }
-    {
-        let some = find_nodes(query, self.alloc, line, &mut room.frame)?;
-        let Some(node) = room.frame.found().first() else {
-            room.cells.add(table, CellKind::Nothing, &[])?;
-            return Ok(some);
-        };
-        let text = room.speller.cell_text(table, *node, &mut room.cell)?;
-        room.cells.add(table, cell_kind(node.kind()), text)?;
-        Ok(some)
-    }
-
-    /// Makes the cells of a line, and tells whether a query selects a node.
-    fn make_cells<'r>(
-        self,
-        table: Table,
-        number: u64,
-        line: LineView<'r>,
-        room: &mut Room<'r>,
-    ) -> Result<bool, AllocError>
-        ensures cells { OnOk result (row_bytes room.new.cells ≡ table_row table (queries_of self.entry.question.now) self.entry.form.now number (text_of_view line.entry) (tree_of_view line.entry)) }
-        ensures some { IfOk result (λ some. some ≡ selects (queries_of self.entry.question.now) (tree_of_view line.entry)) }
-        ensures row { room.new.row ≡ room.old.row }
-    {
-        let mut digits = Buffer::new();
-        let digits = digits.format(number).as_bytes();
-        room.cells
-            .begin(table, self.form, self.form.name.as_bytes(), digits)?;
-        let mut some = false;
-        for query in &self.question.queries {
-            some |= self.add_cell(table, query, line, room)?;
-        }
-        room.cells.end()?;
-        Ok(some)
-    }
-
-    /// Whether the nodes of a line are asked for: whether the conditions hold, or, where the other lines are wanted, whether it
-    /// does not match.
-    fn wants_nodes<'r>(self, line: LineView<'r>, room: &mut Room<'r>) -> Result<bool, AllocError>
-        ensures wanted { IfOk result (λ wanted. wanted ≡ wants_nodes self.entry.question.now (tree_of_view line.entry)) }
-        ensures row { room.new.row ≡ room.old.row }
-    {
-        match self.question.wanted {
-            Wanted::Matching => self.question.all_hold(self.alloc, line, &mut room.frame),
-            Wanted::Others => Ok(!self.question.matches(self.alloc, line, &mut room.frame)?),
-            Wanted::Refused => Ok(false),
-        }
-    }
-
-    /// Makes the row of a line of which the cells are shown, where it is selected, and tells whether it is. The queries are asked
-    /// once.
-    fn make_table_row<'r>(
-        self,
-        table: Table,
-        number: u64,
-        line: LineView<'r>,
-        room: &mut Room<'r>,
-    ) -> Result<bool, AllocError>
-        ensures selected { IfOk result (λ selected. selected ≡ is_selected self.entry.question.now (parsed (tree_of_view line.entry))) }
-        ensures row { OnOk result (room.new.row.items ≡ room.old.row.items ++ (if is_selected self.entry.question.now (parsed (tree_of_view line.entry))
-            then table_row table (queries_of self.entry.question.now) self.entry.form.now number (text_of_view line.entry) (tree_of_view line.entry) else [])) }
-    {
-        if !self.wants_nodes(line, room)? {
-            return Ok(false);
-        }
-        let some = self.make_cells(table, number, line, room)?;
-        if !self.question.wants_found(some) {
-            return Ok(false);
-        }
-        room.row.extend_from_slice(room.cells.bytes())?;
-        Ok(true)
-    }
-
-    /// Makes the row of a line of which nothing or the line is shown, where it is selected, and tells whether it is.
-    fn make_line_row<'r>(
-        self,
-        shown: bool,
-        number: u64,
-        line: LineView<'r>,
-        text: &'r [u8],
-        room: &mut Room<'r>,
-    ) -> Result<bool, AllocError>
-        requires text { text_of_view line ≡ text.now }
-        ensures selected { IfOk result (λ selected. selected ≡ is_selected self.entry.question.now (parsed (tree_of_view line.entry))) }
-        ensures row { OnOk result (room.new.row.items ≡ room.old.row.items ++ (if is_selected self.entry.question.now (parsed (tree_of_view line.entry))
-            then (if shown then row self.entry.form.now number (line_text self.entry.form.now.spelling self.entry.form.now.units text.now (tree_of_view line.entry)) else []) else [])) }
-    {
-        let matching = self.question.matches(self.alloc, line, &mut room.frame)?;
-        if !self.question.wanted.wants_value(matching) {
-            return Ok(false);
-        }
-        if shown {
-            self.add_line(number, line, text, room)?;
-        }
-        Ok(true)
-    }
-
-    /// Makes the row of a line that has a value, where it is selected, unless the values are shown that the queries select, and
-    /// tells whether it is.
-    fn make_row<'r>(
-        self,
-        number: u64,
-        line: LineView<'r>,
-        text: &'r [u8],
-        room: &mut Room<'r>,
-    ) -> Result<bool, AllocError>
-        requires text { text_of_view line ≡ text.now }
-        ensures selected { IfOk result (λ selected. selected ≡ is_selected self.entry.question.now (parsed (tree_of_view line.entry))) }
-        ensures row { OnOk result (room.new.row.items ≡ (if is_selected self.entry.question.now (parsed (tree_of_view line.entry))
-            then row_at_once self.entry.form.now.shown self.entry.question.now self.entry.form.now number text.now (tree_of_view line.entry) else [])) }
-    {
-        room.row.clear();
-        match self.form.shown {
-            Shown::Nothing | Shown::Values { .. } => {
-                self.make_line_row(false, number, line, text, room)
-            }
-            Shown::Line { .. } => self.make_line_row(true, number, line, text, room),
-            Shown::Cells(table) => self.make_table_row(table, number, line, room),
-        }
-    }
-}
-
-// How lines are answered.
-impl<'q> Answerer<'q> {
-    /// Puts a row for each of some nodes of a line, and tells whether there was memory for all.
-    fn put_values<'r, W: Write>(
-        self,
-        paths: bool,
-        number: u64,
-        text: &[u8],
-        nodes: &[Cursor<'r>],
-        speller: &mut Speller,
-        row: &mut Vec<u8>,
-        outlet: &mut Outlet,
-        out: &mut Watched<W>,
-    ) -> Result<bool, SearchFault>
-        requires lines { AreOf text.now nodes.now }
-        requires working { out.old.failed ≡ false }
-        ensures rows { PutsFirst W.contents self.entry.form.now paths number text.now out.old out.new outlet.old.held.items outlet.new.held.items result (λ whole. whole) (map node_of nodes.now) }
-        ensures tells { TellsOfWriter result out.old out.new }
-    {
-        for node in nodes {
-            row.clear();
-            if add_value(self.form, paths, number, *node, speller, row).is_err() {
-                return Ok(false);
-            }
-            outlet.put(row, out)?;
-        }
-        Ok(true)
-    }
-
-    /// Puts a row for each node that the queries select, query by query, and tells whether there is one. There is no answer where
-    /// memory was refused.
-    fn put_nodes<'r, W: Write>(
-        self,
-        paths: bool,
-        number: u64,
-        line: LineView<'r>,
-        text: &[u8],
-        room: &mut Room<'r>,
-        outlet: &mut Outlet,
-        out: &mut Watched<W>,
-    ) -> Result<Option<bool>, SearchFault>
-        requires text { text_of_view line ≡ text.now }
-        requires working { out.old.failed ≡ false }
-        ensures rows { PutsFirst W.contents self.entry.form.now paths number text.now out.old out.new outlet.old.held.items outlet.new.held.items result is_some (nodes_of (queries_of self.entry.question.now) (tree_of_view line.entry)) }
-        ensures some { IfOk result (λ answer. MatchOption answer ⊤ (λ some. some ≡ selects (queries_of self.entry.question.now) (tree_of_view line.entry))) }
-        ensures tells { TellsOfWriter result out.old out.new }
-    {
-        let mut some = false;
-        for query in &self.question.queries {
-            let Ok(found) = find_nodes(query, self.alloc, line, &mut room.frame) else {
-                return Ok(None);
-            };
-            some |= found;
-            let whole = self.put_values(
-                paths,
-                number,
-                text,
-                room.frame.found(),
-                &mut room.speller,
-                &mut room.row,
-                outlet,
-                out,
-            )?;
-            if !whole {
-                return Ok(None);
-            }
-        }
-        Ok(Some(some))
-    }
-
-    /// Answers a line of which the values are shown that the queries select. These are asked once.
-    fn answer_nodes<'r, W: Write>(
-        self,
-        paths: bool,
-        number: u64,
-        line: LineView<'r>,
-        text: &[u8],
-        room: &mut Room<'r>,
-        outlet: &mut Outlet,
-        out: &mut Watched<W>,
-    ) -> Result<Verdict, SearchFault>
-        requires shown { self.form.now.shown ≡ shown.Values paths }
-        requires text { text_of_view line ≡ text.now }
-        requires working { out.old.failed ≡ false }
-        ensures answers { AnswersStatus W.contents self.entry.question.now self.entry.form.now number text.now out.old out.new outlet.old.held.items outlet.new.held.items result (parsed (tree_of_view line.entry)) }
-        ensures tells { TellsOfWriter result out.old out.new }
-    {
-        match self.wants_nodes(line, room) {
-            Ok(true) => {}
-            Ok(false) => return Ok(Verdict::of_value(false)),
-            Err(_) => return Ok(Verdict::of_given_up()),
-        }
-        match self.put_nodes(paths, number, line, text, room, outlet, out)? {
-            Some(some) => Ok(Verdict::of_value(self.question.wants_found(some))),
-            None => Ok(Verdict::of_given_up()),
-        }
-    }
-
-    /// Answers a line that has a value.
+    /// Answers a line that has a value: the nodes of it that are asked, up to the last that is wanted.
     fn answer_value<'r, W: Write>(
         self,
         number: u64,
+        most: u64,
         line: LineView<'r>,
         text: &'r [u8],
         room: &mut Room<'r>,
@@ -344,16 +75,25 @@ impl<'q> Answerer<'q> {
     ) -> Result<Verdict, SearchFault>
         requires text { text_of_view line ≡ text.now }
         requires working { out.old.failed ≡ false }
-        ensures answers { AnswersStatus W.contents self.entry.question.now self.entry.form.now number text.now out.old out.new outlet.old.held.items outlet.new.held.items result (parsed (tree_of_view line.entry)) }
+        ensures answers { AnswersStatus W.contents self.entry.question.now self.entry.form.now number text.now most out.old out.new outlet.old.held.items outlet.new.held.items result (parsed (tree_of_view line.entry)) }
+        ensures fits { IfOk result (λ verdict. verdict.selected ≤ most) }
         ensures tells { TellsOfWriter result out.old out.new }
     {
-        if let Shown::Values { paths } = self.form.shown {
-            return self.answer_nodes(paths, number, line, text, room, outlet, out);
-        }
-        let Ok(selected) = self.make_row(number, line, text, room) else {
+        let root = [line.root()];
+        let Ok(nodes) = self.nodes_asked(&root, line, &mut room.asked) else {
             return Ok(Verdict::of_given_up());
         };
-        outlet.put(&room.row, out)?;
+        let mut selected = 0;
+        for node in nodes {
+            if selected == most {
+                break;
+            }
+            let asked = AskedNode { line, node: *node };
+            match self.answer_node(number, asked, text, &mut room.node, outlet, out)? {
+                Some(is_selected) => selected += u64::from(is_selected),
+                None => return Ok(Verdict::of_given_up()),
+            }
+        }
         Ok(Verdict::of_value(selected))
     }
 
@@ -365,8 +105,8 @@ impl<'q> Answerer<'q> {
         text: &[u8],
         row: &mut Vec<u8>,
     ) -> Result<bool, AllocError>
-        ensures selected { IfOk result (λ selected. selected ≡ is_selected self.entry.question.now (refused fault)) }
-        ensures row { OnOk result (row.new.items ≡ status_rows self.entry.question.now self.entry.form.now number text.now (refused fault)) }
+        ensures selected { IfOk result (λ selected. selected ≡ wants_refused self.entry.question.now.wanted) }
+        ensures row { OnOk result (row.new.items ≡ concat (if wants_refused self.entry.question.now.wanted then refused_rows self.entry.form.now.shown self.entry.form.now number text.now fault else [])) }
     {
         row.clear();
         if !self.question.wanted.wants_refused() {
@@ -383,14 +123,17 @@ impl<'q> Answerer<'q> {
     fn answer_refused<'r, W: Write>(
         self,
         number: u64,
+        most: u64,
         fault: LineFault,
         text: &[u8],
-        room: &mut Room<'r>,
+        room: &mut NodeRoom<'r>,
         outlet: &mut Outlet,
         out: &mut Watched<W>,
     ) -> Result<Verdict, SearchFault>
+        requires some { 0 < most }
         requires working { out.old.failed ≡ false }
-        ensures answers { AnswersStatus W.contents self.entry.question.now self.entry.form.now number text.now out.old out.new outlet.old.held.items outlet.new.held.items result (refused fault) }
+        ensures answers { AnswersStatus W.contents self.entry.question.now self.entry.form.now number text.now most out.old out.new outlet.old.held.items outlet.new.held.items result (refused fault) }
+        ensures fits { IfOk result (λ verdict. verdict.selected ≤ most) }
         ensures tells { TellsOfWriter result out.old out.new }
     {
         let Ok(selected) = self.make_refused_row(number, fault, text, &mut room.row) else {
@@ -404,23 +147,26 @@ impl<'q> Answerer<'q> {
     fn put_item<'r, W: Write>(
         self,
         number: u64,
+        most: u64,
         item: ReadItem<'r>,
         room: &mut Room<'r>,
         outlet: &mut Outlet,
         out: &mut Watched<W>,
     ) -> Result<Verdict, SearchFault>
         requires item { IsReadItem item }
+        requires some { 0 < most }
         requires writes { out.old.failed ≡ false }
-        ensures answers { AnswersStatus W.contents self.entry.question.now self.entry.form.now number item.entry.text.now out.old out.new outlet.old.held.items outlet.new.held.items result (status_by item.entry.state) }
+        ensures answers { AnswersStatus W.contents self.entry.question.now self.entry.form.now number item.entry.text.now most out.old out.new outlet.old.held.items outlet.new.held.items result (status_by item.entry.state) }
+        ensures fits { IfOk result (λ verdict. verdict.selected ≤ most) }
         ensures tells { TellsOfWriter result out.old out.new }
     {
         match item.state {
-            LineState::Blank => Ok(Verdict::of_value(false)),
+            LineState::Blank => Ok(Verdict::of_value(0)),
             LineState::Refused(fault) => {
-                self.answer_refused(number, fault, item.text, room, outlet, out)
+                self.answer_refused(number, most, fault, item.text, &mut room.node, outlet, out)
             }
             LineState::Tree(view) => {
-                self.answer_value(number, view, item.text, room, outlet, out)
+                self.answer_value(number, most, view, item.text, room, outlet, out)
             }
         }
     }
@@ -465,13 +211,16 @@ impl<'q> Answerer<'q> {
         out: &mut Watched<W>,
         messages: &mut Watched<E>,
     ) -> Result<Verdict, SearchFault>
+        requires wanted { progress.counts.selected < self.form.now.most }
         requires item { IsReadItem item }
         requires writes { out.old.failed ≡ false }
         requires reports { messages.old.failed ≡ false }
         ensures answers { AnswersItem W.contents E.contents self.entry.question.now self.entry.form.now progress out.old out.new outlet.old.held.items outlet.new.held.items messages.old messages.new result (item_of item.entry) }
+        ensures fits { IfOk result (λ verdict. progress.counts.selected + verdict.selected ≤ self.entry.form.now.most) }
         ensures tells { TellsOfBoth result out.old out.new messages.old messages.new }
     {
-        let verdict = self.put_item(progress.number, item, room, outlet, out)?;
+        let most = self.form.most - progress.counts.selected;
+        let verdict = self.put_item(progress.number, most, item, room, outlet, out)?;
         self.tell(
             progress,
             item.state,
@@ -502,8 +251,9 @@ impl<'q> Answerer<'q> {
         ensures tells { TellsOfBoth result out.old out.new messages.old messages.new }
     {
         let mut room = Room::new(self.alloc);
+        let most = self.form.most;
         for index in 0..items.count() {
-            if progress.counts.selected == self.form.most {
+            if progress.counts.selected == most {
                 return Ok(());
             }
             let item = items.item(index);

@@ -1,51 +1,56 @@
-//! What has to hold of a line's value.
+//! What has to hold of a node that is asked.
 
 ghost use Rattle.std.specs.Prelude.{◌≡◌, IfOk};
-ghost use Rattle.jp_lines.specs.Views.{tree_of_view};
+ghost use Rattle.jp_nodes.specs.Cursors.{node_of};
+ghost use Rattle.jp_grep.specs.Asked.{IsOfItsLine, asked_tree};
 ghost use Rattle.jp_grep.specs.Conditions.{condition_holds, condition_view};
 
-use jp_children::follow;
+use crate::asked::{AskedNode, AskedQuery};
 use jp_eval::{Frame, Predicate};
-use jp_lines::LineView;
 use jp_listed::Listed;
-use jp_syntax::SingularPath;
 use std::alloc::{AllocError, Global};
 
-/// What has to hold of a line's value.
+/// What has to hold of a node that is asked.
 #[derive(Drop)]
 pub(crate) enum Condition {
-    /// An expression, in which both `@` and `$` are the value (RFC 9535, section 2.3.5).
+    /// An expression (RFC 9535, section 2.3.5).
     Expression(Predicate),
-    /// That the value of a singular query is one of a list, or, where that is not wanted, is none of it.
+    /// That the value of a query is one of a list, or, where that is not wanted, is none of it. A query that selects no node, or
+    /// several, has no value.
     Membership {
-        query: SingularPath,
+        query: AskedQuery,
         listed: Listed,
         wanted: bool,
     },
 }
 
 impl Condition {
-    /// Whether it holds of a line's value.
+    /// Whether it holds of a node.
     pub(crate) fn holds<'a>(
         &self,
         alloc: Global,
-        line: LineView<'a>,
+        asked: AskedNode<'a>,
         frame: &mut Frame<'a>,
     ) -> Result<bool, AllocError>
-        ensures { IfOk result (λ answer. answer ≡ condition_holds (condition_view self.now) (tree_of_view line.entry)) }
+        requires { IsOfItsLine asked }
+        ensures { IfOk result (λ answer. answer ≡ condition_holds (condition_view self.now) (node_of asked.entry.node) (asked_tree asked.entry)) }
     {
         match self {
             Condition::Expression(predicate) => {
-                predicate.holds_in(alloc, line.root(), line.root(), frame)
+                predicate.holds_in(alloc, asked.node, asked.line.root(), frame)
             }
             Condition::Membership {
                 query,
                 listed,
                 wanted,
-            } => match follow(query.steps(), line.root()) {
-                Some(node) => Ok(listed.has(alloc, node)? == *wanted),
-                None => Ok(!*wanted),
-            },
+            } => {
+                query.find(alloc, asked, frame)?;
+                let found = frame.found();
+                if found.len() != 1 {
+                    return Ok(!*wanted);
+                }
+                Ok(listed.has(alloc, found[0])? == *wanted)
+            }
         }
     }
 }

@@ -1,6 +1,6 @@
 //! Laws of the definitions.
 
-ghost use Rattle.jp_grep.specs.Laws.{RowsAreThoseOfAQuery};
+ghost use Rattle.jp_grep.specs.Laws.{EachRootIsItsLine, RowsAreThoseOfAQuery};
 ghost use Rattle.jp_grep.specs.Once.{EachLineIsSelectedOnce};
 ghost use Rattle.jp_grep.specs.Tables.{CanonicalTextsMayStand, CellsHaveTexts};
 
@@ -9,6 +9,12 @@ ghost use Rattle.jp_grep.specs.Tables.{CanonicalTextsMayStand, CellsHaveTexts};
 /// 9535 keeps duplicates (section 2.1.2).
 pub fn rows_are_those_of_a_query()
     ensures { RowsAreThoseOfAQuery }
+{}
+
+/// Where the nodes that `$` selects are asked one by one, each of them is the root of its line: whatever else is asked, as much is
+/// selected as where lines are asked, and what is written is the same. So what is said of nodes says of lines what it should.
+pub fn each_root_is_its_line()
+    ensures { EachRootIsItsLine }
 {}
 
 /// Each line that is not blank is selected by exactly one of the query `$` and the question for refused lines, and the row of

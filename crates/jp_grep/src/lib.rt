@@ -2,8 +2,8 @@
 //!
 //! Public calls:
 //!
-//! - `Question`, `Queries`, `Wanted`: the queries, the conditions and the lists that a line is asked, whether the queries are
-//!   columns, and which lines are selected
+//! - `Question`, `Queries`, `Origin`, `Wanted`: the queries, the conditions and the lists that a line or each node of a query is
+//!   asked, whether the queries are columns, where they begin, and which nodes are selected
 //! - `read_list`, `Listed`: the values of a stream's lines, of which a line's may be one
 //! - `Form`, `Units`, `Shown`, `Spelling`, `Table`, `Summary`: what is written of a stream, of the crate `jp_form`
 //! - `search`, `Input`, `Found`, `Counts`, `SearchFault`, `Format`: the lines, texts or elements of a stream, each answered as it
@@ -13,6 +13,7 @@
 
 mod answer;
 mod answering;
+mod asked;
 mod condition;
 mod cutting;
 mod fault;
@@ -24,6 +25,7 @@ mod input;
 mod items;
 pub mod laws;
 mod list;
+mod node;
 mod outlet;
 mod progress;
 mod question;
@@ -43,6 +45,7 @@ pub use input::Input;
 pub use jp_form::{Form, Pieces, Shown, Spelling, Summary, Table, Units};
 pub use jp_listed::Listed;
 pub use jp_model::Framing;
+pub use jp_syntax::Origin;
 pub use list::read_list;
 pub use progress::Counts;
 pub use question::{Queries, Question, Wanted};

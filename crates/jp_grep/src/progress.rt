@@ -1,6 +1,6 @@
 //! How far a search has come.
 
-ghost use Rattle.std.specs.Prelude.{◌≡◌, ◌+◌, ◌<◌, ◌^◌, None, Some, MatchResult, cond, false, true};
+ghost use Rattle.std.specs.Prelude.{◌≡◌, ◌+◌, ◌<◌, ◌^◌, None, Some, MatchResult, cond, false, ltb, true};
 ghost use Rattle.jp_grep.specs.Faults.{is_inner_fault};
 ghost use Rattle.jp_grep.specs.declared.found.Limit.{Limit};
 
@@ -10,7 +10,8 @@ use crate::found::{Found, Limit, Unread};
 /// What came of a line.
 #[derive(Clone, Copy, Debug, PartialEq, Eq)]
 pub(crate) struct Verdict {
-    pub(crate) selected: bool,
+    /// How many of its nodes were selected.
+    pub(crate) selected: u64,
     pub(crate) refused: bool,
     /// Memory was refused for its answer.
     pub(crate) given_up: bool,
@@ -18,7 +19,7 @@ pub(crate) struct Verdict {
 
 impl Verdict {
     /// That of a line that has a value, or is blank.
-    pub(crate) fn of_value(selected: bool) -> Verdict
+    pub(crate) fn of_value(selected: u64) -> Verdict
         ensures selected { result.selected ≡ selected }
         ensures refused { result.refused ≡ false }
         ensures given_up { result.given_up ≡ false }
@@ -32,12 +33,12 @@ impl Verdict {
 
     /// That of a refused line.
     pub(crate) fn of_refused(selected: bool) -> Verdict
-        ensures selected { result.selected ≡ selected }
+        ensures selected { result.selected ≡ cond selected 1 0 }
         ensures refused { result.refused ≡ true }
         ensures given_up { result.given_up ≡ false }
     {
         Verdict {
-            selected,
+            selected: u64::from(selected),
             refused: true,
             given_up: false,
         }
@@ -45,19 +46,20 @@ impl Verdict {
 
     /// That of a line for whose answer memory was refused.
     pub(crate) fn of_given_up() -> Verdict
-        ensures selected { result.selected ≡ false }
+        ensures selected { result.selected ≡ 0 }
         ensures refused { result.refused ≡ false }
         ensures given_up { result.given_up ≡ true }
     {
         Verdict {
-            selected: false,
+            selected: 0,
             refused: false,
             given_up: true,
         }
     }
 }
 
-/// How many lines of a stream were selected, how many refused, and for the answer of how many memory was refused.
+/// How many lines of a stream were selected, or nodes of them where these are asked one by one, how many lines were refused, and
+/// for the answer of how many memory was refused.
 #[derive(Clone, Copy, Debug, PartialEq, Eq)]
 pub struct Counts {
     pub selected: u64,
@@ -93,7 +95,7 @@ impl Progress {
 
     /// Whether some more lines have numbers of 64 bits, and the line behind them has one too.
     pub(crate) fn has_numbers(&self, count: usize) -> bool
-        ensures { result ≡ true → self.now.number + count < 2 ^ 64 }
+        ensures { result ≡ ltb (self.now.number + count) (2 ^ 64) }
     {
         self.number.checked_add(count as u64).is_some()
     }
@@ -101,18 +103,16 @@ impl Progress {
     /// Goes behind a line of which that came.
     pub(crate) fn pass(&mut self, verdict: Verdict)
         requires number { self.old.number + 1 < 2 ^ 64 }
-        requires selected { self.old.counts.selected < self.old.number }
+        requires selected { self.old.counts.selected + verdict.selected < 2 ^ 64 }
         requires refused { self.old.counts.refused < self.old.number }
         requires given_up { self.old.counts.given_up < self.old.number }
         ensures number { self.new.number ≡ self.old.number + 1 }
-        ensures selected { self.new.counts.selected ≡ self.old.counts.selected + cond verdict.selected 1 0 }
+        ensures selected { self.new.counts.selected ≡ self.old.counts.selected + verdict.selected }
         ensures refused { self.new.counts.refused ≡ self.old.counts.refused + cond verdict.refused 1 0 }
         ensures given_up { self.new.counts.given_up ≡ self.old.counts.given_up + cond verdict.given_up 1 0 }
     {
         self.number += 1;
-        if verdict.selected {
-            self.counts.selected += 1;
-        }
+        self.counts.selected += verdict.selected;
         if verdict.refused {
             self.counts.refused += 1;
         }

@@ -1,26 +1,24 @@
-//! What a line is asked.
+//! What lines, or the nodes of lines, are asked.
 
-ghost use Rattle.std.specs.Prelude.{◌≡◌, [], ◌∷◌, ◌++◌, map, IfOk, OnErr, OnOk};
+ghost use Rattle.std.specs.Prelude.{◌≡◌, [], ◌∷◌, ◌++◌, IfOk, None, OnErr, OnOk, Some};
+ghost use Rattle.jp_model.specs.Query.Syntax.{path};
+ghost use Rattle.jp_nodes.specs.Cursors.{node_of};
+ghost use Rattle.jp_syntax.specs.View.{origin_view};
 ghost use Rattle.jp_types.specs.Checks.{checked_view};
 ghost use Rattle.jp_types.specs.CheckedConditions.{checked_condition_view};
-ghost use Rattle.jp_nodes.specs.Cursors.{node_of};
-ghost use Rattle.jp_eval.specs.Compiled.{program_view};
-ghost use Rattle.jp_eval.specs.Found.{found_in};
-ghost use Rattle.jp_children.specs.Found.{AreOf};
-ghost use Rattle.jp_lines.specs.Views.{text_of_view, tree_of_view};
-ghost use Rattle.jp_syntax.specs.SingularPaths.{path_steps};
+ghost use Rattle.jp_grep.specs.Asked.{IsOfItsLine, asked_tree};
 ghost use Rattle.jp_grep.specs.Conditions.{expression, membership};
-ghost use Rattle.jp_grep.specs.Matching.{all_hold, conditions_of, has_nodes, let_match, matches, queries_of, selected_by, selects, wants_found, wants_refused, wants_value};
+ghost use Rattle.jp_grep.specs.Matching.{all_hold, conditions_of, each_of, let_match, matches, queries_of, selects, wants_found, wants_refused, wants_value};
 
+use crate::asked::{AskedNode, AskedQuery};
 use crate::condition::Condition;
 use jp_eval::{Frame, Predicate, Program};
-use jp_lines::LineView;
 use jp_listed::Listed;
-use jp_syntax::SingularPath;
+use jp_syntax::Origin;
 use jp_types::{Checked, CheckedCondition};
 use std::alloc::{AllocError, Global};
 
-/// Which lines are selected.
+/// Which lines, or nodes of lines, are selected.
 #[derive(Clone, Copy, Debug, PartialEq, Eq)]
 pub enum Wanted {
     /// Those with a value that matches.
@@ -32,7 +30,7 @@ pub enum Wanted {
 }
 
 impl Wanted {
-    /// Whether a value is wanted, by whether it matches.
+    /// Whether a node is wanted, by whether it matches.
     pub(crate) fn wants_value(self, matching: bool) -> bool
         ensures { result ≡ wants_value self matching }
     {
@@ -43,7 +41,7 @@ impl Wanted {
         }
     }
 
-    /// Whether a value is wanted of which the nodes were asked for, by whether they let it match.
+    /// Whether a node is wanted of which the queries were asked, by whether they let it match.
     fn wants_found(self, some: bool) -> bool
         ensures { result ≡ wants_found self some }
     {
@@ -68,14 +66,14 @@ impl Wanted {
 /// What the queries of a question are for.
 #[derive(Clone, Copy, Debug, PartialEq, Eq)]
 pub enum Queries {
-    /// They filter: a line matches only where one of them selects a node of it.
+    /// They filter: a node matches only where one of them selects a node.
     Filter,
-    /// They are columns: a line matches whether or not they select a node.
+    /// They are columns: a node matches whether or not they select one.
     Columns,
 }
 
 impl Queries {
-    /// Whether they let a line match, by whether one of them selects a node of it.
+    /// Whether they let a node match, by whether one of them selects a node.
     pub(crate) fn let_match(self, some: bool) -> bool
         ensures { result ≡ let_match self some }
     {
@@ -86,52 +84,29 @@ impl Queries {
     }
 }
 
-/// What a line is asked: it matches where each condition holds of its value, and some query selects a node of it or the queries
-/// are columns.
+/// What is asked of each line, or of each node that a query selects in it: a node matches where each condition holds of it, and
+/// some query selects a node or the queries are columns. Of a line the root is asked.
 #[derive(Drop)]
 pub struct Question {
+    /// The query whose nodes are asked, where it is not the root of each line.
+    pub(crate) each: Option<Program>,
     pub(crate) purpose: Queries,
-    pub(crate) queries: Vec<Program>,
+    pub(crate) queries: Vec<AskedQuery>,
     pub(crate) conditions: Vec<Condition>,
     pub(crate) wanted: Wanted,
 }
 
-/// Finds the nodes of a line that a query selects, and tells whether there is one. The frame has them then.
-pub(crate) fn find_nodes<'a>(
-    query: &Program,
-    alloc: Global,
-    line: LineView<'a>,
-    frame: &mut Frame<'a>,
-) -> Result<bool, AllocError>
-    ensures some { IfOk result (λ some. some ≡ has_nodes (selected_by (program_view query.now) (tree_of_view line.entry))) }
-    ensures nodes { OnOk result (map node_of (found_in frame.new) ≡ selected_by (program_view query.now) (tree_of_view line.entry)) }
-    ensures lines { AreOf (text_of_view line.entry) (found_in frame.new) }
-{
-    query.run_in(alloc, line.root(), line.root(), frame)?;
-    Ok(!frame.found().is_empty())
-}
-
-/// Whether a query selects a node of a line. It stops at the first.
-fn has_node<'a>(
-    query: &Program,
-    alloc: Global,
-    line: LineView<'a>,
-    frame: &mut Frame<'a>,
-) -> Result<bool, AllocError>
-    ensures { IfOk result (λ some. some ≡ has_nodes (selected_by (program_view query.now) (tree_of_view line.entry))) }
-{
-    query.selects_in(alloc, line.root(), line.root(), frame)
-}
-
 impl Question {
-    /// With no query and no condition yet.
+    /// Of lines, with no query and no condition yet.
     pub fn new(alloc: Global, wanted: Wanted, purpose: Queries) -> Question
+        ensures each { each_of result ≡ None }
         ensures queries { queries_of result ≡ [] }
         ensures conditions { conditions_of result ≡ [] }
         ensures wanted { result.wanted ≡ wanted }
         ensures purpose { result.purpose ≡ purpose }
     {
         Question {
+            each: None,
             purpose,
             queries: Vec::new(alloc),
             conditions: Vec::new(alloc),
@@ -139,22 +114,44 @@ impl Question {
         }
     }
 
-    /// Adds a query behind the others.
+    /// Asks the nodes that a query selects in a line, one by one and in their order, in place of its root.
     ///
     /// If memory is refused, the answer is `AllocError`, and the question is as before.
-    pub fn add_query(&mut self, alloc: Global, query: &Checked) -> Result<(), AllocError>
-        ensures added { OnOk result (queries_of self.new ≡ queries_of self.old ++ checked_view query.now ∷ []) }
-        ensures refused { OnErr result (queries_of self.new ≡ queries_of self.old) }
+    pub fn ask_each(&mut self, alloc: Global, query: &Checked) -> Result<(), AllocError>
+        ensures each { OnOk result (each_of self.new ≡ Some (checked_view query.now)) }
+        ensures refused { OnErr result (each_of self.new ≡ each_of self.old) }
+        ensures queries { queries_of self.new ≡ queries_of self.old }
         ensures conditions { conditions_of self.new ≡ conditions_of self.old }
         ensures wanted { self.new.wanted ≡ self.old.wanted }
         ensures purpose { self.new.purpose ≡ self.old.purpose }
     {
         let program = Program::compile(alloc, query.segments())?;
-        self.queries.push(program)?;
+        self.each = Some(program);
         Ok(())
     }
 
-    /// Adds a condition behind the others. Both `@` and `$` are the value of the line in it.
+    /// Adds a query behind the others. It begins at the root of the line, or at the node that is asked.
+    ///
+    /// If memory is refused, the answer is `AllocError`, and the question is as before.
+    pub fn add_query(
+        &mut self,
+        alloc: Global,
+        origin: Origin,
+        query: &Checked,
+    ) -> Result<(), AllocError>
+        ensures added { OnOk result (queries_of self.new ≡ queries_of self.old ++ path (origin_view origin) (checked_view query.now) ∷ []) }
+        ensures refused { OnErr result (queries_of self.new ≡ queries_of self.old) }
+        ensures each { each_of self.new ≡ each_of self.old }
+        ensures conditions { conditions_of self.new ≡ conditions_of self.old }
+        ensures wanted { self.new.wanted ≡ self.old.wanted }
+        ensures purpose { self.new.purpose ≡ self.old.purpose }
+    {
+        let query = AskedQuery::compile(alloc, origin, query)?;
+        self.queries.push(query)?;
+        Ok(())
+    }
+
+    /// Adds a condition behind the others. In it `@` is the node that is asked, and `$` the value of its line.
     ///
     /// If memory is refused, the answer is `AllocError`, and the question is as before.
     pub fn add_condition(
@@ -164,6 +161,7 @@ impl Question {
     ) -> Result<(), AllocError>
         ensures added { OnOk result (conditions_of self.new ≡ conditions_of self.old ++ expression (checked_condition_view condition.now) ∷ []) }
         ensures refused { OnErr result (conditions_of self.new ≡ conditions_of self.old) }
+        ensures each { each_of self.new ≡ each_of self.old }
         ensures queries { queries_of self.new ≡ queries_of self.old }
         ensures wanted { self.new.wanted ≡ self.old.wanted }
         ensures purpose { self.new.purpose ≡ self.old.purpose }
@@ -173,22 +171,26 @@ impl Question {
         Ok(())
     }
 
-    /// Adds behind the others the condition that the value of a singular query is one of a list, or, where that is not wanted,
-    /// is none of it. A query that selects nothing has no value, which is in no list.
+    /// Adds behind the others the condition that the value of a query is one of a list, or, where that is not wanted, is none of
+    /// it. A query that selects no node, or several, has no value, which is in no list.
     ///
     /// If memory is refused, the answer is `AllocError`, and the question is as before.
     pub fn add_list(
         &mut self,
-        query: SingularPath,
+        alloc: Global,
+        origin: Origin,
+        query: &Checked,
         listed: Listed,
         wanted: bool,
     ) -> Result<(), AllocError>
-        ensures added { OnOk result (conditions_of self.new ≡ conditions_of self.old ++ membership (path_steps query) listed wanted ∷ []) }
+        ensures added { OnOk result (conditions_of self.new ≡ conditions_of self.old ++ membership (path (origin_view origin) (checked_view query.now)) listed wanted ∷ []) }
         ensures refused { OnErr result (conditions_of self.new ≡ conditions_of self.old) }
+        ensures each { each_of self.new ≡ each_of self.old }
         ensures queries { queries_of self.new ≡ queries_of self.old }
         ensures wanted { self.new.wanted ≡ self.old.wanted }
         ensures purpose { self.new.purpose ≡ self.old.purpose }
     {
+        let query = AskedQuery::compile(alloc, origin, query)?;
         self.conditions.push(Condition::Membership {
             query,
             listed,
@@ -197,61 +199,64 @@ impl Question {
         Ok(())
     }
 
-    /// Whether each condition holds of a line's value. It stops at the first that does not.
+    /// Whether each condition holds of a node. It stops at the first that does not.
     pub(crate) fn all_hold<'a>(
         &self,
         alloc: Global,
-        line: LineView<'a>,
+        asked: AskedNode<'a>,
         frame: &mut Frame<'a>,
     ) -> Result<bool, AllocError>
-        ensures { IfOk result (λ answer. answer ≡ all_hold (conditions_of self.now) (tree_of_view line.entry)) }
+        requires { IsOfItsLine asked }
+        ensures { IfOk result (λ answer. answer ≡ all_hold (conditions_of self.now) (node_of asked.entry.node) (asked_tree asked.entry)) }
     {
         for condition in &self.conditions {
-            if !condition.holds(alloc, line, frame)? {
+            if !condition.holds(alloc, asked, frame)? {
                 return Ok(false);
             }
         }
         Ok(true)
     }
 
-    /// Whether a query selects a node of a line. It stops at the first that does.
+    /// Whether a query selects a node. It stops at the first that does.
     fn selects<'a>(
         &self,
         alloc: Global,
-        line: LineView<'a>,
+        asked: AskedNode<'a>,
         frame: &mut Frame<'a>,
     ) -> Result<bool, AllocError>
-        ensures { IfOk result (λ answer. answer ≡ selects (queries_of self.now) (tree_of_view line.entry)) }
+        requires { IsOfItsLine asked }
+        ensures { IfOk result (λ answer. answer ≡ selects (queries_of self.now) (node_of asked.entry.node) (asked_tree asked.entry)) }
     {
         for query in &self.queries {
-            if has_node(query, alloc, line, frame)? {
+            if query.selects(alloc, asked, frame)? {
                 return Ok(true);
             }
         }
         Ok(false)
     }
 
-    /// Whether a value is wanted of which the nodes were asked for, by whether there is one.
+    /// Whether a node is wanted of which the queries were asked, by whether one of them selects a node.
     pub(crate) fn wants_found(&self, some: bool) -> bool
         ensures { result ≡ wants_found self.now.wanted (let_match self.now.purpose some) }
     {
         self.wanted.wants_found(self.purpose.let_match(some))
     }
 
-    /// Whether the value of a line matches.
+    /// Whether a node matches.
     pub(crate) fn matches<'a>(
         &self,
         alloc: Global,
-        line: LineView<'a>,
+        asked: AskedNode<'a>,
         frame: &mut Frame<'a>,
     ) -> Result<bool, AllocError>
-        ensures { IfOk result (λ answer. answer ≡ matches self.now (tree_of_view line.entry)) }
+        requires { IsOfItsLine asked }
+        ensures { IfOk result (λ answer. answer ≡ matches self.now (node_of asked.entry.node) (asked_tree asked.entry)) }
     {
-        if !self.all_hold(alloc, line, frame)? {
+        if !self.all_hold(alloc, asked, frame)? {
             return Ok(false);
         }
         match self.purpose {
-            Queries::Filter => self.selects(alloc, line, frame),
+            Queries::Filter => self.selects(alloc, asked, frame),
             Queries::Columns => Ok(true),
         }
     }

@@ -5,9 +5,16 @@ use jp_eval::Frame;
 use jp_table::TableRow;
 use std::alloc::Global;
 
-/// The nodes that are found, what spells values, the row that is made, and where it is one of a table its cells.
+/// The nodes of a line that are asked, and what each of them lends to the next.
 #[derive(Drop)]
 pub(crate) struct Room<'r> {
+    pub(crate) asked: Frame<'r>,
+    pub(crate) node: NodeRoom<'r>,
+}
+
+/// The nodes that are found, what spells values, the row that is made, and where it is one of a table its cells.
+#[derive(Drop)]
+pub(crate) struct NodeRoom<'r> {
     pub(crate) frame: Frame<'r>,
     pub(crate) speller: Speller,
     pub(crate) row: Vec<u8>,
@@ -20,11 +27,14 @@ impl<'r> Room<'r> {
     /// With no room yet.
     pub(crate) fn new(alloc: Global) -> Room<'r> {
         Room {
-            frame: Frame::new(alloc),
-            speller: Speller::new(alloc),
-            row: Vec::new(alloc),
-            cells: TableRow::new(alloc),
-            cell: Vec::new(alloc),
+            asked: Frame::new(alloc),
+            node: NodeRoom {
+                frame: Frame::new(alloc),
+                speller: Speller::new(alloc),
+                row: Vec::new(alloc),
+                cells: TableRow::new(alloc),
+                cell: Vec::new(alloc),
+            },
         }
     }
 }

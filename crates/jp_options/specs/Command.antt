@@ -1,5 +1,5 @@
 -- The program's words (profile), read as the crate `clap` reads words: `jpgrep [OPTION].. QUERY [FILE]..`, or with `-e QUERY`
--- or `-w CONDITION` the files alone.
+-- or `-w CONDITION` the files alone, and so with `--each QUERY`.
 use Rattle.std.specs.Prelude.{◌≡◌, ◌++◌, ◌&&◌, ◌||◌, not, ℕ, Bool, true, false, List, [], ◌∷◌, Option, Some, codes, ◌==◌, if◌then◌else◌, length, map, max, option_map, unwrap_or}
 use Rattle.std.specs.Option.{option_map_or}
 use Rattle.std.specs.Str.{bytes_eq}
@@ -34,9 +34,9 @@ list_rule id = record (new_rule id) { long = Some id; action = Some Append; valu
 abbrev pub most_rule : Rule
 most_rule = record (option_rule (codes "most") 0x6D (codes "max-count")) { action = Some Set }
 
--- `--names`, of which the last value counts
-abbrev pub names_rule : Rule
-names_rule = record (new_rule (codes "names")) { long = Some (codes "names"); action = Some Set; value_names = 1 }
+-- `--names` and `--each`, of which the last value counts
+abbrev pub value_rule : Text → Rule
+value_rule id = record (new_rule id) { long = Some id; action = Some Set; value_names = 1 }
 
 -- a flag with a letter and a word
 abbrev pub flag_rule : Text → ℕ → Text → Rule
@@ -50,11 +50,12 @@ word_rule id = record (new_rule id) { long = Some id; action = Some SetTrue }
 abbrev pub help_rule : Rule
 help_rule = record (new_rule (codes "help")) { long = Some (codes "help"); action = Some Help }
 
--- which lines are selected: QUERY and FILE, `-e`, `-w`, `--in`, `--not-in`, `-v`, `--refused`
+-- which lines or nodes are selected: QUERY and FILE, `-e`, `-w`, `--each`, `--in`, `--not-in`, `-v`, `--refused`
 abbrev pub asking_rules : List Rule
 asking_rules = words_rule
     ∷ option_rule (codes "query") 0x65 (codes "query")
     ∷ option_rule (codes "where") 0x77 (codes "where")
+    ∷ value_rule (codes "each")
     ∷ list_rule (codes "in")
     ∷ list_rule (codes "not-in")
     ∷ flag_rule (codes "invert") 0x76 (codes "invert-match")
@@ -79,7 +80,7 @@ spelling_rules = flag_rule (codes "raw") 0x72 (codes "raw")
     ∷ word_rule (codes "tsv")
     ∷ word_rule (codes "csv")
     ∷ word_rule (codes "header")
-    ∷ names_rule
+    ∷ value_rule (codes "names")
     ∷ []
 
 -- what stands in front, and how many lines are wanted: `-n`, `-H`, `-h`, `-Z`, `-m`
@@ -145,6 +146,7 @@ pub record IsAskedBy (found : List Row) (o : Options) : Type 0 where
   pub words : map (λ s. s.now) o.words.items ≡ values_in (codes "words") found
   pub queries : map (λ s. s.now) o.queries.items ≡ values_in (codes "query") found
   pub conditions : map (λ s. s.now) o.conditions.items ≡ values_in (codes "where") found
+  pub each : map (λ s. s.now) o.each.items ≡ values_in (codes "each") found
   pub lists : map (λ s. s.now) o.lists.items ≡ values_in (codes "in") found
   pub other_lists : map (λ s. s.now) o.other_lists.items ≡ values_in (codes "not-in") found
   pub most : o.most ≡ count_of (first_of (codes "most") found)
@@ -173,12 +175,18 @@ pub record IsAskedBy (found : List Row) (o : Options) : Type 0 where
   pub elements : o.elements ≡ is_given (codes "elements") found
   pub sequence : o.sequence ≡ is_given (codes "seq") found
 
--- none of `-e`, `-w`, `--in` and `--not-in` was given
+-- nodes are asked one by one: `--each`
+abbrev pub asks_each : List Row → Bool
+asks_each found = not (is_empty (values_in (codes "each") found))
+
+-- none of `-e`, `-w`, `--each`, `--in` and `--not-in` was given
 abbrev pub names_nothing : List Row → Bool
 names_nothing found = is_empty (values_in (codes "query") found) && is_empty (values_in (codes "where") found)
+    && not (asks_each found)
     && is_empty (values_in (codes "in") found) && is_empty (values_in (codes "not-in") found)
 
--- neither a query nor a condition was given, nor `--refused`: there is no word, and none of `-e`, `-w`, `--in` and `--not-in`
+-- neither a query nor a condition was given, nor `--refused`: there is no word, and none of `-e`, `-w`, `--each`, `--in` and
+-- `--not-in`
 abbrev pub asks_nothing : List Row → Bool
 asks_nothing found = not (is_given (codes "refused") found) && is_empty (values_in (codes "words") found) && names_nothing found
 
@@ -193,7 +201,8 @@ asks_table found = is_given (codes "tsv") found || is_given (codes "csv") found
 abbrev pub asks_spelling : List Row → Bool
 asks_spelling found = is_given (codes "raw") found || is_given (codes "canonical") found
 
--- something is asked of values, which a refused line has none of: `-e`, `-w`, `--in`, `--not-in`, `-v`, `-o`, `-r`, `-j` or a table
+-- something is asked of values, which a refused line has none of: `-e`, `-w`, `--each`, `--in`, `--not-in`, `-v`, `-o`, `-r`, `-j`
+-- or a table
 abbrev pub asks_of_values : List Row → Bool
 asks_of_values found = not (names_nothing found) || is_given (codes "invert") found || is_given (codes "only") found || asks_spelling found || asks_table found
 
@@ -207,6 +216,14 @@ has_other_names found =
     let names = names_of (first_of (codes "names") found) in
     not (is_empty names) && not (length names == max (length (values_in (codes "query") found)) 1)
 
+-- values are printed, where nodes are asked one by one those of `-e`
+abbrev pub prints_values : List Row → Bool
+prints_values found = if asks_each found then not (is_empty (values_in (codes "query") found)) else is_given (codes "only") found
+
+-- what does not match is selected, and something is printed that it has none of: a table, paths or values
+abbrev pub prints_others : List Row → Bool
+prints_others found = is_given (codes "invert") found && (asks_table found || is_given (codes "path") found || prints_values found)
+
 -- why the words of what is printed do not go together: `-r` with `-j`, `--tsv` with `--csv`, a table with what spells or
 -- selects otherwise, `--header` or `--names` without a table or a tally, more names than queries or fewer, `-v` with what prints values;
 -- and none where they do
@@ -216,7 +233,7 @@ form_conflicts found = if is_given (codes "raw") found && is_given (codes "canon
     else if asks_table found && (asks_values found || asks_spelling found) then ArgumentConflict ∷ []
     else if asks_header found && not (asks_table found) && not (is_given (codes "tally") found) then MissingRequiredArgument ∷ []
     else if has_other_names found then WrongNumberOfValues ∷ []
-    else if is_given (codes "invert") found && (asks_table found || asks_values found) then ArgumentConflict ∷ [] else []
+    else if prints_others found then ArgumentConflict ∷ [] else []
 
 -- why the words of what plays the lines do not go together: `--json` with `--elements`, `--seq` with either of them; and none
 -- where they do

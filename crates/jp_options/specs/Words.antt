@@ -25,16 +25,20 @@ given_queries o = map (λ s. s.now) o.queries.items
 abbrev pub names_list : Options → Bool
 names_list o = ltb 0 (length o.lists.items) || ltb 0 (length o.other_lists.items)
 
--- there is none of `-e`, `-w`, `--in`, `--not-in` and `--refused`, so that the first word is the query
-abbrev pub begins_with_query : Options → Bool
-begins_with_query o = not o.refused && not (ltb 0 (length o.queries.items)) && not (ltb 0 (length o.conditions.items)) && not (names_list o)
+-- nodes are asked one by one, those of `--each`
+abbrev pub asks_each : Options → Bool
+asks_each o = ltb 0 (length o.each.items)
 
--- the queries: the first word, or those of `-e`, or `$` where there are conditions or lists alone, or none where there is
--- `--refused`
+-- there is none of `-e`, `-w`, `--each`, `--in`, `--not-in` and `--refused`, so that the first word is the query
+abbrev pub begins_with_query : Options → Bool
+begins_with_query o = not o.refused && not (ltb 0 (length o.queries.items)) && not (ltb 0 (length o.conditions.items)) && not (asks_each o) && not (names_list o)
+
+-- the queries: the first word, or those of `-e`, or where there is none the node that is asked, which is `$`, or `@` where nodes are
+-- asked one by one; and none where there is `--refused`
 abbrev pub asked_queries : Options → List (List ℕ)
 asked_queries o =
     if begins_with_query o then take 1 (words_of o)
-    else if not o.refused && not (ltb 0 (length o.queries.items)) then codes "$" ∷ []
+    else if not o.refused && not (ltb 0 (length o.queries.items)) then (if asks_each o then codes "@" else codes "$") ∷ []
     else given_queries o
 
 -- the names of the columns are wanted
@@ -85,8 +89,8 @@ tally_rows o = if has_several o then shown.Cells tables.Canonical else shown.Val
 abbrev pub tally_table : Options → Table
 tally_table o = if o.commas then tables.Commas else if o.tabs || o.raw then tables.Tabs else tables.Canonical
 
--- what a row shows: nothing where something else is printed, what is tallied, cells where `--tsv` or `--csv` asks for them, values where `-o` or
--- `-p` does, and of a refused line with `-p` the word of its fault
+-- what a row shows: nothing where something else is printed, what is tallied, cells where `--tsv` or `--csv` asks for them, values
+-- where `-o` or `-p` does or nodes are asked one by one, and of a refused line with `-p` the word of its fault
 abbrev pub asked_rows : Options → Shown
 asked_rows o =
     if first_decides o || o.counted then shown.Nothing
@@ -94,7 +98,7 @@ asked_rows o =
     else if o.tabs then shown.Cells tables.Tabs
     else if o.commas then shown.Cells tables.Commas
     else if o.refused then shown.Line o.paths
-    else if o.only_matching || o.paths then shown.Values o.paths
+    else if o.only_matching || o.paths || asks_each o then shown.Values o.paths
     else shown.Line false
 
 -- how a row spells it, as `-r` and `-j` ask for; what is tallied is in canonical form

@@ -2,7 +2,7 @@
 
 ghost use Rattle.std.specs.Prelude.{◌≡◌, IfOk, codes, false};
 ghost use Rattle.clap.specs.Words.{app_of, new_app, rule_of};
-ghost use Rattle.jp_options.specs.Command.{asking_rules, flag_rule, front_rules, general_rules, help_rule, list_rule, most_rule, names_rule, option_rule, printing_rules, program, spelling_rules, with_rules, with_settings, word_rule, words_rule};
+ghost use Rattle.jp_options.specs.Command.{asking_rules, flag_rule, front_rules, general_rules, help_rule, list_rule, most_rule, option_rule, printing_rules, program, spelling_rules, value_rule, with_rules, with_settings, word_rule, words_rule};
 
 use clap::{Arg, ArgAction, Command};
 use std::alloc::{AllocError, Global};
@@ -14,14 +14,16 @@ const VERSION: &str = "0.3.0";
 const AFTER_HELP: &str =
     "A line is selected if its value matches: every CONDITION holds, and some QUERY (RFC 9535) selects a node.
 With --csv or --tsv each QUERY is a column, and a line matches if every CONDITION holds.
+With --each QUERY the nodes that it selects are asked in place of lines, and a QUERY of -e may begin with @.
 Lines that are blank or no JSON never match; those that are no JSON are told on standard error, ten of each file.
-With -e, -w, --in, --not-in or --refused every word is a FILE. With no FILE, or where FILE is -, standard input is read.
+With -e, -w, --each, --in, --not-in or --refused every word is a FILE. With no FILE, or where FILE is -, standard input is read.
 The exit status is 0 if a line is selected, 1 if none is, and 2 if anything is refused or fails.
 
 Examples:
   jpgrep '$[?$.level==\"error\"]' log.jsonl
   jpgrep -w '@.level == \"error\" && @.ms > 200' log.jsonl
   jpgrep --csv --names time,ms -e '$.time' -e '$.ms' log.jsonl
+  jpgrep --csv --each '$.items[*]' -e '$.id' -e '@.sku' -e '@.qty' orders.jsonl
   tail -f log.jsonl | jpgrep -or '$.msg'
   jpgrep --refused -np log.jsonl
   jpgrep --elements -w '@.ms > 200' export.json";
@@ -45,7 +47,7 @@ fn bare_command<'a>(alloc: Global) -> Command<'a>
             "Prints the lines of JSON Lines files whose values match a JSONPath query (RFC 9535)",
         )
         .override_usage(
-            "jpgrep [OPTIONS] <QUERY> [FILE]...\n       jpgrep [OPTIONS] (-e <QUERY> | -w <CONDITION> | --in <QUERY> <FILE>)... [FILE]...\n       jpgrep [OPTIONS] --refused [FILE]...",
+            "jpgrep [OPTIONS] <QUERY> [FILE]...\n       jpgrep [OPTIONS] (-e <QUERY> | -w <CONDITION> | --each <QUERY> | --in <QUERY> <FILE>)... [FILE]...\n       jpgrep [OPTIONS] --refused [FILE]...",
         )
         .after_help(AFTER_HELP)
         .disable_help_flag(true)
@@ -73,7 +75,7 @@ fn words_argument<'a>(alloc: Global) -> Arg<'a>
         .value_name("WORDS")
         .action(ArgAction::Append)
         .help(
-            "The query, unless -e, -w, --in, --not-in or --refused is given, and the files; - is standard input",
+            "The query, unless -e, -w, --each, --in, --not-in or --refused is given, and the files; - is standard input",
         )
 }
 
@@ -100,7 +102,7 @@ fn where_argument<'a>(alloc: Global) -> Arg<'a>
         .long("where")
         .value_name("CONDITION")
         .action(ArgAction::Append)
-        .help("A condition that has to hold, in which @ and $ are the line's value")
+        .help("A condition that has to hold; @ and $ are the line's value, with --each @ is the node")
 }
 
 /// `--in QUERY FILE` or `--not-in QUERY FILE`, as often as wanted. Its word stands before each of the two (`pair_words`).
@@ -128,16 +130,16 @@ fn most_argument<'a>(alloc: Global) -> Arg<'a>
         .help("Stops after NUMBER selected lines of each file")
 }
 
-/// `--names NAMES`.
-fn names_argument<'a>(alloc: Global) -> Arg<'a>
-    ensures rule { rule_of result ≡ names_rule }
+/// `--names NAMES` or `--each QUERY`, whose last value counts.
+fn value_argument<'a>(alloc: Global, id: &'a str, value: &'a str, help: &'a str) -> Arg<'a>
+    ensures rule { rule_of result ≡ value_rule id.entry.now }
     ensures local { result.global ≡ false }
 {
-    Arg::new(alloc, "names")
-        .long("names")
-        .value_name("NAMES")
+    Arg::new(alloc, id)
+        .long(id)
+        .value_name(value)
         .action(ArgAction::Set)
-        .help("Prints NAMES above the rows, with commas between them, in place of the queries")
+        .help(help)
 }
 
 /// A flag with a word alone.
@@ -170,6 +172,12 @@ fn add_asking<'a>(alloc: Global, command: Command<'a>) -> Result<Command<'a>, Al
         .arg(words_argument(alloc))?
         .arg(query_argument(alloc))?
         .arg(where_argument(alloc))?
+        .arg(value_argument(
+            alloc,
+            "each",
+            "QUERY",
+            "Asks the nodes of QUERY one by one: @ is the node, and $ the line's value",
+        ))?
         .arg(list_argument(
             alloc,
             "in",
@@ -282,7 +290,12 @@ fn add_spelling<'a>(alloc: Global, command: Command<'a>) -> Result<Command<'a>, 
             "header",
             "Prints the queries above the rows of --tsv or --csv",
         ))?
-        .arg(names_argument(alloc))
+        .arg(value_argument(
+            alloc,
+            "names",
+            "NAMES",
+            "Prints NAMES above the rows, with commas between them, in place of the queries",
+        ))
 }
 
 /// The words that say what stands in front, and how many lines are wanted.

@@ -14,7 +14,7 @@ pub(crate) const BOTH_FRONTS: &str =
 
 /// What is said if `--refused` is used with what asks of values.
 pub(crate) const NO_QUESTION: &str =
-    "the argument '--refused' cannot be used with '--query', '--where', '--in', '--not-in', '--invert-match', '--only-matching', '--raw', '--canonical', '--tsv' or '--csv'";
+    "the argument '--refused' cannot be used with '--query', '--where', '--each', '--in', '--not-in', '--invert-match', '--only-matching', '--raw', '--canonical', '--tsv' or '--csv'";
 
 /// What is said if `-r` is used with `-j`.
 pub(crate) const BOTH_SPELLINGS: &str = "the argument '--raw' cannot be used with '--canonical'";
@@ -37,6 +37,10 @@ pub(crate) const NO_NAMES: &str = "the argument '--names <NAMES>' has one name f
 pub(crate) const NO_VALUES: &str =
     "the argument '--invert-match' cannot be used with '--only-matching', '--path', '--tsv' or '--csv'";
 
+/// What is said if `-v` is used with what shows values of nodes that are asked one by one.
+pub(crate) const NO_VALUES_OF_NODES: &str =
+    "with '--each' the argument '--invert-match' cannot be used with '--query', '--path', '--tsv' or '--csv'";
+
 /// What is said if `--json` is used with `--elements`.
 pub(crate) const BOTH_PIECES: &str = "the argument '--json' cannot be used with '--elements'";
 
@@ -46,4 +50,4 @@ pub(crate) const NO_PIECES: &str =
 
 /// What is said if no word is a query.
 pub(crate) const NO_QUERY: &str =
-    "no QUERY was given, nor '--query <QUERY>', '--where <CONDITION>', '--in <QUERY> <FILE>' or '--refused'";
+    "no QUERY was given, nor '--query <QUERY>', '--where <CONDITION>', '--each <QUERY>', '--in <QUERY> <FILE>' or '--refused'";

@@ -3,12 +3,12 @@
 ghost use Rattle.std.specs.Prelude.{◌≡◌, ◌||◌, ◌∷◌, [], List, map};
 ghost use Rattle.std.specs.Option.{option_map_or};
 ghost use Rattle.clap.specs.Words.{Row};
-ghost use Rattle.jp_options.specs.Command.{IsAskedBy, asks_of_values, asks_spelling, conflicts_in, form_conflicts, names_nothing, stream_conflicts};
+ghost use Rattle.jp_options.specs.Command.{IsAskedBy, asks_each, asks_of_values, asks_spelling, conflicts_in, form_conflicts, names_nothing, prints_others, prints_values, stream_conflicts};
 ghost use Rattle.jp_options.specs.Words.{asked_files, asked_most, asked_queries, asked_rows, asked_spelling, asked_summary, asked_units, asks_names, begins_with_query, names_list};
 
 use crate::messages::{
     BOTH_FRONTS, BOTH_NAMES, BOTH_PIECES, BOTH_SPELLINGS, BOTH_TABLES, NO_NAMES, NO_PIECES,
-    NO_QUERY, NO_QUESTION, NO_SPELLING, NO_TABLE, NO_TALLY, NO_VALUES,
+    NO_QUERY, NO_QUESTION, NO_SPELLING, NO_TABLE, NO_TALLY, NO_VALUES, NO_VALUES_OF_NODES,
 };
 use clap::error::ErrorKind;
 use jp_form::{Form, Pieces, Shown, Spelling, Summary, Table, Units};
@@ -17,12 +17,14 @@ use jp_model::Framing;
 /// What the program's words ask for.
 #[derive(Drop)]
 pub struct Options<'a> {
-    /// The words that belong to no option: the files, and before them the query where no option gives one or a condition.
+    /// The words that belong to no option: the files, and before them the query where no option gives one, a condition or nodes.
     pub words: Vec<&'a str>,
     /// The queries of `-e`, in their order.
     pub queries: Vec<&'a str>,
     /// The conditions of `-w`, in their order.
     pub conditions: Vec<&'a str>,
+    /// `--each`: the query whose nodes are asked one by one, if it is given.
+    pub each: Vec<&'a str>,
     /// The words behind each `--in`, in their order: a query, and the file of a list.
     pub lists: Vec<&'a str>,
     /// Those behind each `--not-in`.
@@ -87,11 +89,21 @@ impl<'a> Options<'a> {
         !self.lists.is_empty() || !self.other_lists.is_empty()
     }
 
-    /// Whether none of `-e`, `-w`, `--in` and `--not-in` is given.
+    /// Whether nodes are asked one by one.
+    fn asks_each(&self) -> bool
+        ensures { (found : List Row) → IsAskedBy found self.now → result ≡ asks_each found }
+    {
+        !self.each.is_empty()
+    }
+
+    /// Whether none of `-e`, `-w`, `--each`, `--in` and `--not-in` is given.
     fn names_nothing(&self) -> bool
         ensures { (found : List Row) → IsAskedBy found self.now → result ≡ names_nothing found }
     {
-        self.queries.is_empty() && self.conditions.is_empty() && !self.names_list()
+        self.queries.is_empty()
+            && self.conditions.is_empty()
+            && !self.asks_each()
+            && !self.names_list()
     }
 
     /// Whether a value is spelled otherwise than its line spells it.
@@ -110,6 +122,34 @@ impl<'a> Options<'a> {
             || self.only_matching
             || self.asks_spelling()
             || self.is_table()
+    }
+
+    /// Whether values are printed of which there are none where something does not match: with `--each` those of `-e`, and else
+    /// all of them.
+    fn prints_values(&self) -> bool
+        ensures { (found : List Row) → IsAskedBy found self.now → result ≡ prints_values found }
+    {
+        if self.asks_each() {
+            !self.queries.is_empty()
+        } else {
+            self.only_matching
+        }
+    }
+
+    /// Whether what does not match is selected, and something is printed that it has none of.
+    fn prints_others(&self) -> bool
+        ensures { (found : List Row) → IsAskedBy found self.now → result ≡ prints_others found }
+    {
+        self.inverted && (self.is_table() || self.paths || self.prints_values())
+    }
+
+    /// What is said where it is.
+    fn no_values(&self) -> &'static str {
+        if !self.each.is_empty() {
+            NO_VALUES_OF_NODES
+        } else {
+            NO_VALUES
+        }
     }
 
     /// Why the words of what is printed do not go together, if they do not.
@@ -133,8 +173,8 @@ impl<'a> Options<'a> {
         if !self.names.is_empty() && self.names.len() != self.queries.len().max(1) {
             return Some((ErrorKind::WrongNumberOfValues, NO_NAMES));
         }
-        if self.inverted && (table || values) {
-            return Some((ErrorKind::ArgumentConflict, NO_VALUES));
+        if self.prints_others() {
+            return Some((ErrorKind::ArgumentConflict, self.no_values()));
         }
         None
     }
@@ -188,18 +228,22 @@ impl<'a> Options<'a> {
     fn begins_with_query(&self) -> bool
         ensures { result ≡ begins_with_query self.now }
     {
-        !self.refused && self.queries.is_empty() && self.conditions.is_empty() && !self.names_list()
+        !self.refused
+            && self.queries.is_empty()
+            && self.conditions.is_empty()
+            && self.each.is_empty()
+            && !self.names_list()
     }
 
-    /// The queries that the words name: those of `-e`, or the first word where there is none of `-e`, `-w`, `--in` and
-    /// `--not-in`. Without `-e` it is `$` otherwise, and with `--refused` there is none.
+    /// The queries that the words name: those of `-e`, or the first word where there is none of `-e`, `-w`, `--each`, `--in` and
+    /// `--not-in`. Without `-e` it is the node that is asked otherwise: `$`, or with `--each` `@`. With `--refused` there is none.
     pub fn queries(&self) -> &[&'a str]
         ensures { map (λ s. s.now) result.now ≡ asked_queries self.now }
     {
         if self.begins_with_query() {
             &self.words[..self.words.len().min(1)]
         } else if !self.refused && self.queries.is_empty() {
-            &["$"]
+            if !self.each.is_empty() { &["@"] } else { &["$"] }
         } else {
             &self.queries
         }
@@ -265,7 +309,7 @@ impl<'a> Options<'a> {
             Shown::Cells(Table::Commas)
         } else if self.refused {
             Shown::Line { faults: self.paths }
-        } else if self.only_matching || self.paths {
+        } else if self.only_matching || self.paths || !self.each.is_empty() {
             Shown::Values { paths: self.paths }
         } else {
             Shown::Line { faults: false }

@@ -102,6 +102,7 @@ fn read_matches<'a>(
         words: values(alloc, matches, "words")?,
         queries: values(alloc, matches, "query")?,
         conditions: values(alloc, matches, "where")?,
+        each: values(alloc, matches, "each")?,
         lists: values(alloc, matches, "in")?,
         other_lists: values(alloc, matches, "not-in")?,
         most,

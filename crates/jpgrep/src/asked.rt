@@ -3,15 +3,23 @@
 use crate::note::meant_condition;
 use crate::patterns::Warner;
 use crate::refusal::{Refusal, Text};
-use jp_grep::{Queries, Question, Wanted};
+use jp_grep::{Origin, Queries, Question, Wanted};
 use jp_options::Options;
-use jp_query::{read_condition, read_query};
-use jp_syntax::{SingularPath, is_singular, singular};
+use jp_query::{read_condition, read_query, read_relative_query};
+use jp_syntax::is_singular;
+use jp_types::Checked;
+
+/// A query, and where it begins.
+#[derive(Drop)]
+pub(crate) struct Asking {
+    pub(crate) origin: Origin,
+    pub(crate) query: Checked,
+}
 
 /// A list that is asked of: the query of the value, the file of the list, and whether the value is to be in it.
 #[derive(Drop)]
 pub(crate) struct AskedList<'a> {
-    pub(crate) query: SingularPath,
+    pub(crate) asking: Asking,
     pub(crate) file: &'a str,
     pub(crate) wanted: bool,
 }
@@ -37,18 +45,31 @@ pub(crate) struct Asked<'a> {
 }
 
 impl<'r, 'a> Reader<'r, 'a> {
-    /// Adds a query, and warns of its patterns. One that is a column selects no more than one node of any line.
-    fn add_query(&mut self, text: &'a str, is_column: bool) -> Result<(), Refusal<'a>> {
+    /// Adds a query, and warns of its patterns. One that is a column selects no more than one node of any line. Where nodes are
+    /// asked one by one it may begin at the node.
+    fn add_query(
+        &mut self,
+        text: &'a str,
+        is_column: bool,
+        of_nodes: bool,
+    ) -> Result<(), Refusal<'a>> {
+        let Asking { origin, query } = read_asking(self.rt, Text::Query(text), of_nodes)?;
+        if is_column && !is_singular(query.segments()) {
+            return Err(Refusal::NotSingular(text));
+        }
+        self.warner.read_segments(query.segments())?;
+        if self.meant.is_none() && !of_nodes {
+            self.meant = meant_condition(text, query.segments());
+        }
+        Ok(self.question.add_query(self.rt.alloc(), origin, &query)?)
+    }
+
+    /// Asks the nodes of a query one by one, and warns of its patterns.
+    fn ask_each(&mut self, text: &'a str) -> Result<(), Refusal<'a>> {
         match read_query(self.rt.alloc(), text.as_bytes()) {
             Ok(query) => {
-                if is_column && !is_singular(query.segments()) {
-                    return Err(Refusal::NotSingular(text));
-                }
                 self.warner.read_segments(query.segments())?;
-                if self.meant.is_none() {
-                    self.meant = meant_condition(text, query.segments());
-                }
-                Ok(self.question.add_query(self.rt.alloc(), &query)?)
+                Ok(self.question.ask_each(self.rt.alloc(), &query)?)
             }
             Err(refusal) => Err(Refusal::of(Text::Query(text), refusal)),
         }
@@ -69,9 +90,9 @@ impl<'r, 'a> Reader<'r, 'a> {
     fn add_lists(&mut self, words: &[&'a str], wanted: bool) -> Result<(), Refusal<'a>> {
         for pair in words.chunks_exact(2) {
             if let [text, file] = pair {
-                let query = read_list_query(self.rt, text)?;
+                let asking = read_list_query(self.rt, text)?;
                 let list = AskedList {
-                    query,
+                    asking,
                     file,
                     wanted,
                 };
@@ -84,23 +105,32 @@ impl<'r, 'a> Reader<'r, 'a> {
     }
 }
 
-/// The singular query of a list's words (RFC 9535, section 2.3.5.1). As in a condition, `@` at its front is `$`.
-fn read_list_query<'a>(rt: &HostRuntime, text: &'a str) -> Result<SingularPath, Refusal<'a>> {
-    let mut rooted = String::new(rt.alloc());
-    match text.strip_prefix('@') {
-        Some(rest) => {
-            rooted.push('$')?;
-            rooted.push_str(rest)?;
-        }
-        None => rooted.push_str(text)?,
+/// The query of a text, which begins at the root of a line, or where that may be with `@` at the node that is asked (RFC 9535,
+/// section 2.3.5.1).
+fn read_asking<'a>(
+    rt: &HostRuntime,
+    text: Text<'a>,
+    may_be_relative: bool,
+) -> Result<Asking, Refusal<'a>> {
+    let bytes = text.text().as_bytes();
+    let (origin, read) = if may_be_relative && text.text().starts_with('@') {
+        (Origin::Current, read_relative_query(rt.alloc(), bytes))
+    } else {
+        (Origin::Root, read_query(rt.alloc(), bytes))
+    };
+    match read {
+        Ok(query) => Ok(Asking { origin, query }),
+        Err(refusal) => Err(Refusal::of(text, refusal)),
     }
-    match read_query(rt.alloc(), rooted.as_bytes()) {
-        Ok(query) => match singular(rt.alloc(), query.query())? {
-            Some(path) => Ok(path),
-            None => Err(Refusal::of_many(text, query.segments())),
-        },
-        Err(refusal) => Err(Refusal::of(Text::ListQuery(text), refusal)),
+}
+
+/// The singular query of a list (RFC 9535, section 2.3.5.1).
+fn read_list_query<'a>(rt: &HostRuntime, text: &'a str) -> Result<Asking, Refusal<'a>> {
+    let asking = read_asking(rt, Text::ListQuery(text), true)?;
+    if !is_singular(asking.query.segments()) {
+        return Err(Refusal::of_many(text, asking.query.segments()));
     }
+    Ok(asking)
 }
 
 /// Which lines the words select.
@@ -123,7 +153,8 @@ fn purpose(options: &Options<'_>) -> Queries {
     }
 }
 
-/// The question of the words: their queries and conditions. Without a query it is `$`, and none is asked of refused lines.
+/// The question of the words: their queries and conditions, asked of lines, or of the nodes of `--each`. Without a query it is the
+/// node that is asked, and none is asked of refused lines.
 pub(crate) fn read_question<'a>(
     rt: &HostRuntime,
     options: &Options<'a>,
@@ -135,8 +166,11 @@ pub(crate) fn read_question<'a>(
         meant: None,
         lists: Vec::new(rt.alloc()),
     };
+    for text in &options.each {
+        reader.ask_each(text)?;
+    }
     for text in options.queries() {
-        reader.add_query(text, options.has_columns())?;
+        reader.add_query(text, options.has_columns(), !options.each.is_empty())?;
     }
     for text in &options.conditions {
         reader.add_condition(text)?;

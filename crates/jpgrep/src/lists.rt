@@ -123,7 +123,13 @@ pub(crate) fn read_lists<'a>(
     };
     for list in lists {
         match reader.read_word(list.file)? {
-            Some(listed) => question.add_list(list.query, listed, list.wanted)?,
+            Some(listed) => question.add_list(
+                rt.alloc(),
+                list.asking.origin,
+                &list.asking.query,
+                listed,
+                list.wanted,
+            )?,
             None => return Ok(Lists::Unread),
         }
     }

@@ -1,15 +1,16 @@
 -- The query `$` selects each value, and no line that is refused.
-use Rattle.std.proofs.Common.{◌≡◌, ◌∙◌, ℕ, List, [], ◌++◌, append-nil, refl, sym, ap, ap₂, Bool, true, false, ◌&&◌, if◌then◌else◌}
-use Rattle.std.specs.Prelude.{not}
+use Rattle.std.proofs.Common.{◌≡◌, ◌∙◌, ◌+◌, ℕ, List, [], ◌∷◌, ◌++◌, append-nil, filter, flat_map, length, map, refl, sym, ap, ap₂, Bool, true, false, cond, ◌&&◌, if◌then◌else◌, Option, None}
+use Rattle.std.specs.List.{concat}
 use denote.Ref.{Bor}
 use Rattle.jp_model.specs.declared.Framing.TheVariants as framings
 use Rattle.jp_model.specs.Json.Status.{LineStatus, blank, refused, parsed}
 use Rattle.jp_model.specs.Json.Reader.{status_of}
 use Rattle.jp_model.specs.Json.Tree.{Tree}
-use Rattle.jp_model.specs.Query.Syntax.{Segments}
+use Rattle.jp_model.specs.Meaning.Nodes.{Node, root_node}
+use Rattle.jp_model.specs.Query.Syntax.{Path, Segments}
 use Rattle.jp_grep.specs.Conditions.{Condition}
 use Rattle.jp_model.specs.Rows.{line_feed}
-use Rattle.jp_grep.specs.Matching.{all_hold, is_selected, let_match, matches, queries_of, selects, wants_refused, wants_value}
+use Rattle.jp_grep.specs.Matching.{all_hold, each_of, is_selected, let_match, matches, nodes_asked, queries_of, selected_nodes, selected_of, selects, wants_refused, wants_value}
 use Rattle.jp_grep.specs.Once.{AsksRoot, bare_lines}
 use Rattle.jp_grep.specs.Rows.{status_rows}
 use Rattle.jp_form.specs.declared.form.Summary.{Summary}
@@ -24,29 +25,41 @@ some_match : (purpose : Queries) → let_match purpose true ≡ true
 some_match purposes.Filter = refl
 some_match purposes.Columns = refl
 
-selected_root : (root : Question) (t : Tree) → AsksRoot root → is_selected root (parsed t) ≡ true
+selected_root : (root : Question) (t : Tree) → AsksRoot root → is_selected root t (root_node t) ≡ true
 selected_root root t asks =
-    ap (λ (w : Wanted). wants_value w (matches root t)) asks.wanted
-    ∙ ap (λ (cs : List Condition). all_hold cs t && let_match root.purpose (selects (queries_of root) t)) asks.conditions
-    ∙ ap (λ (qs : List Segments). let_match root.purpose (selects qs t)) asks.queries
+    ap (λ (w : Wanted). wants_value w (matches root (root_node t) t)) asks.wanted
+    ∙ ap (λ (cs : List Condition). all_hold cs (root_node t) t && let_match root.purpose (selects (queries_of root) (root_node t) t)) asks.conditions
+    ∙ ap (λ (qs : List Path). let_match root.purpose (selects qs (root_node t) t)) asks.queries
     ∙ some_match root.purpose
 
-unwanted : (other : Question) (t : Tree) → other.wanted ≡ wanted.Refused → is_selected other (parsed t) ≡ false
-unwanted other t refuses = ap (λ (w : Wanted). wants_value w (matches other t)) refuses
+one_of : (root : Question) (t : Tree) → AsksRoot root → selected_nodes root t ≡ root_node t ∷ []
+one_of root t asks =
+    ap (λ (o : Option Segments). filter (is_selected root t) (nodes_asked o t)) asks.each
+    ∙ ap (λ (b : Bool). let ns : List Node = cond b (root_node t ∷ []) [] in ns) (selected_root root t asks)
 
-by_one : (root other : Question) → AsksRoot root → other.wanted ≡ wanted.Refused → (s : LineStatus) → ¬ (s ≡ blank) → is_selected other s ≡ not (is_selected root s)
+none_by : (test : Node → Bool) → ((node : Node) → test node ≡ false) → (nodes : List Node) → filter test nodes ≡ []
+none_by test never [] = refl
+none_by test never (node ∷ nodes) = ap (λ (b : Bool). cond b (node ∷ filter test nodes) (filter test nodes)) (never node) ∙ none_by test never nodes
+
+none_of : (other : Question) (t : Tree) → other.wanted ≡ wanted.Refused → selected_nodes other t ≡ []
+none_of other t refuses = none_by (is_selected other t) (λ node. ap (λ (w : Wanted). wants_value w (matches other node t)) refuses) (nodes_asked (each_of other) t)
+
+by_one : (root other : Question) → AsksRoot root → other.wanted ≡ wanted.Refused → (s : LineStatus) → ¬ (s ≡ blank) → selected_of root None s + selected_of other None s ≡ 1
 by_one root other asks refuses blank present = absurd (present refl)
-by_one root other asks refuses (refused fault) present = ap wants_refused refuses ∙ sym (ap (λ (w : Wanted). not (wants_refused w)) asks.wanted)
-by_one root other asks refuses (parsed t) present = unwanted other t refuses ∙ sym (ap not (selected_root root t asks))
+by_one root other asks refuses (refused fault) present = ap₂ (λ (a b : Bool). let m : ℕ = cond a 1 0 in let n : ℕ = cond b 1 0 in m + n) (ap wants_refused asks.wanted) (ap wants_refused refuses)
+by_one root other asks refuses (parsed t) present = ap₂ (λ (a b : List Node). length a + length b) (one_of root t asks) (none_of other t refuses)
 
 module _ (summary : Summary) (name : Bor (List ℕ)) (silent : Bool) (most n : ℕ) (line : List ℕ) where
   one_row : (root other : Question) → AsksRoot root → other.wanted ≡ wanted.Refused → (s : LineStatus) → ¬ (s ≡ blank)
-      → status_rows root (bare_lines summary name silent most) n line s ++ status_rows other (bare_lines summary name silent most) n line s ≡ line ++ line_feed
+      → concat (status_rows root (bare_lines summary name silent most) n line None s) ++ concat (status_rows other (bare_lines summary name silent most) n line None s) ≡ line ++ line_feed
   one_row root other asks refuses blank present = absurd (present refl)
   one_row root other asks refuses (refused fault) present =
-      ap₂ (λ (a b : Bool). (if a then line ++ line_feed else []) ++ (if b then line ++ line_feed else [])) (ap wants_refused asks.wanted) (ap wants_refused refuses)
+      ap₂ (λ (a b : Bool). concat (if a then (line ++ line_feed) ∷ [] else []) ++ concat (if b then (line ++ line_feed) ∷ [] else [])) (ap wants_refused asks.wanted) (ap wants_refused refuses)
+      ∙ append-nil (line ++ line_feed)
   one_row root other asks refuses (parsed t) present =
-      ap₂ (λ (a b : Bool). (if a then line ++ line_feed else []) ++ (if b then line ++ line_feed else [])) (selected_root root t asks) (unwanted other t refuses)
+      let rows : List Node → List ℕ = λ ns. concat (flat_map (λ (node : Node). (line ++ line_feed) ∷ []) ns) in
+      ap₂ (λ (a b : List Node). rows a ++ rows b) (one_of root t asks) (none_of other t refuses)
+      ∙ append-nil (rows (root_node t ∷ []))
       ∙ append-nil (line ++ line_feed)
 
 pub returns : goal.returns

@@ -13,6 +13,6 @@ returns c =
     let e3 = with_one_more c.in_ok-arg-2.field-0 c.in_ok-arg-3.field-0 c.word_flag.result start (flag_rule (codes "raw") 0x72 (codes "raw") ∷ flag_rule (codes "canonical") 0x6A (codes "canonical") ∷ []) _ c.in_ok-arg-3.ensures c.word_flag.ensures.local c.word_flag.ensures.rule e2 in
     let e4 = with_one_more c.in_ok-arg-3.field-0 c.in_ok-arg-4.field-0 c.word_flag-2.result start (flag_rule (codes "raw") 0x72 (codes "raw") ∷ flag_rule (codes "canonical") 0x6A (codes "canonical") ∷ word_rule (codes "tsv") ∷ []) _ c.in_ok-arg-4.ensures c.word_flag-2.ensures.local c.word_flag-2.ensures.rule e3 in
     let e5 = with_one_more c.in_ok-arg-4.field-0 c.in_ok-arg-5.field-0 c.word_flag-3.result start (flag_rule (codes "raw") 0x72 (codes "raw") ∷ flag_rule (codes "canonical") 0x6A (codes "canonical") ∷ word_rule (codes "tsv") ∷ word_rule (codes "csv") ∷ []) _ c.in_ok-arg-5.ensures c.word_flag-3.ensures.local c.word_flag-3.ensures.rule e4 in
-    IfOk-weaker c.arg-6.result (AddsArg c.in_ok-arg-5.field-0 c.names_argument.result) (λ more. app_of more ≡ with_rules start spelling_rules)
-    (λ more adds. with_one_more c.in_ok-arg-5.field-0 more c.names_argument.result start (flag_rule (codes "raw") 0x72 (codes "raw") ∷ flag_rule (codes "canonical") 0x6A (codes "canonical") ∷ word_rule (codes "tsv") ∷ word_rule (codes "csv") ∷ word_rule (codes "header") ∷ []) _ adds c.names_argument.ensures.local c.names_argument.ensures.rule e5)
+    IfOk-weaker c.arg-6.result (AddsArg c.in_ok-arg-5.field-0 c.value_argument.result) (λ more. app_of more ≡ with_rules start spelling_rules)
+    (λ more adds. with_one_more c.in_ok-arg-5.field-0 more c.value_argument.result start (flag_rule (codes "raw") 0x72 (codes "raw") ∷ flag_rule (codes "canonical") 0x6A (codes "canonical") ∷ word_rule (codes "tsv") ∷ word_rule (codes "csv") ∷ word_rule (codes "header") ∷ []) _ adds c.value_argument.ensures.local c.value_argument.ensures.rule e5)
     c.arg-6.ensures

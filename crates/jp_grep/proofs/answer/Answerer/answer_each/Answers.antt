@@ -1,6 +1,6 @@
 -- One of them is answered behind the others.
-use Rattle.std.proofs.Common.{◌≡◌, ◌∙◌, ◌<◌, ◌≤◌, ◌+◌, ◌++◌, [], ◌∷◌, ℕ, List, ap, ap₂, sym, subst, append_assoc, drop, length, length-append, take, take-append-drop, refl, arith, true, false, Bool}
-use Rattle.std.specs.Prelude.{cond, count_by}
+use Rattle.std.proofs.Common.{◌≡◌, ◌∙◌, ◌<◌, ◌+◌, ◌-◌, ◌++◌, [], ◌∷◌, ℕ, List, ap, ap₂, sym, subst, append_assoc, drop, length, length-append, take, take-append-drop, refl, arith, true, false, Bool}
+use Rattle.std.specs.Prelude.{cond, sum_by}
 use Rattle.std.proofs.lemmas.List.{take_more}
 use Rattle.std.proofs.lemmas.Option.{get_or_from_slice_get}
 use Rattle.jp_devices.specs.Devices.{Received}
@@ -9,13 +9,14 @@ use Rattle.jp_grep.specs.Holding.{HoldsBack, HoldsPart}
 use Rattle.jp_grep.specs.Items.{Item, is_given_up}
 use Rattle.jp_grep.specs.Outcomes.{CameOfEach}
 use Rattle.jp_grep.specs.ReadItems.{item_of, items_of}
-use Rattle.jp_grep.specs.Rows.{item_message, item_rows, messages_from, output_from, refused_count, refused_item, selected_item}
+use Rattle.jp_grep.specs.Rows.{item_message, item_rows, messages_from, output_from, refused_count, refused_item, selected_in}
 use Rattle.jp_grep.specs.Searching.{GoesOnBy}
-use Rattle.jp_grep.specs.Watching.{answered_of}
+use Rattle.jp_grep.specs.Watching.{answered_of, cut_to}
 use Rattle.jp_grep.proofs.Advancing.{none_answered, none_by, says_nothing}
 use Rattle.jp_grep.proofs.Batched.{enough, messages_around, messages_more, one_more, rows_around, rows_more, with_next}
 use Rattle.jp_grep.proofs.Coming.{came_next, came_one, came_same}
-use Rattle.jp_grep.proofs.Counted.{count-append, count_one}
+use Rattle.std.proofs.lemmas.List.Sums.{sum_by_push}
+use Rattle.jp_grep.proofs.Counted.{few_up_to}
 use Rattle.jp_grep.proofs.Putting.{both_put, ends_put, none_put, put_next}
 use Rattle.jp_grep.proofs.Written.{around, none_received, part_next}
 use Rattle.jp_grep.proofs.answer.Answerer.answer_each.Goals as goal
@@ -25,30 +26,27 @@ one_fewer : (before after number next : ℕ) (b : Bool) → after ≡ before + c
 one_fewer before after number next true e k l = omega (arith, e, k, l)
 one_fewer before after number next false e k l = omega (arith, e, k, l)
 
-one_wanted : (before after most : ℕ) (b : Bool) → after ≡ before + cond b 1 0 → before < most → after ≤ most
-one_wanted before after most true e l = omega (arith, e, l)
-one_wanted before after most false e l = omega (arith, e, l)
+-- more is counted
+together : (a b c d : ℕ) → d ≡ b + c → (a + b) + c ≡ a + d
+together a b c d e = omega (arith, e)
 
--- one more is counted
-counted : (test : Item → Bool) (before was is : ℕ) (done : List Item) (item : Item) (b : Bool) → was ≡ before + count_by test done → is ≡ was + cond b 1 0 → b ≡ test item → is ≡ before + count_by test (done ++ item ∷ [])
-counted test before was is done item b e f same =
-    f ∙ ap₂ (λ n (c : Bool). n + cond c 1 0) e same ∙ together before (count_by test done) (cond (test item) 1 0) (count_by test (done ++ item ∷ []))
-    (count-append test done (item ∷ []) ∙ ap (λ n. count_by test done + n) (count_one test item))
-  where
-    together : (a b c d : ℕ) → d ≡ b + c → (a + b) + c ≡ a + d
-    together a b c d e = omega (arith, e)
+counted : (of : Item → ℕ) (before was is one : ℕ) (done : List Item) (item : Item) → was ≡ before + sum_by of done → is ≡ was + one → one ≡ of item → is ≡ before + sum_by of (done ++ item ∷ [])
+counted of before was is one done item e f same =
+    f ∙ ap₂ (λ (n k : ℕ). n + k) e same ∙ together before (sum_by of done) (of item) (sum_by of (done ++ item ∷ [])) (sum_by_push of done item)
 
 pub loop-index-init : goal.loop-index-init
 loop-index-init g c =
     let q = c.args.self.question.now in
     let f = c.args.self.form.now in
+    let held = c.args.outlet.now.held.items in
+    let none = none_answered q f c.args.progress.now.counts.selected in
     record {
       so_far = (
         [],
         refl,
-        record { each = tt; all = none_answered q f c.args.progress.now.counts.selected; by = none_by q f c.args.progress.now c.requires.under_way },
-        none_put c.args.out.now c.args.outlet.now.held.items,
-        none_received c.args.messages.now,
+        record { each = tt; by = subst (λ (ls : List Item). GoesOnBy q f c.args.progress.now c.args.progress.now ls) (sym none) (none_by q f c.args.progress.now c.requires.under_way) },
+        subst (λ (ls : List Item). HoldsBack g.W.Write.contents c.args.out.now c.args.out.now held held (output_from q f c.args.progress.now.number ls)) (sym none) (none_put c.args.out.now held),
+        subst (λ (ls : List Item). Received g.E.Write.contents c.args.messages.now c.args.messages.now (messages_from f c.args.progress.now.counts.refused c.args.progress.now.number ls)) (sym none) (none_received c.args.messages.now),
       );
       writes = c.requires.writes;
       reports = c.requires.reports;
@@ -56,8 +54,8 @@ loop-index-init g c =
       messages_after = refl;
     }
 
-pub returns-then-progress-self-clause-answers : goal.returns-then-progress-self-clause-answers
-returns-then-progress-self-clause-answers g c =
+pub returns-then-progress-most-clause-answers : goal.returns-then-progress-most-clause-answers
+returns-then-progress-most-clause-answers g c =
     let q = c.args.self.question.now in
     let f = c.args.self.form.now in
     let all = items_of c.args.items in
@@ -65,7 +63,7 @@ returns-then-progress-self-clause-answers g c =
     let before = c.args.progress.now in
     let so = c.loop-index.invariant.so_far in
     let done = so.0 in
-    let is = sym (enough q f before.counts.selected done so.2.all (drop i all) (sym so.2.by.selected ∙ c.if-progress-self.true)) in
+    let is = sym (enough q f before.counts.selected done (drop i all) (sym so.2.by.selected ∙ c.if-progress-most.true)) in
     record {
       outcomes = done ++ drop i all;
       each = subst (λ (ls : List Item). CameOfEach ls (done ++ drop i all)) (take-append-drop i all) (came_next (take i all) done (drop i all) (drop i all) so.2.each (came_same (drop i all)));
@@ -93,20 +91,22 @@ returns-in_err-verdict-clause-answers g c =
     let within : i < length all = omega (arith, c.loop-index-test.true, c.count-index-end.ensures) in
     let is = sym (get_or_from_slice_get all i item item c.item-item.ensures.item) in
     let rest = drop (i + 1) all in
-    let fewer : before.counts.selected + count_by (selected_item q) done < f.most = omega (arith, so.2.by.under_way.wanted, c.if-progress-self.false, so.2.by.selected) in
-    let next = one_more q f before.counts.selected done so.2.all said.outcome rest fewer in
-    let rows = subst (λ k. HoldsPart g.W.Write.contents c.loop-index.out out c.loop-index.outlet.held.items held (item_rows q f k said.outcome)) so.2.by.number said.rows in
-    let part = subst (λ (l : List ℕ). Part g.E.Write.contents c.loop-index.messages told l) (ap₂ (λ j k. item_message f j k said.outcome) so.2.by.refused so.2.by.number) said.message in
+    let answered = answered_of q f before.counts.selected done in
+    let fewer : c.loop-index.progress.counts.selected < f.most = omega (arith, so.2.by.under_way.wanted, c.if-progress-most.false) in
+    let cut = cut_to (f.most - c.loop-index.progress.counts.selected) said.outcome in
+    let next = one_more q f before.counts.selected done c.loop-index.progress.counts.selected so.2.by.selected fewer said.outcome rest in
+    let rows = subst (λ k. HoldsPart g.W.Write.contents c.loop-index.out out c.loop-index.outlet.held.items held (item_rows q f k cut)) so.2.by.number said.rows in
+    let part = subst (λ (l : List ℕ). Part g.E.Write.contents c.loop-index.messages told l) (ap₂ (λ j k. item_message f j k cut) so.2.by.refused so.2.by.number) said.message in
     record {
       outcomes = done ++ said.outcome ∷ rest;
       each = subst (λ (ls : List Item). CameOfEach ls (done ++ said.outcome ∷ rest)) (sym (around all i item within ∙ ap (λ (x : Item). (take i all ++ x ∷ []) ++ rest) (sym is) ∙ append_assoc (take i all) (item ∷ []) rest))
           (came_next (take i all) done (item ∷ rest) (said.outcome ∷ rest) so.2.each (said.came, came_same rest));
       rows = ends_put r c.args.out.now out c.args.outlet.now.held.items held (output_from q f before.number (answered_of q f before.counts.selected (done ++ said.outcome ∷ rest))) failed
-          (put_next c.args.out.now c.loop-index.out out _ _ _ _ (item_rows q f (before.number + length done) said.outcome) _ _
-          (rows_around q f done said.outcome before.number _ next.0 next.1) so.3 rows);
+          (put_next c.args.out.now c.loop-index.out out _ _ _ _ (item_rows q f (before.number + length answered) cut) _ _
+          (rows_around q f answered cut before.number _ next.0 next.1) so.3 rows);
       messages = ends_in_part r _ _ _ failed
-          (part_next c.args.messages.now c.loop-index.messages told _ (item_message f (before.counts.refused + refused_count done) (before.number + length done) said.outcome) _ _
-          (messages_around q f done said.outcome before.counts.refused before.number _ next.0 next.1) so.4 part);
+          (part_next c.args.messages.now c.loop-index.messages told _ (item_message f (before.counts.refused + refused_count answered) (before.number + length answered) cut) _ _
+          (messages_around q f answered cut before.counts.refused before.number _ next.0 next.1) so.4 part);
       progress = says_nothing _ r failed;
     }
 
@@ -129,13 +129,14 @@ loop-index-preserved g c =
     let told = c.answer_item.new.messages in
     let passed = c.pass.ensures in
     let now = c.pass.new.self in
-    let verdict = c.in_ok-verdict.verdict in
     let within : i < length all = omega (arith, c.loop-index-test.true, c.count-index-end.ensures) in
     let is = sym (get_or_from_slice_get all i item item c.item-item.ensures.item) in
-    let fewer : before.counts.selected + count_by (selected_item q) done < f.most = omega (arith, by.under_way.wanted, c.if-progress-self.false, by.selected) in
-    let less : c.loop-index.progress.counts.selected < f.most = omega (arith, by.under_way.wanted, c.if-progress-self.false) in
-    let rows = subst (λ k. HoldsBack g.W.Write.contents c.loop-index.out out c.loop-index.outlet.held.items held (item_rows q f k said.outcome)) by.number said.rows in
-    let message = subst (λ (l : List ℕ). Received g.E.Write.contents c.loop-index.messages told l) (ap₂ (λ j k. item_message f j k said.outcome) by.refused by.number) said.message in
+    let answered = answered_of q f before.counts.selected done in
+    let less : c.loop-index.progress.counts.selected < f.most = omega (arith, by.under_way.wanted, c.if-progress-most.false) in
+    let cut = cut_to (f.most - c.loop-index.progress.counts.selected) said.outcome in
+    let all_now = with_next q f before.counts.selected done c.loop-index.progress.counts.selected by.selected less said.outcome in
+    let rows = subst (λ k. HoldsBack g.W.Write.contents c.loop-index.out out c.loop-index.outlet.held.items held (item_rows q f k cut)) by.number said.rows in
+    let message = subst (λ (l : List ℕ). Received g.E.Write.contents c.loop-index.messages told l) (ap₂ (λ j k. item_message f j k cut) by.refused by.number) said.message in
     record {
       so_far = (
         done ++ said.outcome ∷ [],
@@ -143,22 +144,20 @@ loop-index-preserved g c =
         record {
           each = subst (λ (ls : List Item). CameOfEach ls (done ++ said.outcome ∷ [])) (sym (take_more all i item within ∙ ap (λ (x : Item). take i all ++ x ∷ []) (sym is)))
               (came_next (take i all) done (item ∷ []) (said.outcome ∷ []) so.2.each (came_one item said.outcome said.came));
-          all = with_next q f before.counts.selected done so.2.all said.outcome fewer;
-          by = record {
-            number = passed.number ∙ ap (λ n. n + 1) by.number ∙ longer before.number (length done) (length (done ++ said.outcome ∷ [])) (length-append done (said.outcome ∷ []));
-            selected = counted (selected_item q) before.counts.selected _ _ done said.outcome verdict.selected by.selected passed.selected said.verdict.selected;
-            refused = counted refused_item before.counts.refused _ _ done said.outcome verdict.refused by.refused passed.refused said.verdict.refused;
-            given_up = counted is_given_up before.counts.given_up _ _ done said.outcome verdict.given_up by.given_up passed.given_up said.verdict.given_up;
+          by = subst (λ (ls : List Item). GoesOnBy q f before now ls) (sym all_now) (record {
+            number = passed.number ∙ ap (λ n. n + 1) by.number ∙ longer before.number (length answered) (length (answered ++ cut ∷ [])) (length-append answered (cut ∷ []));
+            selected = counted (selected_in q) before.counts.selected _ _ _ answered cut by.selected passed.selected said.verdict.selected;
+            refused = counted (λ x. cond (refused_item x) 1 0) before.counts.refused _ _ _ answered cut by.refused passed.refused (ap (λ (b : Bool). let n : ℕ = cond b 1 0 in n) said.verdict.refused);
+            given_up = counted (λ x. cond (is_given_up x) 1 0) before.counts.given_up _ _ _ answered cut by.given_up passed.given_up (ap (λ (b : Bool). let n : ℕ = cond b 1 0 in n) said.verdict.given_up);
             under_way = record {
-              wanted = one_wanted _ _ _ _ passed.selected less;
-              fewer_selected = one_fewer _ _ _ _ _ passed.selected passed.number by.under_way.fewer_selected;
+              wanted = omega (arith, passed.selected, c.in_ok-verdict.ensures.fits);
               fewer_refused = one_fewer _ _ _ _ _ passed.refused passed.number by.under_way.fewer_refused;
               fewer_given_up = one_fewer _ _ _ _ _ passed.given_up passed.number by.under_way.fewer_given_up;
             };
-          };
+          });
         },
-        subst (λ (l : List ℕ). HoldsBack g.W.Write.contents c.args.out.now out c.args.outlet.now.held.items held l) (sym (rows_more q f done said.outcome before.number)) (both_put c.args.out.now c.loop-index.out out _ _ _ _ _ so.3 rows),
-        subst (λ (l : List ℕ). Received g.E.Write.contents c.args.messages.now told l) (sym (messages_more q f done said.outcome before.counts.refused before.number)) (both_received _ _ _ _ _ so.4 message),
+        subst (λ (l : List ℕ). HoldsBack g.W.Write.contents c.args.out.now out c.args.outlet.now.held.items held l) (sym (ap (output_from q f before.number) all_now ∙ rows_more q f answered cut before.number)) (both_put c.args.out.now c.loop-index.out out _ _ _ _ _ so.3 rows),
+        subst (λ (l : List ℕ). Received g.E.Write.contents c.args.messages.now told l) (sym (ap (messages_from f before.counts.refused before.number) all_now ∙ messages_more q f answered cut before.counts.refused before.number)) (both_received _ _ _ _ _ so.4 message),
       );
       writes = tells.0;
       reports = tells.1;
@@ -168,3 +167,12 @@ loop-index-preserved g c =
   where
     longer : (a b c : ℕ) → c ≡ b + 1 → (a + b) + 1 ≡ a + c
     longer a b c e = omega (arith, e)
+
+pub pass-requires-clause-number : goal.pass-requires-clause-number
+pass-requires-clause-number g c =
+    let so = c.loop-index.invariant.so_far in
+    let few = few_up_to c.args.self.question.now (c.args.self.form.now.most - c.args.progress.now.counts.selected) so.0 in
+    omega (arith, so.1, so.2.by.number, few, c.requires.numbers, c.loop-index-test.true, c.count-index-end.ensures)
+
+pub pass-requires-clause-selected : goal.pass-requires-clause-selected
+pass-requires-clause-selected g c = ?fits

@@ -1,10 +1,10 @@
 -- The rows are put, and behind them the message is written.
-use Rattle.std.proofs.Common.{[], ℕ, List, Bool, append-nil, subst}
+use Rattle.std.proofs.Common.{[], ◌-◌, ℕ, List, Bool, None, Some, append-nil, subst}
 use Rattle.jp_devices.specs.Devices.{Received}
 use Rattle.jp_devices.proofs.Chains.{Part, ends_in_part}
 use Rattle.jp_grep.specs.Holding.{HoldsBack, HoldsPart}
 use Rattle.jp_grep.specs.ReadItems.{status_by}
-use Rattle.jp_grep.specs.Rows.{message_where, rows_where}
+use Rattle.jp_grep.specs.Rows.{message_where, status_rows, written_of}
 use Rattle.jp_grep.proofs.Advancing.{nothing_of}
 use Rattle.jp_grep.proofs.GivenUp.{came_by, no_answer}
 use Rattle.jp_grep.proofs.Putting.{both_put, ends_put, part_put}
@@ -17,7 +17,7 @@ returns-in_err-verdict-clause-answers g c =
     let r = c.from_residual.result in
     let failed = c.from_residual.ensures.0 in
     record {
-      outcome = record { text = item.text.now; status = status_by item.state; from_line = item.from_line; given_up = said.given_up };
+      outcome = record { text = item.text.now; status = status_by item.state; from_line = item.from_line; most = None; given_up = said.given_up };
       came = came_by item.text.now (status_by item.state) item.from_line said.given_up;
       rows = ends_put r c.args.out.now c.put_item.new.out c.args.outlet.now.held.items c.put_item.new.outlet.held.items _ failed said.rows;
       message = ends_in_part r c.args.messages.now c.args.messages.now _ failed (nothing_of c.args.messages.now _);
@@ -33,9 +33,9 @@ returns-in_err-tell-clause-answers g c =
     let told = c.in_err-tell.ensures in
     let r = c.from_residual-in_err-tell.result in
     let failed = c.from_residual-in_err-tell.ensures.0 in
-    let rows = rows_where said.given_up q f c.args.progress.number item.text.now (status_by item.state) in
+    let rows = written_of said.given_up (status_rows q f c.args.progress.number item.text.now (Some (f.most - c.args.progress.counts.selected)) (status_by item.state)) in
     record {
-      outcome = record { text = item.text.now; status = status_by item.state; from_line = item.from_line; given_up = said.given_up };
+      outcome = record { text = item.text.now; status = status_by item.state; from_line = item.from_line; most = None; given_up = said.given_up };
       came = came_by item.text.now (status_by item.state) item.from_line said.given_up;
       rows = ends_put r c.args.out.now c.tell.new.out c.args.outlet.now.held.items c.tell.new.outlet.held.items rows failed
           (subst (λ (l : List ℕ). HoldsPart g.W.Write.contents c.args.out.now c.tell.new.out c.args.outlet.now.held.items c.tell.new.outlet.held.items l) (append-nil rows)
@@ -53,9 +53,9 @@ returns-clause-answers g c =
     let f = c.args.self.form.now in
     let said = c.in_ok-verdict.ensures.answers in
     let told = c.in_ok-tell.ensures in
-    let rows = rows_where said.given_up q f c.args.progress.number item.text.now (status_by item.state) in
+    let rows = written_of said.given_up (status_rows q f c.args.progress.number item.text.now (Some (f.most - c.args.progress.counts.selected)) (status_by item.state)) in
     record {
-      outcome = record { text = item.text.now; status = status_by item.state; from_line = item.from_line; given_up = said.given_up };
+      outcome = record { text = item.text.now; status = status_by item.state; from_line = item.from_line; most = None; given_up = said.given_up };
       came = came_by item.text.now (status_by item.state) item.from_line said.given_up;
       rows = subst (λ (l : List ℕ). HoldsBack g.W.Write.contents c.args.out.now c.tell.new.out c.args.outlet.now.held.items c.tell.new.outlet.held.items l) (append-nil rows)
           (both_put c.args.out.now c.put_item.new.out c.tell.new.out c.args.outlet.now.held.items c.put_item.new.outlet.held.items c.tell.new.outlet.held.items rows [] said.rows told.rows);

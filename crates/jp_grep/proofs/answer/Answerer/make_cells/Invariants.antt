@@ -1,7 +1,8 @@
 -- The cells in front, and those of the queries so far, of which some selects a node or none does.
 use Rattle.std.proofs.Common.{◌≡◌, ◌++◌, decimal, map, take}
-use Rattle.jp_eval.specs.Compiled.{program_view}
-use Rattle.jp_lines.specs.Views.{text_of_view, tree_of_view}
+use Rattle.jp_lines.specs.Views.{text_of_view}
+use Rattle.jp_nodes.specs.Cursors.{node_of}
+use Rattle.jp_grep.specs.Asked.{asked_tree, query_path}
 use Rattle.jp_table.specs.Held.{Holds}
 use Rattle.jp_table.specs.Tables.{front_cells}
 use Rattle.jp_grep.specs.Matching.{selects}
@@ -12,7 +13,7 @@ abbrev pub invariant-loop-query : goal.invariant-loop-query
 invariant-loop-query l = record {
   cells : Holds l.table l.room.cells
       (front_cells l.self.form.now l.self.form.now.name.now (decimal l.number)
-      ++ query_cells l.table (map program_view (take l.query-index l.self.question.now.queries.items)) (text_of_view l.line) (tree_of_view l.line));
-  some : l.some ≡ selects (map program_view (take l.query-index l.self.question.now.queries.items)) (tree_of_view l.line);
+      ++ query_cells l.table (map query_path (take l.query-index l.self.question.now.queries.items)) (text_of_view l.asked.line) (asked_tree l.asked) (node_of l.asked.node));
+  some : l.some ≡ selects (map query_path (take l.query-index l.self.question.now.queries.items)) (node_of l.asked.node) (asked_tree l.asked);
   row : l.room.row ≡ l.fn.room.row;
 }

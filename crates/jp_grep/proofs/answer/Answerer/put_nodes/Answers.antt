@@ -1,157 +1,166 @@
 -- The rows of one query come behind those of the queries before it.
 use Rattle.std.proofs.Common.{◌≡◌, ◌∙◌, ◌++◌, ◌+◌, ◌<◌, ℕ, List, [], append_assoc, append-nil, ap, sym, subst, get_or, length, map, take, take-append-drop, drop, Bool, ◌||◌}
+use Rattle.std.specs.List.{concat}
 use Rattle.std.proofs.lemmas.Bool.{false≢true}
 use Rattle.std.proofs.lemmas.List.{map-append}
+use Rattle.std.proofs.lemmas.List.Folds.{concat-append}
 use Rattle.std.proofs.lemmas.Grind.{flat_map-append}
 use Rattle.jp_model.specs.Json.Tree.{Tree}
 use Rattle.jp_model.specs.Meaning.Nodes.{Node}
-use Rattle.jp_model.specs.Query.Syntax.{Segments}
+use Rattle.jp_model.specs.Meaning.Selecting.{path_nodes}
+use Rattle.jp_model.specs.Query.Syntax.{Path}
 use Rattle.jp_nodes.specs.Cursors.{node_of}
-use Rattle.jp_eval.specs.Compiled.{program_view}
-use Rattle.jp_eval.specs.declared.evaluate.Program.{Program}
-use Rattle.jp_lines.specs.Views.{tree_of_view}
+use Rattle.jp_grep.specs.Asked.{asked_tree, query_path}
 use Rattle.jp_grep.specs.Holding.{HoldsBack, HoldsPart}
-use Rattle.jp_grep.specs.Matching.{has_nodes, nodes_of, selected_by}
-use Rattle.jp_grep.specs.Rows.{node_rows}
+use Rattle.jp_grep.specs.Matching.{has_nodes, nodes_of}
+use Rattle.jp_grep.specs.Rows.{value_row}
+use Rattle.jp_grep.specs.declared.asked.AskedQuery.{AskedQuery}
 use Rattle.jp_form.specs.declared.form.Form.{Form}
 use Rattle.jp_grep.proofs.GivenUp.{no_answer}
-use Rattle.jp_grep.proofs.Putting.{both_put, ends_put, part_put_more, put_next}
+use Rattle.jp_grep.proofs.Putting.{both_put, ends_put, put_next}
+use Rattle.jp_grep.proofs.RowLists.{all_first, concat_around, part_of_rows}
 use Rattle.jp_grep.proofs.Selecting.{selects_more}
 use Rattle.jp_grep.proofs.Written.{given_around, given_more}
 use Rattle.jp_grep.proofs.answer.Answerer.put_nodes.Goals as goal
 
-module _ (form : Form) (paths : Bool) (n : ℕ) (text : List ℕ) (t : Tree) (programs : List Program) (i : ℕ) (program : Program) (within : i < length programs) (is : program ≡ get_or programs i program) where
-  rows_of : List Program → List ℕ
-  rows_of some = node_rows form paths n text (nodes_of (map program_view some) t)
+module _ (form : Form) (paths : Bool) (n : ℕ) (text : List ℕ) (t : Tree) (node : Node) (queries : List AskedQuery) (i : ℕ) (query : AskedQuery) (within : i < length queries) (is : query ≡ get_or queries i query) where
+  abbrev row_of : Node → List ℕ
+  row_of = value_row form paths n text
 
-  mine : List ℕ
-  mine = node_rows form paths n text (selected_by (program_view program) t)
+  abbrev selected_by : Path → List Node
+  selected_by query = path_nodes query node t
 
-  split : (a b c : List Node) → node_rows form paths n text ((a ++ b) ++ c) ≡ (node_rows form paths n text a ++ node_rows form paths n text b) ++ node_rows form paths n text c
-  split a b c = flat_map-append _ (a ++ b) c ∙ ap (λ l. l ++ node_rows form paths n text c) (flat_map-append _ a b)
+  -- the rows of some queries, and of the one that is asked next
+  abbrev pub rows_of : List AskedQuery → List (List ℕ)
+  rows_of some = map (value_row form paths n text) (nodes_of (map query_path some) node t)
 
-  around_query : rows_of programs ≡ (rows_of (take i programs) ++ mine) ++ rows_of (drop (i + 1) programs)
-  unfolding rows_of mine
+  abbrev pub mine : List (List ℕ)
+  mine = map (value_row form paths n text) (path_nodes (query_path query) node t)
+
+  pub around_query : rows_of queries ≡ (rows_of (take i queries) ++ mine) ++ rows_of (drop (i + 1) queries)
   around_query =
-      ap (node_rows form paths n text) (given_around (λ (query : Segments). selected_by query t) program_view programs i program within)
-      ∙ split (nodes_of (map program_view (take i programs)) t) (selected_by (program_view (get_or programs i program)) t) (nodes_of (map program_view (drop (i + 1) programs)) t)
-      ∙ ap (λ (p : Program). (rows_of (take i programs) ++ node_rows form paths n text (selected_by (program_view p) t)) ++ rows_of (drop (i + 1) programs)) (sym is)
+      let front = nodes_of (map query_path (take i queries)) node t in
+      let rest = nodes_of (map query_path (drop (i + 1) queries)) node t in
+      ap (map row_of) (given_around selected_by query_path queries i query within ∙ ap (λ (q : AskedQuery). (front ++ selected_by (query_path q)) ++ rest) (sym is))
+      ∙ map-append row_of (front ++ selected_by (query_path query)) rest
+      ∙ ap (λ l. l ++ map row_of rest) (map-append row_of front (selected_by (query_path query)))
 
-  more : rows_of (take (i + 1) programs) ≡ rows_of (take i programs) ++ mine
-  unfolding rows_of mine
-  more =
-      ap (node_rows form paths n text) (given_more (λ (query : Segments). selected_by query t) program_view programs i program within is)
-      ∙ flat_map-append _ (nodes_of (map program_view (take i programs)) t) (selected_by (program_view program) t)
+  pub more : rows_of (take (i + 1) queries) ≡ rows_of (take i queries) ++ mine
+  more = ap (map row_of) (given_more selected_by query_path queries i query within is) ∙ map-append row_of (nodes_of (map query_path (take i queries)) node t) (selected_by (query_path query))
 
-  -- what the queries before one select, and those behind them
-  before_query : nodes_of (map program_view programs) t ≡ nodes_of (map program_view (take i programs)) t ++ nodes_of (map program_view (drop i programs)) t
+  -- the rows of the queries before one, and those of the others
+  pub before_query : rows_of queries ≡ rows_of (take i queries) ++ rows_of (drop i queries)
   before_query =
-      ap (λ l. nodes_of (map program_view l) t) (sym (take-append-drop i programs))
-      ∙ ap (λ l. nodes_of l t) (map-append program_view (take i programs) (drop i programs))
-      ∙ flat_map-append _ (map program_view (take i programs)) (map program_view (drop i programs))
+      ap (λ l. rows_of l) (sym (take-append-drop i queries))
+      ∙ ap (λ l. map row_of (nodes_of l node t)) (map-append query_path (take i queries) (drop i queries))
+      ∙ ap (map row_of) (flat_map-append selected_by (map query_path (take i queries)) (map query_path (drop i queries)))
+      ∙ map-append row_of (nodes_of (map query_path (take i queries)) node t) (nodes_of (map query_path (drop i queries)) node t)
 
-  -- some of what the query selects
-  part_of_query : (first others : List Node) → selected_by (program_view program) t ≡ first ++ others
-      → nodes_of (map program_view programs) t ≡ (nodes_of (map program_view (take i programs)) t ++ first) ++ (others ++ nodes_of (map program_view (drop (i + 1) programs)) t)
+  -- some of the rows of the query
+  pub part_of_query : (first others : List (List ℕ)) → mine ≡ first ++ others → rows_of queries ≡ (rows_of (take i queries) ++ first) ++ (others ++ rows_of (drop (i + 1) queries))
   part_of_query first others e =
-      let front = nodes_of (map program_view (take i programs)) t in
-      let rest = nodes_of (map program_view (drop (i + 1) programs)) t in
-      given_around (λ (query : Segments). selected_by query t) program_view programs i program within
-      ∙ ap (λ (p : Program). (front ++ selected_by (program_view p) t) ++ rest) (sym is)
-      ∙ ap (λ (l : List Node). (front ++ l) ++ rest) e
-      ∙ ap (λ (l : List Node). l ++ rest) (sym (append_assoc front first others))
+      let front = rows_of (take i queries) in
+      let rest = rows_of (drop (i + 1) queries) in
+      around_query
+      ∙ ap (λ (l : List (List ℕ)). (front ++ l) ++ rest) e
+      ∙ ap (λ (l : List (List ℕ)). l ++ rest) (sym (append_assoc front first others))
       ∙ append_assoc (front ++ first) others rest
 
 pub returns-in_default-clause-rows : goal.returns-in_default-clause-rows
 returns-in_default-clause-rows g c =
-    let queries = c.deref-query-items.ensures.value in
+    let items = c.deref-query-items.ensures.value in
     let i = c.loop-query.query-index in
-    let program = c.query-item.result in
-    let t = tree_of_view c.args.line in
-    let programs = c.args.self.question.now.queries.items in
-    let within : i < length programs = subst (λ l. i < length l) queries c.loop-query-test.true in
-    let is = c.query-item.is ∙ ap (λ l. get_or l i program) queries in
+    let query = c.query-item.result in
+    let form = c.args.self.form.now in
+    let t = asked_tree c.args.asked in
+    let node = node_of c.args.asked.node in
+    let queries = c.args.self.question.now.queries.items in
+    let within : i < length queries = subst (λ l. i < length l) items c.loop-query-test.true in
+    let is = c.query-item.is ∙ ap (λ l. get_or l i query) items in
     record {
-      first = nodes_of (map program_view (take i programs)) t;
-      others = nodes_of (map program_view (drop i programs)) t;
-      split = before_query c.args.self.form.now c.args.paths c.args.number c.args.text.now t programs i program within is;
-      rows = c.loop-query.invariant.rows;
+      first = rows_of form c.args.paths c.args.number c.args.text.now t node queries i query within is (take i queries);
+      others = rows_of form c.args.paths c.args.number c.args.text.now t node queries i query within is (drop i queries);
+      split = before_query form c.args.paths c.args.number c.args.text.now t node queries i query within is;
+      puts = c.loop-query.invariant.rows;
       all = λ e. absurd (false≢true e);
     }
 
 pub returns-in_err-whole-clause-rows : goal.returns-in_err-whole-clause-rows
-unfolding rows_of mine around_query
 returns-in_err-whole-clause-rows g c =
-    let queries = c.deref-query-items.ensures.value in
+    let items = c.deref-query-items.ensures.value in
     let i = c.loop-query.query-index in
-    let program = c.query-item.result in
+    let query = c.query-item.result in
     let form = c.args.self.form.now in
-    let t = tree_of_view c.args.line in
-    let programs = c.args.self.question.now.queries.items in
-    let within : i < length programs = subst (λ l. i < length l) queries c.loop-query-test.true in
-    let is = c.query-item.is ∙ ap (λ l. get_or l i program) queries in
-    let found : map node_of c.found.result.now ≡ selected_by (program_view program) t = ap (map node_of) c.found.ensures ∙ c.in-Ok.ensures.nodes in
+    let t = asked_tree c.args.asked in
+    let node = node_of c.args.asked.node in
+    let queries = c.args.self.question.now.queries.items in
+    let within : i < length queries = subst (λ l. i < length l) items c.loop-query-test.true in
+    let is = c.query-item.is ∙ ap (λ l. get_or l i query) items in
+    let row_of = value_row form c.args.paths c.args.number c.args.text.now in
+    let found : map node_of c.found.result.now ≡ path_nodes (query_path query) node t = ap (map node_of) c.found.ensures ∙ c.in-Ok.ensures.nodes in
     let put = c.in_err-whole.ensures.rows in
-    let rows = node_rows form c.args.paths c.args.number c.args.text.now in
-    let part : HoldsPart g.W.Write.contents c.loop-query.out c.put_values.new.out c.loop-query.outlet.held.items c.put_values.new.outlet.held.items (rows (selected_by (program_view program) t)) =
-    subst (λ (l : List ℕ). HoldsPart g.W.Write.contents c.loop-query.out c.put_values.new.out c.loop-query.outlet.held.items c.put_values.new.outlet.held.items l)
-    (sym (ap rows (sym found ∙ put.split) ∙ flat_map-append _ put.first put.others))
-    (part_put_more c.loop-query.out c.put_values.new.out c.loop-query.outlet.held.items c.put_values.new.outlet.held.items (rows put.first) (rows put.others) put.rows) in
+    let all = map row_of (nodes_of (map query_path queries) node t) in
+    let front = map row_of (nodes_of (map query_path (take i queries)) node t) in
+    let mine = map row_of (path_nodes (query_path query) node t) in
+    let rest = map row_of (nodes_of (map query_path (drop (i + 1) queries)) node t) in
+    let part = part_of_rows c.loop-query.out c.put_values.new.out c.loop-query.outlet.held.items c.put_values.new.outlet.held.items (map row_of (path_nodes (query_path query) node t)) put.first put.others (ap (map row_of) (sym found) ∙ put.split) put.puts in
     record {
-      first = nodes_of (map program_view programs) t;
+      first = all;
       others = [];
-      split = sym (append-nil (nodes_of (map program_view programs) t));
-      rows = ends_put c.from_residual.result c.args.out.now c.put_values.new.out c.args.outlet.now.held.items c.put_values.new.outlet.held.items (rows (nodes_of (map program_view programs) t)) c.from_residual.ensures.0
-          (put_next c.args.out.now c.loop-query.out c.put_values.new.out _ _ _ _ (rows (selected_by (program_view program) t)) _ _
-          (around_query form c.args.paths c.args.number c.args.text.now t programs i program within is)
+      split = sym (append-nil all);
+      puts = ends_put c.from_residual.result c.args.out.now c.put_values.new.out c.args.outlet.now.held.items c.put_values.new.outlet.held.items (concat all) c.from_residual.ensures.0
+          (put_next c.args.out.now c.loop-query.out c.put_values.new.out _ _ _ (concat front) (concat mine) (concat rest) (concat all)
+          (concat_around all front mine rest (around_query form c.args.paths c.args.number c.args.text.now t node queries i query within is))
           c.loop-query.invariant.rows part);
       all = no_answer _ c.from_residual.result c.from_residual.ensures.0;
     }
 
 pub returns-then-not-whole-clause-rows : goal.returns-then-not-whole-clause-rows
 returns-then-not-whole-clause-rows g c =
-    let queries = c.deref-query-items.ensures.value in
+    let items = c.deref-query-items.ensures.value in
     let i = c.loop-query.query-index in
-    let program = c.query-item.result in
+    let query = c.query-item.result in
     let form = c.args.self.form.now in
-    let t = tree_of_view c.args.line in
-    let programs = c.args.self.question.now.queries.items in
-    let within : i < length programs = subst (λ l. i < length l) queries c.loop-query-test.true in
-    let is = c.query-item.is ∙ ap (λ l. get_or l i program) queries in
-    let found : map node_of c.found.result.now ≡ selected_by (program_view program) t = ap (map node_of) c.found.ensures ∙ c.in-Ok.ensures.nodes in
+    let t = asked_tree c.args.asked in
+    let node = node_of c.args.asked.node in
+    let queries = c.args.self.question.now.queries.items in
+    let within : i < length queries = subst (λ l. i < length l) items c.loop-query-test.true in
+    let is = c.query-item.is ∙ ap (λ l. get_or l i query) items in
+    let row_of = value_row form c.args.paths c.args.number c.args.text.now in
+    let found : map node_of c.found.result.now ≡ path_nodes (query_path query) node t = ap (map node_of) c.found.ensures ∙ c.in-Ok.ensures.nodes in
     let put = c.in_ok-whole.ensures.rows in
-    let rows = node_rows form c.args.paths c.args.number c.args.text.now in
-    let front = nodes_of (map program_view (take i programs)) t in
+    let front = map row_of (nodes_of (map query_path (take i queries)) node t) in
     record {
       first = front ++ put.first;
-      others = put.others ++ nodes_of (map program_view (drop (i + 1) programs)) t;
-      split = part_of_query form c.args.paths c.args.number c.args.text.now t programs i program within is put.first put.others (sym found ∙ put.split);
-      rows = subst (λ (l : List ℕ). HoldsBack g.W.Write.contents c.args.out.now c.put_values.new.out c.args.outlet.now.held.items c.put_values.new.outlet.held.items l) (sym (flat_map-append _ front put.first))
-          (both_put c.args.out.now c.loop-query.out c.put_values.new.out _ _ _ _ _ c.loop-query.invariant.rows put.rows);
+      others = put.others ++ map row_of (nodes_of (map query_path (drop (i + 1) queries)) node t);
+      split = part_of_query form c.args.paths c.args.number c.args.text.now t node queries i query within is put.first put.others (ap (map row_of) (sym found) ∙ put.split);
+      puts = subst (λ (l : List ℕ). HoldsBack g.W.Write.contents c.args.out.now c.put_values.new.out c.args.outlet.now.held.items c.put_values.new.outlet.held.items l) (sym (concat-append front put.first))
+          (both_put c.args.out.now c.loop-query.out c.put_values.new.out _ _ _ _ _ c.loop-query.invariant.rows put.puts);
       all = λ e. absurd (false≢true e);
     }
 
 pub loop-query-preserved : goal.loop-query-preserved
-unfolding rows_of mine more
 loop-query-preserved g c =
-    let queries = c.deref-query-items.ensures.value in
+    let items = c.deref-query-items.ensures.value in
     let i = c.loop-query.query-index in
-    let program = c.query-item.result in
+    let query = c.query-item.result in
     let form = c.args.self.form.now in
-    let t = tree_of_view c.args.line in
-    let programs = c.args.self.question.now.queries.items in
-    let within : i < length programs = subst (λ l. i < length l) queries c.loop-query-test.true in
-    let is = c.query-item.is ∙ ap (λ l. get_or l i program) queries in
-    let found : map node_of c.found.result.now ≡ selected_by (program_view program) t = ap (map node_of) c.found.ensures ∙ c.in-Ok.ensures.nodes in
+    let t = asked_tree c.args.asked in
+    let node = node_of c.args.asked.node in
+    let queries = c.args.self.question.now.queries.items in
+    let within : i < length queries = subst (λ l. i < length l) items c.loop-query-test.true in
+    let is = c.query-item.is ∙ ap (λ l. get_or l i query) items in
+    let row_of = value_row form c.args.paths c.args.number c.args.text.now in
+    let found : map node_of c.found.result.now ≡ path_nodes (query_path query) node t = ap (map node_of) c.found.ensures ∙ c.in-Ok.ensures.nodes in
     let put = c.in_ok-whole.ensures.rows in
-    let rows = node_rows form c.args.paths c.args.number c.args.text.now in
-    let none : put.others ≡ [] = put.all c.if-not-whole.false in
-    let all : put.first ≡ selected_by (program_view program) t = sym (append-nil put.first) ∙ ap (λ (l : List Node). put.first ++ l) (sym none) ∙ sym put.split ∙ found in
-    let mine_rows = subst (λ (ns : List Node). HoldsBack g.W.Write.contents c.loop-query.out c.put_values.new.out c.loop-query.outlet.held.items c.put_values.new.outlet.held.items (rows ns)) all put.rows in
+    let front = map row_of (nodes_of (map query_path (take i queries)) node t) in
+    let all : put.first ≡ map row_of (path_nodes (query_path query) node t) = all_first _ put.first put.others put.split (put.all c.if-not-whole.false) ∙ ap (map row_of) found in
+    let rows = subst (λ (l : List (List ℕ)). HoldsBack g.W.Write.contents c.loop-query.out c.put_values.new.out c.loop-query.outlet.held.items c.put_values.new.outlet.held.items (concat l)) all put.puts in
     record {
-      rows = subst (λ l. HoldsBack g.W.Write.contents c.args.out.now c.put_values.new.out c.args.outlet.now.held.items c.put_values.new.outlet.held.items l) (sym (more form c.args.paths c.args.number c.args.text.now t programs i program within is))
-          (both_put c.args.out.now c.loop-query.out c.put_values.new.out _ _ _ _ _ c.loop-query.invariant.rows mine_rows);
-      some = ap (λ b. c.loop-query.some || b) c.in-Ok.ensures.some ∙ ap (λ b. b || has_nodes (selected_by (program_view program) t)) c.loop-query.invariant.some ∙ sym (selects_more programs i program t within is);
+      rows = subst (λ (l : List ℕ). HoldsBack g.W.Write.contents c.args.out.now c.put_values.new.out c.args.outlet.now.held.items c.put_values.new.outlet.held.items l)
+          (sym (ap concat (more form c.args.paths c.args.number c.args.text.now t node queries i query within is) ∙ concat-append front (map row_of (path_nodes (query_path query) node t))))
+          (both_put c.args.out.now c.loop-query.out c.put_values.new.out _ _ _ _ _ c.loop-query.invariant.rows rows);
+      some = ap (λ b. c.loop-query.some || b) c.in-Ok.ensures.some ∙ ap (λ b. b || has_nodes (path_nodes (query_path query) node t)) c.loop-query.invariant.some ∙ sym (selects_more queries i query node t within is);
       working = c.in_ok-whole.ensures.tells.0;
       after = c.in_ok-whole.ensures.tells.2 ∙ c.loop-query.invariant.after;
     }

@@ -40,9 +40,9 @@ pair_at texts pieces i text other within pieced is =
 -- what is told of a piece
 made : (framing : Framing) (text : List ℕ) (state judged : LineState) (at : PieceAt) (line : ℕ) → framing ≡ framings.Lines → status_of framing text ≡ status_by state
     → status_by judged ≡ piece_judged at.is_closed (status_by state) → line ≡ line_after at.line_feeds
-    → piece_with (text, at) ≡ record { text = text; status = status_by judged; from_line = Some line; given_up = None }
+    → piece_with (text, at) ≡ record { text = text; status = status_by judged; from_line = Some line; most = None; given_up = None }
 made framing text state judged at line lines status is after =
-    ap₂ (λ (s : LineStatus) (n : ℕ). let item : Item = record { text = text; status = s; from_line = Some n; given_up = None } in item)
+    ap₂ (λ (s : LineStatus) (n : ℕ). let item : Item = record { text = text; status = s; from_line = Some n; most = None; given_up = None } in item)
     (ap (λ f. piece_judged at.is_closed (status_of f text)) (sym lines) ∙ ap (piece_judged at.is_closed) status ∙ sym is) (sym after)
 
 pub line-line-requires-clause-within : goal.line-line-requires-clause-within

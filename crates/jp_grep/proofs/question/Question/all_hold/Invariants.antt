@@ -1,9 +1,10 @@
 -- Whether the conditions from here on hold decides.
 use Rattle.std.proofs.Common.{◌≡◌, map, drop}
 use Rattle.jp_grep.specs.Conditions.{condition_view}
-use Rattle.jp_lines.specs.Views.{tree_of_view}
+use Rattle.jp_nodes.specs.Cursors.{node_of}
+use Rattle.jp_grep.specs.Asked.{asked_tree}
 use Rattle.jp_grep.specs.Matching.{all_hold, conditions_of}
 use Rattle.jp_grep.proofs.question.Question.all_hold.Given as goal
 
 abbrev pub invariant-loop-condition : goal.invariant-loop-condition
-invariant-loop-condition l = all_hold (map condition_view (drop l.condition-index l.self.conditions.items)) (tree_of_view l.line) ≡ all_hold (conditions_of l.self) (tree_of_view l.line)
+invariant-loop-condition l = all_hold (map condition_view (drop l.condition-index l.self.conditions.items)) (node_of l.asked.node) (asked_tree l.asked) ≡ all_hold (conditions_of l.self) (node_of l.asked.node) (asked_tree l.asked)

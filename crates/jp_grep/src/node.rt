@@ -1,0 +1,359 @@
+//! The answer of a node: its rows, where it is selected.
+
+ghost use Rattle.std.specs.Prelude.{◌≡◌, ◌∷◌, ◌++◌, [], List, false, is_some, map, IfOk, MatchOption, OnOk, ⊤, if◌then◌else◌};
+ghost use Rattle.jp_model.specs.Meaning.Selecting.{path_nodes};
+ghost use Rattle.jp_nodes.specs.Cursors.{node_of};
+ghost use Rattle.jp_children.specs.Found.{AreOf};
+ghost use Rattle.jp_lines.specs.Views.{text_of_view, tree_of_view};
+ghost use Rattle.jp_form.specs.declared.form.Shown.TheVariants as shown;
+ghost use Rattle.jp_table.specs.Cells.{Cell};
+ghost use Rattle.jp_table.specs.Held.{Holds, row_bytes};
+ghost use Rattle.jp_grep.specs.Asked.{IsOfItsLine, asked_tree, query_path};
+ghost use Rattle.jp_grep.specs.Holding.{TellsOfWriter};
+ghost use Rattle.jp_grep.specs.Matching.{has_nodes, is_selected, nodes_of, queries_of, selects, wants_nodes};
+ghost use Rattle.jp_grep.specs.Rows.{line_text, row, row_at_once, value_row, whole};
+ghost use Rattle.jp_grep.specs.Searching.{AnswersNode, PutsFirst};
+ghost use Rattle.jp_grep.specs.Tables.{nodes_cell, table_row};
+
+use crate::answer::Answerer;
+use crate::asked::{AskedNode, AskedQuery};
+use crate::fault::SearchFault;
+use crate::outlet::Outlet;
+use crate::question::Wanted;
+use crate::room::NodeRoom;
+use crate::rows::{add_front, add_value};
+use crate::spelling::{Speller, append_printed, cell_kind};
+use itoa::Buffer;
+use jp_form::{Shown, Spelling, Table, Units};
+use jp_lines::LineView;
+use jp_model::{Framing, Watched};
+use jp_nodes::Cursor;
+use jp_table::CellKind;
+use std::alloc::AllocError;
+use std::io::Write;
+
+// How the row of a node is made.
+impl<'q> Answerer<'q> {
+    /// Appends a line as it is printed: its bytes, and of a text or an element those from the first of its value to the last.
+    fn append_whole<'r>(
+        self,
+        line: LineView<'r>,
+        text: &'r [u8],
+        row: &mut Vec<u8>,
+    ) -> Result<(), AllocError>
+        requires { text_of_view line ≡ text.now }
+        ensures { OnOk result (row.new.items ≡ row.old.items ++ whole self.entry.form.now.units text.now (tree_of_view line.entry)) }
+    {
+        match self.form.units {
+            Units::Lines(Framing::Lines) => row.extend_from_slice(text),
+            Units::Lines(Framing::Sequence) => row.extend_from_slice(line.root().source()),
+            Units::Pieces(_) => append_printed(self.form.units, line.root().source(), row),
+        }
+    }
+
+    /// Appends a line as its form spells it.
+    fn append_line<'r>(
+        self,
+        line: LineView<'r>,
+        text: &'r [u8],
+        room: &mut NodeRoom<'r>,
+    ) -> Result<(), AllocError>
+        requires { text_of_view line ≡ text.now }
+        ensures { OnOk result (room.new.row.items ≡ room.old.row.items ++ line_text self.entry.form.now.spelling self.entry.form.now.units text.now (tree_of_view line.entry)) }
+    {
+        let (units, row) = (self.form.units, &mut room.row);
+        match self.form.spelling {
+            Spelling::Source => self.append_whole(line, text, row),
+            Spelling::Text => room.speller.append(Spelling::Text, units, line.root(), row),
+            Spelling::Canonical => {
+                room.speller
+                    .append(Spelling::Canonical, units, line.root(), row)
+            }
+        }
+    }
+
+    /// Adds the row of a line.
+    fn add_line<'r>(
+        self,
+        number: u64,
+        line: LineView<'r>,
+        text: &'r [u8],
+        room: &mut NodeRoom<'r>,
+    ) -> Result<(), AllocError>
+        requires { text_of_view line ≡ text.now }
+        ensures { OnOk result (room.new.row.items ≡ room.old.row.items ++ row self.entry.form.now number (line_text self.entry.form.now.spelling self.entry.form.now.units text.now (tree_of_view line.entry))) }
+    {
+        add_front(self.form, number, &mut room.row)?;
+        self.append_line(line, text, room)?;
+        room.row.extend_from_slice(b"\n")
+    }
+
+    /// Adds the cell of a query to the cells of a node, and tells whether it selects a node.
+    fn add_cell<'r>(
+        self,
+        table: Table,
+        query: &AskedQuery,
+        asked: AskedNode<'r>,
+        room: &mut NodeRoom<'r>,
+    ) -> Result<bool, AllocError>
+        requires { IsOfItsLine asked }
+        ensures cell { (cells : List Cell) → Holds table room.old.cells cells → OnOk result (Holds table room.new.cells
+            (cells ++ nodes_cell table (text_of_view asked.entry.line) (path_nodes (query_path query.now) (node_of asked.entry.node) (asked_tree asked.entry)) ∷ [])) }
+        ensures some { IfOk result (λ some. some ≡ has_nodes (path_nodes (query_path query.now) (node_of asked.entry.node) (asked_tree asked.entry))) }
+        ensures row { room.new.row ≡ room.old.row }
+    {
+        let some = query.find(self.alloc, asked, &mut room.frame)?;
+        let Some(node) = room.frame.found().first() else {
+            room.cells.add(table, CellKind::Nothing, &[])?;
+            return Ok(some);
+        };
+        let text = room.speller.cell_text(table, *node, &mut room.cell)?;
+        room.cells.add(table, cell_kind(node.kind()), text)?;
+        Ok(some)
+    }
+
+    /// Makes the cells of a node, and tells whether a query selects a node.
+    fn make_cells<'r>(
+        self,
+        table: Table,
+        number: u64,
+        asked: AskedNode<'r>,
+        room: &mut NodeRoom<'r>,
+    ) -> Result<bool, AllocError>
+        requires { IsOfItsLine asked }
+        ensures cells { OnOk result (row_bytes room.new.cells ≡ table_row table (queries_of self.entry.question.now) self.entry.form.now number (text_of_view asked.entry.line) (asked_tree asked.entry) (node_of asked.entry.node)) }
+        ensures some { IfOk result (λ some. some ≡ selects (queries_of self.entry.question.now) (node_of asked.entry.node) (asked_tree asked.entry)) }
+        ensures row { room.new.row ≡ room.old.row }
+    {
+        let mut digits = Buffer::new();
+        let digits = digits.format(number).as_bytes();
+        room.cells
+            .begin(table, self.form, self.form.name.as_bytes(), digits)?;
+        let mut some = false;
+        for query in &self.question.queries {
+            some |= self.add_cell(table, query, asked, room)?;
+        }
+        room.cells.end()?;
+        Ok(some)
+    }
+
+    /// Whether the queries are asked of a node: whether the conditions hold, or, where the others are wanted, whether it does not
+    /// match.
+    fn wants_nodes<'r>(
+        self,
+        asked: AskedNode<'r>,
+        room: &mut NodeRoom<'r>,
+    ) -> Result<bool, AllocError>
+        requires { IsOfItsLine asked }
+        ensures wanted { IfOk result (λ wanted. wanted ≡ wants_nodes self.entry.question.now (node_of asked.entry.node) (asked_tree asked.entry)) }
+        ensures row { room.new.row ≡ room.old.row }
+    {
+        match self.question.wanted {
+            Wanted::Matching => self.question.all_hold(self.alloc, asked, &mut room.frame),
+            Wanted::Others => Ok(!self.question.matches(self.alloc, asked, &mut room.frame)?),
+            Wanted::Refused => Ok(false),
+        }
+    }
+
+    /// Makes the row of a node whose cells are shown, where it is selected, and tells whether it is. The queries are asked once.
+    fn make_table_row<'r>(
+        self,
+        table: Table,
+        number: u64,
+        asked: AskedNode<'r>,
+        room: &mut NodeRoom<'r>,
+    ) -> Result<bool, AllocError>
+        requires { IsOfItsLine asked }
+        ensures selected { IfOk result (λ selected. selected ≡ is_selected self.entry.question.now (asked_tree asked.entry) (node_of asked.entry.node)) }
+        ensures row { OnOk result (room.new.row.items ≡ room.old.row.items ++ (if is_selected self.entry.question.now (asked_tree asked.entry) (node_of asked.entry.node)
+            then table_row table (queries_of self.entry.question.now) self.entry.form.now number (text_of_view asked.entry.line) (asked_tree asked.entry) (node_of asked.entry.node) else [])) }
+    {
+        if !self.wants_nodes(asked, room)? {
+            return Ok(false);
+        }
+        let some = self.make_cells(table, number, asked, room)?;
+        if !self.question.wants_found(some) {
+            return Ok(false);
+        }
+        room.row.extend_from_slice(room.cells.bytes())?;
+        Ok(true)
+    }
+
+    /// Makes the row of a node of which nothing or its line is shown, where it is selected, and tells whether it is.
+    fn make_line_row<'r>(
+        self,
+        shown: bool,
+        number: u64,
+        asked: AskedNode<'r>,
+        text: &'r [u8],
+        room: &mut NodeRoom<'r>,
+    ) -> Result<bool, AllocError>
+        requires node { IsOfItsLine asked }
+        requires text { text_of_view asked.line ≡ text.now }
+        ensures selected { IfOk result (λ selected. selected ≡ is_selected self.entry.question.now (asked_tree asked.entry) (node_of asked.entry.node)) }
+        ensures row { OnOk result (room.new.row.items ≡ room.old.row.items ++ (if is_selected self.entry.question.now (asked_tree asked.entry) (node_of asked.entry.node)
+            then (if shown then row self.entry.form.now number (line_text self.entry.form.now.spelling self.entry.form.now.units text.now (asked_tree asked.entry)) else []) else [])) }
+    {
+        let matching = self.question.matches(self.alloc, asked, &mut room.frame)?;
+        if !self.question.wanted.wants_value(matching) {
+            return Ok(false);
+        }
+        if shown {
+            self.add_line(number, asked.line, text, room)?;
+        }
+        Ok(true)
+    }
+
+    /// Makes the row of a node, where it is selected, unless the values are shown that the queries select, and tells whether it
+    /// is.
+    fn make_row<'r>(
+        self,
+        number: u64,
+        asked: AskedNode<'r>,
+        text: &'r [u8],
+        room: &mut NodeRoom<'r>,
+    ) -> Result<bool, AllocError>
+        requires node { IsOfItsLine asked }
+        requires text { text_of_view asked.line ≡ text.now }
+        ensures selected { IfOk result (λ selected. selected ≡ is_selected self.entry.question.now (asked_tree asked.entry) (node_of asked.entry.node)) }
+        ensures row { OnOk result (room.new.row.items ≡ (if is_selected self.entry.question.now (asked_tree asked.entry) (node_of asked.entry.node)
+            then row_at_once self.entry.form.now.shown self.entry.question.now self.entry.form.now number text.now (asked_tree asked.entry) (node_of asked.entry.node) else [])) }
+    {
+        room.row.clear();
+        match self.form.shown {
+            Shown::Nothing | Shown::Values { .. } => {
+                self.make_line_row(false, number, asked, text, room)
+            }
+            Shown::Line { .. } => self.make_line_row(true, number, asked, text, room),
+            Shown::Cells(table) => self.make_table_row(table, number, asked, room),
+        }
+    }
+}
+
+// How nodes are answered.
+impl<'q> Answerer<'q> {
+    /// Puts a row for each of some nodes of a line, and tells whether there was memory for all.
+    fn put_values<'r, W: Write>(
+        self,
+        paths: bool,
+        number: u64,
+        text: &[u8],
+        nodes: &[Cursor<'r>],
+        speller: &mut Speller,
+        row: &mut Vec<u8>,
+        outlet: &mut Outlet,
+        out: &mut Watched<W>,
+    ) -> Result<bool, SearchFault>
+        requires lines { AreOf text.now nodes.now }
+        requires working { out.old.failed ≡ false }
+        ensures rows { PutsFirst W.contents out.old out.new outlet.old.held.items outlet.new.held.items result (λ whole. whole) (map (value_row self.entry.form.now paths number text.now) (map node_of nodes.now)) }
+        ensures tells { TellsOfWriter result out.old out.new }
+    {
+        for node in nodes {
+            row.clear();
+            if add_value(self.form, paths, number, *node, speller, row).is_err() {
+                return Ok(false);
+            }
+            outlet.put(row, out)?;
+        }
+        Ok(true)
+    }
+
+    /// Puts a row for each node that the queries select, query by query, and tells whether there is one. There is no answer where
+    /// memory was refused.
+    fn put_nodes<'r, W: Write>(
+        self,
+        paths: bool,
+        number: u64,
+        asked: AskedNode<'r>,
+        text: &[u8],
+        room: &mut NodeRoom<'r>,
+        outlet: &mut Outlet,
+        out: &mut Watched<W>,
+    ) -> Result<Option<bool>, SearchFault>
+        requires node { IsOfItsLine asked }
+        requires text { text_of_view asked.line ≡ text.now }
+        requires working { out.old.failed ≡ false }
+        ensures rows { PutsFirst W.contents out.old out.new outlet.old.held.items outlet.new.held.items result is_some
+            (map (value_row self.entry.form.now paths number text.now) (nodes_of (queries_of self.entry.question.now) (node_of asked.entry.node) (asked_tree asked.entry))) }
+        ensures some { IfOk result (λ answer. MatchOption answer ⊤ (λ some. some ≡ selects (queries_of self.entry.question.now) (node_of asked.entry.node) (asked_tree asked.entry))) }
+        ensures tells { TellsOfWriter result out.old out.new }
+    {
+        let mut some = false;
+        for query in &self.question.queries {
+            let Ok(found) = query.find(self.alloc, asked, &mut room.frame) else {
+                return Ok(None);
+            };
+            some |= found;
+            let whole = self.put_values(
+                paths,
+                number,
+                text,
+                room.frame.found(),
+                &mut room.speller,
+                &mut room.row,
+                outlet,
+                out,
+            )?;
+            if !whole {
+                return Ok(None);
+            }
+        }
+        Ok(Some(some))
+    }
+
+    /// Answers a node of which the values are shown that the queries select. These are asked once.
+    fn answer_nodes<'r, W: Write>(
+        self,
+        paths: bool,
+        number: u64,
+        asked: AskedNode<'r>,
+        text: &[u8],
+        room: &mut NodeRoom<'r>,
+        outlet: &mut Outlet,
+        out: &mut Watched<W>,
+    ) -> Result<Option<bool>, SearchFault>
+        requires shown { self.form.now.shown ≡ shown.Values paths }
+        requires node { IsOfItsLine asked }
+        requires text { text_of_view asked.line ≡ text.now }
+        requires working { out.old.failed ≡ false }
+        ensures answers { AnswersNode W.contents self.entry.question.now self.entry.form.now number text.now out.old out.new outlet.old.held.items outlet.new.held.items result (asked_tree asked.entry) (node_of asked.entry.node) }
+        ensures tells { TellsOfWriter result out.old out.new }
+    {
+        match self.wants_nodes(asked, room) {
+            Ok(true) => {}
+            Ok(false) => return Ok(Some(false)),
+            Err(_) => return Ok(None),
+        }
+        match self.put_nodes(paths, number, asked, text, room, outlet, out)? {
+            Some(some) => Ok(Some(self.question.wants_found(some))),
+            None => Ok(None),
+        }
+    }
+
+    /// Answers a node: puts its rows, and tells whether it is selected. There is no answer where memory was refused.
+    pub(crate) fn answer_node<'r, W: Write>(
+        self,
+        number: u64,
+        asked: AskedNode<'r>,
+        text: &'r [u8],
+        room: &mut NodeRoom<'r>,
+        outlet: &mut Outlet,
+        out: &mut Watched<W>,
+    ) -> Result<Option<bool>, SearchFault>
+        requires node { IsOfItsLine asked }
+        requires text { text_of_view asked.line ≡ text.now }
+        requires working { out.old.failed ≡ false }
+        ensures answers { AnswersNode W.contents self.entry.question.now self.entry.form.now number text.now out.old out.new outlet.old.held.items outlet.new.held.items result (asked_tree asked.entry) (node_of asked.entry.node) }
+        ensures tells { TellsOfWriter result out.old out.new }
+    {
+        if let Shown::Values { paths } = self.form.shown {
+            return self.answer_nodes(paths, number, asked, text, room, outlet, out);
+        }
+        let Ok(selected) = self.make_row(number, asked, text, room) else {
+            return Ok(None);
+        };
+        outlet.put(&room.row, out)?;
+        Ok(Some(selected))
+    }
+}
