@@ -5,7 +5,7 @@ use crate::patterns::Warner;
 use crate::refusal::{Refusal, Text};
 use jp_grep::{Queries, Question, Wanted};
 use jp_options::Options;
-use jp_query::{read_condition, read_query};
+use jp_query::{read_condition, read_query, read_relative_query};
 use jp_syntax::{SingularPath, is_singular, singular};
 
 /// A list that is asked of: the query of the value, the file of the list, and whether the value is to be in it.
@@ -84,17 +84,15 @@ impl<'r, 'a> Reader<'r, 'a> {
     }
 }
 
-/// The singular query of a list's words (RFC 9535, section 2.3.5.1). As in a condition, `@` at its front is `$`.
+/// The singular query of a list's words, which begins with `@` or `$` (RFC 9535, section 2.3.5.1): of a line both are the root, as
+/// in a condition.
 fn read_list_query<'a>(rt: &HostRuntime, text: &'a str) -> Result<SingularPath, Refusal<'a>> {
-    let mut rooted = String::new(rt.alloc());
-    match text.strip_prefix('@') {
-        Some(rest) => {
-            rooted.push('$')?;
-            rooted.push_str(rest)?;
-        }
-        None => rooted.push_str(text)?,
-    }
-    match read_query(rt.alloc(), rooted.as_bytes()) {
+    let read = if text.starts_with('@') {
+        read_relative_query(rt.alloc(), text.as_bytes())
+    } else {
+        read_query(rt.alloc(), text.as_bytes())
+    };
+    match read {
         Ok(query) => match singular(rt.alloc(), query.query())? {
             Some(path) => Ok(path),
             None => Err(Refusal::of_many(text, query.segments())),
