@@ -11,5 +11,5 @@ new-requires c =
     let q = segments_view c.in-Ok.segments.items in
     let exact : has_exact_integers q ≡ true = sym (rw c.as_slice.ensures.value at c.if-not-segments_pass.ensures) in
     let small : has_small_exponents q ≡ true = sym (rw c.as_slice-2.ensures.value at c.if-not-segments_pass-2.ensures) in
-    let formed = well_formed_behind (origin_view c.args.origin) c.args.text.now q ((c.if-is_oversized.ensures, c.in-Ok.ensures), (exact, small)) in
+    let formed = well_formed_behind (origin_view c.args.origin) c.args.text.now q ((sym c.if-is_oversized.ensures, c.in-Ok.ensures), (exact, small)) in
     record { well_formed = ∣ formed ∣₁; sound = well_formed_sound q formed }
