@@ -21,6 +21,8 @@ mod Loop
 mod OneFilter
 mod Outcomes
 mod Quotes
+mod RelativeOutcomes
+mod Relatives
 mod Runs
 mod Segments
 mod Spellings

@@ -5,7 +5,7 @@ use Rattle.std.proofs.lemmas.Str.{IsUtf8-from_is_utf8, is_utf8-from_IsUtf8}
 use Rattle.jp_model.specs.declared.QueryFault.TheVariants as faults
 use Rattle.jp_model.specs.Query.Limits.{is_oversized, has_exact_integers, has_small_exponents}
 use Rattle.jp_model.specs.Query.Status.{TextSpells, refused_query, fault_of_query}
-use Rattle.jp_model.specs.Query.Syntax.{Segments}
+use Rattle.jp_model.specs.Query.Syntax.{root, Segments}
 use Rattle.jp_query.specs.Integers.{clamp, map_ints}
 use Rattle.jp_query.specs.Answers.{GivesQuery, IsFirstFault, TellsStatus}
 use Rattle.jp_query.specs.Outcome.{Passes, FaultMet, Meant}
@@ -80,7 +80,7 @@ not_exact q h = rw h refl
 pub not_small : (q : Segments) → has_exact_integers q ≡ true → has_small_exponents q ≡ false → fault_of_query q ≡ Some faults.Number
 not_small q e h = rw (e, h) refl
 
-pub answer_fault : (text : List ℕ) (e : ParseFault) → FaultMet text e → IsFirstFault text e
+pub answer_fault : (text : List ℕ) (e : ParseFault) → FaultMet root text e → IsFirstFault text e
 answer_fault text (parse_faults.Refused faults.Size) h = (h, refl)
 answer_fault text (parse_faults.Refused faults.Syntax) h = ((h.0, λ q spelled. none_is (map_ints clamp q) (read_text clamp text) (text_complete clamp text q h.0 spelled) h.1), refl)
 answer_fault text (parse_faults.Refused faults.Integer) h =

@@ -5,7 +5,7 @@ use Rattle.jp_model.specs.declared.QueryFault.TheVariants as faults
 use Rattle.jp_model.specs.Query.Status.{refused_query, fault_of_query, RefusesQuery}
 use Rattle.jp_model.specs.Query.Syntax.{Segments}
 use Rattle.jp_syntax.specs.Queries.{query_view}
-use Rattle.jp_query.specs.Status.{status_by, query_of}
+use Rattle.jp_query.specs.Status.{status_by, query_of, relative_query_of}
 use Rattle.jp_query.specs.declared.fault.ParseFault.{ParseFault}
 use Rattle.jp_query.specs.declared.fault.ParseFault.TheVariants as parse_faults
 use Rattle.jp_syntax.specs.declared.query.Query.{Query}
@@ -35,3 +35,9 @@ abbrev pub TellsStatus : List ℕ → Result Query ParseFault → Type 0
 TellsStatus text (Ok q) = query_of text ≡ status_by (query_view q) (fault_of_query (query_view q))
 TellsStatus text (Err (parse_faults.Refused fault)) = query_of text ≡ refused_query fault
 TellsStatus text (Err parse_faults.Memory) = Unit {0}
+
+-- the same of the text of a rel-query (RFC 9535, section 2.3.5.1)
+abbrev pub TellsRelativeStatus : List ℕ → Result Query ParseFault → Type 0
+TellsRelativeStatus text (Ok q) = relative_query_of text ≡ status_by (query_view q) (fault_of_query (query_view q))
+TellsRelativeStatus text (Err (parse_faults.Refused fault)) = relative_query_of text ≡ refused_query fault
+TellsRelativeStatus text (Err parse_faults.Memory) = Unit {0}

@@ -5,6 +5,7 @@ pub mod Limits
 pub mod Outcome
 pub mod Places
 pub mod Refusals
+pub mod Relative
 pub mod Conditions
 pub mod ConditionOutcome
 pub mod Connectives

@@ -1,4 +1,4 @@
--- What is told of the text of a query or of a condition.
+-- What is told of the text of a query, of a rel-query or of a condition.
 use Rattle.std.specs.Prelude.{◌≡◌, ℕ, List, IsFalse, None}
 use Rattle.jp_model.specs.Query.Limits.{is_oversized}
 use Rattle.jp_model.specs.Query.Status.{fault_of_query, refused_query}
@@ -6,7 +6,7 @@ use Rattle.jp_model.specs.Query.Syntax.{Logical}
 use Rattle.jp_query.specs.Conditions.{RefusesCondition}
 use Rattle.jp_syntax.specs.Filters.{SpellsCondition, filter_by, in_filter}
 use Rattle.jp_query.specs.Places.{IsPlace}
-use Rattle.jp_query.specs.Status.{query_of}
+use Rattle.jp_query.specs.Status.{query_of, relative_query_of}
 use Rattle.jp_query.specs.declared.reading.Refusal.{Refusal}
 use Rattle.jp_query.specs.declared.reading.Refusal.TheVariants as refusals
 
@@ -14,6 +14,11 @@ use Rattle.jp_query.specs.declared.reading.Refusal.TheVariants as refusals
 abbrev pub TellsRefusal : List ℕ → Refusal → Type 0
 TellsRefusal text (refusals.Fault f) = (query_of text ≡ refused_query f.fault) × IsPlace text f.place
 TellsRefusal text refusals.Memory = Unit {0}
+
+-- the same of the text of a rel-query (section 2.3.5.1)
+abbrev pub TellsRelativeRefusal : List ℕ → Refusal → Type 0
+TellsRelativeRefusal text (refusals.Fault f) = (relative_query_of text ≡ refused_query f.fault) × IsPlace text f.place
+TellsRelativeRefusal text refusals.Memory = Unit {0}
 
 -- the text spells the condition, and no fault refuses it (section 2.3.5)
 abbrev pub IsConditionOf : List ℕ → Logical → Type 0

@@ -5,6 +5,8 @@
 pub enum Expected {
     /// `$`, with which a query begins (section 2.2).
     Root,
+    /// `@`, with which a rel-query begins (section 2.3.5.1).
+    Current,
     /// A segment, or the end (section 2.5).
     Segment,
     /// A name without quotes, or `*`, after a point (section 2.5.1.1).
@@ -60,6 +62,7 @@ impl Expected {
     pub fn words(self) -> &'static str {
         match self {
             Expected::Root => "'$'",
+            Expected::Current => "'@'",
             Expected::Segment => "a segment or the end",
             Expected::Name => "a name or '*'",
             Expected::Selector => "a selector",

@@ -1,13 +1,14 @@
 //! Laws of the definitions of queries, each on a function of its own.
 
-ghost use Rattle.std.specs.Prelude.{◌≡◌, ℕ, ℤ, List, Some, true, IsFalse};
+ghost use Rattle.std.specs.Prelude.{◌≡◌, ℕ, ℤ, List, ◌∷◌, Some, true, IsFalse};
 ghost use Rattle.jp_model.specs.Query.Limits.{is_oversized, has_exact_integers};
 ghost use Rattle.jp_model.specs.Query.Spelling.{SpellsQuery};
 ghost use Rattle.jp_model.specs.Query.Status.{QueryStatus, TextSpells, HasQueryStatus};
 ghost use Rattle.jp_model.specs.Query.Syntax.{Segments};
 ghost use Rattle.jp_query.specs.Integers.{clamp, map_ints};
 ghost use Rattle.jp_syntax.specs.Sound.{has_sound_literals};
-ghost use Rattle.jp_query.specs.Status.{query_of, read_text};
+ghost use Rattle.jp_query.specs.Relative.{HasRelativeStatus};
+ghost use Rattle.jp_query.specs.Status.{query_of, read_text, relative_query_of};
 ghost use Rattle.jp_syntax.specs.WellFormed.{IsWellFormed};
 
 /// The scalars of a query spell one syntax tree alone (RFC 9535, section 2.1.1).
@@ -41,4 +42,15 @@ pub fn well_formed_queries_are_sound()
 pub fn every_query_text_has_its_status()
     ensures has { (text : List ℕ) → HasQueryStatus text (query_of text) }
     ensures only { (text : List ℕ) (s : QueryStatus) → HasQueryStatus text s → s ≡ query_of text }
+{}
+
+/// A rel-query has the status of the query with `$` in the place of its `@` (RFC 9535, section 2.3.5.1).
+pub fn rel_queries_are_as_queries()
+    ensures { (rest : List ℕ) → relative_query_of (64 ∷ rest) ≡ query_of (36 ∷ rest) }
+{}
+
+/// Each text has the status as a rel-query that is computed of it, and no other (RFC 9535, section 2.3.5.1).
+pub fn every_rel_query_text_has_its_status()
+    ensures has { (text : List ℕ) → HasRelativeStatus text (relative_query_of text) }
+    ensures only { (text : List ℕ) (s : QueryStatus) → HasRelativeStatus text s → s ≡ relative_query_of text }
 {}

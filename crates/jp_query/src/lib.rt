@@ -2,7 +2,8 @@
 //!
 //! Public calls:
 //!
-//! - `read_query`, `read_condition`, `Refusal`: a text read and checked, or its first fault and where it is
+//! - `read_query`, `read_relative_query`, `read_condition`, `Refusal`: a text read and checked, or its first fault and where it
+//!   is
 //! - `parse`, `ParseFault`, `Query`: the syntax tree of a text, or its first fault
 //! - `parse_condition`, `Condition`: a logical expression that stands alone, or the first fault of its text
 //! - `place_of_fault`, `place_of_condition_fault`, `FaultPlace`, `Expected`: where a text goes wrong that is refused;
@@ -29,4 +30,4 @@ pub use parser::{
     FaultPlace, character_at, parse, parse_condition, place_of_condition_fault, place_of_fault,
     place_of_function,
 };
-pub use reading::{Refusal, read_condition, read_query};
+pub use reading::{Refusal, read_condition, read_query, read_relative_query};

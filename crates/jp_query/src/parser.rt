@@ -21,14 +21,14 @@ ghost use Rattle.std.specs.Prelude.{◌≡◌, true, IsFalse, IfOk, IfErr, chars
 ghost use Rattle.jp_model.specs.Query.Limits.{is_oversized, has_exact_integers, has_small_exponents};
 ghost use Rattle.jp_model.specs.Query.Status.{TextSpells};
 ghost use Rattle.jp_model.specs.Query.Syntax.{Segments};
-ghost use Rattle.jp_query.specs.Answers.{GivesQuery, IsFirstFault, TellsStatus};
+ghost use Rattle.jp_query.specs.Answers.{GivesQuery, IsFirstFault, TellsRelativeStatus, TellsStatus};
 ghost use Rattle.jp_query.specs.Integers.{clamp};
 ghost use Rattle.jp_query.specs.Parsing.{Gives};
 ghost use Rattle.jp_syntax.specs.Queries.{query_view};
-ghost use Rattle.jp_query.specs.Reading.Queries.{query_at};
-ghost use Rattle.jp_query.specs.Outcome.{IsRead, Meant};
-ghost use Rattle.jp_query.specs.Status.{read_text};
-ghost use Rattle.jp_syntax.specs.View.{segments_view};
+ghost use Rattle.jp_query.specs.Reading.Queries.{query_at, relative_at, whole_segments};
+ghost use Rattle.jp_query.specs.Outcome.{MeantBehind};
+ghost use Rattle.jp_query.specs.Status.{read_behind};
+ghost use Rattle.jp_syntax.specs.View.{origin_view, segments_view};
 
 use crate::expected::Expected;
 use crate::fault::ParseFault;
@@ -37,7 +37,8 @@ use crate::limits::segments_pass;
 pub use conditions::parse_condition;
 use failure::{Failure, Stop};
 use jp_model::QueryFault;
-use jp_syntax::{Query, Segment};
+use jp_syntax::{Origin, Query, Segment};
+pub(crate) use places::place_of_relative_fault;
 pub use places::{
     FaultPlace, character_at, place_of_condition_fault, place_of_fault, place_of_function,
 };
@@ -74,6 +75,17 @@ fn to_scalars(alloc: Global, text: &str) -> Result<Vec<char>, AllocError>
     text.chars().collect(alloc)
 }
 
+/// The segments that are the whole of the scalars behind an identifier (RFC 9535, section 2.1.1).
+fn whole_segments(alloc: Global, text: &[char]) -> Result<Vec<Segment>, Failure>
+    ensures { Gives (λ v. segments_view v.items) result (whole_segments clamp 512 text.now) }
+{
+    let (segments, rest) = segments(alloc, text, MAX_DEPTH)?;
+    if !rest.is_empty() {
+        return Err(Failure::Syntax(Stop::at(skip_blanks(rest), Expected::Segment)));
+    }
+    Ok(segments)
+}
+
 /// The segments of a query that is the whole of the scalars (RFC 9535, section 2.1.1).
 #[tactic(auto, unfolding(crate::specs::Reading::Queries::query_at))]
 fn query_segments(alloc: Global, text: &[char]) -> Result<Vec<Segment>, Failure>
@@ -82,31 +94,47 @@ fn query_segments(alloc: Global, text: &[char]) -> Result<Vec<Segment>, Failure>
     let Some(rest) = after(text, '$') else {
         return Err(Failure::Syntax(Stop::at(text, Expected::Root)));
     };
-    let (segments, rest) = segments(alloc, rest, MAX_DEPTH)?;
-    if !rest.is_empty() {
-        return Err(Failure::Syntax(Stop::at(skip_blanks(rest), Expected::Segment)));
-    }
-    Ok(segments)
+    whole_segments(alloc, rest)
 }
 
-/// The segments of the query that a text spells, each integer of a selector brought to one step outside the exact ones
-/// where it is farther from them.
-#[tactic(auto, unfolding(crate::specs::Status::read_text))]
-fn read(alloc: Global, text: &[u8]) -> Result<Vec<Segment>, Failure>
-    ensures { Gives (λ v. segments_view v.items) result (read_text clamp text.now) }
+/// The segments of a rel-query that is the whole of the scalars (RFC 9535, section 2.3.5.1).
+#[tactic(auto, unfolding(crate::specs::Reading::Queries::relative_at))]
+fn relative_segments(alloc: Global, text: &[char]) -> Result<Vec<Segment>, Failure>
+    ensures { Gives (λ v. segments_view v.items) result (relative_at clamp 512 text.now) }
+{
+    let Some(rest) = after(text, '@') else {
+        return Err(Failure::Syntax(Stop::at(text, Expected::Current)));
+    };
+    whole_segments(alloc, rest)
+}
+
+/// The segments of the query or rel-query that a text spells, each integer of a selector brought to one step outside the exact
+/// ones where it is farther from them.
+fn read(alloc: Global, text: &[u8], origin: Origin) -> Result<Vec<Segment>, Failure>
+    ensures { Gives (λ v. segments_view v.items) result (read_behind (origin_view origin) clamp text.now) }
 {
     let Ok(text) = simdutf8::basic::from_utf8(text) else {
         return Err(Failure::Syntax(Stop::at_end(Expected::Utf8)));
     };
     let scalars = to_scalars(alloc, text)?;
-    query_segments(alloc, scalars.as_slice())
+    match origin {
+        Origin::Root => query_segments(alloc, scalars.as_slice()),
+        Origin::Current => relative_segments(alloc, scalars.as_slice()),
+    }
 }
 
-/// The query of these segments, which were read from a text, where they are within their limits.
-fn limited(text: &[u8], segments: Vec<Segment>) -> Result<Query, ParseFault>
-    requires { IsRead text.now (segments_view segments.items) }
-    ensures { Meant text.now result }
+/// The query or rel-query that a text spells, or the first fault that it meets.
+fn answer(alloc: Global, text: &[u8], origin: Origin) -> Result<Query, ParseFault>
+    ensures { MeantBehind (origin_view origin) text.now result }
 {
+    if is_oversized(text) {
+        return Err(ParseFault::Refused(QueryFault::Size));
+    }
+    let segments = match read(alloc, text, origin) {
+        Ok(segments) => segments,
+        Err(Failure::Syntax(_)) => return Err(ParseFault::Refused(QueryFault::Syntax)),
+        Err(Failure::Memory) => return Err(ParseFault::Memory),
+    };
     if !segments_pass(segments.as_slice(), Limit::Integers) {
         return Err(ParseFault::Refused(QueryFault::Integer));
     }
@@ -114,20 +142,6 @@ fn limited(text: &[u8], segments: Vec<Segment>) -> Result<Query, ParseFault>
         return Err(ParseFault::Refused(QueryFault::Number));
     }
     Ok(Query::new(segments))
-}
-
-/// The query that a text spells, or the first fault that it meets.
-fn answer(alloc: Global, text: &[u8]) -> Result<Query, ParseFault>
-    ensures { Meant text.now result }
-{
-    if is_oversized(text) {
-        return Err(ParseFault::Refused(QueryFault::Size));
-    }
-    match read(alloc, text) {
-        Ok(segments) => limited(text, segments),
-        Err(Failure::Syntax(_)) => Err(ParseFault::Refused(QueryFault::Syntax)),
-        Err(Failure::Memory) => Err(ParseFault::Memory),
-    }
 }
 
 /// The query that a text spells (RFC 9535, section 2.1).
@@ -147,5 +161,16 @@ pub fn parse(alloc: Global, text: &[u8]) -> Result<Query, ParseFault>
     ensures fault { IfErr result (λ e. IsFirstFault text.now e) }
     ensures status { TellsStatus text.now result }
 {
-    answer(alloc, text)
+    answer(alloc, text, Origin::Root)
+}
+
+/// The query that a text spells as a rel-query, with `@` where a query has `$` (RFC 9535, section 2.3.5.1).
+///
+/// # Errors
+///
+/// As those of [`parse`]; `Syntax` where the text is not UTF-8 or no rel-query.
+pub(crate) fn parse_relative(alloc: Global, text: &[u8]) -> Result<Query, ParseFault>
+    ensures { TellsRelativeStatus text.now result }
+{
+    answer(alloc, text, Origin::Current)
 }

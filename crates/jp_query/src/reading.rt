@@ -1,20 +1,22 @@
-//! A text read as a query or a condition that is well-typed, or where it goes wrong.
+//! A text read as a query, a rel-query or a condition that is well-typed, or where it goes wrong.
 
 ghost use Rattle.std.specs.Prelude.{◌≡◌, IfErr, IfOk};
 ghost use Rattle.jp_model.specs.Query.Status.{query};
 ghost use Rattle.jp_query.specs.Places.{IsPlace};
-ghost use Rattle.jp_query.specs.Status.{query_of};
+ghost use Rattle.jp_query.specs.Status.{query_of, relative_query_of};
 ghost use Rattle.jp_types.specs.CheckedConditions.{checked_condition_view};
 ghost use Rattle.jp_types.specs.Checks.{checked_view};
 ghost use Rattle.jp_query.specs.declared.reading.Refusal.TheVariants.{Memory};
-ghost use Rattle.jp_query.specs.Refusals.{IsConditionOf, TellsConditionRefusal, TellsRefusal};
+ghost use Rattle.jp_query.specs.Refusals.{IsConditionOf, TellsConditionRefusal, TellsRefusal, TellsRelativeRefusal};
 
 use crate::fault::ParseFault;
 use crate::parser::{
-    FaultPlace, parse, parse_condition, place_of_condition_fault, place_of_fault, place_of_function,
+    FaultPlace, parse, parse_condition, parse_relative, place_of_condition_fault, place_of_fault,
+    place_of_function, place_of_relative_fault,
 };
 use crate::search::Search;
 use jp_model::QueryFault;
+use jp_syntax::Segment;
 use jp_types::{Checked, CheckedCondition, check, check_condition};
 use std::alloc::{AllocError, Global};
 
@@ -53,6 +55,21 @@ fn place_of_call(
     })
 }
 
+/// The place of a fault of functions or types in the segments that a text spells.
+fn place_in_segments(
+    alloc: Global,
+    text: &[u8],
+    fault: QueryFault,
+    segments: &[Segment],
+) -> Result<FaultPlace, AllocError>
+    ensures fault { IfOk result (λ found. found.fault ≡ fault) }
+    ensures place { IfOk result (λ found. IsPlace text.now found.place) }
+{
+    let mut search = Search::new(fault == QueryFault::Function);
+    search.finds_in_segments(segments);
+    place_of_call(alloc, text, fault, &search)
+}
+
 /// The query that a text spells, where it is well-typed (RFC 9535, sections 2.1 and 2.4.3).
 ///
 /// # Errors
@@ -73,11 +90,40 @@ pub fn read_query(alloc: Global, text: &[u8]) -> Result<Checked, Refusal>
     };
     match check(query) {
         Ok(checked) => Ok(checked),
-        Err((fault, query)) => {
-            let mut search = Search::new(fault == QueryFault::Function);
-            search.finds_in_segments(query.segments());
-            Err(Refusal::Fault(place_of_call(alloc, text, fault, &search)?))
+        Err((fault, query)) => Err(Refusal::Fault(place_in_segments(
+            alloc,
+            text,
+            fault,
+            query.segments(),
+        )?)),
+    }
+}
+
+/// The query that a text spells as a rel-query, where it is well-typed: `@` stands before its segments, where a query has `$`
+/// (RFC 9535, sections 2.3.5.1 and 2.4.3).
+///
+/// # Errors
+///
+/// As those of [`read_query`]; `Syntax` where the text is not UTF-8 or no rel-query.
+pub fn read_relative_query(alloc: Global, text: &[u8]) -> Result<Checked, Refusal>
+    ensures read { IfOk result (λ c. relative_query_of text.now ≡ query (checked_view c)) }
+    ensures refused { IfErr result (λ e. TellsRelativeRefusal text.now e) }
+{
+    let query = match parse_relative(alloc, text) {
+        Ok(query) => query,
+        Err(ParseFault::Refused(fault)) => {
+            return Err(Refusal::Fault(place_of_relative_fault(alloc, text, fault)?));
         }
+        Err(ParseFault::Memory) => return Err(Refusal::Memory),
+    };
+    match check(query) {
+        Ok(checked) => Ok(checked),
+        Err((fault, query)) => Err(Refusal::Fault(place_in_segments(
+            alloc,
+            text,
+            fault,
+            query.segments(),
+        )?)),
     }
 }
 

@@ -11,12 +11,12 @@ use Rattle.jp_query.specs.Reading.Scalars.{many, shorthand, function_name, call_
 use Rattle.jp_query.specs.Reading.Numbers.{positive, some_digits, int_at, int_digits, minus, fraction, sign, exponent_behind, exponent, number_at}
 use Rattle.jp_query.specs.Reading.Strings.{hex4, low_half, hex_scalar, escape_at, next_scalar, between_quotes, string_at}
 use Rattle.jp_query.specs.Reading.Literals.{word_at, literal_at, operator_at, origin_at, begins_without_literal}
-use Rattle.jp_query.specs.Reading.Queries.{bound_at, step_at, slice_behind, index_or_slice, singular_behind, singular_segment, next_singular, singular_at, dotted, selector_at, next_selector, brackets_at, descendant_at, next_segment, segments_at, closed_at, condition_at, argument_at, next_argument, arguments_at, call_behind, comparable_at, comparison_behind, query_behind, call_or_comparison, literal_comparison, test_at, negated_at, plain_at, basic_at, next_basic, and_at, next_and, or_at, logical_at, query_at}
-use Rattle.jp_query.specs.Status.{read_text, query_of}
+use Rattle.jp_query.specs.Reading.Queries.{bound_at, step_at, slice_behind, index_or_slice, singular_behind, singular_segment, next_singular, singular_at, dotted, selector_at, next_selector, brackets_at, descendant_at, next_segment, segments_at, closed_at, condition_at, argument_at, next_argument, arguments_at, call_behind, comparable_at, comparison_behind, query_behind, call_or_comparison, literal_comparison, test_at, negated_at, plain_at, basic_at, next_basic, and_at, next_and, or_at, logical_at, query_at, relative_at}
+use Rattle.jp_query.specs.Status.{read_text, read_relative, query_of, relative_query_of}
 
 -- what is opened to compute the query that a text spells
 unfoldable pub reading : ⊤
-unfolding many shorthand function_name call_start positive some_digits int_at int_digits minus fraction sign exponent_behind exponent number_at hex4 low_half hex_scalar escape_at next_scalar between_quotes string_at word_at literal_at operator_at origin_at begins_without_literal bound_at step_at slice_behind index_or_slice singular_behind singular_segment next_singular singular_at dotted selector_at next_selector brackets_at descendant_at next_segment segments_at closed_at condition_at argument_at next_argument arguments_at call_behind comparable_at comparison_behind query_behind call_or_comparison literal_comparison test_at negated_at plain_at basic_at next_basic and_at next_and or_at logical_at query_at read_text query_of chars is_utf8 encode
+unfolding many shorthand function_name call_start positive some_digits int_at int_digits minus fraction sign exponent_behind exponent number_at hex4 low_half hex_scalar escape_at next_scalar between_quotes string_at word_at literal_at operator_at origin_at begins_without_literal bound_at step_at slice_behind index_or_slice singular_behind singular_segment next_singular singular_at dotted selector_at next_selector brackets_at descendant_at next_segment segments_at closed_at condition_at argument_at next_argument arguments_at call_behind comparable_at comparison_behind query_behind call_or_comparison literal_comparison test_at negated_at plain_at basic_at next_basic and_at next_and or_at logical_at query_at relative_at read_text read_relative query_of relative_query_of chars is_utf8 encode
 reading = tt
 
 -- what a script writes over a collection that is framed so, where the lines hold at most `most` bytes, and growths were

@@ -3,9 +3,9 @@
 
 ghost use Rattle.std.specs.Prelude.{◌≡◌, [], ◌∷◌, pos, negsuc, Some, None, codes};
 ghost use Rattle.jp_model.specs.declared.QueryFault.TheVariants.{Syntax, Integer, Number, Function};
-ghost use Rattle.jp_model.specs.Query.Status.{refused_query};
+ghost use Rattle.jp_model.specs.Query.Status.{query, refused_query};
 ghost use Rattle.jp_model.specs.Query.Syntax.{equal, root, current, true_literal, number_literal, no_segments, segment, child_segment, name_selector, index_selector, slice_selector, no_selectors, selector, negated, compare, exists, test, constant, single, constant_argument, nodes_argument, condition, result_argument, no_arguments, argument, no_logicals, logical, and_all, path, call};
-ghost use Rattle.jp_query.specs.Status.{query_of};
+ghost use Rattle.jp_query.specs.Status.{query_of, relative_query_of};
 ghost use Rattle.test_definitions.specs.Texts.{reads, one_child, filtered};
 
 /// Texts that are read, each with its tree.
@@ -50,4 +50,21 @@ pub fn texts_with_a_fault()
     ensures no_query_with_an_integer { query_of (codes "$[9007199254740992") ≡ refused_query Syntax }
     ensures an_exponent { query_of (codes "$[?@==1e1000000000000000]") ≡ refused_query Number }
     ensures an_unknown_function { query_of (codes "$[?f()]") ≡ refused_query Function }
+{}
+
+/// Rel-queries, each with its tree or its first fault.
+pub fn texts_of_rel_queries()
+    ensures no_segments { relative_query_of (codes "@") ≡ query no_segments }
+    ensures a_name { relative_query_of (codes "@.sku") ≡ query (one_child (name_selector (codes "sku"))) }
+    ensures two_brackets { relative_query_of (codes "@['a'][0]") ≡ query (segment (child_segment (selector (name_selector (codes "a")) no_selectors)) (one_child (index_selector (pos 0)))) }
+    ensures a_filter { relative_query_of (codes "@[?$.c]") ≡ query (filtered (exists (path root (one_child (name_selector (codes "c")))))) }
+    ensures nothing { relative_query_of [] ≡ refused_query Syntax }
+    ensures a_query { relative_query_of (codes "$.a") ≡ refused_query Syntax }
+    ensures no_query { query_of (codes "@.a") ≡ refused_query Syntax }
+    ensures blanks_before { relative_query_of (codes " @") ≡ refused_query Syntax }
+    ensures blanks_behind { relative_query_of (codes "@ ") ≡ refused_query Syntax }
+    ensures an_integer { relative_query_of (codes "@.a[9007199254740992]") ≡ refused_query Integer }
+    ensures an_exponent { relative_query_of (codes "@[?@==1e1000000000000000]") ≡ refused_query Number }
+    ensures an_unknown_function { relative_query_of (codes "@[?f()]") ≡ refused_query Function }
+    ensures not_utf8 { relative_query_of (64 ∷ 0xC3 ∷ []) ≡ refused_query Syntax }
 {}

@@ -9,6 +9,7 @@ mod conditions;
 mod examples;
 mod paths;
 mod places;
+mod relative;
 
 /// What the parser says of a text: nothing where it is a query.
 fn fault_of(alloc: Global, text: &[u8]) -> Option<ParseFault> {

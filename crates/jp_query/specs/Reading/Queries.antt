@@ -306,9 +306,20 @@ abbrev pub whole : {A : Type 0} → A × List ℕ → Option A
 whole (a, []) = Some a
 whole (a, c ∷ x) = None
 
+-- segments: all of the scalars
+abbrev pub whole_segments : (ℤ → ℤ) → ℕ → List ℕ → Option Segments
+whole_segments of_int depth x = do
+  r ← segments_at of_int (logical_at of_int depth) x
+  whole r
+
 -- jsonpath-query: all of the scalars (RFC 9535, section 2.1.1)
 unfoldable pub query_at : (ℤ → ℤ) → ℕ → List ℕ → Option Segments
 query_at of_int depth x = do
   y ← after 36 x
-  r ← segments_at of_int (logical_at of_int depth) y
-  whole r
+  whole_segments of_int depth y
+
+-- rel-query: all of the scalars (RFC 9535, section 2.3.5.1)
+unfoldable pub relative_at : (ℤ → ℤ) → ℕ → List ℕ → Option Segments
+relative_at of_int depth x = do
+  y ← after 64 x
+  whole_segments of_int depth y

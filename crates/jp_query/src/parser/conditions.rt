@@ -18,7 +18,7 @@ use crate::fault::ParseFault;
 use crate::limit::Limit;
 use crate::limits::logical_passes;
 use jp_model::QueryFault;
-use jp_syntax::{Condition, Logical, Segment, Selector};
+use jp_syntax::{Condition, Logical, Origin, Segment, Selector};
 use std::alloc::{AllocError, Global};
 
 /// The text of the query in whose only filter a text stands.
@@ -87,7 +87,7 @@ fn answer(alloc: Global, whole: &[u8]) -> Result<Condition, ParseFault>
     if is_oversized(whole) {
         return Err(ParseFault::Refused(QueryFault::Size));
     }
-    match read(alloc, whole) {
+    match read(alloc, whole, Origin::Root) {
         Ok(segments) => limited(whole, segments),
         Err(Failure::Syntax(_)) => Err(ParseFault::Refused(QueryFault::Syntax)),
         Err(Failure::Memory) => Err(ParseFault::Memory),

@@ -8,7 +8,7 @@ use super::logical::logical;
 use super::scalars::skip_blanks;
 use super::stops::behind_condition;
 use super::tokens::Tokens;
-use super::{MAX_BYTES, MAX_DEPTH, MAX_OPENED, query_segments, to_scalars};
+use super::{MAX_BYTES, MAX_DEPTH, MAX_OPENED, query_segments, relative_segments, to_scalars};
 use crate::expected::Expected;
 use crate::limit::Limit;
 use jp_model::QueryFault;
@@ -60,10 +60,11 @@ fn past_size(text: &[u8], before: usize) -> usize {
     MAX_BYTES
 }
 
-/// What the parser reads of a text, up to where it stops: a query, or a condition that stands alone.
+/// What the parser reads of a text, up to where it stops: a query, a rel-query, or a condition that stands alone.
 #[derive(Clone, Copy)]
 enum Grammar {
     Query,
+    RelativeQuery,
     Condition,
 }
 
@@ -73,7 +74,7 @@ impl Grammar {
         ensures { result ≤ 3 }
     {
         match self {
-            Grammar::Query => 0,
+            Grammar::Query | Grammar::RelativeQuery => 0,
             Grammar::Condition => 3,
         }
     }
@@ -81,7 +82,7 @@ impl Grammar {
     /// How many brackets are open before the text.
     fn opened_before(self) -> usize {
         match self {
-            Grammar::Query => 0,
+            Grammar::Query | Grammar::RelativeQuery => 0,
             Grammar::Condition => 1,
         }
     }
@@ -91,6 +92,10 @@ impl Grammar {
         match self {
             Grammar::Query => {
                 query_segments(alloc, text)?;
+                Ok(Stop::at_end(Expected::Segment))
+            }
+            Grammar::RelativeQuery => {
+                relative_segments(alloc, text)?;
                 Ok(Stop::at_end(Expected::Segment))
             }
             Grammar::Condition => {
@@ -170,6 +175,22 @@ pub fn place_of_fault(
     Grammar::Query.find(alloc, text, fault)
 }
 
+/// Where the fault is for which `parse_relative` refuses a text, as [`place_of_fault`] tells it of a query.
+///
+/// # Errors
+///
+/// Memory ran out.
+pub(crate) fn place_of_relative_fault(
+    alloc: Global,
+    text: &[u8],
+    fault: QueryFault,
+) -> Result<FaultPlace, AllocError>
+    ensures fault { IfOk result (λ found. found.fault ≡ fault) }
+    ensures place { IfOk result (λ found. IsPlace text.now found.place) }
+{
+    Grammar::RelativeQuery.find(alloc, text, fault)
+}
+
 /// Where the fault is for which `parse_condition` refuses a text, as [`place_of_fault`] tells it of a query.
 ///
 /// # Errors
@@ -186,8 +207,8 @@ pub fn place_of_condition_fault(
     Grammar::Condition.find(alloc, text, fault)
 }
 
-/// The byte at which the name of the function begins that is number `number`, from 0, in a text that is a query or a condition:
-/// the text's length where there are fewer.
+/// The byte at which the name of the function begins that is number `number`, from 0, in a text that is a query, a rel-query
+/// or a condition: the text's length where there are fewer.
 ///
 /// # Errors
 ///
