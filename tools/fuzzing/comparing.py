@@ -26,8 +26,11 @@ def modelled(case):
     """What jpq and jpgrep have to write, and whether jpgrep refuses the question."""
     given = Collection(collection(case), case.is_sequence)
     try:
-        asked = [queries.parse_condition(condition) for condition in case.conditions], queries.parse(case.query)
-        found = given.filtered(*asked, case.shown, case.is_inverted)
+        conditions = [queries.parse_condition(condition) for condition in case.conditions]
+        each = queries.parse(case.each) if case.each else None
+        origin = "@" if case.each and case.query.startswith(b"@") else "$"
+        asked = origin, queries.parse(case.query, origin)
+        found = given.filtered(conditions, each, asked, case.shown, case.is_inverted, case.most)
     except queries.Refused:
         found = None
     return given.run(script(case)), found
@@ -85,8 +88,8 @@ class Programs:
         """What jpgrep writes."""
         options = {"line": ["-n"], "values": ["-n", "-o", "-p"], "count": ["-c"]}[case.shown]
         words = [b"-w=" + condition for condition in case.conditions]  # one that begins with a sign is no option so
-        words += ["-v"] * case.is_inverted + ["--seq"] * case.is_sequence
-        return self.run(self.jpgrep, "-s", "-h", *options, *words, "-e", case.query, self.file)
+        words += ["-v"] * case.is_inverted + ["--seq"] * case.is_sequence + [b"--each=" + case.each] * bool(case.each)
+        return self.run(self.jpgrep, "-s", "-h", *options, *words, "-m", str(case.most), "-e", case.query, self.file)
 
     def differ(self, case):
         """Whether a program answers otherwise than the model."""
@@ -108,5 +111,5 @@ def is_free_of_indexes(case):
 
 def is_asked(case):
     """Whether jpgrep is asked so: rows of sequences have bytes of their own, and an inverted question has no values."""
-    words = [case.query, *case.conditions]
-    return not case.is_sequence and not (case.is_inverted and case.shown == "values") and not any(b"\0" in word for word in words)
+    words, has_values = [case.each, case.query, *case.conditions], case.shown == "values" or case.each
+    return not case.is_sequence and not (case.is_inverted and has_values) and not any(b"\0" in word for word in words)

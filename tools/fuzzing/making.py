@@ -18,9 +18,11 @@ class Case:
     lines: tuple
     commands: tuple
     conditions: tuple
+    each: bytes
     query: bytes
     shown: str
     is_inverted: bool
+    most: int
 
 
 def value(rng, depth):
@@ -122,9 +124,9 @@ def expression(rng, depth):
     return rng.choice(["&&", " || "]).join(parts)
 
 
-def query(rng):
+def query(rng, origin="$"):
     """The bytes of a query, which is mostly good."""
-    made = path(rng, 2, "$").encode()
+    made = path(rng, 2, origin).encode()
     return broken(rng, made).replace(b"\n", b" ") if rng.random() < 0.05 else made
 
 
@@ -148,4 +150,7 @@ def case(rng):
     lines = tuple(line(rng) for _ in range(rng.randrange(8)))
     commands = tuple(command(rng, len(lines)) for _ in range(rng.randrange(1, 7)))
     conditions = tuple(expression(rng, 2).encode() for _ in range(rng.choice([0, 1, 1, 2])))
-    return Case(rng.random() < 0.2, lines, commands, conditions, query(rng), rng.choice(["line", "values", "count"]), rng.random() < 0.1)
+    is_sequence, each = rng.random() < 0.2, query(rng) if rng.random() < 0.3 else b""
+    asked = query(rng, rng.choice("$@") if each else "$")
+    return Case(is_sequence, lines, commands, conditions, each, asked, rng.choice(["line", "values", "count"]), rng.random() < 0.1,
+                rng.randrange(1, 5) if rng.random() < 0.2 else 2 ** 64 - 1)

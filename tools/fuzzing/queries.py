@@ -307,10 +307,10 @@ def _whole(text, read):
     return tree
 
 
-def parse(text):
-    """The segments of a query."""
+def parse(text, origin="$"):
+    """The segments of a query, or of one that begins at a node."""
     def read(parser):
-        parser.expect("$")
+        parser.expect(origin)
         return parser.segments()
     return _whole(text, read)
 

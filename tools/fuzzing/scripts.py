@@ -113,20 +113,23 @@ class Collection:
         commands = script.removesuffix(b"\n").split(b"\n") if script else []
         return b"".join(self.answered(command.removesuffix(b"\r")) for command in commands if command.removesuffix(b"\r"))
 
-    def filtered(self, conditions, query, shown, is_inverted=False):
-        """What jpgrep writes of the lines of which each condition holds and the query selects a node: whole lines, values with
-        their paths, or how many there are."""
+    def filtered(self, conditions, each, query, shown, is_inverted=False, most=2 ** 64 - 1):
+        """What jpgrep writes of the lines, or of the nodes of a query in them, of which each condition holds and the query selects a
+        node: whole lines, values, these with their paths, or how many there are."""
         rows, count = [], 0
         for n, (line, root) in enumerate(self.lines, 1):
             if not root or isinstance(root, str):
                 continue
             nodes = Nodes(root)
-            found = nodes.select(query) if all(nodes.holds(condition, nodes.root) for condition in conditions) else []
-            if bool(found) == is_inverted:
-                continue
-            count += 1
-            if shown == "line":
-                rows.append(b"%d:%s\n" % (n, line))
-            elif shown == "values":
-                rows += [b"%d:%s\t%s\n" % (n, path_text(path).encode(), line[node.start:node.end]) for path, node in found]
+            for asked in [nodes.root] if each is None else nodes.select(each):
+                holds = all(nodes.holds(condition, asked) for condition in conditions)
+                found = nodes.select(query[1], asked if query[0] == "@" else None) if holds else []
+                if bool(found) == is_inverted or count == most:
+                    continue
+                count += 1
+                if shown == "values" or each is not None:
+                    fronts = [path_text(path).encode() + b"\t" if shown == "values" else b"" for path, _ in found]
+                    rows += [b"%d:%s%s\n" % (n, front, line[node.start:node.end]) for front, (_, node) in zip(fronts, found)]
+                else:
+                    rows.append(b"%d:%s\n" % (n, line))
         return b"%d\n" % count if shown == "count" else b"".join(rows)

@@ -14,8 +14,9 @@ def smaller(case):
         for at, part in enumerate(parts):
             for shorter in cuts(part):
                 yield dataclasses.replace(case, **{field: parts[:at] + (shorter,) + parts[at + 1:]})
-    for shorter in cuts(case.query):
-        yield dataclasses.replace(case, query=shorter)
+    for field in ("each", "query"):
+        for shorter in cuts(getattr(case, field)):
+            yield dataclasses.replace(case, **{field: shorter})
 
 
 def cuts(text):
@@ -43,7 +44,9 @@ def as_example(case, programs):
     parts += [f"< {shown(line)}" for line in answers.split(b"\n")[:-1]]
     if found is not None:
         conditions = " ".join(f"-w {shown(condition)}" for condition in case.conditions)
-        parts += [f"$ jpgrep ({case.shown}{', inverted' if case.is_inverted else ''}) {conditions} -e {shown(case.query)}"]
+        each = f" --each {shown(case.each)}" if case.each else ""
+        how = f"{case.shown}{', inverted' if case.is_inverted else ''}, at most {case.most}"
+        parts += [f"$ jpgrep ({how}){each} {conditions} -e {shown(case.query)}"]
         parts += [f"< {shown(line)}" for line in found.split(b"\n")[:-1]]
     programs.write(case)
     parts += ["jpq answered:", shown(programs.scripted(case, False))]

@@ -1,7 +1,7 @@
 -- Lines, texts and elements that are answered one after another.
 use Rattle.std.proofs.Common.{◌≡◌, ◌∙◌, ◌<◌, ◌≤◌, ℕ, ◌+◌, ◌-◌, List, [], ◌∷◌, ◌++◌, length, refl, sym, ap, ap₂, append_assoc, append-nil, arith, Bool}
 use Rattle.std.specs.Prelude.{zero, suc, count_by, cond}
-use Rattle.std.proofs.lemmas.List.Sums.{sum_by-append, sum_by-cons}
+use Rattle.std.proofs.lemmas.List.Sums.{sum_by-cons}
 use Rattle.jp_grep.specs.Items.{Item}
 use Rattle.jp_grep.specs.Rows.{item_message, item_rows, messages_from, output_from, refused_count, refused_item, selected_count, selected_in}
 use Rattle.jp_grep.specs.Watching.{cut_to, up_to}
@@ -11,12 +11,6 @@ use Rattle.jp_grep.specs.declared.question.Question.{Question}
 module _ {A : Type 0} (test : A → Bool) where
   pub count-cons : (x : A) (xs : List A) → count_by test (x ∷ xs) ≡ cond (test x) 1 0 + count_by test xs
   count-cons x xs = sum_by-cons (λ y. cond (test y) 1 0) x xs
-
-  pub count-append : (xs ys : List A) → count_by test (xs ++ ys) ≡ count_by test xs + count_by test ys
-  count-append xs ys = sum_by-append (λ y. cond (test y) 1 0) xs ys
-
-  pub count_one : (x : A) → count_by test (x ∷ []) ≡ cond (test x) 1 0
-  count_one x = omega (arith, count-cons x [])
 
 module _ (question : Question) where
   less : (most one rest all : ℕ) → all ≡ one + rest → (most - one) - rest ≡ most - all

@@ -42,6 +42,7 @@ pub(crate) struct Answerer<'q> {
 
 impl<'q> Answerer<'q> {
     /// The nodes of a line that are asked one by one: those that a query selects, which the frame has then, or else its root.
+    #[inline(always)]
     fn nodes_asked<'r: 'f, 'f>(
         self,
         root: &'f [Cursor<'r>],
@@ -89,7 +90,7 @@ impl<'q> Answerer<'q> {
                 break;
             }
             let asked = AskedNode { line, node: *node };
-            match self.answer_node(number, asked, text, &mut room.node, outlet, out)? {
+            match self.answer_node(number, &asked, text, &mut room.node, outlet, out)? {
                 Some(is_selected) => selected += u64::from(is_selected),
                 None => return Ok(Verdict::of_given_up()),
             }
@@ -251,9 +252,8 @@ impl<'q> Answerer<'q> {
         ensures tells { TellsOfBoth result out.old out.new messages.old messages.new }
     {
         let mut room = Room::new(self.alloc);
-        let most = self.form.most;
         for index in 0..items.count() {
-            if progress.counts.selected == most {
+            if progress.wants(*self.form) == 0 {
                 return Ok(());
             }
             let item = items.item(index);

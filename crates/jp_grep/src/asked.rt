@@ -29,10 +29,11 @@ pub(crate) struct AskedNode<'r> {
 
 impl<'r> AskedNode<'r> {
     /// Where a query begins.
-    fn start(self, origin: Origin) -> Cursor<'r>
-        requires { IsOfItsLine self }
-        ensures node { node_of result ∷ [] ≡ start (origin_view origin) (node_of self.entry.node) (asked_tree self.entry) }
-        ensures line { line_of result ≡ text_of_view self.entry.line }
+    #[inline(always)]
+    fn start(&self, origin: Origin) -> Cursor<'r>
+        requires { IsOfItsLine self.now }
+        ensures node { node_of result ∷ [] ≡ start (origin_view origin) (node_of self.now.node) (asked_tree self.now) }
+        ensures line { line_of result ≡ text_of_view self.now.line }
     {
         match origin {
             Origin::Root => self.line.root(),
@@ -62,16 +63,17 @@ impl AskedQuery {
     }
 
     /// Finds the nodes that it selects, and tells whether there is one. The frame has them then.
+    #[inline(always)]
     pub(crate) fn find<'a>(
         &self,
         alloc: Global,
-        asked: AskedNode<'a>,
+        asked: &AskedNode<'a>,
         frame: &mut Frame<'a>,
     ) -> Result<bool, AllocError>
-        requires { IsOfItsLine asked }
-        ensures some { IfOk result (λ some. some ≡ has_nodes (path_nodes (query_path self.now) (node_of asked.entry.node) (asked_tree asked.entry))) }
-        ensures nodes { OnOk result (map node_of (found_in frame.new) ≡ path_nodes (query_path self.now) (node_of asked.entry.node) (asked_tree asked.entry)) }
-        ensures lines { AreOf (text_of_view asked.entry.line) (found_in frame.new) }
+        requires { IsOfItsLine asked.now }
+        ensures some { IfOk result (λ some. some ≡ has_nodes (path_nodes (query_path self.now) (node_of asked.now.node) (asked_tree asked.now))) }
+        ensures nodes { OnOk result (map node_of (found_in frame.new) ≡ path_nodes (query_path self.now) (node_of asked.now.node) (asked_tree asked.now)) }
+        ensures lines { AreOf (text_of_view asked.now.line) (found_in frame.new) }
     {
         self.program
             .run_in(alloc, asked.start(self.origin), asked.line.root(), frame)?;
@@ -79,14 +81,15 @@ impl AskedQuery {
     }
 
     /// Whether it selects a node. It stops at the first.
+    #[inline(always)]
     pub(crate) fn selects<'a>(
         &self,
         alloc: Global,
-        asked: AskedNode<'a>,
+        asked: &AskedNode<'a>,
         frame: &mut Frame<'a>,
     ) -> Result<bool, AllocError>
-        requires { IsOfItsLine asked }
-        ensures { IfOk result (λ some. some ≡ has_nodes (path_nodes (query_path self.now) (node_of asked.entry.node) (asked_tree asked.entry))) }
+        requires { IsOfItsLine asked.now }
+        ensures { IfOk result (λ some. some ≡ has_nodes (path_nodes (query_path self.now) (node_of asked.now.node) (asked_tree asked.now))) }
     {
         self.program
             .selects_in(alloc, asked.start(self.origin), asked.line.root(), frame)

@@ -29,11 +29,11 @@ impl Condition {
     pub(crate) fn holds<'a>(
         &self,
         alloc: Global,
-        asked: AskedNode<'a>,
+        asked: &AskedNode<'a>,
         frame: &mut Frame<'a>,
     ) -> Result<bool, AllocError>
-        requires { IsOfItsLine asked }
-        ensures { IfOk result (λ answer. answer ≡ condition_holds (condition_view self.now) (node_of asked.entry.node) (asked_tree asked.entry)) }
+        requires { IsOfItsLine asked.now }
+        ensures { IfOk result (λ answer. answer ≡ condition_holds (condition_view self.now) (node_of asked.now.node) (asked_tree asked.now)) }
     {
         match self {
             Condition::Expression(predicate) => {

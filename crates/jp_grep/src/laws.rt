@@ -12,7 +12,8 @@ pub fn rows_are_those_of_a_query()
 {}
 
 /// Where the nodes that `$` selects are asked one by one, each of them is the root of its line: whatever else is asked, as much is
-/// selected as where lines are asked, and what is written is the same. So what is said of nodes says of lines what it should.
+/// selected as where lines are asked, and what is written is the same. A definition that leaves out a node without steps, or binds
+/// `$` to something else than the value of the line, is no such definition.
 pub fn each_root_is_its_line()
     ensures { EachRootIsItsLine }
 {}

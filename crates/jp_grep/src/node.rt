@@ -93,13 +93,13 @@ impl<'q> Answerer<'q> {
         self,
         table: Table,
         query: &AskedQuery,
-        asked: AskedNode<'r>,
+        asked: &AskedNode<'r>,
         room: &mut NodeRoom<'r>,
     ) -> Result<bool, AllocError>
-        requires { IsOfItsLine asked }
+        requires { IsOfItsLine asked.now }
         ensures cell { (cells : List Cell) → Holds table room.old.cells cells → OnOk result (Holds table room.new.cells
-            (cells ++ nodes_cell table (text_of_view asked.entry.line) (path_nodes (query_path query.now) (node_of asked.entry.node) (asked_tree asked.entry)) ∷ [])) }
-        ensures some { IfOk result (λ some. some ≡ has_nodes (path_nodes (query_path query.now) (node_of asked.entry.node) (asked_tree asked.entry))) }
+            (cells ++ nodes_cell table (text_of_view asked.now.line) (path_nodes (query_path query.now) (node_of asked.now.node) (asked_tree asked.now)) ∷ [])) }
+        ensures some { IfOk result (λ some. some ≡ has_nodes (path_nodes (query_path query.now) (node_of asked.now.node) (asked_tree asked.now))) }
         ensures row { room.new.row ≡ room.old.row }
     {
         let some = query.find(self.alloc, asked, &mut room.frame)?;
@@ -117,12 +117,12 @@ impl<'q> Answerer<'q> {
         self,
         table: Table,
         number: u64,
-        asked: AskedNode<'r>,
+        asked: &AskedNode<'r>,
         room: &mut NodeRoom<'r>,
     ) -> Result<bool, AllocError>
-        requires { IsOfItsLine asked }
-        ensures cells { OnOk result (row_bytes room.new.cells ≡ table_row table (queries_of self.entry.question.now) self.entry.form.now number (text_of_view asked.entry.line) (asked_tree asked.entry) (node_of asked.entry.node)) }
-        ensures some { IfOk result (λ some. some ≡ selects (queries_of self.entry.question.now) (node_of asked.entry.node) (asked_tree asked.entry)) }
+        requires { IsOfItsLine asked.now }
+        ensures cells { OnOk result (row_bytes room.new.cells ≡ table_row table (queries_of self.entry.question.now) self.entry.form.now number (text_of_view asked.now.line) (asked_tree asked.now) (node_of asked.now.node)) }
+        ensures some { IfOk result (λ some. some ≡ selects (queries_of self.entry.question.now) (node_of asked.now.node) (asked_tree asked.now)) }
         ensures row { room.new.row ≡ room.old.row }
     {
         let mut digits = Buffer::new();
@@ -141,11 +141,11 @@ impl<'q> Answerer<'q> {
     /// match.
     fn wants_nodes<'r>(
         self,
-        asked: AskedNode<'r>,
+        asked: &AskedNode<'r>,
         room: &mut NodeRoom<'r>,
     ) -> Result<bool, AllocError>
-        requires { IsOfItsLine asked }
-        ensures wanted { IfOk result (λ wanted. wanted ≡ wants_nodes self.entry.question.now (node_of asked.entry.node) (asked_tree asked.entry)) }
+        requires { IsOfItsLine asked.now }
+        ensures wanted { IfOk result (λ wanted. wanted ≡ wants_nodes self.entry.question.now (node_of asked.now.node) (asked_tree asked.now)) }
         ensures row { room.new.row ≡ room.old.row }
     {
         match self.question.wanted {
@@ -160,13 +160,13 @@ impl<'q> Answerer<'q> {
         self,
         table: Table,
         number: u64,
-        asked: AskedNode<'r>,
+        asked: &AskedNode<'r>,
         room: &mut NodeRoom<'r>,
     ) -> Result<bool, AllocError>
-        requires { IsOfItsLine asked }
-        ensures selected { IfOk result (λ selected. selected ≡ is_selected self.entry.question.now (asked_tree asked.entry) (node_of asked.entry.node)) }
-        ensures row { OnOk result (room.new.row.items ≡ room.old.row.items ++ (if is_selected self.entry.question.now (asked_tree asked.entry) (node_of asked.entry.node)
-            then table_row table (queries_of self.entry.question.now) self.entry.form.now number (text_of_view asked.entry.line) (asked_tree asked.entry) (node_of asked.entry.node) else [])) }
+        requires { IsOfItsLine asked.now }
+        ensures selected { IfOk result (λ selected. selected ≡ is_selected self.entry.question.now (asked_tree asked.now) (node_of asked.now.node)) }
+        ensures row { OnOk result (room.new.row.items ≡ room.old.row.items ++ (if is_selected self.entry.question.now (asked_tree asked.now) (node_of asked.now.node)
+            then table_row table (queries_of self.entry.question.now) self.entry.form.now number (text_of_view asked.now.line) (asked_tree asked.now) (node_of asked.now.node) else [])) }
     {
         if !self.wants_nodes(asked, room)? {
             return Ok(false);
@@ -180,19 +180,20 @@ impl<'q> Answerer<'q> {
     }
 
     /// Makes the row of a node of which nothing or its line is shown, where it is selected, and tells whether it is.
+    #[inline(always)]
     fn make_line_row<'r>(
         self,
         shown: bool,
         number: u64,
-        asked: AskedNode<'r>,
+        asked: &AskedNode<'r>,
         text: &'r [u8],
         room: &mut NodeRoom<'r>,
     ) -> Result<bool, AllocError>
-        requires node { IsOfItsLine asked }
-        requires text { text_of_view asked.line ≡ text.now }
-        ensures selected { IfOk result (λ selected. selected ≡ is_selected self.entry.question.now (asked_tree asked.entry) (node_of asked.entry.node)) }
-        ensures row { OnOk result (room.new.row.items ≡ room.old.row.items ++ (if is_selected self.entry.question.now (asked_tree asked.entry) (node_of asked.entry.node)
-            then (if shown then row self.entry.form.now number (line_text self.entry.form.now.spelling self.entry.form.now.units text.now (asked_tree asked.entry)) else []) else [])) }
+        requires node { IsOfItsLine asked.now }
+        requires text { text_of_view asked.now.line ≡ text.now }
+        ensures selected { IfOk result (λ selected. selected ≡ is_selected self.entry.question.now (asked_tree asked.now) (node_of asked.now.node)) }
+        ensures row { OnOk result (room.new.row.items ≡ room.old.row.items ++ (if is_selected self.entry.question.now (asked_tree asked.now) (node_of asked.now.node)
+            then (if shown then row self.entry.form.now number (line_text self.entry.form.now.spelling self.entry.form.now.units text.now (asked_tree asked.now)) else []) else [])) }
     {
         let matching = self.question.matches(self.alloc, asked, &mut room.frame)?;
         if !self.question.wanted.wants_value(matching) {
@@ -206,18 +207,19 @@ impl<'q> Answerer<'q> {
 
     /// Makes the row of a node, where it is selected, unless the values are shown that the queries select, and tells whether it
     /// is.
+    #[inline(always)]
     fn make_row<'r>(
         self,
         number: u64,
-        asked: AskedNode<'r>,
+        asked: &AskedNode<'r>,
         text: &'r [u8],
         room: &mut NodeRoom<'r>,
     ) -> Result<bool, AllocError>
-        requires node { IsOfItsLine asked }
-        requires text { text_of_view asked.line ≡ text.now }
-        ensures selected { IfOk result (λ selected. selected ≡ is_selected self.entry.question.now (asked_tree asked.entry) (node_of asked.entry.node)) }
-        ensures row { OnOk result (room.new.row.items ≡ (if is_selected self.entry.question.now (asked_tree asked.entry) (node_of asked.entry.node)
-            then row_at_once self.entry.form.now.shown self.entry.question.now self.entry.form.now number text.now (asked_tree asked.entry) (node_of asked.entry.node) else [])) }
+        requires node { IsOfItsLine asked.now }
+        requires text { text_of_view asked.now.line ≡ text.now }
+        ensures selected { IfOk result (λ selected. selected ≡ is_selected self.entry.question.now (asked_tree asked.now) (node_of asked.now.node)) }
+        ensures row { OnOk result (room.new.row.items ≡ (if is_selected self.entry.question.now (asked_tree asked.now) (node_of asked.now.node)
+            then row_at_once self.entry.form.now.shown self.entry.question.now self.entry.form.now number text.now (asked_tree asked.now) (node_of asked.now.node) else [])) }
     {
         room.row.clear();
         match self.form.shown {
@@ -265,18 +267,18 @@ impl<'q> Answerer<'q> {
         self,
         paths: bool,
         number: u64,
-        asked: AskedNode<'r>,
+        asked: &AskedNode<'r>,
         text: &[u8],
         room: &mut NodeRoom<'r>,
         outlet: &mut Outlet,
         out: &mut Watched<W>,
     ) -> Result<Option<bool>, SearchFault>
-        requires node { IsOfItsLine asked }
-        requires text { text_of_view asked.line ≡ text.now }
+        requires node { IsOfItsLine asked.now }
+        requires text { text_of_view asked.now.line ≡ text.now }
         requires working { out.old.failed ≡ false }
         ensures rows { PutsFirst W.contents out.old out.new outlet.old.held.items outlet.new.held.items result is_some
-            (map (value_row self.entry.form.now paths number text.now) (nodes_of (queries_of self.entry.question.now) (node_of asked.entry.node) (asked_tree asked.entry))) }
-        ensures some { IfOk result (λ answer. MatchOption answer ⊤ (λ some. some ≡ selects (queries_of self.entry.question.now) (node_of asked.entry.node) (asked_tree asked.entry))) }
+            (map (value_row self.entry.form.now paths number text.now) (nodes_of (queries_of self.entry.question.now) (node_of asked.now.node) (asked_tree asked.now))) }
+        ensures some { IfOk result (λ answer. MatchOption answer ⊤ (λ some. some ≡ selects (queries_of self.entry.question.now) (node_of asked.now.node) (asked_tree asked.now))) }
         ensures tells { TellsOfWriter result out.old out.new }
     {
         let mut some = false;
@@ -307,17 +309,17 @@ impl<'q> Answerer<'q> {
         self,
         paths: bool,
         number: u64,
-        asked: AskedNode<'r>,
+        asked: &AskedNode<'r>,
         text: &[u8],
         room: &mut NodeRoom<'r>,
         outlet: &mut Outlet,
         out: &mut Watched<W>,
     ) -> Result<Option<bool>, SearchFault>
         requires shown { self.form.now.shown ≡ shown.Values paths }
-        requires node { IsOfItsLine asked }
-        requires text { text_of_view asked.line ≡ text.now }
+        requires node { IsOfItsLine asked.now }
+        requires text { text_of_view asked.now.line ≡ text.now }
         requires working { out.old.failed ≡ false }
-        ensures answers { AnswersNode W.contents self.entry.question.now self.entry.form.now number text.now out.old out.new outlet.old.held.items outlet.new.held.items result (asked_tree asked.entry) (node_of asked.entry.node) }
+        ensures answers { AnswersNode W.contents self.entry.question.now self.entry.form.now number text.now out.old out.new outlet.old.held.items outlet.new.held.items result (asked_tree asked.now) (node_of asked.now.node) }
         ensures tells { TellsOfWriter result out.old out.new }
     {
         match self.wants_nodes(asked, room) {
@@ -335,16 +337,16 @@ impl<'q> Answerer<'q> {
     pub(crate) fn answer_node<'r, W: Write>(
         self,
         number: u64,
-        asked: AskedNode<'r>,
+        asked: &AskedNode<'r>,
         text: &'r [u8],
         room: &mut NodeRoom<'r>,
         outlet: &mut Outlet,
         out: &mut Watched<W>,
     ) -> Result<Option<bool>, SearchFault>
-        requires node { IsOfItsLine asked }
-        requires text { text_of_view asked.line ≡ text.now }
+        requires node { IsOfItsLine asked.now }
+        requires text { text_of_view asked.now.line ≡ text.now }
         requires working { out.old.failed ≡ false }
-        ensures answers { AnswersNode W.contents self.entry.question.now self.entry.form.now number text.now out.old out.new outlet.old.held.items outlet.new.held.items result (asked_tree asked.entry) (node_of asked.entry.node) }
+        ensures answers { AnswersNode W.contents self.entry.question.now self.entry.form.now number text.now out.old out.new outlet.old.held.items outlet.new.held.items result (asked_tree asked.now) (node_of asked.now.node) }
         ensures tells { TellsOfWriter result out.old out.new }
     {
         if let Shown::Values { paths } = self.form.shown {

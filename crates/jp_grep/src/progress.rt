@@ -1,11 +1,12 @@
 //! How far a search has come.
 
-ghost use Rattle.std.specs.Prelude.{◌≡◌, ◌+◌, ◌<◌, ◌^◌, None, Some, MatchResult, cond, false, ltb, true};
+ghost use Rattle.std.specs.Prelude.{◌≡◌, ◌+◌, ◌-◌, ◌<◌, ◌≤◌, ◌^◌, None, Some, MatchResult, cond, false, ltb, true};
 ghost use Rattle.jp_grep.specs.Faults.{is_inner_fault};
 ghost use Rattle.jp_grep.specs.declared.found.Limit.{Limit};
 
 use crate::fault::SearchFault;
 use crate::found::{Found, Limit, Unread};
+use jp_form::Form;
 
 /// What came of a line.
 #[derive(Clone, Copy, Debug, PartialEq, Eq)]
@@ -98,6 +99,15 @@ impl Progress {
         ensures { result ≡ ltb (self.now.number + count) (2 ^ 64) }
     {
         self.number.checked_add(count as u64).is_some()
+    }
+
+    /// How many more nodes are wanted.
+    pub(crate) fn wants(&self, form: Form<'_>) -> u64
+        requires { self.now.counts.selected ≤ form.most }
+        ensures more { result ≡ form.entry.most - self.now.counts.selected }
+        ensures fits { form.entry.most < 2 ^ 64 }
+    {
+        form.most - self.counts.selected
     }
 
     /// Goes behind a line of which that came.

@@ -203,11 +203,11 @@ impl Question {
     pub(crate) fn all_hold<'a>(
         &self,
         alloc: Global,
-        asked: AskedNode<'a>,
+        asked: &AskedNode<'a>,
         frame: &mut Frame<'a>,
     ) -> Result<bool, AllocError>
-        requires { IsOfItsLine asked }
-        ensures { IfOk result (λ answer. answer ≡ all_hold (conditions_of self.now) (node_of asked.entry.node) (asked_tree asked.entry)) }
+        requires { IsOfItsLine asked.now }
+        ensures { IfOk result (λ answer. answer ≡ all_hold (conditions_of self.now) (node_of asked.now.node) (asked_tree asked.now)) }
     {
         for condition in &self.conditions {
             if !condition.holds(alloc, asked, frame)? {
@@ -221,11 +221,11 @@ impl Question {
     fn selects<'a>(
         &self,
         alloc: Global,
-        asked: AskedNode<'a>,
+        asked: &AskedNode<'a>,
         frame: &mut Frame<'a>,
     ) -> Result<bool, AllocError>
-        requires { IsOfItsLine asked }
-        ensures { IfOk result (λ answer. answer ≡ selects (queries_of self.now) (node_of asked.entry.node) (asked_tree asked.entry)) }
+        requires { IsOfItsLine asked.now }
+        ensures { IfOk result (λ answer. answer ≡ selects (queries_of self.now) (node_of asked.now.node) (asked_tree asked.now)) }
     {
         for query in &self.queries {
             if query.selects(alloc, asked, frame)? {
@@ -243,14 +243,15 @@ impl Question {
     }
 
     /// Whether a node matches.
+    #[inline(always)]
     pub(crate) fn matches<'a>(
         &self,
         alloc: Global,
-        asked: AskedNode<'a>,
+        asked: &AskedNode<'a>,
         frame: &mut Frame<'a>,
     ) -> Result<bool, AllocError>
-        requires { IsOfItsLine asked }
-        ensures { IfOk result (λ answer. answer ≡ matches self.now (node_of asked.entry.node) (asked_tree asked.entry)) }
+        requires { IsOfItsLine asked.now }
+        ensures { IfOk result (λ answer. answer ≡ matches self.now (node_of asked.now.node) (asked_tree asked.now)) }
     {
         if !self.all_hold(alloc, asked, frame)? {
             return Ok(false);

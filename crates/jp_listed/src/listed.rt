@@ -22,8 +22,8 @@ pub struct Listed {
 impl Listed {
     ghost use Rattle.jp_listed.specs.Sets.{HasLines, HasValues, IsOfLine, has_value};
 
-    /// The values of some lines of canonical text, each behind which its line feed came. Where these are the texts of values of
-    /// lines, the set has what is equal to one of them (RFC 9535, section 2.3.5.2.2), and nothing else.
+    /// The values of the lines of some canonical texts that a line feed ends. Where these are the texts of values of lines, the
+    /// set has what is equal to one of them (RFC 9535, section 2.3.5.2.2), and nothing else.
     ///
     /// # Errors
     ///

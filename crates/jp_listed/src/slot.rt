@@ -52,7 +52,7 @@ impl Slot {
     }
 }
 
-/// Where the lines of some bytes stand, each behind which its line feed came.
+/// Where the lines stand that a line feed ends among some bytes.
 pub(crate) fn find_slots(alloc: Global, bytes: &[u8]) -> Result<Vec<Slot>, AllocError>
     ensures texts { IfOk result (λ slots. texts_at bytes.now slots.items ≡ closed_lines bytes.now) }
     ensures hashed { IfOk result (λ slots. All (IsHashed bytes.now) slots.items) }
@@ -111,7 +111,7 @@ fn first_of_bucket(slots: &[Slot], from: usize, width: u64, bucket: usize) -> us
     first
 }
 
-/// The first slots of so many buckets of hashes, of slots whose hashes do not fall.
+/// The first slot of each of `count` buckets of hashes, among slots whose hashes do not fall.
 pub(crate) fn find_starts(
     alloc: Global,
     slots: &[Slot],

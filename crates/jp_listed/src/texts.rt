@@ -33,7 +33,7 @@ pub(crate) struct Texts {
 impl Texts {
     ghost use Rattle.jp_listed.specs.Texts.{texts_of};
 
-    /// The lines of some bytes, each behind which its line feed came.
+    /// The lines of some bytes that a line feed ends.
     ///
     /// # Errors
     ///

@@ -102,7 +102,9 @@ fn where_argument<'a>(alloc: Global) -> Arg<'a>
         .long("where")
         .value_name("CONDITION")
         .action(ArgAction::Append)
-        .help("A condition that has to hold; @ and $ are the line's value, with --each @ is the node")
+        .help(
+            "A condition that has to hold; @ and $ are the line's value, with --each @ is the node",
+        )
 }
 
 /// `--in QUERY FILE` or `--not-in QUERY FILE`, as often as wanted. Its word stands before each of the two (`pair_words`).

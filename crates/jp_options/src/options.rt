@@ -243,7 +243,11 @@ impl<'a> Options<'a> {
         if self.begins_with_query() {
             &self.words[..self.words.len().min(1)]
         } else if !self.refused && self.queries.is_empty() {
-            if !self.each.is_empty() { &["@"] } else { &["$"] }
+            if !self.each.is_empty() {
+                &["@"]
+            } else {
+                &["$"]
+            }
         } else {
             &self.queries
         }

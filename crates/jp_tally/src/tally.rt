@@ -1,6 +1,6 @@
 //! A writer of rows that counts them.
 
-ghost use Rattle.std.specs.Prelude.{◌≡◌, ◌+◌, ℕ, List, IfOk, false, map, option_map, true};
+ghost use Rattle.std.specs.Prelude.{◌≡◌, ◌+◌, [], ℕ, List, IfOk, false, map, option_map, true};
 ghost use Rattle.std.specs.List.{list_all};
 ghost use Rattle.std.specs.Io.{WritesAtMost};
 ghost use Rattle.jp_devices.specs.Devices.{Grew};
@@ -42,7 +42,10 @@ pub struct Tally {
 
 impl Tally {
     /// A tally of no row yet.
-    pub fn new(alloc: Global) -> Tally {
+    pub fn new(alloc: Global) -> Tally
+        ensures came { result.came.taken ≡ [] }
+        ensures full { result.is_full ≡ false }
+    {
         Tally {
             alloc,
             kept: Kept::new(alloc),
@@ -53,7 +56,9 @@ impl Tally {
     }
 
     /// Whether a write failed for want of memory.
-    pub fn is_full(&self) -> bool {
+    pub fn is_full(&self) -> bool
+        ensures { result ≡ self.now.is_full }
+    {
         self.is_full
     }
 

@@ -2,8 +2,8 @@
 
 use super::devices::{Behind, Reads, Taking};
 use jp_grep::{
-    Form, Format, Framing, Input, Pieces, Queries, Question, SearchFault, Shown, Spelling, Summary,
-    Units, Wanted, search,
+    Form, Format, Framing, Input, Origin, Pieces, Queries, Question, SearchFault, Shown, Spelling,
+    Summary, Units, Wanted, search,
 };
 use jp_model::Watched;
 use jp_query::{Refusal, read_query};
@@ -35,7 +35,7 @@ struct Ended {
 fn question(alloc: Global) -> Result<Question, AllocError> {
     let mut question = Question::new(alloc, Wanted::Matching, Queries::Filter);
     match read_query(alloc, b"$.a") {
-        Ok(query) => question.add_query(alloc, &query)?,
+        Ok(query) => question.add_query(alloc, Origin::Root, &query)?,
         Err(Refusal::Memory | Refusal::Fault(_)) => return Err(AllocError),
     }
     Ok(question)

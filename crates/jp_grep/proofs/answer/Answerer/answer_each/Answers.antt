@@ -54,8 +54,8 @@ loop-index-init g c =
       messages_after = refl;
     }
 
-pub returns-then-progress-most-clause-answers : goal.returns-then-progress-most-clause-answers
-returns-then-progress-most-clause-answers g c =
+pub returns-then-wants-eq0-clause-answers : goal.returns-then-wants-eq0-clause-answers
+returns-then-wants-eq0-clause-answers g c =
     let q = c.args.self.question.now in
     let f = c.args.self.form.now in
     let all = items_of c.args.items in
@@ -63,7 +63,7 @@ returns-then-progress-most-clause-answers g c =
     let before = c.args.progress.now in
     let so = c.loop-index.invariant.so_far in
     let done = so.0 in
-    let is = sym (enough q f before.counts.selected done (drop i all) (sym so.2.by.selected ∙ c.if-progress-most.true)) in
+    let is = sym (enough q f before.counts.selected done (drop i all) (omega (arith, so.2.by.selected, so.2.by.under_way.wanted, c.wants.ensures.more, c.if-wants-eq0.true))) in
     record {
       outcomes = done ++ drop i all;
       each = subst (λ (ls : List Item). CameOfEach ls (done ++ drop i all)) (take-append-drop i all) (came_next (take i all) done (drop i all) (drop i all) so.2.each (came_same (drop i all)));
@@ -92,7 +92,7 @@ returns-in_err-verdict-clause-answers g c =
     let is = sym (get_or_from_slice_get all i item item c.item-item.ensures.item) in
     let rest = drop (i + 1) all in
     let answered = answered_of q f before.counts.selected done in
-    let fewer : c.loop-index.progress.counts.selected < f.most = omega (arith, so.2.by.under_way.wanted, c.if-progress-most.false) in
+    let fewer : c.loop-index.progress.counts.selected < f.most = omega (arith, so.2.by.under_way.wanted, c.wants.ensures.more, c.if-wants-eq0.false) in
     let cut = cut_to (f.most - c.loop-index.progress.counts.selected) said.outcome in
     let next = one_more q f before.counts.selected done c.loop-index.progress.counts.selected so.2.by.selected fewer said.outcome rest in
     let rows = subst (λ k. HoldsPart g.W.Write.contents c.loop-index.out out c.loop-index.outlet.held.items held (item_rows q f k cut)) so.2.by.number said.rows in
@@ -132,7 +132,7 @@ loop-index-preserved g c =
     let within : i < length all = omega (arith, c.loop-index-test.true, c.count-index-end.ensures) in
     let is = sym (get_or_from_slice_get all i item item c.item-item.ensures.item) in
     let answered = answered_of q f before.counts.selected done in
-    let less : c.loop-index.progress.counts.selected < f.most = omega (arith, by.under_way.wanted, c.if-progress-most.false) in
+    let less : c.loop-index.progress.counts.selected < f.most = omega (arith, by.under_way.wanted, c.wants.ensures.more, c.if-wants-eq0.false) in
     let cut = cut_to (f.most - c.loop-index.progress.counts.selected) said.outcome in
     let all_now = with_next q f before.counts.selected done c.loop-index.progress.counts.selected by.selected less said.outcome in
     let rows = subst (λ k. HoldsBack g.W.Write.contents c.loop-index.out out c.loop-index.outlet.held.items held (item_rows q f k cut)) by.number said.rows in
@@ -175,4 +175,4 @@ pass-requires-clause-number g c =
     omega (arith, so.1, so.2.by.number, few, c.requires.numbers, c.loop-index-test.true, c.count-index-end.ensures)
 
 pub pass-requires-clause-selected : goal.pass-requires-clause-selected
-pass-requires-clause-selected g c = ?fits
+pass-requires-clause-selected g c = omega (arith, c.in_ok-verdict.ensures.fits, c.wants.ensures.fits)

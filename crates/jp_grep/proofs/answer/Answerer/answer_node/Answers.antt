@@ -34,7 +34,7 @@ returns-in_default-make_row-clause-answers g c =
     record {
       rows = record {
         first = [];
-        others = asked_rows c.args.self.question.now c.args.self.form.now c.args.number c.args.text.now (asked_tree c.args.asked) (node_of c.args.asked.node);
+        others = asked_rows c.args.self.question.now c.args.self.form.now c.args.number c.args.text.now (asked_tree c.args.asked.now) (node_of c.args.asked.now.node);
         split = refl;
         puts = none_put c.args.out.now c.args.outlet.now.held.items;
         all = λ e. absurd (false≢true e);
@@ -46,8 +46,8 @@ pub returns-in_err-put-clause-answers : goal.returns-in_err-put-clause-answers
 returns-in_err-put-clause-answers g c =
     let q = c.args.self.question.now in
     let f = c.args.self.form.now in
-    let t = asked_tree c.args.asked in
-    let node = node_of c.args.asked.node in
+    let t = asked_tree c.args.asked.now in
+    let node = node_of c.args.asked.now.node in
     let r = c.from_residual.result in
     let failed = c.from_residual.ensures.0 in
     let rows = asked_rows q f c.args.number c.args.text.now t node in
@@ -68,8 +68,8 @@ pub returns-clause-answers : goal.returns-clause-answers
 returns-clause-answers g c =
     let q = c.args.self.question.now in
     let f = c.args.self.form.now in
-    let t = asked_tree c.args.asked in
-    let node = node_of c.args.asked.node in
+    let t = asked_tree c.args.asked.now in
+    let node = node_of c.args.asked.now.node in
     let rows = asked_rows q f c.args.number c.args.text.now t node in
     let made = c.deref.ensures.value ∙ c.in-Ok.ensures.row ∙ sym (asked_at_once (is_selected q t node) f.shown q f c.args.number c.args.text.now t node (λ paths. λ is. c.in_default.not-Values paths is)) in
     record {

@@ -17,8 +17,8 @@ pub returns-in-Ok-false-clause-answers : goal.returns-in-Ok-false-clause-answers
 returns-in-Ok-false-clause-answers g c =
     let q = c.args.self.question.now in
     let f = c.args.self.form.now in
-    let t = asked_tree c.args.asked in
-    let node = node_of c.args.asked.node in
+    let t = asked_tree c.args.asked.now in
+    let node = node_of c.args.asked.now.node in
     let other = unasked q.wanted (all_hold (conditions_of q) node t) (let_match q.purpose (selects (queries_of q) node t)) (sym c.in-Ok-false.ensures.wanted ∙ c.in-Ok-false.field-0-test) in
     record {
       rows = record {
@@ -36,7 +36,7 @@ returns-in-Err-clause-answers g c =
     record {
       rows = record {
         first = [];
-        others = asked_rows c.args.self.question.now c.args.self.form.now c.args.number c.args.text.now (asked_tree c.args.asked) (node_of c.args.asked.node);
+        others = asked_rows c.args.self.question.now c.args.self.form.now c.args.number c.args.text.now (asked_tree c.args.asked.now) (node_of c.args.asked.now.node);
         split = refl;
         puts = none_put c.args.out.now c.args.outlet.now.held.items;
         all = λ e. absurd (false≢true e);
@@ -51,7 +51,7 @@ returns-in_err-some-clause-answers g c =
     let r = c.from_residual.result in
     let failed = c.from_residual.ensures.0 in
     let put = c.in_err-some.ensures.rows in
-    let all = all_values q f c.args.paths c.args.number c.args.text.now (asked_tree c.args.asked) (node_of c.args.asked.node) c.requires.shown (sym c.in-Ok-true.ensures.wanted ∙ c.in-Ok-true.field-0-test) in
+    let all = all_values q f c.args.paths c.args.number c.args.text.now (asked_tree c.args.asked.now) (node_of c.args.asked.now.node) c.requires.shown (sym c.in-Ok-true.ensures.wanted ∙ c.in-Ok-true.field-0-test) in
     record {
       rows = record {
         first = put.first;
@@ -67,8 +67,8 @@ pub returns-in-Some-clause-answers : goal.returns-in-Some-clause-answers
 returns-in-Some-clause-answers g c =
     let q = c.args.self.question.now in
     let f = c.args.self.form.now in
-    let t = asked_tree c.args.asked in
-    let node = node_of c.args.asked.node in
+    let t = asked_tree c.args.asked.now in
+    let node = node_of c.args.asked.now.node in
     let put = c.in_ok-some.ensures.rows in
     let asked = sym c.in-Ok-true.ensures.wanted ∙ c.in-Ok-true.field-0-test in
     let all = all_values q f c.args.paths c.args.number c.args.text.now t node c.requires.shown asked in
@@ -92,7 +92,7 @@ returns-in-None-clause-answers g c =
       rows = record {
         first = put.first;
         others = put.others;
-        split = all_values c.args.self.question.now c.args.self.form.now c.args.paths c.args.number c.args.text.now (asked_tree c.args.asked) (node_of c.args.asked.node) c.requires.shown
+        split = all_values c.args.self.question.now c.args.self.form.now c.args.paths c.args.number c.args.text.now (asked_tree c.args.asked.now) (node_of c.args.asked.now.node) c.requires.shown
             (sym c.in-Ok-true.ensures.wanted ∙ c.in-Ok-true.field-0-test) ∙ put.split;
         puts = put.puts;
         all = λ e. absurd (false≢true e);

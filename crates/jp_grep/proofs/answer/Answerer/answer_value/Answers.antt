@@ -150,16 +150,16 @@ returns-clause-answers g c =
     let apart : asked ≡ front ++ map node_of (drop i nodes) = sym c.in-Ok.ensures.nodes ∙ ap (map node_of) (sym (take-append-drop i nodes)) ∙ map-append node_of (take i nodes) (drop i nodes) in
     let both : (first_rows q f c.args.number c.args.text.now t most asked ≡ flat_map rows front) × (c.loop-node.selected ≡ length (take most (filter (is_selected q t) asked))) = elim c.loop-node-test.branch [
       | else-loop-node-test w ↦
-        let whole : front ≡ asked = ap (map node_of) (take_all i nodes w.loop-node-test.false) ∙ c.in-Ok.ensures.nodes in
-        let few : length (filter (is_selected q t) asked) ≤ most = subst (λ (ns : List Node). length (filter (is_selected q t) ns) ≤ most) whole (omega (arith, c.loop-node.invariant.selected, c.loop-node.invariant.wanted)) in (
-          all_wanted q f c.args.number c.args.text.now t most asked few ∙ ap (flat_map rows) (sym whole),
-          c.loop-node.invariant.selected ∙ ap (λ (ns : List Node). length (filter (is_selected q t) ns)) whole ∙ sym (all_count q f c.args.number c.args.text.now t most asked few),
-        )
+          let whole : front ≡ asked = ap (map node_of) (take_all i nodes w.loop-node-test.false) ∙ c.in-Ok.ensures.nodes in
+          let few : length (filter (is_selected q t) asked) ≤ most = subst (λ (ns : List Node). length (filter (is_selected q t) ns) ≤ most) whole (omega (arith, c.loop-node.invariant.selected, c.loop-node.invariant.wanted)) in (
+            all_wanted q f c.args.number c.args.text.now t most asked few ∙ ap (flat_map rows) (sym whole),
+            c.loop-node.invariant.selected ∙ ap (λ (ns : List Node). length (filter (is_selected q t) ns)) whole ∙ sym (all_count q f c.args.number c.args.text.now t most asked few),
+          )
       | then-loop-node-test+then-selected-most w ↦
-        let as_many : length (filter (is_selected q t) front) ≡ most = sym c.loop-node.invariant.selected ∙ w.if-selected-most.true in (
-          ap (first_rows q f c.args.number c.args.text.now t most) apart ∙ enough_wanted q f c.args.number c.args.text.now t most front (map node_of (drop i nodes)) as_many,
-          w.if-selected-most.true ∙ sym (ap (λ (ns : List Node). length (take most (filter (is_selected q t) ns))) apart ∙ enough_count q f c.args.number c.args.text.now t most front (map node_of (drop i nodes)) as_many),
-        )
+          let as_many : length (filter (is_selected q t) front) ≡ most = sym c.loop-node.invariant.selected ∙ w.if-selected-most.true in (
+            ap (first_rows q f c.args.number c.args.text.now t most) apart ∙ enough_wanted q f c.args.number c.args.text.now t most front (map node_of (drop i nodes)) as_many,
+            w.if-selected-most.true ∙ sym (ap (λ (ns : List Node). length (take most (filter (is_selected q t) ns))) apart ∙ enough_count q f c.args.number c.args.text.now t most front (map node_of (drop i nodes)) as_many),
+          )
     ] in
     record {
       given_up = None;

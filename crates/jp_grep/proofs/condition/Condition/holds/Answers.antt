@@ -27,10 +27,10 @@ unlisted false = refl
 
 pub returns-then-found-ne1 : goal.returns-then-found-ne1
 returns-then-found-ne1 c =
-    let ns = path_nodes (query_path c.in-Membership.query) (node_of c.args.asked.node) (asked_tree c.args.asked) in
+    let ns = path_nodes (query_path c.in-Membership.query) (node_of c.args.asked.now.node) (asked_tree c.args.asked.now) in
     let found = c.found-found.result.now in
     let all : map node_of found ≡ ns = ap (map node_of) c.found-found.ensures ∙ c.in_ok-find-in-Membership.ensures.nodes in
     unlisted c.in-Membership.wanted
     ∙ sym (ap (λ (o : Option Value). let is : Bool = option_map_or (has_value c.in-Membership.listed) o false in cond c.in-Membership.wanted is (not is))
     (none_single ns (λ e. c.if-found-ne1.true (sym (length-map found node_of) ∙ ap length all ∙ e))))
-    ∙ sym (ap (λ (s : declared.Condition). condition_holds (condition_view s) (node_of c.args.asked.node) (asked_tree c.args.asked)) c.in-Membership.is)
+    ∙ sym (ap (λ (s : declared.Condition). condition_holds (condition_view s) (node_of c.args.asked.now.node) (asked_tree c.args.asked.now)) c.in-Membership.is)
