@@ -48,6 +48,16 @@ enum { JPQ_LINES = 0, JPQ_SEQUENCE = 1 };
 /* The most bytes that a collection may have. */
 #define JPQ_MOST UINT32_MAX
 
+/* The faults of a query or a condition, from the first that is looked for. */
+enum {
+    JPQ_FAULT_SIZE = 1,     /* more than 65,535 bytes, or more than 512 of ( and [ together */
+    JPQ_FAULT_SYNTAX = 2,   /* not of the grammar (RFC 9535), or not UTF-8 */
+    JPQ_FAULT_INTEGER = 3,  /* an index or a bound that is not exact, beyond 2^53 - 1 */
+    JPQ_FAULT_NUMBER = 4,   /* a number whose exponent has more than 15 digits */
+    JPQ_FAULT_FUNCTION = 5, /* a function that there is none of */
+    JPQ_FAULT_TYPES = 6     /* a function that does not fit, by its arguments or where it stands */
+};
+
 /* What a call answers. From 11 on these are the program's exit statuses. */
 enum {
     JPQ_DONE = 0,
@@ -99,6 +109,15 @@ void jpq_close(jpq *handle);
  * After JPQ_SCRIPT it has the collection, and no answer. After JPQ_MEMORY it is shut, or as jpq_ask leaves it then. */
 uint32_t jpq_run(const uint8_t *collection, size_t collection_length, uint32_t framing, uint32_t most, const uint8_t *script,
                  size_t script_length, jpq *handle);
+
+/* 0 exactly where a text is read as a query, or as a condition where that is wanted, and else its first fault, one of JPQ_FAULT_SIZE
+ * to JPQ_FAULT_TYPES; or JPQ_MEMORY.
+ *
+ * At a fault `place` is where it is, in bytes from 0; and the first `words` bytes of the room say in English what the grammar has
+ * there, as far as they have room, for a fault of the syntax: 80 bytes are enough. The other faults have no such words. At 0 and
+ * JPQ_MEMORY place, words and room stay as they were. */
+uint32_t jpq_fault(const uint8_t *text, size_t text_length, bool is_condition, uint64_t *place, uint64_t *words, uint8_t *room,
+                   size_t room_length);
 
 #ifdef __cplusplus
 }

@@ -7,18 +7,22 @@
 //! - `jpq_ask`: a script is run over it
 //! - `jpq_left`, `jpq_read`: how much of the answer is left, and its next bytes
 //! - `jpq_run`: a collection is loaded and a script run over it, in one call
+//! - `jpq_fault`: where a query or a condition goes wrong
 #![tactic(auto)]
 
 ghost use Rattle.std.specs.Prelude.{◌≡◌, ◌≢◌, ◌<◌, ◌≤◌, ◌⊎◌, false, true, length, Option, None, Some, IfSome};
 ghost use Rattle.jp_model.specs.Lines.{is_framed};
 ghost use Rattle.jp_c.specs.Calls.{IsStatusOfAsk, IsStatusOfOpen, IsStatusOfRun, framing_of as framing_at, setup_of};
+ghost use Rattle.jp_c.specs.Faults.{IsStatusOfFault, IsTextRead, TellsFault};
 ghost use Rattle.jp_c.specs.Sessions.{HasAnswered, HasAnsweredFirst, IsOpened, IsRead, IsRun, IsRunInPart, left_of};
 
 mod answers;
+mod fault;
 mod handle;
 mod parts;
 mod session;
 
+use fault::{fault_of, number_of, put_words};
 use handle::Jpq;
 use jp_cli::RunFault;
 use jp_lines::is_framed_text;
@@ -167,6 +171,37 @@ pub extern "C" fn jpq_read(alloc: Global, handle: &mut Jpq, room: &mut [u8]) -> 
     let count = session.read(room);
     handle.put(session, alloc);
     count
+}
+
+/// The number of the first fault of a text as a query, or as a condition where that is wanted, and 0 where it has none.
+///
+/// The faults are 1 for the size, 2 for the syntax, 3 for an integer, 4 for a number, 5 for a function and 6 for types. `place` is
+/// where it is, in bytes from 0; and at a fault of the syntax the first `words` bytes of the room say what the grammar has there,
+/// as many as it has room for. The status is 16 where a growth was refused; at 0 and 16 all three stay as they were.
+#[unsafe(no_mangle)]
+pub extern "C" fn jpq_fault(
+    alloc: Global,
+    text: &[u8],
+    is_condition: bool,
+    place: &mut u64,
+    words: &mut u64,
+    room: &mut [u8],
+) -> u32
+    ensures listed { IsStatusOfFault result }
+    ensures read { result ≡ 0 → IsTextRead is_condition text.now }
+    ensures only { IsTextRead is_condition text.now → (result ≡ 0) ⊎ (result ≡ 16) }
+    ensures refused { 0 < result → result < 16 → TellsFault is_condition text.now result place.new words.new room.old room.new }
+    ensures same { (result ≡ 0) ⊎ (result ≡ 16) → (place.new ≡ place.old) × (words.new ≡ words.old) × (room.new ≡ room.old) }
+{
+    match fault_of(alloc, text, is_condition) {
+        Ok(None) => DONE,
+        Ok(Some(found)) => {
+            *place = found.place as u64;
+            *words = put_words(&found, room) as u64;
+            number_of(found.fault)
+        }
+        Err(_) => MEMORY,
+    }
 }
 
 /// Frees what the handle has. A second call does nothing.
