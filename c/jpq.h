@@ -63,6 +63,8 @@ enum {
     JPQ_DONE = 0,
     JPQ_SHUT = 1,     /* the handle is not open */
     JPQ_NUMBER = 2,   /* the framing is neither JPQ_LINES nor JPQ_SEQUENCE */
+    JPQ_QUESTION = 3, /* the query is refused: jpq_fault tells why and where */
+    JPQ_LINE = 4,     /* there is no line of this number */
     JPQ_READ = 11,    /* a read failed: of bytes in memory none does */
     JPQ_SIZE = 12,    /* the collection has more bytes than it may have */
     JPQ_FRAMING = 13, /* bytes other than white space come before the first separator of a sequence */
@@ -76,6 +78,8 @@ static inline const char *jpq_message(uint32_t status) {
     case JPQ_DONE: return "done";
     case JPQ_SHUT: return "the handle is not open";
     case JPQ_NUMBER: return "no such framing";
+    case JPQ_QUESTION: return "query refused";
+    case JPQ_LINE: return "no such line";
     case JPQ_READ: return "cannot read";
     case JPQ_SIZE: return "collection too large";
     case JPQ_FRAMING: return "bytes before first separator";
@@ -109,6 +113,17 @@ void jpq_close(jpq *handle);
  * After JPQ_SCRIPT it has the collection, and no answer. After JPQ_MEMORY it is shut, or as jpq_ask leaves it then. */
 uint32_t jpq_run(const uint8_t *collection, size_t collection_length, uint32_t framing, uint32_t most, const uint8_t *script,
                  size_t script_length, jpq *handle);
+
+/* Keeps the bytes of a line of the collection to be read, without what separates lines. Lines count from 1. What was left of the
+ * answer before is dropped. After JPQ_SHUT, JPQ_LINE and JPQ_MEMORY nothing is left to be read. */
+uint32_t jpq_line(jpq *handle, uint64_t number);
+
+/* Keeps a row for each node that a query selects in a line of the collection, in the query's order: the byte of the line at which the
+ * text of the node begins, the byte behind its end, both from 0, and its normalized path, with tabs between them and a line feed
+ * behind. A blank or a refused line has no rows. Lines count from 1. What was left of the answer before is dropped.
+ *
+ * After JPQ_SHUT, JPQ_QUESTION, JPQ_LINE and JPQ_MEMORY nothing is left to be read. */
+uint32_t jpq_marks(jpq *handle, uint64_t number, const uint8_t *query, size_t query_length);
 
 /* 0 exactly where a text is read as a query, or as a condition where that is wanted, and else its first fault, one of JPQ_FAULT_SIZE
  * to JPQ_FAULT_TYPES; or JPQ_MEMORY.

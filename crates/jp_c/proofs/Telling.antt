@@ -5,12 +5,11 @@ use Rattle.std.proofs.lemmas.Bool.{false≢true}
 use Rattle.jp_model.specs.declared.QueryFault.{QueryFault}
 use Rattle.jp_model.specs.declared.QueryFault.TheVariants as faults
 use Rattle.jp_model.specs.Query.Limits.{is_oversized}
-use Rattle.jp_model.specs.Query.Status.{QueryStatus, fault_of_query, query, refused_query}
+use Rattle.jp_model.specs.Query.Status.{fault_of_query, query, refused_query}
 use Rattle.jp_model.specs.Query.Syntax.{Logical, Segments}
 use Rattle.jp_query.proofs.Statuses.{one_tree}
 use Rattle.jp_query.specs.Conditions.{ConditionHasFault, RefusesCondition}
 use Rattle.jp_query.specs.Refusals.{IsConditionOf}
-use Rattle.jp_query.specs.Status.{query_of}
 use Rattle.jp_syntax.specs.Filters.{filter_by, in_filter}
 use Rattle.jp_c.specs.Faults.{IsRefusedBy, IsTextRead}
 

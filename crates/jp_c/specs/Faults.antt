@@ -1,5 +1,5 @@
 -- What is told of the text of a query or of a condition.
-use Rattle.std.specs.Prelude.{◌≡◌, ℕ, ◌≤◌, List, length, drop, Bool, true, false, ◌⊎◌, Option, Some, None, Result, Ok, Err}
+use Rattle.std.specs.Prelude.{◌≡◌, ℕ, ◌≤◌, List, length, drop, Bool, true, false, ◌⊎◌}
 use Rattle.jp_model.specs.declared.QueryFault.{QueryFault}
 use Rattle.jp_model.specs.declared.QueryFault.TheVariants as faults
 use Rattle.jp_model.specs.Query.Status.{query, refused_query}

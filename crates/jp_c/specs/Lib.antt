@@ -1,4 +1,5 @@
 pub mod Calls
 pub mod Faults
+pub mod Lines
 pub mod Owned
 pub mod Sessions

@@ -7,18 +7,21 @@
 //! - `jpq_ask`: a script is run over it
 //! - `jpq_left`, `jpq_read`: how much of the answer is left, and its next bytes
 //! - `jpq_run`: a collection is loaded and a script run over it, in one call
+//! - `jpq_line`, `jpq_marks`: a line of the collection; where the nodes that a query selects stand in it
 //! - `jpq_fault`: where a query or a condition goes wrong
 #![tactic(auto)]
 
-ghost use Rattle.std.specs.Prelude.{◌≡◌, ◌≢◌, ◌<◌, ◌≤◌, ◌⊎◌, false, true, length, Option, None, Some, IfSome};
+ghost use Rattle.std.specs.Prelude.{◌≡◌, ◌≢◌, ◌<◌, ◌≤◌, ◌⊎◌, [], false, true, length, Option, None, Some, IfSome};
 ghost use Rattle.jp_model.specs.Lines.{is_framed};
-ghost use Rattle.jp_c.specs.Calls.{IsStatusOfAsk, IsStatusOfOpen, IsStatusOfRun, framing_of as framing_at, setup_of};
+ghost use Rattle.jp_c.specs.Calls.{IsStatusOfAsk, IsStatusOfLine, IsStatusOfMarks, IsStatusOfOpen, IsStatusOfRun, framing_of as framing_at, setup_of};
 ghost use Rattle.jp_c.specs.Faults.{IsStatusOfFault, IsTextRead, TellsFault};
-ghost use Rattle.jp_c.specs.Sessions.{HasAnswered, HasAnsweredFirst, IsOpened, IsRead, IsRun, IsRunInPart, left_of};
+ghost use Rattle.jp_c.specs.Lines.{AreMarkedIn, IsRefusedText, KeepsLines, line_of};
+ghost use Rattle.jp_c.specs.Sessions.{HasAnswered, HasAnsweredFirst, IsOpened, IsRead, IsRun, IsRunInPart, KeepsCollection, left_of};
 
 mod answers;
 mod fault;
 mod handle;
+mod lines;
 mod parts;
 mod session;
 
@@ -28,6 +31,7 @@ use jp_cli::RunFault;
 use jp_lines::is_framed_text;
 use jp_model::{Framing, Watched};
 use jp_store::{LoadFault, Store};
+use lines::ShowFault;
 use session::Session;
 use std::alloc::Global;
 
@@ -38,7 +42,13 @@ const DONE: u32 = 0;
 const SHUT: u32 = 1;
 
 /// The framing is none.
-const FRAMING_NUMBER: u32 = 2;
+const NUMBER: u32 = 2;
+
+/// The query is refused.
+const QUESTION: u32 = 3;
+
+/// There is no line of this number.
+const LINE: u32 = 4;
 
 /// A read failed, which no read of bytes in memory does.
 const READ: u32 = 11;
@@ -91,7 +101,7 @@ pub extern "C" fn jpq_open(
 {
     drop(handle.take(alloc));
     let Some(framing) = framing_of(framing) else {
-        return FRAMING_NUMBER;
+        return NUMBER;
     };
     if collection.len() > most as usize {
         return SIZE;
@@ -201,6 +211,63 @@ pub extern "C" fn jpq_fault(
             number_of(found.fault)
         }
         Err(_) => MEMORY,
+    }
+}
+
+/// Keeps the bytes of a line of the collection to be read. Lines count from 1.
+///
+/// The status is 1 where the handle is not open, 4 where there is no line of this number, and 16 where a growth was refused. Then
+/// nothing is left to be read.
+#[unsafe(no_mangle)]
+pub extern "C" fn jpq_line(alloc: Global, handle: &mut Jpq, number: u64) -> u32
+    ensures listed { IsStatusOfLine result }
+    ensures shut { handle.old.session ≡ None → result ≡ 1 }
+    ensures is_shut { result ≡ 1 → handle.old.session ≡ None }
+    ensures line { result ≡ 0 → line_of number handle.old.session ≡ Some (left_of handle.new.session) }
+    ensures absent { handle.old.session ≢ None → line_of number handle.old.session ≡ None → result ≡ 4 }
+    ensures is_absent { result ≡ 4 → line_of number handle.old.session ≡ None }
+    ensures nothing { 0 < result → left_of handle.new.session ≡ [] }
+    ensures collection { KeepsCollection handle.old.session handle.new.session }
+{
+    let Some(mut session) = handle.take(alloc) else {
+        return SHUT;
+    };
+    let shown = session.show_line(alloc, number);
+    handle.put(session, alloc);
+    match shown {
+        Ok(()) => DONE,
+        Err(ShowFault::Line) => LINE,
+        Err(_) => MEMORY,
+    }
+}
+
+/// Keeps a row for each node that a query selects in a line of the collection, in its order: the byte of the line at which the
+/// node's text begins and the one behind its end, from 0, and its normalized path, with tabs between them. Lines count from 1, and
+/// a blank or a refused line has no rows.
+///
+/// The status is 1 where the handle is not open, 3 where the query is refused, 4 where there is no line of this number, and 16
+/// where a growth was refused. Then nothing is left to be read.
+#[unsafe(no_mangle)]
+pub extern "C" fn jpq_marks(alloc: Global, handle: &mut Jpq, number: u64, query: &[u8]) -> u32
+    ensures listed { IsStatusOfMarks result }
+    ensures shut { handle.old.session ≡ None → result ≡ 1 }
+    ensures is_shut { result ≡ 1 → handle.old.session ≡ None }
+    ensures marks { result ≡ 0 → AreMarkedIn query.now number handle.old.session (left_of handle.new.session) }
+    ensures refused { result ≡ 3 → IsRefusedText query.now }
+    ensures absent { result ≡ 4 → line_of number handle.old.session ≡ None }
+    ensures nothing { 0 < result → left_of handle.new.session ≡ [] }
+    ensures lines { KeepsLines handle.old.session handle.new.session }
+{
+    let Some(mut session) = handle.take(alloc) else {
+        return SHUT;
+    };
+    let shown = session.show_marks(alloc, number, query);
+    handle.put(session, alloc);
+    match shown {
+        Ok(()) => DONE,
+        Err(ShowFault::Query) => QUESTION,
+        Err(ShowFault::Line) => LINE,
+        Err(ShowFault::Memory) => MEMORY,
     }
 }
 
