@@ -48,6 +48,21 @@ enum { JPQ_LINES = 0, JPQ_SEQUENCE = 1 };
 /* The most bytes that a collection may have. */
 #define JPQ_MOST UINT32_MAX
 
+/* What jpq_filter shows of the lines that match: nothing; the line; each value with its path, or alone; a row of a table. CANONICAL is
+ * the canonical form of a line or a value, and TEXT a string without its quotes and escapes, and any other value as it is spelled. */
+enum {
+    JPQ_NOTHING = 0,
+    JPQ_LINE_ROWS = 1,
+    JPQ_PATHS = 2,
+    JPQ_CSV = 3,
+    JPQ_TSV = 4,
+    JPQ_CANONICAL_LINES = 5,
+    JPQ_CANONICAL_PATHS = 6,
+    JPQ_CANONICAL_VALUES = 7,
+    JPQ_VALUES = 8,
+    JPQ_TEXT_VALUES = 9
+};
+
 /* The faults of a query or a condition, from the first that is looked for. */
 enum {
     JPQ_FAULT_SIZE = 1,     /* more than 65,535 bytes, or more than 512 of ( and [ together */
@@ -62,9 +77,10 @@ enum {
 enum {
     JPQ_DONE = 0,
     JPQ_SHUT = 1,     /* the handle is not open */
-    JPQ_NUMBER = 2,   /* the framing is neither JPQ_LINES nor JPQ_SEQUENCE */
-    JPQ_QUESTION = 3, /* the query is refused: jpq_fault tells why and where */
+    JPQ_NUMBER = 2,   /* the framing is neither JPQ_LINES nor JPQ_SEQUENCE, or what is to be shown is none of the list */
+    JPQ_QUESTION = 3, /* the query or the condition is refused: jpq_fault tells why and where */
     JPQ_LINE = 4,     /* there is no line of this number */
+    JPQ_FORMAT = 5,   /* the text begins with the mark of another format, as compressed data do */
     JPQ_READ = 11,    /* a read failed: of bytes in memory none does */
     JPQ_SIZE = 12,    /* the collection has more bytes than it may have */
     JPQ_FRAMING = 13, /* bytes other than white space come before the first separator of a sequence */
@@ -77,9 +93,10 @@ static inline const char *jpq_message(uint32_t status) {
     switch (status) {
     case JPQ_DONE: return "done";
     case JPQ_SHUT: return "the handle is not open";
-    case JPQ_NUMBER: return "no such framing";
-    case JPQ_QUESTION: return "query refused";
+    case JPQ_NUMBER: return "no such number";
+    case JPQ_QUESTION: return "query or condition refused";
     case JPQ_LINE: return "no such line";
+    case JPQ_FORMAT: return "text of another format";
     case JPQ_READ: return "cannot read";
     case JPQ_SIZE: return "collection too large";
     case JPQ_FRAMING: return "bytes before first separator";
@@ -113,6 +130,19 @@ void jpq_close(jpq *handle);
  * After JPQ_SCRIPT it has the collection, and no answer. After JPQ_MEMORY it is shut, or as jpq_ask leaves it then. */
 uint32_t jpq_run(const uint8_t *collection, size_t collection_length, uint32_t framing, uint32_t most, const uint8_t *script,
                  size_t script_length, jpq *handle);
+
+/* Searches the lines of a text (JSON Lines), of which no copy is kept, by a condition and by queries, as the program jpgrep does, and
+ * keeps the rows to be read by jpq_left and jpq_read. What was left of the answer before is dropped; the collection stays as it is.
+ *
+ * The condition is a logical expression as in a filter of RFC 9535, in which @ and $ are the value of the line; an empty one is none.
+ * The queries stand one on each line, and an empty line is none; without a query it is $. `shown` is one of the list above. For
+ * JPQ_CSV and JPQ_TSV each query is a column, and has to be singular, so that it selects no more than one node; else a line matches
+ * only where a query selects a node of it. With `numbered` each row begins with the number of its line, from 1, and a colon, or in a
+ * table with a cell. Refused lines match nothing. A byte order mark at the front is dropped.
+ *
+ * After JPQ_SHUT, JPQ_NUMBER, JPQ_QUESTION, JPQ_FORMAT and JPQ_MEMORY nothing is left to be read. */
+uint32_t jpq_filter(jpq *handle, const uint8_t *text, size_t text_length, const uint8_t *condition, size_t condition_length,
+                    const uint8_t *queries, size_t queries_length, uint32_t shown, bool numbered);
 
 /* Keeps the bytes of a line of the collection to be read, without what separates lines. Lines count from 1. What was left of the
  * answer before is dropped. After JPQ_SHUT, JPQ_LINE and JPQ_MEMORY nothing is left to be read. */

@@ -25,6 +25,9 @@ IsStatusOfAsk status = (status ≡ 0) ⊎ (status ≡ 1) ⊎ (status ≡ 11) ⊎
 abbrev pub IsStatusOfRun : ℕ → Type 0
 IsStatusOfRun status = (status ≡ 0) ⊎ (status ≡ 2) ⊎ (status ≡ 11) ⊎ (status ≡ 12) ⊎ (status ≡ 13) ⊎ (status ≡ 14) ⊎ (status ≡ 16)
 
+abbrev pub IsStatusOfFilter : ℕ → Type 0
+IsStatusOfFilter status = (status ≡ 0) ⊎ (status ≡ 1) ⊎ (status ≡ 2) ⊎ (status ≡ 3) ⊎ (status ≡ 5) ⊎ (status ≡ 11) ⊎ (status ≡ 16)
+
 abbrev pub IsStatusOfLine : ℕ → Type 0
 IsStatusOfLine status = (status ≡ 0) ⊎ (status ≡ 1) ⊎ (status ≡ 4) ⊎ (status ≡ 16)
 

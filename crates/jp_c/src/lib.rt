@@ -7,22 +7,26 @@
 //! - `jpq_ask`: a script is run over it
 //! - `jpq_left`, `jpq_read`: how much of the answer is left, and its next bytes
 //! - `jpq_run`: a collection is loaded and a script run over it, in one call
+//! - `jpq_filter`: the rows of the lines of a text that answer a condition and queries
 //! - `jpq_line`, `jpq_marks`: a line of the collection; where the nodes that a query selects stand in it
 //! - `jpq_fault`: where a query or a condition goes wrong
 #![tactic(auto)]
 
 ghost use Rattle.std.specs.Prelude.{◌≡◌, ◌≢◌, ◌<◌, ◌≤◌, ◌⊎◌, [], false, true, length, Option, None, Some, IfSome};
 ghost use Rattle.jp_model.specs.Lines.{is_framed};
-ghost use Rattle.jp_c.specs.Calls.{IsStatusOfAsk, IsStatusOfLine, IsStatusOfMarks, IsStatusOfOpen, IsStatusOfRun, framing_of as framing_at, setup_of};
+ghost use Rattle.jp_c.specs.Asked.{IsFilteredBy, IsForeign, IsRefusedFor, rows_of};
+ghost use Rattle.jp_c.specs.Calls.{IsStatusOfAsk, IsStatusOfFilter, IsStatusOfLine, IsStatusOfMarks, IsStatusOfOpen, IsStatusOfRun, framing_of as framing_at, setup_of};
 ghost use Rattle.jp_c.specs.Faults.{IsStatusOfFault, IsTextRead, TellsFault};
 ghost use Rattle.jp_c.specs.Lines.{AreMarkedIn, IsRefusedText, KeepsLines, line_of};
 ghost use Rattle.jp_c.specs.Sessions.{HasAnswered, HasAnsweredFirst, IsOpened, IsRead, IsRun, IsRunInPart, KeepsCollection, left_of};
 
 mod answers;
 mod fault;
+mod filter;
 mod handle;
 mod lines;
 mod parts;
+mod question;
 mod session;
 
 use fault::{fault_of, number_of, put_words};
@@ -32,6 +36,7 @@ use jp_lines::is_framed_text;
 use jp_model::{Framing, Watched};
 use jp_store::{LoadFault, Store};
 use lines::ShowFault;
+use question::FilterFault;
 use session::Session;
 use std::alloc::Global;
 
@@ -41,14 +46,17 @@ const DONE: u32 = 0;
 /// The handle is not open.
 const SHUT: u32 = 1;
 
-/// The framing is none.
+/// The framing, or what is to be shown, is none.
 const NUMBER: u32 = 2;
 
-/// The query is refused.
+/// The condition or a query is refused.
 const QUESTION: u32 = 3;
 
 /// There is no line of this number.
 const LINE: u32 = 4;
+
+/// The text begins with the mark of another format.
+const FORMAT: u32 = 5;
 
 /// A read failed, which no read of bytes in memory does.
 const READ: u32 = 11;
@@ -211,6 +219,52 @@ pub extern "C" fn jpq_fault(
             number_of(found.fault)
         }
         Err(_) => MEMORY,
+    }
+}
+
+/// Searches the lines of a text (JSON Lines) by a condition, unless it is empty, and by queries, one on each line that is not
+/// empty, and keeps the rows to be read. Without a query it is `$`. The collection stays as it is.
+///
+/// What is shown of the lines that match: 0 nothing, 1 the line, 2 paths and values, 3 a row of CSV, 4 a row of TSV, 5 the line in
+/// canonical form, 6 paths and values in it, 7 values in it, 8 values as they are spelled, 9 values with strings as text. At 3 and 4
+/// each query is a column, and singular; else a line matches only where a query selects a node of it. `numbered` puts the number
+/// of the line, from 1, in front of each row.
+///
+/// The status is 1 where the handle is not open, 2 where `shown` is none of these, 3 where the condition or a query is refused, 5
+/// where the text begins with the mark of another format, and 16 where a growth was refused. Then nothing is left to be read.
+#[unsafe(no_mangle)]
+pub extern "C" fn jpq_filter(
+    alloc: Global,
+    handle: &mut Jpq,
+    text: &[u8],
+    condition: &[u8],
+    queries: &[u8],
+    shown: u32,
+    numbered: bool,
+) -> u32
+    ensures listed { IsStatusOfFilter result }
+    ensures shut { handle.old.session ≡ None → result ≡ 1 }
+    ensures is_shut { result ≡ 1 → handle.old.session ≡ None }
+    ensures number { handle.old.session ≢ None → rows_of shown ≡ None → result ≡ 2 }
+    ensures no_number { result ≡ 2 → rows_of shown ≡ None }
+    ensures found { result ≡ 0 → IsFilteredBy text.now condition.now queries.now (rows_of shown) numbered (left_of handle.new.session) }
+    ensures refused { result ≡ 3 → IsRefusedFor condition.now queries.now (rows_of shown) }
+    ensures foreign { result ≡ 5 → IsForeign text.now }
+    ensures nothing { 0 < result → left_of handle.new.session ≡ [] }
+    ensures collection { KeepsCollection handle.old.session handle.new.session }
+{
+    let Some(mut session) = handle.take(alloc) else {
+        return SHUT;
+    };
+    let found = session.filter(alloc, text, condition, queries, shown, numbered);
+    handle.put(session, alloc);
+    match found {
+        Ok(()) => DONE,
+        Err(FilterFault::Shown) => NUMBER,
+        Err(FilterFault::Question) => QUESTION,
+        Err(FilterFault::Format) => FORMAT,
+        Err(FilterFault::Read) => READ,
+        Err(FilterFault::Memory) => MEMORY,
     }
 }
 
