@@ -201,10 +201,48 @@ def pipes():
     shows("closed before its end", (ValueError, None), raised(lambda: list(left)))
 
 
+def singles():
+    """The calls that the library answers alone."""
+    log = opened(LINES)
+    if way == "program":
+        for name, act in ("line", lambda: log.line(1)), ("fault", lambda: log.fault("$")), ("filter", lambda: log.filter(b"")):
+            shows(f"no {name}", (jpq.Error, None), raised(act))
+        log.close()
+        return
+    rows = log.query("$.a")
+    shows("the first of an answer", b"1.50", next(rows).bytes)
+    shows("lines", (b'{"a":1.50,"b":[1,\t2]}', b"", b"\xff"), (log.line(1), log.line(2), log.line(3)))
+    shows("the rest of the answer before", [4, 5], [row.line for row in rows])
+    shows("marks", [(5, 9, "$['a']"), (14, 20, "$['b']")], log.marks(1, "$['a',\n'b']"))
+    shows("no marks", ([], []), (log.marks(2, "$"), log.marks(3, b"$")))
+    shows("no line", [(jpq.LineRefusal, "line")] * 4, [raised(lambda n=n: log.line(n)) for n in (0, 6, -1, 1 << 70)])
+    shows("marks of no line", (jpq.LineRefusal, "line"), raised(lambda: log.marks(6, "$")))
+    shows("marks, refused", (jpq.QueryRefusal, "query types"), raised(lambda: log.marks(1, "$[?length(@)]")))
+    text = b'{"n":1,"s":"a,b"}\n{"n":2}\nx\n{"n":3,"s":"\\u00e9"}'
+    shows("filter", b"1\n3\n", log.filter(text, "$.n", where="@.s"))
+    shows("lines of it", b'2:{"n":2}\n', log.filter(memoryview(text), where=b"@.n == 2", show="lines", numbered=True))
+    shows("a table", b'1,"a,b"\n2,\n3,\xc3\xa9\n', log.filter(bytearray(text), "$.n", "$.s", show="csv"))
+    shows("paths", b"$['s']\t\"a,b\"\n$['s']\t\"\\u00e9\"\n", log.filter(text, "$.s", show="paths"))
+    shows("strings as text", b"a,b\n\xc3\xa9\n", log.filter(text, "$.s", show="text"))
+    shows("canonical values", b'"a,b"\n"\xc3\xa9"\n', log.filter(text, "$.s", show="canonical values"))
+    shows("nothing", (b"", b""), (log.filter(text, show="nothing"), log.filter(b"")))
+    shows("filter, refused", [(jpq.QueryRefusal, "condition syntax"), (jpq.QueryRefusal, "query function"), (jpq.QueryRefusal, "query column")],
+          [raised(act) for act in (lambda: log.filter(text, where="@.n ="), lambda: log.filter(text, "$", "$[?f(@)]"),
+                                   lambda: log.filter(text, "$..n", show="tsv"))])
+    shows("another format", (jpq.Error, None), raised(lambda: log.filter(b"\x1f\x8b")))
+    shows("no such show", (ValueError, None), raised(lambda: log.filter(text, show="all")))
+    shows("faults", [None, ("syntax", 2, "a selector"), ("integer", 2, ""), ("types", 3, "")],
+          [log.fault(query) for query in ("$.a", "$[", "$[9007199254740992]", "$[?length(@)]")])
+    shows("fault of a condition", (None, ("syntax", 0, "'$'")), (log.fault("@.a", condition=True), log.fault("@.a")))
+    shows("as before", (5, 1, 1, ((3, "utf8"),)), log.check())
+    log.close()
+    shows("closed", [(ValueError, None)] * 2, [raised(lambda: log.line(1)), raised(lambda: log.fault("$"))])
+
+
 ways = [("program", {"program": program})] + [("library", {"library": name}) for name in library]
 for way, named in ways:
     opened = functools.partial(jpq.open, **named)
-    for try_it in (answers, refusals, statuses, places, files, sequences, pipes, threads):
+    for try_it in (answers, refusals, statuses, places, files, sequences, pipes, singles, threads):
         try_it()
 os.environ["JPQ"] = program
 os.environ["JPQ_LIBRARY"] = library[0] if library else "./absent"

@@ -48,11 +48,39 @@ enum { JPQ_LINES = 0, JPQ_SEQUENCE = 1 };
 /* The most bytes that a collection may have. */
 #define JPQ_MOST UINT32_MAX
 
+/* What jpq_filter shows of the lines that match: nothing; the line; each value with its path, or alone; a row of a table. CANONICAL is
+ * the canonical form of a line or a value, and TEXT a string without its quotes and escapes, and any other value as it is spelled. */
+enum {
+    JPQ_NOTHING = 0,
+    JPQ_LINE_ROWS = 1,
+    JPQ_PATHS = 2,
+    JPQ_CSV = 3,
+    JPQ_TSV = 4,
+    JPQ_CANONICAL_LINES = 5,
+    JPQ_CANONICAL_PATHS = 6,
+    JPQ_CANONICAL_VALUES = 7,
+    JPQ_VALUES = 8,
+    JPQ_TEXT_VALUES = 9
+};
+
+/* The faults of a query or a condition, from the first that is looked for. */
+enum {
+    JPQ_FAULT_SIZE = 1,     /* more than 65,535 bytes, or more than 512 of ( and [ together */
+    JPQ_FAULT_SYNTAX = 2,   /* not of the grammar (RFC 9535), or not UTF-8 */
+    JPQ_FAULT_INTEGER = 3,  /* an index or a bound that is not exact, beyond 2^53 - 1 */
+    JPQ_FAULT_NUMBER = 4,   /* a number whose exponent has more than 15 digits */
+    JPQ_FAULT_FUNCTION = 5, /* a function that there is none of */
+    JPQ_FAULT_TYPES = 6     /* a function that does not fit, by its arguments or where it stands */
+};
+
 /* What a call answers. From 11 on these are the program's exit statuses. */
 enum {
     JPQ_DONE = 0,
     JPQ_SHUT = 1,     /* the handle is not open */
-    JPQ_NUMBER = 2,   /* the framing is neither JPQ_LINES nor JPQ_SEQUENCE */
+    JPQ_NUMBER = 2,   /* the framing is neither JPQ_LINES nor JPQ_SEQUENCE, or what is to be shown is none of the list */
+    JPQ_QUESTION = 3, /* the query or the condition is refused: jpq_fault tells why and where */
+    JPQ_LINE = 4,     /* there is no line of this number */
+    JPQ_FORMAT = 5,   /* the text begins with the mark of another format, as compressed data do */
     JPQ_READ = 11,    /* a read failed: of bytes in memory none does */
     JPQ_SIZE = 12,    /* the collection has more bytes than it may have */
     JPQ_FRAMING = 13, /* bytes other than white space come before the first separator of a sequence */
@@ -65,7 +93,10 @@ static inline const char *jpq_message(uint32_t status) {
     switch (status) {
     case JPQ_DONE: return "done";
     case JPQ_SHUT: return "the handle is not open";
-    case JPQ_NUMBER: return "no such framing";
+    case JPQ_NUMBER: return "no such number";
+    case JPQ_QUESTION: return "query or condition refused";
+    case JPQ_LINE: return "no such line";
+    case JPQ_FORMAT: return "text of another format";
     case JPQ_READ: return "cannot read";
     case JPQ_SIZE: return "collection too large";
     case JPQ_FRAMING: return "bytes before first separator";
@@ -99,6 +130,39 @@ void jpq_close(jpq *handle);
  * After JPQ_SCRIPT it has the collection, and no answer. After JPQ_MEMORY it is shut, or as jpq_ask leaves it then. */
 uint32_t jpq_run(const uint8_t *collection, size_t collection_length, uint32_t framing, uint32_t most, const uint8_t *script,
                  size_t script_length, jpq *handle);
+
+/* Searches the lines of a text (JSON Lines), of which no copy is kept, by a condition and by queries, as the program jpgrep does, and
+ * keeps the rows to be read by jpq_left and jpq_read. What was left of the answer before is dropped; the collection stays as it is.
+ *
+ * The condition is a logical expression as in a filter of RFC 9535, in which @ and $ are the value of the line; an empty one is none.
+ * The queries stand one on each line, and an empty line is none; without a query it is $. `shown` is one of the list above. For
+ * JPQ_CSV and JPQ_TSV each query is a column, and has to be singular, so that it selects no more than one node; else a line matches
+ * only where a query selects a node of it. With `numbered` each row begins with the number of its line, from 1, and a colon, or in a
+ * table with a cell. Refused lines match nothing. A byte order mark at the front is dropped.
+ *
+ * After JPQ_SHUT, JPQ_NUMBER, JPQ_QUESTION, JPQ_FORMAT and JPQ_MEMORY nothing is left to be read. */
+uint32_t jpq_filter(jpq *handle, const uint8_t *text, size_t text_length, const uint8_t *condition, size_t condition_length,
+                    const uint8_t *queries, size_t queries_length, uint32_t shown, bool numbered);
+
+/* Keeps the bytes of a line of the collection to be read, without what separates lines. Lines count from 1. What was left of the
+ * answer before is dropped. After JPQ_SHUT, JPQ_LINE and JPQ_MEMORY nothing is left to be read. */
+uint32_t jpq_line(jpq *handle, uint64_t number);
+
+/* Keeps a row for each node that a query selects in a line of the collection, in the query's order: the byte of the line at which the
+ * text of the node begins, the byte behind its end, both from 0, and its normalized path, with tabs between them and a line feed
+ * behind. A blank or a refused line has no rows. Lines count from 1. What was left of the answer before is dropped.
+ *
+ * After JPQ_SHUT, JPQ_QUESTION, JPQ_LINE and JPQ_MEMORY nothing is left to be read. */
+uint32_t jpq_marks(jpq *handle, uint64_t number, const uint8_t *query, size_t query_length);
+
+/* 0 exactly where a text is read as a query, or as a condition where that is wanted, and else its first fault, one of JPQ_FAULT_SIZE
+ * to JPQ_FAULT_TYPES; or JPQ_MEMORY.
+ *
+ * At a fault `place` is where it is, in bytes from 0; and the first `words` bytes of the room say in English what the grammar has
+ * there, as far as they have room, for a fault of the syntax: 80 bytes are enough. The other faults have no such words. At 0 and
+ * JPQ_MEMORY place, words and room stay as they were. */
+uint32_t jpq_fault(const uint8_t *text, size_t text_length, bool is_condition, uint64_t *place, uint64_t *words, uint8_t *room,
+                   size_t room_length);
 
 #ifdef __cplusplus
 }

@@ -34,8 +34,8 @@ import threading
 import weakref
 from typing import Any, BinaryIO, Iterable, Iterator, List, NamedTuple, Optional, Tuple, Union
 
-__all__ = ["open", "loads", "Log", "Row", "Rows", "Refused", "Check", "Plan", "Error", "Ended", "Refusal", "QueryRefusal",
-           "IndexRefusal", "LineRefusal", "SizeRefusal", "SeparatorRefusal", "MemoryRefusal", "CommandRefusal"]
+__all__ = ["open", "loads", "Log", "Row", "Rows", "Refused", "Check", "Plan", "Mark", "Fault", "Error", "Ended", "Refusal",
+           "QueryRefusal", "IndexRefusal", "LineRefusal", "SizeRefusal", "SeparatorRefusal", "MemoryRefusal", "CommandRefusal"]
 
 
 # What can be opened: the name of a file, its bytes, a binary file that is open, or the parts of its bytes in turn.
@@ -80,6 +80,31 @@ class Plan(NamedTuple):
     lines: int
 
 
+class Mark(NamedTuple):
+    """Where a selected value stands in its line, from byte `start`, counted from 0, to the byte before `end`, and its normalized path."""
+
+    start: int
+    end: int
+    path: str
+
+
+class Fault(NamedTuple):
+    """Why a query or a condition is refused: one of size, syntax, integer, number, function, types; where, in bytes from 0; and what
+    the grammar has there in place of what stands there, where the fault is of the syntax."""
+
+    fault: str
+    place: int
+    expected: str
+
+
+# What `Log.filter` shows, by its number in jpq.h.
+SHOWN = {"nothing": 0, "lines": 1, "paths": 2, "csv": 3, "tsv": 4, "canonical lines": 5, "canonical paths": 6, "canonical values": 7,
+         "values": 8, "text": 9}
+
+
+FAULTS = ("size", "syntax", "integer", "number", "function", "types")
+
+
 # The line that ends an answer begins so. No row does: it begins with its number (in a sequence with the byte 1E), with the `$`
 # of an index or with another word of a plan. Nor does a line within a value of a sequence, as no token of JSON begins with one
 # of these letters, and no string holds a line feed.
@@ -110,15 +135,18 @@ class Refusal(Error):
 
 
 class QueryRefusal(Refusal):
-    """`query` and one of syntax, integer, function, types, size, number."""
+    """`query`, or of the condition of `filter` `condition`, and one of syntax, integer, function, types, size, number; or `query column`,
+    where a query is a column of a table and may select more than one value."""
 
     @property
     def place(self) -> Optional[str]:
         """Where the query goes wrong, as jpgrep shows it: the words for it, the query, a caret below the place, and what was
         probably meant, where jpgrep knows that. None where there is no jpgrep on the path, or it finds no fault."""
-        query = self.command.partition(b" ")[2].replace(b"\r", b" ")
+        word, _, query = self.command.partition(b" ")
+        option = "-w" if word == b"where" else "-e"
         try:
-            said = subprocess.run(["jpgrep", "--check", "-e", query], stdin=subprocess.DEVNULL, capture_output=True).stderr
+            said = subprocess.run(["jpgrep", "--check", option, query.replace(b"\r", b" ")], stdin=subprocess.DEVNULL,
+                                  capture_output=True).stderr
         except (OSError, ValueError):
             return None
         return said.decode(errors="replace").rstrip("\n") or None
@@ -293,21 +321,53 @@ class _Library(_Lines):
             for call, answers, takes in (
                     (calls.jpq_open, ctypes.c_uint32, [text, length, ctypes.c_uint32, ctypes.c_uint32, handle]),
                     (calls.jpq_ask, ctypes.c_uint32, [handle, ctypes.c_char_p, length]),
-                    (calls.jpq_read, length, [handle, text, length]), (calls.jpq_close, None, [handle])):
+                    (calls.jpq_left, length, [handle]), (calls.jpq_read, length, [handle, text, length]),
+                    (calls.jpq_line, ctypes.c_uint32, [handle, ctypes.c_uint64]),
+                    (calls.jpq_marks, ctypes.c_uint32, [handle, ctypes.c_uint64, ctypes.c_char_p, length]),
+                    (calls.jpq_filter, ctypes.c_uint32, [handle, text, length, ctypes.c_char_p, length, ctypes.c_char_p, length,
+                                                         ctypes.c_uint32, ctypes.c_bool]),
+                    (calls.jpq_fault, ctypes.c_uint32, [ctypes.c_char_p, length, ctypes.c_bool, ctypes.POINTER(ctypes.c_uint64),
+                                                        ctypes.POINTER(ctypes.c_uint64), text, length]),
+                    (calls.jpq_close, None, [handle])):
                 call.restype, call.argtypes = answers, takes
         except (OSError, AttributeError):
             return None
         return calls
 
-    def _load(self, given, seq):
+    @staticmethod
+    def _place(given):
+        """Where bytes begin, and how many they are."""
         length = memoryview(given).nbytes
         if length == 0 or memoryview(given).readonly:  # ctypes finds the place of bytes, and of what may be written
-            place = ctypes.c_char_p(bytes(given))
-        else:
-            place = ctypes.byref(ctypes.c_char.from_buffer(given))
+            return ctypes.c_char_p(bytes(given)), length
+        return ctypes.byref(ctypes.c_char.from_buffer(given)), length
+
+    def _load(self, given, seq):
+        place, length = self._place(given)
         status = self._calls.jpq_open(place, length, int(seq), 0xFFFFFFFF, self._handle)
         del place
         return status
+
+    def kept(self, call, *given):
+        """The status of a call, and all that it kept to be read."""
+        self._held, self._at = b"", 0
+        status = getattr(self._calls, call)(self._handle, *given)
+        room = ctypes.create_string_buffer(self._calls.jpq_left(self._handle) or 1)
+        return status, room.raw[:self._calls.jpq_read(self._handle, room, len(room))]
+
+    def filtered(self, text, condition, queries, shown, numbered):
+        place, length = self._place(text)
+        found = self.kept("jpq_filter", place, length, condition, len(condition), queries, len(queries), shown, numbered)
+        del place
+        return found
+
+    def fault(self, text, is_condition):
+        """The first fault of a query or a condition, or None."""
+        place, words, room = ctypes.c_uint64(), ctypes.c_uint64(), ctypes.create_string_buffer(128)
+        number = self._calls.jpq_fault(text, len(text), is_condition, place, words, room, len(room))
+        if number == 16:
+            raise MemoryRefusal("memory", text)
+        return Fault(FAULTS[number - 1], place.value, room.raw[:words.value].decode()) if number else None
 
     def ask(self, command):
         self._held, self._at = b"", 0
@@ -483,6 +543,76 @@ class Log:
         """Replaces a line, in memory only."""
         self._one(f"replace {int(line)}", text)
 
+    def line(self, number: int) -> bytes:
+        """The bytes of a line. This call and the next three need the library, and raise Error where the program answers."""
+        return self._kept("line", b"", "jpq_line", _number(number))
+
+    def marks(self, number: int, query: Text) -> List[Mark]:
+        """Where each value that the query selects in a line stands in it, in the query's order."""
+        query = _bytes(query)
+        rows = self._kept("marks", query, "jpq_marks", _number(number), query, len(query))
+        return [Mark(int(start), int(end), path.decode()) for start, end, path in (row.split(b"\t", 2) for row in rows.splitlines())]
+
+    def filter(self, text: Union[bytes, bytearray, memoryview, mmap.mmap], *queries: Text, where: Text = "", show: str = "values",
+               numbered: bool = False) -> bytes:
+        """The rows of the lines of a text that answer a condition and queries, as jpgrep writes them; the open file stays as it is.
+
+        A line answers where the condition `where` holds of it, if there is one, and a query selects a value of it; without a query
+        each line does. `show` is what a row has: "lines", "values", "paths" (each value behind its path), "text" (strings as their
+        characters), "canonical lines", "canonical values", "canonical paths", or "nothing"; or "csv" and "tsv" for tables, in which
+        each query is a column and a line needs no value. `numbered` puts the number of the line in front."""
+        if show not in SHOWN:
+            raise ValueError(f"there is nothing to show that is called {show!r}")
+        engine, asked = self._library(), [_bytes(query).replace(b"\n", b"\r") for query in queries]
+        with self._lock:
+            self._put_aside()
+            status, rows = engine.filtered(text, _bytes(where), b"\n".join(asked), SHOWN[show], bool(numbered))
+        if status == 3:
+            for command, is_condition in [(_bytes(where), True)] * bool(where) + [(query, False) for query in asked if query]:
+                found = engine.fault(command, is_condition)
+                if found:
+                    raise QueryRefusal(f"{'condition' if is_condition else 'query'} {found.fault}",
+                                       (b"where " if is_condition else b"query ") + command)
+            raise QueryRefusal("query column", b"query " + b" ".join(asked))
+        if status == 5:
+            raise Error("the text begins as data of another format do, as compressed ones")
+        if status:
+            raise MemoryRefusal("memory", _bytes(where))
+        return rows
+
+    def fault(self, text: Text, *, condition: bool = False) -> Optional[Fault]:
+        """The first fault of a query, or of a condition; None where it has none."""
+        engine = self._library()
+        with self._lock:
+            return engine.fault(_bytes(text), condition)
+
+    def _library(self):
+        """What answers, where that is the library."""
+        if self._is_closed:
+            raise ValueError("the log is closed")
+        if not isinstance(self._engine, _Library):
+            raise Error("this call needs the library libjpq.so.0")
+        return self._engine
+
+    def _put_aside(self):
+        """Reads what is left of the answer before, as another takes its place."""
+        self._settle()
+        self._ahead, self._is_open = None, False
+
+    def _kept(self, command, query, call, *given):
+        """What a call keeps to be read."""
+        engine = self._library()
+        with self._lock:
+            self._put_aside()
+            status, rows = engine.kept(call, *given)
+            if status == 3:
+                found = engine.fault(query, False)
+                raise QueryRefusal(f"query {found.fault}" if found else "query", b"query " + query)
+        if status:
+            refused, fault = (LineRefusal, "line") if status == 4 else (MemoryRefusal, "memory")
+            raise refused(fault, f"{command} {given[0]}".encode())
+        return rows
+
     # At most one answer is on its way, and it is read to its end before the next command is asked: so the program never waits for
     # its answer to be read while it is waited for to read.
 
@@ -559,3 +689,12 @@ class Log:
 def _query(text):
     """A query as one line: a carriage return is white space in it just as a line feed is."""
     return text.replace("\n", "\r") if isinstance(text, str) else bytes(text).replace(b"\n", b"\r")
+
+
+def _bytes(text):
+    return text.encode() if isinstance(text, str) else bytes(text)
+
+
+def _number(number):
+    """The number of a line as the library takes it: where it is none of a line, a number that no line has."""
+    return number if 0 <= number < 1 << 64 else 0

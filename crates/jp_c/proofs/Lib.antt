@@ -1,2 +1,4 @@
+mod Asking
 mod Boxes
 mod Handles
+mod Telling

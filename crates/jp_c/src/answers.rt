@@ -25,6 +25,15 @@ impl Session {
         }
     }
 
+    /// Keeps a text to be read, in place of what was left.
+    pub(crate) fn keep(&mut self, text: Vec<u8>)
+        ensures left { left_in self.new ≡ text.items }
+        ensures collection { self.new.collection ≡ self.old.collection }
+    {
+        self.at = 0;
+        self.text = text;
+    }
+
     /// Runs the commands of a script, and keeps what they answer.
     pub(crate) fn ask(&mut self, alloc: Global, script: &[u8]) -> Result<(), RunFault>
         ensures done { OnOk result (Answers self.old self.new script.now) }

@@ -7,23 +7,36 @@
 //! - `jpq_ask`: a script is run over it
 //! - `jpq_left`, `jpq_read`: how much of the answer is left, and its next bytes
 //! - `jpq_run`: a collection is loaded and a script run over it, in one call
+//! - `jpq_filter`: the rows of the lines of a text that answer a condition and queries
+//! - `jpq_line`, `jpq_marks`: a line of the collection; where the nodes that a query selects stand in it
+//! - `jpq_fault`: where a query or a condition goes wrong
 #![tactic(auto)]
 
-ghost use Rattle.std.specs.Prelude.{◌≡◌, ◌≢◌, ◌<◌, ◌≤◌, ◌⊎◌, false, true, length, Option, None, Some, IfSome};
+ghost use Rattle.std.specs.Prelude.{◌≡◌, ◌≢◌, ◌<◌, ◌≤◌, ◌⊎◌, [], false, true, length, Option, None, Some, IfSome};
 ghost use Rattle.jp_model.specs.Lines.{is_framed};
-ghost use Rattle.jp_c.specs.Calls.{IsStatusOfAsk, IsStatusOfOpen, IsStatusOfRun, framing_of as framing_at, setup_of};
-ghost use Rattle.jp_c.specs.Sessions.{HasAnswered, HasAnsweredFirst, IsOpened, IsRead, IsRun, IsRunInPart, left_of};
+ghost use Rattle.jp_c.specs.Asked.{IsFilteredBy, IsForeign, IsRefusedFor, rows_of};
+ghost use Rattle.jp_c.specs.Calls.{IsStatusOfAsk, IsStatusOfFilter, IsStatusOfLine, IsStatusOfMarks, IsStatusOfOpen, IsStatusOfRun, framing_of as framing_at, setup_of};
+ghost use Rattle.jp_c.specs.Faults.{IsStatusOfFault, IsTextRead, TellsFault};
+ghost use Rattle.jp_c.specs.Lines.{AreMarkedIn, IsRefusedText, KeepsLines, line_of};
+ghost use Rattle.jp_c.specs.Sessions.{HasAnswered, HasAnsweredFirst, IsOpened, IsRead, IsRun, IsRunInPart, KeepsCollection, left_of};
 
 mod answers;
+mod fault;
+mod filter;
 mod handle;
+mod lines;
 mod parts;
+mod question;
 mod session;
 
+use fault::{fault_of, number_of, put_words};
 use handle::Jpq;
 use jp_cli::RunFault;
 use jp_lines::is_framed_text;
 use jp_model::{Framing, Watched};
 use jp_store::{LoadFault, Store};
+use lines::ShowFault;
+use question::FilterFault;
 use session::Session;
 use std::alloc::Global;
 
@@ -33,8 +46,17 @@ const DONE: u32 = 0;
 /// The handle is not open.
 const SHUT: u32 = 1;
 
-/// The framing is none.
-const FRAMING_NUMBER: u32 = 2;
+/// The framing, or what is to be shown, is none.
+const NUMBER: u32 = 2;
+
+/// The condition or a query is refused.
+const QUESTION: u32 = 3;
+
+/// There is no line of this number.
+const LINE: u32 = 4;
+
+/// The text begins with the mark of another format.
+const FORMAT: u32 = 5;
 
 /// A read failed, which no read of bytes in memory does.
 const READ: u32 = 11;
@@ -87,7 +109,7 @@ pub extern "C" fn jpq_open(
 {
     drop(handle.take(alloc));
     let Some(framing) = framing_of(framing) else {
-        return FRAMING_NUMBER;
+        return NUMBER;
     };
     if collection.len() > most as usize {
         return SIZE;
@@ -167,6 +189,140 @@ pub extern "C" fn jpq_read(alloc: Global, handle: &mut Jpq, room: &mut [u8]) -> 
     let count = session.read(room);
     handle.put(session, alloc);
     count
+}
+
+/// The number of the first fault of a text as a query, or as a condition where that is wanted, and 0 where it has none.
+///
+/// The faults are 1 for the size, 2 for the syntax, 3 for an integer, 4 for a number, 5 for a function and 6 for types. `place` is
+/// where it is, in bytes from 0; and at a fault of the syntax the first `words` bytes of the room say what the grammar has there,
+/// as many as it has room for. The status is 16 where a growth was refused; at 0 and 16 all three stay as they were.
+#[unsafe(no_mangle)]
+pub extern "C" fn jpq_fault(
+    alloc: Global,
+    text: &[u8],
+    is_condition: bool,
+    place: &mut u64,
+    words: &mut u64,
+    room: &mut [u8],
+) -> u32
+    ensures listed { IsStatusOfFault result }
+    ensures read { result ≡ 0 → IsTextRead is_condition text.now }
+    ensures only { IsTextRead is_condition text.now → (result ≡ 0) ⊎ (result ≡ 16) }
+    ensures refused { 0 < result → result < 16 → TellsFault is_condition text.now result place.new words.new room.old room.new }
+    ensures same { (result ≡ 0) ⊎ (result ≡ 16) → (place.new ≡ place.old) × (words.new ≡ words.old) × (room.new ≡ room.old) }
+{
+    match fault_of(alloc, text, is_condition) {
+        Ok(None) => DONE,
+        Ok(Some(found)) => {
+            *place = found.place as u64;
+            *words = put_words(&found, room) as u64;
+            number_of(found.fault)
+        }
+        Err(_) => MEMORY,
+    }
+}
+
+/// Searches the lines of a text (JSON Lines) by a condition, unless it is empty, and by queries, one on each line that is not
+/// empty, and keeps the rows to be read. Without a query it is `$`. The collection stays as it is.
+///
+/// What is shown of the lines that match: 0 nothing, 1 the line, 2 paths and values, 3 a row of CSV, 4 a row of TSV, 5 the line in
+/// canonical form, 6 paths and values in it, 7 values in it, 8 values as they are spelled, 9 values with strings as text. At 3 and 4
+/// each query is a column, and singular; else a line matches only where a query selects a node of it. `numbered` puts the number
+/// of the line, from 1, in front of each row.
+///
+/// The status is 1 where the handle is not open, 2 where `shown` is none of these, 3 where the condition or a query is refused, 5
+/// where the text begins with the mark of another format, and 16 where a growth was refused. Then nothing is left to be read.
+#[unsafe(no_mangle)]
+pub extern "C" fn jpq_filter(
+    alloc: Global,
+    handle: &mut Jpq,
+    text: &[u8],
+    condition: &[u8],
+    queries: &[u8],
+    shown: u32,
+    numbered: bool,
+) -> u32
+    ensures listed { IsStatusOfFilter result }
+    ensures shut { handle.old.session ≡ None → result ≡ 1 }
+    ensures is_shut { result ≡ 1 → handle.old.session ≡ None }
+    ensures number { handle.old.session ≢ None → rows_of shown ≡ None → result ≡ 2 }
+    ensures no_number { result ≡ 2 → rows_of shown ≡ None }
+    ensures found { result ≡ 0 → IsFilteredBy text.now condition.now queries.now (rows_of shown) numbered (left_of handle.new.session) }
+    ensures refused { result ≡ 3 → IsRefusedFor condition.now queries.now (rows_of shown) }
+    ensures foreign { result ≡ 5 → IsForeign text.now }
+    ensures nothing { 0 < result → left_of handle.new.session ≡ [] }
+    ensures collection { KeepsCollection handle.old.session handle.new.session }
+{
+    let Some(mut session) = handle.take(alloc) else {
+        return SHUT;
+    };
+    let found = session.filter(alloc, text, condition, queries, shown, numbered);
+    handle.put(session, alloc);
+    match found {
+        Ok(()) => DONE,
+        Err(FilterFault::Shown) => NUMBER,
+        Err(FilterFault::Question) => QUESTION,
+        Err(FilterFault::Format) => FORMAT,
+        Err(FilterFault::Read) => READ,
+        Err(FilterFault::Memory) => MEMORY,
+    }
+}
+
+/// Keeps the bytes of a line of the collection to be read. Lines count from 1.
+///
+/// The status is 1 where the handle is not open, 4 where there is no line of this number, and 16 where a growth was refused. Then
+/// nothing is left to be read.
+#[unsafe(no_mangle)]
+pub extern "C" fn jpq_line(alloc: Global, handle: &mut Jpq, number: u64) -> u32
+    ensures listed { IsStatusOfLine result }
+    ensures shut { handle.old.session ≡ None → result ≡ 1 }
+    ensures is_shut { result ≡ 1 → handle.old.session ≡ None }
+    ensures line { result ≡ 0 → line_of number handle.old.session ≡ Some (left_of handle.new.session) }
+    ensures absent { handle.old.session ≢ None → line_of number handle.old.session ≡ None → result ≡ 4 }
+    ensures is_absent { result ≡ 4 → line_of number handle.old.session ≡ None }
+    ensures nothing { 0 < result → left_of handle.new.session ≡ [] }
+    ensures collection { KeepsCollection handle.old.session handle.new.session }
+{
+    let Some(mut session) = handle.take(alloc) else {
+        return SHUT;
+    };
+    let shown = session.show_line(alloc, number);
+    handle.put(session, alloc);
+    match shown {
+        Ok(()) => DONE,
+        Err(ShowFault::Line) => LINE,
+        Err(_) => MEMORY,
+    }
+}
+
+/// Keeps a row for each node that a query selects in a line of the collection, in its order: the byte of the line at which the
+/// node's text begins and the one behind its end, from 0, and its normalized path, with tabs between them. Lines count from 1, and
+/// a blank or a refused line has no rows.
+///
+/// The status is 1 where the handle is not open, 3 where the query is refused, 4 where there is no line of this number, and 16
+/// where a growth was refused. Then nothing is left to be read.
+#[unsafe(no_mangle)]
+pub extern "C" fn jpq_marks(alloc: Global, handle: &mut Jpq, number: u64, query: &[u8]) -> u32
+    ensures listed { IsStatusOfMarks result }
+    ensures shut { handle.old.session ≡ None → result ≡ 1 }
+    ensures is_shut { result ≡ 1 → handle.old.session ≡ None }
+    ensures marks { result ≡ 0 → AreMarkedIn query.now number handle.old.session (left_of handle.new.session) }
+    ensures refused { result ≡ 3 → IsRefusedText query.now }
+    ensures absent { result ≡ 4 → line_of number handle.old.session ≡ None }
+    ensures nothing { 0 < result → left_of handle.new.session ≡ [] }
+    ensures lines { KeepsLines handle.old.session handle.new.session }
+{
+    let Some(mut session) = handle.take(alloc) else {
+        return SHUT;
+    };
+    let shown = session.show_marks(alloc, number, query);
+    handle.put(session, alloc);
+    match shown {
+        Ok(()) => DONE,
+        Err(ShowFault::Query) => QUESTION,
+        Err(ShowFault::Line) => LINE,
+        Err(ShowFault::Memory) => MEMORY,
+    }
 }
 
 /// Frees what the handle has. A second call does nothing.

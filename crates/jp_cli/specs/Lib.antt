@@ -5,6 +5,7 @@ pub mod Commands
 pub mod Ends
 pub mod Found
 pub mod Listed
+pub mod Marks
 pub mod Passed
 pub mod Refusals
 pub mod Replies

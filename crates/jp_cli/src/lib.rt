@@ -3,7 +3,8 @@
 //! Public calls:
 //!
 //! - `run`: a whole run
-//! - `Session`: a collection that is held, and the scripts over it, one after another
+//! - `Session`: a collection that is held, and the scripts over it, one after another; a line of it, and where the nodes that a
+//!   query selects stand in it
 //! - `read_words`, `Options`: the program's arguments; `CollectionSource`, `ScriptSource`: where they say to read
 //! - `Options::run`: the program's run, within its limits and through a buffer; `Finished`: what it came to
 //! - `End`: how a run ended, with its exit status and message
@@ -18,6 +19,7 @@ mod end;
 mod engine;
 mod explain;
 mod listing;
+mod marks;
 mod query;
 mod reply;
 mod rows;

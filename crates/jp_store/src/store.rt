@@ -168,6 +168,15 @@ impl Store {
         self.lines[n as usize - 1].status()
     }
 
+    /// The bytes of line `n`, without what separates lines. Lines count from 1.
+    pub fn text(&self, n: u32) -> &[u8]
+        requires first { 1 ≤ n }
+        requires last { n ≤ length self.now.state.lines }
+        ensures { result.now ≡ line_text n self.now }
+    {
+        text_of(&self.bytes, &self.lines[n as usize - 1])
+    }
+
     /// Whether its meter was had.
     pub fn is_metered(&self) -> bool
         ensures { result ≡ self.now.is_metered }
