@@ -205,18 +205,19 @@ function beginning(bytes, most) {
   return { text: decoder.decode(bytes.subarray(0, end)), isWhole: false };
 }
 
-// The ranges of a line's bytes that are shown: all, or its beginning and what stands around the first marks.
+// The ranges of a line's bytes that are shown: all, or its beginning and what stands around the first marks, some `most` bytes.
 function keptRanges(length, marks, most) {
   if (length <= most) return [[0, length]];
-  const kept = [[0, Math.min(most / 3, length)]];
-  let left = most;
+  const kept = [[0, marks.length ? Math.min(60, most >> 2) : most]];
+  let left = most - kept[0][1];
   for (const [from, to] of marks) {
-    const begin = Math.max(0, from - 60), end = Math.min(length, Math.min(to, from + 240) + 40), last = kept[kept.length - 1];
-    if (begin <= last[1] + 20) last[1] = Math.max(last[1], end);
+    if (left <= 0) break;
+    const begin = Math.max(0, from - 36), end = Math.min(length, Math.min(to, from + Math.max(80, left)) + 12), last = kept[kept.length - 1];
+    left -= end - Math.max(begin, last[1]);
+    if (begin <= last[1] + 8) last[1] = Math.max(last[1], end);
     else kept.push([begin, end]);
-    left -= end - begin;
-    if (left < 0) break;
   }
+  if (left > 0) kept[kept.length - 1][1] = Math.min(length, kept[kept.length - 1][1] + left);
   return kept;
 }
 
@@ -256,14 +257,14 @@ function tokensOf(bytes, marks, most) {
   return tokens;
 }
 
-const LINE_BYTES = 900, VALUE_BYTES = 400, WHOLE_BYTES = 1 << 18, NODES = 300;
+const VALUE_BYTES = 400, WHOLE_BYTES = 1 << 18, NODES = 300;
 
-// A line of the answer with its marks. All of it has its nodes too.
-function lineOf(index, isWhole) {
+// A line of the answer with its marks: some `most` bytes of it, or all, and then its values too.
+function lineOf(index, most) {
   const number = answer.numbers[index], bytes = lineBytes(number), marks = answer.query === '$' ? [] : marksOf(number, answer.query);
   const item = { number, all: answer.firsts[index + 1] - answer.firsts[index], paths: marks.slice(0, NODES).map(it => it[2]) };
-  item.tokens = tokensOf(bytes, marks, isWhole ? WHOLE_BYTES : LINE_BYTES);
-  if (isWhole) item.values = marks.slice(0, NODES).map(([from, to]) => beginning(bytes.subarray(from, to), VALUE_BYTES).text);
+  item.tokens = tokensOf(bytes, marks, most);
+  if (most === WHOLE_BYTES) item.values = marks.slice(0, NODES).map(([from, to]) => beginning(bytes.subarray(from, to), VALUE_BYTES).text);
   return item;
 }
 
@@ -298,8 +299,8 @@ function cellsFrom(from, count) {
 }
 
 const LISTS = {
-  lines: (from, count) => Array.from({ length: Math.max(0, Math.min(count, answer.lines - from)) }, (_, i) => lineOf(from + i, false)),
-  values: (from, count, spelling) => valuesFrom(from, count, spelling === 'spelled' ? 0 : SHOWN[spelling]),
+  lines: (from, count, { most }) => Array.from({ length: Math.max(0, Math.min(count, answer.lines - from)) }, (_, i) => lineOf(from + i, most)),
+  values: (from, count, { spelling }) => valuesFrom(from, count, spelling === 'spelled' ? 0 : SHOWN[spelling]),
   table: cellsFrom,
 };
 
@@ -357,7 +358,24 @@ function columnFault(columns) {
   return null;
 }
 
-function tableOf({ id, where, columns }) {
+// Columns for a table of which none are named: a query of names and indexes alone is one, and so are the first values of a line.
+function suggestedColumns() {
+  if (!answer) return [];
+  if (/^\$(\.[A-Za-z_]\w*|\[\d+\]|\['[^'\\]*'\])+$/.test(answer.query)) return [answer.query];
+  const found = [];
+  const look = (value, path, depth) => {
+    for (const [name, it] of Object.entries(value)) {
+      if (!/^[A-Za-z_]\w*$/.test(name)) continue;
+      if (it === null || typeof it !== 'object') found.push([depth, `${path}.${name}`]);
+      else if (depth < 2 && !Array.isArray(it)) look(it, `${path}.${name}`, depth + 1);
+    }
+  };
+  if (answer.lines) look(JSON.parse(decoder.decode(lineBytes(answer.numbers[0])).replace(/^\uFEFF/, '')) ?? {}, '$', 1);
+  return found.sort((a, b) => a[0] - b[0]).slice(0, 6).map(it => it[1]);
+}
+
+function tableOf({ id, where, columns: typed }) {
+  const columns = typed || suggestedColumns();
   const faults = { where: where ? faultOf(where, true) : null, columns: columnFault(columns) };
   if (faults.where || faults.columns) return postMessage({ kind: 'tableRefused', id, faults });
   if (columns.length) filter(where, columns.join('\n'), SHOWN.tsv, true);
@@ -382,7 +400,8 @@ function headOf(form, columns) {
 }
 
 // The file of a form.
-function save({ form, where, query, columns }) {
+function save({ form, where, query, columns: typed }) {
+  const columns = typed || suggestedColumns();
   const parts = [], asked = query || '$';
   if (form === 'rows' && !where) ask('query ' + asked);
   else if (form === 'rows') filter(where, asked, SHOWN.rows, true);
@@ -418,8 +437,8 @@ const calls = {
   ask: answerTo,
   table: tableOf,
   save,
-  list: ({ id, view, from, count, spelling }) => postMessage({ kind: 'list', id, view, from, items: LISTS[view](from, count, spelling) }),
-  whole: ({ id, index }) => postMessage({ kind: 'whole', id, index, item: lineOf(index, true) }),
+  list: ({ id, view, from, count, ...how }) => postMessage({ kind: 'list', id, view, from, items: LISTS[view](from, count, how) }),
+  whole: ({ id, index }) => postMessage({ kind: 'whole', id, index, item: lineOf(index, WHOLE_BYTES) }),
   line: ({ number }) => postMessage({ kind: 'line', number, ...beginning(lineBytes(number), WHOLE_BYTES) }),
 };
 

@@ -41,13 +41,13 @@ function helpWithSegment(before, rest, isCondition) {
   if (!rest.trimStart() && /\s$/.test(before + rest)) return NO_BLANKS;
   const help = helpAfterName(before, rest);
   if (help || isCondition || !/^\s*[=!<>&|]/.test(rest)) return help;
-  return "a condition has a field of its own, below: @.status == 200";
+  return "a condition is given by -w, as in -w '@.status == 200'";
 }
 
 // What is meant where a query was to begin with `$` (RFC 9535, section 2.2).
 function helpWithRoot(rest) {
   if (rest.trimStart().startsWith('$')) return NO_BLANKS;
-  if (rest.startsWith('@')) return 'a query begins with $; a condition, which may begin with @, has a field of its own, below';
+  if (rest.startsWith('@')) return 'a query begins with $; a condition, which may begin with @, is given by -w';
   return 'a query begins with $, as in $.a.b';
 }
 

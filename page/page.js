@@ -9,7 +9,8 @@ let worker, wasm, blob, name = '', asked = 0, shownAsk = 0, shownTable = 0, isOp
 const send = message => worker.postMessage(message);
 const text = id => $(id).value.replace(/[\r\n]/g, ' ').trim();
 const question = () => ({ query: text('query'), where: $('hasWhere').checked ? text('where') : '' });
-const columns = () => $('columns').value.split(';').map(it => it.trim()).filter(it => it);
+// A semicolon in quotes parts no columns.
+const columns = () => ($('columns').value.match(/(?:'(?:[^'\\]|\\.)*'|"(?:[^"\\]|\\.)*"|[^;])+/g) || []).map(it => it.trim()).filter(it => it);
 
 async function unpack(id) {
   const packed = Uint8Array.from(atob($(id).textContent), it => it.charCodeAt(0));
@@ -29,6 +30,8 @@ function startWorker() {
 
 function openFile(given, as) {
   [blob, name, isOpen] = [given, as, false];
+  asked++;
+  shownTable++;
   Object.assign(state, { opened: null, answered: null, table: null });
   $('told').textContent = `reading ${name}`;
   if (state.started) send({ kind: 'open', name, blob });
@@ -49,27 +52,20 @@ function ask() {
 
 function askTable() {
   if (!isOpen) return;
-  if (!areColumnsTyped) suggestColumns();
   state.table = null;
   showCommand();
-  send({ kind: 'table', id: ++shownTable, where: question().where, columns: columns() });
-}
-
-function suggestColumns() {
-  const line = lists.lines.items.values().next().value;
-  const found = columnsOf(question().query, line ? line.tokens.filter(it => typeof it === 'string').join('') : '');
-  if (found.length) $('columns').value = found.join('; ');
+  send({ kind: 'table', id: ++shownTable, where: question().where, columns: areColumnsTyped ? columns() : null });
 }
 
 const showCommand = () => { $('command').textContent = commandOf({ view: state.view, ...question(), columns: columns(), spelling: $('spelling').value }, name || 'FILE'); };
 
-// How high the rows of lines are: by the room that a line of middle length takes.
-function lineHeight() {
-  const count = Number((state.opened.summary.match(/^\d+/) || [1])[0]), wide = Math.max(20, ($('lines').clientWidth || innerWidth) / 7.9 - 12);
-  return 8 + 20 * Math.max(1, Math.min(4, Math.ceil(state.opened.size / Math.max(1, count) / wide)));
-}
+// How many characters a row of text has, and how many rows of text a line is given: as many as one of middle length takes.
+const textWidth = () => Math.max(20, Math.floor(($('lines').clientWidth || innerWidth) / 7.9) - 14);
+const textRows = () => Math.max(1, Math.min(4, Math.ceil(state.opened.size / Math.max(1, parseInt(state.opened.summary)) / textWidth())));
 
-const wants = view => (from, count) => send({ kind: 'list', id: view === 'table' ? shownTable : shownAsk, view, from, count, spelling: $('spelling').value });
+// Asks for rows. A line is shown up to some bytes, which leave a row of text room for words that are not broken.
+const wants = view => (from, count) => send({ kind: 'list', id: view === 'table' ? shownTable : shownAsk, view, from, count,
+  spelling: $('spelling').value, most: Math.floor(textWidth() * (textRows() - 0.15)) });
 const lists = {
   lines: new Scroll($('lines'), { label: 'Lines that match', wants: wants('lines'), row: lineRow }),
   values: new Scroll($('values'), { label: 'Values', wants: wants('values'), row: valueRow }),
@@ -83,7 +79,7 @@ function showAnswer() {
   if (view === 'lines' || view === 'values') {
     if (!answered || answered.faults) return;
     const count = view === 'lines' ? answered.lines : answered.values;
-    if (count) lists[view].begin(count, view === 'lines' ? lineHeight() : 28);
+    if (count) lists[view].begin(count, view === 'lines' ? 8 + 20 * textRows() : 28);
     else $(view).replaceChildren(emptyNote('No line has such a value.'));
   }
   if (view === 'refused' && state.opened) {
@@ -138,13 +134,14 @@ const heard = {
   list({ id, view, from, items }) {
     if (id !== (view === 'table' ? shownTable : shownAsk)) return;
     lists[view].show(from, items);
-    if (view === 'lines' && state.view === 'table' && !columns().length) askTable();
   },
   whole({ id, item }) { if (id === shownAsk) showWhole(item); },
   line({ number, text: bytes, isWhole }) { openPanel(`Line ${number.toLocaleString('en')}, refused`, make('div', { className: 't whole', textContent: bytes + (isWhole ? '' : ' …') })); },
   table({ id, rows, columns: names }) {
     if (id !== shownTable) return;
     showFault('columns', null);
+    if (!areColumnsTyped) $('columns').value = names.join('; ');
+    showCommand();
     $('table').classList.remove('stale');
     const head = make('div', { className: 'row head' }, make('span', { className: 'n', textContent: 'line' }), ...names.map(it => make('span', { className: 'cell', textContent: it, title: it })));
     head.style.setProperty('--cells', names.length);
@@ -217,8 +214,7 @@ function takePath(path) {
 
 function save(form) {
   state.saved = null;
-  if ((form === 'csv' || form === 'tsv') && !columns().length) suggestColumns();
-  send({ kind: 'save', form, ...question(), columns: columns() });
+  send({ kind: 'save', form, ...question(), columns: areColumnsTyped || columns().length ? columns() : null });
 }
 
 async function copy(button, words) {

@@ -39,18 +39,3 @@ function commandOf({ view, query, where, columns, spelling }, name) {
   else if (query) words.push(`-e ${shellWord(query)}`);
   return [...words, file].join(' ');
 }
-
-// Columns that a query or a first line suggest: a query of names and indexes alone is one, and so are the first values of a line.
-function columnsOf(query, line) {
-  if (/^\$(\.[A-Za-z_]\w*|\[\d+\]|\['[^'\\]*'\])+$/.test(query)) return [query];
-  const found = [];
-  const look = (value, path, depth) => {
-    for (const [name, it] of Object.entries(value)) {
-      if (!/^[A-Za-z_]\w*$/.test(name)) continue;
-      if (it === null || typeof it !== 'object') found.push([depth, `${path}.${name}`]);
-      else if (depth < 2 && !Array.isArray(it)) look(it, `${path}.${name}`, depth + 1);
-    }
-  };
-  try { look(JSON.parse(line), '$', 1); } catch { return []; }
-  return found.sort((a, b) => a[0] - b[0]).slice(0, 6).map(it => it[1]);
-}
