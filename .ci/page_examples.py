@@ -205,9 +205,10 @@ class Trial:
         self.check("command of refused lines", self.browser.js("return $('command').textContent"), f"jpgrep --refused {os.path.basename(self.file)}")
         self.browser.js("select('lines')")
 
-    def downloads(self):
+    def downloads(self, url):
         """Clicks on each form of the menu, and looks at the file."""
-        self.browser.go(self.browser.js("return location.href.split('#')[0]") + "#q=%24..price&w=")
+        self.browser.go("about:blank")
+        self.browser.go(f"{url}#q=%24..price&w=")
         self.done("until(() => state.answered, () => done(1))")
         for form, words in (("lines", []), ("values", ["-o"]), ("canonical", ["-o", "-j"]), ("text", ["-o", "-r"])):
             self.browser.click("#saveButton")
@@ -400,7 +401,7 @@ def run_whole(trial, url):
     trial.scroll(1_000_000)
     trial.typing()
     trial.silence(url)
-    trial.downloads()
+    trial.downloads(url)
 
 
 def main(page, jpq, jpgrep, few):
