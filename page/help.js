@@ -1,5 +1,4 @@
 // What is said of a query or a condition that is refused, in the words of jpgrep.
-'use strict';
 const NO_BLANKS = 'no blank stands before or after a query';
 const FUNCTIONS = {
   length: 'length takes one value, and gives a number, as in length(@.a) > 0',
@@ -7,6 +6,7 @@ const FUNCTIONS = {
   value: 'value takes a path, and gives the value of its only node, as in value(@..a) == 1',
   match: 'match takes two values, and is a condition, as in match(@.a, "x.*")',
   search: 'search takes two values, and is a condition, as in search(@.a, "x")',
+  '': 'there are five functions: length, count, value, match and search',
 };
 
 const beginsWord = (text, word) => text.startsWith(word) && !/^[\p{L}\p{N}_]/u.test(text.slice(word.length));
@@ -65,7 +65,8 @@ function helpWithSyntax(expected, before, rest, isCondition) {
     case 'a name in quotes or an index, since a comparison takes a singular query': return helpWithName(rest);
     case 'a query, a literal or a function': case "a query, a function or '('": return helpWithOperand(before, rest);
     case 'an escape of JSON': return 'in a string a backslash is written twice, as in "[0-9]\\\\."';
-    case 'a singular query before an operator': return 'a comparison takes names and indexes alone; of others count or value makes a value';
+    case 'a singular query before an operator':
+      return 'a comparison takes names and indexes alone; of others count or value makes a value';
     case "'&&'": return "'and' is &&";
     case "'||'": return "'or' is ||";
     case "a comparison or ']'": case "a comparison or ')'": case 'a comparison': case 'a comparison or the end': case 'the end':
@@ -74,19 +75,29 @@ function helpWithSyntax(expected, before, rest, isCondition) {
   }
 }
 
-// A fault in words, with what was probably meant.
-function faultWords({ fault, expected, place, depth }, text, isCondition) {
-  const before = text.slice(0, place), rest = text.slice(place), name = rest.split('(')[0], less = isCondition ? 1 : 0;
+// What is wrong, in words.
+function messageOf({ fault, expected, depth }, text, name, less) {
+  const most = 65535 - 4 * less;
   switch (fault) {
-    case 0: return { message: `more than ${depth} brackets and parentheses, for which the stack of this browser has no room`, help: '' };
-    case 1: return { message: new TextEncoder().encode(text).length > 65535 - 4 * less ? `more than ${65535 - 4 * less} bytes` : `more than ${512 - less} brackets and parentheses`, help: '' };
-    case 2: return { message: expected ? `syntax: expected ${expected}` : 'syntax', help: helpWithSyntax(expected, before, rest, isCondition) };
-    case 3: return { message: 'integer beyond 2^53 - 1', help: '' };
-    case 4: return { message: 'exponent of more than 15 digits', help: '' };
-    case 7: return { message: 'a column of a table has names and indexes alone, so that it is one value', help: '' };
-    default: {
-      const help = Object.hasOwn(FUNCTIONS, name) ? FUNCTIONS[name] : 'there are five functions: length, count, value, match and search';
-      return { message: fault === 5 ? `unknown function '${name}'` : `function '${name}' does not fit here, or its arguments do not fit it`, help };
+    case 0: return `more than ${depth} brackets and parentheses, for which the stack of this browser has no room`;
+    case 1: {
+      const isLong = new TextEncoder().encode(text).length > most;
+      return isLong ? `more than ${most} bytes` : `more than ${512 - less} brackets and parentheses`;
     }
+    case 2: return expected ? `syntax: expected ${expected}` : 'syntax';
+    case 3: return 'integer beyond 2^53 - 1';
+    case 4: return 'exponent of more than 15 digits';
+    case 5: return `unknown function '${name}'`;
+    case 6: return `function '${name}' does not fit here, or its arguments do not fit it`;
+    default: return 'a column of a table has names and indexes alone, so that it is one value';
   }
+}
+
+// A fault in words, with what was probably meant. A condition is read between `$[?` and `]`, within the limits of a query.
+function faultWords(found, text, isCondition) {
+  const before = text.slice(0, found.place), rest = text.slice(found.place), name = rest.split('(')[0];
+  const message = messageOf(found, text, name, isCondition ? 1 : 0);
+  if (found.fault === 2) return { message, help: helpWithSyntax(found.expected, before, rest, isCondition) };
+  if (found.fault !== 5 && found.fault !== 6) return { message, help: '' };
+  return { message, help: Object.hasOwn(FUNCTIONS, name) ? FUNCTIONS[name] : FUNCTIONS[''] };
 }

@@ -1,9 +1,10 @@
 """The proved LLVM module of the C library, and how it becomes one of WebAssembly.
 
-The kit compiles a proved crate by an LLVM module for x86-64, which its clang reads. Here a clang stands in that one's place that
-keeps the module; then the module is changed in the few lines that `retarget` names, and the kit's clang compiles it once more.
+The kit compiles a proved crate by an LLVM module for x86-64, which its clang reads. Here a clang stands in that one's place
+that keeps the module; then it is changed in the few lines that `retarget` names, and the kit's clang compiles it once more.
 """
 import os
+import pathlib
 import re
 import shlex
 import subprocess
@@ -38,7 +39,7 @@ def keeping_toolchain(room, kept):
 
 
 def replace_lookup(text):
-    """The look-up of 16 bytes of SSSE3 becomes the swizzle of WebAssembly: the same for indexes below 16, and all here are nibbles."""
+    """A look-up of 16 bytes by SSSE3 becomes the swizzle of WebAssembly: the same for indexes below 16, and all are nibbles."""
     call = rf"call <16 x i8> @llvm\.x86\.ssse3\.pshuf\.b\.128\({VECTOR}, {VECTOR}\)"
     text = re.sub(call, r"call <16 x i8> @llvm.wasm.swizzle(<16 x i8> \1, <16 x i8> \2)", text)
     return text.replace("declare <16 x i8> @llvm.x86.ssse3.pshuf.b.128(", "declare <16 x i8> @llvm.wasm.swizzle(")
@@ -80,8 +81,8 @@ def wanted_calls(header):
     """The calls that the header of the library declares, and those that the worker makes."""
     with open(header, encoding="utf-8") as file:
         declared = re.findall(r"^[a-z]\w* (jpq_\w+)\(", file.read(), flags=re.M)
-    with open(f"{HERE}/engine.js", encoding="utf-8") as file:
-        return {*declared, *re.findall(r"\bengine\.(jpq_\w+)\(", file.read())}
+    scripts = "".join(path.read_text(encoding="utf-8") for path in pathlib.Path(HERE).glob("*.js"))
+    return {*declared, *re.findall(r"\bengine\.(jpq_\w+)\(", scripts)}
 
 
 def make_wasm(module, header, room, out):

@@ -1,5 +1,4 @@
 // A list of which only the rows that are seen are in the document. All rows have one height.
-'use strict';
 // Browsers end at some 17 million pixels: a longer list moves on by more than its scroll bar does.
 const TALLEST = 8e6, AHEAD = 12;
 
@@ -15,7 +14,10 @@ class Scroll {
     pane.onscroll = () => this.update();
     new ResizeObserver(() => this.update()).observe(pane);
     this.list.onkeydown = event => this.move(event);
-    this.list.onfocusin = event => { const it = event.target.closest('[data-index]'); if (it) this.focused = Number(it.dataset.index); };
+    this.list.addEventListener('focusin', event => {
+      const it = event.target.closest('[data-index]');
+      if (it) this.focused = Number(it.dataset.index);
+    });
   }
   // Begins a list of so many rows, each so many pixels high.
   begin(count, height, header) {
@@ -71,7 +73,8 @@ class Scroll {
     if (index < first || index >= first + seen) {
       const to = index < first ? index : index - seen + 1, whole = this.count * this.height;
       const most = Math.min(whole, TALLEST) - this.pane.clientHeight;
-      this.pane.scrollTop = whole <= TALLEST ? to * this.height : to / (this.count - this.pane.clientHeight / this.height) * most;
+      const part = to / (this.count - this.pane.clientHeight / this.height);
+      this.pane.scrollTop = whole <= TALLEST ? to * this.height : part * most;
       this.update();
     }
     const row = this.element(index);
@@ -83,8 +86,8 @@ class Scroll {
   }
   move(event) {
     const page = Math.max(1, this.seen() - 2);
-    const to = { ArrowDown: this.focused + 1, ArrowUp: this.focused - 1, PageDown: this.focused + page, PageUp: this.focused - page,
-      Home: 0, End: this.count - 1 }[event.key];
+    const steps = { ArrowDown: 1, ArrowUp: -1, PageDown: page, PageUp: -page };
+    const to = { Home: 0, End: this.count - 1 }[event.key] ?? (steps[event.key] && this.focused + steps[event.key]);
     if (to === undefined || event.ctrlKey || event.metaKey || event.altKey) return;
     event.preventDefault();
     this.focus(to);

@@ -2,9 +2,11 @@
 import base64
 import gzip
 import hashlib
+import pathlib
 import re
 
-SCRIPTS = ("words.js", "help.js", "scroll.js", "view.js", "page.js")
+WORKER = ("engine.js", "answer.js", "worker.js")
+SCRIPTS = ("words.js", "help.js", "scroll.js", "view.js", "page.js", "listen.js")
 
 
 def packed(path):
@@ -23,16 +25,15 @@ def digest(text):
 
 
 def make_sheet(top, wasm, out):
-    """Writes the page to the file `out`, and answers how many bytes it has. Nothing but its own script and style may run in it."""
-    def read(name):
-        with open(f"{top}/page/{name}", encoding="utf-8") as file:
-            return file.read()
+    """Writes the page to the file `out`, and answers how many bytes it has. Only its own script and style may run in it."""
 
-    script = "'use strict';\n" + "".join(read(name).replace("'use strict';\n", "") for name in SCRIPTS)
-    style = read("page.css")
-    parts = {"STYLE": style, "SCRIPT": script, "ENGINE": read("engine.js"), "WASM": packed(wasm), "EXAMPLE": packed(f"{top}/examples/log.jsonl")}
+    def read(*names):
+        return "".join(pathlib.Path(top, "page", name).read_text(encoding="utf-8") for name in names)
+
+    script, style = f"'use strict';\n{read(*SCRIPTS)}", read("page.css")
+    parts = {"STYLE": style, "SCRIPT": script, "ENGINE": f"'use strict';\n{read(*WORKER)}"}
+    parts |= {"WASM": packed(wasm), "EXAMPLE": packed(f"{top}/examples/log.jsonl")}
     parts |= {"SCRIPT_DIGEST": digest(script), "STYLE_DIGEST": digest(style)}
     page = re.sub(r"@@(\w+)@@", lambda found: parts[found[1]], read("page.html")).encode()
-    with open(out, "wb") as file:
-        file.write(page)
+    pathlib.Path(out).write_bytes(page)
     return len(page)

@@ -1,5 +1,4 @@
 // What an answer looks like: lines with marks, values, cells, and the panel of a whole line.
-'use strict';
 // A line of tokens as text and marks.
 function painted(tokens, paths) {
   const out = make('div', { className: 't' }), stack = [out];
@@ -19,32 +18,42 @@ function painted(tokens, paths) {
   return out;
 }
 
+const numberOf = number => make('span', { className: 'n', textContent: number });
+
+const pathButton = path => make('button', { className: 'path', type: 'button', textContent: path, title: path });
+
 function lineRow(item) {
-  const row = make('div', { className: 'row line' }, make('span', { className: 'n', textContent: item.number }), painted(item.tokens, item.paths));
+  const text = painted(item.tokens, item.paths), row = make('div', { className: 'row line' }, numberOf(item.number), text);
   row.item = item;
-  row.setAttribute('aria-label', `line ${item.number}, ${many(item.all, 'value')}: ${row.querySelector('.t').textContent.slice(0, 200)}`);
+  row.setAttribute('aria-label', `line ${item.number}, ${many(item.all, 'value')}: ${text.textContent.slice(0, 200)}`);
   return row;
 }
 
 function valueRow({ number, path, text, isWhole }) {
   const short = text.replaceAll('\n', '⏎');
-  const row = make('div', { className: 'row value' }, make('span', { className: 'n', textContent: number }),
-    make('button', { className: 'path', type: 'button', tabIndex: -1, textContent: path, title: path }), make('span', { className: 't whole', textContent: isWhole ? short : short + '…' }));
+  const row = make('div', { className: 'row value' }, numberOf(number), Object.assign(pathButton(path), { tabIndex: -1 }),
+    make('span', { className: 't whole', textContent: isWhole ? short : short + '…' }));
   row.setAttribute('aria-label', `line ${number}, ${path}: ${text.slice(0, 200)}`);
   return row;
 }
 
-function cellRow({ number, cells }) {
-  const row = make('div', { className: 'row cells' }, make('span', { className: 'n', textContent: number }),
-    ...cells.map(it => make('span', { className: 'cell', textContent: it, title: it })));
+// A number and cells in a row, as those of a table and its head.
+function cellsOf(first, cells) {
+  const made = cells.map(it => make('span', { className: 'cell', textContent: it, title: it }));
+  const row = make('div', { className: 'row cells' }, numberOf(first), ...made);
   row.style.setProperty('--cells', cells.length);
+  return row;
+}
+
+function cellRow({ number, cells }) {
+  const row = cellsOf(number, cells);
   row.setAttribute('aria-label', `line ${number}: ${cells.join(', ')}`);
   return row;
 }
 
 function refusedRow([number, why]) {
-  const row = make('div', { className: 'row refusal' }, make('span', { className: 'n', textContent: number }), make('code', { textContent: why }),
-    make('span', { textContent: WHY[why] || why }));
+  const words = make('span', { textContent: WHY[why] || why });
+  const row = make('div', { className: 'row refusal' }, numberOf(number), make('code', { textContent: why }), words);
   row.number = number;
   row.setAttribute('aria-label', `line ${number} is refused: ${WHY[why] || why}. Enter shows its bytes`);
   return row;
@@ -61,10 +70,12 @@ function openPanel(title, ...inner) {
 }
 
 function showWhole(item) {
-  const rows = item.paths.map((path, i) => make('tr', {}, make('td', {}, make('button', { className: 'path', type: 'button', textContent: path })), make('td', { textContent: item.values[i] })));
-  if (item.all > rows.length) rows.push(make('tr', {}, make('td', { colSpan: 2, textContent: `and ${(item.all - rows.length).toLocaleString('en')} more, which the download has` })));
-  const table = make('table', {}, make('tbody', {}, ...rows));
-  openPanel(`Line ${item.number.toLocaleString('en')}, ${many(item.all, 'value')}`, painted(item.tokens, item.paths), ...(item.paths.length ? [table] : []));
+  const cell = it => make('td', {}, it);
+  const rows = item.paths.map((path, i) => make('tr', {}, cell(pathButton(path)), cell(item.values[i])));
+  const more = item.all - rows.length;
+  if (more > 0) rows.push(make('tr', {}, cell(`and ${more.toLocaleString('en')} more, which the download has`)));
+  const table = item.paths.length ? [make('table', {}, make('tbody', {}, ...rows))] : [];
+  openPanel(`Line ${item.number.toLocaleString('en')}, ${many(item.all, 'value')}`, painted(item.tokens, item.paths), ...table);
 }
 
 // A caret under the character of a fault, what is wrong there, and what was probably meant.

@@ -1,7 +1,7 @@
 // Words and numbers as they are shown, and the command that does the same.
-'use strict';
 const WHY = {
-  utf8: 'its bytes are not UTF-8', grammar: 'it is no JSON', depth: 'values nest more than 512 deep', surrogate: 'half of a surrogate pair is missing',
+  utf8: 'its bytes are not UTF-8', grammar: 'it is no JSON', depth: 'values nest more than 512 deep',
+  surrogate: 'half of a surrogate pair is missing',
   number: 'an exponent has more than 15 digits', duplicate: 'an object has two equal names', truncated: 'its end may be lost',
 };
 
