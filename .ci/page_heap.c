@@ -1,5 +1,5 @@
-/* Tries the heap of the page: two hundred thousand random calls over 64 MiB of memory, each block filled with bytes of its own, which have to be
- * there as it is resized and freed. Then all is freed, and half of the memory has to be had again in
+/* Tries the heap of the page: two hundred thousand random calls over 64 MiB of memory, each block filled with bytes of its
+ * own, which have to be there as it is resized and freed. Then all is freed, and half of the memory has to be had again in
  * blocks of half a MiB: small blocks stay where they lie, so that one block of it is not to be had. */
 #define _DEFAULT_SOURCE
 #include <stdint.h>
@@ -61,7 +61,8 @@ static void expect(int at, uint64_t n) {
 }
 
 static void hold(int at, struct tried got, uint64_t n) {
-    if ((uint64_t)got.p % 16 || got.p < memory || got.p + n > memory + PAGE * held) stop("a block is not aligned, or lies outside");
+    int is_outside = got.p < memory || got.p + n > memory + PAGE * held;
+    if ((uint64_t)got.p % 16 || is_outside) stop("a block is not aligned, or lies outside");
     blocks[at].p = got.p, blocks[at].n = n, blocks[at].fill = (uint8_t)below(256);
     memset(got.p, blocks[at].fill, n);
 }

@@ -23,10 +23,14 @@ class Browser:
         environment = {**os.environ, "HOME": room, "TMPDIR": room}
         words = ["chromedriver", f"--port={self.port}"]
         nothing = subprocess.DEVNULL
-        self.driver = subprocess.Popen(words, stdin=nothing, stdout=nothing, stderr=nothing, env=environment, start_new_session=True)
+        self.driver = subprocess.Popen(
+            words, stdin=nothing, stdout=nothing, stderr=nothing, env=environment, start_new_session=True
+        )
         self.wait_for_driver()
         flags = f"--headless=new --no-sandbox --disable-gpu --disable-dev-shm-usage --no-first-run --window-size={width},{height} --hide-scrollbars"
-        options = {"args": [*flags.split(), f"--user-data-dir={room}/profile", *["--blink-settings=preferredColorScheme=0"] * dark]}
+        options = {
+            "args": [*flags.split(), f"--user-data-dir={room}/profile", *["--blink-settings=preferredColorScheme=0"] * dark]
+        }
         options["prefs"] = {"download.default_directory": f"{room}/downloads"}
         wanted = {"goog:chromeOptions": options, "goog:loggingPrefs": {"browser": "ALL", "performance": "ALL"}}
         made = self.call("POST", "/session", {"capabilities": {"alwaysMatch": wanted}})
@@ -43,7 +47,9 @@ class Browser:
 
     def call(self, method, path, body=None):
         data = json.dumps(body).encode() if body is not None else None
-        request = urllib.request.Request(f"http://127.0.0.1:{self.port}{path}", data=data, method=method, headers={"Content-Type": "application/json"})
+        request = urllib.request.Request(
+            f"http://127.0.0.1:{self.port}{path}", data=data, method=method, headers={"Content-Type": "application/json"}
+        )
         try:
             with urllib.request.urlopen(request, timeout=150) as answer:
                 return json.load(answer)["value"]

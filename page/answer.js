@@ -77,7 +77,8 @@ function keptRanges(length, marks, most) {
   return kept;
 }
 
-// A line as a list: texts, { open } where the node of that number begins, { close } where one ends, { cut } for what is left out.
+// A line as a list: texts, { open } where the node of that number begins, { close } where one ends, { cut } for what is left
+// out.
 function tokensOf(bytes, marks, most) {
   const seen = new Set(), tokens = [], ends = [];
   const spans = marks.slice(0, NODES).map(([from, to, path], index) => [from, to, index, path])
