@@ -6,6 +6,7 @@ FEW is 1 where the machine is small: then five queries are asked of one file, an
 """
 import os
 import pathlib
+import signal
 import sys
 import tempfile
 
@@ -51,11 +52,13 @@ def run_whole(trial, url):
 
 
 def main(page, jpq, jpgrep, few):
+    # So that the browser ends where this is told to.
+    signal.signal(signal.SIGTERM, lambda number, _: sys.exit(128 + number))
     with tempfile.TemporaryDirectory(prefix="page-") as room, Browser(room) as browser:
         trial, url = Trial(browser, room, jpq, jpgrep), f"file://{page}"
         try:
             browser.go(url)
-            trial.done("until(() => state.answered, () => done(1))")
+            trial.done("isReady")
             trial.load(TOP / "examples/log.jsonl")
             if few:
                 for query in QUERIES[:5]:

@@ -236,9 +236,13 @@ class Trial:
         query = self.browser.js("return question().query || '$'")
         rows = output(self.jpq, path, "-c", f"query {query}")
         self.check("rows of a file that is packed", self.done("saved", "rows"), digest(rows))
+        path = pathlib.Path(self.room, "document.json")
+        path.write_text('\n{"a": [1, "]}",\n2]}\n')
+        self.check("a document is told as that", self.load(path)["isDocument"], True)
         path = pathlib.Path(self.room, "empty.jsonl")
         path.write_bytes(b"")
-        self.check("an empty file", self.load(path)["isForeign"], False)
+        opened = self.load(path)
+        self.check("an empty file", [opened["isForeign"], opened["isDocument"]], [False, False])
 
     def scroll(self, count):
         """Many rows, of which few are in the document."""

@@ -1,7 +1,9 @@
 """A client of chromedriver (W3C WebDriver, over HTTP), with the standard library alone."""
 import base64
+import contextlib
 import json
 import os
+import signal
 import socket
 import subprocess
 import time
@@ -18,19 +20,22 @@ def free_port():
 class Browser:
     """A Chromium of its own without a window, that ends with `quit` or with the block that it was made for."""
 
-    def __init__(self, room, width=1280, height=860, dark=False):
+    def __init__(self, room, width=1280, height=860):
         self.port, self.base = free_port(), None
-        environment = {**os.environ, "HOME": room, "TMPDIR": room}
-        words = ["chromedriver", f"--port={self.port}"]
-        nothing = subprocess.DEVNULL
-        self.driver = subprocess.Popen(
-            words, stdin=nothing, stdout=nothing, stderr=nothing, env=environment, start_new_session=True
-        )
-        self.wait_for_driver()
-        flags = f"--headless=new --no-sandbox --disable-gpu --disable-dev-shm-usage --no-first-run --window-size={width},{height} --hide-scrollbars"
-        options = {
-            "args": [*flags.split(), f"--user-data-dir={room}/profile", *["--blink-settings=preferredColorScheme=0"] * dark]
-        }
+        how = {name: subprocess.DEVNULL for name in ("stdin", "stdout", "stderr")}
+        how["env"] = {**os.environ, "HOME": room, "TMPDIR": room}
+        # A group of its own, so that nothing of it is left.
+        self.driver = subprocess.Popen(["chromedriver", f"--port={self.port}"], start_new_session=True, **how)
+        try:
+            self.wait_for_driver()
+            self.begin(room, f"--window-size={width},{height}")
+        except BaseException:
+            self.quit()
+            raise
+
+    def begin(self, room, size):
+        flags = "--headless=new --no-sandbox --disable-gpu --disable-dev-shm-usage --no-first-run --hide-scrollbars"
+        options = {"args": [*flags.split(), size, f"--user-data-dir={room}/profile"]}
         options["prefs"] = {"download.default_directory": f"{room}/downloads"}
         wanted = {"goog:chromeOptions": options, "goog:loggingPrefs": {"browser": "ALL", "performance": "ALL"}}
         made = self.call("POST", "/session", {"capabilities": {"alwaysMatch": wanted}})
@@ -90,8 +95,11 @@ class Browser:
         try:
             if self.base:
                 self.call("DELETE", self.base)
+        except (OSError, RuntimeError):
+            pass  # what is left is ended below
         finally:
-            self.driver.terminate()
+            with contextlib.suppress(ProcessLookupError):
+                os.killpg(self.driver.pid, signal.SIGKILL)
             self.driver.wait()
 
     def __enter__(self):

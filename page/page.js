@@ -1,5 +1,6 @@
 // The page: what is typed and clicked goes to the worker as questions, and what the worker answers is shown.
 const FOREIGN = 'This begins like gzip, zstd, xz, zip or bzip2 data, or like UTF-16: unpack or recode it first.';
+const DOCUMENT = 'The first line goes on in the next one: jpgrep --json and --elements make JSON Lines of such a file.';
 const NO_MEMORY64 = 'This browser has no 64-bit memory for WebAssembly. Chrome and Edge have it from version 133 on, '
   + 'Firefox from 134 on.';
 const FILES = {
@@ -113,7 +114,7 @@ const heard = {
     isOpen = true;
     state.opened = it;
     const told = ` ${bytesText(it.size)}, ${it.summary}, loaded in ${timeText(it.loadMs)}`;
-    const foreign = make('div', { className: 'bad', textContent: it.isForeign ? FOREIGN : '' });
+    const foreign = make('div', { className: 'bad', textContent: it.isForeign ? FOREIGN : it.isDocument ? DOCUMENT : '' });
     $('told').replaceChildren(make('b', { textContent: it.name }), told, foreign);
     $('foot').textContent = `Nothing leaves this page. Memory: ${bytesText(it.memory)}.`;
     $('refusedCount').textContent = it.refused.length.toLocaleString('en');

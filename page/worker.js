@@ -1,4 +1,14 @@
 // What the page sends, and what is done with it.
+// Whether the first line that is not blank begins an array or an object that goes on in the next one.
+function isDocument(refused) {
+  if (!refused.length || refused[0][0] > 9) return false;
+  const lines = Array.from({ length: refused[0][0] }, (_, i) => decoder.decode(lineBytes(i + 1))), last = lines.pop();
+  if (lines.some(it => it.trim()) || !/^\s*[[{]/.test(last)) return false;
+  let open = 0;
+  for (const [it] of last.matchAll(/"(?:[^"\\]|\\.)*"?|[[{\]}]/g)) open += '[{'.includes(it) ? 1 : ']}'.includes(it) ? -1 : 0;
+  return open > 0;
+}
+
 async function open({ name, blob }) {
   const began = performance.now();
   if (file) engine.page_free(file);
@@ -27,7 +37,7 @@ async function open({ name, blob }) {
     else if (row.includes('\t!')) { const [number, why] = row.split('\t!'); refused.push([Number(number), why]); }
   }
   const times = { readMs: read - began, loadMs, memory: engine.memory.buffer.byteLength };
-  postMessage({ kind: 'opened', name, size, summary, refused, isForeign, ...times });
+  postMessage({ kind: 'opened', name, size, summary, refused, isForeign, isDocument: isDocument(refused), ...times });
 }
 
 function answerTo({ id, where, query }) {
