@@ -177,9 +177,25 @@ function listenToKeys() {
   });
 }
 
+// In a window of another width other parts of a line are shown.
+function listenToWidth() {
+  let width = innerWidth, timer;
+  addEventListener('resize', () => {
+    if (innerWidth === width) return;
+    width = innerWidth;
+    clearTimeout(timer);
+    timer = setTimeout(() => {
+      const { first } = lists.lines;
+      if (state.view !== 'lines' || !lists.lines.count) return;
+      showAnswer();
+      lists.lines.lead(first);
+    }, 120);
+  });
+}
+
 async function begin() {
   const parts = [listenToQuestion, listenToPasting, listenToFiles, listenToTabs, listenToBar, listenToRows, listenToKeys];
-  for (const listen of parts) listen();
+  for (const listen of [...parts, listenToWidth]) listen();
   addEventListener('hashchange', () => { readLink(); ask(); });
   readLink();
   showCommand();

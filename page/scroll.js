@@ -65,17 +65,20 @@ class Scroll {
     this.items = new Map(items.map((item, i) => [from + i, item]));
     if (held || this.awaits !== undefined) this.focus(this.awaits ?? focused);
   }
+  // Scrolls so that a row is the first that is seen.
+  lead(index) {
+    const whole = this.count * this.height, most = Math.min(whole, TALLEST) - this.pane.clientHeight;
+    const part = index / (this.count - this.pane.clientHeight / this.height);
+    this.pane.scrollTop = whole <= TALLEST ? index * this.height : part * most;
+    this.update();
+  }
   element(index) { return this.list.querySelector(`[data-index="${index}"]`); }
   // Focuses a row, which is scrolled to first where it is not seen.
   focus(index) {
     index = Math.max(0, Math.min(this.count - 1, index));
     const first = Math.ceil(this.top()), seen = Math.max(1, Math.floor(this.pane.clientHeight / this.height));
     if (index < first || index >= first + seen) {
-      const to = index < first ? index : index - seen + 1, whole = this.count * this.height;
-      const most = Math.min(whole, TALLEST) - this.pane.clientHeight;
-      const part = to / (this.count - this.pane.clientHeight / this.height);
-      this.pane.scrollTop = whole <= TALLEST ? to * this.height : part * most;
-      this.update();
+      this.lead(index < first ? index : index - seen + 1);
     }
     const row = this.element(index);
     this.awaits = row ? undefined : index;
