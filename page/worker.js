@@ -110,10 +110,11 @@ function headOf(form, columns) {
 // The file of a form.
 function save({ form, where, query, columns: typed }) {
   const columns = typed || suggestedColumns();
-  const parts = [], asked = query || '$';
+  const parts = [], asked = query || '$', isTable = form === 'csv' || form === 'tsv';
+  if ((where && faultOf(where, true)) || (isTable ? columnFault(columns) : faultOf(asked, false))) throw new Error(WORDS[3]);
   if (form === 'rows' && !where) ask('query ' + asked);
   else if (form === 'rows') filter(where, asked, SHOWN.rows, true);
-  else if (form === 'csv' || form === 'tsv') {
+  else if (isTable) {
     parts.push(headOf(form, columns));
     filter(where, columns.join('\n'), SHOWN[form], false);
   } else filter(where, asked, form === 'canonical' && asked === '$' ? SHOWN.canonicalLines : SHOWN[form], false);
@@ -146,10 +147,10 @@ const calls = {
   table: tableOf,
   save,
   list({ id, view, from, count, ...how }) {
-    const items = answer || view === 'table' ? LISTS[view](from, count, how) : [];
+    const isThere = view === 'table' ? table : answer, items = isThere ? LISTS[view](from, count, how) : [];
     postMessage({ kind: 'list', id, view, from, items });
   },
-  whole: ({ id, index }) => postMessage({ kind: 'whole', id, index, item: lineOf(index, WHOLE_BYTES) }),
+  whole({ id, index }) { if (answer) postMessage({ kind: 'whole', id, index, item: lineOf(index, WHOLE_BYTES) }); },
   line: ({ number }) => postMessage({ kind: 'line', number, ...beginning(lineBytes(number), WHOLE_BYTES) }),
 };
 
