@@ -48,6 +48,7 @@ def run_whole(trial, url):
     trial.scroll(1_000_000)
     trial.typing()
     trial.silence(url)
+    trial.unable()
     trial.downloads(url)
 
 

@@ -228,6 +228,13 @@ class Trial:
         self.check("the file is opened anew", self.done("opened")["name"], os.path.basename(self.file))
         self.question("$..*")
 
+    def unable(self):
+        """What is said where 64-bit memory is missing."""
+        said = self.browser.js("heard.failed({ of: 'start', message: 'a trial' }); return $('told').textContent")
+        self.check("what is said where the engine does not start", said, "a trial")
+        script = "WebAssembly.validate = () => false; heard.failed({ of: 'start', message: '' }); return $('told').textContent"
+        self.check("what is said without 64-bit memory", "Firefox from 134" in self.browser.js(script), True)
+
     def foreign(self):
         """A file that is none, and one without a line."""
         path = pathlib.Path(self.room, "packed.jsonl")
@@ -245,7 +252,7 @@ class Trial:
         self.check("an empty file", [opened["isForeign"], opened["isDocument"]], [False, False])
 
     def scroll(self, count):
-        """Many rows, of which few are in the document."""
+        """Many rows. Few of them are in the document."""
         path = pathlib.Path(self.room, "rows.jsonl")
         path.write_text("".join(f'{{"a":{number}}}\n' for number in range(1, count + 1)))
         self.load(path)

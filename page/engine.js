@@ -1,8 +1,8 @@
 // The engine in a worker: the module, the file that it holds, and its calls, which are those of c/jpq.h.
 const DONE = 0, MEMORY = 16, FORMAT = 5;
 const WORDS = {
-  1: 'the handle is not open', 3: 'the query, the condition or a column is refused', 5: 'the file begins with the mark of another format',
-  11: 'cannot read', 12: 'the file has 4 GiB or more', 14: 'the script is too large', 16: 'out of memory',
+  1: 'the handle is not open', 3: 'the query, the condition or a column is refused',
+  5: 'the file begins with the mark of another format', 11: 'cannot read', 12: 'the file has 4 GiB or more', 14: 'the script is too large', 16: 'out of memory',
 };
 // What jpq_filter writes of what matches.
 const SHOWN = { lines: 1, rows: 2, csv: 3, tsv: 4, canonicalLines: 5, canonical: 7, values: 8, text: 9 };

@@ -1,4 +1,4 @@
-// A list of which only the rows that are seen are in the document. All rows have one height.
+// A list whose rows are in the document only while they are seen. All rows have one height.
 // Browsers end at some 17 million pixels: a longer list moves on by more than its scroll bar does.
 const TALLEST = 8e6, AHEAD = 12;
 
@@ -19,7 +19,7 @@ class Scroll {
       if (it) this.focused = Number(it.dataset.index);
     });
   }
-  // Begins a list of so many rows, each so many pixels high.
+  // Begins a list of `count` rows, each `height` pixels high.
   begin(count, height, header) {
     Object.assign(this, { count, height, from: -1, until: -1, focused: 0 });
     this.items.clear();

@@ -65,8 +65,7 @@ function columnFault(columns) {
   return null;
 }
 
-// Columns for a table of which none are named: a query of names and indexes alone is one, and so are the first values of a
-// line.
+// Columns for a table where none are named: a query of names and indexes alone is one, and so are the first values of a line.
 function suggestedColumns() {
   if (!answer) return [];
   if (/^\$(\.[A-Za-z_]\w*|\[\d+\]|\['[^'\\]*'\])+$/.test(answer.query)) return [answer.query];
