@@ -76,6 +76,11 @@ const trial = {
     const row = () => document.activeElement;
     until(() => row().dataset.index && [Number(row().dataset.index), textOf(row(), '.n')], done);
   },
+  // Where the list is after it was scrolled away from the row with the focus.
+  left(place, done) {
+    $('lines').scrollTop = place;
+    setTimeout(() => done([$('lines').scrollTop, $('lines').contains(document.activeElement)]), 400);
+  },
   press(key, done) {
     document.activeElement.dispatchEvent(new KeyboardEvent('keydown', { key, bubbles: true, cancelable: true }));
     done(1);

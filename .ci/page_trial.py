@@ -261,6 +261,7 @@ class Trial:
             for place, wanted in ((1, count), (0, 1)):
                 self.check(f"{view} scrolled to {place}", self.done("scrolled", view, place), [True, wanted])
         self.check("a line focused", self.done("focused", count // 2), [count // 2, str(count // 2 + 1)])
+        self.check("scrolled away from it", self.done("left", 5000), [5000, True])
 
     def keyboard(self):
         """The keys alone: to the lines, to a mark, and its path into the query."""

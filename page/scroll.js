@@ -5,7 +5,7 @@ const TALLEST = 8e6, AHEAD = 12;
 class Scroll {
   // `wants(from, count)` is to bring rows by `show`; `row(item, index)` makes the element of one.
   constructor(pane, { wants, row, label }) {
-    Object.assign(this, { pane, wants, row, count: 0, height: 24, from: -1, until: -1, focused: 0, items: new Map() });
+    Object.assign(this, { pane, wants, row, count: 0, height: 24, from: -1, until: -1, base: 0, focused: 0 });
     this.space = make('div', { className: 'space' });
     this.list = make('div', { className: 'rows' });
     this.list.setAttribute('role', 'list');
@@ -21,8 +21,7 @@ class Scroll {
   }
   // Begins a list of `count` rows, each `height` pixels high.
   begin(count, height, header) {
-    Object.assign(this, { count, height, from: -1, until: -1, focused: 0 });
-    this.items.clear();
+    Object.assign(this, { count, height, from: -1, until: -1, base: 0, focused: 0 });
     this.list.replaceChildren();
     this.space.style.height = `${Math.min(count * height, TALLEST)}px`;
     this.list.style.setProperty('--row', `${height}px`);
@@ -47,23 +46,27 @@ class Scroll {
       this.until = Math.min(this.count, last + AHEAD);
       this.wants(this.from, this.until - this.from);
     }
-    this.list.style.transform = `translateY(${shift - (first - this.from) * this.height}px)`;
+    // Rows that are there stay where they belong until others come.
+    this.list.style.transform = `translateY(${shift - (first - this.base) * this.height}px)`;
   }
   // Rows that came, from one on.
   show(from, items) {
     if (from !== this.from) return;
-    const held = this.list.contains(document.activeElement), focused = this.focused;
+    const isHeld = this.list.contains(document.activeElement), last = from + items.length - 1;
+    const focused = Math.min(Math.max(this.focused, from), last);
+    this.base = from;
     this.list.replaceChildren(...items.map((item, i) => {
       const index = from + i, row = this.row(item, index);
       row.dataset.index = index;
-      row.tabIndex = index === Math.min(Math.max(focused, from), from + items.length - 1) ? 0 : -1;
+      row.tabIndex = index === focused ? 0 : -1;
       row.setAttribute('role', 'listitem');
       row.setAttribute('aria-setsize', this.count);
       row.setAttribute('aria-posinset', index + 1);
       return row;
     }));
-    this.items = new Map(items.map((item, i) => [from + i, item]));
-    if (held || this.awaits !== undefined) this.focus(this.awaits ?? focused);
+    this.update();
+    if (this.awaits !== undefined) this.focus(this.awaits);
+    else if (isHeld) this.element(focused).focus({ preventScroll: true });
   }
   // Scrolls so that a row is the first that is seen.
   lead(index) {
