@@ -33,6 +33,7 @@ def run_whole(trial, url):
     for which, name in (("query", "places.examples"), ("where", "conditions.examples")):
         for text, place in stated_faults(name)[::8]:
             trial.fault(which, text, place)
+    trial.other_ways()
     trial.keyboard()
     large = pathlib.Path(trial.room, "orders.jsonl")
     write_orders(large, 5_000_000)

@@ -81,6 +81,18 @@ const trial = {
     $('lines').scrollTop = place;
     setTimeout(() => done([$('lines').scrollTop, $('lines').contains(document.activeElement)]), 400);
   },
+  dropped(text, done) {
+    const dataTransfer = new DataTransfer();
+    dataTransfer.items.add(new File([text], 'dropped.jsonl'));
+    for (const kind of ['dragenter', 'drop']) document.body.dispatchEvent(new DragEvent(kind, { dataTransfer, bubbles: true }));
+    until(() => $('drop').hidden && state.opened?.name === 'dropped.jsonl' && state.opened.summary, done);
+  },
+  pasted(text, done) {
+    $('paste').click();
+    $('pasted').value = text;
+    $('pasteDialog').querySelector('[value=open]').click();
+    until(() => state.opened?.name === 'pasted.jsonl' && state.opened.summary, done);
+  },
   press(key, done) {
     document.activeElement.dispatchEvent(new KeyboardEvent('keydown', { key, bubbles: true, cancelable: true }));
     done(1);

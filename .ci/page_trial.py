@@ -263,6 +263,11 @@ class Trial:
         self.check("a line focused", self.done("focused", count // 2), [count // 2, str(count // 2 + 1)])
         self.check("scrolled away from it", self.done("left", 5000), [5000, True])
 
+    def other_ways(self):
+        """A file that is dropped, and a text that is pasted."""
+        self.check("a file that is dropped", self.done("dropped", '{"a":1}\n{\n\n'), "3 lines, 1 refused, 1 blank")
+        self.check("a text that is pasted", self.done("pasted", '{"a":"Ä"}'), "1 lines, 0 refused, 0 blank")
+
     def keyboard(self):
         """The keys alone: to the lines, to a mark, and its path into the query."""
         self.load(TOP / "examples/log.jsonl")
