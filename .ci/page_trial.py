@@ -227,6 +227,9 @@ class Trial:
         self.check("what is said of an engine that stopped", said, "The engine stopped (a trial). It was started anew.")
         self.check("the file is opened anew", self.done("opened")["name"], os.path.basename(self.file))
         self.question("$..*")
+        self.browser.js("heard.failed({ of: 'open', isTrap: true, message: 'another' })")
+        said = self.browser.js("state.failed = null; return $('told').textContent")
+        self.check("what is said of a file at which it stopped", said, "The engine stopped (another). It was started anew.")
 
     def unable(self):
         """What is said where 64-bit memory is missing."""

@@ -107,7 +107,7 @@ const heard = {
   started(it) {
     state.started = it;
     if (blob) openFile(blob, name);
-    else if (!state.opened) openExample();
+    else if (!state.opened && !state.failed) openExample();
   },
   reading({ part }) { $('told').replaceChildren('reading ', make('progress', { value: part })); },
   opened(it) {

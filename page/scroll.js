@@ -66,7 +66,7 @@ class Scroll {
     }));
     this.update();
     if (this.awaits !== undefined) this.focus(this.awaits);
-    else if (isHeld) this.element(focused).focus({ preventScroll: true });
+    else if (isHeld) this.element(focused)?.focus({ preventScroll: true });
   }
   // Scrolls so that a row is the first that is seen.
   lead(index) {
