@@ -11,7 +11,6 @@ use Rattle.jp_grep.specs.Formats.{format_of}
 use Rattle.jp_grep.specs.Fronts.{IsRefused}
 use Rattle.jp_grep.specs.Items.{Item, framing_by, items_come}
 use Rattle.jp_grep.specs.Matching.{queries_of}
-use Rattle.jp_grep.specs.Rows.{selected_item}
 use Rattle.jp_grep.specs.Watching.{AreCounts, EndsWith, SearchStopped, answered_of, is_whole}
 use Rattle.jp_grep.specs.declared.fault.SearchFault.{SearchFault}
 use Rattle.jp_grep.specs.declared.fault.SearchFault.TheVariants as search_faults
@@ -21,7 +20,7 @@ use Rattle.jp_grep.specs.declared.question.Queries.{Queries}
 use Rattle.jp_grep.specs.declared.question.Question.{Question}
 use Rattle.jp_grep.proofs.Coming.{none_lost}
 use Rattle.jp_grep.proofs.SoFar.{whole_came, whole_kept}
-use Rattle.jp_model.specs.Query.Syntax.{Segments}
+use Rattle.jp_model.specs.Query.Syntax.{Path}
 use Rattle.jp_query.specs.Refusals.{TellsConditionRefusal, TellsRefusal}
 use Rattle.jp_query.specs.declared.reading.Refusal.{Refusal}
 use Rattle.jp_query.specs.declared.reading.Refusal.TheVariants as refusals
@@ -30,12 +29,12 @@ use Rattle.jp_c.specs.declared.question.FilterFault.{FilterFault}
 use Rattle.jp_c.specs.declared.question.FilterFault.TheVariants as faults
 
 -- queries of some texts, and behind them those of others
-pub both_queries : (purpose : Queries) (texts more : List (List ℕ)) (queries others : List Segments) → AreQueries purpose texts queries → AreQueries purpose more others
+pub both_queries : (purpose : Queries) (texts more : List (List ℕ)) (queries others : List Path) → AreQueries purpose texts queries → AreQueries purpose more others
     → AreQueries purpose (texts ++ more) (queries ++ others)
 both_queries purpose [] more [] others h k = k
 both_queries purpose [] more (q ∷ queries) others h k = absurd h
 both_queries purpose (text ∷ texts) more [] others h k = absurd h
-both_queries purpose (text ∷ texts) more (q ∷ queries) others h k = (h.0, h.1, both_queries purpose texts more queries others h.2 k)
+both_queries purpose (text ∷ texts) more (q ∷ queries) others h k = (h.0, both_queries purpose texts more queries others h.1 k)
 
 -- the queries of one text more
 pub more_added : (purpose : Queries) (texts : List (Bor (List ℕ))) (n : ℕ) (d : Bor (List ℕ)) (old mid new : Question) → n < length texts
@@ -43,7 +42,7 @@ pub more_added : (purpose : Queries) (texts : List (Bor (List ℕ))) (n : ℕ) (
 more_added purpose texts n d old mid new within so more = (
   so.0 ++ more.0,
   subst (λ (ts : List (List ℕ)). AreQueries purpose ts (so.0 ++ more.0)) (sym longer) (both_queries purpose (map (λ t. t.now) (take n texts)) ((get_or texts n d).now ∷ []) so.0 more.0 so.1 more.1),
-  more.2 ∙ ap (λ (qs : List Segments). qs ++ more.0) so.2 ∙ append_assoc (queries_of old) so.0 more.0,
+  more.2 ∙ ap (λ (qs : List Path). qs ++ more.0) so.2 ∙ append_assoc (queries_of old) so.0 more.0,
 )
   where
     longer : map (λ (t : Bor (List ℕ)). t.now) (take (n + 1) texts) ≡ map (λ (t : Bor (List ℕ)). t.now) (take n texts) ++ (get_or texts n d).now ∷ []
@@ -93,7 +92,7 @@ pub all_answered : (question : Question) (form : Form) (text : List ℕ) (came :
     → answered_of question form 0 outcomes ≡ answered_of question form 0 (items_come form.units true text)
 all_answered question form text came outcomes found whole fewer ends counts all =
     let ended = came_to_end came question form outcomes found whole fewer ends in
-    none_lost (selected_item question) (form.most - 0) (items_come form.units came.ended came.bytes) outcomes (whole_came question form came outcomes found whole ends) (sym counts.given_up ∙ whole_kept question form found whole)
+    none_lost question (form.most - 0) (items_come form.units came.ended came.bytes) outcomes (whole_came question form came outcomes found whole ends) (sym counts.given_up ∙ whole_kept question form found whole)
     ∙ ap₂ (λ (b : Bool) (bytes : List ℕ). answered_of question form 0 (items_come form.units b bytes)) ended (all ended)
 
 -- the error that a `?` hands on

@@ -7,7 +7,7 @@ use Rattle.jp_model.specs.declared.QueryFault.{QueryFault}
 use Rattle.jp_model.specs.Lines.{pieces, without_empty}
 use Rattle.jp_model.specs.Query.Singular.{singular_steps}
 use Rattle.jp_model.specs.Query.Status.{query, refused_query}
-use Rattle.jp_model.specs.Query.Syntax.{Logical, Segments}
+use Rattle.jp_model.specs.Query.Syntax.{Logical, Path, Segments, path, root}
 use Rattle.jp_query.specs.Conditions.{RefusesCondition}
 use Rattle.jp_query.specs.Refusals.{IsConditionOf}
 use Rattle.jp_query.specs.Status.{query_of}
@@ -25,7 +25,7 @@ use Rattle.jp_form.specs.declared.form.Units.TheVariants as units
 use Rattle.jp_grep.specs.Conditions.{Condition, expression}
 use Rattle.jp_grep.specs.Formats.{format_of}
 use Rattle.jp_grep.specs.Items.{items_come}
-use Rattle.jp_grep.specs.Matching.{conditions_of, queries_of}
+use Rattle.jp_grep.specs.Matching.{conditions_of, each_of, queries_of}
 use Rattle.jp_grep.specs.Rows.{output_from}
 use Rattle.jp_grep.specs.Watching.{answered_of}
 use Rattle.jp_grep.specs.declared.format.Format.{Format}
@@ -51,20 +51,22 @@ abbrev pub MayServe : Queries → Segments → Type 0
 MayServe purposes.Filter q = Unit {0}
 MayServe purposes.Columns q = is_some (singular_steps q) ≡ true
 
--- the queries are those that the texts spell, in their order
-abbrev pub AreQueries : Queries → List (List ℕ) → List Segments → Type 0
+-- the queries are those that the texts spell, in their order, from the root on
+abbrev pub AreQueries : Queries → List (List ℕ) → List Path → Type 0
 AreQueries purpose [] [] = Unit {0}
-AreQueries purpose [] (q ∷ queries) = ⊥
+AreQueries purpose [] (asked ∷ queries) = ⊥
 AreQueries purpose (text ∷ texts) [] = ⊥
-AreQueries purpose (text ∷ texts) (q ∷ queries) = (query_of text ≡ query q) × MayServe purpose q × AreQueries purpose texts queries
+AreQueries purpose (text ∷ texts) (asked ∷ queries) =
+    ((q : Segments) × (query_of text ≡ query q) × MayServe purpose q × (asked ≡ path root q)) × AreQueries purpose texts queries
 
 -- the condition is the one that the text spells, unless it is empty
 abbrev pub AreConditions : List ℕ → List Condition → Type 0
 AreConditions [] conditions = conditions ≡ []
 AreConditions (byte ∷ bytes) conditions = (l : Logical) × IsConditionOf (byte ∷ bytes) l × (conditions ≡ expression l ∷ [])
 
--- The question is what this condition and these queries ask.
+-- The question is what this condition and these queries ask of lines.
 pub record Asks (condition queries : List ℕ) (purpose : Queries) (question : Question) : Type 0 where
+  pub each : each_of question ≡ None
   pub conditions : AreConditions condition (conditions_of question)
   pub queries_are : AreQueries purpose (query_texts queries) (queries_of question)
   pub wanted : question.wanted ≡ wanted.Matching
@@ -113,7 +115,7 @@ TellsRefusedQuestion fault condition queries purpose = IsRefusedOrMemory fault (
 
 -- the queries that the texts spell stand behind the others
 abbrev pub AddsQueries : Queries → List (List ℕ) → Question → Question → Type 0
-AddsQueries purpose texts old new = (added : List Segments) × AreQueries purpose texts added × (queries_of new ≡ queries_of old ++ added)
+AddsQueries purpose texts old new = (added : List Path) × AreQueries purpose texts added × (queries_of new ≡ queries_of old ++ added)
 
 -- ---- rows
 

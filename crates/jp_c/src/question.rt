@@ -3,9 +3,9 @@
 ghost use Rattle.std.specs.Prelude.{◌≡◌, [], ◌∷◌, IfErr, IfOk, OnOk, map};
 ghost use Rattle.jp_model.specs.Lines.{pieces, without_empty};
 ghost use Rattle.jp_c.specs.Asked.{AddsQueries, AreConditions, Asks, TellsRefusedCondition, TellsRefusedQueries, TellsRefusedQuery, TellsRefusedQuestion, query_texts};
-ghost use Rattle.jp_grep.specs.Matching.{conditions_of, queries_of};
+ghost use Rattle.jp_grep.specs.Matching.{conditions_of, each_of, queries_of};
 
-use jp_grep::{Queries, Question, Wanted};
+use jp_grep::{Origin, Queries, Question, Wanted};
 use jp_query::{Refusal, is_singular, read_condition, read_query};
 use std::alloc::{AllocError, Global};
 
@@ -81,6 +81,7 @@ fn add_query(
     ensures added { OnOk result (AddsQueries purpose (text.now ∷ []) question.old question.new) }
     ensures refused { IfErr result (λ fault. TellsRefusedQuery fault purpose text.now) }
     ensures conditions { conditions_of question.new ≡ conditions_of question.old }
+    ensures each { each_of question.new ≡ each_of question.old }
     ensures wanted { question.new.wanted ≡ question.old.wanted }
     ensures purpose { question.new.purpose ≡ question.old.purpose }
 {
@@ -88,7 +89,7 @@ fn add_query(
     if purpose == Queries::Columns && !is_singular(query.segments()) {
         return Err(FilterFault::Question);
     }
-    question.add_query(alloc, &query)?;
+    question.add_query(alloc, Origin::Root, &query)?;
     Ok(())
 }
 
@@ -102,6 +103,7 @@ fn add_queries(
     ensures added { OnOk result (AddsQueries purpose (map (λ text. text.now) texts.now) question.old question.new) }
     ensures refused { IfErr result (λ fault. TellsRefusedQueries fault purpose (map (λ text. text.now) texts.now)) }
     ensures conditions { conditions_of question.new ≡ conditions_of question.old }
+    ensures each { each_of question.new ≡ each_of question.old }
     ensures wanted { question.new.wanted ≡ question.old.wanted }
     ensures purpose { question.new.purpose ≡ question.old.purpose }
 {
@@ -117,6 +119,7 @@ fn add_condition(alloc: Global, question: &mut Question, text: &[u8]) -> Result<
     ensures added { OnOk result (AreConditions text.now (conditions_of question.new)) }
     ensures refused { IfErr result (λ fault. TellsRefusedCondition fault text.now) }
     ensures queries { queries_of question.new ≡ queries_of question.old }
+    ensures each { each_of question.new ≡ each_of question.old }
     ensures wanted { question.new.wanted ≡ question.old.wanted }
     ensures purpose { question.new.purpose ≡ question.old.purpose }
 {

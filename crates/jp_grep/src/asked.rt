@@ -63,7 +63,6 @@ impl AskedQuery {
     }
 
     /// Finds the nodes that it selects, and tells whether there is one. The frame has them then.
-    #[inline(always)]
     pub(crate) fn find<'a>(
         &self,
         alloc: Global,

@@ -305,6 +305,7 @@ impl<'q> Answerer<'q> {
     }
 
     /// Answers a node of which the values are shown that the queries select. These are asked once.
+    #[inline(always)]
     fn answer_nodes<'r, W: Write>(
         self,
         paths: bool,

@@ -18,6 +18,7 @@ loop-text-preserved c =
     record {
       added = more_added c.args.purpose c.args.texts.now l.text-index nothing c.args.question.now l.question c.add_query.new.question c.loop-text-test.true l.invariant.added added.added;
       conditions = added.conditions ∙ l.invariant.conditions;
+      each = added.each ∙ l.invariant.each;
       wanted = added.wanted ∙ l.invariant.wanted;
       purpose = added.purpose ∙ l.invariant.purpose;
     }
