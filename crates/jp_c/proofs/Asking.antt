@@ -1,6 +1,6 @@
 -- Queries that are added one after another, and a text that was searched to its end.
 use Rattle.std.proofs.Common.{arith, append-nil, ◌≡◌, ◌∙◌, ◌+◌, ◌-◌, ◌<◌, ◌++◌, ◌∷◌, [], ℕ, zero, suc, List, Bool, true, false, append_assoc, ap, ap₂, get_or, inl, inr, length, map, subst, sym, take, Option, Some, None}
-use Rattle.std.specs.Prelude.{◌&&◌, ◌≢◌, ◌⊎◌, eqb, is_none, IfErr, IsErrAnd, MatchOption, Result, Ok, Err}
+use Rattle.std.specs.Prelude.{◌&&◌, ◌⊎◌, eqb, is_none, IfErr, IsErrAnd, MatchOption, Result, Ok, Err}
 use Rattle.std.specs.Io.KnownBytes.{Consumes, IsAtEnd}
 use denote.Ref.{Bor}
 use Rattle.std.proofs.lemmas.Bool.{false≢true}
@@ -21,10 +21,7 @@ use Rattle.jp_grep.specs.declared.question.Question.{Question}
 use Rattle.jp_grep.proofs.Coming.{none_lost}
 use Rattle.jp_grep.proofs.SoFar.{whole_came, whole_kept}
 use Rattle.jp_model.specs.Query.Syntax.{Path}
-use Rattle.jp_query.specs.Refusals.{TellsConditionRefusal, TellsRefusal}
-use Rattle.jp_query.specs.declared.reading.Refusal.{Refusal}
-use Rattle.jp_query.specs.declared.reading.Refusal.TheVariants as refusals
-use Rattle.jp_c.specs.Asked.{AddsQueries, AreQueries, HasRefusedQuery, IsRefusedOrMemory, IsRefusedQuery, TellsRefusedCondition, TellsRefusedQuery, fault_of}
+use Rattle.jp_c.specs.Asked.{AddsQueries, AreQueries, HasRefusedQuery, IsRefusedOrMemory, IsRefusedQuery}
 use Rattle.jp_c.specs.declared.question.FilterFault.{FilterFault}
 use Rattle.jp_c.specs.declared.question.FilterFault.TheVariants as faults
 
@@ -54,15 +51,6 @@ pub one_refused : (purpose : Queries) (texts : List (Bor (List ℕ))) (n : ℕ) 
 one_refused purpose [] n d l h = absurd (omega arith)
 one_refused purpose (first ∷ texts) zero d l h = inl h
 one_refused purpose (first ∷ texts) (suc n) d l h = inr (one_refused purpose texts n d (omega arith) h)
-
--- what is told of a text that is not read
-pub query_refused : (purpose : Queries) (text : List ℕ) (refusal : Refusal) → TellsRefusal text refusal → TellsRefusedQuery (fault_of refusal) purpose text
-query_refused purpose text (refusals.Fault place) h = inl (place.fault, h.0)
-query_refused purpose text refusals.Memory h = tt
-
-pub condition_refused : (text : List ℕ) (refusal : Refusal) → text ≢ [] → TellsConditionRefusal text refusal → TellsRefusedCondition (fault_of refusal) text
-condition_refused text (refusals.Fault place) some h = (some, place.fault, h.0)
-condition_refused text refusals.Memory some h = tt
 
 -- what is told of a part is told of the whole
 pub told_of_whole : (fault : FilterFault) (A B : Type 0) → (A → B) → IsRefusedOrMemory fault A → IsRefusedOrMemory fault B
