@@ -353,7 +353,8 @@ class _Library(_Lines):
         self._held, self._at = b"", 0
         status = getattr(self._calls, call)(self._handle, *given)
         room = ctypes.create_string_buffer(self._calls.jpq_left(self._handle) or 1)
-        return status, room.raw[:self._calls.jpq_read(self._handle, room, len(room))]
+        count = self._calls.jpq_read(self._handle, room, len(room))
+        return status, room.raw[:count]
 
     def filtered(self, text, condition, queries, shown, numbered):
         place, length = self._place(text)
