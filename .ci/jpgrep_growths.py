@@ -56,6 +56,8 @@ RUNS = [
     (["--tally", "-r", "$.level"], LINES * 2),
     (["--tally", "--csv", "--names", "level,ms,tags", "-e", "$.level", "-e", "$.ms", "-e", "$.tags", "lines", "lines"], b""),
     (["--tsv", "--names", "value", "-e", "$", "lines"], b""),
+    (["-n", "-p", "-m", "40", "--each", "$..*", "-w", "@ != $.level || @.*", "-e", "@", "-e", "$.ms", "lines", "lines"], b""),
+    (["-c", "-v", "--each", "$.tags[*]", "--in", "@", "ids", "lines"], b""),
     (["--refused", "-n", "-p", "lines", "-"], b"{\n" * 3 + LINES),
     (["-q", "$.absent", "lines"], b""),
     (["-c", "--in", "@.level", "ids", "--not-in", "$.ms", "-", "lines"], b"1.5e2\n{\n"),

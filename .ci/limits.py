@@ -433,6 +433,24 @@ def lines_of_megabytes(checks):
         checks.check(f"jpgrep {words} of a line of {len(text)} bytes", (run.returncode, run.stdout.decode(), run.stderr), (0, written, b""))
 
 
+def nodes_one_by_one(checks):
+    """The nodes of a query are asked one by one in time that grows with their number, and in the memory of their list."""
+    limit = lambda: resource.setrlimit(resource.RLIMIT_AS, (2**28, 2**28))
+    flat, deep = file_of("flat", "[" + "1," * (MILLION - 1) + "2]\n"), file_of("deep", "[" * 512 + "]" * 512 + "\n")
+    for words, written in (
+        (["-c", "--each", "$[*]", "-w", "@ == 1", flat], f"{MILLION - 1}\n"),
+        (["-np", "--each", "$[*]", "-w", "@ > 1", flat], f"1:$[{MILLION - 1}]\t2\n"),
+        (["-m", "2", "--each", "$[*]", flat], "1\n1\n"),
+        (["-c", "--each", "$..*", "-w", "@..*", deep], "510\n"),
+        (["-c", "--each", "$..*", "-e", "@..*..*", deep], "509\n"),
+    ):
+        before = seconds_so_far()
+        run = subprocess.run([FILTER, *words], capture_output=True, timeout=SECONDS, preexec_fn=limit)
+        name = f"jpgrep {words[:-1]}"
+        checks.check(name, (run.returncode, run.stdout.decode(), run.stderr), (0, written, b""))
+        checks.check(f"seconds of {name}", seconds_so_far() - before <= 1.5, True)
+
+
 def conditions_of_the_root(checks):
     """What a filter asks of the root is answered once in a line, beside whatever it asks of each child."""
     text, numbers = "ab" * 200_000, list(range(20_000))
@@ -599,7 +617,8 @@ def main():
                  texts_of_backslashes, texts_of_each_form_of_tape, lines_behind_long_ones, objects_of_many_members,
                  many_lines, lines_of_one_key, edits_of_many_lines, texts_of_numbers, texts_of_names, queries, patterns,
                  long_texts, turns_in_turns, long_numbers, objects_turned, large_objects, filters_from_the_root,
-                 filters_of_many_roots, questions_of_a_filter, lines_beyond_memory, lines_of_megabytes, conditions_of_the_root, texts_from_the_root, counts_of_many_nodes, nodes_met_again, indexes_of_one_array,
+                 filters_of_many_roots, questions_of_a_filter, lines_beyond_memory, lines_of_megabytes, nodes_one_by_one,
+                 conditions_of_the_root, texts_from_the_root, counts_of_many_nodes, nodes_met_again, indexes_of_one_array,
                  checks_of_many_lines, queries_of_one_line, devices, sizes):
         part(checks)
     print(f"{checks.passed} passed, {checks.failed} failed")
