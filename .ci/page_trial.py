@@ -265,6 +265,9 @@ class Trial:
                 self.check(f"{view} scrolled to {place}", self.done("scrolled", view, place), [True, wanted])
         self.check("a line focused", self.done("focused", count // 2), [count // 2, str(count // 2 + 1)])
         self.check("scrolled away from it", self.done("left", 5000), [5000, True])
+        said = self.browser.js("openFile(blob, name); wants('lines')(0, 9); return state.opened")
+        self.check("rows asked for while a file is read", said, None)
+        self.done("opened")
 
     def other_ways(self):
         """A file that is dropped, and a text that is pasted."""

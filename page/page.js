@@ -75,16 +75,19 @@ function textRows() {
   return Math.max(1, Math.min(4, Math.ceil(size / Math.max(1, parseInt(summary)) / textWidth())));
 }
 
-// Asks for rows. A line is shown up to some bytes, which leave a row of text room for words that are not broken.
-const wants = view => (from, count) => send({ kind: 'list', id: view === 'table' ? shownTable : shownAsk, view, from, count,
-  spelling: $('spelling').value, most: Math.floor(textWidth() * (textRows() - 0.15)) });
+// Asks for rows, unless another file is being read. A line is shown up to some bytes, which leave a row of text room for words
+// that are not broken.
+const wants = view => (from, count) => state.opened && send({
+  kind: 'list', id: view === 'table' ? shownTable : shownAsk, view, from, count,
+  spelling: $('spelling').value, most: Math.floor(textWidth() * (textRows() - 0.15)),
+});
 const lists = {
   lines: new Scroll($('lines'), { label: 'Lines that match', wants: wants('lines'), row: lineRow }),
   values: new Scroll($('values'), { label: 'Values', wants: wants('values'), row: valueRow }),
   table: new Scroll($('table'), { label: 'Rows of the table', wants: wants('table'), row: cellRow }),
   refused: new Scroll($('refused'), {
     label: 'Refused lines', row: refusedRow,
-    wants: (from, count) => lists.refused.show(from, state.opened.refused.slice(from, from + count)),
+    wants: (from, count) => state.opened && lists.refused.show(from, state.opened.refused.slice(from, from + count)),
   }),
 };
 
