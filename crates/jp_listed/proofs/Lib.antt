@@ -1,4 +1,5 @@
 -- Lemmas of sets.
 pub mod Equal
 pub mod Lines
+pub mod Sources
 pub mod Order

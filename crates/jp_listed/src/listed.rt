@@ -6,6 +6,7 @@ ghost use Rattle.jp_model.specs.Json.Tree.{Tree, value_of};
 ghost use Rattle.jp_model.specs.Lines.{closed_lines};
 ghost use Rattle.jp_nodes.specs.Cursors.{node_of};
 
+use crate::source::canonical_source;
 use crate::texts::Texts;
 use jp_canon::Printer;
 use jp_laws::canonical::canonical_texts_are_equal_where_values_are;
@@ -45,6 +46,9 @@ impl Listed {
     pub fn has(&self, alloc: Global, node: Cursor<'_>) -> Result<bool, AllocError>
         ensures { IfOk result (λ answer. answer ≡ has_value self.now (value_of (node_of node.entry).tree)) }
     {
+        if let Some(source) = canonical_source(node) {
+            return Ok(self.texts.has(source));
+        }
         let mut text = Vec::new(alloc);
         Printer::new(alloc).append(node, &mut text)?;
         Ok(self.texts.has(&text))
