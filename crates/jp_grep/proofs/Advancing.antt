@@ -1,5 +1,5 @@
 -- What answers none of some bytes, or the lines that end in them, goes on through a stream.
-use Rattle.std.proofs.Common.{◌≡◌, ◌∙◌, ◌-◌, ℕ, List, [], ◌++◌, refl, sym, ap, subst, append-nil, arith, Bool, true, false, Option, Result, Ok, Err, IsErr}
+use Rattle.std.proofs.Common.{◌≡◌, ◌∙◌, ◌-◌, ℕ, List, [], ◌++◌, refl, sym, ap, subst, append-nil, arith, Bool, true, false, Option, Result, Ok, Err, IsErr, inr}
 use Rattle.std.specs.Prelude.{IfErr, IsErrAnd, MatchResult, OnOk}
 use Rattle.jp_model.specs.declared.Framing.{Framing}
 use Rattle.jp_devices.specs.Devices.{Device, Received, Writes}
@@ -13,6 +13,7 @@ use Rattle.jp_grep.specs.Items.{Item}
 use Rattle.jp_grep.specs.Positions.{IsAt}
 use Rattle.jp_grep.specs.Rows.{messages_from, output_from}
 use Rattle.jp_grep.specs.Searching.{Answers, GoesOnBy, IsUnderWay}
+use Rattle.jp_grep.specs.Sizes.{TellsOfNumbers, TellsOfSize}
 use Rattle.jp_grep.specs.Streams.{closed_in}
 use Rattle.jp_grep.specs.Watching.{answered_of}
 use Rattle.jp_grep.specs.declared.fault.SearchFault.{SearchFault}
@@ -20,6 +21,7 @@ use Rattle.jp_grep.specs.declared.fault.SearchFault.TheVariants as faults
 use Rattle.jp_form.specs.declared.form.Form.{Form}
 use Rattle.jp_grep.specs.declared.progress.Progress.{Progress}
 use Rattle.jp_grep.specs.declared.question.Question.{Question}
+use Rattle.jp_grep.specs.declared.source.Source.{Source}
 use Rattle.jp_grep.proofs.Counted.{none_up_to}
 use Rattle.jp_grep.proofs.Position.{cut_closed, grows}
 use Rattle.jp_grep.proofs.Coming.{came_same}
@@ -87,6 +89,24 @@ not_of_front P (Err e) fault h inner = λ front. absurd (inner_no_front e (ap is
 pub handed_on : (P : SearchFault → Type 0) (r : Result Unit SearchFault) (fault : SearchFault) → IsErrAnd r (λ e. e ≡ fault) → P fault → IfErr r P
 handed_on P (Ok x) fault h p = tt
 handed_on P (Err e) fault h p = subst P (sym h) p
+
+-- no fault by which a stream is refused as a whole is a size, nor is one of memory
+pub front_no_size : (fault : SearchFault) → is_front_fault fault ≡ true → fault ≡ faults.Size → ⊥
+front_no_size fault h e = apart (sym h ∙ ap is_front_fault e)
+  where
+    apart : true ≡ false → ⊥
+    apart f = cc
+
+pub memory_no_size : (fault : SearchFault) → fault ≡ faults.Memory → fault ≡ faults.Size → ⊥
+memory_no_size fault h e = apart (sym h ∙ e)
+  where
+    apart : faults.Memory ≡ faults.Size → ⊥
+    apart f = cc
+
+-- where a size is told of numbers alone, it is told of a size
+pub numbers_tell : (r : Result Unit SearchFault) (source : Source) (more : ℕ) (before : Progress) (items : List Item) → TellsOfNumbers r before items → TellsOfSize r source more before items
+numbers_tell (Ok x) source more before items h = tt
+numbers_tell (Err e) source more before items h = λ is. inr (h is)
 
 -- one that is told of no input refuses none, too
 pub told_no_front : (P : SearchFault → Type 0) (r : Result Unit SearchFault) → IsToldOf is_input_fault r false → IfErr r (λ e. is_front_fault e ≡ true → P e)

@@ -1,5 +1,5 @@
 -- Nodes that are asked one after another, as far as they are wanted.
-use Rattle.std.proofs.Common.{◌≡◌, ◌∙◌, ◌+◌, ◌-◌, ◌<◌, ◌≤◌, ℕ, List, [], ◌∷◌, ◌++◌, length, take, filter, flat_map, refl, sym, ap, subst, append_assoc, append-nil, arith, Bool, true, false, cond, if◌then◌else◌}
+use Rattle.std.proofs.Common.{◌≡◌, ◌∙◌, ◌+◌, ◌-◌, ◌<◌, ◌≤◌, ℕ, List, [], ◌∷◌, ◌++◌, length, take, filter, flat_map, refl, sym, ap, append_assoc, arith, Bool, true, false, cond, if◌then◌else◌}
 use Rattle.std.specs.Prelude.{zero, suc}
 use Rattle.std.proofs.Math.Seq.{take-append_seam, take-append-add}
 use Rattle.std.proofs.lemmas.List.{take_all}

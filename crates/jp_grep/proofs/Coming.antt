@@ -1,5 +1,5 @@
 -- What came of items that were answered one after another.
-use Rattle.std.proofs.Common.{◌≡◌, ◌∙◌, ◌+◌, ◌-◌, ℕ, List, [], ◌∷◌, ◌++◌, ap, arith, refl, sym, inl, inr}
+use Rattle.std.proofs.Common.{◌≡◌, ◌∙◌, ◌+◌, ◌-◌, ℕ, List, [], ◌∷◌, ◌++◌, ap, arith, length, refl, sym, inl, inr}
 use Rattle.std.specs.Prelude.{zero, suc, cond}
 use Rattle.jp_grep.specs.Items.{Item, is_given_up}
 use Rattle.jp_grep.specs.Outcomes.{CameOf, CameOfEach, given_up_count}
@@ -18,6 +18,12 @@ came_next [] [] more others h k = k
 came_next [] (outcome ∷ outcomes) more others h k = absurd h
 came_next (item ∷ items) [] more others h k = absurd h
 came_next (item ∷ items) (outcome ∷ outcomes) more others h k = (h.0, came_next items outcomes more others h.1 k)
+
+pub came_length : (items outcomes : List Item) → CameOfEach items outcomes → length items ≡ length outcomes
+came_length [] [] h = refl
+came_length [] (outcome ∷ outcomes) h = absurd h
+came_length (item ∷ items) [] h = absurd h
+came_length (item ∷ items) (outcome ∷ outcomes) h = ap (λ n. suc n) (came_length items outcomes h.1)
 
 pub came_one : (item outcome : Item) → CameOf item outcome → CameOfEach (item ∷ []) (outcome ∷ [])
 came_one item outcome h = (h, tt)

@@ -1,11 +1,11 @@
 -- Lists of rows, and the text that they are together.
-use Rattle.std.proofs.Common.{◌≡◌, ◌∙◌, ℕ, List, [], ◌∷◌, ◌++◌, length, take, map, flat_map, refl, sym, ap, subst, append-nil, None, Some, Option, Result}
+use Rattle.std.proofs.Common.{◌≡◌, ◌∙◌, ℕ, List, [], ◌∷◌, ◌++◌, length, take, map, flat_map, refl, sym, ap, subst, append-nil, Some, Option}
 use Rattle.std.specs.List.{concat}
 use Rattle.std.proofs.Math.Seq.{take-append_seam}
 use Rattle.std.proofs.lemmas.List.Concat.{flat_map-cons}
 use Rattle.std.proofs.lemmas.List.Folds.{concat-append}
 use Rattle.jp_devices.specs.Devices.{Device}
-use Rattle.jp_grep.specs.Holding.{HoldsBack, HoldsPart}
+use Rattle.jp_grep.specs.Holding.{HoldsPart}
 use Rattle.jp_grep.specs.Rows.{written_of}
 use Rattle.jp_grep.proofs.Putting.{part_put_more}
 

@@ -1,5 +1,5 @@
 -- What is answered of a stream so far, and what a step makes of it.
-use Rattle.std.proofs.Common.{◌≡◌, ◌∙◌, ◌+◌, ◌-◌, ◌<◌, ◌≤◌, ℕ, List, [], ◌++◌, length, refl, sym, ap, ap₂, subst, append-nil, length-append, arith, Bool, true, false, ◌||◌, ◌&&◌, eqb, ltb, Option, None, Some, Result, Ok, Err, inl, inr}
+use Rattle.std.proofs.Common.{◌≡◌, ◌∙◌, ◌+◌, ◌-◌, ◌<◌, ◌≤◌, ◌^◌, ℕ, List, [], ◌++◌, length, refl, sym, ap, ap₂, subst, append-nil, length-append, arith, Bool, true, false, ◌||◌, ◌&&◌, eqb, ltb, Option, None, Some, Result, Ok, Err, inl, inr}
 use Rattle.std.specs.Prelude.{IsErrAnd, is_none, MatchOption, MatchResult, cond, sum_by, not, ◌⊎◌}
 use Rattle.std.proofs.lemmas.List.Sums.{sum_by-append}
 use Rattle.std.proofs.lemmas.Bool.{eq-eqb, eqb-true, false≢true, lt-ltb, ne_eqb}
@@ -15,6 +15,7 @@ use Rattle.jp_grep.specs.Items.{Item, framing_by, is_given_up, items_come}
 use Rattle.jp_grep.specs.Outcomes.{CameOfEach, CameOfStream, given_up_count}
 use Rattle.jp_grep.specs.Rows.{messages_from, output_from, refused_count, refused_item, selected_count, selected_in, summary_of}
 use Rattle.jp_grep.specs.Searching.{Answers, GoesOnBy, HasAnswered}
+use Rattle.jp_grep.specs.Sizes.{IsOversize, held_in}
 use Rattle.jp_grep.specs.Stands.{Stands}
 use Rattle.jp_grep.specs.Told.{more_refused}
 use Rattle.jp_grep.specs.Watching.{Answered, AnsweredInPart, AnsweredToEnd, AreCounts, EndsWith, SearchStopped, SearchedLines, answered_of, is_whole, up_to}
@@ -22,14 +23,15 @@ use Rattle.jp_grep.specs.declared.fault.SearchFault.{SearchFault}
 use Rattle.jp_grep.specs.declared.fault.SearchFault.TheVariants as faults
 use Rattle.jp_grep.specs.declared.found.Found.{Found}
 use Rattle.jp_grep.specs.declared.found.Limit.{Limit}
+use Rattle.jp_grep.specs.declared.found.Limit.TheVariants as limits
 use Rattle.jp_grep.specs.declared.found.Unread.{Unread}
 use Rattle.jp_form.specs.declared.form.Form.{Form}
 use Rattle.jp_grep.specs.declared.progress.Counts.{Counts}
 use Rattle.jp_grep.specs.declared.progress.Progress.{Progress}
 use Rattle.jp_grep.specs.declared.question.Question.{Question}
 use Rattle.jp_grep.specs.declared.source.Source.{Source}
-use Rattle.jp_grep.proofs.Coming.{came_next, none_came}
-use Rattle.jp_grep.proofs.Counted.{messages-append, none_up_to, output-append, up_to-append}
+use Rattle.jp_grep.proofs.Coming.{came_length, came_next, none_came}
+use Rattle.jp_grep.proofs.Counted.{few_up_to, messages-append, none_up_to, output-append, up_to-append}
 use Rattle.jp_grep.proofs.Standing.{come_now, goes_as}
 use Rattle.jp_grep.proofs.Written.{none_received, part_so_far}
 
@@ -83,16 +85,17 @@ module _ (question : Question) (form : Form) where
     ends_so : Option Unread → Type 0
     ends_so unread = MatchOption unread
         ((format_of came.bytes ≡ None) × CameOfEach (items_come form.units came.ended came.bytes) outcomes × ((came.ended ≡ true) ⊎ (found.counts.selected ≡ form.most)))
-        (λ there. there.line ≡ 1 + length (answered_of question form 0 outcomes))
+        (λ there. (there.line ≡ 1 + length (answered_of question form 0 outcomes)) × (there.limit ≡ limits.Size → IsOversize form.units came outcomes))
 
     ends_whole : found.unread ≡ None → (format_of came.bytes ≡ None) × CameOfEach (items_come form.units came.ended came.bytes) outcomes × ((came.ended ≡ true) ⊎ (found.counts.selected ≡ form.most))
         → EndsWith question form came outcomes found
     unfolding ends_so
     ends_whole e h = subst ends_so (sym e) h
 
-    ends_short : (there : Unread) → found.unread ≡ Some there → there.line ≡ 1 + length (answered_of question form 0 outcomes) → EndsWith question form came outcomes found
+    ends_short : (there : Unread) → found.unread ≡ Some there → there.line ≡ 1 + length (answered_of question form 0 outcomes) → (there.limit ≡ limits.Size → IsOversize form.units came outcomes)
+        → EndsWith question form came outcomes found
     unfolding ends_so
-    ends_short there e h = subst ends_so (sym e) h
+    ends_short there e h oversize = subst ends_so (sym e) (h, oversize)
 
   -- where all were answered the outcomes are those of all that came
   pub whole_came : (came : Came) (outcomes : List Item) (found : Found) → is_whole found ≡ true → EndsWith question form came outcomes found → CameOfEach (items_come form.units came.ended came.bytes) outcomes
@@ -220,14 +223,27 @@ module _ (question : Question) (form : Form) where
       }
 
       -- the rest is passed over
-      pub passed_over : (now : Came) (found : Found) (limit : Limit) → (now.ended ≡ true → IsOfLines (framing_by form.units) now.bytes) → found.counts ≡ progress.counts → found.unread ≡ Some (record { limit = limit; line = progress.number })
+      pub passed_over : (now : Came) (found : Found) (limit : Limit) → (now.ended ≡ true → IsOfLines (framing_by form.units) now.bytes) → (limit ≡ limits.Size → IsOversize form.units now outcomes) → found.counts ≡ progress.counts → found.unread ≡ Some (record { limit = limit; line = progress.number })
           → SearchedLines rows_in messages_in question form out0 out1 told0 told1 now outcomes found
-      passed_over now found limit framed counts unread = record {
+      passed_over now found limit framed oversize counts unread = record {
         framed = framed;
         all = all_so_far;
         counts = counts_as outcomes found progress.counts counts so.counts;
-        end = ends_short now outcomes found (record { limit = limit; line = progress.number }) unread so.number;
+        end = ends_short now outcomes found (record { limit = limit; line = progress.number }) unread so.number oversize;
       }
+
+      -- with the last bytes that came too much is held, or there are more items than 64 bits count
+      pub oversize : (now : Came) (last : List ℕ) (items others : List Item) → now.bytes ≡ came ++ last → items_come form.units now.ended now.bytes ≡ (lines ++ items) ++ others
+          → (2 ^ 32 ≤ held_in source + length last) ⊎ (2 ^ 64 ≤ progress.number + length items) → IsOversize form.units now outcomes
+      oversize now last items others bytes split (inl many) =
+          inl (record { before = came; last = last; bytes = bytes; items = lines; each = so.each; source = source; stands = so.position; many = many })
+      oversize now last items others bytes split (inr many) =
+          inr (inl (as_many progress.number (length (answered_of question form 0 outcomes)) (length outcomes) (length lines) (length items) (length others) (length (items_come form.units now.ended now.bytes))
+          so.number (few_up_to question (form.most - 0) outcomes) (came_length lines outcomes so.each)
+          (ap length split ∙ length-append (lines ++ items) others ∙ ap (λ n. n + length others) (length-append lines items)) many))
+        where
+          as_many : (number answered all first more rest come : ℕ) → number ≡ 1 + answered → answered ≤ all → first ≡ all → come ≡ (first + more) + rest → 2 ^ 64 ≤ number + more → 2 ^ 64 ≤ 1 + come
+          as_many number answered all first more rest come is fewer same sum many = omega (arith, is, fewer, same, sum, many)
 
       -- fewer lines are selected than are wanted of what came
       pub wants_more : (progress.counts.selected ≡ form.most → ⊥) → WantsMore question form came outcomes

@@ -2,7 +2,7 @@
 use Rattle.std.proofs.Common.{◌≡◌, ◌∙◌, ℕ, List, [], ◌++◌, length, append_assoc, append-nil, sym, subst, inr, refl, true, false, Option, Result, Ok, Err}
 use Rattle.std.specs.Prelude.{MatchResult}
 use Rattle.jp_devices.specs.Devices.{Came, Device, GaveUpTo}
-use Rattle.jp_grep.specs.Faults.{is_front_fault, is_inner_fault, is_report_fault, is_writer_fault}
+use Rattle.jp_grep.specs.Faults.{is_front_fault, is_inner_fault, is_report_fault, is_writer_fault, limit_of}
 use Rattle.jp_grep.specs.Inputs.{ReadOn, WantsMore}
 use Rattle.jp_grep.specs.Items.{Item, items_come}
 use Rattle.jp_grep.specs.Outcomes.{CameOfEach, CameOfStream}
@@ -11,6 +11,7 @@ use Rattle.jp_grep.specs.Watching.{SearchStopped, SearchedLines}
 use Rattle.jp_grep.specs.declared.fault.SearchFault.{SearchFault}
 use Rattle.jp_grep.specs.declared.fault.SearchFault.TheVariants as faults
 use Rattle.jp_grep.specs.declared.found.Found.{Found}
+use Rattle.jp_grep.specs.declared.found.Limit.TheVariants as limits
 use Rattle.jp_grep.specs.declared.input.Input.{Input}
 use Rattle.jp_grep.specs.declared.progress.Progress.{Progress}
 use Rattle.jp_grep.specs.declared.question.Question.{Question}
@@ -56,6 +57,16 @@ inner_other_front faults.Size h = refl
 inner_other_front faults.Write h = absurd (cc)
 inner_other_front faults.Report h = absurd (cc)
 inner_other_front faults.Memory h = refl
+
+-- the fault that tells a limit of size is one
+pub size_of_limit : (fault : SearchFault) → limit_of fault ≡ limits.Size → fault ≡ faults.Size
+size_of_limit faults.Size h = refl
+size_of_limit faults.Read h = absurd (cc)
+size_of_limit faults.Framing h = absurd (cc)
+size_of_limit (faults.Foreign format) h = absurd (cc)
+size_of_limit faults.Write h = absurd (cc)
+size_of_limit faults.Report h = absurd (cc)
+size_of_limit faults.Memory h = absurd (cc)
 
 -- a message that was not written is a fault of a writer
 pub of_report : (fault : SearchFault) → is_report_fault fault ≡ true → is_writer_fault fault ≡ true

@@ -2,6 +2,8 @@
 use Rattle.std.specs.Prelude.{◌≡◌, Bool, true, false, Result, Ok, Err, MatchResult}
 use Rattle.jp_grep.specs.declared.fault.SearchFault.{SearchFault}
 use Rattle.jp_grep.specs.declared.fault.SearchFault.TheVariants as faults
+use Rattle.jp_grep.specs.declared.found.Limit.{Limit}
+use Rattle.jp_grep.specs.declared.found.Limit.TheVariants as limits
 
 -- the fault that says that rows were not written
 abbrev pub is_write_fault : SearchFault → Bool
@@ -34,6 +36,11 @@ abbrev pub is_inner_fault : SearchFault → Bool
 is_inner_fault faults.Size = true
 is_inner_fault faults.Memory = true
 is_inner_fault _ = false
+
+-- the limit that it tells
+abbrev pub limit_of : SearchFault → Limit
+limit_of faults.Size = limits.Size
+limit_of _ = limits.Memory
 
 -- rows that were not written
 abbrev pub write_of : {E : Type 0} → Result Unit E → Result Unit SearchFault

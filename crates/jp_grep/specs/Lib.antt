@@ -19,6 +19,7 @@ pub mod Faults
 pub mod Holding
 pub mod Positions
 pub mod Stands
+pub mod Sizes
 pub mod Finding
 pub mod Searching
 pub mod Laws

@@ -14,6 +14,7 @@ use Rattle.std.specs.List.{concat}
 use Rattle.jp_grep.specs.Items.{Item, framing_by, is_given_up, items_come}
 use Rattle.jp_grep.specs.Outcomes.{CameOf, CameOfEach, given_up_count}
 use Rattle.jp_grep.specs.Rows.{asked_rows, item_message, item_rows, messages_from, output_from, refused_count, refused_where, selected_count, selected_where, status_rows, written_of}
+use Rattle.jp_grep.specs.Sizes.{TellsOfSize}
 use Rattle.jp_grep.specs.Stands.{Stands}
 use Rattle.jp_grep.specs.Watching.{AreCounts, answered_of, cut_to}
 use Rattle.jp_grep.specs.declared.fault.SearchFault.{SearchFault}
@@ -99,6 +100,7 @@ module _ {W E : Type 0} (rows_in : W → Option (List ℕ)) (messages_in : E →
     pub position : OnOk result ((came : List ℕ) (answered : List Item) → Stands form.units came source0 answered → Stands form.units (came ++ bytes) source1 (answered ++ items))
     pub first : (came : List ℕ) (answered : List Item) → Stands form.units came source0 answered
         → (others : List Item) × (items_come form.units false (came ++ bytes) ≡ (answered ++ items) ++ others)
+    pub size : TellsOfSize result source0 (length bytes) before items
     pub refused : IfErr result (λ fault. is_front_fault fault ≡ true
         → (came : List ℕ) (answered : List Item) → Stands form.units came source0 answered → (answered ≡ []) × AreRefused (framing_by form.units) (came ++ bytes) fault)
 
@@ -109,6 +111,7 @@ module _ {W E : Type 0} (rows_in : W → Option (List ℕ)) (messages_in : E →
     pub all : OnOk result ((came : List ℕ) (answered : List Item) → Stands form.units came source answered → items_come form.units true came ≡ answered ++ items)
     pub first : (came : List ℕ) (answered : List Item) → Stands form.units came source answered
         → (others : List Item) × (items_come form.units true came ≡ (answered ++ items) ++ others)
+    pub size : TellsOfSize result source 0 before items
     pub framed : (came : List ℕ) (answered : List Item) → Stands form.units came source answered
         → MatchResult result (λ _. IsOfLines (framing_by form.units) came) (λ fault. is_front_fault fault ≡ false → IsOfLines (framing_by form.units) came)
     pub refused : IfErr result (λ fault. is_front_fault fault ≡ true → (fault ≡ faults.Framing)

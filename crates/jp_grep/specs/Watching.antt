@@ -6,11 +6,13 @@ use Rattle.jp_grep.specs.Fronts.{IsOfLines, IsRefused}
 use Rattle.jp_grep.specs.Items.{Item, framing_by, items_come}
 use Rattle.jp_grep.specs.Outcomes.{CameOfEach, given_up_count}
 use Rattle.jp_grep.specs.Rows.{messages_from, output_from, refused_count, selected_count, selected_in, summary_of}
+use Rattle.jp_grep.specs.Sizes.{IsOversize}
 use Rattle.jp_grep.specs.Told.{told_of}
 use Rattle.jp_grep.specs.declared.fault.SearchFault.{SearchFault}
 use Rattle.jp_grep.specs.declared.fault.SearchFault.TheVariants as faults
 use Rattle.jp_form.specs.declared.form.Form.{Form}
 use Rattle.jp_grep.specs.declared.found.Found.{Found}
+use Rattle.jp_grep.specs.declared.found.Limit.TheVariants as limits
 use Rattle.jp_grep.specs.declared.progress.Counts.{Counts}
 use Rattle.jp_grep.specs.declared.question.Question.{Question}
 
@@ -40,11 +42,12 @@ pub record AreCounts (question : Question) (counts : Counts) (items : List Item)
   pub given_up : counts.given_up ≡ given_up_count items
 
 -- A search came to its end: all items that came have these outcomes, and the stream has ended or as many lines were selected as
--- are wanted. Or the rest of the stream was passed over, from the first line on that is not answered.
+-- are wanted. Or the rest of the stream was passed over, from the first line on that is not answered, and for its size only where it is
+-- larger than can be held or counted.
 abbrev pub EndsWith : Question → Form → Came → List Item → Found → Type 0
 EndsWith question form came outcomes found = MatchOption found.unread
     ((format_of came.bytes ≡ None) × CameOfEach (items_come form.units came.ended came.bytes) outcomes × ((came.ended ≡ true) ⊎ (found.counts.selected ≡ form.most)))
-    (λ unread. unread.line ≡ 1 + length (answered_of question form 0 outcomes))
+    (λ unread. (unread.line ≡ 1 + length (answered_of question form 0 outcomes)) × (unread.limit ≡ limits.Size → IsOversize form.units came outcomes))
 
 module _ {W E : Type 0} (rows_in : W → Option (List ℕ)) (messages_in : E → Option (List ℕ)) where
   -- both writers received what is answered of these items, and nothing else

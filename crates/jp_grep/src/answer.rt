@@ -14,6 +14,7 @@ ghost use Rattle.jp_grep.specs.Matching.{each_of, nodes_asked, wants_refused};
 ghost use Rattle.jp_grep.specs.ReadItems.{AreRead, IsReadItem, item_of, items_of, status_by};
 ghost use Rattle.jp_grep.specs.Rows.{message_where, refused_rows};
 ghost use Rattle.jp_grep.specs.Searching.{Answers, AnswersHeld, AnswersItem, AnswersStatus, IsUnderWay};
+ghost use Rattle.jp_grep.specs.Sizes.{TellsOfNumbers};
 
 use crate::asked::AskedNode;
 use crate::fault::SearchFault;
@@ -282,6 +283,7 @@ impl<'q> Answerer<'q> {
         requires writes { out.old.failed ≡ false }
         requires reports { messages.old.failed ≡ false }
         ensures answers { Answers W.contents E.contents self.entry.question.now self.entry.form.now progress.old progress.new out.old out.new messages.old messages.new result (items_of items.entry) }
+        ensures size { TellsOfNumbers result progress.old (items_of items.entry) }
         ensures write_fault { IsToldOf is_write_fault result out.new.failed }
         ensures report_fault { IsToldOf is_report_fault result messages.new.failed }
         ensures others { IsToldOf is_input_fault result false }

@@ -8,6 +8,7 @@ ghost use Rattle.jp_grep.specs.Faults.{IsToldOf, is_input_fault, is_read_fault, 
 ghost use Rattle.jp_grep.specs.Finding.{noted_items, span_of};
 ghost use Rattle.jp_grep.specs.Items.{line_item};
 ghost use Rattle.jp_grep.specs.Searching.{Advances, Answers, Ends, IsUnderWay};
+ghost use Rattle.jp_grep.specs.Sizes.{TellsOfNumbers};
 ghost use Rattle.jp_grep.specs.Stands.{HasStood};
 ghost use Rattle.jp_grep.specs.declared.source.Source.TheVariants as sources;
 
@@ -80,6 +81,7 @@ impl Answering {
         requires reports { messages.old.failed ≡ false }
         ensures answers { Answers W.contents E.contents answerer.entry.question.now answerer.entry.form.now self.old.progress self.new.progress out.old out.new messages.old messages.new result
             (map (line_item stream.now.framing) (lines_in stream.now.framing (text_of stream.now.is_first (take end stream.now.held.items)))) }
+        ensures size { TellsOfNumbers result self.old.progress (map (line_item stream.now.framing) (lines_in stream.now.framing (text_of stream.now.is_first (take end stream.now.held.items)))) }
         ensures write_fault { IsToldOf is_write_fault result out.new.failed }
         ensures report_fault { IsToldOf is_report_fault result messages.new.failed }
         ensures others { IsToldOf is_input_fault result false }
@@ -165,6 +167,7 @@ impl Answering {
         requires reports { messages.old.failed ≡ false }
         ensures answers { Answers W.contents E.contents answerer.entry.question.now answerer.entry.form.now self.old.progress self.new.progress out.old out.new messages.old messages.new result
             (noted_items cutting.now) }
+        ensures size { TellsOfNumbers result self.old.progress (noted_items cutting.now) }
         ensures write_fault { IsToldOf is_write_fault result out.new.failed }
         ensures report_fault { IsToldOf is_report_fault result messages.new.failed }
         ensures others { IsToldOf is_input_fault result false }

@@ -1,12 +1,15 @@
 //! The pieces of a stream, found as its bytes come.
 
-ghost use Rattle.std.specs.Prelude.{◌≡◌, ◌<◌, ◌≤◌, ◌^◌, ◌++◌, ◌∷◌, [], All, List, ℕ, IfErr, MatchResult, OnOk, false, length, true};
+ghost use Rattle.std.specs.Prelude.{◌≡◌, ◌+◌, ◌<◌, ◌≤◌, ◌^◌, ◌++◌, ◌∷◌, [], All, List, ℕ, IfErr, MatchResult, OnOk, false, length, true};
 ghost use Rattle.jp_cut.specs.Cuts.{Piece};
-ghost use Rattle.jp_cut.specs.Holding.{HasRead, IsHeld, IsSpent};
+ghost use Rattle.jp_cut.specs.Holding.{HasRead, IsHeld, IsSpent, held_len};
 ghost use Rattle.jp_cut.specs.declared.machine.Pieces.{Pieces};
 ghost use Rattle.jp_grep.specs.Faults.{IsOfNoDevice, is_inner_fault};
 ghost use Rattle.jp_grep.specs.Finding.{FindsEnded, FindsLast, RefusesFront};
+ghost use Rattle.jp_grep.specs.Sizes.{held_in};
 ghost use Rattle.jp_grep.specs.Stands.{IsAnswered, IsTaken};
+ghost use Rattle.jp_grep.specs.declared.fault.SearchFault.TheVariants as faults;
+ghost use Rattle.jp_grep.specs.declared.source.Source.TheVariants as sources;
 
 use crate::cutting::Cutting;
 use crate::fault::SearchFault;
@@ -25,6 +28,7 @@ fn hold(cutter: &mut Cutter, bytes: &[u8]) -> Result<(), SearchFault>
         → OnOk result (HasRead pieces (stream ++ bytes.now) handed cutter.new) }
     ensures few { length cutter.new.held.items < 2 ^ 32 }
     ensures fault { IfErr result (λ fault. is_inner_fault fault ≡ true) }
+    ensures size { IfErr result (λ fault. fault ≡ faults.Size → 2 ^ 32 ≤ held_len cutter.old + length bytes.now) }
 {
     if u32::MAX as usize - cutter.held_len() < bytes.len() {
         return Err(SearchFault::Size);
@@ -53,6 +57,7 @@ impl Cutting {
         ensures read { (pieces : Pieces) → HasRead pieces [] [] self.old.cutter → OnOk result (HasRead pieces self.old.front.items [] self.new.cutter) }
         ensures is_first { self.new.is_first ≡ false }
         ensures fault { IfErr result (λ fault. is_inner_fault fault ≡ true) }
+        ensures size { IfErr result (λ fault. fault ≡ faults.Size → 2 ^ 32 ≤ held_len self.old.cutter + length self.old.front.items) }
     {
         self.is_first = false;
         hold(&mut self.cutter, &self.front)
@@ -70,6 +75,7 @@ impl Cutting {
             (λ _. IsTaken pieces (came ++ bytes.now) self.new handed self.new.is_first)
             (λ fault. RefusesFront came bytes.now handed fault) }
         ensures fault { IfErr result IsOfNoDevice }
+        ensures size { IfErr result (λ fault. fault ≡ faults.Size → 2 ^ 32 ≤ held_in (sources.Pieces self.old) + length bytes.now) }
     {
         if !self.is_first {
             return hold(&mut self.cutter, bytes);
@@ -91,7 +97,7 @@ impl Cutting {
         ensures noted { OnOk result (self.new.pieces.items ≡ self.old.pieces.items ++ piece ∷ []) }
         ensures cutter { self.new.cutter ≡ self.old.cutter }
         ensures is_first { self.new.is_first ≡ self.old.is_first }
-        ensures fault { IfErr result (λ fault. is_inner_fault fault ≡ true) }
+        ensures fault { IfErr result (λ fault. fault ≡ faults.Memory) }
     {
         match self.pieces.push(piece) {
             Ok(()) => Ok(()),
@@ -106,7 +112,7 @@ impl Cutting {
         ensures held { OnOk result (All (IsHeld self.new.cutter) self.new.pieces.items) }
         ensures spent { OnOk result (IsSpent self.new.cutter) }
         ensures is_first { self.new.is_first ≡ self.old.is_first }
-        ensures fault { IfErr result (λ fault. is_inner_fault fault ≡ true) }
+        ensures fault { IfErr result (λ fault. fault ≡ faults.Memory) }
     {
         self.pieces.clear();
         while let Some(piece) = self.cutter.next_piece() {
@@ -121,6 +127,7 @@ impl Cutting {
             → OnOk result (FindsLast pieces came handed self.new) }
         ensures held { OnOk result (All (IsHeld self.new.cutter) self.new.pieces.items) }
         ensures fault { IfErr result (λ fault. is_inner_fault fault ≡ true) }
+        ensures size { IfErr result (λ fault. fault ≡ faults.Size → 2 ^ 32 ≤ held_in (sources.Pieces self.old)) }
     {
         if self.is_first {
             self.pass_front()?;

@@ -1,8 +1,7 @@
 //! How far a search has come.
 
 ghost use Rattle.std.specs.Prelude.{◌≡◌, ◌+◌, ◌-◌, ◌<◌, ◌≤◌, ◌^◌, None, Some, MatchResult, cond, false, ltb, true};
-ghost use Rattle.jp_grep.specs.Faults.{is_inner_fault};
-ghost use Rattle.jp_grep.specs.declared.found.Limit.{Limit};
+ghost use Rattle.jp_grep.specs.Faults.{is_inner_fault, limit_of};
 
 use crate::fault::SearchFault;
 use crate::found::{Found, Limit, Unread};
@@ -146,7 +145,7 @@ impl Progress {
     pub(crate) fn stop(&self, fault: SearchFault) -> Result<Found, SearchFault>
         ensures { MatchResult result
             (λ found. (is_inner_fault fault ≡ true) × (found.counts ≡ self.now.counts)
-            × ((limit : Limit) × (found.unread ≡ Some (record { limit = limit; line = self.now.number }))))
+            × (found.unread ≡ Some (record { limit = limit_of fault; line = self.now.number })))
             (λ told. (told ≡ fault) × (is_inner_fault fault ≡ false)) }
     {
         let limit = match fault {

@@ -4,7 +4,7 @@ ghost use Rattle.std.specs.Prelude.{◌≡◌, ◌+◌, ◌<◌, ◌≤◌, ◌^
 ghost use Rattle.jp_model.specs.Lines.{is_blank as is_blank_line, is_framed};
 ghost use Rattle.jp_grep.specs.declared.fault.SearchFault.TheVariants as faults;
 ghost use Rattle.jp_grep.specs.Cuts.{EndsBetween, HasNoEnd, text_of};
-ghost use Rattle.jp_grep.specs.Faults.{is_inner_fault};
+ghost use Rattle.jp_grep.specs.Faults.{is_front_fault, is_inner_fault};
 ghost use Rattle.jp_grep.specs.Fronts.{AreRefused, IsUnframed, MayBeFramed, MayGoOn};
 
 use crate::fault::SearchFault;
@@ -74,6 +74,7 @@ impl Stream {
         ensures framing { self.new.framing ≡ self.old.framing }
         ensures first { self.new.is_first ≡ self.old.is_first }
         ensures fault { IfErr result (λ fault. is_inner_fault fault ≡ true) }
+        ensures size { IfErr result (λ fault. fault ≡ faults.Size → 2 ^ 32 ≤ length self.old.held.items + length bytes.now) }
     {
         if u32::MAX as usize - self.held.len() < bytes.len() {
             return Err(SearchFault::Size);
@@ -119,7 +120,7 @@ impl Stream {
         requires unended { self.now.is_first ≡ true → HasNoEnd self.now.framing (take from self.now.held.items) }
         ensures { MatchResult result
             (λ _. self.now.is_first ≡ true → MayGoOn self.now.framing self.now.held.items)
-            (λ fault. (self.now.is_first ≡ true) × AreRefused self.now.framing self.now.held.items fault) }
+            (λ fault. (self.now.is_first ≡ true) × AreRefused self.now.framing self.now.held.items fault × (is_front_fault fault ≡ true)) }
     {
         if !self.is_first {
             return Ok(());

@@ -1,5 +1,5 @@
 -- The query `$` selects each value, and no line that is refused.
-use Rattle.std.proofs.Common.{◌≡◌, ◌∙◌, ◌+◌, ℕ, List, [], ◌∷◌, ◌++◌, append-nil, filter, flat_map, length, map, refl, sym, ap, ap₂, Bool, true, false, cond, ◌&&◌, if◌then◌else◌, Option, None}
+use Rattle.std.proofs.Common.{◌≡◌, ◌∙◌, ◌+◌, ℕ, List, [], ◌∷◌, ◌++◌, append-nil, filter, flat_map, length, refl, ap, ap₂, Bool, true, false, cond, ◌&&◌, if◌then◌else◌, Option, None}
 use Rattle.std.specs.List.{concat}
 use denote.Ref.{Bor}
 use Rattle.jp_model.specs.declared.Framing.TheVariants as framings

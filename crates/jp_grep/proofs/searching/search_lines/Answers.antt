@@ -1,16 +1,25 @@
 -- Each step goes on with what came so far.
-use Rattle.std.proofs.Common.{◌≡◌, ◌∙◌, ◌<◌, ◌||◌, [], ◌++◌, length, take, append-nil, sym, ap, subst, refl, arith, inl, true, false}
+use Rattle.std.proofs.Common.{◌≡◌, ◌∙◌, ◌+◌, ◌<◌, ◌≤◌, ◌^◌, ◌||◌, ℕ, [], ◌++◌, length, length-append, take, append-nil, sym, ap, subst, refl, arith, inl, inr, true, false}
 use Rattle.std.proofs.lemmas.Bool.{false≢true}
 use Rattle.std.proofs.lemmas.List.{length-take-le}
 use Rattle.std.proofs.KnownBytes.{Consumes-nil}
 use Rattle.jp_devices.specs.Devices.{Gave, one_more_where}
 use Rattle.jp_devices.proofs.Devices.{came_so, came_whole, gave_kept, gave_more, gave_none, goes_on, or_false}
+use Rattle.jp_grep.specs.Faults.{limit_of}
 use Rattle.jp_grep.specs.Watching.{SearchStopped, answered_of}
 use Rattle.jp_grep.specs.declared.fault.SearchFault.{SearchFault}
+use Rattle.jp_grep.specs.declared.found.Limit.TheVariants as limits
 use Rattle.jp_grep.proofs.Standing.{goes_as}
-use Rattle.jp_grep.proofs.SoFar.{all_came, all_so_far, at_start, came_so_far, came_to_end, enough_selected, flushed, goes_further, goes_on_by, handed, in_part, kept_after, none_so_far, passed_over, refused_at_end, searched_all, stopped_by, stopped_here, stopped_in_part, told_first, told_in_part, told_to_end, wants_more}
-use Rattle.jp_grep.proofs.Stepping.{SaysLines, before_came, either_way, first_came, front_no_writer, inner_no_writer, inner_other_front, none_more, of_report, read_last, read_nothing, still}
+use Rattle.jp_grep.proofs.SoFar.{all_came, all_so_far, at_start, came_so_far, came_to_end, enough_selected, flushed, goes_further, goes_on_by, handed, in_part, kept_after, none_so_far, oversize, passed_over, refused_at_end, searched_all, stopped_by, stopped_here, stopped_in_part, told_first, told_in_part, told_to_end, wants_more}
+use Rattle.jp_grep.proofs.Stepping.{SaysLines, before_came, either_way, first_came, front_no_writer, inner_no_writer, inner_other_front, none_more, of_report, read_last, read_nothing, size_of_limit, still}
 use Rattle.jp_grep.proofs.searching.search_lines.Goals as goal
+
+-- each read brought a byte
+one_more : (reads came count piece all : ℕ) → reads ≤ came → (count ≡ 0 → ⊥) → piece ≡ count → all ≡ came + piece → reads + 1 ≤ all
+one_more reads came count piece all before some is sum = omega (arith, before, some, is, sum)
+
+all_read : (reads came : ℕ) → 18446744073709551615 ≤ reads → reads ≤ came → 2 ^ 64 ≤ 1 + came
+all_read reads came done before = omega (arith, done, before)
 
 pub loop-read-init : goal.loop-read-init
 loop-read-init g c = record {
@@ -22,6 +31,7 @@ loop-read-init g c = record {
     at_start c.args.answerer.question.now c.args.answerer.form.now g.W.Write.contents g.E.Write.contents c.new.result c.new-2.result.progress c.args.out.now c.args.messages.now c.new.ensures
         c.new-2.ensures.number c.new-2.ensures.selected c.new-2.ensures.refused c.new-2.ensures.given_up,
     inl refl,
+    omega arith,
   );
   room = refl;
   reads = c.requires.reads;
@@ -164,6 +174,8 @@ loop-read-preserved g c =
             c.in_default-answer_read.field-0 advances.items advances.answers c.answer_read.new.self.source piece (advances.position so.0 so.1 now.position),
         read_last q f c.args.input.now c.read_after.new.self so.0 piece so.2 advances.answers.outcomes (length-take-le c.in-Ok.count c.read_after.new.bytes c.in-Ok.ensures.bound.0 ∙ sym c.in-Ok.ensures.last)
             (wants_more q f g.W.Write.contents g.E.Write.contents source before c.args.out.now out c.args.messages.now told so.0 so.1 so.2 now c.if-counts-answerer.false),
+        one_more c.loop-read._read (length so.0) c.in-Ok.count (length piece) (length (so.0 ++ piece)) so.6 c.if-count-eq0.false
+            (length-take-le c.in-Ok.count c.read_after.new.bytes c.in-Ok.ensures.bound.0) (length-append so.0 piece),
       );
       room = room;
       reads = c.in-Ok.ensures.failed ∙ ap (λ b. b || false) inv.reads;
@@ -214,7 +226,9 @@ returns-in-Err-clause-output g c =
       none_more q f c.args.input.now c.read_after.new.self so.0 so.2 (read_nothing q f c.args.input.now c.read_after.new.self so.0 so.2 [] none wants),
       passed_over q f g.W.Write.contents g.E.Write.contents source after c.args.out.now out2 c.args.messages.now told2 so.0 so.1 so.2
           (still q f g.W.Write.contents g.E.Write.contents source before after c.args.out.now out out2 c.args.messages.now told told2 so.0 so.1 so.2 (ends.answers.unwritten (inner_no_writer e is.0)) now)
-          came found is.2.0 (λ ended. framed (inner_other_front e is.0)) is.1 is.2.1,
+          came found (limit_of e) (λ ended. framed (inner_other_front e is.0))
+          (λ size. oversize q f g.W.Write.contents g.E.Write.contents source before c.args.out.now out c.args.messages.now told so.0 so.1 so.2 now came [] ends.items first.0 (sym (append-nil so.0)) first.1 (ends.size (size_of_limit e size)))
+          is.1 is.2,
     ))
     (λ fault is. (
       came,
@@ -299,7 +313,9 @@ returns-in-Err-answer_read-clause-output g c =
       none_more q f c.args.input.now c.read_after.new.self (so.0 ++ piece) so.2 (read_last q f c.args.input.now c.read_after.new.self so.0 piece so.2 [] count wants),
       passed_over q f g.W.Write.contents g.E.Write.contents source after c.args.out.now out2 c.args.messages.now told2 so.0 so.1 so.2
           (still q f g.W.Write.contents g.E.Write.contents source before after c.args.out.now out out2 c.args.messages.now told told2 so.0 so.1 so.2 (advances.answers.unwritten (inner_no_writer e is.0)) now)
-          came found is.2.0 (λ ended. absurd (false≢true ended)) is.1 is.2.1,
+          came found (limit_of e) (λ ended. absurd (false≢true ended))
+          (λ size. oversize q f g.W.Write.contents g.E.Write.contents source before c.args.out.now out c.args.messages.now told so.0 so.1 so.2 now came piece advances.items first.0 refl first.1 (advances.size (size_of_limit e size)))
+          is.1 is.2,
     ))
     (λ fault is. (
       came,
@@ -335,6 +351,6 @@ returns-clause-output g c =
       came_so_far q f g.W.Write.contents g.E.Write.contents source progress c.args.out.now c.loop-read.out c.args.messages.now c.loop-read.messages so.0 so.1 so.2 so.4 failed,
       so.5,
       passed_over q f g.W.Write.contents g.E.Write.contents source progress c.args.out.now c.loop-read.out c.args.messages.now c.loop-read.messages so.0 so.1 so.2 so.4
-          came found is.2.0 (λ ended. absurd (false≢true ended)) is.1 is.2.1,
+          came found limits.Size (λ ended. absurd (false≢true ended)) (λ size. inr (inr (all_read _ _ c.loop-read-test.false so.6))) is.1 is.2,
     ))
     (λ fault is. absurd (false≢true (sym is.1)))

@@ -1,5 +1,5 @@
 -- Of the bytes that came what ended is answered, as far as it is wanted.
-use Rattle.std.proofs.Common.{◌≡◌, ℕ, List, length, false}
+use Rattle.std.proofs.Common.{◌≡◌, ◌≤◌, ℕ, List, length, false}
 use Rattle.jp_devices.specs.Devices.{Gave}
 use Rattle.jp_grep.specs.Inputs.{ReadOn}
 use Rattle.jp_grep.specs.Items.{Item}
@@ -10,7 +10,7 @@ abbrev pub invariant-loop-read : goal.invariant-loop-read
 invariant-loop-read g l = record {
   so_far : (came : List ℕ) × (answered : List Item) × (outcomes : List Item) × Gave g.R.Read.remaining l.fn.input.reader l.input.reader came
       × HasAnswered g.W.Write.contents g.E.Write.contents l.answerer.question.now l.answerer.form.now l.searcher.source l.searcher.answering.progress l.fn.out l.out l.fn.messages l.messages came answered outcomes
-      × ReadOn l.answerer.question.now l.answerer.form.now l.fn.input l.input came outcomes;
+      × ReadOn l.answerer.question.now l.answerer.form.now l.fn.input l.input came outcomes × (l._read ≤ length came);
   room : length l.buffer ≡ 65536;
   reads : l.input.reader.failed ≡ false;
   unended : l.input.reader.ended ≡ false;

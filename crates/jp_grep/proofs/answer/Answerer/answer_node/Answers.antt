@@ -1,5 +1,5 @@
 -- The row is put, or there was no memory for it.
-use Rattle.std.proofs.Common.{◌≡◌, ◌∙◌, ◌++◌, [], ◌∷◌, List, ℕ, Bool, true, false, append-nil, refl, sym, ap, subst, if◌then◌else◌, Ok, Some}
+use Rattle.std.proofs.Common.{◌≡◌, ◌∙◌, [], List, ℕ, Bool, true, false, append-nil, refl, sym, subst, if◌then◌else◌}
 use Rattle.std.specs.List.{concat}
 use Rattle.std.proofs.lemmas.Bool.{false≢true}
 use Rattle.jp_model.specs.Json.Tree.{Tree}

@@ -1,16 +1,14 @@
 -- The rows are those of all values, or of the first.
-use Rattle.std.proofs.Common.{◌≡◌, ◌∙◌, ◌++◌, [], List, ℕ, Bool, None, Some, Option, append-nil, map, refl, sym, ap, subst, if◌then◌else◌}
+use Rattle.std.proofs.Common.{◌≡◌, ◌∙◌, [], Bool, Option, refl, sym, ap, subst, if◌then◌else◌}
 use Rattle.std.specs.Prelude.{MatchOption, is_some, ⊤}
 use Rattle.std.specs.List.{concat}
 use Rattle.std.proofs.lemmas.Bool.{false≢true}
 use Rattle.jp_nodes.specs.Cursors.{node_of}
 use Rattle.jp_grep.specs.Asked.{asked_tree}
-use Rattle.jp_grep.specs.Holding.{HoldsBack, HoldsPart}
 use Rattle.jp_grep.specs.Matching.{all_hold, conditions_of, let_match, queries_of, selects, wants_found}
 use Rattle.jp_grep.specs.Rows.{asked_rows, node_rows}
 use Rattle.jp_grep.proofs.GivenUp.{all_values, found_as, no_answer, unasked}
 use Rattle.jp_grep.proofs.Putting.{ends_put, none_put}
-use Rattle.jp_grep.proofs.RowLists.{part_of_rows}
 use Rattle.jp_grep.proofs.answer.Answerer.answer_nodes.Goals as goal
 
 pub returns-in-Ok-false-clause-answers : goal.returns-in-Ok-false-clause-answers

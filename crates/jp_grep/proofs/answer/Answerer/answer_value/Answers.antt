@@ -3,15 +3,13 @@ use Rattle.std.proofs.Common.{◌≡◌, ◌∙◌, ◌++◌, ◌+◌, ◌≤◌
 use Rattle.std.specs.Prelude.{MatchOption, is_some, ⊤}
 use Rattle.std.specs.List.{concat}
 use Rattle.std.proofs.lemmas.List.{map-append, take_more, take_all}
-use Rattle.std.proofs.lemmas.List.Concat.{flat_map-append}
 use Rattle.std.proofs.lemmas.List.Elements.{filter-append}
 use Rattle.std.proofs.lemmas.List.Folds.{concat-append}
-use Rattle.jp_model.specs.Json.Status.{parsed}
 use Rattle.jp_model.specs.Meaning.Nodes.{Node}
 use Rattle.jp_lines.specs.Views.{tree_of_view}
 use Rattle.jp_nodes.specs.Cursors.{node_of}
 use Rattle.jp_nodes.specs.declared.cursor.Cursor.{Cursor}
-use Rattle.jp_grep.specs.Holding.{HoldsBack, HoldsPart}
+use Rattle.jp_grep.specs.Holding.{HoldsBack}
 use Rattle.jp_grep.specs.Matching.{each_of, is_selected, nodes_asked}
 use Rattle.jp_grep.specs.Rows.{asked_rows}
 use Rattle.jp_grep.proofs.Asking.{all_count, all_wanted, enough_count, enough_wanted, first_rows, next_wanted}

@@ -11,7 +11,7 @@ use Rattle.jp_model.specs.Meaning.Selecting.{path_nodes}
 use Rattle.jp_model.specs.Query.Syntax.{Path}
 use Rattle.jp_nodes.specs.Cursors.{node_of}
 use Rattle.jp_grep.specs.Asked.{asked_tree, query_path}
-use Rattle.jp_grep.specs.Holding.{HoldsBack, HoldsPart}
+use Rattle.jp_grep.specs.Holding.{HoldsBack}
 use Rattle.jp_grep.specs.Matching.{has_nodes, nodes_of}
 use Rattle.jp_grep.specs.Rows.{value_row}
 use Rattle.jp_grep.specs.declared.asked.AskedQuery.{AskedQuery}

@@ -1,12 +1,15 @@
 -- The pieces that the end of the stream leaves are the others.
-use Rattle.std.proofs.Common.{◌∙◌, ℕ, List, [], ◌++◌, ap, sym, append-nil, true}
+use Rattle.std.proofs.Common.{◌∙◌, ◌+◌, ◌≤◌, ℕ, List, [], ◌++◌, ap, arith, inl, sym, append-nil, true}
 use Rattle.jp_grep.specs.Finding.{noted_items}
 use Rattle.jp_grep.specs.Items.{Item, items_come}
 use Rattle.jp_grep.specs.Stands.{Stands}
 use Rattle.jp_grep.specs.declared.source.Source.TheVariants as sources
-use Rattle.jp_grep.proofs.Advancing.{answers_none, holds_at_ok, not_of_front, says_nothing, so_anyhow, told_no_front}
+use Rattle.jp_grep.proofs.Advancing.{answers_none, handed_on, holds_at_ok, not_of_front, numbers_tell, says_nothing, so_anyhow, told_no_front}
 use Rattle.jp_grep.proofs.LiftedPieces.{all_come, first_come, framed_so, in_pieces, pieces_of_it}
 use Rattle.jp_grep.proofs.answering.Answering.answer_last_pieces.Goals as goal
+
+with_none : (most held : ℕ) → most ≤ held → most ≤ held + 0
+with_none most held h = omega (arith, h)
 
 pub returns-in_err-find_last-clause-ends : goal.returns-in_err-find_last-clause-ends
 returns-in_err-find_last-clause-ends g c =
@@ -22,6 +25,7 @@ returns-in_err-find_last-clause-ends g c =
       first = λ came answered st. let first = first_come units came cutting answered st true [] in
           (first.0, ap (items_come units true) (sym (append-nil came)) ∙ first.1);
       framed = λ came answered st. so_anyhow _ r (framed_so units came cutting answered st);
+      size = handed_on _ r c.in_err-find_last.field-0.0 c.from_residual.ensures.1 (λ is. inl (with_none _ _ (c.in_err-find_last.ensures.size is)));
       refused = not_of_front _ r c.in_err-find_last.field-0.0 c.from_residual.ensures.1 c.in_err-find_last.ensures.fault;
     }
 
@@ -42,5 +46,6 @@ returns-clause-ends g c =
       all = holds_at_ok r all;
       first = λ came answered st. ([], all came answered st ∙ sym (append-nil (answered ++ noted_items noted)));
       framed = λ came answered st. so_anyhow _ r (framed_so units came cutting answered st);
+      size = numbers_tell r (sources.Pieces cutting) 0 c.args.self.now.progress (noted_items noted) said.size;
       refused = told_no_front _ r said.others;
     }

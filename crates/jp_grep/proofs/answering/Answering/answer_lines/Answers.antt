@@ -1,5 +1,5 @@
 -- No line ends among the bytes, or those in front of the cut are answered.
-use Rattle.std.proofs.Common.{◌≡◌, ◌∙◌, ◌+◌, ◌<◌, ℕ, List, [], ◌++◌, ap, arith, drop, length, map, subst, sym, take, take-append-drop, append-nil, length-drop, false, true, Bool, Ok, Err}
+use Rattle.std.proofs.Common.{◌≡◌, ◌∙◌, ◌+◌, ◌<◌, ℕ, List, [], ◌++◌, ap, arith, drop, length, map, subst, sym, take, take-append-drop, append-nil, length-drop, false, true, Bool, Ok, Err, inl, inr, ◌≤◌, ◌^◌}
 use Rattle.std.proofs.Math.Seq.{take-append-add, drop-append-add}
 use Rattle.jp_model.specs.declared.Framing.{Framing}
 use Rattle.jp_masks.specs.Found.{lines_in}
@@ -8,7 +8,7 @@ use Rattle.jp_grep.specs.Items.{Item, line_item}
 use Rattle.jp_grep.specs.Positions.{IsAt}
 use Rattle.jp_grep.specs.Searching.{Answers}
 use Rattle.jp_grep.specs.Fronts.{AreRefused, MayGoOn}
-use Rattle.jp_grep.proofs.Advancing.{all_first, answers_in_part, answers_none, handed_on, held_refused, none_first, not_of_front, other_no_front, says_nothing}
+use Rattle.jp_grep.proofs.Advancing.{all_first, answers_in_part, answers_none, front_no_size, handed_on, held_refused, none_first, not_of_front, other_no_front, says_nothing}
 use Rattle.jp_grep.proofs.Lifted.{first_more, front_goes, in_lines, refused_more, stand_more}
 use Rattle.jp_grep.proofs.Position.{cut_off, held_more}
 use Rattle.jp_grep.proofs.answering.Answering.answer_lines.Goals as goal
@@ -64,6 +64,7 @@ returns-in_err-hold-clause-advances g c =
       first = λ came answered st. let s = in_lines units came stream answered st in
           let none = none_first framing came stream.held.items bytes s.lines stream.is_first s.at in
           first_more units came stream answered st bytes [] none.0 none.1;
+      size = handed_on _ r c.in_err-hold.field-0.0 c.from_residual.ensures.1 (λ is. inl (c.in_err-hold.ensures.size is));
       refused = not_of_front _ r c.in_err-hold.field-0.0 c.from_residual.ensures.1 c.in_err-hold.ensures.fault;
     }
 
@@ -89,6 +90,7 @@ returns-in_err-check_front-clause-advances g c =
       first = λ came answered st. let s = in_lines units came stream answered st in
           let none = none_first framing came stream.held.items bytes s.lines stream.is_first s.at in
           first_more units came stream answered st bytes [] none.0 none.1;
+      size = handed_on _ r e c.from_residual-in_err-check_front.ensures.1 (λ is. absurd (front_no_size e said.2 is));
       refused = handed_on _ r e c.from_residual-in_err-check_front.ensures.1
           (λ front came answered st. let s = in_lines units came stream answered st in
           refused_more units came stream answered st bytes e (held_refused framing came stream.held.items bytes s.lines stream.is_first e (sym first ∙ said.0) refused s.at));
@@ -123,6 +125,7 @@ returns-in-None-clause-advances g c =
       first = λ came answered st. let s = in_lines units came stream answered st in
           let none = none_first framing came stream.held.items bytes s.lines stream.is_first s.at in
           first_more units came stream answered st bytes [] none.0 none.1;
+      size = tt;
       refused = tt;
     }
 
@@ -146,8 +149,8 @@ returns-in_err-answer_until-in-Some-clause-advances g c =
     let whole = sym (take-append-drop end bytes) in
     let lines = lines_in framing (text_of stream.is_first (stream.held.items ++ take end bytes)) in
     let said = c.in_err-answer_until-in-Some.ensures in
-    let answers = subst (λ (ls : List Item). Answers g.W.Write.contents g.E.Write.contents q f before after c.args.out.now c.answer_until.new.out c.args.messages.now c.answer_until.new.messages (Err e) ls)
-    (read_as now.framing framing now.is_first stream.is_first _ _ c.in_ok-hold.ensures.framing c.in_ok-hold.ensures.first front) said.answers in
+    let same = read_as now.framing framing now.is_first stream.is_first _ _ c.in_ok-hold.ensures.framing c.in_ok-hold.ensures.first front in
+    let answers = subst (λ (ls : List Item). Answers g.W.Write.contents g.E.Write.contents q f before after c.args.out.now c.answer_until.new.out c.args.messages.now c.answer_until.new.messages (Err e) ls) same said.answers in
     record {
       items = map (line_item framing) lines;
       answers = answers_in_part q f before after c.args.out.now c.answer_until.new.out c.args.messages.now c.answer_until.new.messages _ _ r c.from_residual-in_err-answer_until-in-Some.ensures.0 c.from_residual-in_err-answer_until-in-Some.ensures.1 answers;
@@ -155,6 +158,7 @@ returns-in_err-answer_until-in-Some-clause-advances g c =
       first = λ came answered st. let s = in_lines units came stream answered st in
           let all = all_first framing came stream.held.items bytes (take end bytes) (drop end bytes) s.lines stream.is_first whole cut s.at in
           first_more units came stream answered st bytes lines all.0 all.1;
+      size = handed_on _ r e c.from_residual-in_err-answer_until-in-Some.ensures.1 (λ is. inr (subst (λ (ls : List Item). 2 ^ 64 ≤ before.number + length ls) same (said.size is)));
       refused = handed_on _ r e c.from_residual-in_err-answer_until-in-Some.ensures.1 (λ front. absurd (other_no_front e said.others front));
     }
 
@@ -198,6 +202,7 @@ returns-in_ok-answer_until-in-Some-clause-advances g c =
       first = λ came answered st. let s = in_lines units came stream answered st in
           let all = all_first framing came stream.held.items bytes (take end bytes) (drop end bytes) s.lines stream.is_first whole cut s.at in
           first_more units came stream answered st bytes lines all.0 all.1;
+      size = tt;
       refused = tt;
     }
   where

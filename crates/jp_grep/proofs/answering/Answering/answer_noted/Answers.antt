@@ -9,6 +9,7 @@ use Rattle.jp_grep.specs.Finding.{span_of}
 use Rattle.jp_grep.specs.Items.{Item}
 use Rattle.jp_grep.specs.ReadItems.{piece_text, piece_with}
 use Rattle.jp_grep.specs.Searching.{Answers}
+use Rattle.jp_grep.specs.Sizes.{TellsOfNumbers}
 use Rattle.jp_grep.specs.declared.fault.SearchFault.TheVariants as faults
 use Rattle.jp_grep.proofs.Advancing.{answers_nothing}
 use Rattle.jp_grep.proofs.Noted.{texts_at, zipped}
@@ -49,3 +50,13 @@ returns-clause-answers g c =
     subst (λ (items : List Item). Answers g.W.Write.contents g.E.Write.contents c.args.answerer.question.now c.args.answerer.form.now c.args.self.now.progress c.answer_items.new.progress
     c.args.out.now c.answer_items.new.out c.args.messages.now c.answer_items.new.messages c.answer_items.result items)
     (c.of_pieces-items.ensures.items ∙ ap₂ (λ (ts : List (List ℕ)) (ps : List PieceAt). map piece_with (zip ts ps)) texts c.deref-3.ensures.value ∙ zipped (piece_text held) pieces) c.answer_items.ensures.answers
+
+pub returns-clause-size : goal.returns-clause-size
+returns-clause-size g c =
+    let pieces = c.args.cutting.now.pieces.items in
+    let held = c.args.cutting.now.cutter.held.items in
+    let listed = at_ok (c.list_spans.new.spans.items ≡ map span_of c.deref.result.now) c.list_spans.result c.is_err.result c.is_err.ensures.value c.if-is_err.false c.list_spans.ensures
+    ∙ ap (map span_of) c.deref.ensures.value in
+    let texts = c.in-Ok.ensures.texts ∙ ap₂ (λ (h : List ℕ) (s : List Span). map (text_at h) s) c.held.ensures (c.deref-2.ensures.value ∙ listed) ∙ texts_at held pieces in
+    subst (λ (items : List Item). TellsOfNumbers c.answer_items.result c.args.self.now.progress items)
+    (c.of_pieces-items.ensures.items ∙ ap₂ (λ (ts : List (List ℕ)) (ps : List PieceAt). map piece_with (zip ts ps)) texts c.deref-3.ensures.value ∙ zipped (piece_text held) pieces) c.answer_items.ensures.size

@@ -1,10 +1,11 @@
 -- The front of the stream is held, or the pieces that ended are answered.
-use Rattle.std.proofs.Common.{ℕ, List, [], ◌++◌, false}
+use Rattle.std.proofs.Common.{ℕ, List, [], ◌++◌, ap, false, inl, length}
+use Rattle.jp_grep.specs.Faults.{is_inner_fault}
 use Rattle.jp_grep.specs.Finding.{noted_items}
 use Rattle.jp_grep.specs.Items.{Item}
 use Rattle.jp_grep.specs.Stands.{Stands}
 use Rattle.jp_grep.specs.declared.source.Source.TheVariants as sources
-use Rattle.jp_grep.proofs.Advancing.{answers_none, handed_on, holds_at_ok, not_of_front, says_nothing, told_no_front}
+use Rattle.jp_grep.proofs.Advancing.{answers_none, handed_on, holds_at_ok, memory_no_size, not_of_front, numbers_tell, says_nothing, told_no_front}
 use Rattle.jp_grep.proofs.LiftedPieces.{ended_come, first_come, in_pieces, pieces_of_it, read_of, refused_so, stand_before, stand_more}
 use Rattle.jp_grep.proofs.answering.Answering.answer_pieces.Goals as goal
 
@@ -22,6 +23,7 @@ returns-in_err-take_in-clause-advances g c =
       answers = answers_none q f g.W.Write.contents g.E.Write.contents c.args.self.now.progress c.args.out.now c.args.messages.now r c.requires.under_way;
       position = says_nothing _ r c.from_residual.ensures.0;
       first = λ came answered st. first_come units came cutting answered st false bytes;
+      size = handed_on _ r e c.from_residual.ensures.1 (λ is. inl (c.in_err-take_in.ensures.size is));
       refused = handed_on _ r e c.from_residual.ensures.1 (λ front came answered st. let s = in_pieces units came cutting answered st in
           refused_so units came cutting answered st bytes e (c.in_err-take_in.ensures.taken (pieces_of_it units came cutting answered st) came s.handed s.at front));
     }
@@ -39,6 +41,7 @@ returns-then-cutting-clause-advances g c =
       position = λ came answered st. let s = in_pieces units came cutting answered st in
           stand_before units came cutting answered st c.take_in.new.self bytes (c.in_ok-take_in.ensures.taken (pieces_of_it units came cutting answered st) came s.handed s.at) c.if-cutting.true;
       first = λ came answered st. first_come units came cutting answered st false bytes;
+      size = tt;
       refused = tt;
     }
 
@@ -50,12 +53,14 @@ returns-in_err-find_ended-clause-advances g c =
     let cutting = c.args.cutting.now in
     let bytes = c.args.bytes.now in
     let r = c.from_residual-in_err-find_ended.result in
+    let e = c.in_err-find_ended.field-0.0 in
     record {
       items = [];
       answers = answers_none q f g.W.Write.contents g.E.Write.contents c.args.self.now.progress c.args.out.now c.args.messages.now r c.requires.under_way;
       position = says_nothing _ r c.from_residual-in_err-find_ended.ensures.0;
       first = λ came answered st. first_come units came cutting answered st false bytes;
-      refused = not_of_front _ r c.in_err-find_ended.field-0.0 c.from_residual-in_err-find_ended.ensures.1 c.in_err-find_ended.ensures.fault;
+      size = handed_on _ r e c.from_residual-in_err-find_ended.ensures.1 (λ is. absurd (memory_no_size e c.in_err-find_ended.ensures.fault is));
+      refused = not_of_front _ r e c.from_residual-in_err-find_ended.ensures.1 (ap is_inner_fault c.in_err-find_ended.ensures.fault);
     }
 
 pub returns-clause-advances : goal.returns-clause-advances
@@ -77,5 +82,6 @@ returns-clause-advances g c =
       answers = said.answers;
       position = holds_at_ok r (λ came answered st. stand_more units came cutting answered st taken noted bytes (is came answered st) c.if-cutting.false c.in_ok-find_ended.ensures.is_first (found came answered st));
       first = λ came answered st. ended_come units came cutting answered st noted bytes (found came answered st);
+      size = numbers_tell r (sources.Pieces cutting) (length bytes) c.args.self.now.progress (noted_items noted) said.size;
       refused = told_no_front _ r said.others;
     }
