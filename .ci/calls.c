@@ -61,7 +61,7 @@ static void tell_fault(const uint8_t *text, size_t length, bool is_condition) {
     put(room, used);
 }
 
-/* The parts of a question, ended by zeros in place of the tabs. */
+/* The parts of a question, ended by zeros instead of the tabs. */
 static size_t split(uint8_t *line, size_t length, uint8_t **parts, size_t *lengths) {
     size_t count = 1;
     parts[0] = line;

@@ -1,10 +1,10 @@
-"""Runs a program over the C library with each growth refused in turn, and tells whether every run ended as stated.
+"""Runs a program over the C library with each growth refused in turn, and says whether every run ended as stated.
 
     library.py ASKS REFUSER FOLDER
 
 Each command is a call of its own, or the first three are run by jpq_run and the others by one call. A run ends with status 0 and
-the answers of all commands, of which at most one is `error: memory`; or with 16 and the answers of some first ones, of which the
-last may be cut.
+the answers of all commands, at most one of them `error: memory`; or with 16 and the answers of some first ones, the last of
+which may be cut.
 """
 import os
 import subprocess

@@ -91,9 +91,65 @@ def refusals():
         shows("separator", (jpq.SeparatorRefusal, "separator"), raised(lambda: log.append("\x1e1")))
 
 
+VALUES = written("values", b"\n".join([
+    b'{"a":1,"b":{"c":[1,2]},"s":"x"}', b'{"a":2,"b":{"c":[]},"s":"@"}', b"", b"5", b'"@.a"', b"[]", b"{ }", b"nul", b"null", b"[5, 6]",
+    b'[{"a":1}]', b"5.0", b"-5", b'{"a":null}', b"true", b'""', b'"$"', b"[ \t]", b'{"a":[1],"s":"]) || $[?(@"}']))
+CONDITIONS = """@.a
+!@.a
+@ == 5
+$ == 5
+@ > 1 || @.a > 1
+@.a == 1 && @.b.c[?@ == 2]
+@.b.c[?@ == $.a]
+@[0] == 5
+@[?@.a == $[0].a]
+count(@[*]) == 0
+count($.*) == 0
+length(@) == 0
+length(@) == length($)
+@ == '@.a'
+@ == "$" || @.s == ']) || $[?(@'
+@.s == "@"
+@
+!$
+$.b[?@[?@ == 1] && @[1] == $.b.c[1]]
+match(@.s, '[^)(]') || (@ == null)
+(@.a && !(@.b)) || @['a'] == 2
+@\r.a\t==\t1""".split("\n")
+MISTAKEN = ["@.a ==", "@.a, ?@.b", "@.a), ?(@.b", "@.a)] , [?(@.b", "@.a == 'x", "", "(@.a", "$[?@.a", "length(@)", "f(@)", "@[9007199254740992]",
+            "@.a]", "@.a))", "@\\"]
+
+
+def conditions():
+    """The lines for which a condition holds are those that jpgrep selects by it."""
+    has_jpgrep = shutil.which("jpgrep")
+    with opened(VALUES) as log:
+        shows("where", [(2, b"[]")], [row[::2] for row in log.query("$.b.c", where="@.a > 1")])
+        shows("where nothing holds", ([], 0, 1), (list(rows := log.query("$..*", where="@.z")), rows.count, len(rows.refused)))
+        shows("where, counted", (4, 4), (len(list(rows := log.query("$..*", where=b"@.a == 2"))), rows.count))
+        shows("where, over bare values", [4, 12], [row.line for row in log.query("$", where="$ == 5")])
+        for condition in CONDITIONS if has_jpgrep else []:
+            said = subprocess.run(["jpgrep", "-s", "-n", "-w", condition, VALUES], stdout=subprocess.PIPE).stdout
+            wanted = [int(row.split(b":")[0]) for row in said.splitlines()]
+            shows(f"where {condition}", wanted, [row.line for row in log.query("$", where=condition)])
+        for condition in filter(None, MISTAKEN):
+            fault = raised(lambda: log.query("$", where=condition))
+            shows(f"not a condition: {condition}", (jpq.QueryRefusal, "condition"), fault and (fault[0], fault[1].split()[0]))
+        shows("no condition", 17, sum(1 for _ in log.query("$", where="")))
+        shows("a line feed in a condition", [1], [row.line for row in log.query("$.a", where="@.a\n== 1")])
+        log.replace(1, '{"a":7}')
+        log.index("$.a")
+        shows("where, by an index", [(1, "7")], [(row.line, row.bytes.decode()) for row in log.query("$.*", where="@.a == 7")])
+    shows("where, closed", (ValueError, None), raised(lambda: log.query("$", where="@")))
+    with opened(b'\x1e[\n\n]\x1e{"a":\n1}\x1e5\n', seq=True) as log:
+        shows("where, of a sequence", [[1], [2], [3]],
+              [[row.line for row in log.query("$", where=where)] for where in ("@ == $ && count(@.*) == 0 && !(@ == 5)", "@.a", "@ == 5")])
+
+
 def statuses():
     shows("absent", (FileNotFoundError, None), raised(lambda: opened("absent")))
     shows("folder", (IsADirectoryError, None), raised(lambda: opened(".")))
+    shows("a file that cannot be read", (OSError, None), raised(lambda: opened("/proc/self/mem")))
     if way == "program":
         shows("no program", (FileNotFoundError, None), raised(lambda: jpq.open(LINES, program="./absent")))
         try:
@@ -111,21 +167,32 @@ def statuses():
 
 
 def places():
-    if not shutil.which("jpgrep"):
-        print("jpq.py: left out where a query goes wrong, since jpgrep is not here")
-        return
-    log = opened(LINES)
-    try:
-        log.query("$.items[?@.price = 90]")
-    except jpq.QueryRefusal as refusal:
-        shows("where a query goes wrong", (True, ["                   ^", "  help: equality is =="]),
-              (refusal.place.startswith("jpgrep: query: syntax: "), refusal.place.splitlines()[-2:]))
-    log.close()
+    """Where a query or a condition goes wrong, told by jpgrep; and, where that is not on the path, by the library."""
+    path, has_jpgrep = os.environ["PATH"], shutil.which("jpgrep")
+    with opened(LINES) as log:
+        for word, act, column in (("query", lambda: log.query("$.items[?@.price = 90]"), 17),
+                                  ("condition", lambda: log.query("$", where="@.items.price = 90"), 14)):
+            for folders in [path] * bool(has_jpgrep) + [room]:
+                try:
+                    act()
+                except jpq.QueryRefusal as refusal:
+                    os.environ["PATH"] = folders
+                    place = refusal.place
+                    os.environ["PATH"] = path
+                    if folders == path:
+                        shows(f"where a {word} goes wrong", (True, [" " * (column + 2) + "^", "  help: equality is =="]),
+                              (place.startswith(f"jpgrep: {word}: syntax: "), place.splitlines()[-2:]))
+                    elif way == "program":
+                        shows(f"where a {word} goes wrong is not known", None, place)
+                    else:
+                        shows(f"where a {word} goes wrong, of the library", (column, " " * (column + 2) + "^"),
+                              (refusal.found.place, place.splitlines()[-1]))
 
 
 def files():
     """What can be opened: names, bytes, and binary files from where they stand."""
-    whole = open(LINES, "rb").read()
+    with open(LINES, "rb") as file:
+        whole = file.read()
     with subprocess.Popen(["cat", LINES], stdout=subprocess.PIPE) as cat, opened(cat.stdout) as log:
         shows("a pipe", 5, log.check().lines)
     for kind, given in (("bytes", whole), ("a bytearray", bytearray(whole)), ("a view", memoryview(whole)), ("a buffer", io.BytesIO(whole))):
@@ -171,7 +238,7 @@ def sequences():
         shows("refused texts", ([(2, "grammar"), (4, "truncated")], 3), (rows.refused, rows.count))
         shows("check of texts", (4, 2, 0), log.check()[:3])
         outer = log.query("$..a")
-        shows("a row, and the rest behind a check", (values[0], 4, values[1:]),
+        shows("a row, and the rest after a check", (values[0], 4, values[1:]),
               ((lambda row: (row.line, row.bytes))(next(outer)), log.check().lines, [(row.line, row.bytes) for row in outer]))
 
 
@@ -193,7 +260,7 @@ def pipes():
         shows("both to their ends", (count - 3, count - 1), (sum(1 for _ in outer), sum(1 for _ in inner)))
         kept = log.query("$.s")
         text = '"' + "y" * 3_000_000 + '"'
-        shows("a large command behind a large answer", count + 1, log.append(text))
+        shows("a large command after a large answer", count + 1, log.append(text))
         shows("the answer is that of before", (count, count), (sum(1 for _ in kept), kept.count))
         shows("a large value", len(text), [len(row.bytes) for row in log.query("$")][-1])
         log.query("$.s")
@@ -242,12 +309,16 @@ def singles():
 ways = [("program", {"program": program})] + [("library", {"library": name}) for name in library]
 for way, named in ways:
     opened = functools.partial(jpq.open, **named)
-    for try_it in (answers, refusals, statuses, places, files, sequences, pipes, singles, threads):
+    for try_it in (answers, conditions, refusals, statuses, places, files, sequences, pipes, singles, threads):
         try_it()
 os.environ["JPQ"] = program
-os.environ["JPQ_LIBRARY"] = library[0] if library else "./absent"
 way = "either"
-with jpq.open(LINES) as log:
-    shows("what is found", "_Library" if library else "_Program", type(log._engine).__name__)
+os.makedirs("made/lib")
+if library:
+    os.symlink(os.path.abspath(library[0]), "made/lib/libjpq.so.0")
+for name in library[0] if library else "./absent", "made":
+    os.environ["JPQ_LIBRARY"] = name
+    with jpq.open(LINES) as log:
+        shows(f"what is found by {name}", "_Library" if library else "_Program", type(log._engine).__name__)
 print(f"jpq.py: {passed} passed, {failed} failed")
 sys.exit(failed > 0)

@@ -6,7 +6,7 @@
  *  1. A handle begins as JPQ_INIT (zeros). Nothing but these calls writes to it.
  *  2. It is never copied: a handle that was moved is used at its new place alone.
  *  3. It serves one call at a time, from whatever thread.
- *  4. It is given to jpq_close at the end; else its memory stays.
+ *  4. It is given to jpq_close at the end; otherwise its memory is not freed.
  *  5. No pointer is null, also where the length beside it is 0.
  *  6. A length is that of the bytes which stand at the pointer, or of the room there.
  *  7. The bytes that a call reads are not written while it runs.
@@ -69,7 +69,7 @@ enum {
     JPQ_FAULT_SYNTAX = 2,   /* not of the grammar (RFC 9535), or not UTF-8 */
     JPQ_FAULT_INTEGER = 3,  /* an index or a bound that is not exact, beyond 2^53 - 1 */
     JPQ_FAULT_NUMBER = 4,   /* a number whose exponent has more than 15 digits */
-    JPQ_FAULT_FUNCTION = 5, /* a function that there is none of */
+    JPQ_FAULT_FUNCTION = 5, /* a function that does not exist */
     JPQ_FAULT_TYPES = 6     /* a function that does not fit, by its arguments or where it stands */
 };
 
@@ -77,7 +77,7 @@ enum {
 enum {
     JPQ_DONE = 0,
     JPQ_SHUT = 1,     /* the handle is not open */
-    JPQ_NUMBER = 2,   /* the framing is neither JPQ_LINES nor JPQ_SEQUENCE, or what is to be shown is none of the list */
+    JPQ_NUMBER = 2,   /* the framing is neither JPQ_LINES nor JPQ_SEQUENCE, or what is to be shown is not in the list */
     JPQ_QUESTION = 3, /* the query or the condition is refused: jpq_fault tells why and where */
     JPQ_LINE = 4,     /* there is no line of this number */
     JPQ_FORMAT = 5,   /* the text begins with the mark of another format, as compressed data do */
@@ -114,7 +114,7 @@ uint32_t jpq_open(const uint8_t *collection, size_t collection_length, uint32_t 
  * dropped. Commands of a script may change the collection and its indexes; the next script finds them so.
  *
  * JPQ_SHUT and JPQ_SCRIPT change nothing. After JPQ_MEMORY some first commands were run, what they changed stays, and a beginning of
- * their answers can be read; where a command alone wants memory, it answers "error: memory" and the script goes on. */
+ * their answers can be read; where only one command lacks memory, it answers "error: memory" and the script goes on. */
 uint32_t jpq_ask(jpq *handle, const uint8_t *script, size_t script_length);
 
 /* How many bytes of the answer were not read. */
@@ -131,14 +131,15 @@ void jpq_close(jpq *handle);
 uint32_t jpq_run(const uint8_t *collection, size_t collection_length, uint32_t framing, uint32_t most, const uint8_t *script,
                  size_t script_length, jpq *handle);
 
-/* Searches the lines of a text (JSON Lines), of which no copy is kept, by a condition and by queries, as the program jpgrep does, and
- * keeps the rows to be read by jpq_left and jpq_read. What was left of the answer before is dropped; the collection stays as it is.
+/* Searches the lines of a text (JSON Lines) by a condition and by queries, as the program jpgrep does, and keeps the rows to be
+ * read by jpq_left and jpq_read, but no copy of the text. What was left of the answer before is dropped; the collection stays as
+ * it is.
  *
- * The condition is a logical expression as in a filter of RFC 9535, in which @ and $ are the value of the line; an empty one is none.
- * The queries stand one on each line, and an empty line is none; without a query it is $. `shown` is one of the list above. For
- * JPQ_CSV and JPQ_TSV each query is a column, and has to be singular, so that it selects no more than one node; else a line matches
- * only where a query selects a node of it. With `numbered` each row begins with the number of its line, from 1, and a colon, or in a
- * table with a cell. Refused lines match nothing. A byte order mark at the front is dropped.
+ * The condition is a logical expression as in a filter of RFC 9535, in which @ and $ are the value of the line; if it is empty,
+ * there is no condition. There is one query on each line, and empty lines are skipped; without a query it is $. `shown` is one
+ * of the list above. For JPQ_CSV and JPQ_TSV each query is a column, and has to be singular, so that it selects no more than one
+ * node; otherwise a line matches only if a query selects a node of it. With `numbered` each row begins with the number of its
+ * line, from 1, and a colon, or in a table with a cell. Refused lines match nothing. A byte order mark at the front is dropped.
  *
  * After JPQ_SHUT, JPQ_NUMBER, JPQ_QUESTION, JPQ_FORMAT and JPQ_MEMORY nothing is left to be read. */
 uint32_t jpq_filter(jpq *handle, const uint8_t *text, size_t text_length, const uint8_t *condition, size_t condition_length,
@@ -149,14 +150,14 @@ uint32_t jpq_filter(jpq *handle, const uint8_t *text, size_t text_length, const 
 uint32_t jpq_line(jpq *handle, uint64_t number);
 
 /* Keeps a row for each node that a query selects in a line of the collection, in the query's order: the byte of the line at which the
- * text of the node begins, the byte behind its end, both from 0, and its normalized path, with tabs between them and a line feed
- * behind. A blank or a refused line has no rows. Lines count from 1. What was left of the answer before is dropped.
+ * text of the node begins, the byte after its end, both from 0, and its normalized path, separated by tabs and ended by a line
+ * feed. A blank or a refused line has no rows. Lines count from 1. What was left of the answer before is dropped.
  *
  * After JPQ_SHUT, JPQ_QUESTION, JPQ_LINE and JPQ_MEMORY nothing is left to be read. */
 uint32_t jpq_marks(jpq *handle, uint64_t number, const uint8_t *query, size_t query_length);
 
-/* 0 exactly where a text is read as a query, or as a condition where that is wanted, and else its first fault, one of JPQ_FAULT_SIZE
- * to JPQ_FAULT_TYPES; or JPQ_MEMORY.
+/* Answers 0 if and only if a text is valid as a query, or as a condition if is_condition, and otherwise its first fault, one of
+ * JPQ_FAULT_SIZE to JPQ_FAULT_TYPES; or JPQ_MEMORY.
  *
  * At a fault `place` is where it is, in bytes from 0; and the first `words` bytes of the room say in English what the grammar has
  * there, as far as they have room, for a fault of the syntax: 80 bytes are enough. The other faults have no such words. At 0 and

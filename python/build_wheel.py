@@ -1,5 +1,5 @@
 """Puts jpq.py into a wheel for `pip install ./python`. It is one file of pure Python, so nothing is built, and no other package is
-asked for."""
+asked for. The wheel has it as a package, as only there `py.typed` can say that it has type hints (PEP 561)."""
 
 import base64
 import hashlib
@@ -25,7 +25,8 @@ def build_wheel(wheel_directory, config_settings=None, metadata_directory=None):
     with open(os.path.join(HERE, "jpq.py"), "rb") as file:
         module = file.read()
     metadata = METADATA.format(version=project["version"], description=project["description"], requires=project["requires-python"])
-    files = {"jpq.py": module, f"{folder}/METADATA": metadata.encode(), f"{folder}/WHEEL": WHEEL.encode()}
+    files = {"jpq/__init__.py": module, "jpq/py.typed": b"", f"{folder}/METADATA": metadata.encode(),
+             f"{folder}/WHEEL": WHEEL.encode()}
     record = ""
     for name, content in files.items():
         digest = base64.urlsafe_b64encode(hashlib.sha256(content).digest()).rstrip(b"=").decode()

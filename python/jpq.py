@@ -7,21 +7,22 @@
             print(row.line, row.path, row.value)
         print(log.check())
 
-A row is (line, path, bytes): the bytes are as they stand in the file. `row.value` is what `loads` makes of them, numbers with a point
-or an exponent as `Decimal`, so that nothing is rounded.
+A row is (line, path, bytes), with the bytes as they are in the file. `row.value` is what `loads` makes of them, with numbers
+that have a point or an exponent as `Decimal`, so that nothing is rounded.
 
-Where the library libjpq.so.0 is found it answers within this process. Else the program `jpq` runs next to Python for as long as the
-log is open, and takes one command after another through two pipes. Either way the whole file is in memory, and both answer the same.
-It needs only Python 3.8, and one of the two.
+If the library libjpq.so.0 is found, it answers within this process. Otherwise the program `jpq` runs next to Python for as long
+as the log is open, and takes one command after another through two pipes. Either way the whole file is in memory, and both
+answer the same. It needs only Python 3.8, and one of the two.
 
-An answer is read as it is iterated. You may ask another command before its end: what is left is then kept in memory if you still hold
-the answer, and dropped otherwise. Threads may share a log: each call waits for its turn.
+An answer is read as it is iterated. You may ask another command before its end: what is left is then kept in memory if you
+still hold the answer, and dropped otherwise. Threads may share a log: each call waits for its turn.
 """
 
 import builtins
 import collections
 import ctypes
 import decimal
+import errno
 import io
 import json
 import mmap
@@ -32,7 +33,7 @@ import subprocess
 import tempfile
 import threading
 import weakref
-from typing import Any, BinaryIO, Iterable, Iterator, List, NamedTuple, Optional, Tuple, Union
+from typing import Any, BinaryIO, Deque, Dict, Iterable, Iterator, List, NamedTuple, Optional, Set, Tuple, Type, Union, cast
 
 __all__ = ["open", "loads", "Log", "Row", "Rows", "Refused", "Check", "Plan", "Mark", "Fault", "Error", "Ended", "Refusal",
            "QueryRefusal", "IndexRefusal", "LineRefusal", "SizeRefusal", "SeparatorRefusal", "MemoryRefusal", "CommandRefusal"]
@@ -73,7 +74,7 @@ class Check(NamedTuple):
 
 
 class Plan(NamedTuple):
-    """The steps of a plan, how many lines it opens, and of how many that have a value."""
+    """The steps of a plan, how many lines it opens, and how many lines have a value."""
 
     steps: Tuple[str, ...]
     opened: int
@@ -81,7 +82,7 @@ class Plan(NamedTuple):
 
 
 class Mark(NamedTuple):
-    """Where a selected value stands in its line, from byte `start`, counted from 0, to the byte before `end`, and its normalized path."""
+    """Where a selected value is in its line, from byte `start`, counted from 0, to the byte before `end`; and its path."""
 
     start: int
     end: int
@@ -89,8 +90,8 @@ class Mark(NamedTuple):
 
 
 class Fault(NamedTuple):
-    """Why a query or a condition is refused: one of size, syntax, integer, number, function, types; where, in bytes from 0; and what
-    the grammar has there in place of what stands there, where the fault is of the syntax."""
+    """Why a query or a condition is refused: one of size, syntax, integer, number, function, types; where, in bytes from 0;
+    and, for a fault of the syntax, what the grammar expects there."""
 
     fault: str
     place: int
@@ -98,8 +99,8 @@ class Fault(NamedTuple):
 
 
 # What `Log.filter` shows, by its number in jpq.h.
-SHOWN = {"nothing": 0, "lines": 1, "paths": 2, "csv": 3, "tsv": 4, "canonical lines": 5, "canonical paths": 6, "canonical values": 7,
-         "values": 8, "text": 9}
+SHOWN = {"nothing": 0, "lines": 1, "paths": 2, "csv": 3, "tsv": 4, "canonical lines": 5, "canonical paths": 6,
+         "canonical values": 7, "values": 8, "text": 9}
 
 
 FAULTS = ("size", "syntax", "integer", "number", "function", "types")
@@ -135,21 +136,30 @@ class Refusal(Error):
 
 
 class QueryRefusal(Refusal):
-    """`query`, or of the condition of `filter` `condition`, and one of syntax, integer, function, types, size, number; or `query column`,
-    where a query is a column of a table and may select more than one value."""
+    """`query` or, of a condition, `condition`, and one of syntax, integer, function, types, size, number; or `query column`,
+    where a query is a column of a table and may select more than one value. `found` is its fault, if the library answers."""
+
+    found: Optional[Fault] = None
 
     @property
     def place(self) -> Optional[str]:
-        """Where the query goes wrong, as jpgrep shows it: the words for it, the query, a caret below the place, and what was
-        probably meant, where jpgrep knows that. None where there is no jpgrep on the path, or it finds no fault."""
-        word, _, query = self.command.partition(b" ")
-        option = "-w" if word == b"where" else "-e"
+        """Where the query goes wrong: the words for it, the query, and a caret below the place. If jpgrep is on the path, also
+        what was probably meant, where jpgrep has a rule for that. None if neither jpgrep nor the library finds the place."""
+        word, _, given = self.command.partition(b" ")
+        query = given.replace(b"\r", b" ")
         try:
-            said = subprocess.run(["jpgrep", "--check", option, query.replace(b"\r", b" ")], stdin=subprocess.DEVNULL,
-                                  capture_output=True).stderr
+            option = b"--where=" if word == b"where" else b"--query="
+            said = subprocess.run(["jpgrep", "--check", option + query], stdin=subprocess.DEVNULL, capture_output=True).stderr
         except (OSError, ValueError):
+            return self._excerpt(query)
+        return said.decode(errors="replace").rstrip("\n") or self._excerpt(query)
+
+    def _excerpt(self, query: bytes) -> Optional[str]:
+        if self.found is None:
             return None
-        return said.decode(errors="replace").rstrip("\n") or None
+        expected = f": expected {self.found.expected}" if self.found.expected else ""
+        before, whole = (text.decode(errors="replace") for text in (query[:self.found.place], query))
+        return f"{self.fault.replace(' ', ': ', 1)}{expected}\n  {whole}\n  {' ' * len(before)}^"
 
 
 class IndexRefusal(Refusal):
@@ -176,7 +186,7 @@ class CommandRefusal(Refusal):
     """This jpq has no such command."""
 
 
-REFUSALS = {"query": QueryRefusal, "index": IndexRefusal, "line": LineRefusal, "size": SizeRefusal,
+REFUSALS: Dict[str, Type[Refusal]] = {"query": QueryRefusal, "index": IndexRefusal, "line": LineRefusal, "size": SizeRefusal,
             "separator": SeparatorRefusal, "memory": MemoryRefusal, "command": CommandRefusal}
 
 
@@ -184,9 +194,10 @@ def open(file: File, *, seq: bool = False, program: Optional[str] = None, librar
     """Loads a file, or with `seq` a text sequence (RFC 7464), and answers the Log.
 
     The file is a name, bytes, a binary file that is open, which is read from where it stands to its end, or an iterable that
-    gives its bytes part by part. `library` is the libjpq to use and `program` the jpq to run: by default the library that the environment has as JPQ_LIBRARY, or else
-    libjpq.so.0 where it is found, and else the program that the environment has as JPQ, or the one on the path. Raises OSError
-    where the file cannot be opened or read, and Ended where what it has cannot be loaded."""
+    gives its bytes part by part. `library` is the libjpq to use, a file or a folder that `tools/library` made, and `program` the
+    jpq to run: by default the library that the environment has as JPQ_LIBRARY, or else libjpq.so.0 if it is found, and else the
+    program that the environment has as JPQ, or the one on the path. Raises OSError if the file cannot be opened or read, and
+    Ended if it cannot be loaded."""
     return Log(file, seq=seq, program=program, library=library)
 
 
@@ -200,13 +211,33 @@ def _whole(digits: str) -> Union[int, decimal.Decimal]:
     return int(digits) if len(digits) < 4000 else decimal.Decimal(digits)
 
 
-class _Lines:
-    """The answer of a command, line by line, of which blocks come."""
+# Bytes that the library can be given where they are.
+Buffer = Union[bytes, bytearray, memoryview, mmap.mmap]
 
-    def __init__(self):
+
+class _Engine:
+    """What answers commands: the answer of one comes in blocks, and is read line by line."""
+
+    def __init__(self) -> None:
         self._held, self._at = b"", 0
 
-    def line(self):
+    def ask(self, command: bytes) -> None:
+        """Asks a command with its line feed. The answer before was read, or is dropped."""
+        raise NotImplementedError
+
+    def block(self) -> bytes:
+        """More bytes of the answer; none where the engine ended."""
+        raise NotImplementedError
+
+    def end(self) -> Ended:
+        """Ends the engine, and returns what to raise."""
+        raise NotImplementedError
+
+    def unloaded(self, ended: Ended) -> Exception:
+        """What to raise where the engine ended before the file was loaded."""
+        return ended
+
+    def line(self) -> bytes:
         """The next line, with its line feed."""
         end = self._held.find(b"\n", self._at)
         while end < 0:
@@ -219,7 +250,7 @@ class _Lines:
         line, self._at = self._held[self._at:end + 1], end + 1
         return line
 
-    def skip(self):
+    def skip(self) -> None:
         """Passes over the answer to its end."""
         while not (end := END_LINE.search(self._held[self._at:])):
             last = self._held.rfind(b"\n", self._at) + 1 or self._at
@@ -230,12 +261,16 @@ class _Lines:
         self._at += end.end()
 
 
-class _Program(_Lines):
-    """The program, behind two pipes."""
+class _Program(_Engine):
+    """The program, asked through two pipes."""
 
-    def __init__(self, file, seq, program):
+    CANNOT_OPEN, CANNOT_READ = 3, 11  # its exit statuses for the file
+
+    def __init__(self, file: Any, seq: bool, program: Optional[str]) -> None:
         super().__init__()
-        self._ended, self._said, copy = None, tempfile.TemporaryFile(), None
+        self._ended: Optional[Ended] = None
+        name: Union[str, bytes]
+        copy = None
         if isinstance(file, (str, os.PathLike)):
             name = os.fspath(file)
             # What cannot be opened is told as Python tells it. A pipe is left to the program, as its bytes come once.
@@ -246,33 +281,40 @@ class _Program(_Lines):
             shutil.copyfileobj(file if hasattr(file, "read") else io.BytesIO(file), copy)
             copy.seek(0)
             name = f"/dev/fd/{copy.fileno()}"
-        if name[:1] in ("-", b"-"):
-            name = os.path.join(b"." if isinstance(name, bytes) else ".", name)
-        words = [program or os.environ.get("JPQ", "jpq"), name, *(["--seq"] if seq else [])]
+        self._name = name
+        if isinstance(name, bytes):
+            name = os.path.join(b".", name) if name.startswith(b"-") else name
+        elif name.startswith("-"):
+            name = os.path.join(".", name)
+        words: List[Union[str, bytes]] = [program if program else os.environ.get("JPQ", "jpq"), name]
+        words += ["--seq"] if seq else []
+        self._said = tempfile.TemporaryFile()
         try:
-            self._process = subprocess.Popen(words, stdin=subprocess.PIPE, stdout=subprocess.PIPE, stderr=self._said,
-                                             pass_fds=(copy.fileno(),) if copy else ())
+            process = subprocess.Popen(words, stdin=subprocess.PIPE, stdout=subprocess.PIPE, stderr=self._said,
+                                       pass_fds=(copy.fileno(),) if copy else ())
         except OSError:
             self._said.close()
             raise
         finally:
             if copy:
                 copy.close()
+        assert process.stdin and process.stdout
+        self._process, self._in = process, process.stdin
+        self._out = cast(io.BufferedReader, process.stdout)
 
-    def ask(self, command):
+    def ask(self, command: bytes) -> None:
         try:
-            self._process.stdin.write(command)
-            self._process.stdin.flush()
+            self._in.write(command)
+            self._in.flush()
         except (BrokenPipeError, ConnectionResetError):
             raise self.end() from None
 
-    def block(self):
-        return self._process.stdout.read1(BLOCK)
+    def block(self) -> bytes:
+        return self._out.read1(BLOCK)
 
-    def end(self):
-        """Ends the program, and returns what to raise."""
+    def end(self) -> Ended:
         if self._ended is None:
-            for pipe in (self._process.stdin, self._process.stdout):
+            for pipe in (self._in, self._out):
                 try:
                     pipe.close()
                 except OSError:
@@ -283,20 +325,26 @@ class _Program(_Lines):
                 self._ended = Ended(status, self._said.read().decode(errors="replace").strip())
         return self._ended
 
+    def unloaded(self, ended: Ended) -> Exception:
+        if ended.status in (self.CANNOT_OPEN, self.CANNOT_READ):
+            return OSError(errno.EIO, ended.message, self._name)
+        return ended
+
 
 class _Handle(ctypes.Structure):
     _fields_ = [("at", ctypes.c_void_p), ("is_open", ctypes.c_bool), ("spare", ctypes.c_uint64 * 2)]
 
 
-class _Library(_Lines):
+class _Library(_Engine):
     """The library, in this process."""
 
     MESSAGES = {11: "cannot read", 12: "collection too large", 13: "bytes before first separator", 14: "script too large",
                 16: "out of memory"}
 
-    def __init__(self, file, seq, calls):
+    def __init__(self, file: Any, seq: bool, calls: ctypes.CDLL) -> None:
         super().__init__()
-        self._calls, self._handle, self._ended = calls, _Handle(), None
+        self._calls, self._handle = calls, _Handle()
+        self._ended: Optional[Ended] = None
         self._room = ctypes.create_string_buffer(BLOCK)
         if hasattr(file, "read"):
             status = self._load(file.read(), seq)
@@ -313,11 +361,12 @@ class _Library(_Lines):
             raise self._end(status)
 
     @staticmethod
-    def find(name):
-        """The calls of a library, or None where it is not found."""
+    def find(name: str) -> Optional[ctypes.CDLL]:
+        """The calls of a library, which is a file or a folder that `tools/library` made, or None if it is not found."""
         try:
-            calls = ctypes.CDLL(name)
+            calls = ctypes.CDLL(os.path.join(name, "lib", "libjpq.so.0") if os.path.isdir(name) else name)
             text, length, handle = ctypes.c_void_p, ctypes.c_size_t, ctypes.POINTER(_Handle)
+            call: Any
             for call, answers, takes in (
                     (calls.jpq_open, ctypes.c_uint32, [text, length, ctypes.c_uint32, ctypes.c_uint32, handle]),
                     (calls.jpq_ask, ctypes.c_uint32, [handle, ctypes.c_char_p, length]),
@@ -335,20 +384,20 @@ class _Library(_Lines):
         return calls
 
     @staticmethod
-    def _place(given):
+    def _place(given: Buffer) -> Tuple[Any, int]:
         """Where bytes begin, and how many they are."""
         length = memoryview(given).nbytes
         if length == 0 or memoryview(given).readonly:  # ctypes finds the place of bytes, and of what may be written
             return ctypes.c_char_p(bytes(given)), length
-        return ctypes.byref(ctypes.c_char.from_buffer(given)), length
+        return ctypes.byref(ctypes.c_char.from_buffer(given)), length  # type: ignore[arg-type]
 
-    def _load(self, given, seq):
+    def _load(self, given: Buffer, seq: bool) -> int:
         place, length = self._place(given)
-        status = self._calls.jpq_open(place, length, int(seq), 0xFFFFFFFF, self._handle)
+        status: int = self._calls.jpq_open(place, length, int(seq), 0xFFFFFFFF, self._handle)
         del place
         return status
 
-    def kept(self, call, *given):
+    def kept(self, call: str, *given: Any) -> Tuple[int, bytes]:
         """The status of a call, and all that it kept to be read."""
         self._held, self._at = b"", 0
         status = getattr(self._calls, call)(self._handle, *given)
@@ -356,13 +405,13 @@ class _Library(_Lines):
         count = self._calls.jpq_read(self._handle, room, len(room))
         return status, room.raw[:count]
 
-    def filtered(self, text, condition, queries, shown, numbered):
+    def filtered(self, text: Buffer, condition: bytes, queries: bytes, shown: int, numbered: bool) -> Tuple[int, bytes]:
         place, length = self._place(text)
         found = self.kept("jpq_filter", place, length, condition, len(condition), queries, len(queries), shown, numbered)
         del place
         return found
 
-    def fault(self, text, is_condition):
+    def fault(self, text: bytes, is_condition: bool) -> Optional[Fault]:
         """The first fault of a query or a condition, or None."""
         place, words, room = ctypes.c_uint64(), ctypes.c_uint64(), ctypes.create_string_buffer(128)
         number = self._calls.jpq_fault(text, len(text), is_condition, place, words, room, len(room))
@@ -370,58 +419,107 @@ class _Library(_Lines):
             raise MemoryRefusal("memory", text)
         return Fault(FAULTS[number - 1], place.value, room.raw[:words.value].decode()) if number else None
 
-    def ask(self, command):
+    def ask(self, command: bytes) -> None:
         self._held, self._at = b"", 0
         if self._calls.jpq_ask(self._handle, command, len(command)):
             raise self._end(16)
 
-    def block(self):
-        return self._room[:self._calls.jpq_read(self._handle, self._room, BLOCK)]
+    def block(self) -> bytes:
+        count = self._calls.jpq_read(self._handle, self._room, BLOCK)
+        return cast(bytes, self._room[:count])
 
-    def skip(self):
+    def skip(self) -> None:
         self._held, self._at = b"", 0
 
-    def _end(self, status):
+    def _end(self, status: int) -> Ended:
         self._calls.jpq_close(self._handle)
         self._ended = Ended(status, f"jpq: {self.MESSAGES[status]}" if status else "")
         return self._ended
 
-    def end(self):
-        """Frees what the library holds, and returns what to raise."""
+    def end(self) -> Ended:
         return self._ended or self._end(0)
 
-    def __del__(self):
+    def __del__(self) -> None:
         if self._handle.is_open:
             self._calls.jpq_close(self._handle)
 
 
-def _is_pipe(name):
+def _is_pipe(name: Union[str, bytes]) -> bool:
     """Whether there is something of this name that is neither a file nor a folder."""
     return os.path.exists(name) and not os.path.isfile(name) and not os.path.isdir(name)
 
 
-def _given(file):
-    """A file as both ways take it: a name, bytes or an open file."""
+def _given(file: File) -> Any:
+    """A file as both engines take it: a name, bytes or an open file."""
     if isinstance(file, (str, os.PathLike)) or hasattr(file, "read"):
         return file
     try:
-        memoryview(file)
+        memoryview(file)  # type: ignore[arg-type]
     except TypeError:
-        return b"".join(file)
+        return b"".join(cast(Iterable[bytes], file))
     return file
 
 
-def _engine(file, seq, program, library):
+def _engine(file: File, seq: bool, program: Optional[str], library: Optional[str]) -> _Engine:
     """What answers: the library where it is found, and else the program."""
-    file = _given(file)
+    given = _given(file)
     if program is None:
-        for name in [library] if library else [os.environ.get("JPQ_LIBRARY"), "libjpq.so.0"]:
-            calls = name and _Library.find(name)
+        for name in (library,) if library else (os.environ.get("JPQ_LIBRARY"), "libjpq.so.0"):
+            calls = _Library.find(name) if name else None
             if calls:
-                return _Library(file, seq, calls)
+                return _Library(given, seq, calls)
         if library:
             raise OSError(f"no library {library}")
-    return _Program(file, seq, program)
+    return _Program(given, seq, program)
+
+
+class _Where:
+    """The lines for which a condition holds. It is asked as a filter over the children of a line's value, where the line is
+    `$`. A value without children, such as a number, is asked as the element of an array in another collection."""
+
+    def __init__(self, log: "Log", condition: bytes) -> None:
+        self._log, self._condition = log, condition
+        self._known: Dict[bytes, bool] = {}
+        try:
+            self._lines = {row.line for row in log.query(_filter(condition, b"$", b"$"))}
+        except QueryRefusal as refusal:
+            raise log._refusal(refusal.fault.replace("query", "condition", 1), b"where " + condition) from None
+
+    def has(self, row: Row) -> bool:
+        """Whether the condition holds for the line of a row."""
+        if row.line in self._lines or row.path != "$" or not self._is_bare(row.bytes):
+            return row.line in self._lines
+        if row.bytes not in self._known:
+            self._known[row.bytes] = self._log._selects(_filter(self._condition, b"@", b"$[0]"), row.bytes)
+        return self._known[row.bytes]
+
+    @staticmethod
+    def _is_bare(value: bytes) -> bool:
+        """Whether a value has no children."""
+        return value[:1] not in (b"[", b"{") or not value[1:-1].strip()
+
+
+# The tokens that matter in a condition: a string; and outside strings a bracket, or what stands for the line or a node.
+TOKENS = re.compile(rb"""'(?:[^'\\]|\\.)*'?|"(?:[^"\\]|\\.)*"?|[][()@$]""", re.DOTALL)
+OPENS = {b")": b"(", b"]": b"["}
+
+
+def _filter(condition: bytes, line: bytes, root: bytes) -> bytes:
+    """The filter that asks a condition of a line's value, which is `line` for the condition's own `@` and `root` for its `$`.
+    An `@` in brackets is a node of a filter within the condition, and stays."""
+    parts, end, still_open = [], 0, []
+    for token in TOKENS.finditer(condition):
+        word = token[0]
+        if word in (b"(", b"["):
+            still_open.append(word)
+        elif word in OPENS and still_open[-1:] != [OPENS[word]]:
+            raise QueryRefusal("condition syntax", b"where " + condition)
+        elif word in OPENS:
+            still_open.pop()
+        elif word == b"$" or word == b"@" and b"[" not in still_open:
+            parts += [condition[end:token.start()], root if word == b"$" else line]
+            end = token.end()
+    return b"$[?(" + b"".join(parts) + condition[end:] + b")]"
 
 
 class Rows:
@@ -431,9 +529,11 @@ class Rows:
     refused: List[Refused]
     count: Optional[int]
 
-    def __init__(self, log):
+    def __init__(self, log: "Log", where: Optional[_Where] = None) -> None:
         self.refused, self.count = [], None
-        self._log, self._kept, self._end = log, collections.deque(), None
+        self._log, self._where, self._passed = log, where, 0
+        self._kept: Deque[bytes] = collections.deque()
+        self._end: Optional[bytes] = None
 
     def __iter__(self) -> Iterator[Row]:
         return self
@@ -441,25 +541,27 @@ class Rows:
     def __next__(self) -> Row:
         while True:
             with self._log._lock:
-                row = self._next()
-            if row is None:
+                found = self._next()
+            if found is None:
+                self.count = self._passed
                 raise StopIteration
-            number, _, rest = row.lstrip(SEPARATOR).partition(b"\t")
+            number, _, rest = found.lstrip(SEPARATOR).partition(b"\t")
             path, tab, value = rest.partition(b"\t")
-            if tab:
-                return Row(int(number), path.decode(), value)
-            self.refused.append(Refused(int(number), path[1:].decode()))
+            if not tab:
+                self.refused.append(Refused(int(number), path[1:].decode()))
+                continue
+            row = Row(int(number), path.decode(), value)
+            if self._where is None or self._where.has(row):
+                self._passed += 1
+                return row
 
-    def _next(self):
+    def _next(self) -> Optional[bytes]:
         """The bytes of the next row, or None."""
         if not self._kept and self._end is None:
             self._read()
-        if self._kept:
-            return self._kept.popleft()
-        self.count = int(self._end[2:].split()[0])
-        return None
+        return self._kept.popleft() if self._kept else None
 
-    def _read(self):
+    def _read(self) -> None:
         """Reads one more row, or the end of the answer."""
         row = self._log._row()
         if ENDS.match(row):
@@ -467,21 +569,25 @@ class Rows:
         else:
             self._kept.append(row)
 
-    def _finish(self):
+    def _finish(self) -> None:
         while self._end is None:
             self._read()
 
 
 class Log:
-    """An open file: see the calls. Each raises the Refusal of its kind where jpq answers `error:`, and Ended where jpq ended.
-    """
+    """An open file. Each call raises the Refusal of its kind if jpq answers `error:`, and Ended if jpq ended."""
 
     def __init__(self, file: File, *, seq: bool = False, program: Optional[str] = None, library: Optional[str] = None) -> None:
         self._lock = threading.RLock()
-        self._ahead, self._asked, self._is_open, self._is_closed = None, None, False, False
+        self._ahead: Optional[bytes] = None
+        self._asked: Optional["weakref.ref[Rows]"] = None
+        self._is_open = self._is_closed = False
+        self._named, self._beside = (program, library), cast(Optional["Log"], None)
         self._engine = _engine(file, seq, program, library)
         try:
             self.indexes()  # answered when the file is loaded
+        except Ended as ended:
+            raise self._engine.unloaded(ended) from None
         except BaseException:
             self._engine.end()
             raise
@@ -501,20 +607,26 @@ class Log:
         with self._lock:
             if not self._is_closed:
                 self._is_closed = True
+                if self._beside is not None:
+                    self._beside.close()
                 is_read = not self._is_open  # where it is not, jpq is hung up on, and its status is of that
                 ended = self._engine.end()
                 if ended.status and is_read:
                     raise ended
 
-    def query(self, query: Text) -> Rows:
-        """The values that the query selects, as Rows."""
-        return self._rows("query", _query(query))
+    def query(self, query: Text, *, where: Text = "") -> Rows:
+        """The values that the query selects, as Rows: with `where` only those of the lines of which this condition holds, as
+        with `jpgrep -w`. In it `@` and `$` are the value of the line. It is asked first, as a query, and indexes serve it."""
+        condition = _query(where)
+        with self._lock:
+            return self._rows("query", _query(query), _Where(self, condition) if condition else None)
 
     def check(self) -> Check:
         """How many lines there are, how many refused and how many blank, and each refused one in `faults`."""
         rows = self._rows("check", None)
         for _ in rows:
             pass
+        assert rows._end is not None
         lines, refused, blank = map(int, re.findall(rb"\d+", rows._end))
         return Check(lines, refused, blank, tuple(rows.refused))
 
@@ -531,7 +643,7 @@ class Log:
         return self._lines("indexes", None)[0]
 
     def explain(self, query: Text) -> Plan:
-        """How the query would be answered: the steps, how many lines it opens, and of how many."""
+        """How the query would be answered: the steps, how many lines it opens, and how many there are."""
         steps, end = self._lines("explain", _query(query))
         opened, lines = map(int, re.findall(rb"\d+", end))
         return Plan(steps, opened, lines)
@@ -552,16 +664,16 @@ class Log:
         """Where each value that the query selects in a line stands in it, in the query's order."""
         query = _bytes(query)
         rows = self._kept("marks", query, "jpq_marks", _number(number), query, len(query))
-        return [Mark(int(start), int(end), path.decode()) for start, end, path in (row.split(b"\t", 2) for row in rows.splitlines())]
+        parts = (row.split(b"\t", 2) for row in rows.splitlines())
+        return [Mark(int(start), int(end), path.decode()) for start, end, path in parts]
 
-    def filter(self, text: Union[bytes, bytearray, memoryview, mmap.mmap], *queries: Text, where: Text = "", show: str = "values",
-               numbered: bool = False) -> bytes:
-        """The rows of the lines of a text that answer a condition and queries, as jpgrep writes them; the open file stays as it is.
+    def filter(self, text: Buffer, *queries: Text, where: Text = "", show: str = "values", numbered: bool = False) -> bytes:
+        """The rows of the lines of a text that answer a condition and queries, as jpgrep writes them, whatever file is open.
 
-        A line answers where the condition `where` holds of it, if there is one, and a query selects a value of it; without a query
-        each line does. `show` is what a row has: "lines", "values", "paths" (each value behind its path), "text" (strings as their
-        characters), "canonical lines", "canonical values", "canonical paths", or "nothing"; or "csv" and "tsv" for tables, in which
-        each query is a column and a line needs no value. `numbered` puts the number of the line in front."""
+        A line answers if the condition `where`, if there is one, holds for it, and a query selects a value of it; without a
+        query each line does. `show` is what a row has: "lines", "values", "paths" (each value after its path), "text" (strings
+        as their characters), "canonical lines", "canonical values", "canonical paths", or "nothing"; or "csv" and "tsv" for
+        tables, in which each query is a column and a line needs no value. `numbered` puts the line number before each row."""
         if show not in SHOWN:
             raise ValueError(f"there is nothing to show that is called {show!r}")
         engine, asked = self._library(), [_bytes(query).replace(b"\n", b"\r") for query in queries]
@@ -569,11 +681,10 @@ class Log:
             self._put_aside()
             status, rows = engine.filtered(text, _bytes(where), b"\n".join(asked), SHOWN[show], bool(numbered))
         if status == 3:
-            for command, is_condition in [(_bytes(where), True)] * bool(where) + [(query, False) for query in asked if query]:
-                found = engine.fault(command, is_condition)
-                if found:
-                    raise QueryRefusal(f"{'condition' if is_condition else 'query'} {found.fault}",
-                                       (b"where " if is_condition else b"query ") + command)
+            for command in [b"where " + _bytes(where)] * bool(where) + [b"query " + query for query in asked if query]:
+                refusal = self._refusal("", command)
+                if refusal.found:
+                    raise refusal
             raise QueryRefusal("query column", b"query " + b" ".join(asked))
         if status == 5:
             raise Error("the text begins as data of another format do, as compressed ones")
@@ -587,7 +698,27 @@ class Log:
         with self._lock:
             return engine.fault(_bytes(text), condition)
 
-    def _library(self):
+    def _selects(self, query: bytes, value: bytes) -> bool:
+        """Whether a query selects anything in the array of a value, which has no children."""
+        with self._lock:
+            if self._is_closed:
+                raise ValueError("the log is closed")
+            if self._beside is None:
+                self._beside = Log(b"0", program=self._named[0], library=self._named[1])
+            self._beside.replace(1, b"[" + value.replace(b"\n", b"") + b"]")
+            return any(True for _ in self._beside.query(query))
+
+    def _refusal(self, fault: str, command: bytes) -> QueryRefusal:
+        """A refused query or condition. Where the library answers it has the fault's place, and its name if none is given."""
+        word, _, text = command.partition(b" ")
+        refusal = QueryRefusal(fault, command)
+        if isinstance(self._engine, _Library):
+            refusal.found = self._engine.fault(text, word == b"where")
+        if refusal.found and not fault:
+            return self._refusal(f"{'condition' if word == b'where' else 'query'} {refusal.found.fault}", command)
+        return refusal
+
+    def _library(self) -> _Library:
         """What answers, where that is the library."""
         if self._is_closed:
             raise ValueError("the log is closed")
@@ -595,33 +726,32 @@ class Log:
             raise Error("this call needs the library libjpq.so.0")
         return self._engine
 
-    def _put_aside(self):
+    def _put_aside(self) -> None:
         """Reads what is left of the answer before, as another takes its place."""
         self._settle()
         self._ahead, self._is_open = None, False
 
-    def _kept(self, command, query, call, *given):
+    def _kept(self, command: str, query: bytes, call: str, *given: Any) -> bytes:
         """What a call keeps to be read."""
         engine = self._library()
         with self._lock:
             self._put_aside()
             status, rows = engine.kept(call, *given)
             if status == 3:
-                found = engine.fault(query, False)
-                raise QueryRefusal(f"query {found.fault}" if found else "query", b"query " + query)
+                raise self._refusal("", b"query " + query)
         if status:
-            refused, fault = (LineRefusal, "line") if status == 4 else (MemoryRefusal, "memory")
-            raise refused(fault, f"{command} {given[0]}".encode())
+            asked = f"{command} {given[0]}".encode()
+            raise LineRefusal("line", asked) if status == 4 else MemoryRefusal("memory", asked)
         return rows
 
-    # At most one answer is on its way, and it is read to its end before the next command is asked: so the program never waits for
-    # its answer to be read while it is waited for to read.
+    # At most one answer is on its way, and it is read to its end before the next command is asked: otherwise the program could
+    # wait for its answer to be read while this waits for it to read.
 
-    def _ask(self, word, text):
+    def _ask(self, word: str, text: Optional[Text]) -> bytes:
         """Asks a command, and returns the first row of its answer, which may be its end."""
         command = word.encode()
         if text is not None:
-            command += b" " + (text.encode() if isinstance(text, str) else bytes(text))
+            command += b" " + _bytes(text)
         if b"\n" in command:
             raise ValueError("a command of jpq is one line, and this one has a line feed")
         if self._is_closed:
@@ -633,12 +763,13 @@ class Log:
         row = self._row()
         if row.startswith(b"error: "):
             fault = row[7:].decode()
-            raise REFUSALS.get(fault.split()[0], Refusal)(fault, command)
+            kind = REFUSALS.get(fault.split()[0], Refusal)
+            raise self._refusal(fault, command) if kind is QueryRefusal else kind(fault, command)
         return row
 
-    def _settle(self):
+    def _settle(self) -> None:
         """Reads what is left of the answer before: for its Rows, if somebody still holds them."""
-        rows, self._asked = self._asked and self._asked(), None
+        rows, self._asked = self._asked() if self._asked else None, None
         if rows is not None:
             rows._finish()
         if self._is_open:
@@ -646,10 +777,10 @@ class Log:
                 self._engine.skip()
             self._is_open = False
 
-    def _rows(self, word, text):
+    def _rows(self, word: str, text: Optional[Text], where: Optional[_Where] = None) -> Rows:
         with self._lock:
             first = self._ask(word, text)
-            rows = Rows(self)
+            rows = Rows(self, where)
             if ENDS.match(first):
                 rows._end = first
             else:
@@ -657,7 +788,7 @@ class Log:
                 self._asked = weakref.ref(rows)
             return rows
 
-    def _lines(self, word, text):
+    def _lines(self, word: str, text: Optional[Text]) -> Tuple[Tuple[str, ...], bytes]:
         """The lines of an answer but its end, as text, and its end."""
         with self._lock:
             lines = [self._ask(word, text)]
@@ -665,12 +796,12 @@ class Log:
                 lines.append(self._row())
             return tuple(line.decode() for line in lines[:-1]), lines[-1]
 
-    def _one(self, word, text):
+    def _one(self, word: str, text: Optional[Text]) -> bytes:
         """The one line of an answer."""
         with self._lock:
             return self._ask(word, text)
 
-    def _row(self):
+    def _row(self) -> bytes:
         """The next row, or the line that ends the answer, without its line feed."""
         row, self._ahead = self._ahead or self._line(), None
         if row.startswith(SEPARATOR):
@@ -681,21 +812,21 @@ class Log:
         self._is_open = not ENDS.match(row)
         return row
 
-    def _line(self):
+    def _line(self) -> bytes:
         if self._is_closed:
             raise ValueError("the log is closed")
         return self._engine.line()[:-1]
 
 
-def _query(text):
+def _query(text: Text) -> bytes:
     """A query as one line: a carriage return is white space in it just as a line feed is."""
-    return text.replace("\n", "\r") if isinstance(text, str) else bytes(text).replace(b"\n", b"\r")
+    return _bytes(text).replace(b"\n", b"\r")
 
 
-def _bytes(text):
+def _bytes(text: Text) -> bytes:
     return text.encode() if isinstance(text, str) else bytes(text)
 
 
-def _number(number):
-    """The number of a line as the library takes it: where it is none of a line, a number that no line has."""
+def _number(number: int) -> int:
+    """The number of a line as the library takes it, or 0, which no line has, if it cannot be one."""
     return number if 0 <= number < 1 << 64 else 0

@@ -1,4 +1,4 @@
-"""Asks the programs what the model is asked, and tells whether they answer alike."""
+"""Asks the programs what the model is asked, and says whether they answer alike."""
 
 import ctypes
 import os
@@ -40,7 +40,7 @@ class Library:
     """libjpq, asked by one call a script (`c/jpq.h`)."""
 
     def __init__(self, name):
-        self.calls = ctypes.CDLL(name)
+        self.calls = ctypes.CDLL(os.path.join(name, "lib", "libjpq.so.0") if os.path.isdir(name) else name)
         self.calls.jpq_read.restype = ctypes.c_size_t
 
     def run(self, case):

@@ -123,7 +123,7 @@ def length(value):
 
 
 def places(bounds, count):
-    """The places of a slice in an array of so many elements (RFC 9535, section 2.3.4.2)."""
+    """The places of a slice in an array of `count` elements (RFC 9535, section 2.3.4.2)."""
     first, last, step = bounds
     step = 1 if step is None else step
 

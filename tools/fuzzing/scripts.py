@@ -114,7 +114,7 @@ class Collection:
         return b"".join(self.answered(command.removesuffix(b"\r")) for command in commands if command.removesuffix(b"\r"))
 
     def filtered(self, conditions, each, query, shown, is_inverted=False, most=2 ** 64 - 1):
-        """What jpgrep writes of the lines, or of the nodes of a query in them, of which each condition holds and the query selects a
+        """What jpgrep writes of the lines, or of the nodes of a query in them, for which each condition holds and the query selects a
         node: whole lines, values, these with their paths, or how many there are."""
         rows, count = [], 0
         for n, (line, root) in enumerate(self.lines, 1):

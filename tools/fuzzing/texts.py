@@ -77,7 +77,7 @@ class Reader:
             self.at += 1
 
     def take(self, byte):
-        """Whether the next byte behind white space is this one, which is passed then."""
+        """Whether the next byte after white space is this one, which is passed then."""
         self.white()
         is_next = self.text[self.at:self.at + 1] == byte
         self.at += is_next
