@@ -1,31 +1,42 @@
 #!/usr/bin/python3
-"""Runs one script over blocks of files on a Dask cluster, and writes what one run over all of them would write.
+"""Runs a script of jpq over blocks of files on a Dask cluster, or jpgrep over blocks of one file, and writes what one run
+over all of them would write.
 
     dask-scheduler --scheduler-file cluster.json &                  # somewhere
     dask-worker --scheduler-file cluster.json --nthreads 1 &        # one for each processor, on each machine
     shards_dask.py cluster.json SCRIPT FILE..
+    shards_dask.py cluster.json --jpgrep FILE [OPTION].. [QUERY]
 
 The scheduler's address will do instead of cluster.json. The files are taken in their order, as one; each but the last ends
 with a line feed (with --seq each begins with the byte 1E). Every worker has to be able to open them by the same name, and to
-find jpq on its path. A file that ends in .gz is one block. The script may have all eight commands.
+find jpq or jpgrep on its path. A file that ends in .gz is one block. The script may have all eight commands.
 
-A block is cut at line feeds alone (with --seq in front of 1E), and a task pipes it to jpq on a worker. The answers stay on
+jpgrep may have the options that ask each line by itself: -e, -w, --each, -v, -o, -p, -c, -r, -j, -n, -s, -h, --csv and --tsv
+with --header and --names, and --refused, in their long forms too. The options of this program stand before --jpgrep.
+
+A block is cut at line feeds alone (with --seq before 1E), and a task pipes it to the program on a worker. The answers stay on
 the workers. At first only the number of texts of each block and the ends of its answers come here; then, command by command
-and block by block, the rows, with the number of texts in front added to theirs. If a worker is lost, Dask runs its blocks
-again on the others; if all are, it waits for one to come. With edits in the script each block is read twice, as its texts are
-counted first.
+and block by block, the rows, with the number of texts before the block added to theirs. If a worker is lost, Dask runs its
+blocks again on the others; if all are, it waits for one to come. With edits in the script each block is read twice, as its
+texts are counted first. jpgrep reads each block twice too: a blank line stands for each line before it, so that its rows and
+messages have the right numbers.
 
-Status 0: what was written is what one run would write. 2: the arguments or the files are wrong. 1: a block was not answered,
-or ran out of memory for a command (`error: memory`); then nothing was written, unless a worker was lost late. 15: the answers
-cannot be written; if `head` has read enough it is 141, and nothing is said. One thing differs from one run: the limit of 4 GiB
-is that of a block.
+Status of jpq: 0: what was written is what one run would write. 2: the arguments or the files are wrong. 1: a block was not
+answered, or ran out of memory for a command (`error: memory`); then nothing was written, unless a worker was lost late. 15:
+the answers cannot be written; if `head` has read enough it is 141, and nothing is said. One thing differs from one run: the
+limit of 4 GiB is that of a block.
+
+Status of jpgrep: as that of one run, which is 2 if it is 2 for a block, else 0 if it is 0 for a block, else 1. 3: a block was
+not answered; then nothing was written, unless a worker was lost late.
 """
 
 import argparse
 import collections
 import contextlib
+import getopt
 import gzip
 import itertools
+import logging
 import os
 import re
 import subprocess
@@ -43,9 +54,25 @@ SEQUENCE_ROW = re.compile(rb"^\x1e([0-9]+)", re.M)
 REPLACE = re.compile(rb"replace ([1-9][0-9]{0,9}) (.*)", re.S)
 
 # A block is the bytes of a file from `start` to `end`, or all that a packed file holds where `end` is None. `is_first` says
-# that no text stands before it, `is_last` that none stands behind.
+# that there is no text before it, `is_last` that there is none after it.
 Block = collections.namedtuple("Block", "path start end is_first is_last is_seq")
 Answer = collections.namedtuple("Answer", "rows end")
+# What jpgrep answers of a block: its exit status, its rows, and its messages.
+Found = collections.namedtuple("Found", "status rows said")
+
+# The options that jpgrep may have over blocks. An option with a value is followed by a colon or `=`, as getopt wants it.
+SHORT = "e:w:vopcrjnsh"
+LONG = """query= where= each= invert-match refused only-matching path count raw canonical tsv csv header names=
+    line-number no-messages no-filename""".split()
+VALUED = {"-e": "--query", "-w": "--where", "--query": "--query", "--where": "--where", "--each": "--each"}
+
+# The messages of jpgrep on standard input: on a refused line, on how many more there are, and on a text over several lines. A
+# note stands at the end where no line was selected.
+START = b"jpgrep: (standard input):"
+REFUSED = re.compile(rb"[0-9]+: [a-z0-9]+\n")
+MORE = re.compile(rb" ([0-9]+) more lines? (?:is|are) refused; ")
+GOES_ON = b" a JSON text goes on"
+NOTE = re.compile(rb"^jpgrep: note: ", re.M)
 
 
 class Unfit(Exception):
@@ -69,11 +96,11 @@ def cut_behind(file, at, length, is_seq):
     return length
 
 
-def spans_of(path, size, is_seq):
+def spans_of(path, size, is_seq, unpacks):
     """The blocks of a file, as places where they start and end; none of a file that is empty."""
     if not os.path.isfile(path):
         raise Unfit(f"no file: {path}")
-    is_packed, start = path.endswith(".gz"), 0
+    is_packed, start = unpacks and path.endswith(".gz"), 0
     with (gzip.open if is_packed else open)(path, "rb") as file:
         if not file.read(1):
             return
@@ -87,8 +114,8 @@ def spans_of(path, size, is_seq):
             start = end
 
 
-def blocks_of(paths, size, is_seq):
-    spans = [(path, *span) for path in paths for span in spans_of(path, size, is_seq)] or [(os.devnull, 0, 0)]
+def blocks_of(paths, size, is_seq=False, unpacks=True):
+    spans = [(path, *span) for path in paths for span in spans_of(path, size, is_seq, unpacks)] or [(os.devnull, 0, 0)]
     last = len(spans) - 1
     blocks = [Block(*span, number == 0, number == last, is_seq) for number, span in enumerate(spans)]
     for block in blocks:
@@ -175,7 +202,7 @@ def ends_of(answered):
 
 
 def rows_of(answered, number, before, is_seq):
-    """The rows of one command, their numbers moved by the texts in front."""
+    """The rows of one command, with the number of texts before the block added to theirs."""
     rows = answered[1][number].rows
     if before == 0:
         return rows
@@ -184,7 +211,7 @@ def rows_of(answered, number, before, is_seq):
     return ROW.sub(lambda found: b"%d" % (int(found[0]) + before), rows)
 
 
-# What runs here, behind.
+# What runs here, afterwards.
 
 
 def is_empty(command):
@@ -280,6 +307,142 @@ def told_apart():
         raise Unwritten from fault
 
 
+# jpgrep: what runs on the workers.
+
+
+def lines_of(block):
+    """How many line feeds a block has, and whether it has a line that is not blank."""
+    count, has_text = 0, False
+    front = MARK if block.is_first else b""
+    for piece in pieces_of(block):
+        count += piece.count(b"\n")
+        has_text = has_text or piece[len(front) if piece.startswith(front) else 0 :].strip(b" \t\r\n") != b""
+        front = b""
+    return count, has_text
+
+
+def found_in(block, before, arguments, program):
+    """What jpgrep answers about a block with `before` lines before it."""
+    with tempfile.TemporaryFile() as out, tempfile.TemporaryFile() as said:
+        process = subprocess.Popen([program, *arguments], stdin=subprocess.PIPE, stdout=out, stderr=said)
+        try:
+            with contextlib.suppress(BrokenPipeError), process.stdin as pipe:
+                for start in range(0, before, 1 << 20):
+                    pipe.write(b"\n" * min(before - start, 1 << 20))
+                for piece in pieces_of(block):
+                    pipe.write(piece)
+        except BaseException:
+            process.kill()
+            raise
+        finally:
+            status = process.wait()
+        out.seek(0)
+        said.seek(0)
+        if status not in (0, 1, 2):
+            message = said.read().decode(errors="replace").strip()
+            raise RuntimeError(f"{block.path} from byte {block.start}: status {status}: {message}")
+        return Found(status, out.read(), said.read())
+
+
+def rows_found(found):
+    return found.rows
+
+
+def told_of(found, is_counted):
+    """What is wanted here of what was found: all but the rows, unless they are a count."""
+    return found._replace(rows=found.rows if is_counted else b"")
+
+
+# jpgrep: what runs here.
+
+
+def others_of(arguments):
+    """The arguments of jpgrep for blocks but the first, which print no header, and whether lines are counted."""
+    try:
+        options, queries = getopt.gnu_getopt(arguments, SHORT, LONG)
+    except getopt.GetoptError as fault:
+        raise Unfit(f"not for jpgrep over blocks: {fault}") from None
+    names = {name for name, _ in options}
+    if len(queries) > (not names & {*VALUED, "--refused"}):
+        raise Unfit("jpgrep over blocks takes one file")
+    rest = [option for option in options if option[0] not in ("--header", "--names")]
+    others = [f"{VALUED[name]}={value}" if name in VALUED else name for name, value in rest]
+    return [*others, "--", *queries], bool(names & {"-c", "--count"})
+
+
+def messages_of(name, early, note, blocks):
+    """What one run says: from what it says early, the note, and for each block its messages and whether there is a line before
+    it that is not blank."""
+    yield early
+    refused, goes_on, is_noted = 0, b"", bool(note)
+    start = b"jpgrep: " + os.fsencode(name) + b":"
+    for said, has_text_before in blocks:
+        said = said[len(early) :]
+        is_noted = is_noted and said.endswith(note)
+        for line in (said[: -len(note)] if note and said.endswith(note) else said).splitlines(keepends=True):
+            text = line[len(START) :] if line.startswith(START) else None
+            if text is None:
+                yield line
+            elif more := MORE.match(text):
+                refused += int(more[1])
+            elif text.startswith(GOES_ON):
+                goes_on = goes_on or (b"" if has_text_before else start + text)
+            elif not REFUSED.fullmatch(text):
+                yield start + text
+            else:
+                refused += 1
+                if refused <= 10:
+                    yield start + text
+    if refused > 10:
+        lines = b"line is" if refused == 11 else b"lines are"
+        yield start + b" %d more %s refused; --refused lists them\n" % (refused - 10, lines)
+    yield goes_on
+    yield note if is_noted else b""
+
+
+def run_alone(arguments, program, given=subprocess.DEVNULL):
+    """What jpgrep answers here, of nothing or of a file."""
+    done = subprocess.run([program, *arguments], stdin=given, capture_output=True)
+    return Found(done.returncode, done.stdout, done.stderr)
+
+
+def is_other_format(file, program):
+    """Whether a file is data of another format, as compressed data are: some first bytes are enough to see it."""
+    with open(file, "rb") as opened, tempfile.TemporaryFile() as front:
+        front.write(opened.read(16))
+        front.seek(0)
+        return run_alone(["-q", "--refused"], program, front).status == 2
+
+
+def search_all(client, name, arguments, blocks, program, out):
+    """Runs jpgrep over the blocks of a file, and returns its exit status and its messages."""
+    others, is_counted = others_of(arguments)
+    early = run_alone(arguments, program)
+    if early.status == 2:
+        return 2, early.said
+    if is_other_format(name, program):
+        whole = run_alone([*arguments, os.path.join(".", name) if name.startswith("-") else name], program)
+        write_all([whole.rows], out)
+        return whole.status, whole.said
+    lines = client.gather([client.submit(lines_of, block, retries=2, pure=False) for block in blocks])
+    before = [0, *itertools.accumulate(count for count, _ in lines[:-1])]
+    had_text = [False, *itertools.accumulate((has_text for _, has_text in lines[:-1]), bool.__or__)]
+    found = [
+        client.submit(found_in, block, front, arguments if block.is_first else others, program, retries=2, pure=False)
+        for block, front in zip(blocks, before)
+    ]
+    told = client.gather([client.submit(told_of, each, is_counted, pure=False) for each in found])
+    if is_counted:
+        write_all([b"%d\n" % sum(int(each.rows) for each in told)], out)
+    else:
+        write_all((client.submit(rows_found, each, pure=False) for each in found), out)
+    note = NOTE.search(early.said)
+    at = note.start() if note else len(early.said)
+    messages = messages_of(name, early.said[:at], early.said[at:], zip((each.said for each in told), had_text))
+    statuses = {each.status for each in told}
+    return 2 if 2 in statuses else min(statuses), b"".join(messages)
+
+
 def run_all(client, commands, blocks, program, out):
     scripts = [commands] * len(blocks)
     if any(map(is_edit, commands)):
@@ -290,38 +453,70 @@ def run_all(client, commands, blocks, program, out):
     ]
     told = client.gather(client.map(ends_of, answered, pure=False))
     write_all(parts_of(client, commands, answered, told, blocks[0].is_seq), out)
+    return 0, b""
+
+
+def read_arguments(given):
+    """The arguments; `search` has those after --jpgrep: the file and what jpgrep is given."""
+    at = given.index("--jpgrep") if "--jpgrep" in given else None
+    is_search = at is not None
+    parser = argparse.ArgumentParser(
+        description="Runs a script of jpq, or jpgrep, over blocks of files on a Dask cluster.",
+        usage="""%(prog)s [OPTION].. SCHEDULER SCRIPT FILE..
+       %(prog)s [OPTION].. SCHEDULER --jpgrep FILE [OPTION].. [QUERY]""",
+    )
+    parser.add_argument("scheduler", help="the file that the scheduler wrote, or its address")
+    if not is_search:
+        parser.add_argument("script", help="the file of commands")
+        parser.add_argument("files", metavar="file", nargs="+", help="the collection, in one file or in many")
+        parser.add_argument("--seq", action="store_true", help="the files are JSON text sequences")
+    parser.add_argument("--block", type=int, default=64_000_000, metavar="BYTES", help="how large a block is, at least")
+    program = "jpgrep" if is_search else "jpq"
+    parser.add_argument("--program", default=program, help=f"{program}, as it is called here and on the workers")
+    read = parser.parse_args(given[:at])
+    read.search = given[at + 1 :] if is_search else []
+    if is_search and not read.search:
+        parser.error("--jpgrep takes a file")
+    return read
+
+
+def job_of(read):
+    """What the arguments ask for: a call that takes the client and the output, and returns the exit status and the messages."""
+    size = max(read.block, 1)
+    if read.search:
+        name, *arguments = read.search
+        others_of(arguments)
+        blocks = blocks_of([os.path.abspath(name)], size, unpacks=False)
+        return lambda client, out: search_all(client, name, arguments, blocks, read.program, out)
+    commands = commands_of(read.script)
+    blocks = blocks_of([os.path.abspath(file) for file in read.files], size, read.seq)
+    return lambda client, out: run_all(client, commands, blocks, read.program, out)
 
 
 def main():
-    words = argparse.ArgumentParser(description="Runs one jpq script over blocks of files on a Dask cluster.")
-    words.add_argument("scheduler", help="the file that the scheduler wrote, or its address")
-    words.add_argument("script", help="the file of commands")
-    words.add_argument("files", metavar="file", nargs="+", help="the collection, in one file or in many")
-    words.add_argument("--seq", action="store_true", help="the files are JSON text sequences")
-    words.add_argument("--block", type=int, default=64_000_000, metavar="BYTES", help="how large a block is, at least")
-    words.add_argument("--program", default="jpq", help="jpq, as it is called on the workers")
-    words = words.parse_args()
+    logging.getLogger("asyncio").setLevel(logging.CRITICAL)  # what it tells of connections that end is Dask's own affair
+    read = read_arguments(sys.argv[1:])
     try:
-        commands = commands_of(words.script)
-        blocks = blocks_of([os.path.abspath(file) for file in words.files], max(words.block, 1), words.seq)
+        job = job_of(read)
     except (OSError, Unfit) as fault:
         print(f"shards_dask.py: {fault}", file=sys.stderr)
         return 2
-    where = {"scheduler_file" if os.path.isfile(words.scheduler) else "address": words.scheduler}
+    where = {"scheduler_file" if os.path.isfile(read.scheduler) else "address": read.scheduler}
     try:
         with Client(**where, direct_to_workers=True) as client:
-            run_all(client, commands, blocks, words.program, sys.stdout.buffer)
+            status, said = job(client, sys.stdout.buffer)
     except Unwritten as unwritten:
         # what is left in the buffer goes nowhere, else it would be tried again at the end
         os.dup2(os.open(os.devnull, os.O_WRONLY), sys.stdout.fileno())
         if isinstance(unwritten.__cause__, BrokenPipeError):
-            return 141
+            return 2 if read.search else 141
         print(f"shards_dask.py: cannot write: {unwritten.__cause__.strerror}", file=sys.stderr)
-        return 15
+        return 2 if read.search else 15
     except Exception as fault:
         print(f"shards_dask.py: {type(fault).__name__}: {fault}", file=sys.stderr)
-        return 1
-    return 0
+        return 3 if read.search else 1
+    sys.stderr.buffer.write(said)
+    return status
 
 
 if __name__ == "__main__":
