@@ -162,7 +162,7 @@ def own_messages(room):
 
 
 def failed_reads(room):
-    """A read that fails behind eleven refused lines, and within a text, of which nothing is told: that of a terminal whose other side
+    """A read that fails after eleven refused lines, and within a text, of which nothing is told: that of a terminal whose other side
     was closed."""
     told = b"".join(b"jpgrep: (standard input):%d: grammar\n" % number for number in range(1, 11))
     told += b"jpgrep: (standard input): 1 more line is refused; --refused lists them\n"
@@ -237,7 +237,7 @@ TEXTS = ((b' \x1e{"a":1}\n', b"", b""), (b"\x1e", b'\x1e1:{"a":1}\n', b""), (b"1
          (b'{"a":2}', b"", b""), (b"\x1e", b'\x1e3:{"a":2}\n', b""))
 
 
-# A text in brackets or quotes ends with its last byte, a number or word with the byte behind it, an element with its comma or with the
+# A text in brackets or quotes ends with its last byte, a number or word with the byte after it, an element with its comma or with the
 # bracket of its array.
 JSON = ((b"\xef\xbb", b"", b""), (b'\xbf{"a":[', b"", b""), (b"\n1]}", b'1:{"a":[1]}\n', b""), (b'"x', b"", b""), (b'"', b'2:"x"\n', b""),
         (b"12", b"", b""), (b" ", b"3:12\n", b""), (b"true[", b"4:true\n", b""), (b"]1]", b"5:[]\n", b""),
@@ -265,7 +265,7 @@ def each_cut(room):
     for word, rows, refused in cases:
         told = b"".join(b"jpgrep: (standard input):%d: %s, from line 3\n" % fault for fault in refused)
         for cut in range(len(text) + 1):
-            check(f"{word}, cut behind {cut} bytes", in_two_reads([word, "-n", "$"], text, cut, room), (rows, told))
+            check(f"{word}, cut after {cut} bytes", in_two_reads([word, "-n", "$"], text, cut, room), (rows, told))
 
 
 def long_pieces(room):

@@ -1,8 +1,8 @@
-"""Runs jpgrep with each growth refused in turn, and tells whether every run ended as stated.
+"""Runs jpgrep with each growth refused in turn, and says whether every run ended as stated.
 
     jpgrep_growths.py PROGRAM FOLDER LIBRARY
 
-FOLDER is for files. LIBRARY is `refuse.c` as it was built; where it is empty no growth can be refused, and nothing is tried.
+FOLDER is for files. LIBRARY is `refuse.c` as it was built; if it is empty, no growth can be refused, and nothing is tried.
 
 A run in which a growth was refused ends in one of three ways. It has no need of the growth, and is as without the refusal. Or it
 begins no search: then it ends with status 2, says `jpgrep: out of memory` last, and writes and says a beginning of what it writes and

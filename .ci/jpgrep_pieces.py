@@ -14,7 +14,7 @@ def past_white(text, at):
 
 
 def deeper(token):
-    """How many more brackets are open behind a token."""
+    """How many more brackets are open after a token."""
     return (token in (b"[", b"{")) - (token in (b"]", b"}"))
 
 

@@ -1,9 +1,9 @@
-"""Runs the programs on hostile texts and at their limits, and tells whether each run ended as stated.
+"""Runs the programs on hostile texts and at their limits, and says whether each run ended as stated.
 
     limits.py JPQ JPGREP FOLDER
 
 FOLDER is for files. Every run has the usual stack of 8 MB, and a time within which it has to end: what costs the square of its
-input does not. What needs more memory than the machine has free is left out, and told.
+input does not. What needs more memory than the machine has free is left out, with a message.
 """
 import os
 import resource
@@ -134,7 +134,7 @@ def texts_cut_short(checks):
 
 
 def texts_of_backslashes(checks):
-    """A quote behind an even number of backslashes ends its string, wherever the blocks of 64 bytes are cut."""
+    """A quote after an even number of backslashes ends its string, wherever the blocks of 64 bytes are cut."""
     lines, refused = [], []
     for last_quote in range(62, 67):
         for backslashes in range(0, 61):
@@ -217,7 +217,7 @@ def edits_of_many_lines(checks):
 
 
 def texts_of_numbers(checks):
-    """Numbers are exact, whatever their digits; an exponent has at most 15 digits behind its leading zeros."""
+    """Numbers are exact, whatever their digits; an exponent has at most 15 digits after its leading zeros."""
     digits = "1" + "0" * MILLION
     checks.check("a number of a million digits", answered(f"[{digits}]\n", f"query $[?@==1e{MILLION}]\nquery $[?@<1e{MILLION}]\n"), (0, rows([(1, "$[0]")], digits) + "= 0\n"))
     lines = [f"[1e{'9' * 15}]", f"[1e{'0' * 99}{'9' * 15}]", f"[1e{'9' * 16}]", "[0e-" + "1" * 16 + "]"]
@@ -425,7 +425,7 @@ def lines_beyond_memory(checks):
 
 
 def lines_of_megabytes(checks):
-    """A line of many bytes is a line, however it is cut into reads, and the lines behind it are answered."""
+    """A line of many bytes is a line, however it is cut into reads, and the lines after it are answered."""
     text = "x" * 5 * MILLION
     lines = file_of("lines", f'{{"a":1}}\n{{"a":"{text}"}}\n{{"a":3}}\n')
     for words, written in ((["-c", "$"], "3\n"), (["-on", "$.a"], f'1:1\n2:"{text}"\n3:3\n'), (["--json", "-c", "$"], "3\n")):
@@ -597,7 +597,7 @@ def available_memory():
 
 
 def sizes(checks):
-    """A collection and a script of at most 2^32 - 1 bytes. Behind their first line the
+    """A collection and a script of at most 2^32 - 1 bytes. After their first line the
     files are one of zeros, with no block on the disk."""
     if available_memory() < 14 * 2**30:
         print("left out: a collection and a script of 2^32 bytes, as less than 14 GiB of memory are free")

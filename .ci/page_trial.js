@@ -102,7 +102,7 @@ const trial = {
     const hasName = it => it.textContent.trim() || it.ariaLabel || it.labels?.length || it.getAttribute('aria-labelledby');
     done([...document.querySelectorAll('button, input, select, textarea')].filter(it => !hasName(it)).map(it => it.id));
   },
-  // Tries in all ways to reach a server, and tells by which it did.
+  // Tries in all ways to reach a server, and says which way did.
   reached(url, done) {
     const got = [], add = (tag, given) => document.body.appendChild(make(tag, given));
     const fetched = fetch(url).then(() => got.push('fetch'), () => 0);

@@ -1,6 +1,6 @@
 /* Preloaded before a built program, refuses one of its growths: of all its calls of malloc, calloc and realloc, counted
-   together, the one whose number is REFUSE, and none where that is 0; with NEXT also the one behind it. On the descriptor
-   TOLD it writes `refused` at that call, `asked again` where the call behind it asks for the same memory or less of it, and
+   together, the one whose number is REFUSE, and none where that is 0; with NEXT also the one after it. On the descriptor
+   TOLD it writes `refused` at that call, `asked again` where the call after it asks for the same memory or less of it, and
    where REFUSE is 0 how many calls there were when the program ends. */
 #define _GNU_SOURCE
 #include <dlfcn.h>

@@ -1,4 +1,4 @@
-"""Runs the program with each growth refused in turn, and tells whether every run ended as stated.
+"""Runs the program with each growth refused in turn, and says whether every run ended as stated.
 
     refused_growths.py PROGRAM FOLDER LIBRARY
 
@@ -8,7 +8,7 @@ with the command left out in which the growth was refused; what it writes for al
 
 A run has to end with status 16 and the answers of the first commands before one, of none where the growth was refused while
 loading; or with status 0 where one command answered `error: memory`, one that may, and all others as without it. Status 16
-behind the loading is for a command line that could not be held: the memory that holds one serves those behind it and doubles
+after the loading is for a command line that could not be held: the memory that holds one serves those after it and doubles
 where it is short, so there are as many such runs as doublings, and a growth of the command itself is told by it. A growth
 that is refused to `collect` of the library is asked for again at once, since it may have been asked for with too high a hint.
 Such a run may answer all commands, and then a second one, in which it is refused both times, has to end as above.
@@ -283,7 +283,7 @@ class Run:
 
 
 def held_growths(commands):
-    """How often the memory of a held command line grows for each command, the most; for one behind the last, never."""
+    """How often the memory of a held command line grows for each command, the most; for one after the last, never."""
     room, growths = 0, []
     for command in commands:
         before = len(growths)
@@ -379,7 +379,7 @@ class Script:
         else:
             return f"status {run.status} for 0 or 16, said: {run.err!r}", before
         if place < before:
-            return f"refused in {self.commands[place]!r}, and an earlier growth in a command behind it", before
+            return f"refused in {self.commands[place]!r}, and an earlier growth in a command after it", before
         return None, place
 
     def nearest(self, out):
@@ -395,7 +395,7 @@ class Script:
         return f"refused where no command begins: {differs(out, self.fronts[-1])}"
 
     def each_refused(self, checks, stated):
-        """Refuses each growth in turn, until a run meets no refusal, and tells how many were refused."""
+        """Refuses each growth in turn, until a run meets no refusal, and returns how many were refused."""
         run = self.run(0)
         growths = run.growths()
         unheld = [0] * len(self.held)
@@ -437,7 +437,7 @@ def command_growths(line, lines, made, command, stated):
 
 
 def edit_growths(lines, made, told):
-    """How many growths `replace 1 2` has on so many lines `1`, behind commands that tell this."""
+    """How many growths `replace 1 2` has on that many lines `1`, after commands that tell this."""
     return command_growths("1", lines, made, "replace 1 2\n", [told, told + "replaced 1\n"])
 
 

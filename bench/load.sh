@@ -1,5 +1,5 @@
 #!/usr/bin/env bash
-# Times `check` over about 50 MB (or as many as the first argument says) of each of ten kinds of lines, and tells the memory at
+# Times `check` over about 50 MB (or as many as the first argument says) of each of ten kinds of lines, and prints the memory at
 # the peak: beside a program that parses line by line into trees of simdjson's and keeps none (where g++ and Debian's
 # libsimdjson-dev are installed), `sqlite3` (all lines into a table in memory, then `json_valid`) and `jq empty`, where they are
 # installed. It says its machine and makes no claim. Build the program first: (cd crates/jpq && rt run -- /dev/null < /dev/null)

@@ -20,7 +20,7 @@ cell() {
     local program=${1%% *}
     if [ -z "$1" ] || ! has "$program"; then echo -; else echo "${#1}, $(least_used bash -o pipefail -c "$1")"; fi
 }
-# A row: the question, and the commands of jpgrep, jq, sqlite3 (behind the words that make the table) and miller.
+# A row: the question, and the commands of jpgrep, jq, sqlite3 (after the words that make the table) and miller.
 row() {
     local sql=
     if [ "$3" ]; then sql="sqlite3 $table $3"; fi

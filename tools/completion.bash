@@ -1,5 +1,6 @@
-# Completes the command lines of jpq and jpgrep in bash. Of jpq: the options, as `jpq --help` tells them, files, and the commands of a script behind
-# -c and --command. A package has it as usr/share/bash-completion/completions/jpq and jpgrep; else it is read by `. completion.bash`.
+# Completes the command lines of jpq and jpgrep in bash: the options that `--help` lists, files, and for jpq the commands after
+# -c and --command. A package installs it as usr/share/bash-completion/completions/jpq and jpgrep; elsewhere use
+# `. completion.bash`.
 
 # Puts the commands of a script that begin with a word into COMPREPLY. One that takes an argument opens a quote, in which the
 # argument is typed, unless a quote is open already.
@@ -37,7 +38,7 @@ _jpq() {
     esac
 }
 
-# Completes that of jpgrep: its options, and files.
+# Completes the command line of jpgrep: its options, and files.
 _jpgrep() {
     local word=$2 help
     COMPREPLY=()

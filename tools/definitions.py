@@ -2,9 +2,9 @@
 """Makes the tables of docs/DEFINITIONS.md from the comments of the definitions and of the laws.
 
     tools/definitions.py             puts the tables into the document
-    tools/definitions.py --compare   changes nothing, and tells where the document differs from them
+    tools/definitions.py --compare   changes nothing, and says where the document differs from them
 
-In the document a line `<!-- made: NAME -->` stands before some tables and `<!-- end -->` behind them; all else is written
+In the document a line `<!-- made: NAME -->` stands before some tables and `<!-- end -->` after them; all else is written
 by hand. There is a table for each file, in the order in which `Lib.antt` or `lib.rt` names them, and in it a row for each
 definition: its name, the sections that its comment cites, and the words of the comment. A definition without a comment
 shares the row of the one before it.
@@ -158,7 +158,7 @@ def made_tables():
 
 
 def differences(old, made):
-    """The lines of the document that are not made, behind a minus, and those that are made and not in it, behind a plus."""
+    """The lines of the document that are not made, after a minus, and those that are made and not in it, after a plus."""
     return [line for line in list(difflib.unified_diff(old, made, n=0))[2:] if line[0] in "-+"]
 
 
@@ -171,7 +171,7 @@ def main(words):
     for name, made in made_tables().items():
         start, end = f"<!-- made: {name} -->\n", "<!-- end -->\n"
         if start not in text or end not in text.split(start)[1]:
-            print(f"docs/DEFINITIONS.md has no line {start.strip()}, or none {end.strip()} behind it")
+            print(f"docs/DEFINITIONS.md has no line {start.strip()}, or no {end.strip()} after it")
             print("definitions: 0 passed, 1 failed")
             return 1
         before, rest = text.split(start)
