@@ -12,7 +12,7 @@ use jp_model::{Framing, RunFault, Setup, Watched};
 use std::alloc::Global;
 use std::io::{self, Write};
 
-/// Three lines, of which the second is not a JSON text.
+/// Three lines; the second is not a JSON text.
 const COLLECTION: &[u8] =
     b"{\"title\":\"Moby Dick\",\"price\":8.99}\n{\"title\":\n{\"title\":\"Emma\"}\n";
 

@@ -25,7 +25,7 @@ use Rattle.jp_c.specs.Asked.{AddsQueries, AreQueries, HasRefusedQuery, IsRefused
 use Rattle.jp_c.specs.declared.question.FilterFault.{FilterFault}
 use Rattle.jp_c.specs.declared.question.FilterFault.TheVariants as faults
 
--- queries of some texts, and behind them those of others
+-- queries of some texts, and after them those of others
 pub both_queries : (purpose : Queries) (texts more : List (List ℕ)) (queries others : List Path) → AreQueries purpose texts queries → AreQueries purpose more others
     → AreQueries purpose (texts ++ more) (queries ++ others)
 both_queries purpose [] more [] others h k = k

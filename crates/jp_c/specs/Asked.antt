@@ -113,7 +113,7 @@ TellsRefusedCondition fault text = IsRefusedOrMemory fault (IsRefusedCondition t
 abbrev pub TellsRefusedQuestion : FilterFault → (condition queries : List ℕ) → Queries → Type 0
 TellsRefusedQuestion fault condition queries purpose = IsRefusedOrMemory fault (IsRefusedQuestion condition queries purpose)
 
--- the queries that the texts spell stand behind the others
+-- the queries that the texts spell stand after the others
 abbrev pub AddsQueries : Queries → List (List ℕ) → Question → Question → Type 0
 AddsQueries purpose texts old new = (added : List Path) × AreQueries purpose texts added × (queries_of new ≡ queries_of old ++ added)
 

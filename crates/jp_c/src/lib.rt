@@ -46,7 +46,7 @@ const DONE: u32 = 0;
 /// The handle is not open.
 const SHUT: u32 = 1;
 
-/// The framing, or what is to be shown, is none.
+/// The number of the framing, or of what is to be shown, is not one of those listed.
 const NUMBER: u32 = 2;
 
 /// The condition or a query is refused.
@@ -296,8 +296,8 @@ pub extern "C" fn jpq_line(alloc: Global, handle: &mut Jpq, number: u64) -> u32
 }
 
 /// Keeps a row for each node that a query selects in a line of the collection, in its order: the byte of the line at which the
-/// node's text begins and the one behind its end, from 0, and its normalized path, with tabs between them. Lines count from 1, and
-/// a blank or a refused line has no rows.
+/// node's text begins and the one after its end, from 0, and its normalized path, with tabs between them. Lines count from 1,
+/// and a blank or a refused line has no rows.
 ///
 /// The status is 1 where the handle is not open, 3 where the query is refused, 4 where there is no line of this number, and 16
 /// where a growth was refused. Then nothing is left to be read.

@@ -12,7 +12,7 @@ use std::alloc::{AllocError, Global};
 /// Why a text is not searched.
 #[derive(Clone, Copy, Debug, PartialEq, Eq)]
 pub enum FilterFault {
-    /// The number of what is shown is none.
+    /// The number of what is to be shown is not one of those listed.
     Shown,
     /// The condition or a query is refused.
     Question,

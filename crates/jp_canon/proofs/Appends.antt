@@ -1,4 +1,4 @@
--- Texts appended one behind another.
+-- Texts appended one after another.
 use Rattle.std.proofs.Common.{◌≡◌, ℕ, List, ◌++◌, ◌∙◌, ap, cond, append_assoc, Result, Ok, Err}
 use Rattle.std.specs.Result.{OnOk, is_ok}
 

@@ -82,7 +82,7 @@ same_first x y xs ys a b (inl e) j = e
 same_first x y xs ys a b (inr i) (inl e) = sym e
 same_first x y xs ys a b (inr i) (inr j) = absurd (not_both x.name y.name (a y j) (b x i))
 
--- what is behind the first is behind the other's first
+-- what is after the first is after the other's first
 behind_first : (x y z : Member) (xs ys : List Member) → x ≡ y → IsBelow x xs → IsIn z xs → IsIn z (y ∷ ys) → IsIn z ys
 behind_first x y z xs ys e a i (inl f) = let l = a z i in let m = subst (λ (u : Member). text_less x.name u.name ≡ true) (f ∙ sym e) l in absurd (not_both x.name x.name m m)
 behind_first x y z xs ys e a i (inr j) = j

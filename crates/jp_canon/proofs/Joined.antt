@@ -20,7 +20,7 @@ one_more : (is_first : Bool) (text : List ℕ) (more : List (List ℕ)) → join
 one_more true text more = from_first text more
 one_more false text more = refl
 
--- one more was appended, behind a comma where it is not the first
+-- one more was appended, after a comma where it is not the first
 pub turn_joined : (is_first : Bool) (text : List ℕ) (more : List (List ℕ)) (old mid new all : List ℕ) → mid ≡ old ++ comma is_first → new ≡ mid ++ text → old ++ joined_from is_first (text ∷ more) ≡ all → new ++ joined_from false more ≡ all
 turn_joined is_first text more old mid new all e f g =
     ap (λ (t : List ℕ). t ++ joined_from false more) (f ∙ ap (λ (t : List ℕ). t ++ text) e) ∙ (append_assoc (old ++ comma is_first) text (joined_from false more)

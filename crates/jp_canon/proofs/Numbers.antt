@@ -65,7 +65,7 @@ whole_digits (d ∷ ds) a h =
     let some = first_some d parts.0 h in
     whole_some (digits_value (d ∷ ds)) (value_some (d ∷ ds) a h) ∙ all_more ds (d ∷ []) (0 * 10 + (d - 0x30)) some parts.1 (one_more 0 d some parts.0)
 
--- ---- zeros behind digits
+-- ---- zeros after digits
 
 times_ten : (n p q : ℕ) → q ≡ 10 * p → (n * 10 + 0) * p ≡ n * q
 times_ten n p q e = rw e (omega arith)
@@ -98,7 +98,7 @@ not_all_zeros ds z h some =
     list_all_at (λ digit. eqb digit 0x30) (ds ++ zeros z) last 0x30 (omega (arith, length-append ds (zeros z)))
     (ap (λ digit. eqb digit 0x30) (get_or_append_left ds (zeros z) 0x30 last (omega arith)) ∙ ne_eqb _ _ h)
 
--- without the zeros behind them digits are left of which the last is no zero
+-- without the zeros after them digits are left of which the last is no zero
 pub trimmed : (ds : List ℕ) (z : ℕ) → (0 < length ds → get_or ds (length ds - 1) 0x30 ≢ 0x30) → without_trailing_zeros (ds ++ zeros z) ≡ ds
 trimmed [] zero h = refl
 trimmed [] (suc z) h = ap (λ b. cond b [] (0x30 ∷ without_trailing_zeros (zeros z))) (all_zeros (suc z))

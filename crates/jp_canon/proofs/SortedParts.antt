@@ -12,7 +12,7 @@ use Rattle.jp_values.specs.ByName.{by_name as name_order}
 written : {X : Type 0} (all old : List X) (n : ℕ) → length all ≡ n → take n (all ++ drop (length all) old) ≡ all
 written all old n e = take-append-le n all (drop (length all) old) (omega (arith, e)) ∙ take_all n all (omega (arith, e))
 
--- the part that a sort is given, and what is left behind it
+-- the part that a sort is given, and what is left after it
 part_is : {X : Type 0} (xs : List X) (from : ℕ) → take (length xs - from) (drop from xs) ≡ drop from xs
 part_is xs from = take_all (length xs - from) (drop from xs) (omega (arith, length-drop from xs))
 

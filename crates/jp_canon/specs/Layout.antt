@@ -13,7 +13,7 @@ whole_text n = if n == 0 then 0x30 ∷ [] else map (λ digit. 0x30 + digit) (dig
 abbrev pub zeros : ℕ → List ℕ
 zeros count = replicate count 0x30
 
--- digits without the zeros behind the last other digit
+-- digits without the zeros after the last other digit
 abbrev pub without_trailing_zeros : List ℕ → List ℕ
 without_trailing_zeros [] = []
 without_trailing_zeros (d ∷ ds) = if list_all (λ digit. digit == 0x30) (d ∷ ds) then [] else d ∷ without_trailing_zeros ds
@@ -22,7 +22,7 @@ without_trailing_zeros (d ∷ ds) = if list_all (λ digit. digit == 0x30) (d ∷
 abbrev pub exponent_text : ℤ → List ℕ
 exponent_text e = (if int_lt e (pos 0) then 0x2D else 0x2B) ∷ whole_text (nat_abs e)
 
--- The digits s, of which neither the first nor the last is a zero, with the point n places behind the front of them: k digits
+-- The digits s, whose first and last are not zeros, with the point n places after the front of them: k digits
 -- stand for s times ten to the n - k.
 abbrev pub with_point : (s : List ℕ) (n : ℤ) → List ℕ
 with_point s n =

@@ -20,7 +20,7 @@ text_of m = (with_text m).text
 abbrev pub IsWithin : Children → Member → Type 0
 IsWithin children m = node_count (node_of m.node).tree ≤ children_node_count children
 
--- the members of an object were listed behind others, in the order of the line
+-- the members of an object were listed after others, in the order of the line
 pub record AppendsMembers (old new : List Member) (children : Children) : Type 0 where
   pub part : List Member
   pub all : new ≡ old ++ part

@@ -25,7 +25,7 @@ fn append_zeros(count: usize, text: &mut Vec<u8>) -> Result<(), AllocError>
     Ok(())
 }
 
-/// Appends the digits behind a point, and no point where there are none.
+/// Appends the digits after a point, and no point where there are none.
 fn append_fraction(digits: &[u8], text: &mut Vec<u8>) -> Result<(), AllocError>
     ensures { OnOk result (text.new.items ≡ text.old.items ++ fraction_bytes digits.now) }
 {
@@ -51,7 +51,7 @@ fn append_exponent(places: i64, text: &mut Vec<u8>) -> Result<(), AllocError>
     }
 }
 
-/// Appends digits with an exponent, behind the first digit and a point where there are more.
+/// Appends digits with an exponent, after the first digit and a point where there are more.
 fn append_scientific(digits: &[u8], places: i64, text: &mut Vec<u8>) -> Result<(), AllocError>
     requires { 0 < length digits.now }
     ensures { OnOk result (text.new.items ≡ text.old.items ++ (take 1 digits.now ++ fraction_bytes (drop 1 digits.now) ++ 0x65 ∷ exponent_text (places -ℤ pos 1))) }

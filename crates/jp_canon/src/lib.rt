@@ -2,7 +2,7 @@
 //!
 //! Public calls:
 //!
-//! - `Printer`: `new`, and `append`, which puts the canonical text of a node behind other text
+//! - `Printer`: `new`, and `append`, which puts the canonical text of a node after other text
 //!
 //! Where the text differs from that of RFC 8785:
 //!

@@ -49,7 +49,7 @@ distinct_children (node s (number m e)) h = refl
 distinct_children (node s (string x)) h = refl
 distinct_children (node s (container kind children)) h = (or_parts (has_repeated (names children)) (children_have_duplicate children) h).0
 
--- and those behind the first one
+-- and those after the first one
 pub distinct_behind : (name : Option Name) (t : Tree) (more : Children) → has_repeated (names (child name t more)) ≡ false → has_repeated (names more) ≡ false
 distinct_behind None t more h = h
 distinct_behind (Some name) t more h = (or_parts (list_any (text_equal name.points) (names more)) (has_repeated (names more)) h).1

@@ -71,7 +71,7 @@ none_left i k l e = sym (drop-drop k i l) ∙ (ap (drop k) (sym e) ∙ none k)
     none Prim.Native.Nat.zero = refl
     none (suc k) = refl
 
--- behind the last child there is none
+-- after the last child there is none
 pub at_none : (parent : Node) (i position : ℕ) → IsAt parent i None → i ≤ position → IsAt parent position None
 at_none parent i position at h =
     let all : List (Step × Tree) = steps_in (value_of parent.tree) in

@@ -13,7 +13,7 @@ use Rattle.jp_model.specs.Script.Machine.{State, run_commands}
 use Rattle.jp_cli.specs.Runs.{Progress, MayAnswer, Ran, RanFirst}
 use Rattle.jp_cli.proofs.Runs.{answer_none, answer_more, run-append_text, only-append, only-before, run-before_text}
 
--- a beginning of a text, behind another and before more
+-- a beginning of a text, after another and before more
 pub begins_within : (front part text rest : List ℕ) → Begins part text → Begins (front ++ part) ((front ++ text) ++ rest)
 begins_within front part text rest h =
     let whole : text ≡ part ++ drop (length part) text = sym (take-append-drop (length part) text) ∙ ap (λ l. l ++ drop (length part) text) h in
@@ -87,7 +87,7 @@ module _ (query_of : List ℕ → QueryStatus) (asked : List ℕ → Command) (s
   stopped_within a b c old mid new first line rest text part p q h r =
       part_before a c old.state (first ++ line) rest (part_more a b c old mid first line p (part_of_line b c mid new line text part q h r))
 
-  -- what was received stays behind a flush
+  -- what was received stays after a flush
   pub ran_kept : (a b c : Device W) (old new : Progress) (lines : List (List ℕ)) → Ran query_of asked contents a b setup old lines new → (c.taken ≡ b.taken) × Keeps (contents b.device) (contents c.device) → Ran query_of asked contents a c setup old lines new
   ran_kept a b c old new lines p k = (p.0, p.1, received_kept contents a b c p.0 p.2 k.0 k.1)
 

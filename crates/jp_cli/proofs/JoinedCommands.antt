@@ -13,7 +13,7 @@ others_end : (xs : List (Bor Text)) → flat_map (λ y. 0x0A ∷ y.now) xs ++ 0x
 others_end [] = refl
 others_end (x ∷ xs) = ap (λ t. 0x0A ∷ t) (append_assoc x.now (flat_map (λ y. 0x0A ∷ y.now) xs) (0x0A ∷ []) ∙ ap (λ t. x.now ++ t) (others_end xs))
 
--- commands that are joined by line feeds, with one behind the last
+-- commands that are joined by line feeds, with one after the last
 pub joined : (x : Bor Text) (xs : List (Bor Text))
     → join_by (λ s. s.now) (0x0A ∷ []) (x ∷ xs) ++ 0x0A ∷ [] ≡ script_of (map (λ s. s.now) (x ∷ xs))
 joined x xs = append_assoc x.now (flat_map (λ y. 0x0A ∷ y.now) xs) (0x0A ∷ []) ∙ ap (λ t. x.now ++ t) (others_end xs)

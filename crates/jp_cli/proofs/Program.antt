@@ -22,7 +22,7 @@ use Rattle.clap.specs.Values.{kind_of}
 use Rattle.clap.specs.declared.error.kind.ErrorKind.{ErrorKind}
 use Rattle.jp_cli.specs.Words.{command_rule, commands_in, faults_in, file_rule, found_in, parse_faults, program, script_rule, seq_rule, source_faults, source_faults_in, with_version}
 
--- A command that was given a version and a text behind its help: all else is as before.
+-- A command that was given a version and a text after its help: all else is as before.
 pub record IsTold (new told : Command) : Type 0 where
   pub version : Option (Bor Text)
   pub behind : Option (Bor Text)
@@ -66,7 +66,7 @@ is_program start one two three four file command script seq named first second t
     ∙ ap₂ with_rule (second.shape command_local
     ∙ ap₂ with_rule (first.shape file_local ∙ ap₂ with_rule named file_is) command_is) script_is) seq_is
 
--- the matches give an argument its value by the written meaning of the words
+-- the matches give an argument its value by the written meaning of the arguments
 pub first_found : (a : App) (words : List Text) (m : ArgMatches) (id : Text) → a ≡ program → HasMatchesOf a words m
     → first_of id (found_in words) ≡ first_value (found_of m) id
 unfolding found_in
@@ -86,7 +86,7 @@ pub values_or_none : (found : Option (Bor (List (Bor Text)))) (none : Bor (List 
 values_or_none (Some values) none e = refl
 values_or_none None none e = ap (map (λ s. s.now)) e
 
--- the parse fails by the written faults of the words
+-- the parse fails by the written faults of the arguments
 pub fails_by_faults : {X : Type 0} (a : App) (words : List Text) (r : Result X Error) → a ≡ program
     → (is_simple_and_free a ≡ true → FailsBy (fault_of a words) r) → FailsBy (parse_faults words) r
 unfolding parse_faults
@@ -98,7 +98,7 @@ fails_on kinds r e handed kind =
     let met = err_from_is_err_and r handed in
     subst (λ s. FailsBy kinds s) (sym met.1) (subst (HasKind kinds) (sym met.2) kind)
 
--- an error by what the words say of the sources, where they are else taken
+-- an error by what the arguments say of the sources, where they are else taken
 pub refused_by_sources : (words : List Text) (file : Text) (script : Option Text) (commands : List Text) (kind : ErrorKind) (e : Error)
     → parse_faults words ≡ [] → first_of (codes "file") (found_in words) ≡ Some file → first_of (codes "script") (found_in words) ≡ script
     → commands ≡ commands_in (found_in words) → kind ∷ [] ≡ source_faults file script commands → kind_of e ≡ kind

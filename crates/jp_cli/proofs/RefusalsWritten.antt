@@ -100,13 +100,13 @@ module _ (f : Framing) (c : Collection) (last : ℕ) (within : last ≤ length c
   long : length all_of ≡ length c.state.lines
   long = length-map c.state.lines (status_of c.framing)
 
-  -- the rows of the lines up to one, and those of some behind them
+  -- the rows of the lines up to one, and those of some after them
   rows_on : (some : List LineStatus) → refusals_from f 1 (take last all_of ++ some) ≡ refusals_from f 1 (take last all_of) ++ refusals_from f (last + 1) some
   rows_on some =
       let number : 1 + length (take last all_of) ≡ last + 1 = omega (arith, length-take-le last all_of (omega (arith, long, within))) in
       refusals_append f 1 (take last all_of) some ∙ ap (λ n. refusals_from f 1 (take last all_of) ++ refusals_from f n some) number
 
-  -- no line behind it is refused
+  -- no line after it is refused
   pub all_written : {W : Type 0} {contents : W → Option (List ℕ)} (old new : Device W) → IsFirstBehind last (numbers_where is_refused_status 1 all_of) None
       → Received contents old new (refusals_from f 1 (take last all_of)) → Received contents old new (refusals_from f 1 all_of)
   all_written {contents = contents} old new none =

@@ -46,7 +46,7 @@ module _ {X : Type 0} (text : X → List ℕ) (rows : List X) (i : ℕ) (row : X
 
 -- ---- rows by line
 
--- the texts of the rows of the next line, and of those behind it
+-- the texts of the rows of the next line, and of those after it
 pub nodes_text : (f : Framing) (ls rest : List LineRows) (line : ℕ) (view : LineView) (count : ℕ) (ps : List ℕ) → ls ≡ by_line.Nodes line view count ∷ rest
     → flat_map (found_text f) (expanded ls ps) ≡ flat_map (place_text f line view) (take count ps) ++ flat_map (found_text f) (expanded rest (drop count ps))
 nodes_text f ls rest line view count ps e =
@@ -76,7 +76,7 @@ pub record IsWritten {W : Type 0} (contents : W → Option (List ℕ)) (f : Fram
   pub all : done ++ flat_map (found_text f) (expanded ls ps) ≡ whole
 
 module _ {W : Type 0} (contents : W → Option (List ℕ)) (f : Framing) (whole : List ℕ) (initial out : Device W) (ls rest : List LineRows) (ps : List ℕ) (so : IsWritten contents f whole initial ls ps out) where
-  -- a piece behind what is written, where the rest is still to come
+  -- a piece after what is written, where the rest is still to come
   module _ (piece left : List ℕ) (parts : flat_map (found_text f) (expanded ls ps) ≡ piece ++ left) where
     piece_all : (so.done ++ piece) ++ left ≡ whole
     piece_all = append_assoc so.done piece left ∙ (ap (λ (t : List ℕ). so.done ++ t) (sym parts) ∙ so.all)

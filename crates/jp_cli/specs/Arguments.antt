@@ -12,7 +12,7 @@ pub record IsArgument (arg : Arg) (wanted : Rule) (name : Text) : Type 0 where
   pub id : arg.id.now ≡ name
   pub plain : IsPlainArg arg × (arg.global ≡ false)
 
--- the options are what the words give the arguments
+-- the options are what the command line gives the arguments
 pub record IsAskedBy (found : List Row) (o : Options) : Type 0 where
   pub file : first_of (codes "file") found ≡ Some o.file.now
   pub script : first_of (codes "script") found ≡ option_map (λ s. s.now) o.script

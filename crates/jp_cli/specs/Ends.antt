@@ -32,7 +32,7 @@ fault_message faults.ReadScript = codes "jpq: cannot read script"
 fault_message faults.Write = codes "jpq: cannot write"
 fault_message faults.Memory = codes "jpq: out of memory"
 
--- what is said, without its line feed; nothing where the work is done or the words were told of already
+-- what is said, without its line feed; nothing where the work is done or the arguments were told of already
 abbrev pub end_message : End → List ℕ
 end_message ends.Done = []
 end_message ends.Words = []

@@ -15,7 +15,7 @@ abbrev pub line_at : ℕ → List (List ℕ) → Option (List ℕ)
 line_at zero lines = None
 line_at (suc before) lines = slice_get lines before
 
--- a node's mark: the byte of its line at which its text begins and the one behind its end, from 0, and its path
+-- a node's mark: the byte of its line at which its text begins and the one after its end, from 0, and its path
 abbrev pub mark : Node → List ℕ
 mark node = decimal (span node.tree).start ++ tab ++ decimal (span node.tree).end ++ tab ++ path_text node.location ++ line_feed
 

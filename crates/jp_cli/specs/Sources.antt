@@ -13,7 +13,7 @@ abbrev pub IsCollectionOf : Text → CollectionSource → Type 0
 IsCollectionOf file collections.StandardInput = bytes_eq file (codes "-") ≡ true
 IsCollectionOf file (collections.File name) = (name.now ≡ file) × (bytes_eq file (codes "-") ≡ false)
 
--- the script that commands make: each with a line feed behind it
+-- the script that commands make: each with a line feed after it
 abbrev pub script_of : List Text → Text
 script_of [] = []
 script_of (command ∷ others) = command ++ 0x0A ∷ script_of others

@@ -1,5 +1,5 @@
--- What the program's words ask for (profile): `jpq FILE [-c COMMAND].. [--script FILE] [--seq]`, read as the crate `clap` reads
--- words.
+-- What the program's arguments ask for (profile): `jpq FILE [-c COMMAND].. [--script FILE] [--seq]`, read as the crate `clap`
+-- reads arguments.
 use Rattle.std.specs.Prelude.{true, false, List, [], ◌∷◌, Option, Some, None, codes, if◌then◌else◌, unwrap_or}
 use Rattle.std.specs.Option.{option_map_or}
 use Rattle.std.specs.Str.{bytes_eq}
@@ -39,15 +39,15 @@ seq_rule = record (new_rule (codes "seq")) { long = Some (codes "seq"); action =
 abbrev pub with_version : App → App
 with_version app = record app { top = record app.top { has_version = true } }
 
--- the words that the program takes
+-- the arguments that the program takes
 abbrev pub program : App
 program = with_rule (with_rule (with_rule (with_rule (with_version (new_app (codes "jpq"))) file_rule) command_rule) script_rule) seq_rule
 
--- what the words give each argument, the first word being the program's own name
+-- what the command line gives each argument, its first text being the program's own name
 unfoldable pub found_in : List Text → List Row
 found_in words = matches_of program words
 
--- the commands that stand among the words, in their order
+-- the commands that stand among the arguments, in their order
 abbrev pub commands_in : List Row → List Text
 commands_in found = unwrap_or (all_of (codes "command") found) []
 
@@ -59,15 +59,15 @@ source_faults file (Some script) [] = []
 source_faults file None (c ∷ cs) = []
 source_faults file None [] = if bytes_eq file (codes "-") then MissingRequiredArgument ∷ [] else []
 
--- the same of what was found in the words
+-- the same of what was found in the arguments
 abbrev pub source_faults_in : List Row → Kinds
 source_faults_in found = source_faults (unwrap_or (first_of (codes "file") found) []) (first_of (codes "script") found) (commands_in found)
 
--- why the words are refused as they are read: the kinds that the error may have, and none where they are taken
+-- why the arguments are refused as they are read: the kinds that the error may have, and none where they are taken
 unfoldable pub parse_faults : List Text → Kinds
 parse_faults words = fault_of program words
 
--- why the words are refused: as they are read, or behind that for their sources
+-- why the arguments are refused: as they are read, or after that for their sources
 abbrev pub faults_in : List Text → Kinds
 faults_in words = or_else (parse_faults words) (source_faults_in (found_in words))
 

@@ -38,7 +38,7 @@ fn end_told(ended: Result<(), RunFault>, is_failed: bool) -> End
 }
 
 impl Options<'_> {
-    /// Runs the commands of a script over a collection, in the framing that the words ask for, and writes what they answer
+    /// Runs the commands of a script over a collection, in the framing that the arguments ask for, and writes what they answer
     /// through a buffer of 8192 bytes. The collection and the script have at most 4,294,967,295 bytes each.
     ///
     /// When the run is over, what the buffer holds is written and the writer is flushed, after a fault too; a writer of which
@@ -58,7 +58,7 @@ impl Options<'_> {
         requires collection { collection.old.failed ≡ false }
         requires script { script.old.failed ≡ false }
         // What the writer took, by the end: the output of what the readers gave, if the work is done; else what `run` says of
-        // the fault, of which a beginning is enough where a call of the writer failed.
+        // the fault; a beginning of it is enough where a call of the writer failed.
         ensures output { IfOk result (λ finished. (given : GivenToRun)
             × GaveUpTo C.remaining collection.old collection.new given.collection
             × GaveUpTo R.remaining script.old script.new given.script

@@ -77,7 +77,7 @@ fn read_replacement(argument: &[u8]) -> Command<'_>
     }
 }
 
-/// What a word asks for with its argument.
+/// What the first word of a command asks for with its argument.
 fn read_argument<'a>(word: &[u8], argument: &'a [u8]) -> Command<'a>
     ensures { command_view result ≡ command_with word.now (Some argument.now) }
 {

@@ -10,7 +10,7 @@ use jp_model::RunFault;
 pub enum End {
     /// The script was run to its end.
     Done,
-    /// The program's words were refused.
+    /// The program's arguments were refused.
     Words,
     /// The collection cannot be opened.
     NoCollection,
@@ -18,12 +18,12 @@ pub enum End {
     NoScript,
     /// The run stopped.
     Run(RunFault),
-    /// A growth was refused while the words were read.
+    /// A growth was refused while the arguments were read.
     Memory,
 }
 
 impl End {
-    /// The exit status: 0 where the work is done, 2 for refused words, 3 and 4 where a file cannot be opened, and from
+    /// The exit status: 0 where the work is done, 2 for refused arguments, 3 and 4 where a file cannot be opened, and from
     /// 11 to 16 the faults of a run.
     pub fn status(self) -> u8
         ensures { result ≡ end_status self }
@@ -43,7 +43,7 @@ impl End {
     }
 
     /// The line that goes to standard error, without its line feed. It is empty where the work is done, and where the
-    /// words were refused, since that was reported when they were read.
+    /// arguments were refused, since that was reported when they were read.
     pub fn message(self) -> &'static str
         ensures { result.now ≡ end_message self }
     {

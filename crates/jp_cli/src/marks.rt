@@ -84,7 +84,7 @@ impl Session {
     }
 
     /// The marks of the nodes that a query selects in a line of the collection, in its order, where there is a line of this
-    /// number: for each a row of the byte at which its text begins, the one behind its end, from 0, and its normalized path, with
+    /// number: for each a row of the byte at which its text begins, the one after its end, from 0, and its normalized path, with
     /// tabs between them. A blank or a refused line has none. Lines count from 1.
     ///
     /// # Errors

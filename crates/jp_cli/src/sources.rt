@@ -22,7 +22,7 @@ pub enum ScriptSource<'a> {
     StandardInput,
     /// The file of this name.
     File(&'a str),
-    /// The program's words: this is the script, one command to a line.
+    /// The program's arguments: this is the script, one command to a line.
     Commands(String),
 }
 

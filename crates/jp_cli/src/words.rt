@@ -49,11 +49,11 @@ Examples:
   zcat log.jsonl.gz | jpq - -c check
   jpq log.jsonl --script commands.txt";
 
-/// Reads the program's arguments, `jpq FILE [-c COMMAND].. [--script FILE] [--seq]`, of which the first is its own name.
+/// Reads the program's arguments, `jpq FILE [-c COMMAND].. [--script FILE] [--seq]`. The first is its own name.
 ///
 /// # Errors
 ///
-/// The words are refused, they ask for help or for the version, or memory runs out: the error's kind says which. `-c` with
+/// The arguments are refused, they ask for help or for the version, or memory runs out: the error's kind says which. `-c` with
 /// `--script` is refused, since the script would be two, and so is `-` with neither, since standard input would be both the
 /// collection and the script.
 pub fn read_words<'a>(alloc: Global, words: &'a [&'a str]) -> Result<Options<'a>, Error>
@@ -88,7 +88,7 @@ fn program_command<'a>(alloc: Global) -> Result<Command<'a>, AllocError>
         .arg(seq_argument(alloc))
 }
 
-/// Reads the words one by one, wherever the script is to come from.
+/// Reads the arguments one by one, wherever the script is to come from.
 fn parse<'a>(alloc: Global, words: &'a [&'a str]) -> Result<Options<'a>, Error>
     ensures asked { IfOk result (IsAskedBy (found_in (map (λ w. w.now) words.entry.now))) }
     ensures refused { FailsBy (parse_faults (map (λ w. w.now) words.entry.now)) result }
@@ -105,7 +105,7 @@ fn parse<'a>(alloc: Global, words: &'a [&'a str]) -> Result<Options<'a>, Error>
 }
 
 impl<'a> Options<'a> {
-    /// Why the words name no one script, if they do not.
+    /// Why the arguments name no one script, if they do not.
     fn source_fault(&self) -> Option<(ErrorKind, &'static str)>
         ensures { option_map_or (λ fault. fault.0 ∷ []) result []
             ≡ source_faults self.now.file.now (option_map (λ s. s.now) self.now.script)

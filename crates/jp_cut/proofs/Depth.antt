@@ -1,4 +1,4 @@
--- How many brackets can be open behind a byte.
+-- How many brackets can be open after a byte.
 use Rattle.std.proofs.Common.{◌≡◌, ℕ, ◌+◌, ◌-◌, ◌≤◌, Bool, true, false, ◌&&◌, ◌||◌, arith, subst, sym, refl}
 use Rattle.std.specs.Prelude.{◌==◌, if◌then◌else◌}
 use Rattle.jp_model.specs.Characters.{is_white, is_quote}

@@ -1,4 +1,4 @@
--- What a cutter holds, at the front of a stream, behind more bytes and at the end.
+-- What a cutter holds, at the front of a stream, after more bytes and at the end.
 use Rattle.std.proofs.Common.{◌≡◌, ℕ, ◌-◌, ◌≤◌, true, false, List, [], ◌∷◌, ◌++◌, length, take, drop, arith, refl, sym, ap, ◌∙◌, append_assoc}
 use Rattle.std.proofs.lemmas.List.{append-nil, drop-append-le, take-append-le, length-drop}
 use Rattle.std.proofs.Math.Seq.{drop-length}
@@ -38,7 +38,7 @@ from_here pieces t p here known none = record {
     no_bytes : [] ≡ slice_range t.held.items t.start t.cut
     no_bytes = ap (λ n. take n (drop t.start t.held.items)) (sym none_there)
 
--- behind more bytes
+-- after more bytes
 pub behind_more : (pieces : Pieces) (fed more : List ℕ) (handed : List Piece) (s t : Cutter) → HasCut pieces fed handed s → t.held.items ≡ s.held.items ++ more
     → t.pieces ≡ s.pieces → t.known ≡ s.known → t.start ≡ s.start → t.cut ≡ s.cut → t.line_feeds ≡ s.line_feeds → HasCut pieces (fed ++ more) handed t
 behind_more pieces fed more handed s t h held p known start cut lines = record {

@@ -108,7 +108,7 @@ passed pieces fed handed s t n h inside stays known held cut start_is lines p =
 
 -- ---- passed over part by part
 
--- a bracket is open behind such bytes
+-- a bracket is open after such bytes
 pub still_open : (known : Known) (bytes : List ℕ) → StaysOpen known bytes → 0 < (behind_all known bytes).depth
 still_open known [] stays = stays
 still_open known (byte ∷ rest) stays = still_open (behind known byte) rest stays.1

@@ -27,7 +27,7 @@ read_front pieces t p held start cut known none front = record {
   behind_front = λ e. not_both t.is_front front e;
 }
 
--- behind more bytes
+-- after more bytes
 pub read_more : (pieces : Pieces) (stream more : List ℕ) (handed : List Piece) (s l t : Cutter) → HasRead pieces stream handed s
     → (l.is_front ≡ s.is_front) → (s.start ≡ 0 → l ≡ s) → ((fed : List ℕ) → HasCut pieces fed handed s → HasCut pieces fed handed l)
     → t.held.items ≡ l.held.items ++ more → t.pieces ≡ l.pieces → t.known ≡ l.known → t.start ≡ l.start → t.cut ≡ l.cut → t.line_feeds ≡ l.line_feeds → t.is_front ≡ l.is_front
@@ -63,7 +63,7 @@ read_none pieces stream handed s l t h front same let_go held p known start cut 
     subst (λ (xs : List ℕ). HasRead pieces xs handed t) (append-nil stream)
     (read_more pieces stream [] handed s l t h front same let_go (held ∙ sym (append-nil l.held.items)) p known start cut lines still)
 
--- behind the front, what is cut of the bytes is cut of the stream
+-- after the front, what is cut of the bytes is cut of the stream
 pub read_on : (pieces : Pieces) (stream : List ℕ) (handed : List Piece) (s t : Cutter) → HasRead pieces stream handed s → s.is_front ≡ false → t.is_front ≡ false
     → ((bytes : List ℕ) → HasCut pieces bytes handed s → HasCut pieces bytes handed t) → HasRead pieces stream handed t
 read_on pieces stream handed s t h was is on = record {
@@ -83,7 +83,7 @@ hands_on pieces stream handed s t at h was is on =
       has = record { at_front = λ e. not_both t.is_front e is; behind_front = λ e. record { bytes = b.bytes; dropped = b.dropped; cut = out.has } };
     }
 
--- behind a byte order mark, or where none is there
+-- after a byte order mark, or where none is there
 pub read_mark : (pieces : Pieces) (stream : List ℕ) (handed : List Piece) (s t : Cutter) (kept : List ℕ) → HasRead pieces stream handed s → s.is_front ≡ true → may_become_mark s.held.items ≡ false
     → kept ≡ without_byte_order_mark s.held.items → t.held ≡ s.held → t.pieces ≡ s.pieces → t.known ≡ nothing_open Between → t.line_feeds ≡ s.line_feeds → t.cut ≡ length s.held.items - length kept → t.start ≡ t.cut → t.is_front ≡ false
     → HasRead pieces stream handed t
@@ -187,7 +187,7 @@ either : (b : Bool) → (b ≡ true) ⊎ (b ≡ false)
 either true = inl refl
 either false = inr refl
 
--- the pieces behind some that ended, where more bytes came
+-- the pieces after some that ended, where more bytes came
 module _ (pieces : Pieces) (bytes front rest : List ℕ) (handed : List Piece) (joined : bytes ≡ front ++ rest) (ended : (cut_of pieces front).ended ≡ handed) where
   more_ended : List Piece
   more_ended = (ended_stays pieces front rest).0

@@ -109,7 +109,7 @@ module _ (pieces : Pieces) (fed : List ℕ) (handed : List Piece) (s : Cutter) (
       cut_on Passed e t p hd c k (sym (ap (λ a. slice_range s.held.items a (s.cut + 1)) st ∙ slice_range_none s.held.items (s.cut + 1)))
       (n ∙ ap (λ a. min (a + line_feeds_in (byte ∷ [])) (2 ^ 64 - 1)) h.counted ∙ bounded h.line_feeds (line_feeds_in (byte ∷ [])) (2 ^ 64 - 1))
 
-  -- the count behind the open piece
+  -- the count after the open piece
   pub closed_count : (t : Cutter) → t.line_feeds ≡ min (s.line_feeds + line_feeds_in (slice_range s.held.items s.start s.cut)) (2 ^ 64 - 1)
       → t.line_feeds ≡ min (close before).line_feeds (2 ^ 64 - 1)
   closed_count t n =

@@ -137,7 +137,7 @@ open_not_between ArrayStart bytes e is = absurd (cc)
 open_not_between NextElement bytes e is = absurd (cc)
 open_not_between Element bytes e is = absurd (cc)
 
--- the cut behind a byte
+-- the cut after a byte
 abbrev with_known : Cut → Known → Cut
 with_known cut known = record { ended = cut.ended; begun = cut.begun; line_feeds = cut.line_feeds; known = known }
 

@@ -20,7 +20,7 @@ abbrev pub line_feeds_in : List ℕ → ℕ
 line_feeds_in bytes = count_by (λ byte. byte == 0x0A) bytes
 
 -- what some bytes are cut into: the pieces that ended, the bytes of the one that is open, how many line feeds come before
--- it, and what is known behind all
+-- it, and what is known after all
 pub record Cut : Type 0 where
   pub ended : List Piece
   pub begun : List ℕ
@@ -65,7 +65,7 @@ turned Last cut byte = close (keep cut byte)
 turned Ended cut byte = pass (close cut) byte
 turned EndedBefore cut byte = keep (close cut) byte
 
--- behind one more byte
+-- after one more byte
 unfoldable pub take_in : Pieces → Cut → ℕ → Cut
 take_in pieces cut byte =
     let done = step pieces cut.known byte in

@@ -1,7 +1,7 @@
 -- The front of a stream.
 use Rattle.std.specs.Prelude.{ℕ, Bool, true, false, ◌&&◌, ◌==◌, List, [], ◌∷◌}
 
--- These bytes may be those of a byte order mark, of which others are to come (RFC 8259, section 8.1).
+-- These bytes may be the beginning of a byte order mark that is still to come whole (RFC 8259, section 8.1).
 abbrev pub may_become_mark : List ℕ → Bool
 may_become_mark [] = true
 may_become_mark (first ∷ []) = first == 0xEF

@@ -34,7 +34,7 @@ nothing_open place = record { place = place; depth = 0; inside = false; escaped 
 abbrev pub is_whole : Known → Bool
 is_whole known = known.depth == 0 && not known.inside
 
--- how many brackets are open behind a byte outside strings, of whichever kind they are (profile)
+-- how many brackets are open after a byte outside strings, of whichever kind they are (profile)
 abbrev pub depth_behind : ℕ → ℕ → ℕ
 depth_behind depth byte = if is_opening byte then depth + 1 else (if is_closing byte then depth - 1 else depth)
 
@@ -43,7 +43,7 @@ abbrev pub xor : Bool → Bool → Bool
 xor true other = not other
 xor false other = other
 
--- Behind a byte of a piece. A quotation mark that no reverse solidus escapes opens a string, and the next such one closes it
+-- After a byte of a piece. A quotation mark that no reverse solidus escapes opens a string, and the next such one closes it
 -- (RFC 8259, section 7); brackets count outside strings alone.
 abbrev pub behind : Known → ℕ → Known
 behind known byte = record {
@@ -55,7 +55,7 @@ behind known byte = record {
 
 -- ---- what a byte does at each place
 
--- what a byte does, and what is known behind it
+-- what a byte does, and what is known after it
 abbrev pub does : Turn → Known → Step
 does turn known = record { turn = turn; known = known }
 

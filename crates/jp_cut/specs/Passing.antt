@@ -14,16 +14,16 @@ is_inside ArrayStart = false
 is_inside NextElement = false
 is_inside Element = true
 
--- behind some bytes of a piece
+-- after some bytes of a piece
 abbrev pub behind_all : Known → List ℕ → Known
 behind_all known bytes = fold behind known bytes
 
--- a bracket of the piece stays open, in front of some bytes and behind each of them
+-- a bracket of the piece stays open, in front of some bytes and after each of them
 abbrev pub StaysOpen : Known → List ℕ → Type 0
 StaysOpen known [] = 0 < known.depth
 StaysOpen known (byte ∷ rest) = (0 < known.depth) × StaysOpen (behind known byte) rest
 
--- such bytes were passed over, and this is known behind them
+-- such bytes were passed over, and this is known after them
 pub record Passes (known : Known) (bytes : List ℕ) (next : Known) : Type 0 where
   pub stays : StaysOpen known bytes
   pub same : next ≡ behind_all known bytes

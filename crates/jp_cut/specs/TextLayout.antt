@@ -3,7 +3,7 @@ use Rattle.std.specs.Prelude.{◌≡◌, ℕ, true, List, [], ◌∷◌, ◌++�
 use Rattle.jp_model.specs.Characters.{is_white}
 use Rattle.jp_cut.specs.Cuts.{Piece}
 
--- these bytes are these pieces in turn, with white space at will between them, in front of them and behind them (RFC 8259,
+-- these bytes are these pieces in turn, with white space at will between them, in front of them and after them (RFC 8259,
 -- section 2)
 pub data IsLaidOut : List ℕ → List Piece → Type 0 where
   nothing : IsLaidOut [] []

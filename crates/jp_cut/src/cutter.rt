@@ -10,7 +10,7 @@ use jp_model::without_byte_order_mark;
 use memchr::memchr;
 use std::alloc::{AllocError, Global};
 
-/// Where a piece is among the bytes that are held, and what is told of it.
+/// Where a piece is among the bytes that are held, and what is known of it.
 #[derive(Clone, Copy, Debug, PartialEq, Eq)]
 pub struct PieceAt {
     pub start: usize,
@@ -280,7 +280,7 @@ impl Cutter {
         self.take_in()
     }
 
-    /// The next piece that ended, behind the front of the stream.
+    /// The next piece that ended, after the front of the stream.
     fn next_behind_mark(&mut self) -> Option<PieceAt>
         requires { self.old.is_front ≡ false }
         ensures read { (pieces : Pieces) (stream : List ℕ) (handed : List Piece) → HasRead pieces stream handed self.old

@@ -3,7 +3,7 @@
 ghost use Rattle.std.specs.Prelude.{◌≡◌};
 ghost use Rattle.jp_cut.specs.Front.{may_become_mark as may_be_front_of_mark};
 
-/// Whether bytes may be those of a byte order mark, of which others are to come (RFC 8259, section 8.1).
+/// Whether bytes may be the beginning of a byte order mark that is still to come whole (RFC 8259, section 8.1).
 pub fn may_become_mark(bytes: &[u8]) -> bool
     ensures { result ≡ may_be_front_of_mark bytes.now }
 {

@@ -11,7 +11,7 @@ ghost use Rattle.jp_cut.specs.Machine.{nothing_open as nothing_open_at, begin as
 pub enum Pieces {
     /// JSON texts with white space between them.
     Texts,
-    /// The elements of the texts that are arrays, and the texts that are none.
+    /// The elements of the texts that are arrays, and the texts that are not.
     Elements,
 }
 
@@ -24,9 +24,9 @@ pub enum Place {
     Word,
     /// In a text that begins with a bracket or a quotation mark.
     Text,
-    /// Behind the bracket that opens an array of which the elements are pieces, and white space.
+    /// After the bracket that opens an array whose elements are pieces, and white space.
     ArrayStart,
-    /// Behind a comma of such an array, and white space.
+    /// After a comma of such an array, and white space.
     NextElement,
     /// In an element of such an array.
     Element,
@@ -59,7 +59,7 @@ pub enum Turn {
     EndedBefore,
 }
 
-/// What a byte does, and what is known behind it.
+/// What a byte does, and what is known after it.
 #[derive(Clone, Copy, Debug, PartialEq, Eq)]
 pub struct Step {
     pub turn: Turn,
@@ -102,7 +102,7 @@ pub fn nothing_open(place: Place) -> Known
     }
 }
 
-/// How many brackets are open behind a byte outside strings.
+/// How many brackets are open after a byte outside strings.
 #[inline(always)]
 fn depth_behind(depth: usize, byte: u8) -> usize
     requires { depth < usize.MAX }
@@ -117,7 +117,7 @@ fn depth_behind(depth: usize, byte: u8) -> usize
     }
 }
 
-/// What is known behind a byte of a piece.
+/// What is known after a byte of a piece.
 #[inline(always)]
 pub fn behind(known: Known, byte: u8) -> Known
     requires { known.depth < usize.MAX }

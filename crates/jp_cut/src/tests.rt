@@ -7,10 +7,10 @@ use crate::{Cutter, PieceAt, Pieces};
 use std::alloc::{AllocError, Global};
 use std::test::Fail;
 
-/// Stands behind each piece that was closed. No JSON text has it.
+/// Stands after each piece that was closed. No JSON text has it.
 const CLOSED: u8 = 0xFF;
 
-/// Stands behind each piece that was not.
+/// Stands after each piece that was not.
 const UNCLOSED: u8 = 0xFE;
 
 /// Streams with each kind of text.

@@ -76,7 +76,7 @@ in_front (next white bytes rest t others blank is more) before h =
     subst (λ xs. AreElements xs (bytes ∷ others)) (append_assoc before white (bytes ++ 0x2C ∷ rest))
     (next (before ++ white) bytes rest t others (white_blank (before ++ white) (white_join before white h (blank_white white blank))) is more)
 
--- an element with the white space behind it
+-- an element with the white space after it
 record One (bytes : List ℕ) (t : Tree) : Type 0 where
   tree : Tree
   is : IsElement bytes tree
@@ -91,7 +91,7 @@ no_label : (name : Option Name) (bytes : List ℕ) → IsLabel array bytes name 
 no_label None bytes h = h
 no_label (Some name) bytes h = absurd h
 
--- an element, and what stands behind it
+-- an element, and what stands after it
 more_found : (c : Children) (name : Option Name) (t : Tree) (text bytes : List ℕ) → Writes text t → WritesMore array bytes c → AreSound (child name t c) → Found (text ++ bytes) (child name t c)
 more_found no_child name t text bytes h g s =
     let element = one text g.before t h g.white (first_sound name t no_child s) in

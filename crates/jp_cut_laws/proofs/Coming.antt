@@ -50,7 +50,7 @@ RunsWord pieces rest = (ended : List Piece) (n : ℕ) (bytes front : List ℕ) (
 abbrev pub RunsText : Pieces → List ℕ → Type 0
 RunsText pieces rest = (ended : List Piece) (n : ℕ) (bytes : List ℕ) (known : Known) → known.place ≡ Text → IsUnfinished known → Runs pieces (begun_at ended n bytes known) rest (Rest pieces false bytes rest)
 
--- what stands behind a bracket, or behind a comma
+-- what stands after a bracket, or after a comma
 abbrev pub IsBehind : Bool → List ℕ → List (List ℕ) → Type 0
 IsBehind true inside elements = IsInside inside elements
 IsBehind false inside elements = AreElements inside elements

@@ -24,7 +24,7 @@ pub each_append : (P : ℕ → Type 0) (first second : List ℕ) → Each P firs
 each_append P [] second h k = k
 each_append P (byte ∷ rest) second h k = (h.0, each_append P rest second h.1 k)
 
--- ---- what is known outside strings, in one, and behind a backslash of one
+-- ---- what is known outside strings, in one, and after a backslash of one
 
 abbrev pub outside : Place → ℕ → Known
 outside place depth = record { place = place; depth = depth; inside = false; escaped = false }
@@ -39,12 +39,12 @@ escaping place depth = record { place = place; depth = depth; inside = true; esc
 abbrev pub IsUnfinished : Known → Type 0
 IsUnfinished known = is_whole known ≡ false
 
--- one is, in front of some bytes and behind each of them
+-- one is, in front of some bytes and after each of them
 abbrev pub StaysUnfinished : Known → List ℕ → Type 0
 StaysUnfinished known [] = IsUnfinished known
 StaysUnfinished known (byte ∷ rest) = IsUnfinished known × StaysUnfinished (behind known byte) rest
 
--- and this is known behind them all
+-- and this is known after them all
 pub record Crosses (known : Known) (bytes : List ℕ) (next : Known) : Type 0 where
   pub stays : StaysUnfinished known bytes
   pub same : behind_all known bytes ≡ next
@@ -93,7 +93,7 @@ pub record IsPlain (byte : ℕ) : Type 0 where
   pub no_quote : is_quote byte ≡ false
   pub no_backslash : is_backslash byte ≡ false
 
--- what is known behind a byte outside strings, by what it is
+-- what is known after a byte outside strings, by what it is
 abbrev told : Place → ℕ → Bool → Bool → Bool → Bool → Known
 told place depth opening closing quote backslash = record {
   place = place;

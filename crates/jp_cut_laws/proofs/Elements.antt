@@ -27,7 +27,7 @@ abbrev pub KeepEach : Known → List ℕ → Type 0
 KeepEach known [] = ⊤
 KeepEach known (byte ∷ rest) = (element known byte ≡ does Kept (behind known byte)) × KeepEach (behind known byte) rest
 
--- and this is known behind them
+-- and this is known after them
 pub record Keep (known : Known) (bytes : List ℕ) (next : Known) : Type 0 where
   pub each : KeepEach known bytes
   pub same : behind_all known bytes ≡ next
@@ -146,7 +146,7 @@ value_begins (container object children) bytes h = begins_with 0x7B h.0 bytes h.
 tree_begins : (t : Tree) (bytes : List ℕ) → Writes bytes t → Begins bytes
 tree_begins (node s v) bytes h = value_begins v bytes h
 
--- ---- an element with white space behind it
+-- ---- an element with white space after it
 
 pub element_begins : (bytes : List ℕ) (t : Tree) → IsElement bytes t → Begins bytes × Keep whole bytes whole
 element_begins bytes t h =

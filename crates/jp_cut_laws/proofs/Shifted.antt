@@ -1,4 +1,4 @@
--- What comes behind a piece is cut as it is alone.
+-- What comes after a piece is cut as it is alone.
 use Rattle.std.proofs.Common.{◌≡◌, ℕ, ◌+◌, true, false, List, [], ◌∷◌, ◌++◌, refl, sym, ap, ap₂, ◌∙◌, arith, append_assoc, map}
 use Rattle.std.specs.Prelude.{fold}
 use Rattle.std.proofs.lemmas.List.{map_push}
@@ -14,7 +14,7 @@ use Rattle.jp_cut_laws.specs.Values.{IsValue, is_split, later, after_piece, open
 use Rattle.jp_cut_laws.proofs.Taken.{with_known, between, begun_at, one_more, open_taken, shown_taken, word_ended}
 use Rattle.jp_cut_laws.proofs.Whole.{value_written}
 
--- a cut behind these pieces, and this number of line feeds
+-- a cut after these pieces, and this number of line feeds
 abbrev pub after : List Piece → ℕ → Cut → Cut
 after front n cut = record { ended = front ++ map (later n) cut.ended; begun = cut.begun; line_feeds = n + cut.line_feeds; known = cut.known }
 
@@ -42,7 +42,7 @@ pub after_all : (pieces : Pieces) (front : List Piece) (n : ℕ) (cut : Cut) (by
 after_all pieces front n cut [] = refl
 after_all pieces front n cut (byte ∷ rest) = ap (λ (c : Cut). fold (take_in pieces) c rest) (after_one pieces front n cut byte) ∙ after_all pieces front n (take_in pieces cut byte) rest
 
--- behind the first piece of a stream
+-- after the first piece of a stream
 behind_first : (pieces : Pieces) (bytes rest : List ℕ) → fold (take_in pieces) (one_more [] 0 bytes) rest ≡ after_piece bytes (fold (take_in pieces) start rest)
 behind_first pieces bytes rest =
     ap (λ k. fold (take_in pieces) (between (record { bytes = bytes; is_closed = true; line_feeds = 0 } ∷ []) k) rest) (let e : 0 + line_feeds_in bytes ≡ line_feeds_in bytes + 0 = omega arith in e)

@@ -41,14 +41,14 @@ module _ (line : List ℕ) where
     pub same : unplaced here ≡ unplaced t
     pub short : has_long_exponent line here ≡ false
 
-  -- children like others, behind the opening bracket
+  -- children like others, after the opening bracket
   record FirstAt (kind : Container) (i j : ℕ) (c : Children) : Type 0 where
     here : Children
     spells : SpellsFirst line kind i j here
     same : unplaced_children here ≡ unplaced_children c
     short : children_have_long_exponent line here ≡ false
 
-  -- and behind a child
+  -- and after a child
   record MoreAt (kind : Container) (i j : ℕ) (c : Children) : Type 0 where
     here : Children
     spells : SpellsMore line kind i j here

@@ -40,7 +40,7 @@ follows : (isOpen : Bool) (rest : List ℕ) → (not isOpen || may_end_word rest
 follows true rest e is = e
 follows false rest e is = absurd (cc)
 
--- the pieces of some values, behind others
+-- the pieces of some values, after others
 pushed : (ended more : List Piece) (here others : List (List ℕ)) → bytes_and_ends more ≡ map closed here → bytes_and_ends (ended ++ more) ++ map closed others ≡ bytes_and_ends ended ++ map closed (here ++ others)
 pushed ended more here others e =
     ap (λ (xs : List Cutting). xs ++ map closed others) (map-append (λ (p : Piece). let made : Cutting = record { bytes = p.bytes; is_closed = p.is_closed } in made) ended more)
@@ -48,7 +48,7 @@ pushed ended more here others e =
     ∙ ap (λ (xs : List Cutting). bytes_and_ends ended ++ xs) (ap (λ (xs : List Cutting). xs ++ map closed others) e ∙ sym (map-append closed here others))
 
 module _ (pieces : Pieces) where
-  -- a number or a word ends at the end of the stream, or before what may come behind it
+  -- a number or a word ends at the end of the stream, or before what may come after it
   word_over : (ended : List Piece) (n : ℕ) (bytes rest : List ℕ) → may_end_word rest ≡ true → all_of (fold (take_in pieces) (begun_at ended n bytes (nothing_open Word)) rest) ≡ all_of (fold (take_in pieces) (one_more ended n bytes) rest)
   word_over ended n bytes [] e = sym (append-nil (ended ++ record { bytes = bytes; is_closed = true; line_feeds = n } ∷ []))
   word_over ended n bytes (byte ∷ rest) e = ap all_of (word_ended pieces ended n bytes byte rest e)

@@ -26,7 +26,7 @@ use Rattle.jp_cut_laws.proofs.Values.{IsOfWord, first_crosses, characters_cross,
 use Rattle.jp_cut_laws.proofs.Parts.{or_false}
 use Rattle.jp_cut_laws.specs.Values.{is_split}
 
--- what some bytes are cut into, with what is known behind them
+-- what some bytes are cut into, with what is known after them
 abbrev pub with_known : Cut → Known → Cut
 with_known cut known = record { ended = cut.ended; begun = cut.begun; line_feeds = cut.line_feeds; known = known }
 

@@ -21,7 +21,7 @@ pub record IsSeparator (byte : ℕ) (bytes : List ℕ) : Type 0 where
   pub white_before : IsWhite before
   pub white_after : IsWhite after
 
--- a closing bracket behind white space
+-- a closing bracket after white space
 pub record IsEnd (kind : Container) (bytes : List ℕ) : Type 0 where
   pub before : List ℕ
   pub joined : bytes ≡ before ++ closing kind ∷ []
@@ -110,13 +110,13 @@ abbrev mutual
   WritesValue bytes (string points) = IsString bytes points
   WritesValue bytes (container kind children) = (inside : List ℕ) × (bytes ≡ opening kind ∷ inside) × WritesFirst kind inside children
 
-  -- for children behind the opening bracket, with the closing one
+  -- for children after the opening bracket, with the closing one
   pub WritesFirst : Container → List ℕ → Children → Type 0
   WritesFirst kind bytes no_child = IsEnd kind bytes
   WritesFirst kind bytes (child name t more) =
       (white : List ℕ) × (label : List ℕ) × (text : List ℕ) × (rest : List ℕ) × (bytes ≡ white ++ (label ++ (text ++ rest))) × IsWhite white × IsLabel kind label name × Writes text t × WritesMore kind rest more
 
-  -- for children behind a child, with the closing bracket
+  -- for children after a child, with the closing bracket
   pub WritesMore : Container → List ℕ → Children → Type 0
   WritesMore kind bytes no_child = IsEnd kind bytes
   WritesMore kind bytes (child name t more) =

@@ -29,7 +29,7 @@ key_leads k = leads k.digits.items 0 (key_digits k) k.first
 above_zero : (k : KeySize) → digits_value k.digits.items ≡ 0 → ⊥
 above_zero k e = let h = some_digit k.digits.items 0 (key_digits k) k.first in absurd (omega arith)
 
--- the digits with zeros behind them, at a common exponent
+-- the digits with zeros after them, at a common exponent
 gathered : (v t a : ℕ) → v * 10 ^ t * 10 ^ a ≡ v * 10 ^ (t + a)
 gathered v t a = rw (pow-add 10 t a) (omega arith)
 

@@ -1,4 +1,4 @@
--- Digits without zeros behind them, compared as lists, are in the order of what they stand for.
+-- Digits without zeros after them, compared as lists, are in the order of what they stand for.
 use Rattle.std.proofs.Common.{◌≡◌, ℕ, zero, suc, ◌+◌, ◌-◌, ◌*◌, ◌^◌, ◌<◌, ◌≤◌, ◌≢◌, true, List, [], ◌∷◌, length, get_or, sym, inl, inr, ◌∙◌, ap, refl, arith, pow-add}
 use Rattle.std.specs.Ordering.{nat_cmp}
 use Rattle.std.specs.Cmp.Lexicographic.{slice_cmp}

@@ -38,7 +38,7 @@ not_zero d h n = grind (arith, nat_tests, h)
 pub leads : (ds : List ℕ) (k : ℕ) → AreDigits ds → get_or ds k 0x30 ≢ 0x30 → 0x30 < get_or ds k 0x30
 leads ds k a n = not_zero (get_or ds k 0x30) (digit_at ds k a) n
 
--- ---- digits behind those of another number
+-- ---- digits after those of another number
 
 least_digit : (d : ℕ) → is_digit d ≡ true → d ≤ 0x30 → d ≡ 0x30
 least_digit d h l = grind (arith, nat_tests, h)

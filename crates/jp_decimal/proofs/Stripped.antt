@@ -1,4 +1,4 @@
--- What is left of the digits without the zeros in front and behind.
+-- What is left of the digits without the zeros in front and after.
 use Rattle.std.proofs.Common.{◌≡◌, ℕ, suc, ◌+◌, ◌-◌, ◌*◌, ◌^◌, ◌<◌, ◌≤◌, ◌≢◌, Bool, true, false, subst, List, [], ◌∷◌, length, get_or, slice_range, sym, inl, inr, ◌∙◌, ap, refl, arith, ℤ, pos, ◌+ℤ◌, ◌-ℤ◌, length-append}
 use Rattle.std.specs.List.{list_all}
 use Rattle.std.proofs.lemmas.Bool.{cases_lt}

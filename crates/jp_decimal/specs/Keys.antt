@@ -1,4 +1,4 @@
--- For which numbers a key stands: its digits, and zeros behind them, are the digits of the number.
+-- For which numbers a key stands: its digits, and zeros after them, are the digits of the number.
 use Rattle.std.specs.Prelude.{◌≡◌, ℕ, ◌*◌, ◌^◌, Bool, true, false, length, ℤ, pos, ◌+ℤ◌, ◌-ℤ◌}
 use Rattle.std.specs.declared.cmp.Ordering.{Ordering}
 use Rattle.std.specs.declared.cmp.Ordering.TheVariants.{Less, Equal, Greater}

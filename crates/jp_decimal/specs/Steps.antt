@@ -1,4 +1,4 @@
--- What each step of reading takes off the bytes: an exponent part, what stands behind the int, and a number without its sign.
+-- What each step of reading takes off the bytes: an exponent part, what stands after the int, and a number without its sign.
 use Rattle.std.specs.Prelude.{◌≡◌, ℕ, nat_lt, ◌++◌, Bool, true, false, cond, List, length, ℤ, Option}
 use Rattle.jp_decimal.specs.declared.fault.NumberFault.{NumberFault}
 use Rattle.jp_decimal.specs.declared.fault.NumberFault.TheVariants.{Shape, Exponent}
@@ -6,7 +6,7 @@ use Rattle.jp_decimal.specs.declared.parts.Magnitude.{Magnitude}
 use Rattle.jp_model.specs.Json.Numbers as numeral
 use Rattle.jp_model.specs.Json.Numbers.{Numeral, IsNumeral, IsExponent, AreDigits, exponent_digits, exponent_bytes, exponent_value, fraction_bytes}
 
--- more than 15 digits of an exponent stand behind its leading zeros (profile)
+-- more than 15 digits of an exponent stand after its leading zeros (profile)
 abbrev pub is_long : Option numeral.Exponent → Bool
 is_long x = nat_lt 15 (length (exponent_digits x))
 

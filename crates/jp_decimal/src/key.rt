@@ -10,7 +10,7 @@ use std::cmp::Reverse;
 /// Digits, up to 16 of them in the key itself: most numbers have no more, and their keys have no memory of their own.
 pub type Digits = SmallVec<u8, 16>;
 
-/// The digits of a number that is not zero, without zeros in front and after, and the power of ten above the first:
+/// The digits of a number that is not zero, without zeros before and after, and the power of ten above the first:
 /// 0.`digits` times ten to the `power`.
 #[derive(Debug, PartialEq, Eq, PartialOrd, Ord, Drop)]
 pub struct KeySize {

@@ -1,3 +1,3 @@
--- What contracts say of devices that are watched, and of writers behind buffers.
+-- What contracts say of devices that are watched, and of writers after buffers.
 pub mod Devices
 pub mod Buffered

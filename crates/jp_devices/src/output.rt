@@ -29,7 +29,7 @@ pub fn flush_written<W: Write>(out: &mut Watched<W>) -> io::Result<()>
     Ok(())
 }
 
-/// Writes what the buffer holds, and flushes the writer behind it. A writer of which a call failed is left as it is.
+/// Writes what the buffer holds, and flushes the writer behind it. A writer that failed a call is left as it is.
 pub fn write_out<W: Write + Drop>(out: BufWriter<Watched<W>>) -> Watched<W>
     ensures took { Took result (filled out) }
     ensures flushed { result.failed ≡ false → result.unflushed ≡ false }

@@ -24,7 +24,7 @@ impl Passed {
         Passed {}
     }
 
-    /// Adds bytes behind the others.
+    /// Adds bytes after the others.
     #[inline(always)]
     pub(crate) fn add(&mut self, _more: &[u8])
         ensures { self.new.bytes ≡ self.old.bytes ++ _more.now }

@@ -3,7 +3,7 @@
 use std::alloc::{AllocError, Global};
 use std::env::{Env, FillError};
 
-/// The bytes as text, with U+FFFD in the place of what is none.
+/// The bytes as text, with U+FFFD in place of each sequence that is not UTF-8.
 fn shown(alloc: Global, bytes: &[u8]) -> Result<String, AllocError> {
     let mut text = String::new(alloc);
     for chunk in bytes.utf8_chunks() {

@@ -37,7 +37,7 @@ impl<T> Model for Watched<T> {
 }
 
 impl<T> Watched<T> {
-    /// A device of which no call was made yet.
+    /// A device that was not called yet.
     pub fn new(device: T) -> Watched<T>
         ensures device { result.device ≡ device }
         ensures given { result.given ≡ [] }
@@ -105,8 +105,8 @@ impl<T> Watched<T> {
         self.after
     }
 
-    /// The number of reads that nothing shows to have come behind a flush: those made while the writer that they were told of
-    /// had bytes unflushed, and those told of no writer. It stays at 18,446,744,073,709,551,615 once there.
+    /// The number of reads that nothing shows to have come after a flush: those made while the writer that they were given
+    /// had bytes unflushed, and those given no writer. It stays at 18,446,744,073,709,551,615 once there.
     pub fn early(&self) -> u64
         ensures { result ≡ self.now.early }
     {
@@ -135,7 +135,7 @@ impl<T> Watched<T> {
 
 impl<R: Read> Watched<R> {
     /// Makes one call of the reader's `read`, and answers what it answers: the number of bytes that it put at the front
-    /// of `bytes`, or its error. It is told of no writer, so the call counts as an early one.
+    /// of `bytes`, or its error. It is given no writer, so the call counts as an early one.
     pub fn read(&mut self, bytes: &mut [u8]) -> io::Result<usize>
         ensures bound { ReadsAtMost result bytes.new }
         ensures bytes { ReadConsumes (R.remaining self.old.device) (R.remaining self.new.device) result bytes.new }

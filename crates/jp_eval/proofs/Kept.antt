@@ -102,7 +102,7 @@ get_before [] ys k x h = absurd (omega (arith, h))
 get_before (y ∷ xs) ys zero x h = refl
 get_before (y ∷ xs) ys (suc k) x h = get_before xs ys k x (omega (arith, h))
 
--- one more of a part is put behind the list
+-- one more of a part is put after the list
 pub next_copied : (old now : List Cursor) (start end position : ℕ) (c : Cursor) → start ≤ position → position < end → end ≤ length old → now ≡ old ++ take (position - start) (between start end old)
     → c ≡ get_or now position c → now ++ c ∷ [] ≡ old ++ take (position + 1 - start) (between start end old)
 next_copied old now start end position c low high within is at =

@@ -9,7 +9,7 @@ use Rattle.jp_eval.specs.declared.program.Slot.{Slot}
 use Rattle.jp_eval.specs.declared.program.Step.{Step}
 use Rattle.jp_eval.proofs.Meanings.{both_mean, map_last, means_by, whole}
 
--- a segment, and those behind it
+-- a segment, and those after it
 abbrev pub onward_from : Segment → Onward
 onward_from s = segment (segment_view s)
 

@@ -16,12 +16,12 @@ means_so {A} old new v x e h = record { grows = ([], ap table_of e ∙ sym (appe
 pub means_by : {A B : Type 0} {old new : List Slot} {v : Table → A} {x : A} (f : A → B) (w : Table → B) (y : B) → ((table : Table) → w table ≡ f (v table)) → y ≡ f x → Means old new v x → Means old new w y
 means_by {A} {B} {old} {new} {v} {x} f w y h e m = record { grows = m.grows; is = λ more. h (table_of new ++ more) ∙ (ap f (m.is more) ∙ sym e) }
 
--- what was compiled before, behind more slots
+-- what was compiled before, after more slots
 pub later : {A : Type 0} {old mid : List Slot} {v : Table → A} {x : A} (new : List Slot) → Means old mid v x → Grows mid new → (more : Table) → v (table_of new ++ more) ≡ x
 later {A} {old} {mid} {v} {x} new m g more =
     ap v (ap (λ (t : Table). t ++ more) g.1 ∙ append_assoc (table_of mid) g.0 more) ∙ m.is (g.0 ++ more)
 
--- two parts, one behind the other
+-- two parts, one after the other
 pub both_mean : {A B D : Type 0} {old mid new : List Slot} {v : Table → A} {x : A} {w : Table → B} {y : B} (f : A → B → D) (u : Table → D) (z : D)
     → ((table : Table) → u table ≡ f (v table) (w table)) → z ≡ f x y → Means old mid v x → Means mid new w y → Means old new u z
 both_mean {A} {B} {D} {old} {mid} {new} {v} {x} {w} {y} f u z h e a b = record {
@@ -72,7 +72,7 @@ slot_means {A} old new m u read position y h e grown p =
           h (table_of new ++ more) ∙ (ap read found ∙ sym e);
     }
 
--- what was compiled behind other slots
+-- what was compiled after other slots
 pub means_behind : {A : Type 0} {old mid new : List Slot} {v : Table → A} {x : A} → Grows old mid → Means mid new v x → Means old new v x
 means_behind {A} {old} {mid} {new} g m = record { grows = grows_on old mid new g m.grows; is = m.is }
 

@@ -7,7 +7,7 @@ use Rattle.std.proofs.lemmas.Option.{slice_get_past, slice_get_within}
 use Rattle.jp_eval.specs.Programs.{Meant, Table, slot_view, table_behind, table_of}
 use Rattle.jp_eval.specs.declared.program.Slot.{Slot}
 
--- slots behind others
+-- slots after others
 behind_more : (table : Table) (a b : List Slot) → table_behind table (a ++ b) ≡ table_behind (table_behind table a) b
 behind_more table [] b = refl
 behind_more table (slot ∷ a) b = behind_more (table ++ slot_view table slot ∷ []) a b
@@ -25,7 +25,7 @@ length_behind table (slot ∷ slots) =
 pub length_table : (slots : List Slot) → length (table_of slots) ≡ length slots
 length_table slots = let size = length_behind [] slots in omega (arith, size)
 
--- the table that slots are put behind stands at the front
+-- the table that slots are put after stands at the front
 grown : (table : Table) (slots : List Slot) → (more : Table) × (table_behind table slots ≡ table ++ more)
 grown table [] = ([], sym (append-nil table))
 grown table (slot ∷ slots) =
@@ -33,18 +33,18 @@ grown table (slot ∷ slots) =
     let others = grown (table ++ meant ∷ []) slots in
     (meant ∷ others.0, others.1 ∙ append_assoc table (meant ∷ []) others.0)
 
--- an item, between those before it and those behind
+-- an item, between those before it and those after
 item_between : {A : Type 0} (l : List A) (i : ℕ) (x : A) → slice_get l i ≡ Some x → l ≡ (take i l ++ x ∷ []) ++ drop (suc i) l
 item_between [] i x e = absurd (cc)
 item_between (y ∷ l) zero x e = let same : y ≡ x = cc in ap (λ z. z ∷ l) same
 item_between (y ∷ l) (suc i) x e = ap (λ m. y ∷ m) (item_between l i x e)
 
--- what stands behind a list of this length
+-- what stands after a list of this length
 pub get_behind : {A : Type 0} (l : List A) (x : A) (more : List A) → slice_get ((l ++ x ∷ []) ++ more) (length l) ≡ Some x
 get_behind [] x more = refl
 get_behind (y ∷ l) x more = get_behind l x more
 
--- in the table of some slots, one behind the first of them, and those before it
+-- in the table of some slots, one after the first of them, and those before it
 meant_behind : (before : List Slot) (slot : Slot) (others : List Slot) → (slice_get (table_of ((before ++ slot ∷ []) ++ others)) (length before) ≡ Some (slot_view (table_of before) slot)) × (take (length before) (table_of ((before ++ slot ∷ []) ++ others)) ≡ table_of before)
 meant_behind before slot others =
     let front : Table = table_of before in

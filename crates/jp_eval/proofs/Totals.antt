@@ -142,7 +142,7 @@ total_so line most a b xs ys l h = by (is_listed most) l h
     by true e h = absurd (cc)
     by false e h = (ap (λ (t : Tally). t.nodes) h, ap (λ (t : Tally). t.total) h)
 
--- the same list with others behind it, and as much counted
+-- the same list with others after it, and as much counted
 pub listed_so : (line : List ℕ) (most : ℕ) (a b : Frame) (xs ys : List Node) → is_listed most ≡ true → map node_of a.found.items ++ xs ≡ map node_of b.found.items ++ ys → a.sum ≡ b.sum → tally line most a xs ≡ tally line most b ys
 listed_so line most a b xs ys l f h = by (is_listed most) l
   where
@@ -172,7 +172,7 @@ not_listed most = by (is_listed most)
 pub is_all : (most : ℕ) → most ≡ 18446744073709551615 → is_listed most ≡ true
 is_all most e = eq-eqb most 18446744073709551615 e
 
--- the nodes behind a list
+-- the nodes after a list
 pub listed_behind : (line : List ℕ) (most : ℕ) (a b : Frame) (selected : List Node) → most ≡ 18446744073709551615 → tally line most a [] ≡ tally line most b selected → map node_of a.found.items ≡ map node_of b.found.items ++ selected
 listed_behind line most a b selected l h = sym (append-nil (map node_of a.found.items)) ∙ nodes_so line most a b [] selected (is_all most l) h
 

@@ -23,7 +23,7 @@ use Rattle.jp_values.specs.Values.{value_view, is_sound_value}
 abbrev pub slots_in : Run → Table
 slots_in run = table_of run.slots.now
 
--- the meanings of those that the part at hand refers to
+-- the meanings of those that the part being answered refers to
 abbrev pub table_in : Run → Table
 table_in run = take run.known (slots_in run)
 

@@ -6,7 +6,7 @@ use Rattle.jp_nodes.specs.Cursors.{node_of}
 use Rattle.jp_children.specs.Found.{AreOf}
 use Rattle.jp_eval.specs.declared.frame.Frame.{Frame}
 
--- behind the old cursors stand others, of this line
+-- after the old cursors stand others, of this line
 pub record Adds (line : List ℕ) (old new : List Cursor) : Type 0 where
   pub others : List Cursor
   pub is : new ≡ old ++ others

@@ -69,11 +69,11 @@ side_at table position = side_or_none (slice_get table position)
 abbrev pub tail_at : Table → ℕ → syntax.Segments
 tail_at table position = tail_or_none (slice_get table position)
 
--- a step is seen as a query by the segments behind it
+-- a step is seen as a query by the segments after it
 abbrev pub Onward : Type 0
 Onward = syntax.Segments → syntax.Segments
 
--- the query of some steps, of which each is seen
+-- the query of some steps, each of them seen
 abbrev pub onward : List Onward → syntax.Segments
 onward [] = syntax.no_segments
 onward (step ∷ steps) = step (onward steps)
@@ -135,7 +135,7 @@ found_step (Found-F.Length a) = syntax.result (length_call (argument_of a.value)
 found_step (Found-F.Count ss) = syntax.result (count_call (here (onward ss.items)))
 found_step (Found-F.Value ss) = syntax.result (value_call (here (onward ss.items)))
 
--- a segment, and those behind it; the steps of a slot end the query
+-- a segment, and those after it; the steps of a slot end the query
 abbrev pub step_step : Table → Step-F syntax.Selector syntax.Logical syntax.Comparable syntax.Comparable syntax.Comparable syntax.Argument Onward syntax.Logical → Onward
 step_step table (Step-F.Step::One key) = syntax.segment (key_segment key)
 step_step table (Step-F.Child ss) = syntax.segment (syntax.child_segment (selectors_of ss.items))
@@ -172,7 +172,7 @@ sought_view table = fold-Sought syntax.Selector syntax.Logical syntax.Comparable
 abbrev pub found_view : Table → Found → syntax.Comparable
 found_view table = fold-Found syntax.Selector syntax.Logical syntax.Comparable syntax.Comparable syntax.Comparable syntax.Argument Onward syntax.Logical choice_step (condition_step table) found_step operand_step (sought_step table) spelled_step (step_step table) test_step
 
--- the segment of a step, and those behind it
+-- the segment of a step, and those after it
 abbrev pub step_view : Table → Step → Onward
 step_view table = fold-Step syntax.Selector syntax.Logical syntax.Comparable syntax.Comparable syntax.Comparable syntax.Argument Onward syntax.Logical choice_step (condition_step table) found_step operand_step (sought_step table) spelled_step (step_step table) test_step
 
@@ -200,7 +200,7 @@ slot_view table (slots.Test test) = expression (test_view table test)
 slot_view table (slots.Value found) = side (found_view table found)
 slot_view table (slots.Steps steps) = tail (steps_view table steps.items)
 
--- the table that some slots make behind those of another one
+-- the table that some slots make after those of another one
 abbrev pub table_behind : Table → List Slot → Table
 table_behind table [] = table
 table_behind table (slot ∷ more) = table_behind (table ++ slot_view table slot ∷ []) more
@@ -213,7 +213,7 @@ table_of = table_behind []
 abbrev pub Grows : List Slot → List Slot → Type 0
 Grows old new = (more : Table) × (table_of new ≡ table_of old ++ more)
 
--- From the old slots it came to these, and what was compiled means this, whatever slots come behind them.
+-- From the old slots it came to these, and what was compiled means this, whatever slots come after them.
 pub record Means {A : Type 0} (old new : List Slot) (view : Table → A) (meaning : A) : Type 0 where
   pub grows : Grows old new
   pub is : (more : Table) → view (table_of new ++ more) ≡ meaning

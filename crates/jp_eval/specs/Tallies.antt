@@ -41,7 +41,7 @@ pub record Tally : Type 0 where
 abbrev pub is_listed : ℕ → Bool
 is_listed most = most == 18446744073709551615
 
--- they stand behind those of the list, or are counted
+-- they stand after those of the list, or are counted
 abbrev pub tallied : Bool → ℕ → List Node → Total → List Node → Tally
 tallied true most listed counted found = record { nodes = listed ++ found; total = Some counted }
 tallied false most listed counted found = record { nodes = listed; total = cut most (plus counted found) }

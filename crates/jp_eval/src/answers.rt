@@ -15,7 +15,7 @@ use crate::program::{Found, Slot, Step, Test};
 use jp_values::Value;
 
 impl<'p, 'a> Run<'p, 'a> {
-    /// Makes room for the answers that the part at hand refers to.
+    /// Makes room for the answers that the part being answered refers to.
     #[inline(never)]
     pub(crate) fn prepare(self, frame: &mut Frame<'a>) -> Result<()>
         requires { IsKept self frame.old }

@@ -23,7 +23,7 @@ use std::alloc::Global;
 pub(crate) struct Compiler {
     pub(crate) alloc: Global,
     pub(crate) slots: Vec<Slot>,
-    /// How the nodes lie that the part at hand goes from, or is asked of.
+    /// How the nodes lie that the part being compiled goes from, or is asked of.
     pub(crate) ways: Ways,
 }
 
@@ -73,7 +73,7 @@ impl Compiler {
         Ok(Step::Known(position))
     }
 
-    /// The steps of parts, each behind the first a slot.
+    /// The steps of parts, each after the first a slot.
     fn link(&mut self, parts: Parts) -> Result<Vec<Step>>
         ensures { (old : List Slot) (seen : List Onward) → Means old self.old.slots.items (λ (table : Table). map (step_view table) (steps_in parts)) seen → IfOk result (λ steps. Means old self.new.slots.items (λ (table : Table). steps_view table steps.items) (onward seen)) }
     {

@@ -16,7 +16,7 @@ use std::alloc::{AllocError, Global};
 pub(crate) struct Run<'p, 'a> {
     pub(crate) alloc: Global,
     pub(crate) slots: &'p [Slot],
-    /// How many of them, from the first on, the part at hand refers to.
+    /// How many of them, from the first on, the part that is being answered refers to.
     pub(crate) known: usize,
     pub(crate) root: &'p Cursor<'a>,
     ghost at_root: { place_of root.now ≡ 0 },

@@ -26,7 +26,7 @@ pub(crate) struct Elements<'a> {
 }
 
 impl<'a> Elements<'a> {
-    /// Those of a node, of which none was looked for.
+    /// Those of a node, with none looked for yet.
     #[inline(always)]
     pub(crate) fn of(node: Cursor<'a>) -> Elements<'a>
         ensures node { result.node ≡ node.entry }

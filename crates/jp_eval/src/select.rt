@@ -211,7 +211,7 @@ impl<'r, 'a> Walk<'r, 'a> {
         Ok(())
     }
 
-    /// Adds what the steps select from each child of which the condition holds. One that asks the root alone is asked once.
+    /// Adds what the steps select from each child for which the condition holds. One that asks the root alone is asked once.
     #[cycle(eval)]
     #[inline(never)]
     fn push_where(
@@ -233,7 +233,7 @@ impl<'r, 'a> Walk<'r, 'a> {
         self.push_tested(node, condition, rest, frame)
     }
 
-    /// Adds what the steps select from each child of which the condition holds.
+    /// Adds what the steps select from each child for which the condition holds.
     #[cycle(eval)]
     #[inline(always)]
     fn push_tested(

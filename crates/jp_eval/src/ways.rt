@@ -53,7 +53,7 @@ impl Ways {
         }
     }
 
-    /// Whether a second way may lead to what a step selects from, so that what it and those behind it select is remembered. One
+    /// Whether a second way may lead to what a step selects from, so that what it and those after it select is remembered. One
     /// to all below a node leads to all below each of these. A name or an index is found again sooner than it is looked up.
     pub(crate) fn repeats(self, step: &Step) -> bool {
         match step {
@@ -64,7 +64,7 @@ impl Ways {
     }
 }
 
-/// The steps of a query, in their order and in parts: behind the first, each begins with a step that a second way may lead to.
+/// The steps of a query, in their order and in parts: after the first, each begins with a step that a second way may lead to.
 #[derive(Drop)]
 pub(crate) struct Parts {
     pub(crate) before: Vec<Vec<Step>>,

@@ -1,4 +1,4 @@
-//! What is written of a stream, and told of it.
+//! What is written of a stream, and which messages there are about it.
 
 use jp_cut::Pieces;
 use jp_model::Framing;
@@ -48,7 +48,7 @@ pub enum Shown {
     Cells(Table),
 }
 
-/// What is written behind the rows of a stream.
+/// What is written after the rows of a stream.
 #[derive(Clone, Copy, Debug, PartialEq, Eq)]
 pub enum Summary {
     Nothing,
@@ -60,7 +60,7 @@ pub enum Summary {
     NameWithout,
 }
 
-/// What is written of a stream, and told of it.
+/// What is written of a stream, and which messages there are about it.
 #[derive(Clone, Copy)]
 pub struct Form<'a> {
     /// What of the stream plays the lines.
@@ -73,12 +73,12 @@ pub struct Form<'a> {
     pub name: &'a str,
     /// Whether the name stands in front of each row, with a colon.
     pub named: bool,
-    /// Whether a NUL stands behind the name, in place of the colon or the line feed.
+    /// Whether a NUL stands after the name, in place of the colon or the line feed.
     pub null: bool,
     /// Whether the number of the line, from 1, stands in front of each row, with a colon.
     pub numbered: bool,
-    /// Whether refused lines are no fault: nothing is told of them, and the exit status is none the worse for them.
+    /// Whether refused lines are no fault: there is no message about them, and the exit status is none the worse for them.
     pub silent: bool,
-    /// How many selected lines are wanted. What stands behind the last of them is not read.
+    /// How many selected lines are wanted. What stands after the last of them is not read.
     pub most: u64,
 }

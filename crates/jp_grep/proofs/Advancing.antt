@@ -103,7 +103,7 @@ memory_no_size fault h e = apart (sym h ∙ e)
     apart : faults.Memory ≡ faults.Size → ⊥
     apart f = cc
 
--- where a size is told of numbers alone, it is told of a size
+-- where the size is that of numbers alone, it is a size
 pub numbers_tell : (r : Result Unit SearchFault) (source : Source) (more : ℕ) (before : Progress) (items : List Item) → TellsOfNumbers r before items → TellsOfSize r source more before items
 numbers_tell (Ok x) source more before items h = tt
 numbers_tell (Err e) source more before items h = λ is. inr (h is)

@@ -40,7 +40,7 @@ module _ (q : Question) (f : Form) (n : ℕ) (line : List ℕ) (t : Tree) where
       let others = filter (is_selected q t) rest in
       ap (λ l. take most l) (filter-append (is_selected q t) front rest) ∙ ap (λ k. take k (chosen ++ others)) (sym as_many) ∙ take-append_seam chosen others
 
-  -- as many are selected as are wanted, and those behind them are left out
+  -- as many are selected as are wanted, and those after them are left out
   pub enough_wanted : (most : ℕ) (front rest : List Node) → length (filter (is_selected q t) front) ≡ most → first_rows most (front ++ rest) ≡ flat_map (asked_rows q f n line t) front
   enough_wanted most front rest as_many = ap (flat_map (node_rows f.shown q f n line t)) (first_selected most front rest as_many) ∙ rows_selected front
 
@@ -56,7 +56,7 @@ module _ (q : Question) (f : Form) (n : ℕ) (line : List ℕ) (t : Tree) where
   next_selected true (suc most) node nodes some = (flat_map (node_rows f.shown q f n line t) (take most nodes), flat_map-cons (node_rows f.shown q f n line t) node (take most nodes))
   next_selected false most node nodes some = (flat_map (node_rows f.shown q f n line t) (take most nodes), refl)
 
-  -- the rows of the next node come behind those before it, where more are wanted
+  -- the rows of the next node come after those before it, where more are wanted
   pub next_wanted : (most : ℕ) (front : List Node) (node : Node) (rest : List Node) → length (filter (is_selected q t) front) < most
       → (others : List (List ℕ)) × (first_rows most ((front ++ node ∷ []) ++ rest) ≡ (flat_map (asked_rows q f n line t) front ++ asked_rows q f n line t node) ++ others)
   next_wanted most front node rest fewer =

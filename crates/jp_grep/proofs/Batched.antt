@@ -14,7 +14,7 @@ none_left : (most before count : ℕ) → before + count ≡ most → (most - be
 none_left most before count e = omega (arith, e)
 
 module _ (question : Question) (form : Form) (before : ℕ) (done : List Item) where
-  -- behind those that are answered as many are as are left
+  -- after those that are answered as many are as are left
   behind : (rest : List Item) → answered_of question form before (done ++ rest)
       ≡ answered_of question form before done ++ up_to question ((form.most - before) - selected_count question (answered_of question form before done)) rest
   behind rest = up_to-append question (form.most - before) done rest
@@ -55,7 +55,7 @@ module _ (question : Question) (form : Form) (done : List Item) (item : Item) wh
   messages_more before n =
       messages-append question form before n done (item ∷ []) ∙ ap (λ l. messages_from form before n done ++ l) (messages_one question form (before + refused_count done) (n + length done) item)
 
-  -- what is written of all: of those before the item, of it, and of those behind it
+  -- what is written of all: of those before the item, of it, and of those after it
   pub rows_around : (n : ℕ) (all rest : List Item) → all ≡ (done ++ item ∷ []) ++ rest
       → output_from question form n all ≡ (output_from question form n done ++ item_rows question form (n + length done) item) ++ output_from question form (n + length (done ++ item ∷ [])) rest
   rows_around n all rest e =

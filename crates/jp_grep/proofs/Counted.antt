@@ -31,7 +31,7 @@ module _ (question : Question) where
   few_up_to (suc most) [] = omega arith
   few_up_to (suc most) (item ∷ rest) = let l = few_up_to (suc most - selected_in question (cut_to (suc most) item)) rest in omega (arith, l)
 
-  -- of more items, those behind the first are taken as far as they are wanted then
+  -- of more items, those after the first are taken as far as they are wanted then
   pub up_to-append : (most : ℕ) (xs ys : List Item) → up_to question most (xs ++ ys) ≡ up_to question most xs ++ up_to question (most - selected_count question (up_to question most xs)) ys
   up_to-append zero xs ys = ap (λ n. up_to question n ys) (none_less (selected_count question (up_to question zero xs)))
     where

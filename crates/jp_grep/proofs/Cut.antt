@@ -35,7 +35,7 @@ parted framings.Lines front rest more h = lines_parted front (rest ++ more) (non
 parted framings.Sequence front rest more h =
     subst (λ l. sequence_texts (front ++ (l ++ more)) ≡ sequence_texts front ++ sequence_texts (l ++ more)) (sym h.1) (sequence_parted front (h.0 ++ more))
 
--- the pieces in front of a separator behind which none stands
+-- the pieces in front of a separator after which none stands
 all_closed : (front text : List ℕ) → HasNoSeparator 30 text → closed_pieces 30 (front ++ 30 ∷ text) ≡ pieces 30 front
 all_closed front text clear =
     let only : pieces 30 text ≡ text ∷ [] = sym (pieces_are 30 text) ∙ ap₂ (λ (ps : List (List ℕ)) (p : List ℕ). ps ++ p ∷ []) (closed_clear 30 text clear) (open_clear 30 text clear) in

@@ -1,4 +1,4 @@
--- A byte order mark at the front of a text, and more behind it.
+-- A byte order mark at the front of a text, and more after it.
 use Rattle.std.proofs.Common.{◌≡◌, ℕ, List, [], ◌∷◌, ◌++◌, take, drop, Bool, true, false, refl, sym, ap, ap₂, subst, ◌∙◌, ◌&&◌, if◌then◌else◌}
 use Rattle.std.specs.Prelude.{eqb, bytes_eq}
 use Rattle.std.specs.List.{starts_with}
@@ -45,7 +45,7 @@ module _ (byte : ℕ) (first : eqb byte 0xEF ≡ false) (second : eqb byte 0xBB 
   at_third : (a b : ℕ) (more : List ℕ) → text_equal (take 3 (a ∷ b ∷ byte ∷ more)) Mark ≡ false
   at_third a b more = ap (λ t. eqb a 0xEF && (eqb b 0xBB && (t && true))) third ∙ ap (λ t. eqb a 0xEF && t) (and_false (eqb b 0xBB)) ∙ and_false (eqb a 0xEF)
 
-  -- the byte stands behind the text
+  -- the byte stands after the text
   pub goes_on_behind : (text rest : List ℕ) → GoesOn text (byte ∷ rest)
   goes_on_behind [] rest = absent (byte ∷ rest) (at_first rest)
   goes_on_behind (a ∷ []) rest = absent (a ∷ byte ∷ rest) (at_second a rest) ∙ ap (λ l. l ++ byte ∷ rest) (sym (short a))
@@ -96,7 +96,7 @@ settled_mark (a ∷ b ∷ []) more h = by (eqb a 0xEF) (eqb b 0xBB) refl refl
     by v w e f = either v w e f (ap₂ (λ (s t : Bool). s && t) (sym e) (sym f) ∙ ap (λ t. eqb a 0xEF && t) (sym (and_true (eqb b 0xBB))) ∙ h)
 settled_mark (a ∷ b ∷ c ∷ text) more h = three a b c text more
 
--- where the last line ends in a text, a mark goes on behind it
+-- where the last line ends in a text, a mark goes on after it
 pub goes_on : (framing : Framing) (front rest more : List ℕ) → EndsBetween framing front rest → GoesOn front (rest ++ more)
 goes_on framings.Lines front rest more h = subst (λ l. GoesOn l (rest ++ more)) (sym h.1) (goes_on_ended 10 refl refl refl h.0 (rest ++ more))
 goes_on framings.Sequence front rest more h = subst (λ l. GoesOn front (l ++ more)) (sym h.1) (goes_on_behind 30 refl refl refl front (h.0 ++ more))

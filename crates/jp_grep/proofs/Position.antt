@@ -84,7 +84,7 @@ still_cut : (framing : Framing) (before front rest : List ℕ) → EndsBetween f
 still_cut framings.Lines before front rest h = (before ++ h.0, ap (λ l. before ++ l) h.1 ∙ sym (append_assoc before h.0 (10 ∷ [])), h.2)
 still_cut framings.Sequence before front rest h = h
 
--- a line ended, behind others
+-- a line ended, after others
 behind_more : (framing : Framing) (came held front rest : List ℕ) (answered : List (List ℕ)) → EndsBetween framing front rest → IsBehind framing came held answered
     → IsBehind framing (came ++ (front ++ rest)) rest (answered ++ lines_in framing (held ++ front))
 behind_more framing came held front rest answered h at =

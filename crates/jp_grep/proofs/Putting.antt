@@ -1,4 +1,4 @@
--- Rows that are put behind what is held, one after another.
+-- Rows that are put after what is held, one after another.
 use Rattle.std.proofs.Common.{◌≡◌, ◌∙◌, ℕ, List, [], ◌++◌, drop, length, sym, ap, subst, append_assoc, append-nil, take-append-drop, Option, Result, Ok, Err, IsErr}
 use Rattle.std.proofs.Math.Seq.{take-append_seam}
 use Rattle.jp_devices.specs.Devices.{Begins, Device, Received, Writes}
@@ -45,7 +45,7 @@ module _ {W : Type 0} {contents : W → Option (List ℕ)} where
     both_received a b c p.0 q.0 p.2 q.2,
   )
 
-  -- a beginning of a text behind another
+  -- a beginning of a text after another
   pub part_put : (a b c : Device W) (first second third x y : List ℕ) → HoldsBack contents a b first second x → HoldsPart contents b c second third y → HoldsPart contents a c first third (x ++ y)
   part_put a b c first second third x y p q =
       let behind : Begins (p.0 ++ (q.0 ++ third)) (p.0 ++ (second ++ y)) = begins_behind p.0 (q.0 ++ third) (second ++ y) q.1 in
@@ -63,7 +63,7 @@ module _ {W : Type 0} {contents : W → Option (List ℕ)} where
   pub put_so_far : (a b : Device W) (first second x : List ℕ) → HoldsBack contents a b first second x → HoldsPart contents a b first second x
   put_so_far a b first second x p = (p.0, subst (λ l. Begins l (first ++ x)) p.1 (begins_all (first ++ x)), p.2)
 
-  -- a beginning of the text that comes next, behind the texts so far
+  -- a beginning of the text that comes next, after the texts so far
   pub put_next : (a b c : Device W) (first second third front one rest all : List ℕ) → all ≡ (front ++ one) ++ rest → HoldsBack contents a b first second front → HoldsPart contents b c second third one
       → HoldsPart contents a c first third all
   put_next a b c first second third front one rest all is p q =
@@ -94,7 +94,7 @@ module _ {W : Type 0} {contents : W → Option (List ℕ)} where
         both_received a b c p.0 w.0 p.2 w.2,
       )
 
-  -- what is held is written behind the rest
+  -- what is held is written after the rest
   pub held_written : {A E : Type 0} (result : Result A E) (a b c : Device W) (held text : List ℕ) → HoldsBack contents a b [] held text → Writes contents b c result held → Writes contents a c result text
   held_written (Ok x) a b c held text p w = subst (λ l. Received contents a c l) (sym p.1) (both_received a b c p.0 held p.2 w)
   held_written (Err e) a b c held text p w = part_written a b c held text (put_so_far a b [] held text p) w

@@ -256,7 +256,7 @@ module _ (question : Question) (form : Form) where
           fewer : (selected most count : ℕ) → selected ≤ most → (selected ≡ most → ⊥) → selected ≡ count → count < most
           fewer selected most count l e is = omega (arith, l, e, is)
 
-      -- a beginning of the answer of these lines, and of others behind them
+      -- a beginning of the answer of these lines, and of others after them
       pub in_part : (out2 : Device W) (told2 : Device E) (more : List Item)
           → Part rows_in out1 out2 (output_from question form progress.number (answered_of question form progress.counts.selected more))
           → Part messages_in told1 told2 (messages_from form progress.counts.refused progress.number (answered_of question form progress.counts.selected more))
@@ -323,7 +323,7 @@ module _ (question : Question) (form : Form) where
           end = ends_whole (came_so came true failed) (outcomes ++ answers.outcomes) found unread (framed.format, subst (λ ls. CameOfEach ls (outcomes ++ answers.outcomes)) (sym all) both_each, inl refl);
         }
 
-    -- how many more are refused is told behind them
+    -- how many more are refused is told after them
     pub told_to_end : (out0 out1 : Device W) (told0 told1 told2 : Device E) (lines : List Item) (count : ℕ) → count ≡ refused_count lines
         → Answered rows_in messages_in question form out0 out1 told0 told1 lines → Received messages_in told1 told2 (more_refused form count)
         → AnsweredToEnd rows_in messages_in question form out0 out1 told0 told2 lines

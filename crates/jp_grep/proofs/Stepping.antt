@@ -78,7 +78,7 @@ of_report faults.Write h = absurd (cc)
 of_report faults.Report h = refl
 of_report faults.Memory h = absurd (cc)
 
--- the last read brought these bytes, and behind those before it more was wanted
+-- the last read brought these bytes, and after those before it more was wanted
 pub read_last : (question : Question) (form : Form) {R : Type 0} (old new : Input R) (came last : List ℕ) (outcomes more : List Item) → length last ≡ new.last → WantsMore question form came outcomes
     → ReadOn question form old new (came ++ last) (outcomes ++ more)
 read_last question form old new came last outcomes more count wants = inr (record {

@@ -115,7 +115,7 @@ pub none_ended : (pieces : Pieces) (bytes : List ℕ) → begins_mark bytes ≡ 
 unfolding begins_mark
 none_ended pieces bytes h = plain_uncut pieces (without_byte_order_mark bytes) (plain_unmarked bytes (one_plain marks bytes h refl))
 
--- bytes that have no mark and are no beginning of one have none with more bytes behind them
+-- bytes that have no mark and are no beginning of one have none with more bytes after them
 no_mark_more : (mark bytes more : List ℕ) → starts_with eqb bytes mark ≡ false → starts_with eqb mark bytes ≡ false → starts_with eqb (bytes ++ more) mark ≡ false
 no_mark_more [] bytes more s h = absurd (cc)
 no_mark_more (m ∷ mark) [] more s h = absurd (cc)

@@ -8,7 +8,7 @@ use Rattle.jp_devices.specs.Devices.{Device, Received, Writes}
 use Rattle.jp_devices.proofs.Devices.{received_none}
 use Rattle.jp_devices.proofs.Chains.{Part, part_behind, part_more}
 
--- the items before one, that one, and those behind it
+-- the items before one, that one, and those after it
 pub around : {X : Type 0} (xs : List X) (i : ℕ) (d : X) → i < length xs → xs ≡ (take i xs ++ get_or xs i d ∷ []) ++ drop (i + 1) xs
 around xs i d within =
     sym (take-append-drop i xs)
@@ -46,7 +46,7 @@ module _ {W : Type 0} {contents : W → Option (List ℕ)} where
   pub part_so_far : (old new : Device W) (a : List ℕ) → Received contents old new a → Part contents old new a
   part_so_far old new a w = subst (λ t. Part contents old new t) (append-nil a) (part_behind old new new a [] w ([], refl, none_received new))
 
-  -- a beginning of the piece that comes next, behind the pieces so far, begins the text
+  -- a beginning of the piece that comes next, after the pieces so far, begins the text
   pub part_next : (old mid new : Device W) (front one rest all : List ℕ) → all ≡ (front ++ one) ++ rest → Received contents old mid front → Part contents mid new one → Part contents old new all
   part_next old mid new front one rest all is w p = subst (λ t. Part contents old new t) (sym is) (part_more old new (front ++ one) rest (part_behind old mid new front one w p))
 

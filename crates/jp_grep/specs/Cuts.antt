@@ -8,7 +8,7 @@ use Rattle.jp_model.specs.Lines.{HasNoSeparator, separator_of, without_byte_orde
 abbrev pub HasNoEnd : Framing → List ℕ → Type 0
 HasNoEnd framing bytes = HasNoSeparator (separator_of framing) bytes
 
--- The last line that ends in some bytes ends between these two parts of them: behind a line feed, or in front of the RS of the
+-- The last line that ends in some bytes ends between these two parts of them: after a line feed, or in front of the RS of the
 -- next text (RFC 7464, section 2.1).
 abbrev pub EndsBetween : Framing → List ℕ → List ℕ → Type 0
 EndsBetween framings.Lines front rest = (line : List ℕ) × (front ≡ line ++ 0x0A ∷ []) × HasNoSeparator 0x0A rest

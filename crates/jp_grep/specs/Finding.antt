@@ -21,7 +21,7 @@ span_of at = record { start = at.start; end = at.end }
 abbrev pub noted_items : Cutting → List Item
 noted_items cutting = map (held_item cutting.cutter.held.items) cutting.pieces.items
 
--- The pieces that are noted are those that were handed out behind others, and all that ended.
+-- The pieces that are noted are those that were handed out after others, and all that ended.
 pub record FindsEnded (pieces : Pieces) (stream : List ℕ) (handed : List Piece) (cutting : Cutting) : Type 0 where
   pub more : List Piece
   pub read : HasRead pieces stream (handed ++ more) cutting.cutter

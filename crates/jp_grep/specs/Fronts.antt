@@ -7,7 +7,7 @@ use Rattle.jp_grep.specs.Formats.{begins_mark, format_of}
 use Rattle.jp_grep.specs.declared.fault.SearchFault.{SearchFault}
 use Rattle.jp_grep.specs.declared.fault.SearchFault.TheVariants as faults
 
--- with some bytes behind them these are framed
+-- with some bytes after them these are framed
 abbrev pub MayBeFramed : Framing → List ℕ → Type 0
 MayBeFramed framing bytes = (more : List ℕ) × (is_framed framing (bytes ++ more) ≡ true)
 

@@ -5,7 +5,7 @@ use Rattle.jp_grep.specs.Faults.{IsToldOf, is_report_fault, is_write_fault, is_w
 use Rattle.jp_grep.specs.declared.fault.SearchFault.{SearchFault}
 use Rattle.jp_grep.specs.declared.fault.SearchFault.TheVariants as faults
 
--- A text came behind what was held. From `old` to `new` the writer received the front of both, and the rest is held.
+-- A text came after what was held. From `old` to `new` the writer received the front of both, and the rest is held.
 abbrev pub HoldsBack : {W : Type 0} → (W → Option (List ℕ)) → Device W → Device W → List ℕ → List ℕ → List ℕ → Type 0
 HoldsBack contents old new was_held is_held text = (front : List ℕ) × (was_held ++ text ≡ front ++ is_held) × Received contents old new front
 

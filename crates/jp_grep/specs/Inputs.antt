@@ -14,14 +14,14 @@ abbrev pub read_count : {E : Type 0} → Result ℕ E → ℕ
 read_count (Ok count) = count
 read_count (Err fault) = 0
 
--- Behind these bytes, whose items have these outcomes, a search reads on: they may go on as lines, and fewer of their lines are
+-- After these bytes, whose items have these outcomes, a search reads on: they may go on as lines, and fewer of their lines are
 -- selected than are wanted.
 pub record WantsMore (question : Question) (form : Form) (bytes : List ℕ) (outcomes : List Item) : Type 0 where
   pub front : MayGoOn (framing_by form.units) bytes
   pub each : CameOfEach (items_come form.units false bytes) outcomes
   pub fewer : selected_count question (answered_of question form 0 outcomes) < form.most
 
--- Some bytes came before the last read, and some items had come of them; behind those more was wanted.
+-- Some bytes came before the last read, and some items had come of them; after those more was wanted.
 pub record ReadLast {R : Type 0} (question : Question) (form : Form) (new : Input R) (came : List ℕ) (outcomes : List Item) : Type 0 where
   pub before : List ℕ
   pub last : List ℕ
@@ -32,6 +32,6 @@ pub record ReadLast {R : Type 0} (question : Question) (form : Form) (new : Inpu
   pub items : outcomes ≡ first ++ others
   pub wants : WantsMore question form before first
 
--- no read was made, or more was wanted behind what had come before the last one
+-- no read was made, or more was wanted after what had come before the last one
 abbrev pub ReadOn : {R : Type 0} → Question → Form → Input R → Input R → List ℕ → List Item → Type 0
 ReadOn question form old new came outcomes = (new ≡ old) ⊎ ReadLast question form new came outcomes

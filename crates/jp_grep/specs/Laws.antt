@@ -32,7 +32,7 @@ numbered_values summary name silent most = record {
   most = most;
 }
 
--- a row of a query's answer with a colon behind its number; that of a refused line is none
+-- a row of a query's answer with a colon after its number; that of a refused line is none
 abbrev pub row_with_colon : List ℕ → Row → List ℕ
 row_with_colon line (node_row n node) = (decimal n ++ codes ":") ++ ((path_text node.location ++ tab ++ source line node.tree) ++ line_feed)
 row_with_colon line (refusal_row n fault) = []

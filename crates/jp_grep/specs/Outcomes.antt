@@ -23,7 +23,7 @@ CameOfEach (item ∷ items) (outcome ∷ outcomes) = CameOf item outcome × Came
 abbrev pub given_up_count : List Item → ℕ
 given_up_count items = count_by is_given_up items
 
--- What came of the first items of a stream. Others may have come, of which nothing is said.
+-- What came of the first items of a stream. Others may have come; nothing is said of them.
 pub record CameOfStream (form : Form) (came : Came) (outcomes : List Item) : Type 0 where
   pub items : List Item
   pub others : List Item

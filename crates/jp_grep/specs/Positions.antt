@@ -7,7 +7,7 @@ use Rattle.jp_grep.specs.Cuts.{HasNoEnd}
 use Rattle.jp_grep.specs.Fronts.{IsOfLines, MayGoOn}
 use Rattle.jp_grep.specs.Streams.{closed_in}
 
--- a byte order mark in front of a text is in front of the same text with more behind it
+-- a byte order mark in front of a text is in front of the same text with more after it
 abbrev pub GoesOn : List ℕ → List ℕ → Type 0
 GoesOn text more = without_byte_order_mark (text ++ more) ≡ without_byte_order_mark text ++ more
 

@@ -126,7 +126,7 @@ refusal false name n fault from_line = line_message name n (line_fault_word faul
 abbrev pub most_told : ℕ
 most_told = 10
 
--- what is told of a line in front of which some are refused
+-- what is told of a line that comes after refused ones
 abbrev pub status_message : Form → (before : ℕ) → ℕ → (from_line : Option ℕ) → LineStatus → List ℕ
 status_message form before n from_line blank = []
 status_message form before n from_line (refused fault) = if ltb before most_told then refusal form.silent form.name.now n fault from_line else []
@@ -163,7 +163,7 @@ item_rows question form n item = written_of item.given_up (status_rows question 
 abbrev pub item_message : Form → (before : ℕ) → ℕ → Item → List ℕ
 item_message form before n item = message_where (is_given_up item) form before n item.from_line item.status
 
--- the output of some items, of which the first has number n
+-- the output of some items, where the first has number n
 abbrev pub output_from : Question → Form → ℕ → List Item → List ℕ
 output_from question form n [] = []
 output_from question form n (item ∷ rest) = item_rows question form n item ++ output_from question form (n + 1) rest

@@ -39,7 +39,7 @@ pub record GoesOnBy (question : Question) (form : Form) (before after : Progress
   pub given_up : after.counts.given_up ≡ before.counts.given_up + given_up_count items
   pub under_way : IsUnderWay form after
 
--- the verdict is that of a line which is this, of which no more nodes are wanted, and given up or not
+-- the verdict is that of this line, from which no more nodes are wanted, given up or not
 pub record IsVerdict (question : Question) (verdict : Verdict) (most : ℕ) (lost : Bool) (status : LineStatus) : Type 0 where
   pub selected : verdict.selected ≡ selected_where lost question (Some most) status
   pub refused : verdict.refused ≡ refused_where lost status
@@ -59,7 +59,7 @@ pub record AnswersNode {W : Type 0} (rows_in : W → Option (List ℕ)) (questio
   pub rows : PutsFirst rows_in out0 out1 was_held is_held result is_some (asked_rows question form n line t node)
   pub selected : IfOk result (λ answer. MatchOption answer ⊤ (λ selected. selected ≡ is_selected question t node))
 
--- A line of which no more nodes are wanted is answered or given up: its rows are put, at an Err a beginning.
+-- A line from which no more nodes are wanted is answered or given up: its rows are put, at an Err a beginning.
 pub record AnswersStatus {W : Type 0} (rows_in : W → Option (List ℕ)) (question : Question) (form : Form) (n : ℕ) (line : List ℕ) (most : ℕ) (out0 out1 : Device W) (was_held is_held : List ℕ) (result : Result Verdict SearchFault) (status : LineStatus) : Type 0 where
   pub given_up : Option ℕ
   pub rows : Puts rows_in out0 out1 was_held is_held result (written_of given_up (status_rows question form n line (Some most) status))

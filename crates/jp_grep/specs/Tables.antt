@@ -40,7 +40,7 @@ query_cells table queries line t node = map (λ query. nodes_cell table line (pa
 abbrev pub table_row : Table → List Path → Form → ℕ → List ℕ → Tree → Node → List ℕ
 table_row table queries form n line t node = joined table (front_cells form form.name.now (decimal n) ++ query_cells table queries line t node) ++ line_feed
 
--- the row above the others: the names of the columns, behind those of the cells in front
+-- the row above the others: the names of the columns, after those of the cells in front
 abbrev pub header_row : Table → Form → List (List ℕ) → List ℕ
 header_row table form names = joined table (front_cells form (codes "file") (codes "line") ++ map bare_cell names) ++ line_feed
 

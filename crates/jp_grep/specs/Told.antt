@@ -5,7 +5,7 @@ use Rattle.jp_grep.specs.Items.{Item}
 use Rattle.jp_grep.specs.Rows.{messages_from, most_told, refused_count}
 use Rattle.jp_form.specs.declared.form.Form.{Form}
 
--- what is said of refused lines behind their number
+-- what is said of refused lines after their number
 abbrev pub more_words : ℕ → List ℕ
 more_words count = (if count == 1 then codes " more line is refused; --refused lists them" else codes " more lines are refused; --refused lists them") ++ line_feed
 

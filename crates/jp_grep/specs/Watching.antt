@@ -16,7 +16,7 @@ use Rattle.jp_grep.specs.declared.found.Limit.TheVariants as limits
 use Rattle.jp_grep.specs.declared.progress.Counts.{Counts}
 use Rattle.jp_grep.specs.declared.question.Question.{Question}
 
--- an item of which no more nodes are wanted
+-- an item from which no more nodes are wanted
 abbrev pub cut_to : (most : ℕ) → Item → Item
 cut_to most item = record { text = item.text; status = item.status; from_line = item.from_line; most = Some most; given_up = item.given_up }
 
@@ -55,12 +55,12 @@ module _ {W E : Type 0} (rows_in : W → Option (List ℕ)) (messages_in : E →
     pub rows : Received rows_in out0 out1 (output_from question form 1 items)
     pub messages : Received messages_in told0 told1 (messages_from form 0 1 items)
 
-  -- both received what is answered of these items, and behind it what is told of all
+  -- both received what is answered of these items, and after it what is told of all
   pub record AnsweredToEnd (question : Question) (form : Form) (out0 out1 : Device W) (told0 told1 : Device E) (items : List Item) : Type 0 where
     pub rows : Received rows_in out0 out1 (output_from question form 1 items)
     pub messages : Received messages_in told0 told1 (told_of form items)
 
-  -- the rows of these items, and what is written behind them
+  -- the rows of these items, and what is written after them
   abbrev pub whole_output : Question → Form → (all : Bool) → List Item → List ℕ
   whole_output question form all items = output_from question form 1 items ++ summary_of form.summary form (selected_count question items) all
 

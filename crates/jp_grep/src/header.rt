@@ -32,7 +32,7 @@ fn make_header(
     Ok(row)
 }
 
-/// Writes what stands above the rows, where they are those of a table: the names of the columns, behind those of the cells in
+/// Writes what stands above the rows, where they are those of a table: the names of the columns, after those of the cells in
 /// front.
 ///
 /// # Errors

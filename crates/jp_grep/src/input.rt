@@ -20,7 +20,7 @@ pub struct Input<R> {
 }
 
 impl<R> Input<R> {
-    /// A reader of which a search reads no byte yet.
+    /// A reader that a search has read no byte from.
     pub fn new(reader: Watched<R>) -> Input<R>
         ensures reader { result.reader ≡ reader }
         ensures last { result.last ≡ 0 }

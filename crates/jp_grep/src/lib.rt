@@ -4,7 +4,7 @@
 //!
 //! - `Question`, `Queries`, `Origin`, `Wanted`: the queries, the conditions and the lists that a line or each node of a query is
 //!   asked, whether the queries are columns, where they begin, and which nodes are selected
-//! - `read_list`, `Listed`: the values of a stream's lines, of which a line's may be one
+//! - `read_list`, `Listed`: the values of a stream's lines, among which a line's value is looked up
 //! - `Form`, `Units`, `Shown`, `Spelling`, `Table`, `Summary`: what is written of a stream, of the crate `jp_form`
 //! - `search`, `Input`, `Found`, `Counts`, `SearchFault`, `Format`: the lines, texts or elements of a stream, each answered as it
 //!   comes

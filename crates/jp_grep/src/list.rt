@@ -33,8 +33,8 @@ fn list_form<'a>(name: &'a str) -> Form<'a>
     }
 }
 
-/// Reads a list: the values of the lines of a stream (JSON Lines), and how many they are. A message tells of each of the first
-/// ten refused lines, and behind these how many more there are. A byte order mark at the front is dropped.
+/// Reads a list: the values of the lines of a stream (JSON Lines), and how many they are. There is a message for each of the
+/// first ten refused lines, and after these how many more there are. A byte order mark at the front is dropped.
 ///
 /// # Errors
 ///

@@ -179,7 +179,7 @@ impl<'q> Answerer<'q> {
         Ok(true)
     }
 
-    /// Makes the row of a node of which nothing or its line is shown, where it is selected, and tells whether it is.
+    /// Makes the row of a selected node where nothing or its line is shown, and tells whether it is selected.
     #[inline(always)]
     fn make_line_row<'r>(
         self,
@@ -304,7 +304,7 @@ impl<'q> Answerer<'q> {
         Ok(Some(some))
     }
 
-    /// Answers a node of which the values are shown that the queries select. These are asked once.
+    /// Answers a node where the values are shown that the queries select in it. The queries are asked once.
     #[inline(always)]
     fn answer_nodes<'r, W: Write>(
         self,

@@ -41,7 +41,7 @@ pub(crate) fn write_bytes<W: Write>(bytes: &[u8], out: &mut Watched<W>) -> Resul
     told(write_whole(bytes, out))
 }
 
-/// Writes a part behind those before it, unless one of these was not written.
+/// Writes a part after those before it, unless one of these was not written.
 pub(crate) fn then_write<W: Write>(
     before: Result<(), WriteFault>,
     part: &[u8],
@@ -76,7 +76,7 @@ fn write_name<W: Write>(
     then_write(written, other, out)
 }
 
-/// Writes a number and a line feed behind what was written.
+/// Writes a number and a line feed after what was written.
 fn write_number<W: Write>(
     before: Result<(), WriteFault>,
     number: u64,
@@ -110,7 +110,7 @@ fn write_count<W: Write>(
     write_number(named, count, out)
 }
 
-/// Writes what stands behind the rows of a stream of which `count` lines were selected, where `all` were answered or not. No
+/// Writes what stands after the rows of a stream of which `count` lines were selected, where `all` were answered or not. No
 /// memory is asked for it.
 ///
 /// # Errors
@@ -182,7 +182,7 @@ impl Outlet {
         Ok(())
     }
 
-    /// Puts a row behind what is held. What is held is written where both are too much, or where there is no memory for both, and
+    /// Puts a row after what is held. What is held is written where both are too much, or where there is no memory for both, and
     /// a row that is too much by itself is written too.
     ///
     /// # Errors

@@ -93,7 +93,7 @@ impl Progress {
         }
     }
 
-    /// Whether some more lines have numbers of 64 bits, and the line behind them has one too.
+    /// Whether some more lines have numbers of 64 bits, and the line after them has one too.
     pub(crate) fn has_numbers(&self, count: usize) -> bool
         ensures { result ≡ ltb (self.now.number + count) (2 ^ 64) }
     {
@@ -109,7 +109,7 @@ impl Progress {
         form.most - self.counts.selected
     }
 
-    /// Goes behind a line of which that came.
+    /// Goes on after a line with this outcome.
     pub(crate) fn pass(&mut self, verdict: Verdict)
         requires number { self.old.number + 1 < 2 ^ 64 }
         requires selected { self.old.counts.selected + verdict.selected < 2 ^ 64 }

@@ -41,7 +41,7 @@ impl Wanted {
         }
     }
 
-    /// Whether a node is wanted of which the queries were asked, by whether they let it match.
+    /// Whether a node is wanted, by whether the queries that it was asked let it match.
     fn wants_found(self, some: bool) -> bool
         ensures { result ≡ wants_found self some }
     {
@@ -130,7 +130,7 @@ impl Question {
         Ok(())
     }
 
-    /// Adds a query behind the others. It begins at the root of the line, or at the node that is asked.
+    /// Adds a query after the others. It begins at the root of the line, or at the node that is asked.
     ///
     /// If memory is refused, the answer is `AllocError`, and the question is as before.
     pub fn add_query(
@@ -151,7 +151,7 @@ impl Question {
         Ok(())
     }
 
-    /// Adds a condition behind the others. In it `@` is the node that is asked, and `$` the value of its line.
+    /// Adds a condition after the others. In it `@` is the node that is asked, and `$` the value of its line.
     ///
     /// If memory is refused, the answer is `AllocError`, and the question is as before.
     pub fn add_condition(
@@ -171,7 +171,7 @@ impl Question {
         Ok(())
     }
 
-    /// Adds behind the others the condition that the value of a query is one of a list, or, where that is not wanted, is none of
+    /// Adds after the others the condition that the value of a query is one of a list, or, where that is not wanted, is none of
     /// it. A query that selects no node, or several, has no value, which is in no list.
     ///
     /// If memory is refused, the answer is `AllocError`, and the question is as before.
@@ -235,7 +235,7 @@ impl Question {
         Ok(false)
     }
 
-    /// Whether a node is wanted of which the queries were asked, by whether one of them selects a node.
+    /// Whether a node is wanted, by whether one of the queries that it was asked selects a node.
     pub(crate) fn wants_found(&self, some: bool) -> bool
         ensures { result ≡ wants_found self.now.wanted (let_match self.now.purpose some) }
     {

@@ -182,7 +182,7 @@ impl<'q, W: Write + Drop, E: Write + Drop> Run<'q, W, E> {
         found
     }
 
-    /// Notes that something was refused or failed, of which the caller tells behind the messages so far: they are flushed.
+    /// Notes that something was refused or failed. The caller says so after the messages so far, which are flushed.
     pub fn refuse(&mut self)
         ensures messages { (filled self.new.messages.device).taken ≡ (filled self.old.messages.device).taken }
         ensures flushed { self.new.messages.failed ≡ false → self.new.messages.unflushed ≡ false }
@@ -195,7 +195,7 @@ impl<'q, W: Write + Drop, E: Write + Drop> Run<'q, W, E> {
         self.flush_messages();
     }
 
-    /// Flushes the messages so far, so that the caller can tell something behind them.
+    /// Flushes the messages so far, so that the caller can tell something after them.
     pub fn flush_messages(&mut self)
         ensures messages { (filled self.new.messages.device).taken ≡ (filled self.old.messages.device).taken }
         ensures flushed { self.new.messages.failed ≡ false → self.new.messages.unflushed ≡ false }
@@ -208,7 +208,7 @@ impl<'q, W: Write + Drop, E: Write + Drop> Run<'q, W, E> {
         }
     }
 
-    /// Ends the run: what the buffers hold is written, and both writers are flushed. One of which a call failed is not called
+    /// Ends the run: what the buffers hold is written, and both writers are flushed. A writer that failed a call is not called
     /// again. A write or a flush that fails is told by the status, as all that was refused or failed before.
     pub fn finish(self) -> Finished<W, E>
         ensures rows { Took result.rows (filled self.entry.rows.device) }

@@ -170,10 +170,10 @@ fn search_lines<R: Read, W: Write, E: Write>(
 }
 
 /// Searches a stream: reads it piece by piece, and answers each line as it comes. A row is written for each selected line, and
-/// a message for each of the first ten refused ones; behind these how many more there are, and behind the rows what the form
+/// a message for each of the first ten refused ones; after these how many more there are, and after the rows what the form
 /// asks for. A byte order mark at the front is dropped.
 ///
-/// A line for whose answer memory is refused is given up: a message tells so behind the first of its rows, and the next line is
+/// A line for whose answer memory is refused is given up: a message tells so after the first of its rows, and the next line is
 /// answered. Where there is no memory for the lines that came, or one is longer than 4,294,967,294 bytes, the rest of the stream
 /// is passed over, from the first line on that is not answered: `Found::unread` tells it.
 ///

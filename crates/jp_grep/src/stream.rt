@@ -14,7 +14,7 @@ use jp_model::{Framing, is_blank, without_byte_order_mark};
 use memchr::memrchr;
 use std::alloc::Global;
 
-/// Where the last line ends that is whole among some bytes: behind a line feed, or in front of the RS of the next text.
+/// Where the last line ends that is whole among some bytes: after a line feed, or in front of the RS of the next text.
 pub(crate) fn find_end(framing: Framing, piece: &[u8]) -> Option<usize>
     ensures { MatchOption result
         (HasNoEnd framing piece.now)
@@ -32,7 +32,7 @@ pub(crate) fn find_end(framing: Framing, piece: &[u8]) -> Option<usize>
 /// The byte order mark in UTF-8.
 const BYTE_ORDER_MARK: &[u8] = b"\xEF\xBB\xBF";
 
-/// Whether the first bytes of a stream are framed, or may be with others behind them.
+/// Whether the first bytes of a stream are framed, or may be with others after them.
 fn may_be_framed(framing: Framing, bytes: &[u8]) -> bool
     ensures { MatchBool result (MayBeFramed framing bytes.now) (IsUnframed framing bytes.now) }
 {
@@ -153,7 +153,7 @@ impl Stream {
         Ok(())
     }
 
-    /// Lets go what is answered, up to an end of a line: the bytes behind it move to the front.
+    /// Lets go what is answered, up to an end of a line: the bytes after it move to the front.
     pub(crate) fn let_go(&mut self, end: usize)
         requires { end ≤ length self.old.held.items }
         ensures held { self.new.held.items ≡ drop end self.old.held.items }

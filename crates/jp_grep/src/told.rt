@@ -1,4 +1,4 @@
-//! What is told of the lines of a stream. No memory is asked for it.
+//! The messages about the lines of a stream. No memory is asked for it.
 
 ghost use Rattle.std.specs.Prelude.{◌≡◌, ◌&&◌, ◌++◌, List, ℕ, false, is_err, IfErr, codes, ltb, not, true};
 ghost use Rattle.jp_devices.specs.Devices.{Device, Writes};

@@ -1,4 +1,4 @@
--- Lists of which each element stands in a relation to those behind it, and where a test of them ends.
+-- Lists in which each element stands in a relation to those after it, and where a test of them ends.
 use Rattle.std.proofs.Common.{◌≡◌, ◌≢◌, ◌∙◌, ℕ, zero, suc, ◌+◌, ◌<◌, ◌≤◌, Bool, true, List, [], ◌∷◌, ◌++◌, length, get_or, take, drop, refl, sym, ap, ap₂, subst, arith, ◌⊎◌, inl, inr}
 use Rattle.std.specs.Prelude.{All, Contains, insert, remove}
 use Rattle.std.specs.List.{AllPairs, AllWithin}
@@ -35,7 +35,7 @@ module _ {X : Type 0} (P : X → Type 0) where
   behind_all (x ∷ xs) (suc i) h = behind_all xs i (within_rest x xs i (length xs) h)
 
 module _ {X : Type 0} (R : X → X → Type 0) where
-  -- one element more, behind those that are to stand before it
+  -- one element more, after those that are to stand before it
   pub pairs_insert : (xs : List X) (i : ℕ) (y : X) → i ≤ length xs → AllPairs R xs → AllWithin (λ x. R x y) xs 0 i → AllWithin (R y) xs i (length xs) → AllPairs R (insert xs i y)
   pairs_insert xs zero y l h before behind = AllPairs-cons R y xs (All-from_all_within (R y) xs behind) h
   pairs_insert [] (suc i) y l h before behind = absurd (omega arith)
@@ -66,7 +66,7 @@ module _ {X : Type 0} (R : X → X → Type 0) where
         | inr above ↦ let same : i ≡ j = omega arith in ap (λ k. p (get_or xs k d)) same ∙ e
       ]
 
--- ---- one list behind another
+-- ---- one list after another
 
 module _ {X : Type 0} (R : X → X → Type 0) (xs ys : List X) (h : AllPairs R (xs ++ ys)) where
   pub cross : (x y : X) → Contains xs x → Contains ys y → R x y

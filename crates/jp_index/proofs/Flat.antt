@@ -156,7 +156,7 @@ module _ (R : ℕ → ℕ → Type 0) (test : ℕ → Bool) (falls : (a b : ℕ)
   abbrev pub Begin : List Chunk → ℕ → Type 0
   Begin chunks i = IsPartitionPoint (λ (c : Chunk). begins_by test c.items ≡ true) (λ (c : Chunk). begins_by test c.items ≡ false) chunks i
 
-  -- no line passes behind the chunks that begin so
+  -- no line passes after the chunks that begin so
   pub fails_behind : (chunks : List Chunk) → AllPairs R (lines_in chunks) → (i : ℕ) → Begin chunks i → (n : ℕ) → i ≤ n → All (λ b. test b ≡ false) (lines_in (drop n chunks))
   fails_behind chunks h i at n l =
       chunks_fail (drop n chunks) (pairs_right R (lines_in (take n chunks)) (lines_in (drop n chunks)) (subst (AllPairs R) (in_two chunks n) h))

@@ -83,7 +83,7 @@ module _ {X : Type 0} (p : X → Bool) where
       let behind : filter (λ k. nat_lt m k) ls ≡ [] = none_stay (λ k. nat_lt m k) n ss (λ k low high. search (arith, e)) in
       ap₂ (λ (x y : List ℕ). x ++ one (p s) m ++ y) before behind ∙ append-nil (ls ++ one (p s) m) ∙ sym (numbers_where-append p n m ss s e)
 
-  -- the numbers behind one of the elements, or behind the one before them
+  -- the numbers after one of the elements, or after the one before them
   pub behind_are : (n i m : ℕ) (ss : List X) → m + 1 ≡ n + i → numbers_behind m (numbers_where p n ss) ≡ numbers_where p (m + 1) (drop i ss)
   behind_are n zero m ss e = let first : n ≡ m + 1 = omega (arith, e) in all_stay (λ k. nat_lt m k) n ss (λ k low high. search (arith, e)) ∙ ap (λ k. numbers_where p k ss) first
   behind_are n (suc i) m [] e = refl

@@ -53,7 +53,7 @@ module _ (keys : ℕ → Option Key) (op : CompareOp) (key : Key) where
   abbrev pub between : ℕ → Bool
   between a = is_between op (keys a) key
 
-  -- lines in front of where they begin, and behind where they end
+  -- lines in front of where they begin, and after where they end
   pub none_in_front : (lines : List ℕ) → All (λ a. in_front (start_of op) (keys a) key ≡ true) lines → filter between lines ≡ []
   none_in_front lines h = filter_none between lines (λ k d l. ap (λ b. not b && in_front (end_of op) (keys (get_or lines k d)) key) (h k d l))
 

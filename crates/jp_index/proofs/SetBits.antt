@@ -79,7 +79,7 @@ none_from : (n : ℕ) (ys : List ℕ) → ((i : ℕ) → i < length ys → get_o
 none_from n [] h = refl
 none_from n (y ∷ ys) h = let e : (y == 1) ≡ false = ap is_set (h 0 (omega arith)) in ap (λ b. if b then n ∷ numbers_where is_set (n + 1) ys else numbers_where is_set (n + 1) ys) e ∙ none_from (n + 1) ys (λ i l. h (suc i) (omega arith))
 
--- bits behind that are not set give no number
+-- bits after that are not set give no number
 pub none_more : (n : ℕ) (xs ys : List ℕ) → length xs ≤ length ys → ((i : ℕ) → i < length xs → get_or ys i 0 ≡ get_or xs i 0) → ((i : ℕ) → length xs ≤ i → i < length ys → get_or ys i 0 ≡ 0) → numbers_where is_set n ys ≡ numbers_where is_set n xs
 none_more n [] ys l same none = none_from n ys (λ i m. none i (omega arith) m)
 none_more n (x ∷ xs) [] l same none = absurd (omega arith)
@@ -167,7 +167,7 @@ byte_is false = refl
 pub was_set : (n : ℕ) (b : Bool) (seen ws : List ℕ) (line : ℕ) → n ≡ bool_byte b → b ≡ (bit_of seen line == 1) → seen ≡ ws → n ≡ cond (is_set (bit_of ws line)) 1 0
 was_set n b seen ws line e f g = e ∙ (byte_is b ∙ ap (λ c. cond c 1 0) (f ∙ ap (λ vs. is_set (bit_of vs line)) g))
 
--- ---- the numbers behind a line
+-- ---- the numbers after a line
 
 pub numbers_past : (ws : List ℕ) (n : ℕ) → 64 * length ws ≤ n + 1 → numbers_behind n (numbers_in ws) ≡ []
 numbers_past ws n past =

@@ -13,7 +13,7 @@ use Rattle.jp_values.specs.declared.key.Key.{Key}
 abbrev pub line_order : (ℕ → Option Key) → ℕ → ℕ → Ordering
 line_order keys a b = ordering_then (option_cmp key_order (keys a) (keys b)) (nat_cmp a b)
 
--- each line comes before those behind it
+-- each line comes before those after it
 abbrev pub Ascend : (ℕ → Option Key) → List ℕ → Type 0
 Ascend keys lines = AllPairs (λ a b. line_order keys a b ≡ Less) lines
 

@@ -29,7 +29,7 @@ chunk_at [] i = []
 chunk_at (chunk ∷ chunks) zero = chunk.items
 chunk_at (chunk ∷ chunks) (suc i) = chunk_at chunks i
 
--- the lines of the chunks in front of a chunk, and of those behind it
+-- the lines of the chunks in front of a chunk, and of those after it
 abbrev pub lines_before : List (Vec ℕ Global) → ℕ → List ℕ
 lines_before chunks i = lines_in (take i chunks)
 

@@ -7,7 +7,7 @@ use Rattle.jp_values.specs.declared.key.Key.{Key}
 use Rattle.jp_index.specs.declared.edge.Edge.{Edge}
 use Rattle.jp_index.specs.declared.edge.Edge.TheVariants.{BeforeKey, BehindKey, BeforeKind, BehindKind}
 
--- a key stands in front of an edge of another: before the keys that equal it, behind them, before the keys of its kind, behind
+-- a key stands in front of an edge of another: before the keys that equal it, after them, before the keys of its kind, after
 -- them
 abbrev pub key_in_front : Edge → Key → Key → Bool
 key_in_front BeforeKey k other = is_lt (key_order k other)

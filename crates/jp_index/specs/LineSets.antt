@@ -4,7 +4,7 @@ use Rattle.std.specs.Int.{bit_at}
 use Rattle.std.specs.List.{range_with_len}
 use Rattle.jp_model.specs.Numbered.{numbers_where}
 
--- bit i of some words, of which each has 64
+-- bit i of some words of 64 bits each
 abbrev pub bit_of : List ℕ → ℕ → ℕ
 bit_of words i = bit_at (get_or words (i / 64) 0) (i % 64)
 

@@ -32,7 +32,7 @@ pub struct IndexBuilder {
     ghost few: { length cells.items < 2 ^ 32 },
 }
 
-/// The lines of which something is kept.
+/// The lines that have something kept here.
 fn lines_kept(alloc: Global, cells: &[Option<Slot>]) -> Result<LineSet, AllocError>
     requires { length cells.now < 2 ^ 32 }
     ensures { IfOk result (λ lines. numbers_of lines ≡ numbers_where is_some 1 cells.now) }

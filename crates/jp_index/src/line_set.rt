@@ -39,7 +39,7 @@ fn set_bit(words: &mut Vec<u64>, position: usize, is_set: bool)
     }
 }
 
-/// The first position, from one on, whose bit is set, or the position behind all.
+/// The first position, from one on, whose bit is set, or the position after all.
 fn next_position(words: &[u64], from: usize) -> usize
     requires few { length words.now ≤ 2 ^ 26 }
     requires within { from ≤ 64 * length words.now }
@@ -79,7 +79,7 @@ impl LineSet {
         self.count
     }
 
-    /// Makes room for the lines up to one, and for no more than 64 behind it. The set stays, also after an `Err`.
+    /// Makes room for the lines up to one, and for no more than 64 after it. The set stays, also after an `Err`.
     pub fn reserve(&mut self, line: u32) -> Result<(), AllocError>
         ensures same { numbers_of self.new ≡ numbers_of self.old }
         ensures room { OnOk result (line < room_in self.new) }
@@ -103,7 +103,7 @@ impl LineSet {
         self.count = count;
     }
 
-    /// The first of its lines behind line `n`. Between them a bit is looked at for each line.
+    /// The first of its lines after line `n`. Between them a bit is looked at for each line.
     pub fn first_behind(&self, n: u32) -> Option<u32>
         ensures { IsFirstBehind n (numbers_of self.now) result }
     {

@@ -27,7 +27,7 @@ ascii_first b bs few =
 pub ascii_cut : (text bytes : List ℕ) (i : ℕ) → bytes ≡ text → i < length bytes → slice_index bytes i < 128 → chars (drop i text) ≡ slice_index bytes i ∷ chars (drop (i + 1) text)
 ascii_cut text bytes i same inside few = subst (λ (l : List ℕ). chars (drop i l) ≡ slice_index bytes i ∷ chars (drop (i + 1) l)) same (ap chars (drop_more bytes i 0 inside) ∙ ascii_first (slice_index bytes i) (drop (i + 1) bytes) few)
 
--- the states that wait behind those that are ready
+-- the states that wait after those that are ready
 pub ready_step : (a : Automaton) (waiting byte ready next : ℕ) → byte < 128 → ready ≡ bit_and waiting (get_or a.ascii.items byte 0)
     → ((q : ℕ) → HasState next q ↔ WaitsBehind a.after.items ready q) → IsStep (map state_of a.states.items) waiting byte next
 ready_step a waiting byte ready next few is behind =
@@ -37,11 +37,11 @@ ready_step a waiting byte ready next few is behind =
 none_waits : (after : List ℕ) (q : ℕ) → HasState 0 q ↔ WaitsBehind after 0 q
 none_waits after q = ((λ h. let z = bit_at-zero q in absurd (omega (arith, z, h))), (λ w. let z = bit_at-zero w.number in let h = w.is_ready in absurd (omega (arith, z, h))))
 
--- where no state is ready nothing waits behind the scalar
+-- where no state is ready nothing waits after the scalar
 pub none_behind : (a : Automaton) (waiting byte ready : ℕ) → byte < 128 → ready ≡ bit_and waiting (get_or a.ascii.items byte 0) → ready ≡ 0 → IsStep (map state_of a.states.items) waiting byte 0
 none_behind a waiting byte ready few is none = ready_step a waiting byte 0 0 few (sym none ∙ is) (none_waits a.after.items)
 
--- the states that wait lead over the rest of a text exactly where those behind an ASCII byte lead over what follows it
+-- the states that wait lead over the rest of a text exactly where those after an ASCII byte lead over what follows it
 pub leads_byte : (states : List State) (waiting next : ℕ) (text bytes : List ℕ) (i : ℕ) → bytes ≡ text → i < length bytes → slice_index bytes i < 128 → IsStep states waiting (slice_index bytes i) next
     → Leads states waiting (chars (drop i text)) ↔ Leads states next (chars (drop (i + 1) text))
 leads_byte states waiting next text bytes i same inside few step =

@@ -59,7 +59,7 @@ one_zero_more [] (suc i) = refl
 one_zero_more (w ∷ words) zero = refl
 one_zero_more (w ∷ words) (suc i) = one_zero_more words i
 
--- a 0 behind the words changes none
+-- a 0 after the words changes none
 pub word_pushed : (first : ℕ) (words : List ℕ) (w : ℕ) → word_of first (words ++ 0 ∷ []) w ≡ word_of first words w
 word_pushed first words w = elim (below_or_not w first) [
   | inl l ↦ word_before first (words ++ 0 ∷ []) w l ∙ sym (word_before first words w l)
@@ -205,7 +205,7 @@ module _ (one other old new : ℕ → ℕ) (n word out : ℕ) (kept : one n ≡ 
     ]
   ]
 
--- no bit stands before the window or behind it
+-- no bit stands before the window or after it
 pub bit_in_front : (first : ℕ) (words : List ℕ) (q : ℕ) → q / 64 < first + 0 → BitOf (word_of first words) q → ⊥
 bit_in_front first words q l h = no_bit (word_of first words) q (word_before first words (q / 64) (omega (arith, l))) h
 

@@ -1,4 +1,4 @@
--- States behind which only the next one waits: those that are ready move on at once.
+-- States after which only the next one waits: those that are ready move on at once.
 use Rattle.std.proofs.Common.{◌≡◌, ℕ, zero, suc, ◌*◌, ◌/◌, ◌%◌, ◌+◌, ◌^◌, ◌<◌, ◌≤◌, ◌↔◌, inl, inr, IsTrue, List, length, get_or, bit_or, bit_and, w64, arith, sym, ◌∙◌, ap, subst}
 use Rattle.std.proofs.lemmas.Bool.{eqb-true}
 use Rattle.std.proofs.lemmas.Nat.Bits.{bit_at_above, bit_at-suc, bit_at-zero, bit_at_lowest, bit_at_cat_low, bit_at-pow_same, bit_at-pow_other}
@@ -9,7 +9,7 @@ use Rattle.jp_iregexp.proofs.Bits.{same_or_not, left_or}
 use Rattle.jp_iregexp.proofs.Masks.{both, both_left, both_right, below_or_past}
 use Rattle.jp_iregexp.proofs.Sums.{holds_either, holds_left, holds_right}
 
--- behind the last state there is none
+-- after the last state there is none
 pub past_chained : (after : List ℕ) (p : ℕ) → length after ≤ p → IsTrue (is_chained after p) → ⊥
 past_chained after p l h = (let some = bit_at-pow_same (suc p) in let none = bit_at-zero (suc p) in absurd (omega (arith, none, subst (λ n. HasState n (suc p)) (sym (eqb-true _ _ h) ∙ get_or-eq_default after 0 l) some)))
 

@@ -1,4 +1,4 @@
--- Texts of one length, one behind another.
+-- Texts of one length, one after another.
 use Rattle.std.proofs.Common.{◌≡◌, ℕ, zero, suc, ◌+◌, ◌-◌, ◌*◌, ◌<◌, ◌≤◌, ◌↔◌, inl, inr, List, [], ◌∷◌, ◌++◌, length, drop, arith, refl, sym, ◌∙◌, ap, subst, length-append, length-drop, Option, Some, None}
 use Rattle.std.proofs.Math.Nat.{add-mul}
 use Rattle.std.specs.Option.{IfSome}

@@ -103,7 +103,7 @@ count_skip P text starts ends count low n run next not i w = record {
   ];
 }
 
--- what is counted of the run begins behind the last start, so no position behind is reached
+-- what is counted of the run begins after the last start, so no position after is reached
 pub count_past : (P : ℕ → Type 0) (text : List ℕ) (starts ends : PositionSet) (count low n run high : ℕ) → high + min run count ≤ n → ((p : ℕ) → Has starts p → p < high) → CountBelow P text starts ends count low n run → (q p : ℕ) → n < q → Has starts p → Reach (Repeats (IsOne P) count) text p q → ⊥
 count_past P text starts ends count low n run high behind last w q p later h r =
     let start = last p h in

@@ -38,7 +38,7 @@ begins : (states : List State) (starts waiting : ℕ) (text : List ℕ) → ((p 
 begins states starts waiting [] begun h = begun 63 h
 begins states starts waiting (c ∷ text) begun h = record { number = h.number; state = h.state; is = h.is; waits = begun h.number h.waits; has = h.has; rest = h.rest }
 
--- a front that leads where there is no end yet leads on behind the scalar
+-- a front that leads where there is no end yet leads on after the scalar
 leads_on : (states : List State) (starts waiting next c : ℕ) (rest front behind : List ℕ) → (HasState waiting 63 → ⊥) → IsStep states waiting c next → c ∷ rest ≡ front ++ behind → Leads states waiting front → FrontLeads states (bit_or next starts) rest
 leads_on states starts waiting next c rest [] behind not_yet step is h = absurd (not_yet h)
 leads_on states starts waiting next c rest (d ∷ front) behind not_yet step is h =

@@ -36,7 +36,7 @@ linked_same a b set p w to from = elim (holds_or_not a p) [
 or_three : (a b c : ℕ) → bit_or (bit_or a b) c ≡ bit_or a (bit_or b c)
 or_three a b c = same_from_bits (bit_or (bit_or a b) c) (bit_or a (bit_or b c)) (λ i. omega (arith, bit_at_or (bit_or a b) c i, bit_at_or a b i, bit_at_or a (bit_or b c) i, bit_at_or b c i))
 
--- two sets that wait behind the same states are one
+-- two sets that wait after the same states are one
 linked_twice : (last first behind p : ℕ) (w : State) → linked last behind p (linked last first p w) ≡ linked last (bit_or first behind) p w
 linked_twice last first behind p w = elim (holds_or_not last p) [
   | inl h ↦ ap (linked last behind p) (linked_last last first p w h) ∙ linked_last last behind p _ h
@@ -52,7 +52,7 @@ other_through : (e : Bool) (one other p : ℕ) → HasState other p → HasState
 other_through false one other p h = h
 other_through true one other p h = holds_left other one p h
 
--- behind a state of the one part, where the other follows it
+-- after a state of the one part, where the other follows it
 linked_through : (e : Bool) (one other first behind p : ℕ) (w : State) → (HasState other p → ⊥) → linked (through e other one) behind p (linked one first p w) ≡ linked one (through e first behind) p w
 linked_through false one other first behind p w none = linked_other other behind p (linked one first p w) none
 linked_through true one other first behind p w none =
@@ -164,7 +164,7 @@ laid_either old mid new First Second f g l m d e a b =
           h p w (omega (arith, from, low)) is ∙ ap Some (linked_same (bit_or l m) m behind p w (λ i. elim (holds_either l m p i) [ inl k ↦ absurd (none k) | inr k ↦ k ]) (λ i. holds_right l m p i))));
     }
 
--- the states of a part behind which its first ones wait again
+-- the states of a part after which its first ones wait again
 module _ (old new all : List State) (Member : List ℕ → Type 0) (first last : ℕ) (e : Bool) (a : LaidOnto old new Member first last e) (j : AreLinked last first new all) where
   again : (states : List State) (behind : ℕ) → ((p : ℕ) (w : State) → length old ≤ p → state_at all p ≡ Some w → state_at states p ≡ Some (linked last behind p w)) → IsLaidOut states Member (bit_or behind first) first e
   again states behind h =

@@ -11,7 +11,7 @@ use Rattle.jp_iregexp.specs.Layouts.{state_of}
 use Rattle.jp_iregexp.proofs.Sums.{same_or_not, holds_either, holds_left, holds_right}
 use Rattle.jp_iregexp.proofs.Lowest.{lowest_in, was_there}
 
--- ---- what waits behind the states that are ready
+-- ---- what waits after the states that are ready
 
 -- what was found so far, and what is left
 pub record IsPartBehind (after : List ℕ) (ready rest next : ℕ) : Type 0 where
@@ -76,7 +76,7 @@ both_right a b p h = omega (arith, h, bit_at_and a b p, bit_at-lt a p, bit_at-lt
 pub both : (a b p : ℕ) → HasState a p → HasState b p → HasState (bit_and a b) p
 both a b p h i = omega (arith, h, i, bit_at_and a b p)
 
--- behind the states that wait, and whose class has the scalar
+-- after the states that wait, and whose class has the scalar
 pub masked_step : (ps : List ProgramState) (after masks : List ℕ) (set scalar next : ℕ) → after ≡ map (λ (p : ProgramState). p.after) ps → AreMasks (map state_of ps) masks → scalar < length masks
     → ((q : ℕ) → HasState next q ↔ WaitsBehind after (bit_and set (get_or masks scalar 0)) q) → IsStep (map state_of ps) set scalar next
 masked_step ps after masks set scalar next is masked inside step = λ q. (

@@ -53,7 +53,7 @@ next_behind first middle last parts i part l is whole front =
     let rest : list_behind middle (part ∷ drop (i + 1) parts) ≡ Some last = ap (list_behind middle) (sym (drop_item parts i part l is)) ∙ sym split ∙ whole in
     option_and_then_some (λ due. list_behind due (drop (i + 1) parts)) (numbers_behind middle part) last rest (λ due e _. (due, e))
 
--- a part has its numbers, where there is one behind them
+-- a part has its numbers, where there is one after them
 pub last_behind : (o : Option ℕ) → is_some o ≡ true → (last : ℕ) × o ≡ Some last
 last_behind None e = absurd (cc)
 last_behind (Some last) e = (last, refl)

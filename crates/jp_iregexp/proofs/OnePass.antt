@@ -69,7 +69,7 @@ runs_insert P text starts ends more n e inside has holds same old new = record {
   ahead = λ q h. elim (new q h) [ inl i ↦ inl (omega (arith, i)) | inr g ↦ elim (e.ahead q g) [ inl l ↦ inl (omega (arith, l)) | inr i ↦ inr i ] ];
 }
 
--- behind the last start a position is not reached, so none behind it is
+-- after the last start a position is not reached, so none after it is
 pub runs_past : (P : ℕ → Type 0) (text : List ℕ) (starts ends : PositionSet) (n high : ℕ) → high ≤ n → ((p : ℕ) → Has starts p → p < high) → (Has ends n → ⊥) → RunsBelow n P text starts ends → (p : ℕ) → Has ends p → p < length text → p < n
 runs_past P text starts ends n high behind last not e p h inside = elim (e.ahead p h) [
   | inr i ↦ (let l = last p i in omega (arith, l, behind))

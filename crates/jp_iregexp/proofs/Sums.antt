@@ -92,7 +92,7 @@ only_one k p h = elim (same_or_not p k) [ inl e ↦ e | inr d ↦ absurd (let z 
 pub some_same : {A : Type 0} {x y : A} → Some x ≡ Some y → x ≡ y
 some_same {A} {x} {y} e = cc
 
--- the state of this number, and what waits behind it
+-- the state of this number, and what waits after it
 module _ (states : List State) (class : CharClass) (behind k : ℕ) (is : state_at states k ≡ Some (record { class = class; behind = behind })) where
   one_sound : (c : ℕ) (text : List ℕ) → Leads states (2 ^ k) (c ∷ text) → SplitsBehind (IsOne (λ c. IsTrue (in_class class c))) (Leads states behind) c text
   one_sound c text h =

@@ -21,7 +21,7 @@ pub record IsRoom (P : ℕ → Type 0) (text : List ℕ) (starts : PositionSet) 
   pub led : 0 < room → LedHere P text starts full n room
   pub best : (p m : ℕ) → Has starts p → m < full → Reach (Repeats (IsOne P) m) text p n → full ≤ room + m
 
--- one scalar, behind the others
+-- one scalar, after the others
 pub record LastOne (P : ℕ → Type 0) (text : List ℕ) (m p n : ℕ) : Type 0 where
   pub passes : P (get_or text n 0)
   pub before : Reach (Repeats (IsOne P) m) text p n
@@ -153,7 +153,7 @@ window_skip P text starts ends full n room next none i w = record {
   begun = w.begun;
 }
 
--- behind the last start there is no room, so no position behind is reached
+-- after the last start there is no room, so no position after is reached
 pub window_past : (P : ℕ → Type 0) (text : List ℕ) (starts : PositionSet) (full n room high : ℕ) → room ≡ 0 → high ≤ n → ((p : ℕ) → Has starts p → p < high) → IsRoom P text starts full n room → (q p m : ℕ) → n < q → Has starts p → m < full → Reach (Repeats (IsOne P) m) text p q → ⊥
 window_past P text starts full n room high none behind last i q p m later h few r =
     let start = last p h in

@@ -1,4 +1,4 @@
--- Texts of one length, one behind another.
+-- Texts of one length, one after another.
 use Rattle.std.specs.Prelude.{ℕ, ◌≡◌, ◌≤◌, ◌<◌, ◌*◌, ◌-◌, ◌↔◌, List, length}
 use Rattle.jp_iregexp.specs.declared.positions.PositionSet.{PositionSet}
 use Rattle.jp_iregexp.specs.Positions.{Has}

@@ -12,7 +12,7 @@ abbrev pub latest_onto : List Node → List Pattern → List Pattern
 latest_onto [] done = done
 latest_onto (part ∷ parts) done = latest_onto parts (tree_of part ∷ done)
 
--- the same, with nothing behind them
+-- the same, with nothing after them
 abbrev pub latest_first : List Node → List Pattern
 latest_first parts = latest_onto parts []
 
@@ -21,7 +21,7 @@ abbrev pub atom_of : Option Node → Option Pattern
 atom_of None = None
 atom_of (Some atom) = Some (tree_of atom)
 
--- what an open group holds: its branches, its pieces, and the atom behind them
+-- what an open group holds: its branches, its pieces, and the atom after them
 abbrev pub group_of : Group → Reading
 group_of g = record { branches = latest_first g.branches.items; pieces = latest_first g.pieces.items; atom = atom_of g.atom }
 
@@ -30,7 +30,7 @@ abbrev pub groups_onto : List Group → List Reading → List Reading
 groups_onto [] done = done
 groups_onto (g ∷ groups) done = groups_onto groups (group_of g ∷ done)
 
--- the same, with nothing behind them
+-- the same, with nothing after them
 abbrev pub groups_latest : List Group → List Reading
 groups_latest groups = groups_onto groups []
 

@@ -9,16 +9,16 @@ use Rattle.jp_iregexp.specs.Nodes.{class_of}
 abbrev pub state_of : ProgramState → State
 state_of p = record { class = class_of p.class; behind = p.after }
 
--- the state of this number, where a set waits behind the last states too
+-- the state of this number, where a set waits after the last states too
 abbrev pub linked : (last set number : ℕ) → State → State
 linked last set number state = if bit_at last number == 1 then record { class = state.class; behind = bit_or state.behind set } else state
 
--- the new states are the old ones, where a set waits behind the last states too
+-- the new states are the old ones, where a set waits after the last states too
 pub record AreLinked (last set : ℕ) (old new : List State) : Type 0 where
   pub size : length new ≡ length old
   pub each : (number : ℕ) (state : State) → state_at old number ≡ Some state → state_at new number ≡ Some (linked last set number state)
 
--- The states that were added are those of a part: whatever waits behind its last states, and is linked to them, the first ones
+-- The states that were added are those of a part: whatever waits after its last states, and is linked to them, the first ones
 -- lead where a member that is not empty leads to it.
 pub record LaidOnto (old new : List State) (Member : List ℕ → Type 0) (first last : ℕ) (has_empty : Bool) : Type 0 where
   pub longer : length old ≤ length new

@@ -2,12 +2,12 @@
 use Rattle.std.specs.Prelude.{ℕ, suc, ◌==◌, if◌then◌else◌, List, [], ◌∷◌, Option, Some, None, option_and_then}
 use Rattle.jp_iregexp.specs.declared.node.Node.{Node, Class as ClassNode, Sequence', Choice', Repeated', Row_of-Node, end_of-Node, more_of-Node}
 
--- the next number behind that of a table, if it is the one that is due
+-- the next number after that of a table, if it is the one that is due
 abbrev pub next_of : ℕ → Option ℕ → Option ℕ
 next_of due None = Some due
 next_of due (Some number) = if number == due then Some (suc due) else None
 
--- the next number behind those of a part, if they ascend from this one, each behind those within its own part
+-- the next number after those of a part, if they ascend from this one, each after those within its own part
 abbrev mutual
   pub numbers_behind : ℕ → Node → Option ℕ
   numbers_behind first (ClassNode c) = Some first

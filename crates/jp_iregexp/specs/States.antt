@@ -1,4 +1,4 @@
--- A pattern as states, each of which waits for one scalar of its class, and what a text leads to.
+-- A pattern as states, where each waits for one scalar of its class, and what a text leads to.
 use Rattle.std.specs.Prelude.{ℕ, zero, suc, ◌≡◌, ◌<◌, ◌^◌, ◌==◌, ◌↔◌, get_or, Bool, true, false, if◌then◌else◌, IsTrue, List, [], ◌∷◌, ◌++◌, length, Option, Some, None}
 use Rattle.std.specs.Int.{bit_at}
 use Rattle.std.specs.Int.RustNames.{bit_or}
@@ -6,7 +6,7 @@ use Rattle.jp_model.specs.Pattern.Tree.{CharClass, Pattern}
 use Rattle.jp_model.specs.Pattern.Classes.{in_class}
 use Rattle.jp_model.specs.Pattern.Language.{Language}
 
--- A state: the scalars that it waits for, and the set that waits behind it. A set of states is a number: state p is bit p, and
+-- A state: the scalars that it waits for, and the set that waits after it. A set of states is a number: state p is bit p, and
 -- bit 63 is the end of the text.
 pub record State : Type 0 where
   pub class : CharClass
@@ -22,7 +22,7 @@ state_at [] p = None
 state_at (w ∷ ws) zero = Some w
 state_at (w ∷ ws) (suc p) = state_at ws p
 
--- a state of the set waits for the scalar, and what is behind it does the rest
+-- a state of the set waits for the scalar, and what is after it does the rest
 pub record Passes (states : List State) (set scalar : ℕ) (Rest : ℕ → Type 0) : Type 0 where
   pub number : ℕ
   pub state : State
@@ -48,8 +48,8 @@ pub record SplitsBehind (First Second : List ℕ → Type 0) (c : ℕ) (text : L
 abbrev pub through : Bool → ℕ → ℕ → ℕ
 through has_empty states beyond = if has_empty then bit_or states beyond else states
 
--- The part is laid out in front of what waits behind it: its first states lead where a member that is not empty leads to what
--- waits behind.
+-- The part is laid out in front of what waits after it: its first states lead where a member that is not empty leads to what
+-- waits after.
 pub record IsLaidOut (states : List State) (Member : List ℕ → Type 0) (behind first : ℕ) (has_empty : Bool) : Type 0 where
   pub sound : (c : ℕ) (text : List ℕ) → Leads states first (c ∷ text) → SplitsBehind Member (Leads states behind) c text
   pub complete : (c : ℕ) (text : List ℕ) → SplitsBehind Member (Leads states behind) c text → Leads states first (c ∷ text)
@@ -57,11 +57,11 @@ pub record IsLaidOut (states : List State) (Member : List ℕ → Type 0) (behin
   pub empty : has_empty ≡ true → Member []
   pub nonempty : Member [] → has_empty ≡ true
 
--- what waits behind the scalar, of what waits before it
+-- what waits after the scalar, of what waits before it
 abbrev pub IsStep : List State → ℕ → ℕ → ℕ → Type 0
 IsStep states set scalar next = (q : ℕ) → HasState next q ↔ Passes states set scalar (λ behind. HasState behind q)
 
--- the state with this number waits for the scalar, and has this behind it
+-- the state with this number waits for the scalar, and has this after it
 pub record IsPassed (states : List State) (number scalar behind : ℕ) : Type 0 where
   pub state : State
   pub is : state_at states number ≡ Some state
@@ -78,7 +78,7 @@ waits_for (w ∷ states) (suc number) scalar = waits_for states number scalar
 abbrev pub AreMasks : List State → List ℕ → Type 0
 AreMasks states masks = (scalar number : ℕ) → scalar < length masks → HasState (get_or masks scalar 0) number ↔ IsTrue (waits_for states number scalar)
 
--- state q waits behind one of the states that are ready
+-- state q waits after one of the states that are ready
 pub record WaitsBehind (after : List ℕ) (ready q : ℕ) : Type 0 where
   pub number : ℕ
   pub is_ready : HasState ready number
@@ -88,7 +88,7 @@ pub record WaitsBehind (after : List ℕ) (ready q : ℕ) : Type 0 where
 abbrev pub is_link : (set number : ℕ) → Bool
 is_link set number = set == 2 ^ suc number
 
--- only the state with the next number waits behind the state
+-- only the state with the next number waits after the state
 abbrev pub is_chained : List ℕ → ℕ → Bool
 is_chained after p = is_link (get_or after p 0) p
 

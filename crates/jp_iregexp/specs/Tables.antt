@@ -58,7 +58,7 @@ abbrev pub KeptList : List ℕ → List (Vec PositionSet Global) → List Node �
 KeptList text tables [] = Unit {0}
 KeptList text tables (part ∷ rest) = Kept text tables part × KeptList text tables rest
 
--- the new tables are the old ones, and others behind them
+-- the new tables are the old ones, and others after them
 pub record AreLonger (old new : List (Vec PositionSet Global)) : Type 0 where
   pub longer : length old ≤ length new
   pub same : (number : ℕ) (rows : Vec PositionSet Global) → number < length old → rows ≡ slice_index_or new number rows → rows ≡ slice_index_or old number rows

@@ -1,4 +1,4 @@
--- Words of which a window is kept.
+-- Words, with a window of them kept.
 use Rattle.std.specs.Prelude.{ℕ, ◌-◌, nat_le, if◌then◌else◌, List, slice_index}
 
 -- word w of all words: those from the first one on are kept, and the others are 0

@@ -95,7 +95,7 @@ impl Automaton {
         moved | behind_each(self.after.as_slice(), ready & !self.chained)
     }
 
-    /// Of the states that wait those that take an ASCII scalar. None where the byte is none.
+    /// Of the states that wait, those that take an ASCII scalar. None where the byte is not ASCII.
     #[inline(always)]
     fn ready(&self, waiting: u64, byte: u8) -> Option<u64>
         ensures ascii { IfSome result (λ ready. byte < 128) }

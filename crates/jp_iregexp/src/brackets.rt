@@ -55,7 +55,7 @@ fn read_last_hyphen(text: &[char]) -> Option<Next<'_>>
     }
 }
 
-/// The items so far with those up to the bracket that closes, of which there are fewer than `limit`, and what is after it.
+/// The items so far with those up to the bracket that closes, fewer than `limit`, and what is after it.
 fn read_more(
     mut items: Vec<Item>,
     limit: usize,
@@ -97,7 +97,7 @@ fn read_first(text: &[char]) -> Option<(Item, &[char])>
     }
 }
 
-/// The class of the items up to the bracket that closes, of which there is at least one, and what is after it.
+/// The class of the items up to the bracket that closes, at least one, and what is after it.
 fn read_in_brackets(
     alloc: Global,
     negated: bool,

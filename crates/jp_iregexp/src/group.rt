@@ -17,7 +17,7 @@ pub(crate) struct Group {
 }
 
 impl Group {
-    /// A group of which nothing was read.
+    /// A group with nothing read yet.
     #[tactic(auto, using(crate::proofs::Built::first_push))]
     pub(crate) fn new(alloc: Global) -> Group
         ensures { group_of result ≡ fresh }

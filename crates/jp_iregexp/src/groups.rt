@@ -20,7 +20,7 @@ pub(crate) struct Groups {
 }
 
 impl Groups {
-    /// One group of which nothing was read.
+    /// One group with nothing read yet.
     pub(crate) fn new(alloc: Global) -> Groups
         ensures { groups_of result ≡ record { now = fresh; around = [] } }
     {

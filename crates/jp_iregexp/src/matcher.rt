@@ -16,7 +16,7 @@ use crate::positions::PositionSet;
 use crate::runs::{count_ends, run_ends, window_ends};
 use std::alloc::Global;
 
-/// The positions behind one scalar of the class, from each of the starts.
+/// The positions after one scalar of the class, from each of the starts.
 fn class_ends(
     alloc: Global,
     class: &Class,

@@ -141,7 +141,7 @@ impl PositionSet {
         Ok(set)
     }
 
-    /// The positions so far behind those of this set, as far as the other set has them.
+    /// The positions so far after those of this set, as far as the other set has them.
     pub(crate) fn moved_within(
         &self,
         alloc: Global,

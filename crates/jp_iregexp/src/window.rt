@@ -5,7 +5,7 @@ ghost use Rattle.jp_iregexp.specs.Words.{word_of};
 
 use std::alloc::{AllocError, Global};
 
-/// Words, of which those from the first one on are kept.
+/// Words, kept from the first one on.
 #[derive(Drop)]
 pub(crate) struct Window {
     pub(crate) first: usize,
@@ -14,7 +14,7 @@ pub(crate) struct Window {
 }
 
 impl Window {
-    /// A window of which no word is kept: each is 0.
+    /// A window with no word kept: each is 0.
     pub(crate) fn empty(alloc: Global) -> Window
         ensures { result.words.items ≡ [] }
     {

@@ -36,7 +36,7 @@ none_behind : (k : ℕ) → 0 / 2 ^ k ≡ 0
 none_behind zero = refl
 none_behind (suc k) = let e : 1 + k ≡ suc k = omega arith in ap (λ n. 0 / 2 ^ n) (sym e) ∙ (sym (shr-shr 0 1 k) ∙ none_behind k)
 
--- a mask that is moved down tells of the lanes behind
+-- a mask that is moved down tells of the lanes after
 mask_behind : (k : ℕ) (ms : List Bool) → mask_l ms / 2 ^ k ≡ mask_l (drop k ms)
 mask_behind zero ms = omega arith
 mask_behind (suc k) [] = none_behind (suc k)

@@ -1,4 +1,4 @@
--- A word of 64 bits, of which bit i speaks of byte i.
+-- A word of 64 bits, where bit i stands for byte i.
 use Rattle.std.specs.Prelude.{ℕ, ◌≡◌, ◌<◌, ◌==◌, Bool}
 use Rattle.std.specs.Int.{bit_at}
 

@@ -25,7 +25,7 @@ fn escape_lanes<const N: usize>(lanes: Simd<u8, N>) -> u64
     (backslashes | controls).to_bitmask()
 }
 
-/// Bit i tells whether the byte i behind a position is an escape.
+/// Bit i tells whether the byte i after a position is an escape.
 #[inline(always)]
 fn escapes_at<const N: usize>(bytes: &[u8], at: usize) -> u64
     requires few { N ≤ 64 }

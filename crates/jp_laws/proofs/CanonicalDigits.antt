@@ -1,4 +1,4 @@
--- Digits with zeros before and behind them, and without those behind.
+-- Digits with zeros before and after them, and without those after.
 use Rattle.std.proofs.Common.{◌≡◌, ℕ, zero, suc, Bool, true, cond, ◌&&◌, ◌==◌, List, [], ◌∷◌, ◌++◌, length, refl, ap, ap₂}
 use Rattle.std.specs.List.{list_all}
 use Rattle.std.proofs.lemmas.Bool.{cond_both, and_parts, eqb-true}
@@ -25,7 +25,7 @@ pub value_behind_zeros : (z : ℕ) (ds : List ℕ) → digits_value (zeros z ++ 
 value_behind_zeros zero ds = refl
 value_behind_zeros (suc z) ds = value_behind_zeros z ds
 
--- ---- without the zeros behind
+-- ---- without the zeros after
 
 abbrev is_zero : ℕ → Bool
 is_zero digit = digit == 0x30

@@ -68,7 +68,7 @@ no_truncation false false false false h = absurd (cc)
 pub never_truncated : (line : List ℕ) → HasStatus in_lines line (refused Truncated) → ⊥
 never_truncated line h = no_truncation (nat_lt 512 (depth ((h.1).1))) (has_surrogate ((h.1).1)) (has_long_exponent line ((h.1).1)) (has_duplicate ((h.1).1)) (h.1).3
 
--- ---- lines with a line feed behind each
+-- ---- lines with a line feed after each
 
 pieces_of_lines : (texts : List (List ℕ)) → All (HasNoSeparator 0x0A) texts → pieces 0x0A (with_line_feeds texts) ≡ texts ++ [] ∷ []
 pieces_of_lines [] h = refl

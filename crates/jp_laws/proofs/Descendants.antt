@@ -29,7 +29,7 @@ apart_append : (P Q : Node → Type 0) → ((x y : Node) → P x → Q y → x.l
 apart_append P Q h [] ys a b f g = g
 apart_append P Q h (x ∷ xs) ys a b f g = (elsewhere_append x.location xs ys f.0 (elsewhere_by Q x.location (λ y k. h x y a.0 k) ys b), apart_append P Q h xs ys a.1 b f.1 g)
 
--- a node stands at a location or below it; behind a step; or not behind that step
+-- a node stands at a location or below it; after a step; or not after that step
 abbrev From : List Step → Node → Type 0
 From l n = (r : List Step) × (n.location ≡ l ++ r)
 

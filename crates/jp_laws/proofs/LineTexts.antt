@@ -1,4 +1,4 @@
--- A line with a line feed behind it has in a sequence the status that it has as a line.
+-- A line with a line feed after it has in a sequence the status that it has as a line.
 use Rattle.std.proofs.Common.{◌≡◌, ℕ, ◌+◌, ◌<◌, ◌≤◌, inl, inr, Bool, true, false, not, ◌&&◌, List, [], ◌∷◌, ◌++◌, length, take, drop, Option, Some, IsUtf8, refl, sym, ap, subst, ◌∙◌, arith, ◌⊎◌}
 use Rattle.std.specs.List.{list_any, list_all}
 use Rattle.std.proofs.lemmas.Bool.{and_right, cases_lt, or_right}

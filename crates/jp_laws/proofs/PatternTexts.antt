@@ -115,7 +115,7 @@ pub record Derived (part : Part) (tokens : List Token) (r : Pattern) : Type 0 wh
   pub derives : Derives part tokens r
   pub each : Each CanBeToken tokens
 
--- of the branches behind one
+-- of the branches after one
 abbrev MoreDerived : Pattern → Type 0
 MoreDerived never = Unit {0}
 MoreDerived (either_of r s) = Derived i_regexp_rule (pattern_tokens (either_of r s)) (either_of r s)

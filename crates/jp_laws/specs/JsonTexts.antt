@@ -36,12 +36,12 @@ abbrev mutual
   value_text printer (string points) = string_text printer points
   value_text printer (container kind cs) = opening kind ∷ (first_text printer cs ++ closing kind ∷ [])
 
-  -- some children, behind the opening bracket (sections 4 and 5)
+  -- some children, after the opening bracket (sections 4 and 5)
   pub first_text : Printer → Children → List ℕ
   first_text printer no_child = []
   first_text printer (child name t more) = label_text printer name ++ (tree_text printer t ++ more_text printer more)
 
-  -- some children, behind another, each with its comma
+  -- some children, after another, each with its comma
   pub more_text : Printer → Children → List ℕ
   more_text printer no_child = []
   more_text printer (child name t more) = 0x2C ∷ (label_text printer name ++ (tree_text printer t ++ more_text printer more))

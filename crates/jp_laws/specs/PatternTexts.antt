@@ -154,7 +154,7 @@ abbrev mutual
   IsRegexp (either_of first rest) = IsBranch first × IsMore rest
   IsRegexp _ = ⊥
 
-  -- the branches behind one, which `never` ends
+  -- the branches after one, which `never` ends
   pub IsMore : Pattern → Type 0
   IsMore never = ⊤
   IsMore (either_of first rest) = IsBranch first × IsMore rest

@@ -10,6 +10,6 @@ every_scalar = members false (range 0 0x10FFFF ∷ [])
 abbrev pub any_text : Pattern
 any_text = times (one_of every_scalar) 0 None
 
--- the pattern behind any text and in front of any
+-- the pattern after any text and in front of any
 abbrev pub somewhere : Pattern → Pattern
 somewhere r = followed_by any_text (followed_by r any_text)

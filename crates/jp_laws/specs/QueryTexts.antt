@@ -50,7 +50,7 @@ abbrev mutual
   selectors_text no_selectors = []
   selectors_text (selector s ss) = selector_text s ++ more_selectors_text ss
 
-  -- the selectors behind the first
+  -- the selectors after the first
   pub more_selectors_text : Selectors → List ℕ
   more_selectors_text no_selectors = []
   more_selectors_text (selector s ss) = 0x2C ∷ (selector_text s ++ more_selectors_text ss)
@@ -77,7 +77,7 @@ abbrev mutual
   logicals_text operator no_logicals = []
   logicals_text operator (logical l ls) = in_parentheses (logical_text l) ++ more_logicals_text operator ls
 
-  -- the parts behind the first
+  -- the parts after the first
   pub more_logicals_text : List ℕ → Logicals → List ℕ
   more_logicals_text operator no_logicals = []
   more_logicals_text operator (logical l ls) = operator ++ (in_parentheses (logical_text l) ++ more_logicals_text operator ls)
@@ -101,7 +101,7 @@ abbrev mutual
   arguments_text no_arguments = []
   arguments_text (argument a args) = argument_text a ++ more_arguments_text args
 
-  -- the arguments behind the first
+  -- the arguments after the first
   pub more_arguments_text : Arguments → List ℕ
   more_arguments_text no_arguments = []
   more_arguments_text (argument a args) = 0x2C ∷ (argument_text a ++ more_arguments_text args)
@@ -150,7 +150,7 @@ abbrev mutual
   CanBeSelectors no_selectors = ⊥
   CanBeSelectors (selector s ss) = CanBeSelector s × CanBeMoreSelectors ss
 
-  -- the selectors behind the first
+  -- the selectors after the first
   pub CanBeMoreSelectors : Selectors → Type 0
   CanBeMoreSelectors no_selectors = ⊤
   CanBeMoreSelectors (selector s ss) = CanBeSelector s × CanBeMoreSelectors ss

@@ -19,12 +19,12 @@ abbrev pub first_flag : List Bool → Bool
 first_flag [] = false
 first_flag (flag ∷ flags) = flag
 
--- the flags behind the first
+-- the flags after the first
 abbrev pub later_flags : List Bool → List Bool
 later_flags [] = []
 later_flags (flag ∷ flags) = flags
 
--- each of some lines, with a line feed behind it
+-- each of some lines, with a line feed after it
 abbrev pub with_line_feeds : List (List ℕ) → List ℕ
 with_line_feeds lines = flat_map (λ line. line ++ 0x0A ∷ []) lines
 

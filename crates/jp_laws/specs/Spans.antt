@@ -30,7 +30,7 @@ abbrev mutual
   earlier_children k no_child = no_child
   earlier_children k (child name t more) = child (earlier_name k name) (earlier k t) (earlier_children k more)
 
--- Some children stand between two positions, each of at least one byte, and each behind those before it.
+-- Some children stand between two positions, each of at least one byte, and each after those before it.
 abbrev pub StandInOrder : ℕ → ℕ → Children → Type 0
 StandInOrder from to no_child = from ≤ to
 StandInOrder from to (child name t more) = (from ≤ (span t).start) × ((span t).start < (span t).end) × StandInOrder (span t).end to more

@@ -23,7 +23,7 @@ use jp_model::laws as readings;
 /// Two values whose strings and names are scalars, without equal names, have one canonical text exactly where they are equal
 /// (RFC 9535, section 2.3.5.2.2); so have any two nodes of the trees of lines.
 ///
-/// A layout that keeps a zero behind the point is refused here, and so are members in the order of the line, and numbers of
+/// A layout that keeps a zero after the point is refused here, and so are members in the order of the line, and numbers of
 /// which only the last 64 digits are written.
 pub fn canonical_texts_are_equal_where_values_are()
     ensures values { (v w : Value) → CanBeValue v → CanBeValue w → is_plain (Some v) ≡ true → is_plain (Some w) ≡ true

@@ -38,9 +38,9 @@ pub fn lines_are_never_truncated()
     ensures { (line : List ℕ) → HasStatus in_lines line (refused Truncated) → ⊥ }
 {}
 
-/// A line with a line feed behind it has in a sequence the status that it has as a line (RFC 7464, section 2.4).
+/// A line with a line feed after it has in a sequence the status that it has as a line (RFC 7464, section 2.4).
 ///
-/// That a number, `true`, `false` or `null` is truncated in a sequence whatever stands behind it is refused here.
+/// That a number, `true`, `false` or `null` is truncated in a sequence whatever stands after it is refused here.
 pub fn lines_are_texts_of_sequences()
     ensures { (line : List ℕ) (x : LineStatus) → HasStatus in_lines line x → HasStatus in_sequence (line ++ 0x0A ∷ []) x }
 {}

@@ -12,7 +12,7 @@ ghost use Rattle.jp_model.specs.Rows.{rows};
 ghost use Rattle.jp_laws.specs.Nodes.{IsWithin};
 ghost use Rattle.jp_laws.specs.Queries.{BeginsInTurn, beside, children_by, continued, lines_later};
 
-/// A query that goes on behind another selects what the rest selects of the nodes that the first selects, one after another
+/// A query that goes on after another selects what the rest selects of the nodes that the first selects, one after another
 /// (RFC 9535, section 2.1.2).
 ///
 /// That the nodes of a query are turned round at its end is refused here.

@@ -8,7 +8,7 @@ ghost use Rattle.jp_laws.specs.Patterns.{somewhere};
 
 use jp_model::laws;
 
-/// A pattern occurs in a text of scalars just where the text matches the pattern with any text before and behind it.
+/// A pattern occurs in a text of scalars just where the text matches the pattern with any text before and after it.
 ///
 /// A search that looks only at the front of the text, where what occurs is what stands there, is refused here.
 pub fn occurring_is_matching_somewhere()

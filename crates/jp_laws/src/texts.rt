@@ -19,8 +19,8 @@ ghost use Rattle.jp_laws.specs.QueryTexts.{CanBeSegments, query_text};
 
 /// Each tree whose strings and names are scalars, whose objects alone have names, all different in each, whose depth is at most
 /// 512 and whose exponents are below 10^15 has a text: the status of what is printed of it is that tree, but for where its
-/// parts stand; in a sequence with a line feed behind it (RFC 8259; RFC 7464, section 2.1). Each tree that is the status of a
-/// line is one of these, but that its exponents may be lower still, by the digits behind a point.
+/// parts stand; in a sequence with a line feed after it (RFC 8259; RFC 7464, section 2.1). Each tree that is the status of a
+/// line is one of these, but that its exponents may be lower still, by the digits after a point.
 ///
 /// A grammar of strings without the escape `\"` is refused here.
 pub fn each_tree_has_a_text()

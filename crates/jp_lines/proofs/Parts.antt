@@ -12,7 +12,7 @@ use Rattle.jp_model.proofs.Pieces.{pieces_some, pieces-append, pieces_clear, clo
 use Rattle.jp_model.proofs.LineSteps.{first_cut, only_cut}
 use Rattle.jp_masks.specs.Found.{lines_in}
 
--- ---- behind a line feed
+-- ---- after a line feed
 
 pub lines_parted : (front rest : List ℕ) → open_line front ≡ [] → text_lines (front ++ rest) ≡ text_lines front ++ text_lines rest
 lines_parted front rest e =
@@ -99,7 +99,7 @@ pub all_parts : (framing : Framing) (before all : List (List ℕ)) (bytes : List
 all_parts framing before all bytes start past came =
     sym (append-nil before) ∙ ap (λ ls. before ++ ls) (sym (no_lines framing) ∙ ap (lines_in framing) (sym (drop_all start bytes past))) ∙ came
 
--- the lines of what stands behind a byte order mark
+-- the lines of what stands after a byte order mark
 pub all_lines : (framing : Framing) (bytes : List ℕ) (start : ℕ) → drop start bytes ≡ without_byte_order_mark bytes → lines_in framing (drop start bytes) ≡ lines framing bytes
 all_lines framings.Lines bytes start e = ap text_lines e
 all_lines framings.Sequence bytes start e = ap sequence_texts e

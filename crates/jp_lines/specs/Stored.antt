@@ -53,7 +53,7 @@ abbrev pub is_fault_status : Status → Bool
 is_fault_status (told.Refused fault) = true
 is_fault_status status = false
 
--- the tree of a line of which this is told, where it has one
+-- the tree of a line by what is told of it, where it has one
 abbrev pub told_tree : Status → List ℕ → Option Tree
 told_tree told.Tree line = Some (spelled line)
 told_tree status line = None

@@ -16,7 +16,7 @@ pub fn separator(framing: Framing) -> u8
     }
 }
 
-/// Whether only white space comes before the first record separator of a sequence (RFC 7464, section 2.1), behind a byte order
+/// Whether only white space comes before the first record separator of a sequence (RFC 7464, section 2.1), after a byte order
 /// mark in front (RFC 8259, section 8.1).
 pub fn is_framed_text(framing: Framing, bytes: &[u8]) -> bool
     ensures { result ≡ is_framed framing bytes.now }

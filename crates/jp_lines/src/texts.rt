@@ -1,4 +1,4 @@
-//! Texts that stand among some bytes, each of which is read by itself.
+//! Texts that stand among some bytes, each read by itself.
 
 ghost use Rattle.std.specs.Prelude.{ℕ, List, ◌≡◌, ◌<◌, ◌^◌, ◌++◌, All, map, length, IfOk, OnOk};
 ghost use Rattle.jp_model.specs.declared.Framing.TheVariants as framings;

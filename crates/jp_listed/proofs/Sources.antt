@@ -67,11 +67,11 @@ only_zeros (d ∷ ds) a =
     let parts = and_parts (eqb d 0x30) (list_all (λ digit. eqb digit 0x30) ds) a in
     ap₂ (λ (b : ℕ) (l : List ℕ). b ∷ l) (sym (eqb-true d 0x30 parts.0)) (only_zeros ds parts.1)
 
--- some digits with zeros put behind them are others
+-- some digits with zeros put after them are others
 abbrev IsFilled : (few all : List ℕ) → Type 0
 IsFilled few all = (length few ≤ length all) × (few ++ zeros (length all - length few) ≡ all)
 
--- the zeros behind the last other digit taken away, and put back
+-- the zeros after the last other digit taken away, and put back
 zeros_back : (ds : List ℕ) → IsFilled (without_trailing_zeros ds) ds
 zeros_back [] = (omega arith, refl)
 zeros_back (d ∷ ds) = pick (zeros_back ds) (list_all (λ digit. eqb digit 0x30) (d ∷ ds)) refl

@@ -18,7 +18,7 @@ pub(crate) struct Slot {
     pub(crate) hash: u64,
     /// Its first byte.
     pub(crate) start: usize,
-    /// The byte behind its last.
+    /// The byte after its last.
     pub(crate) end: usize,
 }
 

@@ -15,11 +15,11 @@ const BUCKET: usize = 8;
 /// A set of texts.
 #[derive(Drop)]
 pub(crate) struct Texts {
-    /// The texts, each with a line feed behind it.
+    /// The texts, each with a line feed after it.
     bytes: Vec<u8>,
     /// Where each of them stands, in order.
     slots: Vec<Slot>,
-    /// The first slot of each bucket of hashes, and behind them the number of slots.
+    /// The first slot of each bucket of hashes, and after them the number of slots.
     starts: Vec<usize>,
     /// How many hashes belong to a bucket.
     width: u64,

@@ -51,7 +51,7 @@ module _ (ones n : ℕ) (at_ones : Says ones (λ i. nat_lt i n)) where
         (λ i low. below m i low (omega arith) ∙ at_marks i (omega arith)) (λ i low. below e i low (omega arith) ∙ at_ends i (omega arith)) (none_above m e)
         ∙ ap (sink_of framing) (ap (λ l. whole ++ l) front ∙ sym joined)
 
-  -- zeros behind a text do not make it UTF-8
+  -- zeros after a text do not make it UTF-8
   pub utf8_law : (text whole held block : List ℕ) → n ≡ length held → n < 64 → block ≡ held ++ replicate (64 - length held) 0 → text ≡ whole ++ held → IsUtf8 (whole ++ block) → IsUtf8 text
   utf8_law text whole held block n_is short block_is joined u =
       let zeros : List ℕ = replicate (64 - length held) 0 in

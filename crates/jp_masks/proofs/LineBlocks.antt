@@ -43,7 +43,7 @@ more_known text block first next long f e =
     e ∙ ap (λ (k : Carry). before None k block 64) f ∙ sym (before-part None start text block 64)
     ∙ ap (before None start (text ++ block)) (sym (length-append text block ∙ ap (λ n. length text + n) long))
 
--- the last bytes, with zeros behind them
+-- the last bytes, with zeros after them
 pub last_marked : (text rest positions : List ℕ) (first : Carry) (base word ones : ℕ) → length rest < 64 → positions ≡ marks text → first ≡ known_after None text → base ≡ length text
     → Says word (λ i. is_marked (before None first (rest ++ replicate (64 - length rest) 0) i) (get_or (rest ++ replicate (64 - length rest) 0) i 0)) → Says ones (λ i. nat_lt i (length rest))
     → positions ++ map (λ i. base + i) (set_bits (bit_and word ones)) ≡ marks (text ++ rest)

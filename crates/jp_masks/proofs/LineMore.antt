@@ -85,7 +85,7 @@ module _ (framing : Option Framing) where
           sym (mark_law framing (line ++ byte ∷ []) (length line) (clear_longer (length line) (omega arith)))
           ∙ ap₂ is_marked (before-append start line (byte ∷ []) (length line) (omega arith)) (get_or-append_seam line byte [] 0)
 
--- behind a byte that ends a line all is as at the start
+-- after a byte that ends a line all is as at the start
 pub after_end : (framing : Framing) (known : Carry) (byte : ℕ) → is_end (Some framing) byte ≡ true → after (Some framing) known byte ≡ start
 after_end Lines known byte ends = let is : byte ≡ 0x0A = eqb-true byte 0x0A ends in ap (after (Some Lines) known) is
 after_end Sequence known byte ends = let is : byte ≡ 0x1E = eqb-true byte 0x1E ends in ap (after (Some Sequence) known) is

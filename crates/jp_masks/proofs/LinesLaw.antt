@@ -16,7 +16,7 @@ use Rattle.jp_masks.proofs.LineMore.{by_push}
 use Rattle.jp_masks.proofs.Pieces.{closed-push, open-push}
 use Rattle.jp_masks.proofs.FoundLaw.{middle}
 
--- pieces, each with the separator behind it, and what comes then
+-- pieces, each with the separator after it, and what comes then
 unfoldable pub with_tail : ℕ → List (List ℕ) → List ℕ → List ℕ
 with_tail separator [] tail = tail
 with_tail separator (piece ∷ rest) tail = piece ++ separator ∷ with_tail separator rest tail

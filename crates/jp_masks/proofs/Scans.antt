@@ -100,7 +100,7 @@ module _ (line : List ℕ) where
   begins_is : (i : ℕ) (e s w st q b : Bool) → Knows i e s → Class i w st q b → Begins (i + 1) (w || st || (q && not e) || false)
   begins_is i e s w st q b k c = ap (λ (x : Carry). x.may_begin) (known-next i) ∙ (λ t. c.white t || c.structural t || (c.quote t && not (k.escape t)) || false)
 
-  -- what holds from a position up to another: these marks, and what is known behind them
+  -- what holds from a position up to another: these marks, and what is known after them
   pub record Goes (from to : ℕ) (positions : List ℕ) (escaped inside : Bool) : Type 0 where
     pub scans : Scans from to positions
     pub knows : Knows to escaped inside
@@ -162,7 +162,7 @@ module _ (line : List ℕ) where
         begins_is i false true false false true false k c,
       )
 
-  -- inside a string: a byte that is neither a quote nor a backslash, a backslash, and the byte behind it
+  -- inside a string: a byte that is neither a quote nor a backslash, a backslash, and the byte after it
   quiet_byte : (i : ℕ) → is_quote (byte i) ≡ false → is_backslash (byte i) ≡ false → Knows i false true → Goes i (i + 1) [] false true
   quiet_byte i q b k =
       let c : Class i (is_white (byte i)) (is_structural (byte i)) false false = record { white = refl; structural = refl; quote = q; backslash = b } in

@@ -13,7 +13,7 @@ use Rattle.jp_masks.proofs.LineBlocks.{and-true, and-false}
 use Rattle.jp_masks.proofs.SetBits.{marked}
 use Rattle.jp_masks.proofs.Positions.{filter_same, filter_split, without_lowest, lowest_within, lowest_set, none_below, lowest_gone, others_stay}
 
--- marks that come behind the others
+-- marks that come after the others
 abbrev pub marks_at : Sink → ℕ → List ℕ → Sink
 marks_at sink base positions = record { rows = sink.rows; positions = sink.positions ++ map (λ i. base + i - sink.start) positions; before = sink.before; start = sink.start }
 
@@ -103,7 +103,7 @@ pub no_mark : (mark end : Bool) → (mark ≡ true → end ≡ false) → end �
 no_mark false end apart is = refl
 no_mark true end apart is = absurd (false≢true (sym (apart refl) ∙ is))
 
--- the positions are the marks before the next end, that end, and what is behind it
+-- the positions are the marks before the next end, that end, and what is after it
 module _ (marks ends below : ℕ) (some : 0 < ends) (small : ends < 2 ^ 64) (ones_small : below < 2 ^ 64) (at_below : Says below (λ i. nat_lt i (trailing_zeros w64 ends))) (clear : bit marks (trailing_zeros w64 ends) ≡ false) where
   abbrev position : ℕ
   position = trailing_zeros w64 ends

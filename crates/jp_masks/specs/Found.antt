@@ -29,7 +29,7 @@ abbrev pub is_last_line : Framing → ℕ → ℕ → Bool
 is_last_line Lines start end = nat_lt start end
 is_last_line Sequence start end = nat_lt 0 start && nat_lt start end
 
--- the lines among pieces of which the first begins at `start`
+-- the lines among pieces, where the first begins at `start`
 abbrev pub lines_at : Framing → ℕ → List (List ℕ) → List LineAt
 lines_at framing start [] = []
 lines_at framing start (piece ∷ rest) =

@@ -1,4 +1,4 @@
--- What a scan knows before a byte, and how a byte changes it. Behind a byte that ends a line all is as at the start.
+-- What a scan knows before a byte, and how a byte changes it. After a byte that ends a line all is as at the start.
 use Rattle.std.specs.Prelude.{ℕ, zero, suc, List, Bool, true, false, not, ◌&&◌, ◌||◌, slice_index, Option}
 use Rattle.jp_model.specs.declared.Framing.{Framing}
 use Rattle.jp_model.specs.Characters.{is_white, is_structural, is_backslash, is_quote}
@@ -18,7 +18,7 @@ start = record { escaped = false; inside = false; may_begin = true }
 abbrev pub opens : Carry → ℕ → Bool
 opens before byte = is_quote byte && not before.escaped
 
--- behind a byte
+-- after a byte
 abbrev pub after : Option Framing → Carry → ℕ → Carry
 after framing before byte = record {
   escaped = is_backslash byte && not before.escaped;

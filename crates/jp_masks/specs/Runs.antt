@@ -24,7 +24,7 @@ abbrev pub carried : ℕ → Bool → ℕ → Bool
 carried word first zero = first
 carried word first (suc i) = bit word i
 
--- what a run of backslashes escapes, where `first` tells of bit 0
+-- what a run of backslashes escapes, where `first` is that of bit 0
 unfoldable pub escaped_at : ℕ → Bool → ℕ → Bool
 escaped_at backslash first zero = first
 escaped_at backslash first (suc i) = bit backslash i && not (escaped_at backslash first i)

@@ -11,7 +11,7 @@ use Rattle.jp_masks.specs.declared.row.Row.{Row}
 abbrev pub row_if : Bool → ℕ → ℕ → ℕ → ℕ → List Row
 row_if is start end from to = one_if is (record { start = start; end = end; positions_start = from; positions_end = to })
 
--- the rows of pieces of which the first begins at `start`, where `positions` positions stand before it
+-- the rows of pieces, where the first begins at `start` and `positions` positions stand before it
 abbrev pub rows_of : Framing → ℕ → ℕ → List (List ℕ) → List Row
 rows_of framing start positions [] = []
 rows_of framing start positions (piece ∷ rest) =

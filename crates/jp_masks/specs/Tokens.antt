@@ -25,13 +25,13 @@ abbrev mutual
   value_tokens line s (string points) h = s.start ∷ h.last ∷ []
   value_tokens line s (container kind children) h = s.start ∷ first_tokens line kind (s.start + 1) s.end children h.1
 
-  -- behind an opening bracket
+  -- after an opening bracket
   pub first_tokens : (line : List ℕ) (kind : Container) (from to : ℕ) (c : Children) → SpellsFirst line kind from to c → List ℕ
   first_tokens line kind from to no_child h = h.place ∷ []
   first_tokens line kind from to (child name t more) h =
       label_tokens line kind h.0 (span t).start name h.2 ++ (tokens line t h.3 ++ more_tokens line kind (span t).end to more h.4)
 
-  -- behind a child
+  -- after a child
   pub more_tokens : (line : List ℕ) (kind : Container) (from to : ℕ) (c : Children) → SpellsMore line kind from to c → List ℕ
   more_tokens line kind from to no_child h = h.place ∷ []
   more_tokens line kind from to (child name t more) h =

@@ -2,6 +2,6 @@
 use Rattle.std.specs.Prelude.{ℕ, List, take}
 use Rattle.jp_masks.specs.declared.room.Positions.{Positions}
 
--- behind them is room for others
+-- after them is room for others
 abbrev pub written : Positions → List ℕ
 written positions = take positions.filled positions.room.items

@@ -36,7 +36,7 @@ impl Carry {
     };
 }
 
-/// The bits before which an odd run of set bits is. `full` tells of the 1, 2, 4 .. bits before each whether all are
+/// The bits before which an odd run of set bits is. `full` says for the 1, 2, 4 .. bits before each whether all are
 /// set, and `odd` whether those that are set without a gap are odd in number.
 fn odd_runs(word: u64) -> u64
     ensures { Says result (odd_run word) }
@@ -124,7 +124,7 @@ fn ends_of(framing: Option<Framing>, line_feeds: u64, bytes: &[u8; 64]) -> u64
     }
 }
 
-/// What one block has, and what is known after it. A byte that ends a line may be among the marks, and is none.
+/// What one block has, and what is known after it. A byte that ends a line may be among the marks, and is not one.
 #[derive(Clone, Copy, Drop)]
 pub struct Found {
     /// The bytes at which tokens begin, and quotation marks that close a string: bit k is byte k.

@@ -8,7 +8,7 @@ use std::alloc::{AllocError, Global};
 /// So much room is made at once, that of eight blocks. What is not used of it is small.
 const ROOM: usize = 8 * BLOCK;
 
-/// The positions that were written, and room behind them for others. The room is cleared when it is made, and never again.
+/// The positions that were written, and room after them for others. The room is cleared when it is made, and never again.
 #[derive(Drop)]
 pub struct Positions {
     room: Vec<u32>,

@@ -178,7 +178,7 @@ module _ (paths : List (List Step)) (g : Guard) where
   by_comparison P left right (compare (result c) op (single p)) h = absurd (cc)
   by_comparison P left right (compare (result c) op (result d)) h = absurd (cc)
 
-  -- the guard comes from the first list or from what is behind it
+  -- the guard comes from the first list or from what is after it
   pub from_first : (a b : Option Guard) → guard_or a b ≡ Some g → (a ≡ Some g) ⊎ ((a ≡ None) × (b ≡ Some g))
   from_first None b h = inr (refl, h)
   from_first (Some k) b h = inl h
@@ -220,7 +220,7 @@ module _ (paths : List (List Step)) (t : Tree) (g : Guard) (fails : guard_passes
       regroup None b c = refl
       regroup (Some k) b c = refl
 
-  -- the guard comes from the front of a list or from what is behind it
+  -- the guard comes from the front of a list or from what is after it
   from_front : (xs ys : List Logical) → first_guard paths (xs ++ ys) ≡ Some g → (first_guard paths xs ≡ Some g) ⊎ ((first_guard paths xs ≡ None) × (first_guard paths ys ≡ Some g))
   from_front xs ys h = from_first paths g (first_guard paths xs) (first_guard paths ys) (sym (joined xs ys) ∙ h)
 

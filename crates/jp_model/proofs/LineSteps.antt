@@ -44,7 +44,7 @@ module _ (separator : ℕ) where
   pub only_cut : (text : List ℕ) → IsFirstByte (is_byte separator) text None → pieces separator text ≡ text ∷ []
   only_cut text h = slice_split_none (is_separator separator) text (clear_all text h)
 
--- the text up to its first line feed is a line, and the others are those behind it
+-- the text up to its first line feed is a line, and the others are those after it
 pub first_line : (text : List ℕ) (at : ℕ) → IsFirstByte (is_byte 10) text (Some at) → text_lines text ≡ take at text ∷ text_lines (slice_range text (at + 1) (length text))
 first_line text at h = ap text_lines (cut_at 10 text at h) ∙ lines-first (take at text) (slice_range text (at + 1) (length text)) (clear_front 10 text at h)
 

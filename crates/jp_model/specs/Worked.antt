@@ -37,7 +37,7 @@ here = path current no_segments
 abbrev pub all_here : Path
 all_here = path current (one (child_segment (just wildcard_selector)))
 
--- a name behind `@` or `$`
+-- a name after `@` or `$`
 abbrev pub member_of : Origin → List ℕ → Path
 member_of origin name = path origin (key name no_segments)
 

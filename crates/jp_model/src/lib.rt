@@ -94,7 +94,7 @@ pub enum QueryFault {
     Integer = 3,
     /// The exponent of a number has more than 15 digits after its leading zeros.
     Number = 4,
-    /// A function is none of `length`, `count`, `match`, `search` and `value` (RFC 9535, section 2.4).
+    /// A function is not one of `length`, `count`, `match`, `search` and `value` (RFC 9535, section 2.4).
     Function = 5,
     /// The query is not well-typed, a wrong number of arguments included (RFC 9535, section 2.4.3).
     Types = 6,

@@ -286,7 +286,7 @@ none_at c h = ap (λ (s : Spot). s.behind) (sym (spot-is c)) ∙ places.no_more 
 more_at : (c : Cursor) → 0 < children_node_count (children_after c) → 0 < children_node_count (spot_at (root_of c) (place_of c)).behind
 more_at c h = subst (λ (s : Spot). 0 < children_node_count s.behind) (spot-is c) h
 
--- it stands behind the subtree
+-- it stands after the subtree
 pub next_place : (c : Cursor) → 0 < children_node_count (children_after c) → place_of c + length (subtree (node_of c)) < length (subtree (root_node (root_of c)))
 next_place c h =
     let found = places.next_sibling (root_of c) (place_of c) (inside c) (more_at c h) in

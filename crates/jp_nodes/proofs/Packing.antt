@@ -127,7 +127,7 @@ kept_alone words line tapes bits h e is =
 
 -- ---- how they are written
 
--- the words of the node at a place, and those behind them
+-- the words of the node at a place, and those after them
 three_at : (words : List ℕ) (place : ℕ) → 3 * place + 2 < length words
     → drop (3 * place) words ≡ get_or words (3 * place) 0 ∷ get_or words (3 * place + 1) 0 ∷ get_or words (3 * place + 2) 0 ∷ drop (3 * (place + 1)) words
 three_at words place h =
@@ -187,7 +187,7 @@ counted words line h =
     let few = count_short line h.spelled_line in
     (omega (arith, long), omega (arith, long, few, h.short))
 
--- the words of a tape, which are packed behind others, are that tape
+-- the words of a tape, which are packed after others, are that tape
 pub packed_among : (words line tapes after : List ℕ) → IsTapeOf words line → after ≡ tapes ++ packed (half_bits (length line)) words → IsAmong after (length tapes) (length words / 3) line
 packed_among words line tapes after h e =
     let bits : ℕ = half_bits (length line) in

@@ -1,4 +1,4 @@
--- From the place of a node to those of its first child and of its next sibling, and to the place behind its subtree.
+-- From the place of a node to those of its first child and of its next sibling, and to the place after its subtree.
 use Rattle.std.proofs.Common.{◌≡◌, ℕ, suc, ◌+◌, ◌-◌, ◌<◌, ◌≤◌, List, [], ◌∷◌, ◌++◌, length, map, take, drop, slice_get, slice_range, sym, ◌∙◌, ap, refl, arith, Some, length-append, drop-drop}
 use Rattle.std.proofs.lemmas.List.{map-append, drop_at, take_at, length-drop, length-map, drop-map}
 use Rattle.std.proofs.lemmas.Option.{slice_get-map, slice_get-get_or}
@@ -65,7 +65,7 @@ node_at t place h =
     ap (λ x. slice_get x place) (sym (nodes-spots t))
     ∙ (slice_get-map (λ (s : Spot). s.node) (spots t) place ∙ ap (option_map (λ (s : Spot). s.node)) (slice_get-get_or (spots t) place (root_spot t) (omega (arith, l, h))))
 
--- ---- the place behind the subtree
+-- ---- the place after the subtree
 
 pub after_within : (t : Tree) (place : ℕ) → place < node_count t → place + length (subtree (spot_at t place).node) ≤ node_count t
 after_within t place h =
@@ -155,7 +155,7 @@ next_sibling t place h more =
     let found = heads t after s.parent s.up (s.index + 1) from s.behind r.0 r.1 more in
     (omega (arith, a, b, c, d, e, more), found.0, found.1, found.2)
 
--- the node behind the last of some siblings is a child of a node before their parent
+-- the node after the last of some siblings is a child of a node before their parent
 pub behind_last : (t : Tree) (place : ℕ) → place < node_count t → (spot_at t place).behind ≡ no_child →
     let s = spot_at t place in
     let after = place + length (subtree s.node) in

@@ -122,7 +122,7 @@ past_front front others i h =
 abbrev Sitting : List Spot → Spot → ℕ → List Spot → Type 0
 Sitting from s place rest = from ≡ s ∷ (spots_below s.node.location place s.node.tree ++ (spots_from s.parent s.up (s.index + 1) (place + node_count s.node.tree) s.behind ++ rest))
 
--- what stands behind all children of a node at this place is a child of a node before it
+-- what stands after all children of a node at this place is a child of a node before it
 abbrev pub Climbs : ℕ → List Spot → Type 0
 Climbs place [] = Unit {0}
 Climbs place (s ∷ ss) = s.up < place

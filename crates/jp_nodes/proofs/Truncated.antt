@@ -18,7 +18,7 @@ use Rattle.jp_nodes.specs.Kinds.{kind_of, kind_by}
 use Rattle.jp_nodes.specs.Words.{span_word, nodes_below, tape_words}
 use Rattle.jp_nodes.proofs.Packed.{kind-packed}
 
--- behind the value stands white space, if anything
+-- after the value stands white space, if anything
 end_test : (line : List ℕ) (i : ℕ) → White line i (length line) → (i == length line) ≡ not (list_any is_white (drop i line))
 end_test line i w =
     elim (cases_lt i (length line)) [

@@ -13,7 +13,7 @@ first_stands bits highs lows words (suc zero) h = refl
 first_stands bits highs lows words (suc (suc zero)) h = refl
 first_stands bits highs lows words (suc (suc (suc index))) h = absurd (omega (arith, h))
 
--- those of any other, behind it
+-- those of any other, after it
 later_stands : (bits highs lows upper lower : ℕ) (words : List ℕ) (place : ℕ) → StandAt words place bits upper lower → StandAt (node_words bits highs lows words) (suc place) bits upper lower
 later_stands bits highs lows upper lower words place h index w =
     let behind : suc (suc (suc (3 * place + index))) ≡ 3 * suc place + index = omega arith in

@@ -38,11 +38,11 @@ up_of c = (spot_of c).up
 abbrev pub index_of : Cursor → ℕ
 index_of c = (spot_of c).index
 
--- the sibling nodes behind it, in order
+-- the sibling nodes after it, in order
 abbrev pub nodes_after : Cursor → List Node
 nodes_after c = nodes_behind (spot_of c)
 
--- the siblings behind it as a tree has them
+-- the siblings after it as a tree has them
 abbrev pub children_after : Cursor → Children
 children_after c = (spot_of c).behind
 

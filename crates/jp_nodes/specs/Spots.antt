@@ -15,7 +15,7 @@ pub record Spot : Type 0 where
   pub up : ℕ
   -- how many siblings stand before it
   pub index : ℕ
-  -- the siblings behind it
+  -- the siblings after it
   pub behind : Children
 
 -- the spot of a child, by the location and the place of its parent
@@ -59,7 +59,7 @@ children_in _ = no_child
 abbrev pub nodes_at : List Step → ℕ → Children → List Node
 nodes_at parent index children = map (λ p. record { location = parent ++ p.0 ∷ []; tree = p.1 }) (steps_from index children)
 
--- the sibling nodes behind a spot
+-- the sibling nodes after a spot
 abbrev pub nodes_behind : Spot → List Node
 nodes_behind s = nodes_at s.parent (s.index + 1) s.behind
 

@@ -1,2 +1,2 @@
--- Lemmas of the words of jpgrep.
+-- Lemmas of the arguments of jpgrep.
 pub mod Program

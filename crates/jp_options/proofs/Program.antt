@@ -30,12 +30,12 @@ with_one_more old new arg a rules rule adds local is_rule is_old =
     adds.shape local ∙ ap₂ with_rule is_old is_rule
     ∙ ap (λ all. record a { top = record a.top { rules = all } }) (append_assoc a.top.rules rules (rule ∷ []))
 
--- the matches are what the written meaning of the words gives
+-- the matches are what the written meaning of the arguments gives
 pub matches_found : (a : App) (words : List Text) (m : ArgMatches) → a ≡ program → HasMatchesOf a words m → rows_of (found_of m) ≡ found_in words
 unfolding found_in
 matches_found a words m is has = (has (ap is_simple is)).0 ∙ ap (λ x. matches_of x words) is
 
--- the parse fails by the written faults of the words
+-- the parse fails by the written faults of the arguments
 pub fails_by_faults : {X : Type 0} (a : App) (words : List Text) (r : Result X Error) → a ≡ program
     → (is_simple_and_free a ≡ true → FailsBy (fault_of a words) r) → FailsBy (parse_faults words) r
 unfolding parse_faults
@@ -74,7 +74,7 @@ has_first_kind [] next e (inl memory) = inl memory
 has_first_kind [] next e (inr none) = absurd none
 has_first_kind (k ∷ ks) next e has = has
 
--- where the words are read, the value of `-m` decides
+-- where the arguments are read, the value of `-m` decides
 pub count_taken : (first : Kinds) (found : List Row) (value : Option Text) → first ≡ [] → value ≡ first_of (codes "most") found → is_count value ≡ true
     → or_else first (most_faults found) ≡ []
 count_taken first found value none is taken = rw (none, ← is, taken) refl
@@ -83,7 +83,7 @@ pub count_refused : (first : Kinds) (found : List Row) (value : Option Text) (e 
     → kind_of e ≡ InvalidValue → HasKind (or_else first (most_faults found)) e
 count_refused first found value e none is refused kind = rw (none, ← is, false_from_ne_true _ refused) (inr (inl kind))
 
--- where the value of `-m` is taken too, the words that do not go together are refused by their conflict
+-- where the value of `-m` is taken too, the arguments that do not go together are refused by their conflict
 pub refused_by_conflict : (first : Kinds) (found : List Row) (kind : ErrorKind) (e : Error) → first ≡ [] → kind ∷ [] ≡ conflicts_in found → kind_of e ≡ kind
     → HasKind (or_else first (conflicts_in found)) e
 refused_by_conflict first found kind e none conflict is = rw (none, ← conflict) (inr (inl is))

@@ -1,4 +1,4 @@
--- The program's words (profile), read as the crate `clap` reads words: `jpgrep [OPTION].. QUERY [FILE]..`, or with `-e QUERY`
+-- The program's arguments (profile), read as the crate `clap` reads them: `jpgrep [OPTION].. QUERY [FILE]..`, or with `-e QUERY`
 -- or `-w CONDITION` the files alone, and so with `--each QUERY`.
 use Rattle.std.specs.Prelude.{◌≡◌, ◌++◌, ◌&&◌, ◌||◌, not, ℕ, Bool, true, false, List, [], ◌∷◌, Option, Some, codes, ◌==◌, if◌then◌else◌, length, map, max, option_map, unwrap_or}
 use Rattle.std.specs.Option.{option_map_or}
@@ -13,11 +13,11 @@ use Rattle.clap.specs.declared.error.kind.ErrorKind.TheVariants.{ArgumentConflic
 use Rattle.jp_model.specs.Lines.{pieces}
 use Rattle.jp_options.specs.declared.options.Options.{Options}
 
--- the words that belong to no option, as many as there are
+-- the arguments that belong to no option, as many as there are
 abbrev pub words_rule : Rule
 words_rule = record (new_rule (codes "words")) { action = Some Append; value_names = 1 }
 
--- an option with a letter and a word, which takes a value each time that it is given
+-- an option with a letter and a long name, which takes a value each time that it is given
 abbrev pub option_rule : Text → ℕ → Text → Rule
 option_rule id letter word = record (new_rule id) {
   long = Some word;
@@ -30,19 +30,19 @@ option_rule id letter word = record (new_rule id) {
 abbrev pub list_rule : Text → Rule
 list_rule id = record (new_rule id) { long = Some id; action = Some Append; value_names = 1 }
 
--- `-m`, of which the last value counts
+-- `-m`; its last value counts
 abbrev pub most_rule : Rule
 most_rule = record (option_rule (codes "most") 0x6D (codes "max-count")) { action = Some Set }
 
--- `--names` and `--each`, of which the last value counts
+-- `--names` and `--each`; the last value of each counts
 abbrev pub value_rule : Text → Rule
 value_rule id = record (new_rule id) { long = Some id; action = Some Set; value_names = 1 }
 
--- a flag with a letter and a word
+-- a flag with a letter and a long name
 abbrev pub flag_rule : Text → ℕ → Text → Rule
 flag_rule id letter word = record (new_rule id) { long = Some word; short = Some letter; action = Some SetTrue }
 
--- a flag with a word alone
+-- a flag with a long name alone
 abbrev pub word_rule : Text → Rule
 word_rule id = record (new_rule id) { long = Some id; action = Some SetTrue }
 
@@ -102,7 +102,7 @@ general_rules = flag_rule (codes "silent") 0x73 (codes "no-messages")
     ∷ help_rule
     ∷ []
 
--- a command with more rules behind those that it has
+-- a command with more rules after those that it has
 abbrev pub with_rules : App → List Rule → App
 with_rules app rules = record app { top = record app.top { rules = app.top.rules ++ rules } }
 
@@ -113,11 +113,11 @@ with_settings app = record app {
   top = record app.top { has_version = true; disable_help_flag = true; args_override_self = true };
 }
 
--- the words that the program takes
+-- the arguments that the program takes
 abbrev pub program : App
 program = with_rules (with_settings (new_app (codes "jpgrep"))) (asking_rules ++ printing_rules ++ spelling_rules ++ front_rules ++ general_rules)
 
--- what the words give each argument, the first word being the program's own name
+-- what the command line gives each argument, its first text being the program's own name
 unfoldable pub found_in : List Text → List Row
 found_in words = matches_of program words
 
@@ -129,7 +129,7 @@ values_in id found = unwrap_or (all_of id found) []
 abbrev pub is_given : Text → List Row → Bool
 is_given id found = option_map_or (λ value. bytes_eq value (codes "true")) (first_of id found) false
 
--- a value of `-m`, if there is one, is a number that 64 bits hold: decimal digits, behind a plus or not
+-- a value of `-m`, if there is one, is a number that 64 bits hold: decimal digits, after a plus or not
 abbrev pub is_count : Option Text → Bool
 is_count value = option_map_or (is_unsigned_in 0 18446744073709551615) value true
 
@@ -141,7 +141,7 @@ count_of value = option_map (λ word. digits_value 10 (without_leading_plus word
 abbrev pub names_of : Option Text → List Text
 names_of value = option_map_or (pieces 0x2C) value []
 
--- the options are what the words give the arguments
+-- the options are what the command line gives the arguments
 pub record IsAskedBy (found : List Row) (o : Options) : Type 0 where
   pub words : map (λ s. s.now) o.words.items ≡ values_in (codes "words") found
   pub queries : map (λ s. s.now) o.queries.items ≡ values_in (codes "query") found
@@ -185,7 +185,7 @@ names_nothing found = is_empty (values_in (codes "query") found) && is_empty (va
     && not (asks_each found)
     && is_empty (values_in (codes "in") found) && is_empty (values_in (codes "not-in") found)
 
--- neither a query nor a condition was given, nor `--refused`: there is no word, and none of `-e`, `-w`, `--each`, `--in` and
+-- neither a query nor a condition was given, nor `--refused`: there is no argument, and none of `-e`, `-w`, `--each`, `--in` and
 -- `--not-in`
 abbrev pub asks_nothing : List Row → Bool
 asks_nothing found = not (is_given (codes "refused") found) && is_empty (values_in (codes "words") found) && names_nothing found
@@ -210,7 +210,7 @@ asks_of_values found = not (names_nothing found) || is_given (codes "invert") fo
 abbrev pub asks_header : List Row → Bool
 asks_header found = is_given (codes "header") found || not (is_empty (names_of (first_of (codes "names") found)))
 
--- the names of `--names` are given, and are not as many as the queries, of which there is one where there is no `-e`
+-- the names of `--names` are given, and are not as many as the queries; there is one where there is no `-e`
 abbrev pub has_other_names : List Row → Bool
 has_other_names found =
     let names = names_of (first_of (codes "names") found) in
@@ -224,7 +224,7 @@ prints_values found = if asks_each found then not (is_empty (values_in (codes "q
 abbrev pub prints_others : List Row → Bool
 prints_others found = is_given (codes "invert") found && (asks_table found || is_given (codes "path") found || prints_values found)
 
--- why the words of what is printed do not go together: `-r` with `-j`, `--tsv` with `--csv`, a table with what spells or
+-- why the options of what is printed do not go together: `-r` with `-j`, `--tsv` with `--csv`, a table with what spells or
 -- selects otherwise, `--header` or `--names` without a table or a tally, more names than queries or fewer, `-v` with what prints values;
 -- and none where they do
 abbrev pub form_conflicts : List Row → Kinds
@@ -235,7 +235,7 @@ form_conflicts found = if is_given (codes "raw") found && is_given (codes "canon
     else if has_other_names found then WrongNumberOfValues ∷ []
     else if prints_others found then ArgumentConflict ∷ [] else []
 
--- why the words of what plays the lines do not go together: `--json` with `--elements`, `--seq` with either of them; and none
+-- why the options of what plays the lines do not go together: `--json` with `--elements`, `--seq` with either of them; and none
 -- where they do
 abbrev pub stream_conflicts : List Row → Kinds
 stream_conflicts found = if is_given (codes "json") found && is_given (codes "elements") found then ArgumentConflict ∷ []
@@ -250,8 +250,8 @@ refuses_tally found =
     || (is_given (codes "number") found || is_given (codes "name") found || is_given (codes "null") found)
     || is_given (codes "invert") found || is_given (codes "seq") found || is_given (codes "refused") found
 
--- why the words do not go together: `-l` with `-L`, `-H` with `-h`, `--refused` with what asks of values, `--tally` with what it
--- has none of, what is printed, what plays the lines, no query; and none where they do
+-- why the options do not go together: `-l` with `-L`, `-H` with `-h`, `--refused` with what asks of values, `--tally` with what
+-- it has none of, what is printed, what plays the lines, no query; and none where they do
 abbrev pub conflicts_in : List Row → Kinds
 conflicts_in found = if is_given (codes "with") found && is_given (codes "without") found then ArgumentConflict ∷ []
     else if is_given (codes "name") found && is_given (codes "unnamed") found then ArgumentConflict ∷ []
@@ -259,7 +259,7 @@ conflicts_in found = if is_given (codes "with") found && is_given (codes "withou
     else if is_given (codes "tally") found && refuses_tally found then ArgumentConflict ∷ []
     else or_else (form_conflicts found) (or_else (stream_conflicts found) (if asks_nothing found then MissingRequiredArgument ∷ [] else []))
 
--- why the words are refused as they are read: the kinds that the error may have, and none where they are taken
+-- why the arguments are refused as they are read: the kinds that the error may have, and none where they are taken
 unfoldable pub parse_faults : List Text → Kinds
 parse_faults words = fault_of program words
 
@@ -267,10 +267,10 @@ parse_faults words = fault_of program words
 abbrev pub most_faults : List Row → Kinds
 most_faults found = if is_count (first_of (codes "most") found) then [] else InvalidValue ∷ []
 
--- why the words are refused one by one: as they are read, or behind that for the value of `-m`
+-- why the arguments are refused one by one: as they are read, or after that for the value of `-m`
 abbrev pub reading_faults : List Text → Kinds
 reading_faults words = or_else (parse_faults words) (most_faults (found_in words))
 
--- why the words are refused: one by one, or behind that since they do not go together
+-- why the arguments are refused: one by one, or after that since they do not go together
 abbrev pub faults_in : List Text → Kinds
 faults_in words = or_else (reading_faults words) (conflicts_in (found_in words))

@@ -1,4 +1,4 @@
--- What the words of jpgrep ask for.
+-- What the arguments of jpgrep ask for.
 pub mod Words
 pub mod Pairs
 pub mod Command

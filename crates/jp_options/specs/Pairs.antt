@@ -1,4 +1,4 @@
--- The options that take two words, as those that take one are read.
+-- The options that take two values, as those that take one are read.
 use Rattle.std.specs.Prelude.{List, [], ◌∷◌, take, codes, Bool, ◌||◌, bytes_eq, if◌then◌else◌}
 use Rattle.clap.specs.Words.{Text}
 use Rattle.jp_options.specs.declared.pairs.Place.{Place}
@@ -9,7 +9,7 @@ abbrev pub is_list_word : Text → Bool
 is_list_word word = bytes_eq word (codes "--in") || bytes_eq word (codes "--not-in")
 
 abbrev mutual
-  -- the words with the option once more before the file of each list, up to `--`
+  -- the arguments with the option once more before the file of each list, up to `--`
   pub paired : List Text → List Text
   paired [] = []
   paired (word ∷ rest) =
@@ -19,24 +19,24 @@ abbrev mutual
       else if bytes_eq (take 9 word) (codes "--not-in=") then word ∷ codes "--not-in" ∷ paired_file rest
       else word ∷ paired rest
 
-  -- the same behind such an option
+  -- the same after such an option
   pub paired_query : Text → List Text → List Text
   paired_query option [] = []
   paired_query option (query ∷ rest) = query ∷ option ∷ paired_file rest
 
-  -- the same behind its query
+  -- the same after its query
   pub paired_file : List Text → List Text
   paired_file [] = []
   paired_file (file ∷ rest) = file ∷ paired rest
 
--- the same at a place among the words
+-- the same at a place among the arguments
 abbrev pub paired_at : Place → List Text → List Text
 paired_at places.Any words = paired words
 paired_at (places.Query option) words = paired_query option.now words
 paired_at (places.File option) words = option.now ∷ paired_file words
 paired_at places.Behind words = words
 
--- what stands before a word at a place, that is the option once more before a file
+-- what stands before an argument at a place, that is the option once more before a file
 abbrev pub before_word : Place → List Text → List Text
 before_word (places.File option) words = option.now ∷ words
 before_word _ words = words

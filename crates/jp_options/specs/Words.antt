@@ -1,4 +1,4 @@
--- What the program's words ask for, once they are read.
+-- What the program's arguments ask for, once they are read.
 use Rattle.std.specs.Prelude.{ℕ, List, [], ◌∷◌, length, take, drop, map, codes, Bool, false, ◌&&◌, ◌||◌, not, ltb, if◌then◌else◌, min, unwrap_or}
 use Rattle.jp_cut.specs.declared.machine.Pieces.TheVariants as pieces
 use Rattle.jp_form.specs.declared.form.Shown.{Shown}
@@ -14,7 +14,7 @@ use Rattle.jp_form.specs.declared.form.Units.TheVariants as units
 use Rattle.jp_model.specs.declared.Framing.TheVariants as framings
 use Rattle.jp_options.specs.declared.options.Options.{Options}
 
--- the words that belong to no option, the queries of `-e`, and the conditions of `-w`
+-- the arguments that belong to no option, the queries of `-e`, and the conditions of `-w`
 abbrev pub words_of : Options → List (List ℕ)
 words_of o = map (λ s. s.now) o.words.items
 
@@ -29,12 +29,12 @@ names_list o = ltb 0 (length o.lists.items) || ltb 0 (length o.other_lists.items
 abbrev pub asks_each : Options → Bool
 asks_each o = ltb 0 (length o.each.items)
 
--- there is none of `-e`, `-w`, `--each`, `--in`, `--not-in` and `--refused`, so that the first word is the query
+-- there is none of `-e`, `-w`, `--each`, `--in`, `--not-in` and `--refused`, so that the first argument is the query
 abbrev pub begins_with_query : Options → Bool
 begins_with_query o = not o.refused && not (ltb 0 (length o.queries.items)) && not (ltb 0 (length o.conditions.items)) && not (asks_each o) && not (names_list o)
 
--- the queries: the first word, or those of `-e`, or where there is none the node that is asked, which is `$`, or `@` where nodes are
--- asked one by one; and none where there is `--refused`
+-- the queries: the first argument, or those of `-e`, or where there is none the node that is asked, which is `$`, or `@` where
+-- nodes are asked one by one; and none where there is `--refused`
 abbrev pub asked_queries : Options → List (List ℕ)
 asked_queries o =
     if begins_with_query o then take 1 (words_of o)
@@ -49,7 +49,7 @@ has_header o = o.header || ltb 0 (length o.names.items)
 abbrev pub asked_columns : Options → List (List ℕ)
 asked_columns o = if ltb 0 (length o.names.items) then map (λ s. s.now) o.names.items else asked_queries o
 
--- the files: the words behind the query, or all of them
+-- the files: the arguments after the query, or all of them
 abbrev pub asked_files : Options → List (List ℕ)
 asked_files o = if begins_with_query o then drop 1 (words_of o) else words_of o
 

@@ -54,7 +54,7 @@ fn bare_command<'a>(alloc: Global) -> Command<'a>
         .args_override_self(true)
 }
 
-/// A flag with a letter and a word.
+/// A flag with a letter and a long name.
 fn flag<'a>(alloc: Global, id: &'a str, short: char, long: &'a str, help: &'a str) -> Arg<'a>
     ensures rule { rule_of result ≡ flag_rule id.entry.now short long.entry.now }
     ensures local { result.global ≡ false }
@@ -72,7 +72,7 @@ fn words_argument<'a>(alloc: Global) -> Arg<'a>
     ensures local { result.global ≡ false }
 {
     Arg::new(alloc, "words")
-        .value_name("WORDS")
+        .value_name("QUERY|FILE")
         .action(ArgAction::Append)
         .help(
             "The query, unless -e, -w, --each, --in, --not-in or --refused is given, and the files; - is standard input",
@@ -107,7 +107,7 @@ fn where_argument<'a>(alloc: Global) -> Arg<'a>
         )
 }
 
-/// `--in QUERY FILE` or `--not-in QUERY FILE`, as often as wanted. Its word stands before each of the two (`pair_words`).
+/// `--in QUERY FILE` or `--not-in QUERY FILE`, as often as wanted. Its name stands before each of the two (`pair_words`).
 fn list_argument<'a>(alloc: Global, id: &'a str, help: &'a str) -> Arg<'a>
     ensures rule { rule_of result ≡ list_rule id.entry.now }
     ensures local { result.global ≡ false }
@@ -144,7 +144,7 @@ fn value_argument<'a>(alloc: Global, id: &'a str, value: &'a str, help: &'a str)
         .help(help)
 }
 
-/// A flag with a word alone.
+/// A flag with a long name alone.
 fn word_flag<'a>(alloc: Global, id: &'a str, help: &'a str) -> Arg<'a>
     ensures rule { rule_of result ≡ word_rule id.entry.now }
     ensures local { result.global ≡ false }
@@ -166,7 +166,7 @@ fn help_argument<'a>(alloc: Global) -> Arg<'a>
         .help("Prints this help")
 }
 
-/// The words that say which lines are selected.
+/// The options that say which lines are selected.
 fn add_asking<'a>(alloc: Global, command: Command<'a>) -> Result<Command<'a>, AllocError>
     ensures { IfOk result (λ more. app_of more ≡ with_rules (app_of command.entry) asking_rules) }
 {
@@ -204,7 +204,7 @@ fn add_asking<'a>(alloc: Global, command: Command<'a>) -> Result<Command<'a>, Al
         ))
 }
 
-/// The words that say what is printed.
+/// The options that say what is printed.
 fn add_printing<'a>(alloc: Global, command: Command<'a>) -> Result<Command<'a>, AllocError>
     ensures { IfOk result (λ more. app_of more ≡ with_rules (app_of command.entry) printing_rules) }
 {
@@ -258,7 +258,7 @@ fn add_printing<'a>(alloc: Global, command: Command<'a>) -> Result<Command<'a>, 
         ))
 }
 
-/// The words that say how it is spelled.
+/// The options that say how it is spelled.
 fn add_spelling<'a>(alloc: Global, command: Command<'a>) -> Result<Command<'a>, AllocError>
     ensures { IfOk result (λ more. app_of more ≡ with_rules (app_of command.entry) spelling_rules) }
 {
@@ -300,7 +300,7 @@ fn add_spelling<'a>(alloc: Global, command: Command<'a>) -> Result<Command<'a>, 
         ))
 }
 
-/// The words that say what stands in front, and how many lines are wanted.
+/// The options that say what stands in front, and how many lines are wanted.
 fn add_fronts<'a>(alloc: Global, command: Command<'a>) -> Result<Command<'a>, AllocError>
     ensures { IfOk result (λ more. app_of more ≡ with_rules (app_of command.entry) front_rules) }
 {

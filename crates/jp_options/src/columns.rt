@@ -1,4 +1,4 @@
-//! What the program's words ask for of columns, and of a tally.
+//! What the program's arguments ask for of columns, and of a tally.
 
 ghost use Rattle.std.specs.Prelude.{◌≡◌, List, map};
 ghost use Rattle.clap.specs.Words.{Row};

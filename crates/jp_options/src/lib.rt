@@ -1,8 +1,8 @@
-//! The words of jpgrep: what they ask for, and why they are refused.
+//! The arguments of jpgrep: what they ask for, and why they are refused.
 //!
 //! Public calls:
 //!
-//! - `pair_words`, `read_words`: the words as options
+//! - `pair_words`, `read_words`: the arguments as options
 //! - `Options`: the queries, the conditions and the files, and the form of what is written of a file
 #![tactic(auto)]
 

@@ -1,4 +1,4 @@
-//! What is said of words that do not go together.
+//! What is said of options that do not go together.
 
 /// What is said if `--tally` is used with what prints lines one by one, or selects those without a value.
 pub(crate) const NO_TALLY: &str =
@@ -48,6 +48,6 @@ pub(crate) const BOTH_PIECES: &str = "the argument '--json' cannot be used with 
 pub(crate) const NO_PIECES: &str =
     "the argument '--seq' cannot be used with '--json' or '--elements'";
 
-/// What is said if no word is a query.
+/// What is said if no argument is a query.
 pub(crate) const NO_QUERY: &str =
     "no QUERY was given, nor '--query <QUERY>', '--where <CONDITION>', '--each <QUERY>', '--in <QUERY> <FILE>' or '--refused'";

@@ -1,4 +1,4 @@
-//! What the program's words ask for, once they are read.
+//! What the program's arguments ask for, once they are read.
 
 ghost use Rattle.std.specs.Prelude.{◌≡◌, ◌||◌, ◌∷◌, [], List, map};
 ghost use Rattle.std.specs.Option.{option_map_or};
@@ -14,10 +14,11 @@ use clap::error::ErrorKind;
 use jp_form::{Form, Pieces, Shown, Spelling, Summary, Table, Units};
 use jp_model::Framing;
 
-/// What the program's words ask for.
+/// What the program's arguments ask for.
 #[derive(Drop)]
 pub struct Options<'a> {
-    /// The words that belong to no option: the files, and before them the query where no option gives one, a condition or nodes.
+    /// The arguments that belong to no option: the files, and before them the query where no option gives one, a condition or
+    /// nodes.
     pub words: Vec<&'a str>,
     /// The queries of `-e`, in their order.
     pub queries: Vec<&'a str>,
@@ -25,9 +26,9 @@ pub struct Options<'a> {
     pub conditions: Vec<&'a str>,
     /// `--each`: the query whose nodes are asked one by one, if it is given.
     pub each: Vec<&'a str>,
-    /// The words behind each `--in`, in their order: a query, and the file of a list.
+    /// The values after each `--in`, in their order: a query, and the file of a list.
     pub lists: Vec<&'a str>,
-    /// Those behind each `--not-in`.
+    /// Those after each `--not-in`.
     pub other_lists: Vec<&'a str>,
     /// `-m`: how many selected lines of each file are wanted.
     pub most: Option<u64>,
@@ -67,9 +68,9 @@ pub struct Options<'a> {
     pub named: bool,
     /// `-h`: it is not.
     pub unnamed: bool,
-    /// `-Z`: a NUL stands behind it.
+    /// `-Z`: a NUL stands after it.
     pub null: bool,
-    /// `-s`: refused lines are passed over, and no message tells of a file that cannot be read.
+    /// `-s`: refused lines are passed over, and there is no message about a file that cannot be read.
     pub silent: bool,
     /// `--check`: no file is read, and queries and conditions are looked at alone.
     pub checks: bool,
@@ -152,7 +153,7 @@ impl<'a> Options<'a> {
         }
     }
 
-    /// Why the words of what is printed do not go together, if they do not.
+    /// Why the options of what is printed do not go together, if they do not.
     fn form_conflict(&self) -> Option<(ErrorKind, &'static str)>
         ensures { (found : List Row) → IsAskedBy found self.now
             → option_map_or (λ conflict. conflict.0 ∷ []) result [] ≡ form_conflicts found }
@@ -179,7 +180,7 @@ impl<'a> Options<'a> {
         None
     }
 
-    /// Why the words of what plays the lines do not go together, if they do not.
+    /// Why the options of what plays the lines do not go together, if they do not.
     fn stream_conflict(&self) -> Option<(ErrorKind, &'static str)>
         ensures { (found : List Row) → IsAskedBy found self.now
             → option_map_or (λ conflict. conflict.0 ∷ []) result [] ≡ stream_conflicts found }
@@ -193,7 +194,7 @@ impl<'a> Options<'a> {
         None
     }
 
-    /// Why the words do not go together, if they do not.
+    /// Why the options do not go together, if they do not.
     pub(crate) fn conflict(&self) -> Option<(ErrorKind, &'static str)>
         ensures { (found : List Row) → IsAskedBy found self.now
             → option_map_or (λ conflict. conflict.0 ∷ []) result [] ≡ conflicts_in found }
@@ -224,7 +225,7 @@ impl<'a> Options<'a> {
 }
 
 impl<'a> Options<'a> {
-    /// Whether the first word is the query.
+    /// Whether the first argument is the query.
     fn begins_with_query(&self) -> bool
         ensures { result ≡ begins_with_query self.now }
     {
@@ -235,8 +236,9 @@ impl<'a> Options<'a> {
             && !self.names_list()
     }
 
-    /// The queries that the words name: those of `-e`, or the first word where there is none of `-e`, `-w`, `--each`, `--in` and
-    /// `--not-in`. Without `-e` it is the node that is asked otherwise: `$`, or with `--each` `@`. With `--refused` there is none.
+    /// The queries that the arguments name: those of `-e`, or the first argument where there is none of `-e`, `-w`, `--each`,
+    /// `--in` and `--not-in`. Without `-e` it is the node that is asked otherwise: `$`, or with `--each` `@`. With `--refused`
+    /// there is none.
     pub fn queries(&self) -> &[&'a str]
         ensures { map (λ s. s.now) result.now ≡ asked_queries self.now }
     {
@@ -260,7 +262,7 @@ impl<'a> Options<'a> {
         self.tabs || self.commas
     }
 
-    /// The files that the words name.
+    /// The files that the arguments name.
     pub fn files(&self) -> &[&'a str]
         ensures { map (λ s. s.now) result.now ≡ asked_files self.now }
     {

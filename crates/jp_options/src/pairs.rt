@@ -1,24 +1,24 @@
-//! The options that take two words, as those that take one are read.
+//! The options that take two values, as those that take one are read.
 
 ghost use Rattle.std.specs.Prelude.{◌≡◌, ◌∷◌, List, ℕ, IfOk, map};
 ghost use Rattle.jp_options.specs.Pairs.{before_word, is_list_word, paired, paired_at};
 
 use std::alloc::{AllocError, Global};
 
-/// What the next of the words is.
+/// What the next of the arguments is.
 #[derive(Clone, Copy)]
 pub(crate) enum Place<'a> {
-    /// An option, or a word that belongs to none or to the option before it.
+    /// An option, or an argument that belongs to none or to the option before it.
     Any,
     /// The query of this option.
     Query(&'a str),
     /// The file of this option.
     File(&'a str),
-    /// One behind `--`.
+    /// One after `--`.
     Behind,
 }
 
-/// Whether a word is an option that takes a query and a file.
+/// Whether an argument is an option that takes a query and a file.
 fn is_list_word(word: &str) -> bool
     ensures { result ≡ is_list_word word.now }
 {
@@ -26,7 +26,7 @@ fn is_list_word(word: &str) -> bool
 }
 
 impl<'a> Place<'a> {
-    /// What follows a word that is no query and no file of a list.
+    /// What follows an argument that is neither a query nor a file of a list.
     fn behind(word: &'a str) -> Place<'a>
         ensures { (rest : List (List ℕ)) → word.entry.now ∷ paired_at result rest ≡ paired (word.entry.now ∷ rest) }
     {
@@ -43,7 +43,7 @@ impl<'a> Place<'a> {
         }
     }
 
-    /// What follows a word.
+    /// What follows an argument.
     fn next(self, word: &'a str) -> Place<'a>
         ensures { (rest : List (List ℕ)) → before_word self.entry (word.entry.now ∷ paired_at result rest) ≡ paired_at self.entry (word.entry.now ∷ rest) }
     {
@@ -56,8 +56,8 @@ impl<'a> Place<'a> {
     }
 }
 
-/// The words with `--in` and `--not-in` once more before the file behind their query, which may stand behind an equals sign: so
-/// each use of them is two uses of an option that takes one word, which `read_words` reads. Words behind `--` stay.
+/// The arguments with `--in` and `--not-in` once more before the file after their query, which may stand after an equals sign:
+/// so each use of them is two uses of an option that takes one value, which `read_words` reads. Arguments after `--` stay.
 ///
 /// # Errors
 ///

@@ -1,4 +1,4 @@
-//! The program's words.
+//! The program's arguments.
 
 ghost use Rattle.std.specs.Prelude.{◌≡◌, IfOk, OkIff, codes, map, option_map, true};
 ghost use Rattle.clap.specs.Words.{FailsBy, first_of, found_of, rows_of};
@@ -12,11 +12,11 @@ use clap::{ArgMatches, Error};
 use std::alloc::{AllocError, Global};
 use std::num::ParseIntError;
 
-/// Reads the program's words, of which the first is its own name.
+/// Reads the program's arguments. The first is its own name.
 ///
 /// # Errors
 ///
-/// The words are refused, they ask for help or for the version, or memory runs out: the error's kind says which.
+/// The arguments are refused, they ask for help or for the version, or memory runs out: the error's kind says which.
 pub fn read_words<'a>(alloc: Global, words: &'a [&'a str]) -> Result<Options<'a>, Error>
     ensures asked { IfOk result (IsAskedBy (found_in (map (λ w. w.now) words.entry.now))) }
     ensures refused { FailsBy (faults_in (map (λ w. w.now) words.entry.now)) result }
@@ -28,7 +28,7 @@ pub fn read_words<'a>(alloc: Global, words: &'a [&'a str]) -> Result<Options<'a>
     }
 }
 
-/// Reads the words one by one, whether or not they go together.
+/// Reads the arguments one by one, whether or not they go together.
 fn parse<'a>(alloc: Global, words: &'a [&'a str]) -> Result<Options<'a>, Error>
     ensures asked { IfOk result (IsAskedBy (found_in (map (λ w. w.now) words.entry.now))) }
     ensures refused { FailsBy (reading_faults (map (λ w. w.now) words.entry.now)) result }
@@ -51,7 +51,7 @@ fn read_count(value: Option<&str>) -> Result<Option<u64>, ParseIntError>
     }
 }
 
-/// What is said if the value of `-m` is none.
+/// What is said if the value of `-m` is not a number.
 const NO_NUMBER: &str =
     "the value of '--max-count <NUMBER>' is no number from 0 to 18446744073709551615";
 

@@ -37,7 +37,7 @@ use Rattle.jp_plan.proofs.Evaluated.{behind_nodes}
 
 -- ---- one line more
 
--- a line with nodes behind the others, and its places behind theirs
+-- a line with nodes after the others, and its places after theirs
 module _ (line : ℕ) (view : LineView) (count : ℕ) (new : List ℕ) (size : count ≡ length new) where
   pub nodes_expanded : (ls : List LineRows) (ps : List ℕ) → AreInTurn ls ps
       → expanded (ls ++ by_line.Nodes line view count ∷ []) (ps ++ new) ≡ expanded ls ps ++ map (at_place line view) new
@@ -66,7 +66,7 @@ module _ (line : ℕ) (view : LineView) (count : ℕ) (new : List ℕ) (size : c
       )
   nodes_in_turn (by_line.Refused l f ∷ ls) ps turn here = nodes_in_turn ls ps turn here
 
--- a line that is refused behind the others
+-- a line that is refused after the others
 module _ (line : ℕ) (fault : LineFault) where
   pub refusal_expanded : (ls : List LineRows) (ps : List ℕ) → expanded (ls ++ by_line.Refused line fault ∷ []) ps ≡ expanded ls ps ++ of_fault line fault ∷ []
   refusal_expanded [] ps = refl
@@ -110,7 +110,7 @@ refusal_rows q n (refused f) fault old new e h =
     ap (map found_row) h ∙ (map-append found_row old (of_fault n fault ∷ []) ∙ ap (λ g. map found_row old ++ model.refusal_row n g ∷ []) same)
 refusal_rows q n (parsed t) fault old new e h = absurd (cc)
 
--- rows of a line behind others are of their lines
+-- rows of a line after others are of their lines
 pub nodes_of_line : (lines : List (List ℕ)) (n : ℕ) (view : LineView) (cs : List Cursor) (old new : List Found) → new ≡ old ++ map (at_place n view) (map place_of cs)
     → slice_get lines (n - 1) ≡ Some (text_of_view view) → All (IsOfItsLine lines) old → All (IsOfItsLine lines) new
 nodes_of_line lines n view cs old new e here all =
@@ -214,7 +214,7 @@ module _ (whole : List Found) (ls rest : List LineRows) (ps : List ℕ) (before 
       alone_there lines zero d m = tt
       alone_there lines (suc k) d m = absurd (omega (arith, m))
 
--- a row of a node with its cursor behind others
+-- a row of a node with its cursor after others
 module _ (line : ℕ) (view : LineView) where
   pub row_more : (ps : List ℕ) (i : ℕ) → i < length ps → (c : Cursor) → line_of c ≡ text_of_view view → place_of c ≡ get_or ps i 0
       → (old before new : List Row) → new ≡ before ++ found.Node line c ∷ [] → rows_view before ≡ rows_view old ++ map found_row (map (at_place line view) (take i ps))

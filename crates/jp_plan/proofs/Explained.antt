@@ -28,7 +28,7 @@ use Rattle.jp_plan.proofs.Walks.{behind_drop}
 
 -- ---- one line
 
--- a piece more behind a text
+-- a piece more after a text
 pub more : (old mid new front piece : List ℕ) → mid ≡ old ++ front → new ≡ mid ++ piece → new ≡ old ++ (front ++ piece)
 more old mid new front piece e f = f ∙ (ap (λ b. b ++ piece) e ∙ append_assoc old front piece)
 

@@ -14,11 +14,11 @@ use Rattle.jp_plan.specs.declared.turn.Turn.TheVariants as turns
 use Rattle.jp_plan.proofs.Entries.{status_at, line_there}
 use Rattle.jp_plan.proofs.Turns.{opens, refuses}
 
--- these lines are left of a plan, behind these rows
+-- these lines are left of a plan, after these rows
 abbrev pub Left : Planned → List ℕ → List ℕ → List Row → Type 0
 Left p os rs done = IsLeft p.query p.over.state.paths (statuses_in p.over) os rs done
 
--- a line is there, and passes, and its rows are behind the others
+-- a line is there, and passes, and its rows are after the others
 pub record Now (p : Planned) (test : LineStatus → Bool) (line : ℕ) (os rs : List ℕ) (done : List Row) : Type 0 where
   pub is_line : IsLineOf p.over line
   pub passes : test (line_status line p.over) ≡ true

@@ -116,7 +116,7 @@ drop_behind [] (suc m) k j e = nothing k ∙ sym (nothing j)
 drop_behind (x ∷ xs) (suc m) k zero e = absurd (omega arith)
 drop_behind (x ∷ xs) (suc m) k (suc j) e = drop_behind xs m k j (omega arith)
 
--- a line is told, and what is left is behind it
+-- a line is told, and what is left is after it
 pub record Told (q : Segments) (ss : List LineStatus) (p r : LineStatus → Bool) (o : ℕ) (os rs : List ℕ) (done : List Row) : Type 0 where
   pub s : LineStatus
   pub first : 1 ≤ o

@@ -27,7 +27,7 @@ selectors_counted view xs = ap length (selectors_listed (map view xs)) ∙ lengt
 
 -- ---- one segment
 
--- words and a number behind them, in a line
+-- words and a number after them, in a line
 pub child_counted : (ss : Selectors) (n : ℕ) → length (selector_list ss) ≡ n → segment_text (child_segment ss) ≡ codes "child " ++ (encode_utf8_all (decimal n) ++ line_feed)
 unfolding encode
 child_counted ss n e = ap (λ k. told (codes "child " ++ decimal k)) e
@@ -60,7 +60,7 @@ unfolding encode
 walk_one t = ap (λ b. codes "walk " ++ encode_utf8_all b) (append-nil (step_text t))
 
 mutual
-  -- segments behind a run that has begun
+  -- segments after a run that has begun
   runs_on : (s : Step) (run : List Step) (gs : List Segment) → segments_text (s ∷ run) gs ≡ encode_utf8_all (codes "walk " ++ steps_text (s ∷ run)) ++ parts_text true gs
   runs_on s run [] = refl
   runs_on s run (g ∷ gs) = goes (singular_step g) (λ t. runs_on s (run ++ t ∷ []) gs) (tells gs)
@@ -76,7 +76,7 @@ mutual
           more t ∙ (ap (λ b. b ++ parts_text true gs) (walk_more (s ∷ run) t)
           ∙ append_assoc (encode_utf8_all (codes "walk " ++ steps_text (s ∷ run))) (encode_utf8_all (step_text t)) (parts_text true gs))
 
-  -- segments behind no run
+  -- segments after no run
   pub tells : (gs : List Segment) → segments_text [] gs ≡ parts_text false gs
   tells [] = refl
   tells (g ∷ gs) = goes (singular_step g) (λ t. runs_on t [] gs) (tells gs)
@@ -87,9 +87,9 @@ mutual
       goes None more ended = ap (λ b. segment_text g ++ b) ended
       goes (Some t) more ended = more t ∙ ap (λ b. b ++ parts_text true gs) (walk_one t)
 
--- ---- the segments behind a seek
+-- ---- the segments after a seek
 
--- they are the list behind as many segments as there are steps
+-- they are the list after as many segments as there are steps
 pub behind_drop : (ss : List Step) (q r : Segments) → segments_behind ss q ≡ Some r → segment_list r ≡ drop (length ss) (segment_list q)
 behind_drop [] q r h = let e : q ≡ r = cc in ap segment_list (sym e)
 behind_drop (s ∷ ss) no_segments r h = absurd (cc)
@@ -115,7 +115,7 @@ not_alone view (x ∷ y ∷ xs) h = of_first (view x) (selectors_of (map view xs
 
 -- ---- lines
 
--- a line that is ended is behind the text, where there was room
+-- a line that is ended is after the text, where there was room
 pub ends : {A E : Type 0} (r : Result A E) (old mid new text front last : List ℕ) → new ≡ (if is_ok r then mid ++ last else mid) → mid ≡ old ++ front → text ≡ front ++ last → OnOk r (new ≡ old ++ text)
 ends (Ok x) old mid new text front last e f t = e ∙ (ap (λ b. b ++ last) f ∙ (append_assoc old front last ∙ ap (λ b. old ++ b) (sym t)))
 ends (Err x) old mid new text front last e f t = tt

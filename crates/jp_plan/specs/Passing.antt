@@ -1,4 +1,4 @@
--- The lines that pass what an index tells of them.
+-- The lines that pass what an index has of them.
 use Rattle.std.specs.Prelude.{ℕ, ◌≤◌, List, length, Bool, true, false, Option}
 use Rattle.jp_model.specs.Json.Status.{LineStatus, parsed}
 use Rattle.jp_model.specs.Plans as plans

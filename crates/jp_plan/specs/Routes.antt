@@ -16,7 +16,7 @@ abbrev pub steps_or_none : Option (List Step) → List Step
 steps_or_none None = []
 steps_or_none (Some steps) = steps
 
--- the seek and the guard are those of the query over the indexes of the collection, and the rest is behind the seek
+-- the seek and the guard are those of the query over the indexes of the collection, and the rest is after the seek
 pub record IsRouteOf (route : Route) (q : Segments) (c : Collection) : Type 0 where
   pub sound : has_sound_literals q ≡ true
   pub typed : segments_typed q ≡ true

@@ -25,7 +25,7 @@ walk_begins walks = if walks then [] else codes "walk "
 abbrev pub walk_ends : Bool → List ℕ
 walk_ends walks = if walks then line_feed else []
 
--- the text of a segment, behind an open line of steps or not: its step, or its own line
+-- the text of a segment, after an open line of steps or not: its step, or its own line
 abbrev pub part_text : Bool → Segment → List ℕ
 part_text walks s = run_then (singular_step s) (λ step. walk_begins walks ++ encode_utf8_all (step_text step)) (walk_ends walks ++ segment_text s)
 

@@ -116,7 +116,7 @@ module _ (of_int : ℤ → ℤ) where
   logical_begins : (d : ℕ) {x y : List ℕ} {b : Bool} {l : Logical} → IsLogical x y b l → StartsExpression of_int (logical_at of_int d) x
   logical_begins d (some_and (some_basic a more) others) = basic_begins d a
 
--- ---- what stands next, before and behind a rule
+-- ---- what stands next, before and after a rule
 
 segment_next : {x y : List ℕ} {s : Segment} → IsSegment x y s → ends_segment (next x) ≡ true
 segment_next (child_brackets (brackets b s more e)) = refl
@@ -195,7 +195,7 @@ module _ (of_int : ℤ → ℤ) where
   abbrev CallRead : ℕ → List ℕ → List ℕ → Call → Type 0
   CallRead d x y c = (f z : List ℕ) × (call_start x ≡ Some (f, z)) × (call_behind of_int (logical_at of_int d) f z ≡ Some (call_ints of_int c, y))
 
-  -- one more part behind a mark that is written twice, by what is known of it and of those behind it
+  -- one more part after a mark that is written twice, by what is known of it and of those after it
   part_found : {x y z : List ℕ} (w v : List ℕ) (a : Logical) (ls : Logicals) (mark d n : ℕ) (item : Item Logical) → opens y ≤ opens (mark ∷ mark ∷ y) → Blanks x (mark ∷ mark ∷ y) → Blanks y z
       → opens w ≤ opens z → length w ≤ length z → opens v ≤ opens w → (opens z ≤ d + opens w → item x ≡ Some (Some (logical_ints of_int a, w)))
       → (opens w ≤ d + opens v → length w ≤ n → AreRead (many item n w) v logicals_of (logicals_ints of_int ls))

@@ -9,7 +9,7 @@ use Rattle.jp_model.specs.Json.Numbers.{head_of, tail_of, leading_digits, leadin
 zero_is_digit : (b : ℕ) → (b == 0x30) ≡ true → is_digit b ≡ true
 zero_is_digit b h = grind (arith, nat_tests, h)
 
--- the digits behind the letter and the sign
+-- the digits after the letter and the sign
 pub letter_read : (text : List ℕ) → ((head_of text == 0x65) || (head_of text == 0x45)) ≡ true
     → exponent_digits (leading_exponent text) ≡ without_leading_zeros (leading_digits (behind_sign (leading_sign (tail_of text)) (tail_of text)))
 letter_read text h = ap exponent_digits (cond-true _ _ _ h)

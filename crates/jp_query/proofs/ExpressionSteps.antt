@@ -74,7 +74,7 @@ op_path greater_op = refl
 pub op_follows : {x y z : List ℕ} {op : CompareOp} → Blanks x y → IsOp y z op → ends_path (next x) ≡ true
 op_follows b o = next_is ends_path b (op_path o)
 
--- an operator behind blanks, with a side of a comparison behind it
+-- an operator after blanks, with a side of a comparison after it
 pub op_there : {y z w v : List ℕ} {op : CompareOp} → Blanks y z → IsOp z w op → Blanks w v → is_side_first (head v) ≡ true → operator_at (skip_blanks y) ≡ Some (op, w)
 op_there {y} {z} {w} {v} b o c h =
     let same : next w ≡ head v = ap head (blanks_skip c ∙ side_stays v h) in

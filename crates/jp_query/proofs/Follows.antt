@@ -1,4 +1,4 @@
--- What may stand behind a rule: classes of the next scalar behind blanks.
+-- What may stand after a rule: classes of the next scalar after blanks.
 use Rattle.std.proofs.Common.{◌≡◌, ◌∙◌, ℕ, List, [], ◌∷◌, Bool, true, false, not, cond, Some, None, refl, sym, ap, subst, ⊎_elim, ◌||◌, ◌==◌}
 use Rattle.std.proofs.lemmas.Bool.{eqb-true, or_cases, not_from_false, false_from_ne_true, cond-true, cond-false}
 use Rattle.jp_model.specs.Characters.{is_white}
@@ -10,7 +10,7 @@ abbrev pub head : List ℕ → ℕ
 head [] = 0
 head (c ∷ x) = c
 
--- the scalar behind blanks
+-- the scalar after blanks
 abbrev pub next : List ℕ → ℕ
 next x = head (skip_blanks x)
 
@@ -65,7 +65,7 @@ white_class P p32 p9 p10 p13 c h = one_of c 13 _ P h (λ h. one_of c 10 _ P h (�
 pub not_white : (p : ℕ → Bool) → p 32 ≡ false → p 9 ≡ false → p 10 ≡ false → p 13 ≡ false → (c : ℕ) → p c ≡ true → is_white c ≡ false
 not_white p a b d e c h = false_from_ne_true (is_white c) (λ w. let k : p c ≡ false = white_class (λ n. p n ≡ false) a b d e c w in absurd (cc))
 
--- ---- behind blanks
+-- ---- after blanks
 
 skip_one : (c : ℕ) (x : List ℕ) → is_white c ≡ true → skip_blanks (c ∷ x) ≡ skip_blanks x
 skip_one c x e = ap (λ (p : List ℕ × List ℕ). p.1) (cond-true {A = List ℕ × List ℕ} (is_white c) (c ∷ (run is_white x).0, (run is_white x).1) ([], c ∷ x) e)
@@ -85,7 +85,7 @@ skip_stays (c ∷ x) e = ap (λ (p : List ℕ × List ℕ). p.1) (cond-false {A 
 pub next_is : (p : ℕ → Bool) {x y : List ℕ} → Blanks x y → p (next y) ≡ true → p (next x) ≡ true
 next_is p b h = subst (λ z. p (head z) ≡ true) (sym (blanks_skip b)) h
 
--- the scalar in front is a blank, or the one behind blanks
+-- the scalar in front is a blank, or the one after blanks
 pub in_front : (P : ℕ → Type 0) (x : List ℕ) → (is_white (head x) ≡ true → P (head x)) → P (next x) → P (head x)
 in_front P [] f h = h
 in_front P (c ∷ x) f h = step (is_white c) refl
@@ -94,7 +94,7 @@ in_front P (c ∷ x) f h = step (is_white c) refl
     step true e = f e
     step false e = subst (λ z. P (head z)) (skip_stays (c ∷ x) e) h
 
--- what stands in front behind a literal, and behind a segment
+-- what stands in front after a literal, and after a segment
 pub path_head : (P : ℕ → Type 0) → P 0 → P 93 → P 41 → P 44 → P 124 → P 38 → P 61 → P 33 → P 60 → P 62 → P 32 → P 9 → P 10 → P 13 → (x : List ℕ) → ends_path (next x) ≡ true → P (head x)
 path_head P p0 p93 p41 p44 p124 p38 p61 p33 p60 p62 p32 p9 p10 p13 x h = in_front P x (white_class P p32 p9 p10 p13 (head x)) (path_class P p0 p93 p41 p44 p124 p38 p61 p33 p60 p62 (next x) h)
 

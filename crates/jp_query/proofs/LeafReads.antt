@@ -169,7 +169,7 @@ pub no_origin : (x : List ℕ) → (head x == 64) ≡ false → (head x == 36) �
 unfolding origin_at
 no_origin x e f = rw (after_none 64 x e, after_none 36 x f) refl
 
--- an operator, behind which no `=` stands
+-- an operator, after which no `=` stands
 pub operator_reads : {x y : List ℕ} {op : CompareOp} → IsOp x y op → (head y == 61) ≡ false → operator_at x ≡ Some (op, y)
 unfolding operator_at
 operator_reads equal_op h = refl

@@ -19,7 +19,7 @@ use Rattle.jp_query.proofs.Relatives.{Front, front, other_status, reads_at, same
 
 -- ---- what is read
 
--- a text that is not UTF-8 is not read behind an identifier
+-- a text that is not UTF-8 is not read after an identifier
 pub not_read_behind : (origin : Origin) (f : ℤ → ℤ) (text : List ℕ) → (IsUtf8 text → ⊥) → read_behind origin f text ≡ None
 unfolding read_relative
 not_read_behind root f text h = not_read f text h
@@ -38,7 +38,7 @@ relative_of_scalars f text u = rw (is_utf8-from_IsUtf8 text u) refl
 passes_query : (rest : List ℕ) (q : Segments) → PassesBehind current (64 ∷ rest) q → Passes (36 ∷ rest) q
 passes_query rest q h = ((h.0.0, sym (same_read clamp rest) ∙ h.0.1), h.1)
 
--- a tree that is read behind an identifier and within its limits is well formed
+-- a tree that is read after an identifier and within its limits is well formed
 pub well_formed_behind : (origin : Origin) (text : List ℕ) (q : Segments) → PassesBehind origin text q → IsWellFormed q
 well_formed_behind root text q p = well_formed text q p
 well_formed_behind current text q p =

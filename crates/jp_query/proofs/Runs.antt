@@ -3,7 +3,7 @@ use Rattle.std.proofs.Common.{◌≡◌, ℕ, ◌+◌, Some, length-append, ◌�
 use Rattle.std.proofs.Math.Seq.{take-append_seam, drop-append_seam}
 use Rattle.jp_query.specs.Reading.Scalars.{run, begins, first_and_run}
 
--- the run from a position on, behind what stands in front of it
+-- the run from a position on, after what stands in front of it
 abbrev pub run_from : (ℕ → Bool) → List ℕ → ℕ → List ℕ × List ℕ
 run_from m x i = (take i x ++ (run m (drop i x)).0, (run m (drop i x)).1)
 
@@ -16,7 +16,7 @@ run_joins m (c ∷ x) = step (m c) (run_joins m x)
     step true e = ap (λ (all : List ℕ). c ∷ all) e
     step false e = refl
 
--- what stands in front, and what stands behind it
+-- what stands in front, and what stands after it
 pub cut_at : (s y x : List ℕ) → s ++ y ≡ x → (length s ≤ length x) × (take (length s) x ≡ s) × (drop (length s) x ≡ y)
 cut_at s y x h =
     let n : length x ≡ length s + length y = ap (λ (all : List ℕ). length all) (sym h) ∙ length-append s y in

@@ -1,4 +1,4 @@
--- What stands behind a rule is no more than what stands before it, by each measure that a further scalar does not lower.
+-- What stands after a rule is no more than what stands before it, by each measure that a further scalar does not lower.
 use Rattle.std.proofs.Common.{ℕ, ℤ, ◌≤◌, List, [], ◌∷◌, ◌++◌, Bool, Option, le_trans, le_refl, subst, sym, codes}
 use Rattle.jp_model.specs.Json.Numbers.{numeral_bytes}
 use Rattle.jp_model.specs.Query.Syntax.{CompareOp, Origin, Literal, Segment, Segments, Selector, Selectors, Logical, Logicals, Comparable, Argument, Arguments, Path, Call}

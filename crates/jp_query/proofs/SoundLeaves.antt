@@ -20,7 +20,7 @@ pub function_sound : (x : List ℕ) (r : List ℕ × List ℕ) → function_name
 unfolding function_name
 function_sound x r h = named_stands is_lower is_function_scalar FunctionName (λ c x y t e more. s.function_name e more) x r h
 
--- the name of a call, with what stands behind its parenthesis
+-- the name of a call, with what stands after its parenthesis
 pub start_sound : (x : List ℕ) (r : List ℕ × List ℕ) → call_start x ≡ Some r → FunctionName x (40 ∷ r.1) r.0
 unfolding call_start
 start_sound x r h =
@@ -115,7 +115,7 @@ letter_sound c x n h = ⊎_elim (λ a. as_letter c 98 8 x n a.0 a.1 s.escaped_b)
     (decided (c == 102) _ _ (Some n) a.1))
     (decided (c == 98) _ _ (Some n) h)
 
--- behind a backslash, the quote itself or an escape
+-- after a backslash, the quote itself or an escape
 abbrev Escaped : ℕ → List ℕ → List ℕ → ℕ → Type 0
 Escaped quote x y c = ((x ≡ quote ∷ y) × (c ≡ quote)) ⊎ Escape x y c
 

@@ -90,7 +90,7 @@ negated_pass : (b : Bool) (l : Logical) (t : Tests) → logical_passes (negated_
 negated_pass true l t = refl
 negated_pass false l t = refl
 
--- an expression, and those behind it, each by what is known of it
+-- an expression, and those after it, each by what is known of it
 joined_good : (x y : List ℕ) (join : Logical → Logicals → Logical) (l : Logical) (ls : Logicals) → ((t : Tests) → logical_passes (join l ls) t ≡ (logical_passes l t && logicals_pass ls t))
     → length y ≤ length x → (length x ≤ 65535 → logical_passes l small ≡ true → logical_passes l sound ≡ true) → (length y ≤ 65535 → logicals_pass ls small ≡ true → logicals_pass ls sound ≡ true)
     → length x ≤ 65535 → logical_passes (join l ls) small ≡ true → logical_passes (join l ls) sound ≡ true
@@ -98,7 +98,7 @@ joined_good x y join l ls pass shorter one more short h =
     let p = and_parts _ _ (sym (pass small) ∙ h) in
     pass sound ∙ and_from _ _ (one short p.0) (more (le_trans shorter short) p.1)
 
--- the same behind a mark that is written twice
+-- the same after a mark that is written twice
 behind_good : {x y z : List ℕ} (w : List ℕ) (mark : ℕ) (l : Logical) (ls : Logicals) → Blanks x (mark ∷ mark ∷ y) → Blanks y z
     → length w ≤ length z → (length z ≤ 65535 → logical_passes l small ≡ true → logical_passes l sound ≡ true) → (length w ≤ 65535 → logicals_pass ls small ≡ true → logicals_pass ls sound ≡ true)
     → length x ≤ 65535 → logicals_pass (logical l ls) small ≡ true → logicals_pass (logical l ls) sound ≡ true

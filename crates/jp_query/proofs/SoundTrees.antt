@@ -22,7 +22,7 @@ Spelt {A} P ints r = (a : A) × P a × (ints a ≡ r)
 
 -- ---- the parts of a slice
 
--- no int, or one behind blanks
+-- no int, or one after blanks
 abbrev BoundRead : (ℤ → ℤ) → List ℕ → List ℕ → Option ℤ → Type 0
 BoundRead of_int x y b = ((b ≡ None) × (y ≡ x)) ⊎ ((i : ℤ) × (z : List ℕ) × Blanks x z × Int z y i × (Some (of_int i) ≡ b))
 
@@ -50,7 +50,7 @@ step_sound of_int x r h = ⊎_elim
     (λ a. as_read (StepRead of_int x) _ r a.1 (None, x, no_blanks x, s.no_step_part, refl))
     (chosen (after_blanks 58 x) _ _ (Some r) h)
 
--- what stands behind the first colon of a slice
+-- what stands after the first colon of a slice
 abbrev SliceRead : (ℤ → ℤ) → Option ℤ → List ℕ → List ℕ → Selector → Type 0
 SliceRead of_int first x y a = (last step : Option ℤ) × (z w : List ℕ) × Blanks x z × Bound z w last × StepPart w y step × (slice_selector first (bound_ints of_int last) (bound_ints of_int step) ≡ a)
 
@@ -122,7 +122,7 @@ singular_sound of_int x r h =
     (syntax.segment one.0 more.0, s.singular_goes_on (skipped y) one.1 more.1, ap₂ syntax.segment one.2 more.2))
     (length x) x a.0 a.1)
 
--- ---- behind one point, and behind two
+-- ---- after one point, and after two
 
 abbrev IsPointed : List ℕ → List ℕ → List Selector → Type 0
 IsPointed x y q = (ss : Selectors) × IsSegment (46 ∷ x) y (child_segment ss) × IsSegment (46 ∷ 46 ∷ x) y (descendant_segment ss) × ((of_int : ℤ → ℤ) → selectors_ints of_int ss ≡ selectors_of q)
@@ -230,7 +230,7 @@ argument_from of_int x y true m r = ⊎_elim
 found_as : (of_int : ℤ → ℤ) (x y z : List ℕ) (a a' : Segment) → ◌≡◌ {A = Option (Option (Segment × List ℕ))} (Some (Some (a', z))) (Some (Some (a, y))) → Spelt (IsSegment x z) (segment_ints of_int) a' → Spelt (IsSegment x y) (segment_ints of_int) a
 found_as of_int x y z a a' e h = as_read {A = Segment} (λ w b. Spelt (IsSegment x w) (segment_ints of_int) b) (a', z) (a, y) (some_same _ _ e) h
 
--- ---- expressions behind a mark that is written twice, and all of them joined
+-- ---- expressions after a mark that is written twice, and all of them joined
 
 module _ (of_int : ℤ → ℤ) (mark : ℕ) (one_at : Reader Expression) (IsOne : List ℕ → List ℕ → Bool → Logical → Type 0) (IsMore : List ℕ → List ℕ → Logicals → Type 0)
     (one_sound : (x : List ℕ) (r : Expression × List ℕ) → one_at x ≡ Some r → Spelt (IsOne x r.1 r.0.0) (logical_ints of_int) r.0.1)
@@ -434,7 +434,7 @@ module _ (of_int : ℤ → ℤ) (nested : Reader Expression) (sound : (x : List 
       (chosen (call_start x) _ _ (Some r) a.1))
       (chosen (origin_at x) _ _ (Some r) h)
 
-  -- a comparison, whose first side is spelled up to x and whose operator stands behind blanks there
+  -- a comparison, whose first side is spelled up to x and whose operator stands after blanks there
   comparison_sound : (w x : List ℕ) (left : Comparable) (op : CompareOp × List ℕ) (r : Expression × List ℕ) → operator_at (skip_blanks x) ≡ Some op → ComparableRead of_int w x left → comparison_behind of_int nested left op.0 op.1 ≡ Some r → BasicRead of_int w r.1 r.0
   unfolding comparison_behind
   comparison_sound w x left op r e side h =

@@ -77,7 +77,7 @@ one_stands c x y r lt h e = let all : BeginsInAscii x (c ∷ [], y) = (after_is 
 none_stands : (x : List ℕ) (r : List ℕ × List ℕ) → ([], x) ≡ r → BeginsInAscii x r
 none_stands x r e = let all : BeginsInAscii x ([], x) = (refl, tt) in rw (← e) all
 
--- one reading behind another
+-- one reading after another
 then_stands : (x : List ℕ) (s t y z : List ℕ) → BeginsInAscii x (s, y) → BeginsInAscii y (t, z) → BeginsInAscii x (s ++ t, z)
 then_stands x s t y z a b = let e : s ++ t ++ z ≡ s ++ (t ++ z) = simp append_assoc in (e ∙ (ap (λ (u : List ℕ). s ++ u) b.0 ∙ a.0), ascii_append s t a.1 b.1)
 
@@ -148,7 +148,7 @@ second_is : (o : Read (List ℕ)) (y : List ℕ) → Some y ≡ option_map (λ r
 second_is (Some r) y h = let e : y ≡ r.1 = cc in (r.0, ap (λ (z : List ℕ). Some (r.0, z)) (sym e))
 second_is None y h = absurd (cc)
 
--- a number is what stands in front of what is left behind it
+-- a number is what stands in front of what is left after it
 pub number_cut : (x y : List ℕ) → Some y ≡ option_map (λ r. r.1) (number_at x) → (length y ≤ length x) × (Some (take (length x - length y) x, drop (length x - length y) x) ≡ number_at x)
 number_cut x y h =
     let p = second_is (number_at x) y h in

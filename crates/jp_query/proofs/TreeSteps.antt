@@ -166,7 +166,7 @@ module _ (of_int : ℤ → ℤ) where
   unfolding singular_at
   singular_there x = let m = singular_many_there (length x) x in ((segments_of m.0.0, m.0.1), rw m.1 refl)
 
-  -- ---- behind points and brackets
+  -- ---- after points and brackets
 
   dotted_reads : {x y s : List ℕ} → Shorthand x y s → stops is_name_scalar y ≡ true → dotted x ≡ Some (name_selector s ∷ [], y)
   unfolding dotted

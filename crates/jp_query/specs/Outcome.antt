@@ -11,7 +11,7 @@ use Rattle.jp_query.specs.declared.fault.ParseFault.{ParseFault}
 use Rattle.jp_query.specs.declared.fault.ParseFault.TheVariants as parse_faults
 use Rattle.jp_syntax.specs.declared.query.Query.{Query}
 
--- a tree is read behind an identifier, from a text that is not too large
+-- a tree is read after an identifier, from a text that is not too large
 abbrev pub IsReadBehind : Origin → List ℕ → Segments → Type 0
 IsReadBehind origin text q = (is_oversized text ≡ false) × (read_behind origin clamp text ≡ Some q)
 

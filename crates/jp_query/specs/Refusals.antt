@@ -1,4 +1,4 @@
--- What is told of the text of a query, of a rel-query or of a condition.
+-- What is told about the text of a query, of a rel-query or of a condition.
 use Rattle.std.specs.Prelude.{◌≡◌, ℕ, List, IsFalse, None}
 use Rattle.jp_model.specs.Query.Limits.{is_oversized}
 use Rattle.jp_model.specs.Query.Status.{fault_of_query, refused_query}

@@ -16,7 +16,7 @@ read_text of_int bytes = cond (is_utf8 bytes) (query_at of_int 512 (chars bytes)
 unfoldable pub read_relative : (ℤ → ℤ) → List ℕ → Option Segments
 read_relative of_int bytes = cond (is_utf8 bytes) (relative_at of_int 512 (chars bytes)) None
 
--- the segments that a text spells behind an identifier: as a query behind `$`, as a rel-query behind `@`
+-- the segments that a text spells after an identifier: as a query after `$`, as a rel-query after `@`
 abbrev pub read_behind : Origin → (ℤ → ℤ) → List ℕ → Option Segments
 read_behind root = read_text
 read_behind current = read_relative

@@ -75,7 +75,7 @@ fn to_scalars(alloc: Global, text: &str) -> Result<Vec<char>, AllocError>
     text.chars().collect(alloc)
 }
 
-/// The segments that are the whole of the scalars behind an identifier (RFC 9535, section 2.1.1).
+/// The segments that are the whole of the scalars after an identifier (RFC 9535, section 2.1.1).
 fn whole_segments(alloc: Global, text: &[char]) -> Result<Vec<Segment>, Failure>
     ensures { Gives (λ v. segments_view v.items) result (whole_segments clamp 512 text.now) }
 {

@@ -22,7 +22,7 @@ name-single x = ap encode_utf8_all (append-nil (name_scalar x))
 pub name-push : (xs : List ℕ) (x : ℕ) → name_text (xs ++ x ∷ []) ≡ name_text xs ++ encode_utf8_all (name_scalar x)
 name-push xs x = name-append xs (x ∷ []) ∙ ap (λ b. name_text xs ++ b) (name-single x)
 
--- one more scalar, and others behind it
+-- one more scalar, and others after it
 pub name-parts : (xs : List ℕ) (x : ℕ) (ys : List ℕ) → name_text (xs ++ x ∷ ys) ≡ (name_text xs ++ encode_utf8_all (name_scalar x)) ++ name_text ys
 name-parts xs x ys =
     ap name_text (sym (append_assoc xs (x ∷ []) ys)) ∙ (name-append (xs ++ x ∷ []) ys ∙ ap (λ b. b ++ name_text ys) (name-push xs x))
@@ -59,7 +59,7 @@ path-append xs ys =
 pub path-push : (xs : List Step) (s : Step) → path_text (xs ++ s ∷ []) ≡ path_text xs ++ encode_utf8_all (step_text s)
 path-push xs s = path-append xs (s ∷ []) ∙ ap (λ b. path_text xs ++ encode_utf8_all b) (append-nil (step_text s))
 
--- one more step, and others behind it
+-- one more step, and others after it
 pub path-parts : (xs : List Step) (s : Step) (ys : List Step) → path_text (xs ++ s ∷ ys) ≡ (path_text xs ++ encode_utf8_all (step_text s)) ++ encode_utf8_all (steps_text ys)
 path-parts xs s ys =
     ap path_text (sym (append_assoc xs (s ∷ []) ys)) ∙ (path-append (xs ++ s ∷ []) ys ∙ ap (λ b. b ++ encode_utf8_all (steps_text ys)) (path-push xs s))

@@ -3,7 +3,7 @@ use Rattle.std.proofs.Common.{◌≡◌, ℕ, suc, ◌+◌, ◌<◌, List, [], �
 use Rattle.std.proofs.Math.Seq.{take-suc}
 use Rattle.std.proofs.lemmas.List.{map-id, map-append}
 
--- the scalars before it, it, and the scalars behind it
+-- the scalars before it, it, and the scalars after it
 pub around : (cs xs : List ℕ) (x : ℕ) → map (λ c. c) xs ≡ take (length xs) cs → length xs < length cs → x ≡ get_or cs (length xs) x → cs ≡ xs ++ x ∷ drop (length xs + 1) cs
 around cs xs x before inside is =
     let rest : drop (length xs) cs ≡ x ∷ drop (length xs + 1) cs = rw add-one (drop-cons cs (length xs) x inside ∙ ap (λ (y : ℕ). y ∷ drop (suc (length xs)) cs) (sym is)) in
@@ -13,7 +13,7 @@ around cs xs x before inside is =
 pub all_read : (cs xs : List ℕ) → map (λ c. c) xs ≡ cs → cs ≡ xs
 all_read cs xs e = sym e ∙ map-id xs
 
--- what is made of the elements before it, of it, and of those behind it
+-- what is made of the elements before it, of it, and of those after it
 pub map_around : {A B : Type 0} (f : A → B) (xs : List A) (k : ℕ) (x : A) → k < length xs → x ≡ get_or xs k x → map f xs ≡ map f (take k xs) ++ f x ∷ map f (drop (k + 1) xs)
 map_around f xs k x inside is =
     let rest : drop k xs ≡ x ∷ drop (k + 1) xs = rw add-one (drop-cons xs k x inside ∙ ap (λ y. y ∷ drop (suc k) xs) (sym is)) in

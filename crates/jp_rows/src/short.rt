@@ -156,7 +156,7 @@ impl RowEnd {
 
     /// Puts the normalized path of a node (RFC 9535, section 2.7).
     ///
-    /// It visits the node and its ancestors, of which there are at most 512: a line that nests deeper has no tape.
+    /// It visits the node and its ancestors, at most 512: a line that nests deeper has no tape.
     #[inline(always)]
     fn put_path(&mut self, cursor: Cursor<'_>) -> Option<()>
         ensures { IfSome result (λ _. self.new ≡ path_text (node_of cursor.entry).location ++ self.old) }

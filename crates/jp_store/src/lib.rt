@@ -5,7 +5,7 @@
 //! - `Store::load`, `LoadFault`: the lines of a collection, each with its status and tape, and no index
 //! - `line_count`, `tree_count`, `refused_count`, `line_status`, `Status`, `text`, `refused_lines`, `refused_behind`: how many
 //!   lines there are, how many with a tree and how many that are refused; what line n is, from 1, and its bytes; the numbers of
-//!   the refused lines, ascending; the first of them behind line n
+//!   the refused lines, ascending; the first of them after line n
 //! - `meter`, `is_metered`, `Opened::count`, `view`, `LineView`: a count at 0, which can be had once; line n with its tape,
 //!   which adds one to the count
 //! - `add_index`, `IndexFault`, `drop_index`, `Missing`, `index_count`, `index`, `path_at`: the indexes and their paths, in the

@@ -152,7 +152,7 @@ impl Store {
         self.counts.refused.numbers(self.alloc)
     }
 
-    /// The first refused line behind line `n`. Lines count from 1. Between them a bit is looked at for each line.
+    /// The first refused line after line `n`. Lines count from 1. Between them a bit is looked at for each line.
     pub fn refused_behind(&self, n: u32) -> Option<u32>
         ensures { IsFirstBehind n (numbers_where is_refused_status 1 (statuses_in self.now)) result }
     {

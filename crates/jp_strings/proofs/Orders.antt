@@ -15,7 +15,7 @@ use Rattle.jp_strings.proofs.Runs.{plain_bytes}
 abbrev order : List ℕ → List ℕ → Ordering
 order = slice_cmp nat_cmp
 
--- ---- the first numbers decide, and else those behind
+-- ---- the first numbers decide, and else those after
 lesser : (x y : ℕ) (xs ys : List ℕ) → x < y → order (x ∷ xs) (y ∷ ys) ≡ Less
 lesser x y xs ys l = ap (λ o. ordering_then o (order xs ys)) (sym (nat_cmp_is x y Less l))
 

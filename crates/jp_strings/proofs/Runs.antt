@@ -83,7 +83,7 @@ answer_unit : (seen more : Halves) (unit : ℕ) (o : Option (List ℕ)) → ((un
 answer_unit seen more unit None f = refl
 answer_unit seen more unit (Some units) f = ap (λ b. Some b) (f units)
 
--- scalars behind a scalar tell nothing new
+-- scalars after a scalar tell nothing new
 scalar_takes : (more : Halves) → more.after_high ≡ false → Takes more more
 scalar_takes more h unit units s =
     let low = false_from_ne_true _ (λ t. clash _ (low_is_surrogate unit t) s) in

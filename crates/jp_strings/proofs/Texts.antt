@@ -76,7 +76,7 @@ next_single body at unit behind h l c s =
     } in
     record { goes_on = goes_on; whole = w.0 }
 
--- behind a high half stands a low half
+-- after a high half stands a low half
 pub record Pair (body : List ℕ) (at high middle low behind : ℕ) : Type 0 where
   pub inside : middle < length body
   pub backslash : byte_at body middle ≡ 0x5C
@@ -172,7 +172,7 @@ single_in_range body at unit behind c s =
 pub pair_in_range : (high low : ℕ) → is_high_surrogate high ≡ true → is_low_surrogate low ≡ true → char.InScalarRange (pair_value high low)
 pair_in_range high low h l = let a = high_bounds high h in let b = low_bounds low l in inr (omega (arith, a, b), omega (arith, a, b))
 
--- the same of the character that was read behind the high half
+-- the same of the character that was read after the high half
 pub record Second (body : List ℕ) (at high low behind : ℕ) : Type 0 where
   pub is_low : is_low_surrogate low ≡ true
   pub goes_on : GoesOn body at (pair_value high low) behind

@@ -23,7 +23,7 @@ alone_behind seen units = seen.is_lone || alone seen.after_high units
 abbrev pub answer : Halves → Option (List ℕ) → Option Bool
 answer seen units = option_map (alone_behind seen) units
 
--- what was seen up to a position, and what was seen up to one behind it, give the same answer
+-- what was seen up to a position, and what was seen up to one after it, give the same answer
 pub record Advances (body : List ℕ) (at : ℕ) (seen : Halves) (behind : ℕ) (more : Halves) : Type 0 where
   pub order : at < behind
   pub within : behind ≤ length body

@@ -41,11 +41,11 @@ abbrev pub are_whole : Option (List ℕ) → Bool
 are_whole None = false
 are_whole (Some units) = not (has_lone_surrogate (paired units))
 
--- from a position up to the end the body spells code points of which none is half of a pair
+-- from a position up to the end the body spells code points, none of them half of a pair
 unfoldable pub is_text_from : List ℕ → ℕ → Bool
 is_text_from body at = are_whole (units_from body at)
 
--- A code point is spelled at a position, and the text goes on behind it.
+-- A code point is spelled at a position, and the text goes on after it.
 pub record GoesOn (body : List ℕ) (at point behind : ℕ) : Type 0 where
   pub points : points_from body at ≡ point ∷ points_from body behind
   pub text : is_text_from body behind ≡ true

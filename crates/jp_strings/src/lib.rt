@@ -8,7 +8,7 @@
 //!   number, equality, order (the second reads no further than the bodies agree) and text
 //! - `plain_text`: that text without a copy, of a body with no escape
 //! - `spells`, `compare_text`: whether a body spells a text; their order
-//! - `is_plain`, `spells_known`: whether each byte of a text stands for itself; `spells` for a text of which that may be
+//! - `is_plain`, `spells_known`: whether each byte of a text stands for itself; `spells` for a text for which that may be
 //!   known
 //! - `control_escape`: the escape `\u00XX` that a control character is written as
 #![tactic(auto)]

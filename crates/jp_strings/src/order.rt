@@ -153,7 +153,7 @@ pub fn spells(body: &[u8], text: &str) -> bool
     may_spell(body, text) && spells_in_full(body, text)
 }
 
-/// Whether a body spells the scalars of a text, of which it may be known that each byte stands for itself. Then a body that is
+/// Whether a body spells the scalars of a text, whose bytes may be known to stand each for itself. Then a body that is
 /// these bytes is not searched for an escape.
 #[inline(always)]
 pub fn spells_known(body: &[u8], text: &str, plain: bool) -> bool

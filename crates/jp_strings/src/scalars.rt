@@ -80,7 +80,7 @@ pub struct Scalars<'a> {
 impl<'a> Scalars<'a> {
     ghost use Rattle.jp_strings.specs.Scalars.{scalars_left};
 
-    /// The scalars of a body, of which none was read yet.
+    /// The scalars of a body, with none read yet.
     pub fn new(body: &'a [u8]) -> Self
         requires { IsText body.now }
         ensures { scalars_left result ≡ points_of body.now }

@@ -26,7 +26,7 @@ pub enum Selector {
         last: Option<i64>,
         step: Option<i64>,
     },
-    /// The children of which the expression is true.
+    /// The children for which the expression is true.
     Filter(Logical),
 }
 
@@ -34,9 +34,9 @@ pub enum Selector {
 #[cycle(query)]
 #[derive(Drop)]
 pub enum Logical {
-    /// One of the parts, of which there are at least two, is true.
+    /// One of the parts is true; there are at least two.
     Or(Vec<Logical>),
-    /// All of the parts, of which there are at least two, are true.
+    /// All of the parts are true; there are at least two.
     And(Vec<Logical>),
     /// It is not true.
     Not(Box<Logical>),

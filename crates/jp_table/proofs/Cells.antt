@@ -75,7 +75,7 @@ quoted_bytes (byte ∷ cell) rest =
     ∙ quoted_one byte (flat_map quoted_byte cell ++ rest)
     ∙ ap (with_byte byte) (quoted_bytes cell rest)
 
--- a comma or a line feed, behind which a row goes on or ends
+-- a comma or a line feed, after which a row goes on or ends
 data Stop : ℕ → Type 0 where
   at_comma : Stop 0x2C
   at_feed : Stop 0x0A

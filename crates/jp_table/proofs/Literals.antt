@@ -121,7 +121,7 @@ ended digits rest =
     none [] = refl
     none (byte ∷ rest) = sym (ne_eqb (length (byte ∷ rest)) 0 (λ e. omega (arith, e)))
 
--- behind the letter stand a sign and digits, and then the end
+-- after the letter stand a sign and digits, and then the end
 letter_parts : (byte : ℕ) (text digits : List ℕ) (sign : Sign) → ((byte == 0x65) || (byte == 0x45)) ≡ true
     → bytes_eq (cond (byte == 0x45) 0x45 0x65 ∷ (sign_bytes sign ++ digits)) (byte ∷ text) ≡ bytes_eq (sign_bytes sign ++ digits) text
 letter_parts byte text digits sign letter = elim (eqb_tells byte 0x45) [

@@ -15,7 +15,7 @@ pub record ReadCell : Type 0 where
   pub quoted : Bool
   pub text : List ℕ
 
--- what is read of a row: what is left of a cell, the cells behind it, and the bytes behind the row
+-- what is read of a row: what is left of a cell, the cells after it, and the bytes after the row
 pub record Read : Type 0 where
   pub cell : ReadCell
   pub others : List ReadCell
@@ -41,11 +41,11 @@ with_byte byte next = record { cell = record { quoted = next.cell.quoted; text =
 abbrev pub in_quotes : Read → Read
 in_quotes next = record { cell = record { quoted = true; text = next.cell.text }; others = next.others; rest = next.rest }
 
--- what a byte behind a backslash stands for
+-- what a byte after a backslash stands for
 abbrev pub unescaped : ℕ → ℕ
 unescaped byte = if byte == 0x74 then 0x09 else if byte == 0x6E then 0x0A else if byte == 0x72 then 0x0D else byte
 
--- cells between tabs, read behind a backslash or not
+-- cells between tabs, read after a backslash or not
 abbrev pub read_tabs : (escaped : Bool) → List ℕ → Read
 read_tabs escaped [] = row_ends []
 read_tabs true (byte ∷ rest) = with_byte (unescaped byte) (read_tabs false rest)
@@ -55,7 +55,7 @@ read_tabs false (byte ∷ rest) =
     else if byte == 0x5C then read_tabs true rest
     else with_byte byte (read_tabs false rest)
 
--- where one stands who reads cells between commas: in front of a cell, in one without quotes, in one with quotes, behind a
+-- where one stands who reads cells between commas: in front of a cell, in one without quotes, in one with quotes, after a
 -- quote in it
 pub data Place : Type 0 where
   in_front : Place

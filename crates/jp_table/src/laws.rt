@@ -9,7 +9,7 @@ pub fn numbers_are_spelled()
 {}
 
 /// A row of a table leads back to its cells and to where it ends, whatever bytes its cells have and whatever follows it:
-/// between tabs by what stands behind a backslash, between commas as RFC 4180 has it (section 2). Of canonical cells it does
+/// between tabs by what stands after a backslash, between commas as RFC 4180 has it (section 2). Of canonical cells it does
 /// where they have no tab and no line feed.
 pub fn rows_lead_back_to_their_cells()
     ensures { RowsLeadBack }

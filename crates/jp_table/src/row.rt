@@ -36,7 +36,7 @@ fn append_byte(table: Table, byte: u8, text: &mut Vec<u8>) -> Result<(), AllocEr
 }
 
 /// Appends the bytes from a position on that are no quote, no backslash and no control character, or the one that is: the
-/// position behind them.
+/// position after them.
 fn append_some(
     table: Table,
     cell: &[u8],

@@ -40,7 +40,7 @@ cut front (b ∷ rest) (suc at) h =
     let later = cut (front ++ b ∷ []) rest at (record { low = omega arith; high = let l = h.0.high in omega arith; before = λ k l m t. h.0.before (suc k) (omega arith) (omega arith) t }, h.1) in
     (step.0 ∙ (later.0 ∙ ap (λ l. l ∷ rows_of (drop (suc at) rest)) (append_assoc front (b ∷ []) (take at rest))), step.1 ∙ later.1)
 
--- the rows of two texts one behind the other: the second goes on where the first ends
+-- the rows of two texts one after the other: the second goes on where the first ends
 pub seam : (front a b : List ℕ) → rows_behind front (a ++ b) ≡ rows_behind front a ++ rows_behind (rest_behind front a) b
 seam front [] b = refl
 seam front (x ∷ a) b =

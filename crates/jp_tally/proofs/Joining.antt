@@ -12,7 +12,7 @@ use Rattle.jp_tally.specs.declared.counted.Counted.{Counted}
 abbrev pub entry : List ℕ → ℕ → Entry
 entry row count = record { row = row; count = count }
 
--- two entries of one row are joined before or behind what follows
+-- two entries of one row are joined before or after what follows
 pub lead_same : (row : List ℕ) (a b : ℕ) (more : List Entry) → lead (entry row a) (lead (entry row b) more) ≡ lead (entry row (a + b)) more
 lead_same row a b [] = ap (λ t. if t then entry row (a + b) ∷ [] else entry row a ∷ entry row b ∷ []) (nat_list_eq_equiv.refl row)
 lead_same row a b (next ∷ more) =

@@ -82,7 +82,7 @@ still_counted before text after rest came h is was row =
 pub still_rest : (text rest came : List ℕ) → rest ≡ rest_of text → rest_of text ≡ rest_of came → rest_of rest ≡ rest_of came
 still_rest text rest came is was = ap rest_of is ∙ ((plain [] (rest_of text) (rest_is [] text refl)).1 ∙ was)
 
--- what comes goes behind what is fresh and behind all that came
+-- what comes goes after what is fresh and after all that came
 pub more_counted : (before : List Entry) (fresh came piece : List ℕ) → rest_of fresh ≡ rest_of came
     → ((row : List ℕ) → weight row before + times row (rows_of fresh) ≡ times row (rows_of came))
     → (row : List ℕ) → weight row before + times row (rows_of (fresh ++ piece)) ≡ times row (rows_of (came ++ piece))

@@ -35,7 +35,7 @@ lead entry (next ∷ more) =
     if bytes_eq next.row entry.row then record { row = entry.row; count = entry.count + next.count } ∷ more
     else entry ∷ next ∷ more
 
--- entries of which those side by side are joined where they are of one row
+-- entries, where those side by side are joined if they are of one row
 abbrev pub joined : List Entry → List Entry
 joined [] = []
 joined (entry ∷ more) = lead entry (joined more)
@@ -47,7 +47,7 @@ rows_text entries = flat_map (λ entry. entry.row ++ line_feed) entries
 abbrev pub counts_of : List Entry → List ℕ
 counts_of entries = map (λ entry. entry.count) entries
 
--- how often a row came, by entries of which several may be of one row
+-- how often a row came, by entries among which several may be of one row
 abbrev pub weight : List ℕ → List Entry → ℕ
 weight row entries = sum_by (λ entry. cond (bytes_eq row entry.row) entry.count 0) entries
 

@@ -13,7 +13,7 @@ use Rattle.jp_tally.specs.Tallies.{Entry, IsTally}
 use Rattle.jp_tally.specs.declared.fault.TallyFault.{TallyFault}
 use Rattle.jp_tally.specs.declared.fault.TallyFault.TheVariants as faults
 
--- the cells of a row of which these bytes stand in front: tabs part them
+-- the cells of a row that begins with these bytes: tabs part them
 abbrev pub cells_behind : List ℕ → List ℕ → List (List ℕ)
 cells_behind front [] = front ∷ []
 cells_behind front (byte ∷ more) = if byte == 0x09 then front ∷ cells_behind [] more else cells_behind (front ++ byte ∷ []) more

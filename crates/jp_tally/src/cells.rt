@@ -12,7 +12,7 @@ use jp_table::{CellKind, TableRow};
 use memchr::memchr;
 use std::alloc::{AllocError, Global};
 
-/// The first cell of a row, and what stands behind the tab that parts it from others, if one does.
+/// The first cell of a row, and what stands after the tab that parts it from others, if one does.
 pub(crate) fn cut_cell(row: &[u8]) -> Option<(&[u8], &[u8])>
     ensures cells { MatchOption result (cells_of row.now ≡ row.now ∷ []) (λ cut. cells_of row.now ≡ cut.0.now ∷ cells_of cut.1.now) }
     ensures shorter { IfSome result (λ cut. length cut.1.now < length row.now) }
@@ -39,7 +39,7 @@ fn string_body(text: &[u8]) -> Option<&[u8]>
     }
 }
 
-/// What the cell of a text that is none of a string has.
+/// What the cell of a text that is not a string's has.
 fn other_kind(text: &[u8]) -> CellKind
     ensures { result ≡ other_kind text.now }
 {

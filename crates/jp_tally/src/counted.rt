@@ -14,7 +14,7 @@ pub(crate) struct Counted<'a> {
     pub(crate) count: u64,
 }
 
-/// The first row of a text, and what stands behind the line feed that ends it, if one does.
+/// The first row of a text, and what stands after the line feed that ends it, if one does.
 pub(crate) fn cut_row(text: &[u8]) -> Option<(&[u8], &[u8])>
     ensures rows { MatchOption result (rows_of text.now ≡ []) (λ cut. rows_of text.now ≡ cut.0.now ∷ rows_of cut.1.now) }
     ensures rest { MatchOption result (rest_of text.now ≡ text.now) (λ cut. rest_of text.now ≡ rest_of cut.1.now) }
@@ -26,7 +26,7 @@ pub(crate) fn cut_row(text: &[u8]) -> Option<(&[u8], &[u8])>
     Some((&text[..end], &text[end + 1..]))
 }
 
-/// Lists the rows of a text, each as one that came once, and gives what stands behind the last line feed.
+/// Lists the rows of a text, each as one that came once, and gives what stands after the last line feed.
 pub(crate) fn list_rows<'a>(
     text: &'a [u8],
     rows: &mut Vec<Counted<'a>>,

@@ -9,7 +9,7 @@ use crate::counted::list_rows;
 use crate::kept::Kept;
 use std::alloc::{AllocError, Global};
 
-/// Counts the rows of a text together with those that are kept, and gives them and what stands behind the last line feed.
+/// Counts the rows of a text together with those that are kept, and gives them and what stands after the last line feed.
 pub(crate) fn count_rows(
     alloc: Global,
     kept: &Kept,

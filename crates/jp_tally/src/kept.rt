@@ -8,7 +8,7 @@ ghost use Rattle.jp_tally.specs.Rows.{rows_of};
 use crate::counted::{Counted, cut_row};
 use std::alloc::{AllocError, Global};
 
-/// Rows one behind the other, each ended by a line feed, and how often each came.
+/// Rows one after the other, each ended by a line feed, and how often each came.
 #[derive(Drop)]
 pub(crate) struct Kept {
     pub(crate) text: Vec<u8>,
@@ -26,7 +26,7 @@ impl Kept {
         }
     }
 
-    /// Adds a row behind the others.
+    /// Adds a row after the others.
     fn add(&mut self, counted: Counted<'_>) -> Result<(), AllocError>
         ensures text { OnOk result (self.new.text.items ≡ self.old.text.items ++ (counted.entry.row.now ++ line_feed)) }
         ensures counts { OnOk result (self.new.counts.items ≡ self.old.counts.items ++ counted.entry.count ∷ []) }

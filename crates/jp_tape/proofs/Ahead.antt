@@ -64,7 +64,7 @@ pub none_at_end : (line : List ℕ) (i : ℕ) → length line ≤ i → marks_fr
 unfolding marks_from
 none_at_end line i l = let n : length line - i ≡ 0 = omega arith in ap (λ n. filter (is_mark line) (range_with_len i n)) n
 
--- ---- what is known behind a byte
+-- ---- what is known after a byte
 
 and_false : (a : Bool) → (a && false) ≡ false
 and_false true = refl
@@ -84,7 +84,7 @@ even_next n h = go (suc n % 2 == 1) refl
     go true e = let a = eqb-true (n % 2) 1 h in let b = eqb-true (suc n % 2) 1 e in absurd (omega (arith, a, b))
     go false e = refl
 
--- behind a byte that is no backslash none is escaped
+-- after a byte that is no backslash none is escaped
 pub free_next : (line : List ℕ) (i : ℕ) → is_backslash (byte_at line i) ≡ false → is_escaped line (i + 1) ≡ false
 unfolding backslashes_before
 free_next line i h = ap (is_escaped line) (add-one i) ∙ ap (λ b. cond b (suc (backslashes_before line i)) 0 % 2 == 1) h
@@ -275,7 +275,7 @@ or_middle : (a c : Bool) → (a || true || c) ≡ true
 or_middle true c = refl
 or_middle false c = refl
 
--- a token may begin behind a structural byte
+-- a token may begin after a structural byte
 -- where no mark is ahead, no structural character is there
 pub no_mark_there : (line : List ℕ) (at byte : ℕ) (ms : List ℕ) → IsAhead line at ms → length ms ≡ 0 → is_structural byte ≡ true → Has line at byte → ⊥
 no_mark_there line at byte ms a none s h = let p = (passes_structural line ms at h.inside (ap is_structural h.is ∙ s) a).within in omega (arith, p, none)
@@ -288,7 +288,7 @@ or_last true b = refl
 or_last false true = refl
 or_last false false = refl
 
--- and behind a quote
+-- and after a quote
 pub quote_begins : (line : List ℕ) (i : ℕ) → is_unescaped_quote line i ≡ true → may_begin line (i + 1) ≡ true
 quote_begins line i h = begins_is line i ∙ (ap (λ x. is_white (byte_at line i) || is_structural (byte_at line i) || x) h ∙ or_last (is_white (byte_at line i)) (is_structural (byte_at line i)))
 
@@ -304,7 +304,7 @@ none_of true b c d h = absurd (cc)
 solid_byte : (b : ℕ) → in_token b ≡ true → (is_white b ≡ false) × (is_structural b ≡ false) × (is_quote b ≡ false) × (is_backslash b ≡ false)
 solid_byte b h = none_of (is_white b) (is_structural b) (is_quote b) (is_backslash b) h
 
--- what holds behind a byte of a number or a word
+-- what holds after a byte of a number or a word
 record Follows (line : List ℕ) (i : ℕ) : Type 0 where
   unescaped : is_escaped line (i + 1) ≡ false
   outside : is_inside line (i + 1) ≡ false
@@ -388,7 +388,7 @@ word_solid line word from to r h k a b =
 
 -- ---- more than one mark
 
--- a structural byte behind the marks that were passed
+-- a structural byte after the marks that were passed
 pub passes_next : (line ms : List ℕ) (n i : ℕ) → n ≤ length ms → IsAhead line i (drop n ms) → i < length line → is_structural (byte_at line i) ≡ true → IsPassed line ms (n + 1) (i + 1)
 passes_next line ms n i w a l h =
     let one = passes_structural line (drop n ms) i l h a in
@@ -396,7 +396,7 @@ passes_next line ms n i w a l h =
     let within = one.within in
     record { within = omega (arith, d, within, w); ahead = subst (λ xs. IsAhead line (i + 1) xs) (drop-drop 1 n ms) one.ahead }
 
--- the colon behind a name, whose two quotes are marks
+-- the colon after a name, whose two quotes are marks
 pub passes_colon : (line ms rest : List ℕ) (end colon : ℕ) → IsPassed line ms 2 end → rest ≡ drop 2 ms → IsAhead line colon rest → Has line colon 0x3A → IsPassed line ms 3 (colon + 1)
 passes_colon line ms rest end colon p e a h = passes_next line ms 2 colon p.within (subst (λ (xs : List ℕ). IsAhead line colon xs) e a) h.inside (ap is_structural h.is)
 

@@ -87,7 +87,7 @@ kept_at line xs i n l is m = subst (IsKept line) (sym is) (m i n l)
 
 -- ---- places of their own
 
--- none of some plain names has the text of another, of which no one has the bytes
+-- none of some plain names has the text of another whose bytes none of them has
 none_there : (line : List ℕ) (a : KeptName) (xs : List KeptName) → IsKept line a → AreKept line xs → IsTrue a.is_plain → ArePlainNames xs → ((k : ℕ) → k < length xs → bytes_of line (get_or xs k a) ≡ bytes_of line a → ⊥) → list_any (text_equal (spelled_name line a)) (spelled_names line xs) ≡ false
 none_there line a [] k m p all h = refl
 none_there line a (x ∷ xs) k m p all h =

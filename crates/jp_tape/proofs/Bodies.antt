@@ -16,7 +16,7 @@ use Rattle.jp_strings.proofs.Halves.{low_is_surrogate, high_is_surrogate}
 use Rattle.jp_strings.proofs.Runs.{run_advances}
 use Rattle.jp_strings.proofs.Slices.{body_in_line}
 
--- a scalar behind scalars tells nothing new of halves
+-- a scalar after scalars tells nothing new of halves
 takes_scalars : (unit : ℕ) (units : List ℕ) → is_surrogate unit ≡ false → alone_behind (record { after_high = false; is_lone = false }) (unit ∷ units) ≡ alone_behind (record { after_high = false; is_lone = false }) units
 takes_scalars unit units s =
     let low = false_from_ne_true _ (λ t. clash _ (low_is_surrogate unit t) s) in

@@ -1,4 +1,4 @@
--- Keys of which those that share a slot with another are apart are apart.
+-- Keys are apart where those that share a slot with another are.
 use Rattle.std.proofs.Common.{◌≡◌, ℕ, suc, ◌+◌, ◌^◌, ◌<◌, ◌≤◌, inl, inr, Bool, true, false, cond, ◌||◌, ◌==◌, List, [], ◌∷◌, ◌++◌, length, map, get_or, set, take, append-nil, take_all, subst, sym, ◌∙◌, ap, ap₂, refl, arith}
 use Rattle.std.specs.List.{list_any, filter}
 use Rattle.std.proofs.lemmas.Bool.{cases_lt, cases_Bool, ne_eqb, eq-eqb}

@@ -87,7 +87,7 @@ open_length (f ∷ frames) =
     let l = length-append (open_words frames) (0 ∷ 0 ∷ next_label frames f.name ∷ children_words (open_count frames + 1) (open_count frames) 0 f.done) in
     omega (arith, e, i, l)
 
--- the words behind those of the outer containers
+-- the words after those of the outer containers
 abbrev pub inner_words : Frame → List Frame → Children → List ℕ
 inner_words f frames children = 0 ∷ 0 ∷ next_label frames f.name ∷ children_words (open_count frames + 1) (open_count frames) 0 children
 

@@ -91,7 +91,7 @@ end_no_label line array from end (Some n) place l s i = absurd l
 end_no_label line object from end None place l s i = absurd l
 end_no_label line object from end (Some n) place l s i = let o = l.opens.inside in omega (arith, o, end)
 
--- a string with no colon behind it is none
+-- a string with no colon after it is none
 pub no_colon_no_name : (line : List ℕ) (from end colon : ℕ) (points : List ℕ) → SpellsString line from end points → White line end colon → Stops line colon → (Has line colon 0x3A → ⊥) → NoLabel line object from
 no_colon_no_name line from end colon points string w s none None place l r i = absurd l
 no_colon_no_name line from end colon points string w s none (Some n) place l r i =

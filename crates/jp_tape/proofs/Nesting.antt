@@ -91,7 +91,7 @@ pub no_child_text : (line : List ℕ) (at place : ℕ) (objects : List Bool) (ki
     IsValueNext line at objects 1 → IsNoText line
 no_child_text line at place objects kind o w s c l v = no_text line (Value_at v.frames v.own at) v.leads (enter_stuck line kind at place v.frames v.own o w s c l)
 
--- ---- behind a value
+-- ---- after a value
 
 -- in an open container
 pub record Inner (line : List ℕ) (at : ℕ) (objects : List Bool) : Type 0 where

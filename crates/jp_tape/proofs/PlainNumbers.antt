@@ -15,7 +15,7 @@ joined line a b c l m =
     let place : a + (b - a) ≡ b = omega arith in
     ap (λ n. take n (drop a line)) size ∙ (take-add (b - a) (c - b) (drop a line) ∙ ap (λ xs. take (b - a) (drop a line) ++ take (c - b) xs) (drop-drop (b - a) a line ∙ ap (λ n. drop n line) place))
 
--- bytes, and others behind them
+-- bytes, and others after them
 then_reads : (line : List ℕ) (a b c : ℕ) (xs ys : List ℕ) → Reads line a b xs → Reads line b c ys → Reads line a c (xs ++ ys)
 then_reads line a b c xs ys r s =
     let o = r.order in

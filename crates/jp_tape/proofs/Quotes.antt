@@ -1,4 +1,4 @@
--- The quote that closes a string is the mark behind its opening quote.
+-- The quote that closes a string is the mark after its opening quote.
 use Rattle.std.proofs.Common.{◌≡◌, ℕ, zero, suc, ◌+◌, ◌-◌, ◌<◌, ◌≤◌, ◌==◌, inl, inr, true, false, List, [], ◌∷◌, length, drop, get_or, sym, ◌∙◌, ap, refl, arith, subst}
 use Rattle.std.proofs.lemmas.Bool.{cases_Bool, eqb-true, eqb-false, and_parts}
 use Rattle.std.proofs.lemmas.Bool.Decides.{nat_tests}
@@ -39,7 +39,7 @@ quiet_run (suc n) line i to h l p e s =
     let first = quiet line i (omega arith) (p i (omega arith) (omega arith)) s in
     then line i (i + 1) to first.clear (quiet_run n line (i + 1) to (omega arith) l (λ k a b. p k (omega arith) b) first.unescaped first.inside)
 
--- a backslash and the byte behind it
+-- a backslash and the byte after it
 escape : (line : List ℕ) (i : ℕ) → i + 1 < length line → byte_at line i ≡ 0x5C → is_escaped line i ≡ false → is_inside line i ≡ true → Within line i (i + 2)
 escape line i l b e s =
     let u = no_quote_unescaped line i (ap is_quote b) in

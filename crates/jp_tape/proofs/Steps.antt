@@ -40,7 +40,7 @@ opening_lead line object from h = ap lead_of h.is
 at_start : (s : Span) (from : ℕ) → s.start ≡ from → s ≡ record { start = from; end = s.end }
 at_start s from e = span_is s from s.end e refl
 
--- an opening bracket, and what is behind it
+-- an opening bracket, and what is after it
 abbrev pub Opened : List ℕ → Container → ℕ → List Frame → Option Name → Tree → Type 0
 Opened line kind from frames own whole =
     (children : Children) × (to : ℕ) × SpellsFirst line kind (from + 1) to children × CompletesAfter line frames own (node (record { start = from; end = to }) (container kind children)) to whole
@@ -130,7 +130,7 @@ grown f own t = record { kind = f.kind; start = f.start; name = f.name; done = j
 comma_stops : (line : List ℕ) (i : ℕ) → Has line i 0x2C → Stops line i
 comma_stops line i h = ap is_white h.is
 
--- behind a comma
+-- after a comma
 comma_forth : (line : List ℕ) (f : Frame) (frames : List Frame) (own : Option Name) (t : Tree) (at next from : ℕ) (whole : Tree) → White line at next → Has line next 0x2C → White line (next + 1) from → Stops line from →
     (r : Label) → (l : FoundLabel line f.kind from r) →
     (more : Children) (to : ℕ) → SpellsMore line f.kind at to more → CompletesAfter line frames f.name (node (record { start = f.start; end = to }) (container f.kind (joined f.done (child own t more)))) to whole →

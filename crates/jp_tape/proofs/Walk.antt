@@ -33,7 +33,7 @@ word_of_body : (index : ℕ) (own : Option Name) → body_word index (body_of ow
 word_of_body index None = refl
 word_of_body index (Some name) = refl
 
--- a builder that keeps what is behind the names of open containers, in a state before a value
+-- a builder that keeps what is after the names of open containers, in a state before a value
 abbrev KeepsBefore : List ℕ → Builder → List Frame → Option Name → Type 0
 KeepsBefore line b frames own =
     Keeps line b (open_words frames) (opens frames) (open_depth frames) (open_surrogate frames || name_has_lone_surrogate own) (open_long line frames) (open_names frames ++ name_points own []) (open_duplicate frames)
@@ -188,7 +188,7 @@ no_enter line at place label b kind o w s c l (After_value frames own t from) h 
 no_enter line at place label b kind o w s c l (Finished t) h = absurd h
 no_enter line at place label b kind o w s c l (Value_at frames own from) h = subst (λ f. IsStuck line (Value_at frames own f)) h.1 (enter_stuck line kind at place frames own o w s c l)
 
--- ---- behind a value
+-- ---- after a value
 
 kind_of : (kind : Container) → container_if (is_object kind) ≡ kind
 kind_of array = refl
@@ -300,7 +300,7 @@ no_neither line at next b o w s c d (After_value (f ∷ frames) own t y) h i =
 
 -- ---- the closing bracket
 
--- the first two words of a node are written behind other words
+-- the first two words of a node are written after other words
 set_two : (front rest : List ℕ) (h s x y : ℕ) → set (set (front ++ x ∷ y ∷ rest) (length front) h) (length front + 1) s ≡ front ++ h ∷ s ∷ rest
 set_two front rest h s x y =
     let l : length front + 1 ≡ length (front ++ h ∷ []) = sym (length-append front (h ∷ [])) in
@@ -407,7 +407,7 @@ on_fault (faults.Line line_faults.Number) f h = h
 on_fault (faults.Line line_faults.Duplicate) f h = h
 on_fault faults.Memory f h = h
 
--- no value stands behind the line
+-- no value stands after the line
 pub no_value_behind : (line : List ℕ) (at : ℕ) → length line ≤ at → NoValue line at
 no_value_behind line at l t e h g = let o = starts_inside line t h in omega (arith, l, e, o)
 
@@ -419,7 +419,7 @@ pub opened_is : (b : Bool) (place n names m at : ℕ) → place ≡ n → names 
 opened_is true place n names m at p q = ap₂ (λ (x y : ℕ). record { place = x / 3; start = at; children = 0; names = y; is_object = true }) p q
 opened_is false place n names m at p q = ap₂ (λ (x y : ℕ). record { place = x / 3; start = at; children = 0; names = y; is_object = false }) p q
 
--- ---- one step behind another
+-- ---- one step after another
 
 alike_then : (line : List ℕ) (x y z : State) → Alike line x y → Alike line y z → Alike line x z
 alike_then line x y z a b = record { forth = λ whole h. b.forth whole (a.forth whole h); back = λ whole h. a.back whole (b.back whole h) }

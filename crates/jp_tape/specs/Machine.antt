@@ -202,7 +202,7 @@ IsWithin line (turns.After at) b = (at ≤ length line) × (length b.words.items
 IsWithin line (turns.TooDeep at flag) b = Unit {0}
 IsWithin line turns.End b = Unit {0}
 
--- the turn is behind this place, and within the line
+-- the turn is after this place, and within the line
 abbrev pub IsBehind : List ℕ → ℕ → Turn → Builder → Type 0
 IsBehind line from (turns.Value label at) b = (from < at) × IsWithin line (turns.Value label at) b
 IsBehind line from (turns.After at) b = (from < at) × IsWithin line (turns.After at) b

@@ -60,7 +60,7 @@ IsWithin line (nexts.Value at) = at ≤ length line
 IsWithin line (nexts.After at) = at ≤ length line
 IsWithin line nexts.End = Unit {0}
 
--- behind this place
+-- after this place
 abbrev pub IsPast : ℕ → Next → Type 0
 IsPast from (nexts.Value at) = from < at
 IsPast from (nexts.After at) = from < at

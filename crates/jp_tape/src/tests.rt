@@ -45,7 +45,7 @@ fn read(alloc: Global, line: &[u8], framing: Framing) -> Result<Tape, BuildFault
     build(alloc, line, &marks, is_utf8, framing)
 }
 
-/// What a tape tells of a node.
+/// What a tape has of a node.
 #[derive(Clone, Copy, Debug, PartialEq, Eq)]
 struct Seen {
     kind: Kind,
@@ -55,7 +55,7 @@ struct Seen {
     after: u32,
 }
 
-/// What a tape tells of its nodes.
+/// What a tape has of each of its nodes.
 fn nodes_of(alloc: Global, root: Cursor<'_>) -> Result<Vec<Seen>, AllocError> {
     let mut nodes = Vec::new(alloc);
     for place in 0..root.after() {
@@ -71,7 +71,7 @@ fn nodes_of(alloc: Global, root: Cursor<'_>) -> Result<Vec<Seen>, AllocError> {
     Ok(nodes)
 }
 
-/// What is told of a line whose tape is behind that of another, by the builder that read the other before.
+/// What the builder that read one line has of the next, whose tape comes after that of the first.
 fn nodes_behind(alloc: Global, before: &[u8], line: &[u8]) -> Result<Vec<Seen>, Fail> {
     if is_blank(before)
         || before.len() > 0xffff_ffff
@@ -241,7 +241,7 @@ fn ends_of_texts_are_seen(rt: HostRuntime) {
     assert!(rt; read(alloc, b"12", Framing::Lines).is_ok());
 }
 
-/// A JSON text of which no shorter beginning is one.
+/// A JSON text none of whose shorter beginnings is one.
 const WHOLE: [u8; 29] = *b"{\"a\":[{\"b\":1},{\"b\":2}],\"b\":3}";
 
 #[test]

@@ -18,7 +18,7 @@ use jp_syntax::{Condition, Query};
 ///
 /// # Errors
 ///
-/// [`QueryFault::Function`] where a function is none of the five, and otherwise [`QueryFault::Types`] where the query is
+/// [`QueryFault::Function`] where a function is not one of the five, and otherwise [`QueryFault::Types`] where the query is
 /// not well-typed; with the query as it was.
 pub fn check(query: Query) -> Result<Checked, (QueryFault, Query)>
     ensures same { MatchResult result (λ c. checked_view c ≡ query_view query) (λ e. e.1 ≡ query) }

@@ -1,4 +1,4 @@
--- Members by name, and the siblings behind them (RFC 8259, section 4).
+-- Members by name, and the siblings after them (RFC 8259, section 4).
 use Rattle.std.specs.Prelude.{◌≡◌, ℕ, Bool, false, List, Option, Some, None, if◌then◌else◌}
 use Rattle.jp_model.specs.Characters.{text_equal}
 use Rattle.jp_model.specs.Json.Tree.{Value, Children, no_child, child, node, value_of, Name, joined}

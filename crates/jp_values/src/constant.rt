@@ -28,7 +28,7 @@ fn is_asked_for(op: CompareOp, order: Ordering) -> bool
     }
 }
 
-/// Whether an operator holds of two values of different kinds, which are not equal, and neither of which is less.
+/// Whether an operator holds of two values of different kinds, which are not equal, and neither is less than the other.
 #[inline(always)]
 fn holds_apart(op: CompareOp) -> bool
     ensures { result ≡ holds_apart_at (op_view op) }

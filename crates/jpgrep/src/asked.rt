@@ -1,4 +1,4 @@
-//! The question that the program's words ask.
+//! The question that the program's arguments ask.
 
 use crate::note::meant_condition;
 use crate::patterns::Warner;
@@ -86,7 +86,7 @@ impl<'r, 'a> Reader<'r, 'a> {
         }
     }
 
-    /// Adds the lists of some words, of which each query is followed by its file.
+    /// Adds the lists that these arguments name: each query is followed by its file.
     fn add_lists(&mut self, words: &[&'a str], wanted: bool) -> Result<(), Refusal<'a>> {
         for pair in words.chunks_exact(2) {
             if let [text, file] = pair {
@@ -133,7 +133,7 @@ fn read_list_query<'a>(rt: &HostRuntime, text: &'a str) -> Result<Asking, Refusa
     Ok(asking)
 }
 
-/// Which lines the words select.
+/// Which lines the arguments select.
 fn wanted(options: &Options<'_>) -> Wanted {
     if options.refused {
         Wanted::Refused
@@ -144,7 +144,7 @@ fn wanted(options: &Options<'_>) -> Wanted {
     }
 }
 
-/// What the queries of the words are for.
+/// What the queries of the arguments are for.
 fn purpose(options: &Options<'_>) -> Queries {
     if options.has_columns() {
         Queries::Columns
@@ -153,8 +153,8 @@ fn purpose(options: &Options<'_>) -> Queries {
     }
 }
 
-/// The question of the words: their queries and conditions, asked of lines, or of the nodes of `--each`. Without a query it is the
-/// node that is asked, and none is asked of refused lines.
+/// The question of the arguments: their queries and conditions, asked of lines, or of the nodes of `--each`. Without a query it
+/// is the node that is asked, and none is asked of refused lines.
 pub(crate) fn read_question<'a>(
     rt: &HostRuntime,
     options: &Options<'a>,

@@ -23,7 +23,7 @@ pub(crate) struct Searcher<'q, W: Write + Drop> {
     pub(crate) run: Run<'q, W, Stderr>,
     /// The file that more than one row may be added to.
     pub(crate) output: Option<RegularFile>,
-    /// Whether memory was refused, of which it has told.
+    /// Whether memory was refused, which it has reported.
     pub(crate) lacks_memory: bool,
 }
 
@@ -66,7 +66,7 @@ fn limit_message(limit: Limit) -> &'static str {
 /// What is said of rows or messages that were not written.
 pub(crate) const CANNOT_WRITE: &str = "cannot write";
 
-/// What is said of a word whose file cannot be opened. One that looks like a query was hardly meant to be a file.
+/// What is said of an argument whose file cannot be opened. One that looks like a query was hardly meant to be a file.
 fn unopened_message(word: &str, refused: bool, error: ErrorKind) -> &'static str {
     match error {
         ErrorKind::NotFound if refused && word.starts_with('$') => {
@@ -215,7 +215,7 @@ impl<W: Write + Drop> Searcher<'_, W> {
         self.search(name, input)
     }
 
-    /// Searches the file of a word.
+    /// Searches the file that an argument names.
     fn search_word(&mut self, word: &str, stdin: StandardInput) -> Next {
         if word == "-" {
             return self.search_other(STANDARD_INPUT, stdin, RegularFile::of_input(self.rt));
@@ -239,7 +239,7 @@ impl<W: Write + Drop> Searcher<'_, W> {
         }
     }
 
-    /// Searches the files of the words in turn, as far as they matter.
+    /// Searches the files that the arguments name in turn, as far as they matter.
     pub(crate) fn search_all(&mut self, stdin: StandardInput) {
         if reads_nothing(self.options) {
             return;
@@ -257,7 +257,7 @@ impl<W: Write + Drop> Searcher<'_, W> {
 }
 
 impl Searcher<'_, Output> {
-    /// Ends the run, tells of rows or messages that were not written, and gives the exit status. A pipe that nobody reads any
+    /// Ends the run, reports rows or messages that were not written, and gives the exit status. A pipe that nobody reads any
     /// more is no news.
     fn end(self) -> Searched {
         let rt = self.rt;
@@ -303,8 +303,8 @@ fn reads_nothing(options: &Options<'_>) -> bool {
     form.most == 0 && form.summary != Summary::NameWithout
 }
 
-/// Searches the files of the words in turn, and gives the exit status: 0 if a line was selected, 1 if none was, 2 if something
-/// was refused or failed, in the lists or in the files. The header of a table stands above all rows.
+/// Searches the files that the arguments name in turn, and gives the exit status: 0 if a line was selected, 1 if none was, 2 if
+/// something was refused or failed, in the lists or in the files. The header of a table stands above all rows.
 ///
 /// # Errors
 ///

@@ -24,7 +24,7 @@ fn verb_of(format: Format) -> &'static str {
     }
 }
 
-/// The command that makes lines of such data in a file, which is named behind it.
+/// The command that makes lines of such data in a file, which is named after it.
 fn file_command(format: Format) -> &'static str {
     match format {
         Format::Gzip => "zcat",

@@ -55,7 +55,7 @@ impl<'r> ListReader<'r> {
         }
     }
 
-    /// Reads a list from an open file. Behind the messages on the first refused lines it says what the lines are.
+    /// Reads a list from an open file. After the messages on the first refused lines it says what the lines are.
     fn read<R: Read + Drop>(&mut self, name: &str, input: R) -> Result<Option<Listed>, AllocError> {
         let mut input = Input::new(Watched::new(input));
         let mut messages = Watched::new(self.rt.stderr());
@@ -73,7 +73,7 @@ impl<'r> ListReader<'r> {
         }
     }
 
-    /// Reads the list of a word.
+    /// Reads the list that an argument names.
     fn read_word(&mut self, word: &str) -> Result<Option<Listed>, AllocError> {
         if word == "-" {
             return self.read(STANDARD_INPUT, StandardInput::find(self.rt, true));

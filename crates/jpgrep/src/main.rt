@@ -40,8 +40,8 @@ const WARNED: u8 = 1;
 /// The exit status where something was refused or failed.
 const FAULT: u8 = 2;
 
-/// Prints the help or the version, or says why the words are refused, and gives the exit status. Of an option of grep or jq it
-/// says what to do instead.
+/// Prints the help or the version, or says why the arguments are refused, and gives the exit status. Of an option of grep or jq
+/// it says what to do instead.
 fn tell_words(rt: &HostRuntime, words: &[&str], error: &Error) -> u8 {
     if error.kind() == ErrorKind::UnknownArgument {
         if let Some((word, instead)) = find_foreign(words) {
@@ -100,7 +100,7 @@ fn answer<'a>(rt: &HostRuntime, options: &Options<'a>) -> Result<u8, Refusal<'a>
     Ok(searched.status)
 }
 
-/// Does what the words ask for, and gives the exit status.
+/// Does what the arguments ask for, and gives the exit status.
 fn run_options(rt: &HostRuntime, options: &Options<'_>) -> u8 {
     match answer(rt, options) {
         Ok(status) => status,
@@ -111,7 +111,7 @@ fn run_options(rt: &HostRuntime, options: &Options<'_>) -> u8 {
     }
 }
 
-/// Reads the program's words as options, and does what they ask for.
+/// Reads the program's arguments as options, and does what they ask for.
 fn run_words(rt: &HostRuntime, words: &[&str]) -> u8 {
     match read_words(rt.alloc(), words) {
         Ok(options) => run_options(rt, &options),
@@ -123,7 +123,7 @@ fn run_words(rt: &HostRuntime, words: &[&str]) -> u8 {
     }
 }
 
-/// Reads the program's words as texts, and does what they ask for.
+/// Reads the program's arguments as texts, and does what they ask for.
 fn run_arguments(rt: &HostRuntime) -> u8 {
     let words = match env::args(rt) {
         Ok(words) => words,

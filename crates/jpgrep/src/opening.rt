@@ -5,7 +5,7 @@ use std::io::{self, Read};
 /// How far the bytes of a line are UTF-8 (RFC 3629, section 4): which bytes may come next.
 #[derive(Clone, Copy)]
 struct Utf8 {
-    /// The bytes that the character at hand still wants.
+    /// The bytes that the character so far still wants.
     wanted: u8,
     /// The least byte that may come next, where some are wanted.
     least: u8,
@@ -14,7 +14,7 @@ struct Utf8 {
 }
 
 impl Utf8 {
-    /// Behind a whole character.
+    /// After a whole character.
     const WHOLE: Utf8 = Utf8 {
         wanted: 0,
         least: 0x80,
@@ -59,7 +59,7 @@ enum Place {
     Front { mark: usize },
     /// In it, within a string or not.
     Within { in_string: bool, is_escaped: bool },
-    /// Behind it, or in a line that is no beginning of an array or object.
+    /// After it, or in a line that is no beginning of an array or object.
     Behind,
 }
 
@@ -162,7 +162,7 @@ pub(crate) struct Looking<R> {
 }
 
 impl<R> Looking<R> {
-    /// A reader of which nothing is read yet.
+    /// A reader with nothing read from it yet.
     pub(crate) fn new(reader: R) -> Looking<R> {
         Looking {
             reader,

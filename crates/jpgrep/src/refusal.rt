@@ -7,7 +7,7 @@ use jp_model::QueryFault;
 use jp_query::{FaultPlace, Segment, singular_selector};
 use std::alloc::AllocError;
 
-/// Which of the program's words a text is.
+/// Which of the program's arguments a text is.
 #[derive(Clone, Copy, Debug)]
 pub(crate) enum Text<'a> {
     /// A query.
@@ -140,7 +140,7 @@ fn tell_many(rt: &HostRuntime, text: &str, place: usize) -> Result<(), AllocErro
 }
 
 /// The byte at which a segment of a query begins, by the number of those before it: at a dot or a bracket that stands in no
-/// quotes and no other bracket, and behind no other dot.
+/// quotes and no other bracket, and after no other dot.
 fn place_of_segment(text: &str, number: usize) -> usize {
     let mut begun: usize = 0;
     let mut open: usize = 0;

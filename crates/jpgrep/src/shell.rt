@@ -1,4 +1,4 @@
-//! Words as a shell reads them.
+//! Arguments as a shell reads them.
 
 use std::alloc::{AllocError, Global};
 
@@ -8,7 +8,7 @@ fn is_plain(scalar: char) -> bool {
         || matches!(scalar, '.' | '_' | '/' | '-' | '+' | ',' | ':' | '@' | '%')
 }
 
-/// A word as a shell reads it: between single quotes where it wants them.
+/// An argument as a shell reads it: between single quotes where it wants them.
 pub(crate) fn shell_word(alloc: Global, word: &str) -> Result<String, AllocError> {
     if !word.is_empty() && word.chars().all(is_plain) {
         return String::from_str(alloc, word);

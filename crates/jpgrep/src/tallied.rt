@@ -14,7 +14,7 @@ use std::io::Stderr;
 /// The exit status where something was refused or failed.
 const FAULT: u8 = 2;
 
-/// Writes the rows of a tally, tells of rows that were not written, and says whether all were. A pipe that nobody reads any more
+/// Writes the rows of a tally, reports where rows were not written, and says whether all were. A pipe that nobody reads any more
 /// is no news.
 fn write_rows(rt: &HostRuntime, options: &Options<'_>, tally: &Tally) -> bool {
     let names = if options.has_header() {
@@ -64,8 +64,8 @@ fn end(searcher: Searcher<'_, Tally>) -> Searched {
     }
 }
 
-/// Searches the files of the words in turn, tallies the rows that they give, writes them, and gives the exit status: 0 if a line
-/// was selected, 1 if none was, 2 if something was refused or failed, in the lists or in the files.
+/// Searches the files that the arguments name in turn, tallies the rows that they give, writes them, and gives the exit status:
+/// 0 if a line was selected, 1 if none was, 2 if something was refused or failed, in the lists or in the files.
 ///
 /// # Errors
 ///

@@ -1,6 +1,6 @@
 //! What is said of options that grep or jq has and jpgrep has not.
 
-/// An option of another program: its letter, where it has one, its word, and what to do instead.
+/// An option of another program: its letter, where it has one, its long name, and what to do instead.
 struct Foreign {
     letter: Option<char>,
     words: &'static [&'static str],
@@ -123,10 +123,10 @@ const FOREIGN: &[Foreign] = &[
     },
 ];
 
-/// The letters of jpgrep's own options that take a value, which ends a word of letters.
+/// The letters of jpgrep's own options that take a value, which ends a group of letters.
 const WITH_VALUE: &[char] = &['e', 'w', 'm'];
 
-/// The option of another program that a word of letters has.
+/// The option of another program that a group of letters has.
 fn by_letter(letters: &str) -> Option<&'static Foreign> {
     for letter in letters.chars() {
         if WITH_VALUE.contains(&letter) {
@@ -140,7 +140,7 @@ fn by_letter(letters: &str) -> Option<&'static Foreign> {
     None
 }
 
-/// The option of another program that a word names.
+/// The option of another program that an argument names.
 fn by_word(word: &str) -> Option<&'static Foreign> {
     let name = match word.split_once('=') {
         Some((name, _)) => name,
@@ -149,7 +149,7 @@ fn by_word(word: &str) -> Option<&'static Foreign> {
     FOREIGN.iter().find(|it| it.words.contains(&name))
 }
 
-/// The first of the words that is an option of another program, and what to do instead.
+/// The first of the arguments that is an option of another program, and what to do instead.
 pub(crate) fn find_foreign<'w>(words: &[&'w str]) -> Option<(&'w str, &'static str)> {
     for word in words {
         if *word == "--" {

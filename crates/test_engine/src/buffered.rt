@@ -6,7 +6,7 @@ use jp_model::Watched;
 use std::alloc::Global;
 use std::test::Fail;
 
-/// A sequence of one text, behind its record separator.
+/// A sequence of one text, after its record separator.
 const SEQUENCE: &[u8] = b"\x1e{\"a\":1}\n";
 
 /// What `query $.a` answers over it.

@@ -8,7 +8,7 @@ use jp_store::Store;
 use jp_types::check;
 use std::test::Fail;
 
-/// Trees in lines 1, 3, 5, 6 and 7, of which four have an `a`; a blank line, and one that is refused.
+/// Trees in lines 1, 3, 5, 6 and 7, four of them with an `a`; a blank line, and one that is refused.
 const LINES: &[u8] =
     b"{\"a\":{\"b\":1},\"c\":1}\n\n{\"a\":{\"b\":2},\"c\":2}\n[1,\n{\"a\":3,\"c\":2}\n{\"d\":0,\"a\":{\"e\":1,\"b\":[4]}}\n{\"c\":2,\"d\":[0]}\n";
 

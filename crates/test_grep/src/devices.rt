@@ -3,7 +3,7 @@
 use std::alloc::Global;
 use std::io::{self, Read, Write};
 
-/// What a reader does behind its last piece.
+/// What a reader does after its last piece.
 #[derive(Clone, Copy, Debug, PartialEq, Eq)]
 pub(crate) enum Behind {
     /// It is at its end.

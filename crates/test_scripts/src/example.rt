@@ -26,7 +26,7 @@ pub(crate) struct Example {
 }
 
 impl Example {
-    /// An example of which no line was read but its first.
+    /// An example with only its first line read.
     pub(crate) fn new(alloc: Global, name: &str, line: u64) -> Result<Example, AllocError> {
         Ok(Example {
             name: String::from_str(alloc, name)?,

@@ -55,7 +55,7 @@ fn a_special_byte_is_found_in_short_texts(rt: HostRuntime) -> Result<(), Fail> {
 }
 
 /// Whether a reverse solidus or a control character at each position of a text of that length is found, from the front and from
-/// the position behind it.
+/// the position after it.
 fn each_escape_is_found(alloc: Global, size: usize) -> Result<bool, AllocError> {
     let mut bytes = Vec::new(alloc);
     for _ in 0..size {

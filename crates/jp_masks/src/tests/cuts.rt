@@ -101,7 +101,7 @@ fn are_of_each_line(
 }
 
 /// The texts are where those of the sequence are, each after its separator, and each has the marks that it has alone. An
-/// empty one, and what comes before the first separator, is none.
+/// empty one is not a text, nor is what comes before the first separator.
 fn are_of_each_text(
     rt: &impl Abort,
     alloc: Global,

@@ -79,7 +79,7 @@ segment_begins (descendant_brackets selectors) = inl refl
 segment_begins descendant_wildcard = inl refl
 segment_begins (descendant_name name) = inl refl
 
--- behind none or all of one blank stands the blank or nothing
+-- after none or all of one blank stands the blank or nothing
 behind_blank : {y s : List ℕ} → Run is_white (0x20 ∷ []) y s → (slice_index y 0 ≡ 0x20) ⊎ (slice_index y 0 ≡ 0)
 behind_blank run_ends = inl refl
 behind_blank (run_goes_on white run_ends) = inr refl

@@ -112,7 +112,7 @@ pub record SpellsNumber (line : List ℕ) (from to : ℕ) (m e : ℤ) : Type 0 w
 abbrev pub head_of : List ℕ → ℕ
 head_of bytes = slice_index bytes 0
 
--- the bytes behind the first
+-- the bytes after the first
 abbrev pub tail_of : List ℕ → List ℕ
 tail_of bytes = drop 1 bytes
 
@@ -125,7 +125,7 @@ leading_digits (b ∷ bytes) = cond (is_digit b) (b ∷ leading_digits bytes) []
 abbrev pub leading_sign : List ℕ → Sign
 leading_sign bytes = cond (head_of bytes == 0x2B) plus_sign (cond (head_of bytes == 0x2D) minus_sign no_sign)
 
--- the bytes behind a sign
+-- the bytes after a sign
 abbrev pub behind_sign : Sign → List ℕ → List ℕ
 behind_sign no_sign bytes = bytes
 behind_sign plus_sign bytes = tail_of bytes
@@ -137,11 +137,11 @@ leading_exponent bytes =
     cond ((head_of bytes == 0x65) || (head_of bytes == 0x45))
     (Some (record { capital = head_of bytes == 0x45; sign = leading_sign (tail_of bytes); digits = leading_digits (behind_sign (leading_sign (tail_of bytes)) (tail_of bytes)) })) None
 
--- [ frac ]: the digits behind a point at the front
+-- [ frac ]: the digits after a point at the front
 abbrev pub leading_fraction : List ℕ → List ℕ
 leading_fraction bytes = cond (head_of bytes == 0x2E) (leading_digits (tail_of bytes)) []
 
--- [ frac ] [ exp ]: the parts behind an int
+-- [ frac ] [ exp ]: the parts after an int
 abbrev pub parts_behind_int : Bool → List ℕ → List ℕ → Numeral
 parts_behind_int negative int bytes = record {
   negative = negative;
@@ -150,7 +150,7 @@ parts_behind_int negative int bytes = record {
   exponent = leading_exponent (drop (length (fraction_bytes (leading_fraction bytes))) bytes);
 }
 
--- int [ frac ] [ exp ]: the parts behind a minus
+-- int [ frac ] [ exp ]: the parts after a minus
 abbrev pub parts_behind_minus : Bool → List ℕ → Numeral
 parts_behind_minus negative bytes = parts_behind_int negative (leading_digits bytes) (drop (length (leading_digits bytes)) bytes)
 
@@ -170,7 +170,7 @@ abbrev pub exponent_digits : Option Exponent → List ℕ
 exponent_digits None = []
 exponent_digits (Some e) = without_leading_zeros e.digits
 
--- more than 15 digits of an exponent stand behind its leading zeros (profile)
+-- more than 15 digits of an exponent stand after its leading zeros (profile)
 abbrev pub is_long_exponent : Numeral → Bool
 is_long_exponent n = nat_lt 15 (length (exponent_digits n.exponent))
 

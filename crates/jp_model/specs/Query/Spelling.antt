@@ -57,7 +57,7 @@ pub data Int : List ℕ → List ℕ → ℤ → Type 0 where
 pub data Hex4 : List ℕ → List ℕ → ℕ → Type 0 where
   hex4 : {a b c d n : ℕ} {x : List ℕ} → four_digits a b c d ≡ Some n → Hex4 (a ∷ b ∷ c ∷ d ∷ x) x n
 
--- escapable, which stands behind a backslash, with the scalar that it spells; hexchar is its last alternative (section 2.3.1.1)
+-- escapable, which stands after a backslash, with the scalar that it spells; hexchar is its last alternative (section 2.3.1.1)
 pub data Escape : List ℕ → List ℕ → ℕ → Type 0 where
   escaped_b : {x : List ℕ} → Escape (98 ∷ x) x 8
   escaped_f : {x : List ℕ} → Escape (102 ∷ x) x 12
@@ -171,7 +171,7 @@ mutual
   pub data IsBrackets : List ℕ → List ℕ → Selectors → Type 0 where
     brackets : {x y z w v : List ℕ} {s : Selector} {ss : Selectors} → Blanks x y → IsSelector y z s → IsMoreSelectors z w ss → Blanks w (93 ∷ v) → IsBrackets (91 ∷ x) v (selector s ss)
 
-  -- the selectors of a bracketed-selection behind the first (section 2.5.1.1)
+  -- the selectors of a bracketed-selection after the first (section 2.5.1.1)
   pub data IsMoreSelectors : List ℕ → List ℕ → Selectors → Type 0 where
     selectors_end : {x : List ℕ} → IsMoreSelectors x x no_selectors
     selectors_go_on : {x y z w v : List ℕ} {s : Selector} {ss : Selectors} → Blanks x (44 ∷ y) → Blanks y z → IsSelector z w s → IsMoreSelectors w v ss → IsMoreSelectors x v (selector s ss)
@@ -189,7 +189,7 @@ mutual
   pub data IsLogical : List ℕ → List ℕ → Bool → Logical → Type 0 where
     some_and : {x y z : List ℕ} {bare : Bool} {l : Logical} {ls : Logicals} → IsAnd x y bare l → IsMoreOr y z ls → IsLogical x z (bare && is_alone ls) (or_of l ls)
 
-  -- the parts behind the first `||` (section 2.3.5.1)
+  -- the parts after the first `||` (section 2.3.5.1)
   pub data IsMoreOr : List ℕ → List ℕ → Logicals → Type 0 where
     or_ends : {x : List ℕ} → IsMoreOr x x no_logicals
     or_goes_on : {x y z w v : List ℕ} {bare : Bool} {l : Logical} {ls : Logicals} → Blanks x (124 ∷ 124 ∷ y) → Blanks y z → IsAnd z w bare l → IsMoreOr w v ls → IsMoreOr x v (logical l ls)
@@ -198,7 +198,7 @@ mutual
   pub data IsAnd : List ℕ → List ℕ → Bool → Logical → Type 0 where
     some_basic : {x y z : List ℕ} {bare : Bool} {l : Logical} {ls : Logicals} → IsBasic x y bare l → IsMoreAnd y z ls → IsAnd x z (bare && is_alone ls) (and_of l ls)
 
-  -- the parts behind the first `&&` (section 2.3.5.1)
+  -- the parts after the first `&&` (section 2.3.5.1)
   pub data IsMoreAnd : List ℕ → List ℕ → Logicals → Type 0 where
     and_ends : {x : List ℕ} → IsMoreAnd x x no_logicals
     and_goes_on : {x y z w v : List ℕ} {bare : Bool} {l : Logical} {ls : Logicals} → Blanks x (38 ∷ 38 ∷ y) → Blanks y z → IsBasic z w bare l → IsMoreAnd w v ls → IsMoreAnd x v (logical l ls)
@@ -225,7 +225,7 @@ mutual
     call_without : {f x y z : List ℕ} → FunctionName x (40 ∷ y) f → Blanks y (41 ∷ z) → IsCall x z (call f no_arguments)
     call_with : {f x y z w v u : List ℕ} {a : Argument} {more : Arguments} → FunctionName x (40 ∷ y) f → Blanks y z → IsArgument z w a → IsMoreArguments w v more → Blanks v (41 ∷ u) → IsCall x u (call f (argument a more))
 
-  -- the arguments behind the first (section 2.4)
+  -- the arguments after the first (section 2.4)
   pub data IsMoreArguments : List ℕ → List ℕ → Arguments → Type 0 where
     arguments_end : {x : List ℕ} → IsMoreArguments x x no_arguments
     arguments_go_on : {x y z w v : List ℕ} {a : Argument} {more : Arguments} → Blanks x (44 ∷ y) → Blanks y z → IsArgument z w a → IsMoreArguments w v more → IsMoreArguments x v (argument a more)

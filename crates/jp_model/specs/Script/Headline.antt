@@ -51,7 +51,7 @@ pub record WasStarved (setup : Setup) (collection : Came) : Type 0 where
 abbrev pub WasLoaded : Setup → Came → Type 0
 WasLoaded setup collection = (collection.ended ≡ true) × MayLoad setup collection.bytes
 
--- The command lines that came within the limit: those whose line feed came, and the open one behind them only where the
+-- The command lines that came within the limit: those whose line feed came, and the open one after them only where the
 -- script came to its end.
 abbrev pub lines_within : Setup → Came → List (List ℕ)
 lines_within setup script = command_lines_so_far script.ended (take setup.script_most script.bytes)
@@ -87,7 +87,7 @@ module _ (query_of : List ℕ → QueryStatus) (asked : List ℕ → Command) wh
 
   -- What the writer received of a run that stopped, by the fault and by what the readers gave. A collection over which
   -- commands ran came to its end, fits and is framed; under want of memory it may have come in part, or be framed and not
-  -- loaded, and then nothing was written. No reader gave more than the byte past its limit, nor came to its end behind it.
+  -- loaded, and then nothing was written. No reader gave more than the byte past its limit, nor came to its end after it.
   abbrev pub RunStopped : {W : Type 0} → (W → Option (List ℕ)) → Device W → Device W → RunFault → Setup → GivenToRun → Type 0
   RunStopped contents old new faults.ReadCollection setup given = (given.collection.ended ≡ false) × (length given.collection.bytes ≤ setup.most)
       × Received contents old new []

@@ -55,7 +55,7 @@ fraction x = choose (after 46 x)
 unfoldable pub sign : List ℕ → List ℕ × List ℕ
 sign x = choose (after 43 x) (λ y. (43 ∷ [], y)) (choose (after 45 x) (λ y. (45 ∷ [], y)) ([], x))
 
--- exp behind its letter
+-- exp after its letter
 unfoldable pub exponent_behind : ℕ → Reader (List ℕ)
 exponent_behind letter x = do
   r ← some_digits (sign x).1

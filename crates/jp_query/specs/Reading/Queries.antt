@@ -21,7 +21,7 @@ bound_at of_int x = cond (begins is_int_first (skip_blanks x))
 unfoldable pub step_at : (ℤ → ℤ) → Reader (Option ℤ)
 step_at of_int x = choose (after_blanks 58 x) (bound_at of_int) (Some (None, x))
 
--- a slice-selector behind its first colon
+-- a slice-selector after its first colon
 unfoldable pub slice_behind : (ℤ → ℤ) → Option ℤ → Reader Selector
 slice_behind of_int first x = do
   last ← bound_at of_int x
@@ -38,7 +38,7 @@ index_or_slice of_int x = do
 abbrev pub child_of_one : Selector → Segment
 child_of_one s = child_segment (selector s no_selectors)
 
--- behind a bracket: a name or an index, and the second bracket, with no blanks
+-- after a bracket: a name or an index, and the second bracket, with no blanks
 unfoldable pub singular_behind : (ℤ → ℤ) → Reader Segment
 singular_behind of_int x = cond (begins is_int_first x)
     (do
@@ -68,7 +68,7 @@ singular_at of_int x = do
   r ← all_of (next_singular of_int) x
   Some (segments_of r.0, r.1)
 
--- behind a point or two: `*` or a name
+-- after a point or two: `*` or a name
 unfoldable pub dotted : Reader (List Selector)
 dotted x = choose (after 42 x)
     (λ y. Some (wildcard_selector ∷ [], y))
@@ -95,14 +95,14 @@ behind_marks mark one x = choose (after_blanks mark x)
       Some (Some (r.0.1, r.1)))
     (Some None)
 
--- an expression and those behind it, joined
+-- an expression and those after it, joined
 abbrev pub joined_at : (Logical → Logicals → Logical) → Reader Expression → Item Logical → Reader Expression
 joined_at join one next x = do
   l ← one x
   ls ← all_of next l.1
   Some ((l.0.0 && is_alone (logicals_of ls.0), join l.0.1 (logicals_of ls.0)), ls.1)
 
--- Below, nested reads a logical-expr behind one more bracket or parenthesis.
+-- Below, nested reads a logical-expr after one more bracket or parenthesis.
 module _ (of_int : ℤ → ℤ) (nested : Reader Expression) where
   -- selector
   unfoldable pub selector_at : Reader Selector
@@ -135,7 +135,7 @@ module _ (of_int : ℤ → ℤ) (nested : Reader Expression) where
     z ← after_blanks 93 ss.1
     Some (s.0 ∷ ss.0, z)
 
-  -- behind two points
+  -- after two points
   unfoldable pub descendant_at : Reader (List Selector)
   descendant_at x = choose (after 91 x) (λ y. brackets_at x) (dotted x)
 
@@ -161,7 +161,7 @@ module _ (of_int : ℤ → ℤ) (nested : Reader Expression) where
     r ← all_of next_segment x
     Some (segments_of r.0, r.1)
 
-  -- behind a parenthesis: S logical-expr S ")"
+  -- after a parenthesis: S logical-expr S ")"
   unfoldable pub closed_at : Reader Logical
   closed_at x = do
     r ← nested (skip_blanks x)
@@ -174,7 +174,7 @@ module _ (of_int : ℤ → ℤ) (nested : Reader Expression) where
     r ← nested x
     Some (argument_of r.0, r.1)
 
-  -- function-argument: a literal with no operator behind it, or an expression
+  -- function-argument: a literal with no operator after it, or an expression
   unfoldable pub argument_at : Reader Argument
   argument_at x = cond (begins_without_literal x)
       (condition_at x)
@@ -196,7 +196,7 @@ module _ (of_int : ℤ → ℤ) (nested : Reader Expression) where
     y ← after_blanks 41 more.1
     Some (a.0 ∷ more.0, y)
 
-  -- function-expr behind its name and its parenthesis
+  -- function-expr after its name and its parenthesis
   unfoldable pub call_behind : List ℕ → Reader Call
   call_behind name x = choose (after_blanks 41 x)
       (λ y. Some (call name no_arguments, y))
@@ -218,13 +218,13 @@ module _ (of_int : ℤ → ℤ) (nested : Reader Expression) where
         l ← literal_at x
         Some (constant l.0, l.1)))
 
-  -- comparison-expr behind its first side and its operator
+  -- comparison-expr after its first side and its operator
   unfoldable pub comparison_behind : Comparable → CompareOp → Reader Expression
   comparison_behind left op x = do
     right ← comparable_at (skip_blanks x)
     Some ((false, compare left op right.0), right.1)
 
-  -- a comparison-expr whose first side is a query, or a test of a query, behind its mark
+  -- a comparison-expr whose first side is a query, or a test of a query, after its mark
   unfoldable pub query_behind : Origin → Reader Expression
   query_behind o x = do
     s ← singular_at of_int x
@@ -234,7 +234,7 @@ module _ (of_int : ℤ → ℤ) (nested : Reader Expression) where
           r ← segments_at x
           Some ((true, exists (path o r.0)), r.1))
 
-  -- a comparison-expr whose first side is a call, or a test of a call, behind its name and its parenthesis
+  -- a comparison-expr whose first side is a call, or a test of a call, after its name and its parenthesis
   unfoldable pub call_or_comparison : List ℕ → Reader Expression
   call_or_comparison name x = do
     c ← call_behind name x
@@ -258,7 +258,7 @@ module _ (of_int : ℤ → ℤ) (nested : Reader Expression) where
         c ← call_behind f.0 f.1
         Some (test c.0, c.1))
 
-  -- what may stand behind `!`: a parenthesis, a query or a call
+  -- what may stand after `!`: a parenthesis, a query or a call
   unfoldable pub negated_at : Reader Expression
   negated_at x = do
     r ← choose (after 40 x) closed_at (test_at x)

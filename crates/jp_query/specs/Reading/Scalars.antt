@@ -3,7 +3,7 @@ use Rattle.std.specs.Prelude.{ℕ, zero, suc, List, [], ◌∷◌, ◌++◌, len
 use Rattle.jp_model.specs.Characters.{is_white, is_lower}
 use Rattle.jp_model.specs.Query.Spelling.{is_name_first, is_name_scalar, is_function_scalar}
 
--- what was read and the scalars behind it; None where the scalars are refused
+-- what was read and the scalars after it; None where the scalars are refused
 abbrev pub Read : Type 0 → Type 0
 Read A = Option (A × List ℕ)
 
@@ -22,12 +22,12 @@ abbrev pub choose : {A B : Type 0} → Option A → (A → B) → B → B
 choose None here other = other
 choose (Some a) here other = here a
 
--- behind a scalar, where it stands in front
+-- after a scalar, where it stands in front
 abbrev pub after : ℕ → List ℕ → Option (List ℕ)
 after c [] = None
 after c (d ∷ x) = cond (d == c) (Some x) None
 
--- behind these scalars, where they stand in front
+-- after these scalars, where they stand in front
 abbrev pub after_all : List ℕ → List ℕ → Option (List ℕ)
 after_all [] x = Some x
 after_all (c ∷ word) x = after c x >>= after_all word
@@ -37,11 +37,11 @@ abbrev pub run : (ℕ → Bool) → List ℕ → List ℕ × List ℕ
 run is_member [] = ([], [])
 run is_member (c ∷ x) = cond (is_member c) (c ∷ (run is_member x).0, (run is_member x).1) ([], c ∷ x)
 
--- behind S (RFC 9535, section 2.1.1)
+-- after S (RFC 9535, section 2.1.1)
 abbrev pub skip_blanks : List ℕ → List ℕ
 skip_blanks x = (run is_white x).1
 
--- behind S and a scalar
+-- after S and a scalar
 abbrev pub after_blanks : ℕ → List ℕ → Option (List ℕ)
 after_blanks c x = after c (skip_blanks x)
 
@@ -93,7 +93,7 @@ shorthand x = first_and_run is_name_first is_name_scalar x
 unfoldable pub function_name : Reader (List ℕ)
 function_name x = first_and_run is_lower is_function_scalar x
 
--- the name of a function, and what stands behind it and its parenthesis (RFC 9535, section 2.4)
+-- the name of a function, and what stands after it and its parenthesis (RFC 9535, section 2.4)
 unfoldable pub call_start : Reader (List ℕ)
 call_start x = do
   name ← function_name x

@@ -23,13 +23,13 @@ hex_scalar x = do
   h ← hex4 x
   cond (is_high_surrogate h.0) (low_half h.0 h.1) (cond (is_surrogate h.0) None (Some h))
 
--- the scalar that a letter behind a backslash spells
+-- the scalar that a letter after a backslash spells
 abbrev pub escaped_letter : ℕ → Option ℕ
 escaped_letter c =
     cond (c == 98) (Some 8) (cond (c == 102) (Some 12) (cond (c == 110) (Some 10) (cond (c == 114) (Some 13) (cond (c == 116) (Some 9)
     (cond (c == 47) (Some 47) (cond (c == 92) (Some 92) None))))))
 
--- what stands behind a backslash, between two quotes of a kind
+-- what stands after a backslash, between two quotes of a kind
 unfoldable pub escape_at : ℕ → Reader ℕ
 escape_at quote [] = None
 escape_at quote (c ∷ x) = cond (c == quote) (Some (quote, x)) (cond (c == 117) (hex_scalar x) (escaped_letter c >>= λ n. Some (n, x)))
@@ -42,7 +42,7 @@ next_scalar quote (c ∷ x) =
     (cond (c == 92) (is_item (escape_at quote x))
     (cond (is_plain c || c == 34 || c == 39) (Some (Some (c, x))) None))
 
--- behind the first of two quotes of a kind
+-- after the first of two quotes of a kind
 unfoldable pub between_quotes : ℕ → Reader (List ℕ)
 between_quotes quote x = do
   r ← all_of (next_scalar quote) x

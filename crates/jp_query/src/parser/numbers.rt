@@ -23,7 +23,7 @@ pub(crate) fn begins_number(text: &[char]) -> bool
     begins_with(text, Class::Digit) || after(text, '-').is_some()
 }
 
-/// Digits, the first of which is of a class, and what is left.
+/// Digits, the first one of a class, and what is left.
 fn digits(text: &[char], first: Class) -> Result<(&[char], &[char]), Failure>
     ensures { Gives (λ x. (x.0.now, x.1.now)) result (first_and_run (is_member first) is_digit text.now) }
 {

@@ -50,7 +50,7 @@ fn in_singular(expected: Expected) -> Expected {
     }
 }
 
-/// Behind a comparison with a query, where neither one more segment of it nor what closes the condition stands: the place in
+/// After a comparison with a query, where neither one more segment of it nor what closes the condition stands: the place in
 /// what begins as a segment, where a singular query cannot go on.
 fn at_segment(alloc: Global, text: &[char], closed: Expected) -> Stop {
     match singular_segment(alloc, text) {
@@ -62,7 +62,7 @@ fn at_segment(alloc: Global, text: &[char], closed: Expected) -> Stop {
     }
 }
 
-/// Behind a condition, where what closes it does not stand, and where an operator does, behind a query that is not singular.
+/// After a condition, where what closes it does not stand, and where an operator does, after a query that is not singular.
 pub(super) fn behind_condition(
     alloc: Global,
     condition: &Logical,
@@ -82,7 +82,7 @@ pub(super) fn behind_condition(
     }
 }
 
-/// Behind the selectors of a segment, where no bracket stands.
+/// After the selectors of a segment, where no bracket stands.
 pub(super) fn behind_selectors(alloc: Global, selectors: &[Selector], text: &[char]) -> Stop {
     if let Some(Selector::Filter(condition)) = selectors.last() {
         return behind_condition(
@@ -99,7 +99,7 @@ pub(super) fn behind_selectors(alloc: Global, selectors: &[Selector], text: &[ch
 /// An escape with all that it may have, whatever stands in it first.
 const LONGEST_ESCAPE: [char; 11] = ['u', 'D', '8', '0', '0', '\\', 'u', 'D', 'C', '0', '0'];
 
-/// Whether a text behind a backslash is the beginning of an escape.
+/// Whether a text after a backslash is the beginning of an escape.
 fn begins_escape(text: &[char], quote: char) -> bool {
     let mut whole = LONGEST_ESCAPE;
     if text.len() >= whole.len() {

@@ -43,7 +43,7 @@ impl<'a> Tokens<'a> {
         in_brackets && (self.before == '[' || self.before == ',' || self.before == ':')
     }
 
-    /// What is left of the text behind the token that is here.
+    /// What is left of the text after the token that is here.
     fn behind(&self) -> Result<&'a [char], Failure> {
         let text = self.rest;
         if begins_string(text) {

@@ -1,4 +1,4 @@
--- What the exponent is is printed as a whole number behind its sign.
+-- What the exponent is is printed as a whole number after its sign.
 use Rattle.std.proofs.Common.{◌≡◌, ◌+◌, ◌-◌, ◌∷◌, [], ◌-ℤ◌, pos, negsuc, ap, decimal, sym, ◌∙◌, arith}
 use Rattle.std.proofs.lemmas.Int.{ints}
 use Rattle.jp_canon.specs.Layout.{exponent_text}

@@ -1,4 +1,4 @@
--- Each member that has a name is listed behind those in front of it.
+-- Each member that has a name is listed after those in front of it.
 use Rattle.std.proofs.Common.{◌∙◌, List, ℕ, Some, sym, ap, subst, Option}
 use Rattle.jp_values.specs.declared.member.Member.{Member}
 use Rattle.jp_canon.proofs.Listed.{Listed, listed_none, listed_named, listed_nameless, listed_all}

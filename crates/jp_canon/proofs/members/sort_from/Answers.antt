@@ -1,4 +1,4 @@
--- The part behind the position is sorted where it is.
+-- The part after the position is sorted where it is.
 use Rattle.std.proofs.Common.{◌≡◌, length, arith}
 use Rattle.jp_canon.proofs.SortedParts.{sorted_in_place}
 use Rattle.jp_canon.proofs.members.sort_from.Goals as goal

@@ -1,4 +1,4 @@
--- Elements and members are printed one behind the other.
+-- Elements and members are printed one after the other.
 use Rattle.std.proofs.Common.{◌≡◌, ◌++◌, ◌∙◌, ℕ, ◌≤◌, ◌<◌, false, List, length, get_or, sym, ap, arith, Option}
 use Rattle.jp_canon.specs.Canonical.{canonical_text, element_texts}
 use Rattle.jp_values.specs.declared.member.Member.{Member}

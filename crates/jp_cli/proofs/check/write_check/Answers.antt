@@ -1,4 +1,4 @@
--- The summary stands behind the rows.
+-- The summary stands after the rows.
 use Rattle.std.proofs.Common.{subst, refl}
 use Rattle.jp_devices.specs.Devices.{Writes}
 use Rattle.jp_devices.proofs.Chains.{ends_behind}

@@ -1,4 +1,4 @@
--- The count stands behind the paths.
+-- The count stands after the paths.
 use Rattle.std.proofs.Common.{subst, ℕ}
 use Rattle.jp_devices.specs.Devices.{Writes}
 use Rattle.jp_model.specs.Script.Machine.{count_line}

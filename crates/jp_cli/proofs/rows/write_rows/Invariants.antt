@@ -1,4 +1,4 @@
--- The rows of the lines so far are written, and those of the lines behind them are still to come.
+-- The rows of the lines so far are written, and those of the lines after them are still to come.
 use Rattle.std.proofs.Common.{drop, flat_map}
 use Rattle.jp_plan.specs.ByLine.{found_in}
 use Rattle.jp_cli.specs.Found.{found_text}

@@ -1,4 +1,4 @@
--- The count stands behind the rows: each place is that of one node.
+-- The count stands after the rows: each place is that of one node.
 use Rattle.std.proofs.Common.{◌≡◌, subst, ℕ, arith}
 use Rattle.std.specs.Prelude.{count_by}
 use Rattle.jp_devices.specs.Devices.{Writes}

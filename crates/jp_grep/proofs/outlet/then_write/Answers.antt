@@ -1,4 +1,4 @@
--- The part comes behind what was written.
+-- The part comes after what was written.
 use Rattle.std.proofs.Common.{subst}
 use Rattle.jp_devices.specs.Devices.{Writes}
 use Rattle.jp_devices.proofs.Chains.{ends_behind}

@@ -1,4 +1,4 @@
--- What is told of the refused lines, or written behind the rows, failed.
+-- What is told of the refused lines, or written after the rows, failed.
 use Rattle.std.proofs.Common.{Bool, ap, subst}
 use Rattle.jp_devices.specs.Devices.{Received}
 use Rattle.jp_devices.proofs.Chains.{Part, both_received, part_behind}

@@ -1,4 +1,4 @@
--- A line ends behind a line feed, and a text in front of the RS of the next.
+-- A line ends after a line feed, and a text in front of the RS of the next.
 use Rattle.std.proofs.Common.{◌∙◌, ◌+◌, ◌≤◌, ap, arith, drop, length, subst, sym, take}
 use Rattle.jp_model.specs.Lines.{HasNoSeparator, separator_of}
 use Rattle.jp_grep.specs.Cuts.{EndsBetween}

@@ -1,4 +1,4 @@
--- The words and the number come behind what was written.
+-- The words and the number come after what was written.
 use Rattle.std.proofs.Common.{◌≡◌, ◌∙◌, ◌++◌, codes, sym, ap, subst, append_assoc}
 use Rattle.std.specs.Prelude.{decimal}
 use Rattle.jp_devices.specs.Devices.{Writes}

@@ -6,7 +6,7 @@ use Rattle.jp_model.specs.Rows.{line_feed}
 use Rattle.jp_grep.specs.Rows.{from_line_text}
 use Rattle.jp_grep.proofs.told.write_line_message.Goals as goal
 
--- parts one behind another
+-- parts one after another
 joined : (a b c d s f g h : List ℕ) → ((((((a ++ b) ++ c) ++ d) ++ (c ++ s)) ++ f) ++ g) ++ h ≡ ((((a ++ (b ++ c)) ++ (d ++ c)) ++ s) ++ f) ++ (g ++ h)
 joined a b c d s f g h =
     let x = (a ++ b) ++ c in

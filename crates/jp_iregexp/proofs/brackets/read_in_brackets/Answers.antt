@@ -7,7 +7,7 @@ use Rattle.jp_iregexp.specs.Tokens.{first_of}
 use Rattle.jp_iregexp.proofs.Readers.{members_read, in_front}
 use Rattle.jp_iregexp.proofs.brackets.read_in_brackets.Goals as goal
 
--- the items that were read, behind the first
+-- the items that were read, after the first
 with_first : (items : List Item) (item : Item) (limit : ℕ) (text : List ℕ) (found : Option (List TreeItem × List ℕ)) → items ≡ item ∷ [] → found ≡ then_read (read_items limit text) (in_front (map item_of items)) → found ≡ then_read (read_items limit text) (in_front (item_of item ∷ []))
 with_first items item limit text found is read = read ∙ ap (λ xs. then_read (read_items limit text) (in_front (map item_of xs))) is
 

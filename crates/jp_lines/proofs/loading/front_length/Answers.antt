@@ -1,4 +1,4 @@
--- A cut stands behind a line feed, or in front of a record separator.
+-- A cut stands after a line feed, or in front of a record separator.
 use Rattle.std.proofs.Common.{◌≡◌, ◌∙◌, ◌+◌, ◌++◌, List, ℕ, take, drop, sym, ap, subst, arith}
 use Rattle.jp_model.specs.declared.Framing.{Framing}
 use Rattle.jp_model.specs.Lines.{separator_of}

@@ -1,4 +1,4 @@
--- The lines so far are the first of the piece, behind those that were there.
+-- The lines so far are the first of the piece, after those that were there.
 use Rattle.std.proofs.Common.{◌≡◌, ◌++◌, map, take, All}
 use Rattle.jp_model.specs.Json.Places.{bytes_between}
 use Rattle.jp_masks.specs.Found.{lines_in}

@@ -1,4 +1,4 @@
--- The lines so far are the texts at the first spans, behind those that were there.
+-- The lines so far are the texts at the first spans, after those that were there.
 use Rattle.std.proofs.Common.{◌≡◌, ◌++◌, map, take, All}
 use Rattle.jp_model.specs.declared.Framing.TheVariants as framings
 use Rattle.jp_lines.specs.Batches.{text_at}

@@ -1,4 +1,4 @@
--- The words so far, and those from here on, are all.
+-- The arguments so far, and those from here on, are all.
 use Rattle.std.proofs.Common.{◌≡◌, ◌++◌, drop, map}
 use Rattle.jp_options.specs.Pairs.{paired, paired_at}
 use Rattle.jp_options.proofs.pairs.pair_words.Given as goal

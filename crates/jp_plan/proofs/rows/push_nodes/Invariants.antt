@@ -1,4 +1,4 @@
--- The rows so far are those of the first places, behind the old ones.
+-- The rows so far are those of the first places, after the old ones.
 use Rattle.std.proofs.Common.{◌≡◌, ◌++◌, ℕ, List, map, take}
 use Rattle.std.specs.Prelude.{All}
 use Rattle.jp_plan.specs.ByLine.{at_place, found_row, IsOfItsLine}

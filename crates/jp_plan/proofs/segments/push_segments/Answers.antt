@@ -1,4 +1,4 @@
--- Behind the last segment an open line of steps is ended.
+-- After the last segment an open line of steps is ended.
 use Rattle.std.proofs.Common.{◌≡◌, ◌∙◌, ◌++◌, [], ap, append-nil, sym, false, drop, map}
 use Rattle.std.proofs.lemmas.List.{at_drop_all}
 use Rattle.jp_model.specs.Plans.{segments_text}

@@ -1,4 +1,4 @@
--- Behind the letter.
+-- After the letter.
 use Rattle.std.proofs.Common.{◌≡◌, ◌∙◌, ◌&&◌, ◌==◌, Bool, true, false, ap, ap₂, sym, drop, length, ℕ, nat_le, arith, take, ◌-◌}
 use Rattle.std.proofs.lemmas.Bool.Decides.{nat_tests}
 use Rattle.std.proofs.lemmas.List.{take_all, length-drop}

@@ -1,4 +1,4 @@
--- The rows so far stand behind the head.
+-- The rows so far stand after the head.
 use Rattle.std.proofs.Common.{◌≡◌, ◌++◌, flat_map, take}
 use Rattle.jp_tally.specs.Counting.{entries_of_ranked}
 use Rattle.jp_tally.specs.Texts.{entry_text}

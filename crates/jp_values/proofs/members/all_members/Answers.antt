@@ -1,4 +1,4 @@
--- Each member that has a name is put behind those in front of it.
+-- Each member that has a name is put after those in front of it.
 use Rattle.std.proofs.Common.{◌∙◌, List, ℕ, Some, sym, ap, subst, Option}
 use Rattle.jp_model.specs.Json.Tree.{Children, value_of}
 use Rattle.jp_strings.specs.Points.{points_of}

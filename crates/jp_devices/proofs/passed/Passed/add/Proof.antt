@@ -1,4 +1,4 @@
--- `add` picks the bytes with others behind them. Assumes `Logic`.
+-- `add` picks the bytes with others after them. Assumes `Logic`.
 use Rattle.std.proofs.Common.{List, [], ◌∷◌, ◌++◌, refl}
 use base.Fml.{ftrue, flft}
 use mir.Syntax.{named}

@@ -1,4 +1,4 @@
--- The slot behind the others has the steps.
+-- The slot after the others has the steps.
 use Rattle.std.proofs.Common.{refl}
 use Rattle.std.specs.Prelude.{Option}
 use Rattle.jp_model.specs.Query.Syntax.{Segments}

@@ -1,4 +1,4 @@
--- The slot behind the others asks the test of the root.
+-- The slot after the others asks the test of the root.
 use Rattle.std.proofs.Common.{refl}
 use Rattle.jp_model.specs.Query.Syntax.{Logical}
 use Rattle.jp_eval.specs.Programs.{Meant, expression, Table, condition_view, logical_or_none, table_of, test_view}

@@ -1,4 +1,4 @@
--- The slot behind the others finds the value at the root.
+-- The slot after the others finds the value at the root.
 use Rattle.std.proofs.Common.{refl}
 use Rattle.jp_model.specs.Query.Syntax.{Comparable}
 use Rattle.jp_eval.specs.Programs.{Meant, side, Table, found_view, side_or_none, sought_view, table_of}

@@ -1,4 +1,4 @@
--- The parts that are left, and the steps behind them, mean the query.
+-- The parts that are left, and the steps after them, mean the query.
 use Rattle.std.proofs.Common.{◌++◌, List, length, map}
 use Rattle.jp_eval.specs.Programs.{Means, Onward, Table, step_view, steps_in}
 use Rattle.jp_eval.specs.declared.program.Slot.{Slot}

@@ -1,4 +1,4 @@
--- No slot comes behind those that are there.
+-- No slot comes after those that are there.
 use Rattle.jp_eval.proofs.Meanings.{whole}
 use Rattle.jp_eval.proofs.evaluate.Program.compile.Goals as goal
 

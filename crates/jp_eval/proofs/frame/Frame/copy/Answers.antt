@@ -1,4 +1,4 @@
--- The next of the part is put behind.
+-- The next of the part is put after.
 use Rattle.std.proofs.Common.{◌∙◌, ◌-◌, arith, ap, length, length-append, take}
 use Rattle.jp_eval.specs.Found.{between}
 use Rattle.jp_eval.proofs.Kept.{next_copied}

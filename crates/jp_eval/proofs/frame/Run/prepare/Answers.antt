@@ -1,4 +1,4 @@
--- No answer is put behind those that were kept.
+-- No answer is put after those that were kept.
 use Rattle.jp_eval.proofs.Answered.{kept_more}
 use Rattle.jp_eval.proofs.frame.Run.prepare.Goals as goal
 

@@ -1,4 +1,4 @@
--- A part of the list is put behind it.
+-- A part of the list is put after it.
 use Rattle.std.proofs.Common.{◌≡◌, ◌∙◌, ℕ, [], ◌++◌, List, Vec, Global, Option, ap, append-nil, map, subst, sym, take}
 use Rattle.std.proofs.lemmas.List.Elements.{All-take}
 use Rattle.std.proofs.lemmas.List.{map-append}

@@ -1,4 +1,4 @@
--- One of them is answered behind the others.
+-- One of them is answered after the others.
 use Rattle.std.proofs.Common.{◌≡◌, ◌∙◌, ◌<◌, ◌+◌, ◌-◌, ◌++◌, [], ◌∷◌, ℕ, List, ap, ap₂, sym, subst, append_assoc, drop, length, length-append, take, take-append-drop, refl, arith, true, false, Bool}
 use Rattle.std.specs.Prelude.{cond, sum_by}
 use Rattle.std.proofs.lemmas.List.{take_more}

@@ -1,4 +1,4 @@
--- The rows are put, and behind them the message is written.
+-- The rows are put, and after them the message is written.
 use Rattle.std.proofs.Common.{[], ◌-◌, ℕ, List, Bool, None, Some, append-nil, subst}
 use Rattle.jp_devices.specs.Devices.{Received}
 use Rattle.jp_devices.proofs.Chains.{Part, ends_in_part}

@@ -1,4 +1,4 @@
--- What is held is written behind the lines, or a beginning of it was.
+-- What is held is written after the lines, or a beginning of it was.
 use Rattle.std.proofs.Common.{List, ℕ, Result, Err, refl, subst}
 use Rattle.jp_grep.specs.Holding.{HoldsBack, Puts}
 use Rattle.jp_grep.specs.ReadItems.{items_of}

@@ -1,4 +1,4 @@
--- The rows of one node come behind those of the nodes before it.
+-- The rows of one node come after those of the nodes before it.
 use Rattle.std.proofs.Common.{◌≡◌, ◌∙◌, ◌++◌, ◌+◌, ◌≤◌, ◌<◌, [], ◌∷◌, List, ℕ, Bool, true, false, Option, None, Some, drop, filter, flat_map, get_or, length, length-append, map, take, take-append-drop, append_assoc, refl, sym, ap, subst, arith, cond}
 use Rattle.std.specs.Prelude.{MatchOption, is_some, ⊤}
 use Rattle.std.specs.List.{concat}
@@ -29,7 +29,7 @@ returns-in_default-clause-answers g c =
       verdict = record { selected = c.of_given_up.ensures.selected; refused = c.of_given_up.ensures.refused; given_up = c.of_given_up.ensures.given_up };
     }
 
--- the nodes before one, the node, and those behind it
+-- the nodes before one, the node, and those after it
 nodes_around : (nodes : List Cursor) (i : ℕ) (node : Cursor) (asked : List Node) → i < length nodes → node ≡ get_or nodes i node → map node_of nodes ≡ asked
     → asked ≡ (map node_of (take i nodes) ++ node_of node ∷ []) ++ map node_of (drop (i + 1) nodes)
 nodes_around nodes i node asked within is all =

@@ -1,4 +1,4 @@
--- The cell of one query comes behind those of the queries before it.
+-- The cell of one query comes after those of the queries before it.
 use Rattle.std.proofs.Common.{◌≡◌, ◌∙◌, ◌++◌, ◌+◌, ◌<◌, ℕ, List, [], ◌∷◌, ap, sym, subst, append_assoc, get_or, length, map, take, decimal, ◌||◌}
 use Rattle.std.proofs.lemmas.List.{map-append, take_more}
 use Rattle.jp_model.specs.Json.Tree.{Tree}

@@ -1,4 +1,4 @@
--- The rows of one query come behind those of the queries before it.
+-- The rows of one query come after those of the queries before it.
 use Rattle.std.proofs.Common.{◌≡◌, ◌∙◌, ◌++◌, ◌+◌, ◌<◌, ℕ, List, [], append_assoc, append-nil, ap, sym, subst, get_or, length, map, take, take-append-drop, drop, Bool, ◌||◌}
 use Rattle.std.specs.List.{concat}
 use Rattle.std.proofs.lemmas.Bool.{false≢true}

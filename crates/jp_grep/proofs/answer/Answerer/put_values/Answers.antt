@@ -1,4 +1,4 @@
--- The rows so far are those of the first nodes. One that failed comes behind them, and the others would have followed.
+-- The rows so far are those of the first nodes. One that failed comes after them, and the others would have followed.
 use Rattle.std.proofs.Common.{◌≡◌, ◌∙◌, ◌++◌, ℕ, List, [], append-nil, ap, refl, sym, subst, flat_map, map, take, take-append-drop, drop, ◌+◌}
 use Rattle.std.proofs.lemmas.Bool.{false≢true}
 use Rattle.std.proofs.lemmas.List.{map-append, take_all}

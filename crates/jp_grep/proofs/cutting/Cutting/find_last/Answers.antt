@@ -14,7 +14,7 @@ use Rattle.jp_grep.proofs.Noted.{noted_more}
 use Rattle.jp_grep.proofs.cutting.Cutting.find_last.Goals.{then-self+in_ok-pass_front, else-self}
 use Rattle.jp_grep.proofs.cutting.Cutting.find_last.Goals as goal
 
--- the last piece is noted behind the others
+-- the last piece is noted after the others
 with_last : (pieces : Pieces) (came : List ℕ) (handed : List Piece) (found last : Cutting) (at : PieceAt) (r : Result Unit SearchFault)
     → OnOk r (last.pieces.items ≡ found.pieces.items ++ at ∷ []) → last.cutter ≡ found.cutter
     → (so : FindsEnded pieces came handed found) → HandsOut (λ now. pieces_come pieces true came ≡ now) (handed ++ so.more) found.cutter at

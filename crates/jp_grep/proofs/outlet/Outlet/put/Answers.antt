@@ -1,4 +1,4 @@
--- A long row is written by itself, and so is one for which there is no memory, behind what is held.
+-- A long row is written by itself, and so is one for which there is no memory, after what is held.
 use Rattle.std.proofs.Common.{◌≡◌, ◌∙◌, ◌++◌, [], ℕ, List, Bool, false, true, Result, Ok, Err, arith, subst, sym, if◌then◌else◌}
 use Rattle.jp_devices.specs.Devices.{Received, Writes}
 use Rattle.jp_grep.specs.declared.fault.SearchFault.{SearchFault}

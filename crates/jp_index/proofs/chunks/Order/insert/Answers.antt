@@ -1,4 +1,4 @@
--- The line is put into its chunk, and half of a full chunk behind it.
+-- The line is put into its chunk, and half of a full chunk after it.
 use Rattle.std.proofs.Common.{◌∙◌, ◌≤◌, ◌+◌, length, ap, set, subst, sym, if◌then◌else◌}
 use Rattle.std.specs.Prelude.{insert}
 use Rattle.jp_index.specs.Chunks.{lines_in, with_chunk}

@@ -1,4 +1,4 @@
--- No line in front of the first of these chunks, and none behind the last, compares so.
+-- No line in front of the first of these chunks, and none after the last, compares so.
 use Rattle.std.proofs.Common.{◌≡◌, ◌-◌, ◌≤◌, All, filter, take, drop, true, false, arith, subst, IfOk}
 use Rattle.jp_syntax.specs.View.{op_view}
 use Rattle.jp_index.specs.ByKey.{Ascend}

@@ -26,7 +26,7 @@ loop-later_ends-init c =
       grown = grows_not m;
     }
 
--- the next end is in the block, and leaves room for the byte behind it
+-- the next end is in the block, and leaves room for the byte after it
 end_fits : (marks ends base later : ℕ) → 0 < later → later < 2 ^ 64 → ((i : ℕ) → i < 64 → bit (bit_or marks ends) i ≡ true → base + i + 1 < 2 ^ 32) → ((i : ℕ) → i < 64 → bit later i ≡ true → bit ends i ≡ true)
     → base + trailing_zeros w64 later + 1 < 2 ^ 32
 end_fits marks ends base later some small fits left =
@@ -56,7 +56,7 @@ add_marks-requires-2 c =
       order = λ i within set. l.invariant.behind i within set;
     }
 
--- a mark that is left and no end is behind the end
+-- a mark that is left and no end is after the end
 behind_end : (later below ends position i : ℕ) → below < 2 ^ 64 → Says below (λ j. nat_lt j position) → i < 64 → bit (but later below) i ≡ true → bit ends i ≡ false → bit ends position ≡ true → position + 1 ≤ i
 behind_end later below ends position i small says within set other end =
     let high : bit below i ≡ false = not_true (bit below i) (sym (bit-not below i small within) ∙ set_second later (flipped below) i set) in

@@ -1,4 +1,4 @@
--- What is packed behind nothing is the tape.
+-- What is packed after nothing is the tape.
 use Rattle.std.proofs.Common.{◌∙◌, ◌++◌, ℕ, List, ap}
 use Rattle.jp_nodes.specs.Forms.{packed}
 use Rattle.jp_nodes.proofs.Packing.{kept_alone}

@@ -1,4 +1,4 @@
--- What is behind the seek is well-typed, and its literals can be read.
+-- What is after the seek is well-typed, and its literals can be read.
 use Rattle.jp_syntax.specs.View.{segments_view}
 use Rattle.jp_plan.specs.Paths.{path_at}
 use Rattle.jp_plan.specs.Routes.{steps_or_none}

@@ -1,4 +1,4 @@
--- The line stands behind the others, and the places of its nodes behind theirs.
+-- The line stands after the others, and the places of its nodes after theirs.
 use Rattle.std.proofs.Common.{◌≡◌, ◌∙◌, ◌++◌, ◌∷◌, [], ℕ, List, length, map, take, ap, ap₂, sym, subst, arith, append_assoc}
 use Rattle.std.specs.Prelude.{All}
 use Rattle.std.proofs.lemmas.List.{take_all, length-map}

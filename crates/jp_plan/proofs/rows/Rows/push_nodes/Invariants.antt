@@ -1,4 +1,4 @@
--- The places so far are those of the first nodes, behind the old ones.
+-- The places so far are those of the first nodes, after the old ones.
 use Rattle.std.proofs.Common.{◌≡◌, ◌++◌, map, take}
 use Rattle.std.specs.Prelude.{All}
 use Rattle.jp_nodes.specs.Cursors.{place_of}

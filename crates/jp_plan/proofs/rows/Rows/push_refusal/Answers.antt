@@ -1,4 +1,4 @@
--- The line stands behind the others.
+-- The line stands after the others.
 use Rattle.std.proofs.Common.{◌∙◌, List, ap, sym, subst}
 use Rattle.jp_plan.specs.ByLine.{expanded, AreInTurn}
 use Rattle.jp_plan.specs.declared.rows.LineRows.{LineRows}

@@ -1,4 +1,4 @@
--- The line is behind the others, and the counts and the indexes are of it too; after want of memory they are as before.
+-- The line is after the others, and the counts and the indexes are of it too; after want of memory they are as before.
 use Rattle.std.proofs.Common.{◌≡◌, ◌∙◌, ◌≤◌, ◌+◌, ◌++◌, List, [], ◌∷◌, ℕ, ap, ap₂, sym, subst, arith, length, map}
 use Rattle.std.specs.Prelude.{None}
 use Rattle.std.proofs.lemmas.List.{length-map, map-append}

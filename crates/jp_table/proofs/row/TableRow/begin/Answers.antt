@@ -1,4 +1,4 @@
--- The cell of the stream, and behind it that of the line.
+-- The cell of the stream, and after it that of the line.
 use Rattle.jp_table.proofs.row.TableRow.begin.Goals as goal
 
 pub returns : goal.returns

@@ -1,4 +1,4 @@
--- What comes goes behind what is fresh.
+-- What comes goes after what is fresh.
 use Rattle.std.proofs.Common.{◌≡◌, ◌∙◌, ◌++◌, ◌+◌, ap, arith, take, length}
 use Rattle.std.proofs.Math.Seq.{take-append-add}
 use Rattle.std.proofs.lemmas.Grind.{common_steps}
