@@ -365,7 +365,7 @@ def read_back(room):
 
 
 def in_lists(room):
-    """`--in` and `--not-in` of random lists, beside a model. So many as LISTS says."""
+    """`--in` and `--not-in` of random lists, beside a model: as many as LISTS says."""
     dice = random.Random(9535)
     for number in range(int(os.environ.get("JPGREP_LISTS", "300"))):
         listed, asked = random_list(dice)
