@@ -22,6 +22,7 @@ import threading
 import time
 
 from jpgrep_lists import model_of_text, random_list
+from jpgrep_paths import paths
 from jpgrep_pieces import BYTE_ORDER_MARK, answers_of, random_stream
 from jpgrep_tables import table
 from jpgrep_tally import tally
@@ -358,6 +359,8 @@ def read_back(room):
         table(number, dice, ended, check, room)
     for number in range(int(os.environ.get("JPGREP_TALLIES", "300"))):
         tally(number, dice, ended, check, room)
+    for number in range(int(os.environ.get("JPGREP_PATHS", "100"))):
+        paths(number, dice, ended, check, room)
     for number in range(100):
         lines = [random_value(dice, 3) for _ in range(dice.randrange(1, 6))]
         pathlib.Path(room, "lines").write_text("".join(json.dumps(line, ensure_ascii=dice.random() < 0.5) + "\n" for line in lines), "utf-8")

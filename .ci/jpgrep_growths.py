@@ -55,6 +55,9 @@ RUNS = [
     (["--tally", "$..*", "lines"], b""),
     (["--tally", "-r", "$.level"], LINES * 2),
     (["--tally", "--csv", "--names", "level,ms,tags", "-e", "$.level", "-e", "$.ms", "-e", "$.tags", "lines", "lines"], b""),
+    (["--paths", "lines"], b""),
+    (["--paths", "--fold", "2", "--tsv", "--header", "lines", "-"], LINES),
+    (["--paths", "-w", "@.level", "--in", "@.level", "ids", "--json", "-"], DOCUMENTS),
     (["--tsv", "--names", "value", "-e", "$", "lines"], b""),
     (["-n", "-p", "-m", "40", "--each", "$..*", "-w", "@ != $.level || @.*", "-e", "@", "-e", "$.ms", "lines", "lines"], b""),
     (["-c", "-v", "--each", "$.tags[*]", "--in", "@", "ids", "lines"], b""),
@@ -112,6 +115,13 @@ def counts_less(part, whole):
     return all(row in rows[1] and (count == rows[1][row] or int(count) <= int(rows[1][row])) for row, count in rows[0].items())
 
 
+def survey_less(part, whole):
+    """Whether each row of a survey is one of another, which tells of no fewer lines and nodes."""
+    rows = [{tuple(row[2:]): row[:2] for row in (line.split(b"\t") for line in text.splitlines())} for text in (part, whole)]
+    return all(row in rows[1] and all(told == most or int(told) <= int(most) for told, most in zip(counts, rows[1][row]))
+               for row, counts in rows[0].items())
+
+
 def refused_fault(words, got, whole):
     """What is wrong with a run in which a growth was refused, or None."""
     (status, out, said), (_, whole_out, whole_said) = got, whole
@@ -127,7 +137,7 @@ def refused_fault(words, got, whole):
         return f"said {said[-200:]!r}"
     if not lacks_a_piece(LINE_LOST.sub(b"", said), whole_said):
         return f"said {said[-200:]!r} for {whole_said[-200:]!r}"
-    if not (counts_less if "--tally" in words else lacks_a_piece)(out, whole_out):
+    if not (counts_less if "--tally" in words else survey_less if "--paths" in words else lacks_a_piece)(out, whole_out):
         return f"wrote {out[-200:]!r}, which is not what it writes without that, less one piece"
     return None
 

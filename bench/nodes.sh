@@ -49,6 +49,8 @@ row 'how many lines of the log have each status, the most frequent first' "--tal
     "jq .request.status log.jsonl | sort | uniq -c | sort -rn" \
     "sqlite3 $(table log.jsonl) $csv \"select count(*), j->'$.request.status' from t group by 2 order by 1 desc\"" \
     "mlr --ijsonl --otsv flatten then count-distinct -f request.status then sort -nr count log.jsonl" ''
+row 'each path and kind of value, with how often it comes' "--paths orders.jsonl" \
+    "jq -r 'path(..) as \$p | (\$p | map(if type == \"number\" then \"*\" else . end) | tojson) + (getpath(\$p) | type)' orders.jsonl | sort | uniq -c" '' '' ''
 RUNS=$((${RUNS:-3} * 3))
 # The memory at the peak in MB.
 peak_of() { /usr/bin/time -f '%M' "$@" 2>&1 > /dev/null | tail -1 | awk '{ printf "%.1f", $1 / 1000 }'; }

@@ -1,10 +1,9 @@
 -- What the calls of `read_words` come to, by the rules of the program's arguments.
-use Rattle.std.proofs.Common.{arith, inl, inr, ◌≡◌, ◌∙◌, ◌++◌, ◌∷◌, [], ℕ, List, Result, true, false, refl, sym, ap, ap₂, subst, codes, append_assoc, append-nil}
+use Rattle.std.proofs.Common.{arith, inl, inr, ◌≡◌, ◌∙◌, ◌++◌, ◌∷◌, [], ℕ, List, Result, true, false, refl, sym, ap, ap₂, subst, append_assoc, append-nil}
 use Rattle.std.specs.Prelude.{IsErrAnd, Ok, Err, Option, Some, None, map, option_map, unwrap_or}
 use denote.Ref.{Bor}
-use Rattle.std.proofs.lemmas.Bool.{false_from_ne_true}
 use Rattle.std.proofs.lemmas.Result.{err_from_is_err_and}
-use Rattle.clap.specs.Words.{AddsArg, App, FailsBy, HasKind, HasMatchesOf, Kinds, Row, Rule, Text, app_of, fault_of, first_of, found_of, is_simple, is_simple_and_free, matches_of, rows_of, rule_of, with_rule}
+use Rattle.clap.specs.Words.{AddsArg, App, FailsBy, HasKind, HasMatchesOf, Kinds, Row, Rule, Text, app_of, fault_of, found_of, is_simple, is_simple_and_free, matches_of, rows_of, rule_of, with_rule}
 use Rattle.std.specs.Str.Parse.{ParsesUnsigned, digits_value, without_leading_plus}
 use Rattle.clap.specs.Kinds.{or_else}
 use Rattle.clap.specs.Values.{kind_of}
@@ -17,7 +16,7 @@ use Rattle.clap.specs.declared.builder.arg.Arg.{Arg}
 use Rattle.clap.specs.declared.builder.command.Command.{Command}
 use Rattle.clap.specs.declared.error.Error.{Error}
 use Rattle.clap.specs.declared.parser.matches.ArgMatches.{ArgMatches}
-use Rattle.jp_options.specs.Command.{conflicts_in, found_in, is_count, most_faults, parse_faults, program, with_rules}
+use Rattle.jp_options.specs.Command.{conflicts_in, count_faults, found_in, has_counts, parse_faults, program, with_rules}
 
 -- a command with no more rules is the same
 pub with_no_rules : (a : App) → a ≡ with_rules a []
@@ -74,16 +73,15 @@ has_first_kind [] next e (inl memory) = inl memory
 has_first_kind [] next e (inr none) = absurd none
 has_first_kind (k ∷ ks) next e has = has
 
--- where the arguments are read, the value of `-m` decides
-pub count_taken : (first : Kinds) (found : List Row) (value : Option Text) → first ≡ [] → value ≡ first_of (codes "most") found → is_count value ≡ true
-    → or_else first (most_faults found) ≡ []
-count_taken first found value none is taken = rw (none, ← is, taken) refl
+-- where the arguments are read, the values of `-m` and `--fold` decide
+pub counts_taken : (first : Kinds) (found : List Row) → first ≡ [] → has_counts found ≡ true → or_else first (count_faults found) ≡ []
+counts_taken first found none taken = rw (none, taken) refl
 
-pub count_refused : (first : Kinds) (found : List Row) (value : Option Text) (e : Error) → first ≡ [] → value ≡ first_of (codes "most") found → ¬ (is_count value ≡ true)
-    → kind_of e ≡ InvalidValue → HasKind (or_else first (most_faults found)) e
-count_refused first found value e none is refused kind = rw (none, ← is, false_from_ne_true _ refused) (inr (inl kind))
+pub count_refused : (first : Kinds) (found : List Row) (e : Error) → first ≡ [] → has_counts found ≡ false
+    → kind_of e ≡ InvalidValue → HasKind (or_else first (count_faults found)) e
+count_refused first found e none refused kind = rw (none, refused) (inr (inl kind))
 
--- where the value of `-m` is taken too, the arguments that do not go together are refused by their conflict
+-- where these values are taken too, the arguments that do not go together are refused by their conflict
 pub refused_by_conflict : (first : Kinds) (found : List Row) (kind : ErrorKind) (e : Error) → first ≡ [] → kind ∷ [] ≡ conflicts_in found → kind_of e ≡ kind
     → HasKind (or_else first (conflicts_in found)) e
 refused_by_conflict first found kind e none conflict is = rw (none, ← conflict) (inr (inl is))

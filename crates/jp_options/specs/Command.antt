@@ -1,6 +1,6 @@
 -- The program's arguments (profile), read as the crate `clap` reads them: `jpgrep [OPTION].. QUERY [FILE]..`, or with `-e QUERY`
 -- or `-w CONDITION` the files alone, and so with `--each QUERY`.
-use Rattle.std.specs.Prelude.{◌≡◌, ◌++◌, ◌&&◌, ◌||◌, not, ℕ, Bool, true, false, List, [], ◌∷◌, Option, Some, codes, ◌==◌, if◌then◌else◌, length, map, max, option_map, unwrap_or}
+use Rattle.std.specs.Prelude.{◌≡◌, ◌++◌, ◌&&◌, ◌||◌, not, ℕ, Bool, true, false, List, [], ◌∷◌, Option, Some, is_some, codes, ◌==◌, if◌then◌else◌, length, map, max, option_map, unwrap_or}
 use Rattle.std.specs.Option.{option_map_or}
 use Rattle.std.specs.Str.{bytes_eq}
 use Rattle.std.specs.Str.Parse.{digits_value, without_leading_plus}
@@ -34,7 +34,7 @@ list_rule id = record (new_rule id) { long = Some id; action = Some Append; valu
 abbrev pub most_rule : Rule
 most_rule = record (option_rule (codes "most") 0x6D (codes "max-count")) { action = Some Set }
 
--- `--names` and `--each`; the last value of each counts
+-- `--names`, `--each` and `--fold`, of which the last value counts
 abbrev pub value_rule : Text → Rule
 value_rule id = record (new_rule id) { long = Some id; action = Some Set; value_names = 1 }
 
@@ -72,6 +72,10 @@ printing_rules = flag_rule (codes "only") 0x6F (codes "only-matching")
     ∷ flag_rule (codes "quiet") 0x71 (codes "quiet")
     ∷ word_rule (codes "tally")
     ∷ []
+
+-- what of the files is counted: `--paths`, `--fold`
+abbrev pub survey_rules : List Rule
+survey_rules = word_rule (codes "paths") ∷ value_rule (codes "fold") ∷ []
 
 -- how it is spelled: `-r`, `-j`, `--tsv`, `--csv`, `--header`, `--names`
 abbrev pub spelling_rules : List Rule
@@ -115,7 +119,7 @@ with_settings app = record app {
 
 -- the arguments that the program takes
 abbrev pub program : App
-program = with_rules (with_settings (new_app (codes "jpgrep"))) (asking_rules ++ printing_rules ++ spelling_rules ++ front_rules ++ general_rules)
+program = with_rules (with_settings (new_app (codes "jpgrep"))) (asking_rules ++ printing_rules ++ survey_rules ++ spelling_rules ++ front_rules ++ general_rules)
 
 -- what the command line gives each argument, its first text being the program's own name
 unfoldable pub found_in : List Text → List Row
@@ -129,7 +133,7 @@ values_in id found = unwrap_or (all_of id found) []
 abbrev pub is_given : Text → List Row → Bool
 is_given id found = option_map_or (λ value. bytes_eq value (codes "true")) (first_of id found) false
 
--- a value of `-m`, if there is one, is a number that 64 bits hold: decimal digits, after a plus or not
+-- a value of `-m` or `--fold`, if there is one, is a number that 64 bits hold: decimal digits, after a plus or not
 abbrev pub is_count : Option Text → Bool
 is_count value = option_map_or (is_unsigned_in 0 18446744073709551615) value true
 
@@ -161,6 +165,8 @@ pub record IsAskedBy (found : List Row) (o : Options) : Type 0 where
   pub header : o.header ≡ is_given (codes "header") found
   pub names : map (λ s. s.now) o.names.items ≡ names_of (first_of (codes "names") found)
   pub tally : o.tally ≡ is_given (codes "tally") found
+  pub survey : o.survey ≡ is_given (codes "paths") found
+  pub fold : o.fold ≡ count_of (first_of (codes "fold") found)
   pub numbered : o.numbered ≡ is_given (codes "number") found
   pub counted : o.counted ≡ is_given (codes "count") found
   pub quiet : o.quiet ≡ is_given (codes "quiet") found
@@ -185,10 +191,10 @@ names_nothing found = is_empty (values_in (codes "query") found) && is_empty (va
     && not (asks_each found)
     && is_empty (values_in (codes "in") found) && is_empty (values_in (codes "not-in") found)
 
--- neither a query nor a condition was given, nor `--refused`: there is no argument, and none of `-e`, `-w`, `--each`, `--in` and
--- `--not-in`
+-- neither a query nor a condition was given, nor `--refused`, nor `--paths`: there is no argument, and none of `-e`, `-w`, `--each`,
+-- `--in` and `--not-in`
 abbrev pub asks_nothing : List Row → Bool
-asks_nothing found = not (is_given (codes "refused") found) && is_empty (values_in (codes "words") found) && names_nothing found
+asks_nothing found = not (is_given (codes "refused") found) && not (is_given (codes "paths") found) && is_empty (values_in (codes "words") found) && names_nothing found
 
 -- values are asked for, and a table
 abbrev pub asks_values : List Row → Bool
@@ -224,16 +230,27 @@ prints_values found = if asks_each found then not (is_empty (values_in (codes "q
 abbrev pub prints_others : List Row → Bool
 prints_others found = is_given (codes "invert") found && (asks_table found || is_given (codes "path") found || prints_values found)
 
+-- what came is counted, and told at the end: `--tally` or `--paths`
+abbrev pub counts_all : List Row → Bool
+counts_all found = is_given (codes "tally") found || is_given (codes "paths") found
+
+-- `--fold` is given
+abbrev pub asks_fold : List Row → Bool
+asks_fold found = is_some (count_of (first_of (codes "fold") found))
+
+-- why a word lacks another: `--header` or `--names` a table, a tally or paths, `--fold` paths; and none where none does
+abbrev pub missing_conflicts : List Row → Kinds
+missing_conflicts found = if asks_header found && not (asks_table found) && not (counts_all found) then MissingRequiredArgument ∷ []
+    else if asks_fold found && not (is_given (codes "paths") found) then MissingRequiredArgument ∷ [] else []
+
 -- why the options of what is printed do not go together: `-r` with `-j`, `--tsv` with `--csv`, a table with what spells or
--- selects otherwise, `--header` or `--names` without a table or a tally, more names than queries or fewer, `-v` with what prints values;
+-- selects otherwise, a word that lacks another, more names than queries or fewer, `-v` with what prints values;
 -- and none where they do
 abbrev pub form_conflicts : List Row → Kinds
 form_conflicts found = if is_given (codes "raw") found && is_given (codes "canonical") found then ArgumentConflict ∷ []
     else if is_given (codes "tsv") found && is_given (codes "csv") found then ArgumentConflict ∷ []
     else if asks_table found && (asks_values found || asks_spelling found) then ArgumentConflict ∷ []
-    else if asks_header found && not (asks_table found) && not (is_given (codes "tally") found) then MissingRequiredArgument ∷ []
-    else if has_other_names found then WrongNumberOfValues ∷ []
-    else if prints_others found then ArgumentConflict ∷ [] else []
+    else or_else (missing_conflicts found) (if has_other_names found then WrongNumberOfValues ∷ [] else if prints_others found then ArgumentConflict ∷ [] else [])
 
 -- why the options of what plays the lines do not go together: `--json` with `--elements`, `--seq` with either of them; and none
 -- where they do
@@ -250,12 +267,20 @@ refuses_tally found =
     || (is_given (codes "number") found || is_given (codes "name") found || is_given (codes "null") found)
     || is_given (codes "invert") found || is_given (codes "seq") found || is_given (codes "refused") found
 
--- why the options do not go together: `-l` with `-L`, `-H` with `-h`, `--refused` with what asks of values, `--tally` with what
--- it has none of, what is printed, what plays the lines, no query; and none where they do
+-- something is asked for that paths have none of: `-e`, `--each`, `--tally`, `--names`, `-r`, `-j`, and what a tally has none of
+abbrev pub refuses_survey : List Row → Bool
+refuses_survey found =
+    not (is_empty (values_in (codes "query") found)) || asks_each found
+    || is_given (codes "tally") found || not (is_empty (names_of (first_of (codes "names") found)))
+    || asks_spelling found || refuses_tally found
+
+-- why the options do not go together: `-l` with `-L`, `-H` with `-h`, `--refused` with what asks of values, `--tally` with what it
+-- has none of, `--paths` likewise, what is printed, what plays the lines, no query; and none where they do
 abbrev pub conflicts_in : List Row → Kinds
 conflicts_in found = if is_given (codes "with") found && is_given (codes "without") found then ArgumentConflict ∷ []
     else if is_given (codes "name") found && is_given (codes "unnamed") found then ArgumentConflict ∷ []
     else if is_given (codes "refused") found && asks_of_values found then ArgumentConflict ∷ []
+    else if is_given (codes "paths") found && refuses_survey found then ArgumentConflict ∷ []
     else if is_given (codes "tally") found && refuses_tally found then ArgumentConflict ∷ []
     else or_else (form_conflicts found) (or_else (stream_conflicts found) (if asks_nothing found then MissingRequiredArgument ∷ [] else []))
 
@@ -263,13 +288,17 @@ conflicts_in found = if is_given (codes "with") found && is_given (codes "withou
 unfoldable pub parse_faults : List Text → Kinds
 parse_faults words = fault_of program words
 
--- why the value of `-m` is refused
-abbrev pub most_faults : List Row → Kinds
-most_faults found = if is_count (first_of (codes "most") found) then [] else InvalidValue ∷ []
+-- the values of `-m` and of `--fold` are numbers, where they are given
+abbrev pub has_counts : List Row → Bool
+has_counts found = is_count (first_of (codes "most") found) && is_count (first_of (codes "fold") found)
 
--- why the arguments are refused one by one: as they are read, or after that for the value of `-m`
+-- why one of them is refused
+abbrev pub count_faults : List Row → Kinds
+count_faults found = if has_counts found then [] else InvalidValue ∷ []
+
+-- why the arguments are refused one by one: as they are read, or after that for the value of `-m` or `--fold`
 abbrev pub reading_faults : List Text → Kinds
-reading_faults words = or_else (parse_faults words) (most_faults (found_in words))
+reading_faults words = or_else (parse_faults words) (count_faults (found_in words))
 
 -- why the arguments are refused: one by one, or after that since they do not go together
 abbrev pub faults_in : List Text → Kinds

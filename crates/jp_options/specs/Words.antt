@@ -29,12 +29,12 @@ names_list o = ltb 0 (length o.lists.items) || ltb 0 (length o.other_lists.items
 abbrev pub asks_each : Options → Bool
 asks_each o = ltb 0 (length o.each.items)
 
--- there is none of `-e`, `-w`, `--each`, `--in`, `--not-in` and `--refused`, so that the first argument is the query
+-- there is none of `-e`, `-w`, `--each`, `--in`, `--not-in`, `--refused` and `--paths`, so that the first argument is the query
 abbrev pub begins_with_query : Options → Bool
-begins_with_query o = not o.refused && not (ltb 0 (length o.queries.items)) && not (ltb 0 (length o.conditions.items)) && not (asks_each o) && not (names_list o)
+begins_with_query o = not o.refused && not o.survey && not (ltb 0 (length o.queries.items)) && not (ltb 0 (length o.conditions.items)) && not (asks_each o) && not (names_list o)
 
--- the queries: the first argument, or those of `-e`, or where there is none the node that is asked, which is `$`, or `@` where
--- nodes are asked one by one; and none where there is `--refused`
+-- the queries: the first argument, or those of `-e`, or where there is none the node that is asked, which is `$`, or `@` where nodes are
+-- asked one by one; and none where there is `--refused`
 abbrev pub asked_queries : Options → List (List ℕ)
 asked_queries o =
     if begins_with_query o then take 1 (words_of o)
@@ -77,24 +77,29 @@ asked_units o =
 abbrev pub has_several : Options → Bool
 has_several o = ltb 1 (length o.queries.items)
 
--- each query is a column: those of a table, or several of a tally
+-- each query is a column: those of a table, or several of a tally; paths have other columns
 abbrev pub has_columns : Options → Bool
-has_columns o = if o.tally then has_several o else o.tabs || o.commas
+has_columns o = if o.tally then has_several o else not o.survey && (o.tabs || o.commas)
 
 -- what of a line is tallied: the values of one query, or a row of the values of several
 abbrev pub tally_rows : Options → Shown
 tally_rows o = if has_several o then shown.Cells tables.Canonical else shown.Values false
 
--- how the cells of a tally are shown: as in a table, or in canonical form; `-r` shows them as `--tsv` does
-abbrev pub tally_table : Options → Table
-tally_table o = if o.commas then tables.Commas else if o.tabs || o.raw then tables.Tabs else tables.Canonical
+-- how the cells of what is counted are shown: as in a table, or in canonical form; `-r` shows them as `--tsv` does
+abbrev pub counted_table : Options → Table
+counted_table o = if o.commas then tables.Commas else if o.tabs || o.raw then tables.Tabs else tables.Canonical
 
--- what a row shows: nothing where something else is printed, what is tallied, cells where `--tsv` or `--csv` asks for them, values
+-- an object whose nodes have more names than this has its paths folded: as many as `--fold` says, or else a thousand
+abbrev pub asked_fold : Options → ℕ
+asked_fold o = unwrap_or o.fold 1000
+
+-- what a row shows: nothing where something else is printed, what is tallied, the line whose paths are counted, cells where `--tsv` or `--csv` asks for them, values
 -- where `-o` or `-p` does or nodes are asked one by one, and of a refused line with `-p` the word of its fault
 abbrev pub asked_rows : Options → Shown
 asked_rows o =
     if first_decides o || o.counted then shown.Nothing
     else if o.tally then tally_rows o
+    else if o.survey then shown.Line false
     else if o.tabs then shown.Cells tables.Tabs
     else if o.commas then shown.Cells tables.Commas
     else if o.refused then shown.Line o.paths
@@ -109,6 +114,6 @@ asked_spelling o = if o.tally then spellings.Canonical else if o.raw then spelli
 abbrev pub asked_summary : Options → Summary
 asked_summary o = if o.quiet then summaries.Nothing else if o.with_matches then summaries.NameWith else if o.without_matches then summaries.NameWithout else if o.counted then summaries.Count else summaries.Nothing
 
--- the name of the file stands in front: as `-H` and `-h` ask for, and else where there are several; and of no tally
+-- the name of the file stands in front: as `-H` and `-h` ask for, and else where there are several; and of no tally and no paths
 abbrev pub asks_names : Options → Bool
-asks_names o = not o.tally && (o.named || (not o.unnamed && ltb 1 (length (asked_files o))))
+asks_names o = not (o.tally || o.survey) && (o.named || (not o.unnamed && ltb 1 (length (asked_files o))))

@@ -2,7 +2,7 @@
 
 ghost use Rattle.std.specs.Prelude.{◌≡◌, IfOk, codes, false};
 ghost use Rattle.clap.specs.Words.{app_of, new_app, rule_of};
-ghost use Rattle.jp_options.specs.Command.{asking_rules, flag_rule, front_rules, general_rules, help_rule, list_rule, most_rule, option_rule, printing_rules, program, spelling_rules, value_rule, with_rules, with_settings, word_rule, words_rule};
+ghost use Rattle.jp_options.specs.Command.{asking_rules, flag_rule, front_rules, general_rules, help_rule, list_rule, most_rule, option_rule, printing_rules, program, spelling_rules, survey_rules, value_rule, with_rules, with_settings, word_rule, words_rule};
 
 use clap::{Arg, ArgAction, Command};
 use std::alloc::{AllocError, Global};
@@ -16,7 +16,7 @@ const AFTER_HELP: &str =
 With --csv or --tsv each QUERY is a column, and a line matches if every CONDITION holds.
 With --each QUERY the nodes that it selects are asked in place of lines, and a QUERY of -e may begin with @.
 Lines that are blank or no JSON never match; those that are no JSON are told on standard error, ten of each file.
-With -e, -w, --each, --in, --not-in or --refused every word is a FILE. With no FILE, or where FILE is -, standard input is read.
+With -e, -w, --each, --in, --not-in, --refused or --paths every word is a FILE. With no FILE, or where FILE is -, standard input is read.
 The exit status is 0 if a line is selected, 1 if none is, and 2 if anything is refused or fails.
 
 Examples:
@@ -26,6 +26,7 @@ Examples:
   jpgrep --csv --each '$.items[*]' -e '$.id' -e '@.sku' -e '@.qty' orders.jsonl
   tail -f log.jsonl | jpgrep -or '$.msg'
   jpgrep --refused -np log.jsonl
+  jpgrep --paths log.jsonl
   jpgrep --elements -w '@.ms > 200' export.json";
 
 /// The command whose arguments are the program's.
@@ -33,7 +34,8 @@ pub(crate) fn program_command<'a>(alloc: Global) -> Result<Command<'a>, AllocErr
     ensures { IfOk result (λ command. app_of command ≡ program) }
 {
     let command = add_asking(alloc, bare_command(alloc))?;
-    let command = add_spelling(alloc, add_printing(alloc, command)?)?;
+    let command = add_survey(alloc, add_printing(alloc, command)?)?;
+    let command = add_spelling(alloc, command)?;
     add_general(alloc, add_fronts(alloc, command)?)
 }
 
@@ -47,7 +49,7 @@ fn bare_command<'a>(alloc: Global) -> Command<'a>
             "Prints the lines of JSON Lines files whose values match a JSONPath query (RFC 9535)",
         )
         .override_usage(
-            "jpgrep [OPTIONS] <QUERY> [FILE]...\n       jpgrep [OPTIONS] (-e <QUERY> | -w <CONDITION> | --each <QUERY> | --in <QUERY> <FILE>)... [FILE]...\n       jpgrep [OPTIONS] --refused [FILE]...",
+            "jpgrep [OPTIONS] <QUERY> [FILE]...\n       jpgrep [OPTIONS] (-e <QUERY> | -w <CONDITION> | --each <QUERY> | --in <QUERY> <FILE>)... [FILE]...\n       jpgrep [OPTIONS] (--refused | --paths) [FILE]...",
         )
         .after_help(AFTER_HELP)
         .disable_help_flag(true)
@@ -75,7 +77,7 @@ fn words_argument<'a>(alloc: Global) -> Arg<'a>
         .value_name("QUERY|FILE")
         .action(ArgAction::Append)
         .help(
-            "The query, unless -e, -w, --each, --in, --not-in or --refused is given, and the files; - is standard input",
+            "The query, unless -e, -w, --each, --in, --not-in, --refused or --paths is given, and the files; - is standard input",
         )
 }
 
@@ -132,7 +134,7 @@ fn most_argument<'a>(alloc: Global) -> Arg<'a>
         .help("Stops after NUMBER selected lines of each file")
 }
 
-/// `--names NAMES` or `--each QUERY`, whose last value counts.
+/// `--names NAMES`, `--each QUERY` or `--fold NUMBER`, whose last value counts.
 fn value_argument<'a>(alloc: Global, id: &'a str, value: &'a str, help: &'a str) -> Arg<'a>
     ensures rule { rule_of result ≡ value_rule id.entry.now }
     ensures local { result.global ≡ false }
@@ -255,6 +257,24 @@ fn add_printing<'a>(alloc: Global, command: Command<'a>) -> Result<Command<'a>, 
             alloc,
             "tally",
             "Prints how often each selected value came, the most frequent first",
+        ))
+}
+
+/// The arguments that ask for the paths of all values.
+fn add_survey<'a>(alloc: Global, command: Command<'a>) -> Result<Command<'a>, AllocError>
+    ensures { IfOk result (λ more. app_of more ≡ with_rules (app_of command.entry) survey_rules) }
+{
+    command
+        .arg(word_flag(
+            alloc,
+            "paths",
+            "Prints the paths of all values, with their kinds and how often each came",
+        ))?
+        .arg(value_argument(
+            alloc,
+            "fold",
+            "NUMBER",
+            "Joins the members of objects of --paths with more than NUMBER names (1000)",
         ))
 }
 

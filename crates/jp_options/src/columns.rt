@@ -1,11 +1,14 @@
-//! What the program's arguments ask for of columns, and of a tally.
+//! What the program's arguments ask for of columns, of a tally, and of paths.
 
-ghost use Rattle.std.specs.Prelude.{◌≡◌, List, map};
+ghost use Rattle.std.specs.Prelude.{◌≡◌, ◌||◌, ◌∷◌, [], List, map};
+ghost use Rattle.std.specs.Option.{option_map_or};
 ghost use Rattle.clap.specs.Words.{Row};
-ghost use Rattle.jp_options.specs.Command.{IsAskedBy, refuses_tally};
-ghost use Rattle.jp_options.specs.Words.{asked_columns, asks_names, has_columns, has_header, has_several, tally_rows, tally_table};
+ghost use Rattle.jp_options.specs.Command.{IsAskedBy, counts_all, missing_conflicts, refuses_survey, refuses_tally};
+ghost use Rattle.jp_options.specs.Words.{asked_columns, asked_fold, asks_names, counted_table, has_columns, has_header, has_several, tally_rows};
 
+use crate::messages::{NO_PATHS, NO_TABLE};
 use crate::options::Options;
+use clap::error::ErrorKind;
 use jp_form::{Shown, Table};
 
 impl<'a> Options<'a> {
@@ -34,14 +37,14 @@ impl<'a> Options<'a> {
         self.queries.len() > 1
     }
 
-    /// Whether each query is a column: those of a table, or several of a tally.
+    /// Whether each query is a column: those of a table, or several of a tally. Paths have other columns.
     pub fn has_columns(&self) -> bool
         ensures { result ≡ has_columns self.now }
     {
         if self.tally {
             self.has_several()
         } else {
-            self.is_table()
+            !self.survey && self.is_table()
         }
     }
 
@@ -56,9 +59,9 @@ impl<'a> Options<'a> {
         }
     }
 
-    /// How the cells of a tally are shown.
-    pub fn tally_table(&self) -> Table
-        ensures { result ≡ tally_table self.now }
+    /// How the cells of a tally are shown, or those of paths.
+    pub fn counted_table(&self) -> Table
+        ensures { result ≡ counted_table self.now }
     {
         if self.commas {
             Table::Commas
@@ -73,7 +76,49 @@ impl<'a> Options<'a> {
     pub(crate) fn is_named(&self) -> bool
         ensures { result ≡ asks_names self.now }
     {
-        !self.tally && (self.named || (!self.unnamed && self.files().len() > 1))
+        !self.counts_all() && (self.named || (!self.unnamed && self.files().len() > 1))
+    }
+
+    /// How many names the nodes of an object's path may have before its paths are folded: as many as `--fold` says, or else 1,000.
+    pub fn names_before_fold(&self) -> u64
+        ensures { result ≡ asked_fold self.now }
+    {
+        self.fold.unwrap_or(1000)
+    }
+
+    /// Whether what came is counted, and told at the end.
+    pub(crate) fn counts_all(&self) -> bool
+        ensures all { result ≡ (self.now.tally || self.now.survey) }
+        ensures asked { (found : List Row) → IsAskedBy found self.now → result ≡ counts_all found }
+    {
+        self.tally || self.survey
+    }
+
+    /// Why a word lacks another, if one does: the names of columns a table, a tally or paths, and `--fold` paths.
+    pub(crate) fn missing_conflict(&self) -> Option<(ErrorKind, &'static str)>
+        ensures { (found : List Row) → IsAskedBy found self.now
+            → option_map_or (λ conflict. conflict.0 ∷ []) result [] ≡ missing_conflicts found }
+    {
+        if self.has_header() && !self.is_table() && !self.counts_all() {
+            return Some((ErrorKind::MissingRequiredArgument, NO_TABLE));
+        }
+        if self.fold.is_some() && !self.survey {
+            return Some((ErrorKind::MissingRequiredArgument, NO_PATHS));
+        }
+        None
+    }
+
+    /// Whether something is asked for that paths have none of.
+    pub(crate) fn refuses_survey(&self) -> bool
+        ensures { (found : List Row) → IsAskedBy found self.now → result ≡ refuses_survey found }
+    {
+        !self.queries.is_empty()
+            || !self.each.is_empty()
+            || self.tally
+            || !self.names.is_empty()
+            || self.raw
+            || self.canonical
+            || self.refuses_tally()
     }
 
     /// Whether something is asked for that a tally has none of.

@@ -4,6 +4,13 @@
 pub(crate) const NO_TALLY: &str =
     "the argument '--tally' cannot be used with '--only-matching', '--path', '--count', '--files-with-matches', '--files-without-match', '--quiet', '--line-number', '--with-filename', '--null', '--invert-match', '--seq' or '--refused'";
 
+/// What is said if `--paths` is used with what prints something else, or selects nodes or lines without a value.
+pub(crate) const NO_SURVEY: &str =
+    "the argument '--paths' cannot be used with '--query', '--each', '--tally', '--names', '--raw', '--canonical', '--only-matching', '--path', '--count', '--files-with-matches', '--files-without-match', '--quiet', '--line-number', '--with-filename', '--null', '--invert-match', '--seq' or '--refused'";
+
+/// What is said if `--fold` is used without paths.
+pub(crate) const NO_PATHS: &str = "the argument '--fold <NUMBER>' is used with '--paths' alone";
+
 /// What is said if `-l` is used with `-L`.
 pub(crate) const BOTH_NAMES: &str =
     "the argument '--files-with-matches' cannot be used with '--files-without-match'";
@@ -28,7 +35,7 @@ pub(crate) const NO_SPELLING: &str =
 
 /// What is said if `--header` or `--names` is used without columns.
 pub(crate) const NO_TABLE: &str =
-    "the arguments '--header' and '--names' are used with '--tsv', '--csv' or '--tally' alone";
+    "the arguments '--header' and '--names' are used with '--tsv', '--csv', '--tally' or '--paths' alone";
 
 /// What is said if there are more names of columns than queries, or fewer.
 pub(crate) const NO_NAMES: &str = "the argument '--names <NAMES>' has one name for each query";
@@ -50,4 +57,4 @@ pub(crate) const NO_PIECES: &str =
 
 /// What is said if no argument is a query.
 pub(crate) const NO_QUERY: &str =
-    "no QUERY was given, nor '--query <QUERY>', '--where <CONDITION>', '--each <QUERY>', '--in <QUERY> <FILE>' or '--refused'";
+    "no QUERY was given, nor '--query <QUERY>', '--where <CONDITION>', '--each <QUERY>', '--in <QUERY> <FILE>', '--refused' or '--paths'";

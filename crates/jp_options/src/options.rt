@@ -8,7 +8,7 @@ ghost use Rattle.jp_options.specs.Words.{asked_files, asked_most, asked_queries,
 
 use crate::messages::{
     BOTH_FRONTS, BOTH_NAMES, BOTH_PIECES, BOTH_SPELLINGS, BOTH_TABLES, NO_NAMES, NO_PIECES,
-    NO_QUERY, NO_QUESTION, NO_SPELLING, NO_TABLE, NO_TALLY, NO_VALUES, NO_VALUES_OF_NODES,
+    NO_QUERY, NO_QUESTION, NO_SPELLING, NO_SURVEY, NO_TALLY, NO_VALUES, NO_VALUES_OF_NODES,
 };
 use clap::error::ErrorKind;
 use jp_form::{Form, Pieces, Shown, Spelling, Summary, Table, Units};
@@ -17,8 +17,7 @@ use jp_model::Framing;
 /// What the program's arguments ask for.
 #[derive(Drop)]
 pub struct Options<'a> {
-    /// The arguments that belong to no option: the files, and before them the query where no option gives one, a condition or
-    /// nodes.
+    /// The arguments that belong to no option: the files, and before them the query where no option gives one, a condition or nodes.
     pub words: Vec<&'a str>,
     /// The queries of `-e`, in their order.
     pub queries: Vec<&'a str>,
@@ -54,6 +53,10 @@ pub struct Options<'a> {
     pub names: Vec<&'a str>,
     /// `--tally`: how often each value came is printed.
     pub tally: bool,
+    /// `--paths`: the paths of all values are printed, with how often each came.
+    pub survey: bool,
+    /// `--fold`: how many names the nodes of an object's path may have before its paths are folded.
+    pub fold: Option<u64>,
     /// `-n`: the number of each line is printed in front.
     pub numbered: bool,
     /// `-c`: how many lines are selected is printed.
@@ -168,8 +171,8 @@ impl<'a> Options<'a> {
         if table && (values || self.asks_spelling()) {
             return Some((ErrorKind::ArgumentConflict, NO_SPELLING));
         }
-        if self.has_header() && !table && !self.tally {
-            return Some((ErrorKind::MissingRequiredArgument, NO_TABLE));
+        if let Some(conflict) = self.missing_conflict() {
+            return Some(conflict);
         }
         if !self.names.is_empty() && self.names.len() != self.queries.len().max(1) {
             return Some((ErrorKind::WrongNumberOfValues, NO_NAMES));
@@ -208,6 +211,9 @@ impl<'a> Options<'a> {
         if self.refused && self.asks_of_values() {
             return Some((ErrorKind::ArgumentConflict, NO_QUESTION));
         }
+        if self.survey && self.refuses_survey() {
+            return Some((ErrorKind::ArgumentConflict, NO_SURVEY));
+        }
         if self.tally && self.refuses_tally() {
             return Some((ErrorKind::ArgumentConflict, NO_TALLY));
         }
@@ -217,7 +223,7 @@ impl<'a> Options<'a> {
         if let Some(conflict) = self.stream_conflict() {
             return Some(conflict);
         }
-        if !self.refused && self.words.is_empty() && self.names_nothing() {
+        if !self.refused && !self.survey && self.words.is_empty() && self.names_nothing() {
             return Some((ErrorKind::MissingRequiredArgument, NO_QUERY));
         }
         None
@@ -230,15 +236,15 @@ impl<'a> Options<'a> {
         ensures { result ≡ begins_with_query self.now }
     {
         !self.refused
+            && !self.survey
             && self.queries.is_empty()
             && self.conditions.is_empty()
             && self.each.is_empty()
             && !self.names_list()
     }
 
-    /// The queries that the arguments name: those of `-e`, or the first argument where there is none of `-e`, `-w`, `--each`,
-    /// `--in` and `--not-in`. Without `-e` it is the node that is asked otherwise: `$`, or with `--each` `@`. With `--refused`
-    /// there is none.
+    /// The queries that the arguments name: those of `-e`, or the first argument where there is none of `-e`, `-w`, `--each`, `--in`,
+    /// `--not-in` and `--paths`. Without `-e` it is the node that is asked otherwise: `$`, or with `--each` `@`. With `--refused` there is none.
     pub fn queries(&self) -> &[&'a str]
         ensures { map (λ s. s.now) result.now ≡ asked_queries self.now }
     {
@@ -309,6 +315,8 @@ impl<'a> Options<'a> {
             Shown::Nothing
         } else if self.tally {
             self.tallied()
+        } else if self.survey {
+            Shown::Line { faults: false }
         } else if self.tabs {
             Shown::Cells(Table::Tabs)
         } else if self.commas {

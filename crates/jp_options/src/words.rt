@@ -1,9 +1,9 @@
 //! The program's arguments.
 
-ghost use Rattle.std.specs.Prelude.{◌≡◌, IfOk, OkIff, codes, map, option_map, true};
+ghost use Rattle.std.specs.Prelude.{◌≡◌, IfOk, IsErr, IsOk, OkIff, codes, false, map, true};
 ghost use Rattle.clap.specs.Words.{FailsBy, first_of, found_of, rows_of};
 ghost use Rattle.jp_model.specs.Lines.{pieces};
-ghost use Rattle.jp_options.specs.Command.{IsAskedBy, count_of, faults_in, found_in, is_count, is_given, names_of, reading_faults, values_in};
+ghost use Rattle.jp_options.specs.Command.{IsAskedBy, count_of, faults_in, found_in, has_counts, is_count, is_given, names_of, reading_faults, values_in};
 
 use crate::arguments::program_command;
 use crate::options::Options;
@@ -35,25 +35,53 @@ fn parse<'a>(alloc: Global, words: &'a [&'a str]) -> Result<Options<'a>, Error>
 {
     let command = program_command(alloc)?;
     let matches = command.try_get_matches_from(words)?;
-    match read_count(matches.get_str("most")) {
-        Ok(most) => Ok(read_matches(alloc, &matches, most)?),
-        Err(_) => Err(program_command(alloc)?.error(ErrorKind::InvalidValue, NO_NUMBER)?),
+    match read_counts(&matches) {
+        Ok(counts) => Ok(read_matches(alloc, &matches, counts)?),
+        Err(message) => Err(program_command(alloc)?.error(ErrorKind::InvalidValue, message)?),
     }
 }
 
-/// The number that the value of `-m` writes, if there is one.
-fn read_count(value: Option<&str>) -> Result<Option<u64>, ParseIntError>
-    ensures { OkIff result (is_count (option_map (λ s. s.now) value.entry) ≡ true) (count_of (option_map (λ s. s.now) value.entry)) }
+/// The numbers that options write, where they are given.
+#[derive(Clone, Copy)]
+struct Counts {
+    /// `-m`.
+    most: Option<u64>,
+    /// `--fold`.
+    fold: Option<u64>,
+}
+
+/// The numbers that the values of `-m` and `--fold` write, or what is said of the first value that writes none.
+fn read_counts(matches: &ArgMatches<'_>) -> Result<Counts, &'static str>
+    ensures taken { IsOk result → has_counts (rows_of (found_of matches.now)) ≡ true }
+    ensures refused { IsErr result → has_counts (rows_of (found_of matches.now)) ≡ false }
+    ensures most { IfOk result (λ counts. counts.most ≡ count_of (first_of (codes "most") (rows_of (found_of matches.now)))) }
+    ensures fold { IfOk result (λ counts. counts.fold ≡ count_of (first_of (codes "fold") (rows_of (found_of matches.now)))) }
 {
-    match value {
+    let Ok(most) = read_count(matches, "most") else {
+        return Err(NO_MOST);
+    };
+    let Ok(fold) = read_count(matches, "fold") else {
+        return Err(NO_FOLD);
+    };
+    Ok(Counts { most, fold })
+}
+
+/// The number that the value of an option writes, if it is given.
+fn read_count(matches: &ArgMatches<'_>, id: &str) -> Result<Option<u64>, ParseIntError>
+    ensures { OkIff result (is_count (first_of id.now (rows_of (found_of matches.now))) ≡ true) (count_of (first_of id.now (rows_of (found_of matches.now)))) }
+{
+    match matches.get_str(id) {
         Some(word) => Ok(Some(word.parse()?)),
         None => Ok(None),
     }
 }
 
-/// What is said if the value of `-m` is not a number.
-const NO_NUMBER: &str =
+/// What is said if the value of `-m` is no number.
+const NO_MOST: &str =
     "the value of '--max-count <NUMBER>' is no number from 0 to 18446744073709551615";
+
+/// What is said if the value of `--fold` is no number.
+const NO_FOLD: &str = "the value of '--fold <NUMBER>' is no number from 0 to 18446744073709551615";
 
 /// The values of an argument, in their order.
 fn values<'a>(alloc: Global, matches: &ArgMatches<'a>, id: &str) -> Result<Vec<&'a str>, AllocError>
@@ -93,9 +121,10 @@ fn is_given(matches: &ArgMatches<'_>, id: &str) -> bool
 fn read_matches<'a>(
     alloc: Global,
     matches: &ArgMatches<'a>,
-    most: Option<u64>,
+    counts: Counts,
 ) -> Result<Options<'a>, AllocError>
-    requires most { most ≡ count_of (first_of (codes "most") (rows_of (found_of matches.now))) }
+    requires most { counts.most ≡ count_of (first_of (codes "most") (rows_of (found_of matches.now))) }
+    requires fold { counts.fold ≡ count_of (first_of (codes "fold") (rows_of (found_of matches.now))) }
     ensures { IfOk result (IsAskedBy (rows_of (found_of matches.now))) }
 {
     Ok(Options {
@@ -105,7 +134,7 @@ fn read_matches<'a>(
         each: values(alloc, matches, "each")?,
         lists: values(alloc, matches, "in")?,
         other_lists: values(alloc, matches, "not-in")?,
-        most,
+        most: counts.most,
         inverted: is_given(matches, "invert"),
         refused: is_given(matches, "refused"),
         only_matching: is_given(matches, "only"),
@@ -117,6 +146,8 @@ fn read_matches<'a>(
         header: is_given(matches, "header"),
         names: read_names(alloc, matches)?,
         tally: is_given(matches, "tally"),
+        survey: is_given(matches, "paths"),
+        fold: counts.fold,
         numbered: is_given(matches, "number"),
         counted: is_given(matches, "count"),
         quiet: is_given(matches, "quiet"),

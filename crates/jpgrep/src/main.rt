@@ -2,6 +2,7 @@
 #![tactic(auto)]
 
 mod asked;
+mod counted;
 mod excerpt;
 mod files;
 mod foreign;
@@ -13,20 +14,23 @@ mod output;
 mod patterns;
 mod refusal;
 mod shell;
+mod surveyed;
 mod tallied;
 mod unknown;
 
 use crate::asked::{Asked, read_question};
+use crate::counted::count_files;
 use crate::files::{CANNOT_WRITE, search_files};
 use crate::lists::{Lists, read_lists};
 use crate::note::tell_note;
 use crate::refusal::Refusal;
-use crate::tallied::tally_files;
 use crate::unknown::find_foreign;
 use clap::Error;
 use clap::error::ErrorKind;
 use jp_devices::refuse_word;
 use jp_options::{Options, pair_words, read_words};
+use jp_survey::Survey;
+use jp_tally::Tally;
 use std::alloc::AllocError;
 use std::process::ExitCode;
 use std::{env, io};
@@ -90,7 +94,10 @@ fn answer<'a>(rt: &HostRuntime, options: &Options<'a>) -> Result<u8, Refusal<'a>
         return Ok(FAULT);
     }
     let searched = if options.tally {
-        tally_files(rt, options, &question, lists)?
+        count_files(rt, options, &question, lists, Tally::new(rt.alloc()))?
+    } else if options.survey {
+        let survey = Survey::new(rt.alloc(), options.names_before_fold())?;
+        count_files(rt, options, &question, lists, survey)?
     } else {
         search_files(rt, options, &question, lists)?
     };

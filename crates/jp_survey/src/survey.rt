@@ -1,0 +1,260 @@
+//! A writer of rows that surveys them.
+
+ghost use Rattle.std.specs.Prelude.{◌≡◌, ◌++◌, [], ℕ, List, IfOk, IfSome, OnOk, false};
+ghost use Rattle.std.specs.Io.{WritesAtMost};
+ghost use Rattle.std.proofs.Props.{props};
+ghost use Rattle.jp_devices.specs.Devices.{Grew};
+ghost use Rattle.jp_lines.specs.Batches.{IsBatchLine};
+ghost use Rattle.jp_model.specs.declared.Framing.TheVariants as framings;
+ghost use Rattle.jp_model.specs.Json.Reader.{status_of};
+ghost use Rattle.jp_model.specs.Json.Tree.{Tree as Text};
+ghost use Rattle.jp_model.specs.Lines.{open_line, text_lines};
+ghost use Rattle.jp_survey.specs.Places.{IsKnown-prop};
+ghost use Rattle.jp_survey.specs.Seen.{HasSeen};
+ghost use Rattle.jp_survey.specs.Surveys.{Entry, IsSurvey, before_last, text_in, texts_in};
+ghost use Rattle.jp_survey.specs.Texts.{WritesSurvey, is_write_fault, survey_text};
+ghost use Rattle.jp_survey.specs.Trees.{HasCounted, IsTree, names_of};
+
+use crate::fault::SurveyFault;
+use crate::folding::{Folded, fold_all};
+use crate::listing::{list_paths, list_rows};
+use crate::text::text_of;
+use crate::tree::Tree;
+use jp_devices::{Watched, write_whole};
+use jp_form::Table;
+use jp_lines::{BatchLine, BatchRoom, LineState};
+use jp_model::Framing;
+use memchr::memrchr;
+use std::alloc::{AllocError, Global};
+use std::io::{self, Sink, Write};
+
+/// How many bytes are read together at least.
+const LEAST: usize = 1 << 16;
+
+/// How many bytes the reader takes together at most.
+const MOST: usize = (1 << 32) - 1;
+
+/// The bytes up to the last line feed, and what follows it.
+fn cut_last(bytes: &[u8]) -> Option<(&[u8], &[u8])>
+    ensures parts { IfSome result (λ cut. bytes.now ≡ cut.0.now ++ cut.1.now) }
+    ensures ended { (front : List ℕ) → IfSome result (λ cut. open_line (front ++ cut.0.now) ≡ []) }
+{
+    let Some(last) = memrchr(b'\n', bytes) else {
+        return None;
+    };
+    Some(bytes.split_at(last + 1))
+}
+
+/// Counts the nodes of a line.
+fn count_line(tree: &mut Tree, line: BatchLine<'_>) -> Result<(), AllocError>
+    requires line { IsBatchLine framings.Lines line }
+    requires tree { IsTree tree.old }
+    ensures tree { OnOk result (IsTree tree.new) }
+    ensures seen { (fold : ℕ) (trees : List Text) → HasSeen fold trees tree.old → OnOk result (HasSeen fold (trees ++ text_in (status_of framings.Lines line.entry.text.now)) tree.new) }
+{
+    match line.state {
+        LineState::Tree(view) => tree.count_text(view.root()),
+        LineState::Blank | LineState::Refused(_) => Ok(()),
+    }
+}
+
+/// Counts the nodes of lines.
+fn count_lines(room: &mut BatchRoom, tree: &mut Tree, bytes: &[u8]) -> Result<(), AllocError>
+    requires { IsTree tree.old }
+    ensures tree { OnOk result (IsTree tree.new) }
+    ensures seen { (fold : ℕ) (trees : List Text) → HasSeen fold trees tree.old → OnOk result (HasSeen fold (trees ++ texts_in (text_lines bytes.now)) tree.new) }
+{
+    if bytes.len() > MOST {
+        return Err(AllocError);
+    }
+    let batch = room.read(Framing::Lines, bytes)?;
+    for index in 0..batch.line_count() {
+        count_line(tree, batch.line(index))?;
+    }
+    Ok(())
+}
+
+/// The rows that came, each ended by a line feed, and what is in them. It is a writer, and a row may come in pieces.
+#[derive(Drop)]
+pub struct Survey {
+    alloc: Global,
+    /// How many names an object has at most that is not folded.
+    fold: u64,
+    room: BatchRoom,
+    tree: Tree,
+    /// What came since rows were counted.
+    fresh: Vec<u8>,
+    /// How many bytes are to come before rows are counted again.
+    wanted: usize,
+    /// All that came, which proofs alone see: nothing is written anywhere.
+    came: Watched<Sink>,
+    is_full: bool,
+    ghost whole: { is_full ≡ false → came.taken ≡ before_last came.taken fresh.items ++ fresh.items },
+    ghost ended: { is_full ≡ false → open_line (before_last came.taken fresh.items) ≡ [] },
+    ghost is_tree: { is_full ≡ false → IsTree tree } by { Prim.hlevel (props, IsKnown-prop) },
+    ghost seen: { is_full ≡ false → HasSeen fold (texts_in (text_lines (before_last came.taken fresh.items))) tree },
+}
+
+impl Survey {
+    /// A survey of no row yet, in which an object is folded that has more than `fold` names.
+    ///
+    /// # Errors
+    ///
+    /// Memory ran out.
+    pub fn new(alloc: Global, fold: u64) -> Result<Survey, AllocError>
+        ensures came { IfOk result (λ survey. survey.came.taken ≡ []) }
+        ensures full { IfOk result (λ survey. survey.is_full ≡ false) }
+        ensures fold { IfOk result (λ survey. survey.fold ≡ fold) }
+    {
+        let tree = Tree::new(alloc, fold)?;
+        Ok(Survey {
+            alloc,
+            fold,
+            room: BatchRoom::new(alloc),
+            tree,
+            fresh: Vec::new(alloc),
+            wanted: LEAST,
+            came: Watched::new(io::sink()),
+            is_full: false,
+        })
+    }
+
+    /// Whether a write failed for want of memory.
+    pub fn is_full(&self) -> bool
+        ensures { result ≡ self.now.is_full }
+    {
+        self.is_full
+    }
+
+    /// Counts the rows that came since. If memory is refused, it is full.
+    fn count(&mut self) -> Result<(), AllocError>
+        ensures came { self.new.came ≡ self.old.came }
+        ensures fold { self.new.fold ≡ self.old.fold }
+    {
+        if self.is_full {
+            return Err(AllocError);
+        }
+        let alloc = self.alloc;
+        let Some((rows, left)) = cut_last(&self.fresh) else {
+            return Ok(());
+        };
+        let rest = Vec::from_slice(alloc, left)?;
+        self.is_full = true;
+        count_lines(&mut self.room, &mut self.tree, rows)?;
+        self.fresh = rest;
+        self.is_full = false;
+        Ok(())
+    }
+}
+
+impl Survey {
+    /// Counts the rows that came since, once they are many bytes.
+    fn make_room(&mut self) -> Result<(), AllocError>
+        ensures came { self.new.came ≡ self.old.came }
+        ensures fold { self.new.fold ≡ self.old.fold }
+    {
+        if self.fresh.len() < self.wanted {
+            return Ok(());
+        }
+        self.count()?;
+        self.wanted = self.fresh.len().saturating_mul(2).max(LEAST);
+        Ok(())
+    }
+
+    /// Takes bytes of rows, and gives how many it took: all of them.
+    fn take(&mut self, bytes: &[u8]) -> io::Result<usize>
+        ensures bound { WritesAtMost result bytes.now }
+        ensures bytes { Grew self.old.came.taken self.new.came.taken result bytes.now }
+        ensures fold { self.new.fold ≡ self.old.fold }
+    {
+        if self.make_room().is_err() {
+            return Err(io::ErrorKind::OutOfMemory.into());
+        }
+        let before = self.fresh.len();
+        if self.fresh.extend_from_slice(bytes).is_err() {
+            return Err(io::ErrorKind::OutOfMemory.into());
+        }
+        let taken = self.came.write(bytes);
+        match &taken {
+            Ok(count) => self.fresh.truncate(before + *count),
+            Err(_) => self.fresh.truncate(before),
+        }
+        taken
+    }
+}
+
+impl Survey {
+    /// The places of the nodes of the rows that came, with the objects folded that have too many names. It is full then.
+    fn places(&mut self) -> Result<Folded, AllocError>
+        ensures { IfOk result (HasCounted self.old.fold (names_of self.new.tree) (texts_in (text_lines self.old.came.taken))) }
+    {
+        if self.is_full {
+            return Err(AllocError);
+        }
+        self.is_full = true;
+        count_lines(&mut self.room, &mut self.tree, &self.fresh)?;
+        fold_all(self.alloc, &self.tree.links, &self.tree.counts, self.fold)
+    }
+
+    /// The text of the survey of the rows that came. It is full then.
+    fn text(&mut self, table: Table, has_names: bool) -> Result<Vec<u8>, AllocError>
+        ensures { IfOk result (λ text. (survey : List Entry) × IsSurvey self.old.fold (texts_in (text_lines self.old.came.taken)) survey × (text.items ≡ survey_text table has_names survey)) }
+    {
+        let places = self.places()?;
+        let paths = list_paths(self.alloc, &self.tree.names, &places.links)?;
+        let rows = list_rows(self.alloc, &paths, &places.counts)?;
+        text_of(self.alloc, table, has_names, &rows)
+    }
+
+    /// Writes what is in the texts of the rows that came: for each path and kind of value one row, in order, with in how many rows
+    /// there is such a node and how many there are. Objects of too many names are folded, from the top down, and below one that is
+    /// folded a hyphen stands for the number of rows. A row that is no JSON text has no node. Above all stands the row of the
+    /// names of the columns, where it is wanted.
+    ///
+    /// # Errors
+    ///
+    /// `Write` if it was not written: then a beginning of it was. `Memory` if a growth was refused, now or before: then nothing was.
+    pub fn write_rows<W: Write>(
+        self,
+        table: Table,
+        has_names: bool,
+        out: &mut Watched<W>,
+    ) -> Result<(), SurveyFault>
+        requires { out.old.failed ≡ false }
+        ensures rows { WritesSurvey W.contents out.old out.new result self.fold (texts_in (text_lines self.came.taken)) table has_names }
+        ensures fault { out.new.failed ≡ is_write_fault result }
+    {
+        let mut survey = self;
+        let Ok(text) = survey.text(table, has_names) else {
+            return Err(SurveyFault::Memory);
+        };
+        match write_whole(&text, out) {
+            Ok(()) => Ok(()),
+            Err(_) => Err(SurveyFault::Write),
+        }
+    }
+}
+
+/// The bytes that it has are those that came. A write fails where memory is refused, and the survey is then of no use.
+impl Write for Survey {
+    ghost use Rattle.std.specs.Prelude.{Some};
+
+    ghost contents = { λ survey. Some survey.came.taken };
+
+    fn write(&mut self, bytes: &[u8]) -> io::Result<usize>
+        ensures bound { WritesAtMost result bytes.now }
+        ensures bytes { Grew self.old.came.taken self.new.came.taken result bytes.now }
+        ensures fold { self.new.fold ≡ self.old.fold }
+    {
+        let taken = self.take(bytes);
+        self.is_full |= taken.is_err();
+        taken
+    }
+
+    fn flush(&mut self) -> io::Result<()>
+        ensures bytes { self.new.came.taken ≡ self.old.came.taken }
+        ensures fold { self.new.fold ≡ self.old.fold }
+    {
+        Ok(())
+    }
+}
