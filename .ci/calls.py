@@ -1,6 +1,6 @@
 """Asks the calls of the C library that answer single questions, and compares what they leave with what the programs write: the rows of
-jpq_filter with those of jpgrep, a line with the file's, the marks of a query with the rows of jpq, and faults with the kept ones of
-broken queries. Then each growth is refused in turn: every question is answered as before, or has status 16 and leaves nothing.
+jpq_filter, jpq_survey and jpq_values with those of jpgrep, a line with the file's, the marks of a query with the rows of jpq, and faults
+with the kept ones of broken queries, and patterns that are not valid with the warnings of jpgrep. Then each growth is refused in turn: every question is answered as before, or has status 16 and leaves nothing.
 
     calls.py CALLS REFUSER JPQ JPGREP KEPT FOLDER
 """
@@ -10,15 +10,45 @@ import subprocess
 import sys
 
 CALLS, REFUSER, JPQ, JPGREP, KEPT, FOLDER = (os.path.abspath(word) for word in sys.argv[1:])
-QUESTION, LINE, FORMAT, MEMORY, NUMBER = 3, 4, 5, 16, 2
+QUESTION, LINE, FORMAT, NONE, MEMORY, NUMBER = 3, 4, 5, 6, 16, 2
 LINES = [b'{"a":[1.50,\t2],"b":"x\\ty"}', b"", b" \t", b"\xff", b'{"a": {"b" : "\\u00e9,\\"q\\""}}\r', b"[[1],[2,{}]]", b'{"a":1,"a":2}',
-         b'{"n":12,"b":"caf\xc3\xa9, or \\"tea\\"","a":[ {"b":null} , true ]}', b'"a"', b'{"n":-0.0,"b":1e3}']
+         b'{"n":12,"b":"caf\xc3\xa9, or \\"tea\\"","a":[ {"b":null} , true ]}', b'"a"', b'{"n":-0.0,"b":1e3}',
+         b'{"q\\t\\\\\'":{"u\\u0001":[[]],"\\u00e9":null}}']
 QUERIES = ["$", "$..*", "$.a", "$.a[0]", "$..b", "$['a','b']", "$.a[::-1]", "$[?@.b]", "$.absent"]
 REFUSED = ["$[", ".a", "$.a ", "$[?f(@)]", "$[?length(@)]", "$[9007199254740992]", "$" + "[0]" * 513, "$[?@==1e1111111111111111]"]
 CONDITIONS = ["", "@.b", "@.n > 0", "count(@.*) > 1 && !@.n"]
 # What jpgrep takes for what jpq_filter is to show.
 SHOWN = [["-q"], [], ["-p"], ["--csv"], ["--tsv"], ["-j"], ["-j", "-p"], ["-j", "-o"], ["-o"], ["-r", "-o"]]
 TABLES = 3, 4
+FOLDS = 1, 2, 3, 1000, 2 ** 64 - 1
+# What jpgrep takes for the units of jpq_values, and texts in which they are found: the bytes, and how many lines, texts and elements are
+# refused in them.
+UNITS = [[], ["--json"], ["--elements"]]
+TEXTS = [
+    (b"", (0, 0, 0)),
+    (b" \n\t\r\n", (0, 0, 0)),
+    (b'{\n  "a": 1,\r\n  "b": [\n    2\n  ]\n}\n', (5, 0, 0)),
+    (b'[\n  {"a": 1},\n  [2, 3],\n  "x\\ny"\n]', (4, 0, 0)),
+    (b'[1,2] [3]{"a":[4]} 5', (1, 0, 0)),
+    (b'[1,x,2]\n{"a":1}', (1, 1, 1)),
+    (b'{"a":[1,\n2', (1, 1, 1)),
+    (b"[1]\n\xff\n[2]", (1, 1, 1)),
+]
+# Queries and conditions, and their patterns that are not valid: written in the query, as the second argument of match or search.
+PATTERNS = [
+    (0, "$", []),
+    (0, "$[?match(@.a, 'x(')]", ["x("]),
+    (0, "$[?search(@.b, '[a-')]..[?match(@.c, 'a.b')]", ["[a-"]),
+    (0, "$.a[?@.b[?match(@.c, '*')] && (search(@, ')') || !match(@, '+'))]['x', ?search(@, \"\\u00e9{2,1}\")]", ["*", ")", "+", "\u00e9{2,1}"]),
+    (0, "$[?match('x(', @.a)]", []),
+    (0, "$[?match('a(', 'b(') || search(@.a, $.b) || match(@.a, 'c')]", ["b("]),
+    (0, "$[?count(@[?match(@, 'd(')]) > length(value($..[?search(@, 'e(')]))]", ["d(", "e("]),
+    (0, "$[?@.a == 'x(' && length('x(') == 1]", []),
+    (0, "$[?match(value(@[?search(@, '1(')]), '2(')]", ["1(", "2("]),
+    (1, "match(@.a, 'x(') || !search($.b, '\\\\p{Zzz}')", ["x(", "\\p{Zzz}"]),
+    (1, "@.a[?search(@, '(?i)x')]", ["(?i)x"]),
+    (1, "@.a == 1", []),
+]
 COLUMNS = [["$.a"], ["$.b", "$.n"], []]
 
 passed = failed = 0
@@ -92,14 +122,41 @@ def filters():
     shows("nothing to show", (0, [(NUMBER, b"")] * 2), ask([("filter", len(SHOWN), 0, "", "$"), ("filter", 4294967295, 0, "", "$[")]))
 
 
+def surveys():
+    questions, wanted = [], []
+    for fold, condition in itertools.product(FOLDS, CONDITIONS):
+        words = ["-w", condition] if condition else []
+        wanted.append((0, run(JPGREP, "-s", "--paths", "--fold", str(fold), *words, "collection").stdout))
+        questions.append(("survey", fold, condition))
+    status, answers = ask(questions)
+    for question, row, answer in zip(questions, wanted, answers):
+        shows(str(question), row, answer)
+    shows("surveys", (0, len(questions)), (status, len(answers)))
+    shows("no fold told", wanted[FOLDS.index(1000) * len(CONDITIONS)], (0, run(JPGREP, "-s", "--paths", "collection").stdout))
+    shows("surveys, refused", (0, [(QUESTION, b"")] * 2), ask([("survey", 1, "@.a ="), ("survey", 1, "$[")]))
+
+
+def values():
+    """The rows of jpq_values are those of jpgrep, and each can be read as a line."""
+    for text, refused in TEXTS:
+        with open("collection", "wb") as file:
+            file.write(text)
+        for units, words in enumerate(UNITS):
+            rows = run(JPGREP, "-h", "-s", *words, "$", "collection").stdout
+            shows(f"the values of {text} by {words}", (0, [(0, refused[units], rows)]), ask([("values", units)]))
+            shows(f"refused in {text} by {words}", refused[units], int(run(JPGREP, "-s", "-c", "--refused", *words, "collection").stdout))
+    shows("no units", (0, [(NUMBER, 77, b"")] * 2), ask([("values", len(UNITS)), ("values", 4294967295)]))
+
+
 def formats():
     for mark in b"\x1f\x8b", b"(\xb5/\xfd", b"\xfd7zXZ\0", b"PK\x03\x04", b"\xff\xfe", b"BZh91AY&SY":
         with open("collection", "wb") as file:
             file.write(mark + b"\n{}\n")
-        shows(f"the mark {mark}", (0, [(FORMAT, b"")]), ask([("filter", 1, 0, "", "$")]))
+        foreign = [(FORMAT, b""), (FORMAT, b""), (FORMAT, 77, b"")]
+        shows(f"the mark {mark}", (0, foreign), ask([("filter", 1, 0, "", "$"), ("survey", 1, ""), ("values", 1)]))
     with open("collection", "wb") as file:
         file.write(b"\xef\xbb\xbf{}\n")
-    shows("a byte order mark", (0, [(0, b"1:{}\n")]), ask([("filter", 1, 1, "", "$")]))
+    shows("a byte order mark", (0, [(0, b"1:{}\n"), (0, 0, b"{}\n")]), ask([("filter", 1, 1, "", "$"), ("values", 1)]))
 
 
 def faults():
@@ -119,9 +176,27 @@ def faults():
     shows("a condition is no query", ([(2, 0, b"'$'")], [(0, 77, b"")]), (ask([("fault", 0, "@.a == 1")])[1], ask([("fault", 1, "@.a == 1")])[1]))
 
 
+def patterns():
+    for is_condition, text, invalid in PATTERNS:
+        wanted = [(0, len(pattern.encode()), pattern.encode()) for pattern in invalid] + [(NONE, 77, b"")] * 2
+        shows(f"the patterns of {text}", (0, wanted), ask([("pattern", is_condition, text, number, 80) for number in range(len(invalid) + 2)]))
+        said = run(JPGREP, "--check", f"--{'where' if is_condition else 'query'}={text}").stderr.decode()
+        said = [line.split("'", 1)[1].rsplit("' is not", 1)[0] for line in said.splitlines() if " is not a valid I-Regexp" in line]
+        shows(f"the warnings of {text}", invalid, said)
+    text = "$[?match(@.a, '\u00e9\u00e9(')]"
+    pattern = "\u00e9\u00e9(".encode()
+    wanted = [(0, 5, pattern[:room]) for room in (0, 1, 4, 5, 6)]
+    shows("a room for less", (0, wanted), ask([("pattern", 0, text, 0, room) for room in (0, 1, 4, 5, 6)]))
+    shows("no pattern of that number", (0, [(NONE, 77, b"")] * 2), ask([("pattern", 0, text, number, 80) for number in (1, 2 ** 64 - 1)]))
+    refused = [*REFUSED, "$[?match(@[?search(@, '1(')].a, '2(')]"]
+    shows("patterns, refused", (0, [(QUESTION, 77, b"")] * len(refused)), ask([("pattern", 0, query, 0, 80) for query in refused]))
+
+
 def growths():
     questions = [("line", 1), ("marks", 1, "$..*"), ("marks", 8, "$[?search($.b,'caf')]"), ("fault", 0, "$.a[?@.b == 'x' && count(@.*)>1]"),
-                 ("fault", 1, "@.a =="), ("filter", 2, 1, "@.b", "$..*", "$.a"), ("filter", 3, 0, "", "$.a", "$.b"), ("filter", 5, 0, "", "$")]
+                 ("fault", 1, "@.a =="), ("filter", 2, 1, "@.b", "$..*", "$.a"), ("filter", 3, 0, "", "$.a", "$.b"), ("filter", 5, 0, "", "$"), ("survey", 1, "@.b"),
+                 ("survey", 1000, ""), ("values", 0), ("values", 1), ("values", 2), ("pattern", 0, "$[?match(@.a, '(') || search(@.b, 'x')]", 0, 80),
+                 ("pattern", 1, "match(@.a, '[') && search(@.b, 'x{')", 1, 80)]
     reading, writing = os.pipe()
     status, whole = ask(questions, 0, (writing,))
     os.close(writing)
@@ -144,8 +219,11 @@ with open("collection", "wb") as collection:
 lines()
 marks()
 filters()
+surveys()
 faults()
+patterns()
 growths()
+values()
 formats()
 print(f"library, calls: {passed} passed, {failed} failed")
 sys.exit(failed > 0 or passed < 500)

@@ -268,6 +268,50 @@ def pipes():
     shows("closed before its end", (ValueError, None), raised(lambda: list(left)))
 
 
+SURVEYED = [(3, 3, "$", "object"), (2, 2, "$['a']", "number"), (1, 1, "$['a']", "array"), (1, 2, "$['a'][*]", "null"),
+            (1, 1, "$['b\\\\\\t']", "object"), (1, 1, "$['b\\\\\\t']['c']", "boolean"), (1, 1, "$['b\\\\\\t']['d']", "string"),
+            (1, 1, "$['b\\\\\\t']['e']", "string")]
+FOLDED = SURVEYED[:-3] + [(None, 1, "$['b\\\\\\t'][**]", "boolean"), (None, 2, "$['b\\\\\\t'][**]", "string")]
+
+
+def texts():
+    """What is in a text, and the values of one: told by the library, or by jpgrep."""
+    text = b'{"a":1}\n{"a":[null,null],"b\\\\\\t":{"c":true,"d":"","e":""}}\nx\n{"a":-1}'
+    several = b'{\n  "a": [1,\r\n  2]}\n[{"b":1}, 5, "x"] [y]'
+    log = opened(LINES)
+    if way == "program" and not shutil.which("jpgrep"):
+        acts = (lambda: log.survey(text), lambda: log.values(text), lambda: log.patterns("$"))
+        shows("no jpgrep", [(jpq.Error, None)] * 3, [raised(act) for act in acts])
+        log.close()
+        return
+    rows = log.query("$.a")
+    shows("the first of an answer before", b"1.50", next(rows).bytes)
+    shows("a survey", SURVEYED, log.survey(text))
+    shows("folded", FOLDED, log.survey(bytearray(text), fold=2))
+    shows("not folded", [SURVEYED] * 2, [log.survey(memoryview(text), fold=fold) for fold in (3, 1 << 70)])
+    shows("where", [(2, 2, "$", "object"), (2, 2, "$['a']", "number")], log.survey(text, where="@.a\n> -2"))
+    shows("nothing to survey", ([], []), (log.survey(b""), log.survey(text, where=b"@.z")))
+    shows("survey, refused", [(jpq.QueryRefusal, "condition syntax"), (jpq.QueryRefusal, "condition function")],
+          [raised(lambda where=where: log.survey(text, where=where)) for where in ("@.a =", "f(@)")])
+    shows("values", (b'{  "a": [1,  2]}\n[{"b":1}, 5, "x"]\n', 1), log.values(several))
+    shows("elements", (b'{  "a": [1,  2]}\n{"b":1}\n5\n"x"\n', 1), log.values(several, "elements"))
+    shows("lines", (b'{"a":1}\n{"a":-1}\n', 1), log.values(bytearray(b'{"a":1}\nx\n\n{"a":-1}'), units="lines"))
+    shows("no values", (b"", 0), log.values(b" \n"))
+    with opened(log.values(several, "elements").lines) as inner:
+        shows("values, opened", [1, 2], [row.value for row in inner.query("$.a[*]")])
+    shows("no such units", (ValueError, None), raised(lambda: log.values(text, "documents")))
+    shows("a text of another format", [(jpq.Error, None)] * 2, [raised(lambda act=act: act(b"\x1f\x8b")) for act in (log.survey, log.values)])
+    shows("patterns", (["x(", "\u00e9{2,1}"], []), (log.patterns("$[?match(@.a, 'x(') || search(@.b,\n'\u00e9{2,1}')]"), log.patterns(b"$.a")))
+    shows("patterns of a condition", (["["], []), (log.patterns("search(@, '[') && match(@, 'x')", condition=True),
+                                                  log.patterns("@.a == 'x('", condition=True)))
+    shows("patterns, refused", [(jpq.QueryRefusal, "query syntax"), (jpq.QueryRefusal, "condition types")],
+          [raised(lambda: log.patterns("$[")), raised(lambda: log.patterns("match(@.a)", condition=True))])
+    shows("the rest of the answer before", [4, 5], [row.line for row in rows])
+    log.close()
+    acts = (lambda: log.survey(text), lambda: log.values(text), lambda: log.patterns("$"))
+    shows("texts, closed", [(ValueError, None)] * 3, [raised(act) for act in acts])
+
+
 def singles():
     """The calls that the library answers alone."""
     log = opened(LINES)
@@ -309,7 +353,7 @@ def singles():
 ways = [("program", {"program": program})] + [("library", {"library": name}) for name in library]
 for way, named in ways:
     opened = functools.partial(jpq.open, **named)
-    for try_it in (answers, conditions, refusals, statuses, places, files, sequences, pipes, singles, threads):
+    for try_it in (answers, conditions, refusals, statuses, places, files, sequences, pipes, texts, singles, threads):
         try_it()
 os.environ["JPQ"] = program
 way = "either"

@@ -10,7 +10,7 @@
  *  5. No pointer is null, also where the length beside it is 0.
  *  6. A length is that of the bytes which stand at the pointer, or of the room there.
  *  7. The bytes that a call reads are not written while it runs.
- *  8. What a call writes, a handle and a room, is no part of its other arguments.
+ *  8. What a call writes, a handle, a number and a room, is no part of its other arguments.
  *  9. No call is made from a signal handler.
  * 10. Nor from the forked child of a process that had several threads.
  * 11. malloc, realloc and free are of one allocator, whose blocks are aligned as the C standard wants it.
@@ -45,6 +45,13 @@ _Static_assert(sizeof(jpq) == 32 && offsetof(jpq, is_open) == 8, "the layout of 
 /* How a collection is cut into texts: one on each line, or as a text sequence (RFC 7464). */
 enum { JPQ_LINES = 0, JPQ_SEQUENCE = 1 };
 
+/* What jpq_values takes for a value, beside JPQ_LINES: JSON texts, one after another over any number of lines; or the elements of
+ * those that are arrays, and the others. */
+enum { JPQ_TEXTS = 1, JPQ_ELEMENTS = 2 };
+
+/* How many names an object may have in a survey before it is folded, as `jpgrep --paths` takes it if it is not told. */
+#define JPQ_FOLD 1000
+
 /* The most bytes that a collection may have. */
 #define JPQ_MOST UINT32_MAX
 
@@ -77,10 +84,11 @@ enum {
 enum {
     JPQ_DONE = 0,
     JPQ_SHUT = 1,     /* the handle is not open */
-    JPQ_NUMBER = 2,   /* the framing is neither JPQ_LINES nor JPQ_SEQUENCE, or what is to be shown is not in the list */
+    JPQ_NUMBER = 2,   /* no framing, nothing to be shown, or no units have this number */
     JPQ_QUESTION = 3, /* the query or the condition is refused: jpq_fault tells why and where */
     JPQ_LINE = 4,     /* there is no line of this number */
     JPQ_FORMAT = 5,   /* the text begins with the mark of another format, as compressed data do */
+    JPQ_NONE = 6,     /* there is no pattern of this number */
     JPQ_READ = 11,    /* a read failed: of bytes in memory none does */
     JPQ_SIZE = 12,    /* the collection has more bytes than it may have */
     JPQ_FRAMING = 13, /* bytes other than white space come before the first separator of a sequence */
@@ -97,6 +105,7 @@ static inline const char *jpq_message(uint32_t status) {
     case JPQ_QUESTION: return "query or condition refused";
     case JPQ_LINE: return "no such line";
     case JPQ_FORMAT: return "text of another format";
+    case JPQ_NONE: return "no such pattern";
     case JPQ_READ: return "cannot read";
     case JPQ_SIZE: return "collection too large";
     case JPQ_FRAMING: return "bytes before first separator";
@@ -145,6 +154,29 @@ uint32_t jpq_run(const uint8_t *collection, size_t collection_length, uint32_t f
 uint32_t jpq_filter(jpq *handle, const uint8_t *text, size_t text_length, const uint8_t *condition, size_t condition_length,
                     const uint8_t *queries, size_t queries_length, uint32_t shown, bool numbered);
 
+/* Surveys a text (JSON Lines) as `jpgrep --paths` does, and keeps a row to be read for each path of the values of its lines and each
+ * kind of value there: in how many of the lines there is one, how many there are, the path, and the kind, separated by tabs and
+ * ended by a line feed. Only lines count for which the condition holds, as in jpq_filter; if it is empty, each that has a value. In a
+ * path `[*]` stands for each index. Rows are ordered by path, step by step, elements before members and names by their scalars, and then
+ * by kind: null, boolean, number, string, array, object.
+ *
+ * An object at whose path there are more than `fold` names is folded: its members have the step `[**]` together, and `-` stands in
+ * place of how many lines. JPQ_FOLD is what jpgrep takes. What was left of the answer before is dropped; the collection stays as it
+ * is.
+ *
+ * After JPQ_SHUT, JPQ_QUESTION, JPQ_FORMAT and JPQ_MEMORY nothing is left to be read. */
+uint32_t jpq_survey(jpq *handle, const uint8_t *text, size_t text_length, const uint8_t *condition, size_t condition_length,
+                    uint64_t fold);
+
+/* Keeps the values of a text to be read, one on each line, so that any call can take them that takes JSON Lines. With JPQ_TEXTS they
+ * are those that `jpgrep --json '$'` prints, and with JPQ_ELEMENTS those of `jpgrep --elements '$'`: the bytes of the text, without
+ * the line feeds and carriage returns between tokens. With JPQ_LINES they are the lines that are neither blank nor refused.
+ * `refused` is how many texts, elements or lines are refused: they are left out. What was left of the answer before is dropped; the
+ * collection stays as it is.
+ *
+ * After JPQ_SHUT, JPQ_NUMBER, JPQ_FORMAT and JPQ_MEMORY nothing is left to be read, and refused stays as it was. */
+uint32_t jpq_values(jpq *handle, const uint8_t *text, size_t text_length, uint32_t units, uint64_t *refused);
+
 /* Keeps the bytes of a line of the collection to be read, without what separates lines. Lines count from 1. What was left of the
  * answer before is dropped. After JPQ_SHUT, JPQ_LINE and JPQ_MEMORY nothing is left to be read. */
 uint32_t jpq_line(jpq *handle, uint64_t number);
@@ -164,6 +196,15 @@ uint32_t jpq_marks(jpq *handle, uint64_t number, const uint8_t *query, size_t qu
  * JPQ_MEMORY place, words and room stay as they were. */
 uint32_t jpq_fault(const uint8_t *text, size_t text_length, bool is_condition, uint64_t *place, uint64_t *words, uint8_t *room,
                    size_t room_length);
+
+/* Tells a pattern that matches nothing: of the patterns that are written in a query, or in a condition if is_condition, as the second
+ * argument of match or search, the one with this number among those that are not valid (I-Regexp, RFC 9485). They count from 0, in
+ * the order in which they stand in the text; ask for 0, 1 and so on until JPQ_NONE.
+ *
+ * `length` is how many bytes of UTF-8 the pattern has, and the first of them are put into the room, as many as it has room for. At
+ * JPQ_QUESTION, where the text is refused, JPQ_NONE and JPQ_MEMORY length and room stay as they were. */
+uint32_t jpq_pattern(const uint8_t *text, size_t text_length, bool is_condition, uint64_t number, uint64_t *length, uint8_t *room,
+                     size_t room_length);
 
 #ifdef __cplusplus
 }

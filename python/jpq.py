@@ -35,8 +35,8 @@ import threading
 import weakref
 from typing import Any, BinaryIO, Deque, Dict, Iterable, Iterator, List, NamedTuple, Optional, Set, Tuple, Type, Union, cast
 
-__all__ = ["open", "loads", "Log", "Row", "Rows", "Refused", "Check", "Plan", "Mark", "Fault", "Error", "Ended", "Refusal",
-           "QueryRefusal", "IndexRefusal", "LineRefusal", "SizeRefusal", "SeparatorRefusal", "MemoryRefusal", "CommandRefusal"]
+__all__ = ["open", "loads", "Log", "Row", "Rows", "Refused", "Check", "Plan", "Mark", "Fault", "Surveyed", "Values", "Error", "Ended",
+           "Refusal", "QueryRefusal", "IndexRefusal", "LineRefusal", "SizeRefusal", "SeparatorRefusal", "MemoryRefusal", "CommandRefusal"]
 
 
 # What can be opened: the name of a file, its bytes, a binary file that is open, or the parts of its bytes in turn.
@@ -98,9 +98,35 @@ class Fault(NamedTuple):
     expected: str
 
 
+class Surveyed(NamedTuple):
+    """The values of one kind at a path: in how many lines there is one, or None below an object that is folded; how many there are; the
+    path, in which `[*]` stands for each index and `[**]` for each member of an object that is folded; and the kind, one of null,
+    boolean, number, string, array, object."""
+
+    lines: Optional[int]
+    nodes: int
+    path: str
+    kind: str
+
+
+class Values(NamedTuple):
+    """Values, one on each line, and how many texts, elements or lines were refused and are left out."""
+
+    lines: bytes
+    refused: int
+
+
 # What `Log.filter` shows, by its number in jpq.h.
 SHOWN = {"nothing": 0, "lines": 1, "paths": 2, "csv": 3, "tsv": 4, "canonical lines": 5, "canonical paths": 6,
          "canonical values": 7, "values": 8, "text": 9}
+
+
+# What `Log.values` takes for a value: its number in jpq.h, and the option of jpgrep.
+UNITS: Dict[str, Tuple[int, List[str]]] = {"lines": (0, []), "texts": (1, ["--json"]), "elements": (2, ["--elements"])}
+
+
+# A warning of jpgrep.
+WARNED = re.compile(rb"^jpgrep: '(.*)' is not a valid I-Regexp \(RFC 9485\), so it matches nothing$", re.MULTILINE)
 
 
 FAULTS = ("size", "syntax", "integer", "number", "function", "types")
@@ -375,8 +401,12 @@ class _Library(_Engine):
                     (calls.jpq_marks, ctypes.c_uint32, [handle, ctypes.c_uint64, ctypes.c_char_p, length]),
                     (calls.jpq_filter, ctypes.c_uint32, [handle, text, length, ctypes.c_char_p, length, ctypes.c_char_p, length,
                                                          ctypes.c_uint32, ctypes.c_bool]),
+                    (calls.jpq_survey, ctypes.c_uint32, [handle, text, length, ctypes.c_char_p, length, ctypes.c_uint64]),
+                    (calls.jpq_values, ctypes.c_uint32, [handle, text, length, ctypes.c_uint32, ctypes.POINTER(ctypes.c_uint64)]),
                     (calls.jpq_fault, ctypes.c_uint32, [ctypes.c_char_p, length, ctypes.c_bool, ctypes.POINTER(ctypes.c_uint64),
                                                         ctypes.POINTER(ctypes.c_uint64), text, length]),
+                    (calls.jpq_pattern, ctypes.c_uint32, [ctypes.c_char_p, length, ctypes.c_bool, ctypes.c_uint64,
+                                                          ctypes.POINTER(ctypes.c_uint64), text, length]),
                     (calls.jpq_close, None, [handle])):
                 call.restype, call.argtypes = answers, takes
         except (OSError, AttributeError):
@@ -405,9 +435,10 @@ class _Library(_Engine):
         count = self._calls.jpq_read(self._handle, room, len(room))
         return status, room.raw[:count]
 
-    def filtered(self, text: Buffer, condition: bytes, queries: bytes, shown: int, numbered: bool) -> Tuple[int, bytes]:
+    def of_text(self, call: str, text: Buffer, *given: Any) -> Tuple[int, bytes]:
+        """The status of a call over a text, and all that it kept to be read."""
         place, length = self._place(text)
-        found = self.kept("jpq_filter", place, length, condition, len(condition), queries, len(queries), shown, numbered)
+        found = self.kept(call, place, length, *given)
         del place
         return found
 
@@ -418,6 +449,12 @@ class _Library(_Engine):
         if number == 16:
             raise MemoryRefusal("memory", text)
         return Fault(FAULTS[number - 1], place.value, room.raw[:words.value].decode()) if number else None
+
+    def pattern(self, text: bytes, is_condition: bool, number: int) -> Tuple[int, str]:
+        """The status of a call, and the pattern that it told."""
+        length, room = ctypes.c_uint64(), ctypes.create_string_buffer(len(text) + 1)  # no pattern is longer than its spelling
+        status = self._calls.jpq_pattern(text, len(text), is_condition, number, length, room, len(room))
+        return status, room.raw[:length.value].decode()
 
     def ask(self, command: bytes) -> None:
         self._held, self._at = b"", 0
@@ -657,7 +694,7 @@ class Log:
         self._one(f"replace {int(line)}", text)
 
     def line(self, number: int) -> bytes:
-        """The bytes of a line. This call and the next three need the library, and raise Error where the program answers."""
+        """The bytes of a line. This call, `marks`, `filter` and `fault` need the library, and raise Error where the program answers."""
         return self._kept("line", b"", "jpq_line", _number(number))
 
     def marks(self, number: int, query: Text) -> List[Mark]:
@@ -676,27 +713,85 @@ class Log:
         tables, in which each query is a column and a line needs no value. `numbered` puts the line number before each row."""
         if show not in SHOWN:
             raise ValueError(f"there is nothing to show that is called {show!r}")
-        engine, asked = self._library(), [_bytes(query).replace(b"\n", b"\r") for query in queries]
-        with self._lock:
-            self._put_aside()
-            status, rows = engine.filtered(text, _bytes(where), b"\n".join(asked), SHOWN[show], bool(numbered))
+        self._library()
+        condition, asked = _bytes(where), [_query(query) for query in queries]
+        lines = b"\n".join(asked)
+        status, rows = self._of_text("jpq_filter", text, condition, len(condition), lines, len(lines), SHOWN[show], bool(numbered))
         if status == 3:
-            for command in [b"where " + _bytes(where)] * bool(where) + [b"query " + query for query in asked if query]:
+            for command in [b"where " + condition] * bool(where) + [b"query " + query for query in asked if query]:
                 refusal = self._refusal("", command)
                 if refusal.found:
                     raise refusal
             raise QueryRefusal("query column", b"query " + b" ".join(asked))
-        if status == 5:
-            raise Error("the text begins as data of another format do, as compressed ones")
-        if status:
-            raise MemoryRefusal("memory", _bytes(where))
-        return rows
+        return self._found(status, rows, condition)
+
+    def survey(self, text: Buffer, *, where: Text = "", fold: int = 1000) -> List[Surveyed]:
+        """What is in the lines of a text, whatever file is open: for each path and kind of value how many there are, as
+        `jpgrep --paths` lists it, in its order. With `where` only the lines count for which this condition holds. An object is
+        folded if it has more than `fold` names. Without the library the program jpgrep answers."""
+        condition, most = _query(where), max(0, min(int(fold), (1 << 64) - 1))
+        if isinstance(self._engine, _Library):
+            status, rows = self._of_text("jpq_survey", text, condition, len(condition), most)
+            if status == 3:
+                raise self._refusal("", b"where " + condition)
+            rows = self._found(status, rows, condition)
+        else:
+            rows = self._grep(text, condition, "--paths", "--fold", str(most), *[b"--where=" + condition] * bool(condition))
+        parts = (row.decode().split("\t") for row in rows.split(b"\n")[:-1])
+        return [Surveyed(None if lines == "-" else int(lines), int(nodes), path, kind) for lines, nodes, path, kind in parts]
+
+    def values(self, text: Buffer, units: str = "texts") -> Values:
+        """The values of a text that is not JSON Lines, one on each line, whatever file is open: its JSON "texts", one after another
+        over any number of lines, or the "elements" of those that are arrays; or of its "lines". What is refused is left out.
+        Without the library the program jpgrep answers."""
+        if units not in UNITS:
+            raise ValueError(f"there are no units that are called {units!r}")
+        number, words = UNITS[units]
+        if isinstance(self._engine, _Library):
+            refused = ctypes.c_uint64()
+            return Values(self._found(*self._of_text("jpq_values", text, number, refused), b""), refused.value)
+        return Values(self._grep(text, b"", *words, "$"), int(self._grep(text, b"", "--count", "--refused", *words)))
 
     def fault(self, text: Text, *, condition: bool = False) -> Optional[Fault]:
         """The first fault of a query, or of a condition; None where it has none."""
         engine = self._library()
         with self._lock:
             return engine.fault(_bytes(text), condition)
+
+    def patterns(self, text: Text, *, condition: bool = False) -> List[str]:
+        """The patterns of match and search in a query, or in a condition, that are not valid (RFC 9485) and so match nothing, in its
+        order. Only those are looked at that are written in it. Without the library the program jpgrep tells them, with control
+        characters escaped."""
+        given, word = _query(text), b"where " if condition else b"query "
+        if not isinstance(self._engine, _Library):
+            return self._warned(given, condition)
+        found: List[str] = []
+        while True:
+            with self._lock:
+                status, pattern = self._library().pattern(given, condition, len(found))
+            if status == 6:
+                return found
+            if status:
+                raise self._refusal("", word + given) if status == 3 else MemoryRefusal("memory", given)
+            found.append(pattern)
+
+    def _warned(self, text: bytes, condition: bool) -> List[str]:
+        """The patterns of which jpgrep warns."""
+        if self._is_closed:
+            raise ValueError("the log is closed")
+        option = b"--where=" if condition else b"--query="
+        try:
+            done = subprocess.run(["jpgrep", "--check", option + text], stdin=subprocess.DEVNULL, capture_output=True)
+        except FileNotFoundError:
+            raise Error("this call needs the library libjpq.so.0 or the program jpgrep") from None
+        if done.returncode == 2:
+            # jpq tells why a text is refused
+            if condition:
+                _Where(self, text)
+            else:
+                self.explain(text)
+            raise Error(done.stderr.decode(errors="replace"))
+        return [pattern.decode() for pattern in WARNED.findall(done.stderr)]
 
     def _selects(self, query: bytes, value: bytes) -> bool:
         """Whether a query selects anything in the array of a value, which has no children."""
@@ -725,6 +820,37 @@ class Log:
         if not isinstance(self._engine, _Library):
             raise Error("this call needs the library libjpq.so.0")
         return self._engine
+
+    def _of_text(self, call: str, text: Buffer, *given: Any) -> Tuple[int, bytes]:
+        """The status of a call of the library over a text, and what it kept to be read."""
+        engine = self._library()
+        with self._lock:
+            self._put_aside()
+            return engine.of_text(call, text, *given)
+
+    @staticmethod
+    def _found(status: int, rows: bytes, condition: bytes) -> bytes:
+        """What was found in a text, unless its status says that nothing was."""
+        if status == 5:
+            raise Error("the text begins as data of another format do, as compressed ones")
+        if status:
+            raise MemoryRefusal("memory", condition)
+        return rows
+
+    def _grep(self, text: Buffer, condition: bytes, *words: Union[str, bytes]) -> bytes:
+        """What jpgrep writes of a text."""
+        if self._is_closed:
+            raise ValueError("the log is closed")
+        try:
+            done = subprocess.run(["jpgrep", "-s", *words], input=bytes(text), capture_output=True)
+        except FileNotFoundError:
+            raise Error("this call needs the library libjpq.so.0 or the program jpgrep") from None
+        said = done.stderr.decode(errors="replace")
+        if condition and done.returncode == 2 and "out of memory" not in said:
+            _Where(self, condition)  # jpq tells why a condition is refused
+        if said and done.returncode == 2:
+            raise MemoryRefusal("memory", condition) if "out of memory" in said else Error(said)
+        return self._found(5 if done.returncode == 2 else 0, done.stdout, condition)
 
     def _put_aside(self) -> None:
         """Reads what is left of the answer before, as another takes its place."""

@@ -1,6 +1,6 @@
 -- Queries that are added one after another, and a text that was searched to its end.
-use Rattle.std.proofs.Common.{arith, append-nil, ◌≡◌, ◌∙◌, ◌+◌, ◌-◌, ◌<◌, ◌++◌, ◌∷◌, [], ℕ, zero, suc, List, Bool, true, false, append_assoc, ap, ap₂, get_or, inl, inr, length, map, subst, sym, take, Option, Some, None}
-use Rattle.std.specs.Prelude.{◌&&◌, ◌⊎◌, eqb, is_none, IfErr, IsErrAnd, MatchOption, Result, Ok, Err}
+use Rattle.std.proofs.Common.{arith, append-nil, ◌≡◌, ◌∙◌, ◌+◌, ◌-◌, ◌<◌, ◌++◌, ◌∷◌, [], ℕ, zero, suc, List, Bool, true, append_assoc, ap, ap₂, get_or, inl, inr, length, map, subst, sym, take, Option, Some, None}
+use Rattle.std.specs.Prelude.{◌&&◌, ◌⊎◌, is_none, IfErr, IsErrAnd, MatchOption, Result, Ok, Err}
 use Rattle.std.specs.Io.KnownBytes.{Consumes, IsAtEnd}
 use denote.Ref.{Bor}
 use Rattle.std.proofs.lemmas.Bool.{false≢true}
@@ -21,7 +21,9 @@ use Rattle.jp_grep.specs.declared.question.Question.{Question}
 use Rattle.jp_grep.proofs.Coming.{none_lost}
 use Rattle.jp_grep.proofs.SoFar.{whole_came, whole_kept}
 use Rattle.jp_model.specs.Query.Syntax.{Path}
-use Rattle.jp_c.specs.Asked.{AddsQueries, AreQueries, HasRefusedQuery, IsRefusedOrMemory, IsRefusedQuery}
+use Rattle.jp_c.specs.Asked.{AddsQueries, AreQueries, HasRefusedQuery, IsFound, IsRefusedOrMemory, IsRefusedQuery, form_of, found_by}
+use Rattle.jp_form.specs.declared.form.Units.{Units}
+use Rattle.jp_c.specs.declared.filter.Rows.{Rows}
 use Rattle.jp_c.specs.declared.question.FilterFault.{FilterFault}
 use Rattle.jp_c.specs.declared.question.FilterFault.TheVariants as faults
 
@@ -54,7 +56,7 @@ one_refused purpose (first ∷ texts) (suc n) d l h = inr (one_refused purpose t
 
 -- what is told of a part is told of the whole
 pub told_of_whole : (fault : FilterFault) (A B : Type 0) → (A → B) → IsRefusedOrMemory fault A → IsRefusedOrMemory fault B
-told_of_whole faults.Shown A B f h = absurd h
+told_of_whole faults.Number A B f h = absurd h
 told_of_whole faults.Question A B f h = f h
 told_of_whole faults.Format A B f h = absurd h
 told_of_whole faults.Read A B f h = absurd h
@@ -82,6 +84,11 @@ all_answered question form text came outcomes found whole fewer ends counts all 
     let ended = came_to_end came question form outcomes found whole fewer ends in
     none_lost question (form.most - 0) (items_come form.units came.ended came.bytes) outcomes (whole_came question form came outcomes found whole ends) (sym counts.given_up ∙ whole_kept question form found whole)
     ∙ ap₂ (λ (b : Bool) (bytes : List ℕ). answered_of question form 0 (items_come form.units b bytes)) ended (all ended)
+
+-- what is found in such a form
+pub found_with : (question : Question) (units : Units) (rows : Rows) (numbered : Bool) (name : Bor (List ℕ)) (form : Form) (text found : List ℕ) → form ≡ form_of name units rows numbered
+    → found ≡ found_by question form text → IsFound question units rows numbered text found
+found_with question units rows numbered name form text found is h = (name, h ∙ ap (λ (f : Form). found_by question f text) is)
 
 -- the error that a `?` hands on
 pub handed_on : {A E : Type 0} (Q : E → Type 0) (r : Result A E) (e : E) → IsErrAnd r (λ y. y ≡ e) → Q e → IfErr r Q

@@ -1,4 +1,6 @@
+mod Answering
 mod Asking
 mod Boxes
 mod Handles
 mod Telling
+mod Whole

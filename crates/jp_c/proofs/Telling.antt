@@ -10,8 +10,10 @@ use Rattle.jp_model.specs.Query.Syntax.{Logical, Segments}
 use Rattle.jp_query.proofs.Statuses.{one_tree}
 use Rattle.jp_query.specs.Conditions.{ConditionHasFault, RefusesCondition}
 use Rattle.jp_query.specs.Refusals.{IsConditionOf}
+use Rattle.jp_query.specs.declared.parser.places.FaultPlace.{FaultPlace}
+use Rattle.jp_query.specs.declared.reading.Refusal.TheVariants as refusals
 use Rattle.jp_syntax.specs.Filters.{filter_by, in_filter}
-use Rattle.jp_c.specs.Faults.{IsRefusedBy, IsTextRead}
+use Rattle.jp_c.specs.Faults.{IsRefusedBy, IsRefusedBySome, IsTextRead, Tells}
 
 no_status : (q : Segments) (fault : QueryFault) → query q ≡ refused_query fault → ⊥
 no_status q fault e = cc
@@ -38,3 +40,8 @@ condition_refused text l faults.Types h k = one_fault text l faults.Types h k
 pub read_not_refused : (is_condition : Bool) (text : List ℕ) (fault : QueryFault) → IsTextRead is_condition text → IsRefusedBy is_condition text fault → ⊥
 read_not_refused false text fault h k = no_status h.0 fault (sym h.1 ∙ k)
 read_not_refused true text fault h k = condition_refused text h.0 fault h.1 k
+
+-- a fault that is told is one
+pub told_refused : (is_condition : Bool) (text : List ℕ) (place : FaultPlace) → Tells is_condition text (refusals.Fault place) → IsRefusedBySome is_condition text
+told_refused false text place h = (place.fault, h.0)
+told_refused true text place h = (place.fault, h.0)

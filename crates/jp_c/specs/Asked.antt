@@ -21,7 +21,8 @@ use Rattle.jp_form.specs.declared.form.Spelling.TheVariants as spellings
 use Rattle.jp_form.specs.declared.form.Summary.TheVariants as summaries
 use Rattle.jp_form.specs.declared.form.Table.{Table}
 use Rattle.jp_form.specs.declared.form.Table.TheVariants as tables
-use Rattle.jp_form.specs.declared.form.Units.TheVariants as units
+use Rattle.jp_form.specs.declared.form.Units.{Units}
+use Rattle.jp_form.specs.declared.form.Units.TheVariants as unit
 use Rattle.jp_grep.specs.Conditions.{Condition, expression}
 use Rattle.jp_grep.specs.Formats.{format_of}
 use Rattle.jp_grep.specs.Items.{items_come}
@@ -127,12 +128,16 @@ filtered shows spelling = record { shown = shows; spelling = spelling; queries =
 abbrev pub columns : Table → Rows
 columns table = record { shown = shown.Cells table; spelling = spellings.Source; queries = purposes.Columns }
 
+-- the lines themselves
+abbrev pub line_rows : Rows
+line_rows = filtered (shown.Line false) spellings.Source
+
 -- what is shown, by its number: nothing; lines; paths and values; CSV; TSV; lines in canonical form; paths and values in it; values
 -- in it; values as they are spelled; values with strings as text
 abbrev pub all_rows : List Rows
 all_rows =
     filtered shown.Nothing spellings.Source
-    ∷ filtered (shown.Line false) spellings.Source
+    ∷ line_rows
     ∷ filtered (shown.Values true) spellings.Source
     ∷ columns tables.Commas
     ∷ columns tables.Tabs
@@ -147,10 +152,10 @@ all_rows =
 abbrev pub rows_of : ℕ → Option Rows
 rows_of number = slice_get all_rows number
 
--- how such rows are written of the lines of a text, with their numbers or without; no name stands in them
-abbrev pub form_of : Bor (List ℕ) → Rows → Bool → Form
-form_of name rows numbered = record {
-  units = units.Lines framings.Lines;
+-- how such rows are written of the units of a text, with their numbers or without; no name stands in them
+abbrev pub form_of : Bor (List ℕ) → Units → Rows → Bool → Form
+form_of name units rows numbered = record {
+  units = units;
   shown = rows.shown;
   spelling = rows.spelling;
   summary = summaries.Nothing;
@@ -162,18 +167,22 @@ form_of name rows numbered = record {
   most = 18446744073709551615;
 }
 
--- what is written of the lines of a text that answer a question
+-- lines, as units of a text
+abbrev pub of_lines : Units
+of_lines = unit.Lines framings.Lines
+
+-- what is written of the units of a text that answer a question
 abbrev pub found_by : Question → Form → List ℕ → List ℕ
 found_by question form text = output_from question form 1 (answered_of question form 0 (items_come form.units true text))
 
 -- such rows of them are found
-abbrev pub IsFound : Question → Rows → (numbered : Bool) → (text found : List ℕ) → Type 0
-IsFound question rows numbered text found = (name : Bor (List ℕ)) × (found ≡ found_by question (form_of name rows numbered) text)
+abbrev pub IsFound : Question → Units → Rows → (numbered : Bool) → (text found : List ℕ) → Type 0
+IsFound question units rows numbered text found = (name : Bor (List ℕ)) × (found ≡ found_by question (form_of name units rows numbered) text)
 
 -- The rows of the lines that answer what this condition and these queries ask.
 abbrev pub IsFiltered : (text condition queries : List ℕ) → Rows → (numbered : Bool) → (left : List ℕ) → Type 0
 IsFiltered text condition queries rows numbered left =
-    (question : Question) × Asks condition queries rows.queries question × IsFound question rows numbered text left
+    (question : Question) × Asks condition queries rows.queries question × IsFound question of_lines rows numbered text left
 
 -- the same for the number of what is shown
 abbrev pub IsFilteredBy : (text condition queries : List ℕ) → Option Rows → (numbered : Bool) → (left : List ℕ) → Type 0
@@ -198,12 +207,12 @@ IsRefusedFor condition queries (Some rows) = IsRefusedQuestion condition queries
 
 -- why nothing is found: no rows have the number, the question is refused, or the text is of another format, unless memory ran out
 abbrev pub TellsFilterFault : FilterFault → (text condition queries : List ℕ) → Option Rows → Type 0
-TellsFilterFault faults.Shown text condition queries rows = rows ≡ None
+TellsFilterFault faults.Number text condition queries rows = rows ≡ None
 TellsFilterFault faults.Question text condition queries rows = IsRefusedFor condition queries rows
 TellsFilterFault faults.Format text condition queries rows = IsForeign text
 TellsFilterFault faults.Read text condition queries rows = Unit {0}
 TellsFilterFault faults.Memory text condition queries rows = Unit {0}
 
--- where no rows have the number, that alone is told
-abbrev pub TellsNumberFirst : {A : Type 0} → Result A FilterFault → Option Rows → Type 0
-TellsNumberFirst result rows = rows ≡ None → MatchResult result (λ _. ⊥) (λ fault. fault ≡ faults.Shown)
+-- where nothing has the number, that alone is told
+abbrev pub TellsNumberFirst : {A B : Type 0} → Result A FilterFault → Option B → Type 0
+TellsNumberFirst result numbered = numbered ≡ None → MatchResult result (λ _. ⊥) (λ fault. fault ≡ faults.Number)

@@ -28,6 +28,12 @@ IsStatusOfRun status = (status ≡ 0) ⊎ (status ≡ 2) ⊎ (status ≡ 11) ⊎
 abbrev pub IsStatusOfFilter : ℕ → Type 0
 IsStatusOfFilter status = (status ≡ 0) ⊎ (status ≡ 1) ⊎ (status ≡ 2) ⊎ (status ≡ 3) ⊎ (status ≡ 5) ⊎ (status ≡ 11) ⊎ (status ≡ 16)
 
+abbrev pub IsStatusOfSurvey : ℕ → Type 0
+IsStatusOfSurvey status = (status ≡ 0) ⊎ (status ≡ 1) ⊎ (status ≡ 3) ⊎ (status ≡ 5) ⊎ (status ≡ 11) ⊎ (status ≡ 16)
+
+abbrev pub IsStatusOfValues : ℕ → Type 0
+IsStatusOfValues status = (status ≡ 0) ⊎ (status ≡ 1) ⊎ (status ≡ 2) ⊎ (status ≡ 5) ⊎ (status ≡ 11) ⊎ (status ≡ 16)
+
 abbrev pub IsStatusOfLine : ℕ → Type 0
 IsStatusOfLine status = (status ≡ 0) ⊎ (status ≡ 1) ⊎ (status ≡ 4) ⊎ (status ≡ 16)
 

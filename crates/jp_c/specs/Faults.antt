@@ -20,6 +20,10 @@ abbrev pub IsRefusedBy : (is_condition : Bool) → List ℕ → QueryFault → T
 IsRefusedBy false text fault = query_of text ≡ refused_query fault
 IsRefusedBy true text fault = RefusesCondition text fault
 
+-- some fault is
+abbrev pub IsRefusedBySome : (is_condition : Bool) → List ℕ → Type 0
+IsRefusedBySome is_condition text = (fault : QueryFault) × IsRefusedBy is_condition text fault
+
 -- what is told of it is that, and a place of the text, unless memory ran out
 abbrev pub Tells : (is_condition : Bool) → List ℕ → Refusal → Type 0
 Tells false text refusal = TellsRefusal text refusal

@@ -3,4 +3,7 @@ pub mod Calls
 pub mod Faults
 pub mod Lines
 pub mod Owned
+pub mod Patterns
 pub mod Sessions
+pub mod Surveyed
+pub mod Values

@@ -1,16 +1,13 @@
 //! A search over the lines of a text.
 
-ghost use Rattle.std.specs.Prelude.{◌≡◌, [], IfErr, IfOk, OnErr, OnOk};
-ghost use Rattle.jp_c.specs.Asked.{IsFilteredBy, IsFound, TellsFilterFault, TellsNumberFirst, TellsUnread, columns, filtered as filtered_rows, form_of, rows_of as rows_at};
+ghost use Rattle.std.specs.Prelude.{◌≡◌, [], IfErr, OnErr, OnOk};
+ghost use Rattle.jp_c.specs.Asked.{IsFilteredBy, TellsFilterFault, TellsNumberFirst, columns, filtered as filtered_rows, line_rows as rows_of_lines, rows_of as rows_at};
 ghost use Rattle.jp_c.specs.Sessions.{left_in};
 
 use crate::question::{FilterFault, question_of};
+use crate::searching::{find_rows, form_of};
 use crate::session::Session;
-use jp_grep::{
-    Form, Framing, Input, Queries, Question, SearchFault, Shown, Spelling, Summary, Table, Units,
-    search,
-};
-use jp_model::Watched;
+use jp_grep::{Framing, Queries, Shown, Spelling, Table, Units};
 use std::alloc::Global;
 
 /// What rows are written, and what the queries are for.
@@ -43,6 +40,13 @@ fn table(table: Table) -> Rows
     }
 }
 
+/// The lines themselves.
+pub(crate) fn line_rows() -> Rows
+    ensures { result ≡ rows_of_lines }
+{
+    filtered(Shown::Line { faults: false }, Spelling::Source)
+}
+
 /// The rows of a number.
 fn rows_of(number: u32) -> Option<Rows>
     ensures { result ≡ rows_at number }
@@ -67,60 +71,6 @@ fn rows_of(number: u32) -> Option<Rows>
     }
 }
 
-/// How such rows are written of the lines of a text, with their numbers or without.
-fn form_of<'a>(name: &'a str, rows: Rows, numbered: bool) -> Form<'a>
-    ensures { result ≡ form_of name.entry rows numbered }
-{
-    Form {
-        units: Units::Lines(Framing::Lines),
-        shown: rows.shown,
-        spelling: rows.spelling,
-        summary: Summary::Nothing,
-        name,
-        named: false,
-        null: false,
-        numbered,
-        silent: true,
-        most: u64::MAX,
-    }
-}
-
-/// The rows of the lines of a text that answer a question.
-fn find_rows(
-    alloc: Global,
-    question: &Question,
-    rows: Rows,
-    numbered: bool,
-    text: &[u8],
-) -> Result<Vec<u8>, FilterFault>
-    ensures found { IfOk result (λ found. IsFound question.now rows numbered text.now found.items) }
-    ensures fault { IfErr result (λ fault. TellsUnread fault text.now) }
-{
-    let form = form_of("", rows, numbered);
-    let mut input = Input::new(Watched::new(text));
-    let mut found = Watched::new(Vec::new(alloc));
-    let mut messages = Watched::new(Vec::new(alloc));
-    match search(
-        alloc,
-        question,
-        &form,
-        &mut input,
-        &mut found,
-        &mut messages,
-    ) {
-        Ok(came) => {
-            // The search ends before the text does only where as many lines are selected as are wanted.
-            if !came.is_whole() || came.counts.selected == form.most {
-                return Err(FilterFault::Memory);
-            }
-            Ok(found.into_inner())
-        }
-        Err(SearchFault::Read) => Err(FilterFault::Read),
-        Err(SearchFault::Foreign(_)) => Err(FilterFault::Format),
-        Err(_) => Err(FilterFault::Memory),
-    }
-}
-
 impl Session {
     /// Searches the lines of a text, and keeps the rows to be read.
     pub(crate) fn filter(
@@ -140,10 +90,11 @@ impl Session {
     {
         self.keep(Vec::new(alloc));
         let Some(rows) = rows_of(shown) else {
-            return Err(FilterFault::Shown);
+            return Err(FilterFault::Number);
         };
         let question = question_of(alloc, condition, queries, rows.queries)?;
-        let found = find_rows(alloc, &question, rows, numbered, text)?;
+        let form = form_of("", Units::Lines(Framing::Lines), rows, numbered);
+        let (found, _) = find_rows(alloc, &question, &form, text)?;
         self.keep(found);
         Ok(())
     }

@@ -8,17 +8,23 @@
 //! - `jpq_left`, `jpq_read`: how much of the answer is left, and its next bytes
 //! - `jpq_run`: a collection is loaded and a script run over it, in one call
 //! - `jpq_filter`: the rows of the lines of a text that answer a condition and queries
+//! - `jpq_survey`: what is in the lines of a text for which a condition holds
+//! - `jpq_values`: the values of a text that is not JSON Lines, one on each line
 //! - `jpq_line`, `jpq_marks`: a line of the collection; where the nodes that a query selects stand in it
 //! - `jpq_fault`: where a query or a condition goes wrong
+//! - `jpq_pattern`: the patterns of a query or a condition that match nothing, since they are not valid
 #![tactic(auto)]
 
 ghost use Rattle.std.specs.Prelude.{◌≡◌, ◌≢◌, ◌<◌, ◌≤◌, ◌⊎◌, [], false, true, length, Option, None, Some, IfSome};
 ghost use Rattle.jp_model.specs.Lines.{is_framed};
-ghost use Rattle.jp_c.specs.Asked.{IsFilteredBy, IsForeign, IsRefusedFor, rows_of};
-ghost use Rattle.jp_c.specs.Calls.{IsStatusOfAsk, IsStatusOfFilter, IsStatusOfLine, IsStatusOfMarks, IsStatusOfOpen, IsStatusOfRun, framing_of as framing_at, setup_of};
-ghost use Rattle.jp_c.specs.Faults.{IsStatusOfFault, IsTextRead, TellsFault};
+ghost use Rattle.jp_c.specs.Asked.{IsFilteredBy, IsForeign, IsRefusedCondition, IsRefusedFor, rows_of};
+ghost use Rattle.jp_c.specs.Calls.{IsStatusOfAsk, IsStatusOfFilter, IsStatusOfLine, IsStatusOfMarks, IsStatusOfOpen, IsStatusOfRun, IsStatusOfSurvey, IsStatusOfValues, framing_of as framing_at, setup_of};
+ghost use Rattle.jp_c.specs.Faults.{IsRefusedBySome, IsStatusOfFault, IsTextRead, TellsFault};
 ghost use Rattle.jp_c.specs.Lines.{AreMarkedIn, IsRefusedText, KeepsLines, line_of};
+ghost use Rattle.jp_c.specs.Patterns.{HasNoPattern, IsStatusOfPattern, TellsPattern};
 ghost use Rattle.jp_c.specs.Sessions.{HasAnswered, HasAnsweredFirst, IsOpened, IsRead, IsRun, IsRunInPart, KeepsCollection, left_of};
+ghost use Rattle.jp_c.specs.Surveyed.{IsSurveyed};
+ghost use Rattle.jp_c.specs.Values.{AreValues, units_of};
 
 mod answers;
 mod fault;
@@ -26,16 +32,22 @@ mod filter;
 mod handle;
 mod lines;
 mod parts;
+mod patterns;
 mod question;
+mod searching;
 mod session;
+mod survey;
+mod values;
 
 use fault::{fault_of, number_of, put_words};
 use handle::Jpq;
 use jp_cli::RunFault;
 use jp_lines::is_framed_text;
 use jp_model::{Framing, Watched};
+use jp_query::Refusal;
 use jp_store::{LoadFault, Store};
 use lines::ShowFault;
+use patterns::tell_pattern;
 use question::FilterFault;
 use session::Session;
 use std::alloc::Global;
@@ -46,7 +58,7 @@ const DONE: u32 = 0;
 /// The handle is not open.
 const SHUT: u32 = 1;
 
-/// The number of the framing, or of what is to be shown, is not one of those listed.
+/// The number of the framing, of what is to be shown, or of the units is not one of those listed.
 const NUMBER: u32 = 2;
 
 /// The condition or a query is refused.
@@ -57,6 +69,9 @@ const LINE: u32 = 4;
 
 /// The text begins with the mark of another format.
 const FORMAT: u32 = 5;
+
+/// There is no pattern of this number.
+const NONE: u32 = 6;
 
 /// A read failed, which no read of bytes in memory does.
 const READ: u32 = 11;
@@ -222,6 +237,35 @@ pub extern "C" fn jpq_fault(
     }
 }
 
+/// The literal pattern of `match` and `search` of a number, from 0, among those of a query, or of a condition where that is wanted,
+/// that are not valid I-Regexps (RFC 9485), and so match nothing (RFC 9535, sections 2.4.6 and 2.4.7). They count in the order in which
+/// they stand in the text. Its UTF-8 goes into the room, as far as that has room, and its whole length into `length`.
+///
+/// The status is 3 where the text is refused, 6 where there is no pattern of this number, and 16 where a growth was refused. Then
+/// both stay as they were.
+#[unsafe(no_mangle)]
+pub extern "C" fn jpq_pattern(
+    alloc: Global,
+    text: &[u8],
+    is_condition: bool,
+    number: u64,
+    length: &mut u64,
+    room: &mut [u8],
+) -> u32
+    ensures listed { IsStatusOfPattern result }
+    ensures told { result ≡ 0 → TellsPattern is_condition text.now number length.new room.old room.new }
+    ensures absent { result ≡ 6 → HasNoPattern is_condition text.now number }
+    ensures refused { result ≡ 3 → IsRefusedBySome is_condition text.now }
+    ensures same { 0 < result → (length.new ≡ length.old) × (room.new ≡ room.old) }
+{
+    match tell_pattern(alloc, text, is_condition, number, length, room) {
+        Ok(true) => DONE,
+        Ok(false) => NONE,
+        Err(Refusal::Fault(_)) => QUESTION,
+        Err(Refusal::Memory) => MEMORY,
+    }
+}
+
 /// Searches the lines of a text (JSON Lines) by a condition, unless it is empty, and by queries, one on each line that is not
 /// empty, and keeps the rows to be read. Without a query it is `$`. The collection stays as it is.
 ///
@@ -260,11 +304,93 @@ pub extern "C" fn jpq_filter(
     handle.put(session, alloc);
     match found {
         Ok(()) => DONE,
-        Err(FilterFault::Shown) => NUMBER,
+        Err(FilterFault::Number) => NUMBER,
         Err(FilterFault::Question) => QUESTION,
         Err(FilterFault::Format) => FORMAT,
         Err(FilterFault::Read) => READ,
         Err(FilterFault::Memory) => MEMORY,
+    }
+}
+
+/// Surveys the lines of a text (JSON Lines) for which a condition holds, or all that have a value where it is empty: keeps a row to
+/// be read for each path of the values of these lines and each kind of value there, with in how many of the lines there is one, how
+/// many there are, the path, and the kind, with tabs between them. The collection stays as it is.
+///
+/// An object with more than `fold` names at its path is folded: its members have the step `[**]` together, and a hyphen stands in
+/// place of how many lines.
+///
+/// The status is 1 where the handle is not open, 3 where the condition is refused, 5 where the text begins with the mark of another
+/// format, and 16 where a growth was refused. Then nothing is left to be read.
+#[unsafe(no_mangle)]
+pub extern "C" fn jpq_survey(
+    alloc: Global,
+    handle: &mut Jpq,
+    text: &[u8],
+    condition: &[u8],
+    fold: u64,
+) -> u32
+    ensures listed { IsStatusOfSurvey result }
+    ensures shut { handle.old.session ≡ None → result ≡ 1 }
+    ensures is_shut { result ≡ 1 → handle.old.session ≡ None }
+    ensures found { result ≡ 0 → IsSurveyed text.now condition.now fold (left_of handle.new.session) }
+    ensures refused { result ≡ 3 → IsRefusedCondition condition.now }
+    ensures foreign { result ≡ 5 → IsForeign text.now }
+    ensures nothing { 0 < result → left_of handle.new.session ≡ [] }
+    ensures collection { KeepsCollection handle.old.session handle.new.session }
+{
+    let Some(mut session) = handle.take(alloc) else {
+        return SHUT;
+    };
+    let found = session.survey(alloc, text, condition, fold);
+    handle.put(session, alloc);
+    match found {
+        Ok(()) => DONE,
+        Err(FilterFault::Question) => QUESTION,
+        Err(FilterFault::Format) => FORMAT,
+        Err(FilterFault::Read) => READ,
+        Err(_) => MEMORY,
+    }
+}
+
+/// Keeps the values of a text to be read, one on each line: of its lines (0), of the JSON texts in it, one after another (1), or of
+/// the elements of those that are arrays (2). What is refused is left out, and `refused` is how many are. The collection stays as
+/// it is.
+///
+/// The status is 1 where the handle is not open, 2 where `units` is none of these, 5 where the text begins with the mark of another
+/// format, and 16 where a growth was refused. Then nothing is left to be read, and `refused` stays as it was.
+#[unsafe(no_mangle)]
+pub extern "C" fn jpq_values(
+    alloc: Global,
+    handle: &mut Jpq,
+    text: &[u8],
+    units: u32,
+    refused: &mut u64,
+) -> u32
+    ensures listed { IsStatusOfValues result }
+    ensures shut { handle.old.session ≡ None → result ≡ 1 }
+    ensures is_shut { result ≡ 1 → handle.old.session ≡ None }
+    ensures number { handle.old.session ≢ None → units_of units ≡ None → result ≡ 2 }
+    ensures no_number { result ≡ 2 → units_of units ≡ None }
+    ensures found { result ≡ 0 → AreValues text.now (units_of units) (left_of handle.new.session) refused.new }
+    ensures foreign { result ≡ 5 → IsForeign text.now }
+    ensures nothing { 0 < result → left_of handle.new.session ≡ [] }
+    ensures same { 0 < result → refused.new ≡ refused.old }
+    ensures collection { KeepsCollection handle.old.session handle.new.session }
+{
+    let Some(mut session) = handle.take(alloc) else {
+        return SHUT;
+    };
+    let found = session.values(alloc, text, units);
+    handle.put(session, alloc);
+    match found {
+        Ok(count) => {
+            *refused = count;
+            DONE
+        }
+        Err(FilterFault::Number) => NUMBER,
+        Err(FilterFault::Format) => FORMAT,
+        Err(FilterFault::Read) => READ,
+        Err(_) => MEMORY,
     }
 }
 

@@ -12,8 +12,8 @@ use std::alloc::{AllocError, Global};
 /// Why a text is not searched.
 #[derive(Clone, Copy, Debug, PartialEq, Eq)]
 pub enum FilterFault {
-    /// The number of what is to be shown is not one of those listed.
-    Shown,
+    /// The number of what is to be shown, or of the units, is not one of those listed.
+    Number,
     /// The condition or a query is refused.
     Question,
     /// The text begins with the mark of another format.

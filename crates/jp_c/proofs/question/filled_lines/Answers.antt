@@ -1,5 +1,5 @@
 -- The lines so far are those of the pieces so far that are not empty.
-use Rattle.std.proofs.Common.{rules, tests, ◌≡◌, ◌∙◌, ℕ, ◌+◌, ◌<◌, ◌==◌, eqb, Bool, true, false, List, [], ◌∷◌, ◌++◌, append_assoc, append-nil, get_or, length, drop, map, refl, sym, ap, arith}
+use Rattle.std.proofs.Common.{rules, tests, ◌≡◌, ◌∙◌, ℕ, ◌+◌, ◌<◌, ◌==◌, Bool, true, false, List, [], ◌∷◌, ◌++◌, append_assoc, append-nil, get_or, length, drop, map, refl, sym, ap, arith}
 use denote.Ref.{Bor}
 use Rattle.std.proofs.lemmas.Bool.{false≢true, ne_eqb}
 use Rattle.std.proofs.lemmas.Iterator.Splits.{YieldsList-from_slice_split}

@@ -1,0 +1,81 @@
+//! A text that is searched.
+
+ghost use Rattle.std.specs.Prelude.{◌≡◌, IfErr, IfOk, false, true};
+ghost use Rattle.jp_devices.specs.Devices.{Received};
+ghost use Rattle.jp_form.specs.declared.form.Summary.TheVariants.{Nothing};
+ghost use Rattle.jp_grep.specs.Items.{items_come};
+ghost use Rattle.jp_grep.specs.Rows.{refused_count};
+ghost use Rattle.jp_c.specs.Asked.{TellsUnread, form_of as form_with, found_by};
+
+use crate::filter::Rows;
+use crate::question::FilterFault;
+use jp_grep::{Form, Input, Question, SearchFault, Summary, Units, search};
+use jp_model::Watched;
+use std::alloc::Global;
+use std::io::Write;
+
+/// How such rows are written of the units of a text, with their numbers or without.
+pub(crate) fn form_of<'a>(name: &'a str, units: Units, rows: Rows, numbered: bool) -> Form<'a>
+    ensures { result ≡ form_with name.entry units rows numbered }
+{
+    Form {
+        units,
+        shown: rows.shown,
+        spelling: rows.spelling,
+        summary: Summary::Nothing,
+        name,
+        named: false,
+        null: false,
+        numbered,
+        silent: true,
+        most: u64::MAX,
+    }
+}
+
+/// Writes the rows of a text that answer a question, and gives how many of its units are refused. The writer fails for want of memory
+/// alone.
+pub(crate) fn search_text<W: Write>(
+    alloc: Global,
+    question: &Question,
+    form: &Form<'_>,
+    text: &[u8],
+    out: &mut Watched<W>,
+) -> Result<u64, FilterFault>
+    requires writes { out.old.failed ≡ false }
+    requires summary { form.now.summary ≡ Nothing }
+    ensures found { IfOk result (λ refused. Received W.contents out.old out.new (found_by question.now form.now text.now)) }
+    ensures refused { IfOk result (λ refused. refused ≡ refused_count (items_come form.now.units true text.now)) }
+    ensures fault { IfErr result (λ fault. TellsUnread fault text.now) }
+{
+    let mut input = Input::new(Watched::new(text));
+    let mut messages = Watched::new(Vec::new(alloc));
+    match search(alloc, question, form, &mut input, out, &mut messages) {
+        Ok(came) => {
+            // The search ends before the text does only where as many lines are selected as are wanted.
+            if !came.is_whole() || came.counts.selected == form.most {
+                return Err(FilterFault::Memory);
+            }
+            Ok(came.counts.refused)
+        }
+        Err(SearchFault::Read) => Err(FilterFault::Read),
+        Err(SearchFault::Foreign(_)) => Err(FilterFault::Format),
+        Err(_) => Err(FilterFault::Memory),
+    }
+}
+
+/// The rows of a text that answer a question, and how many of its units are refused.
+pub(crate) fn find_rows(
+    alloc: Global,
+    question: &Question,
+    form: &Form<'_>,
+    text: &[u8],
+) -> Result<(Vec<u8>, u64), FilterFault>
+    requires { form.now.summary ≡ Nothing }
+    ensures found { IfOk result (λ found. found.0.items ≡ found_by question.now form.now text.now) }
+    ensures refused { IfOk result (λ found. found.1 ≡ refused_count (items_come form.now.units true text.now)) }
+    ensures fault { IfErr result (λ fault. TellsUnread fault text.now) }
+{
+    let mut rows = Watched::new(Vec::new(alloc));
+    let refused = search_text(alloc, question, form, text, &mut rows)?;
+    Ok((rows.into_inner(), refused))
+}

@@ -1,0 +1,2 @@
+-- What the contracts of patterns speak of.
+pub mod Patterns
