@@ -39,6 +39,27 @@ TABLES = [
     ("", ["$.message", "$.level", "$['a,b']"]),
     ("@.order", ["$.order", "$.order.items[0].title"]),
 ]
+# Texts over several lines, what the page proposes for each, and whether each value of it is accepted.
+DOCUMENTS = [
+    ('\n{"a": [1, "]}",\n2]}\n', "json", True),
+    ('\ufeff{\r\n  "a": "\\"{",\r\n  "b": [true, {"c": 1.50}]\r\n}\r\n{"a": 2} "x" 5\n', "json", True),
+    ('{"a": [\n{"b": 1, "b": 2}]} {"c":\n3}\n[4] {"d"\n5}\n{"e": "é"}\n', "json", False),
+    ('[\n  {"id": 1, "at": [5]},\n  {"id": 2}, [3,\n4], "y"\n]\n{"id": 6}\n', "elements", True),
+    ('[{"id": 1},\n{"id": 1, "id": 2}, x]\n[7]\n', "elements", False),
+    (' [{"id": 1}, {"id": 2}]', "elements", True),
+    ('[1]\n[2]\n', "", True),
+    ('{"a": 1}\n{"b": [\n', "", False),
+    ('{"a": 1, "a": [2]}\n{}\n', "", False),
+    ("{\"a\": [", "", False),
+    ("5", "", True),
+]
+PATTERNS = [
+    ("query", r"$[?match(@.a, '\\d+') || search(@.b, 'x|(')]"),
+    ("query", r'$..[?search(@, "\u00e9(\t\n\u0001\u0085")][?match(@, "[")]'),
+    ("query", "$[?match(@.a, '[0-9]+')]"),
+    ("where", "search(@.a, '{') && !match(@.b, 'x{2,1}')"),
+    ("where", "@.a == '('"),
+]
 # Beside those of the worked examples: a fault of each kind.
 FAULTS = [
     ("query", "$.message["),

@@ -28,6 +28,13 @@ def run_whole(trial, url):
     for where, columns in TABLES:
         trial.table(where, columns)
     trial.commands()
+    trial.patterns()
+    trial.paths()
+    trial.paths(CONDITIONS[1][0])
+    trial.chosen()
+    trial.folded()
+    trial.documents()
+    trial.load(TOP / "examples/log.jsonl")
     for which, text in FAULTS:
         trial.fault(which, text)
     for which, name in (("query", "places.examples"), ("where", "conditions.examples")):
@@ -43,6 +50,8 @@ def run_whole(trial, url):
     for where, query in CONDITIONS:
         trial.question(query, where)
     trial.table("@.order.total > 200", ["$.order.id", "$.order.user.name", "$.order.items"])
+    trial.survey("")
+    trial.survey(CONDITIONS[5][0])
     trial.deep()
     trial.trap()
     trial.foreign()
@@ -65,6 +74,8 @@ def main(page, jpq, jpgrep, few):
             if few:
                 for query in QUERIES[:5]:
                     trial.question(query)
+                trial.patterns()
+                trial.survey("")
                 trial.silence(url)
             else:
                 run_whole(trial, url)

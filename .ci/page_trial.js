@@ -39,6 +39,33 @@ const trial = {
     select('table');
     until(() => state.table && { ...state.table }, done);
   },
+  // The rows of the survey, all of them.
+  surveyed(where, done) {
+    const { list } = heard, isAll = it => it.view === 'paths' && it.items.length === state.paths?.rows;
+    $('query').value = '';
+    $('where').value = where;
+    ask();
+    select('paths');
+    heard.list = it => {
+      list(it);
+      if (!isAll(it)) return;
+      heard.list = list;
+      done(it.items.map(row => row.join('\t') + '\n').join(''));
+    };
+    until(() => state.paths, () => wants('paths')(0, state.paths.rows));
+  },
+  // Opens a file anew with a switch changed, by whatever is clicked.
+  switched(id, done) {
+    state.opened = state.answered = null;
+    $(id).click();
+    trial.loaded(done);
+  },
+  // Waits until so many paths are shown.
+  pathsMade(count, done) {
+    until(() => state.paths?.rows === count && !$('paths').classList.contains('stale'), () => done(1));
+  },
+  // The queries that the paths of the survey stand for.
+  queries: (paths, done) => done(paths.map(queryOf)),
   // What the rows of a view show that are in the document.
   shown(view, done) {
     const marksOf = row => [...row.querySelectorAll('mark')].filter(it => !it.querySelector('.cut'));
@@ -47,6 +74,7 @@ const trial = {
       values: row => [[textOf(row, '.n'), textOf(row, '.path'), textOf(row, '.t')]],
       table: row => [[...row.querySelectorAll('.n, .cell')].map(it => it.textContent)],
       refused: row => [[textOf(row, '.n'), textOf(row, 'code')]],
+      paths: row => [[...[...row.querySelectorAll('span')].map(it => it.textContent), row.querySelector('.path').title]],
     }[view];
     select(view);
     until(() => rowsIn(view).length || document.querySelector(`#${view} .empty`),

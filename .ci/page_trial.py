@@ -11,7 +11,7 @@ import subprocess
 import threading
 import time
 
-from page_data import CONDITIONS, write_orders
+from page_data import CONDITIONS, DOCUMENTS, PATTERNS, write_orders
 
 TOP = pathlib.Path(__file__).resolve().parent.parent
 SCRIPT = (TOP / ".ci/page_trial.js").read_text(encoding="utf-8")
@@ -26,6 +26,11 @@ def digest(data):
 
 def output(*words):
     return subprocess.run(words, stdin=subprocess.DEVNULL, capture_output=True).stdout
+
+
+def refused_count(*words):
+    """How many texts or elements are refused."""
+    return int(output(*words, "--refused", "-c"))
 
 
 def items_of(rows, separator):
@@ -185,6 +190,116 @@ class Trial:
         self.check("command of refused lines", self.browser.js("return $('command').textContent"), wanted)
         self.browser.js("select('lines')")
 
+    def documents(self):
+        """Texts that are not JSON Lines: what is proposed, and what is opened, shown and said with each switch."""
+        for at, (text, proposed, is_valid) in enumerate(DOCUMENTS):
+            path = pathlib.Path(self.room, f"document{at}.json")
+            path.write_bytes(text.encode())
+            self.check(f"proposed for {text}", self.load(path)["proposed"], proposed)
+            for option in filter(None, dict.fromkeys([proposed, "json", "elements"])):
+                opened = self.done("switched", "propose" if option == proposed else option)
+                self.units(text, option, opened, is_valid)
+            self.done("switched", option)
+        self.done("switched", "json")
+        self.check("several texts that are pasted", self.done("pasted", '{"a":\n1} [\n2]'), "2 lines, 0 refused, 0 blank")
+        self.check("several that are dropped", self.done("dropped", "[1,\n2] 3 {\n}"), "3 lines, 0 refused, 0 blank")
+        self.done("switched", "json")
+        self.check("the switches", self.browser.js("return [$('json').checked, $('elements').checked]"), [False, False])
+
+    def units(self, text, option, opened, is_valid):
+        """Compares what is opened of a text with what jpgrep finds by the same option."""
+        name, words = f"{text} with {option}", [self.jpgrep, f"--{option}"]
+        refused = refused_count(*words, self.file)
+        self.check(f"refused of {name}", [opened["units"], opened["leftOut"], opened["refused"]], [option, refused, []])
+        lines = output(*words, "-s", "$", self.file)
+        count = lines.count(b"\n")
+        self.check(f"count of {name}", opened["summary"], f"{count} lines, 0 refused, 0 blank")
+        unit = ("text" if option == "json" else "element") + ("s" if count != 1 else "")
+        told, refused_shown = self.browser.js("return [$('told').textContent, $('refusedCount').textContent]")
+        self.check(f"told of {name}", [f", {count} {unit}, {refused} refused," in told, refused_shown], [True, str(refused)])
+        self.ask("")
+        self.is_saved(name, "lines", f"--{option}", "$", self.file)
+        self.ask("$..*", "!@.z")
+        if is_valid and not refused:
+            rows = output(*words, "-s", "-n", "-op", "-w", "!@.z", "-e", "$..*", self.file)
+            self.check(f"rows of {name}", self.done("saved", "rows"), digest(rows))
+        self.survey("", f"--{option}")
+        for view, shown in (("lines", "-s -w '!@.z' -e '$..*'"), ("paths", "-s --paths -w '!@.z'"), ("refused", "--refused")):
+            self.browser.js("$('where').value = '!@.z'; $('query').value = '$..*'; select(arguments[0])", view)
+            command = self.browser.js("return $('command').textContent")
+            self.check(f"command of {view}", command, f"jpgrep --{option} {shown} {os.path.basename(self.file)}")
+        self.browser.js("$('where').value = ''; $('query').value = ''; select('lines')")
+
+    def survey(self, where, *options):
+        """Compares the paths that are shown with those of jpgrep."""
+        name = f"paths where {where} of {os.path.basename(self.file)} {' '.join(options)}"
+        rows = output(self.jpgrep, *options, "-s", "--paths", *([f"--where={where}"] if where else []), self.file).decode()
+        self.check(name, self.done("surveyed", where), rows)
+        parted = [row.split("\t") for row in rows.split("\n")[:-1]]
+        shown = self.done("shown", "paths")
+        wanted = [[kind, lines, count, path] for lines, count, path, kind in parted[: len(shown)]]
+        self.check(f"shown of {name}", [shown, bool(shown)], [wanted, bool(rows)])
+        self.browser.js("select('lines')")
+        return parted
+
+    def paths(self, where=""):
+        """Asks each path of a survey as a query, which selects as many values as the survey counts."""
+        counts = {}
+        for _, count, path, _ in self.survey(where):
+            counts[path] = counts.get(path, 0) + int(count)
+        for path, query in zip(counts, self.done("queries", list(counts))):
+            self.check(f"values at {path} where {where}", self.ask(query, where)["values"], counts[path])
+
+    def folded(self):
+        """The path of an object that is folded selects all its members, and one with such a name itself alone."""
+        path = pathlib.Path(self.room, "folded.jsonl")
+        stock = {f"sku{number}": {"n": number, "it's [**]\n\t": []} for number in range(1001)}
+        path.write_text("".join(json.dumps(it) + "\n" for it in ({"stock": stock}, {"a": {"[**]": [1, {"\\'": None}]}})))
+        self.load(path)
+        self.paths()
+        self.check("a folded path", self.done("queries", ["$['stock'][**]['[**]'][*]"]), ["$['stock'][*]['[**]'][*]"])
+
+    def chosen(self):
+        """Takes paths by a click and by the keys. They are found anew where the condition or the file changes."""
+        self.load(TOP / "examples/log.jsonl")
+        self.done("surveyed", "")
+        self.browser.js("select('paths')")
+        self.browser.click("#paths .row:nth-child(5) .path")
+        chosen = "return [$('query').value, state.view, state.paths !== null, document.activeElement.ariaLabel]"
+        path = "$['mail']['attempts'][*]"
+        self.check("a path that is clicked", self.browser.js(chosen)[:3], [path, "paths", True])
+        self.check("its values", self.done("asked", path, "")["values"], 24)
+        self.browser.keys("#query", "\ue015")  # arrow down
+        self.done("press", "ArrowDown")
+        self.done("press", "Enter")
+        label = "$['level'], string: in lines: 191, values: 191"
+        self.check("a path by the keys", self.browser.js(chosen), ["$['level']", "paths", True, label])
+        self.browser.keys("#where", "@.order")
+        rows = output(self.jpgrep, "-s", "--paths", "-w", "@.order", self.file).decode().split("\n")
+        self.done("pathsMade", len(rows) - 1)
+        self.browser.keys("#where", " ==")
+        self.check("a condition that is refused", "faults" in self.done("asked", "$", "@.order =="), True)
+        said = self.browser.js("return [state.paths, $('paths').classList.contains('stale')]")
+        self.check("paths of a condition that is refused", said, [None, True])
+        self.check("paths of the condition before", self.done("surveyed", "@.order"), "\n".join(rows))
+        path = pathlib.Path(self.room, "few.jsonl")
+        path.write_text('{"order":[1]}\n{"a":2}\n')
+        self.browser.js("select('paths')")
+        self.load(path)
+        self.done("pathsMade", 3)
+        self.browser.js("$('where').value = ''; select('lines')")
+
+    def patterns(self):
+        """Compares what is said of patterns that are not valid with what jpgrep says."""
+        for which, text in PATTERNS:
+            self.ask(*((text, "") if which == "query" else ("", text)))
+            told = subprocess.run([self.jpgrep, "--check", f"--{which}={text}"], capture_output=True).stderr.decode()
+            told = "".join(f"{it}\n" for it in told.split("\n") if " I-Regexp " in it)
+            said = "return [...$(arguments[0] + 'Fault').querySelectorAll('.warning')].map(it => it.textContent)"
+            self.check(f"patterns of {text}", "".join(f"jpgrep: {it}\n" for it in self.browser.js(said, which)), told)
+        self.ask("", "")
+        self.check("no warnings", self.browser.js("return document.querySelectorAll('.warning').length"), 0)
+
     def downloads(self, url):
         """Clicks on forms of the menu, and looks at the files."""
         self.browser.go("about:blank")
@@ -218,6 +333,10 @@ class Trial:
             rows = output(self.jpq, path, "-c", f"query {query}")
             self.check(f"rows of {query[:20]}", self.done("saved", "rows"), digest(rows))
             self.is_saved(query[:20], "canonical", "-o", "-j", query, path)
+        self.survey("")
+        for option in ("json", "elements"):
+            self.units("deep values", option, self.done("switched", option), False)
+        self.done("switched", "elements")
         self.check("too many brackets", "faults" in self.ask("$" + "[0]" * 513), True)
 
     def trap(self):
@@ -243,16 +362,23 @@ class Trial:
         path = pathlib.Path(self.room, "packed.jsonl")
         path.write_bytes(b"\x1f\x8b\x08\0" + bytes(range(256)) * 40)
         self.check("a file that is packed is told as that", self.load(path)["isForeign"], True)
+        for option in ("json", "elements"):
+            opened = self.done("switched", option)
+            self.check(f"a packed file with {option}", [opened[it] for it in ("isForeign", "units")], [True, ""])
+        self.done("switched", "elements")
+        self.check("no paths of a packed file", self.done("surveyed", ""), "")
+        self.browser.js("select('lines')")
         query = self.browser.js("return question().query || '$'")
         rows = output(self.jpq, path, "-c", f"query {query}")
         self.check("rows of a file that is packed", self.done("saved", "rows"), digest(rows))
         path = pathlib.Path(self.room, "document.json")
         path.write_text('\n{"a": [1, "]}",\n2]}\n')
-        self.check("a document is told as that", self.load(path)["isDocument"], True)
+        self.check("a document is told as that", self.load(path)["proposed"], "json")
         path = pathlib.Path(self.room, "empty.jsonl")
         path.write_bytes(b"")
         opened = self.load(path)
-        self.check("an empty file", [opened["isForeign"], opened["isDocument"]], [False, False])
+        self.check("an empty file", [opened["isForeign"], opened["proposed"]], [False, ""])
+        self.survey("")
 
     def scroll(self, count):
         """Many rows. Few of them are in the document."""
@@ -326,3 +452,13 @@ class Trial:
         memory = f"{answer['memory'] / 1e6:.0f} MB of memory"
         print(f"page: 40 MB: {times}; {memory}; letters are shown after {min(latest):.0f} ms at most")
         self.check("letters are shown in time", min(latest) <= LATEST, True)
+        latest = []
+        while len(latest) < 3 and min(latest, default=LATEST + 1) > LATEST:
+            self.browser.js("clearPaths(); window.delays = []; select('paths')")
+            while not self.browser.js("return state.paths"):
+                self.browser.keys("#query", "$.total"[: 1 + random.randrange(7)])
+            latest.append(self.browser.js("return Math.max(0, ...delays)"))
+        made = self.browser.js("return state.paths.ms")
+        print(f"page: 40 MB: paths in {made:.0f} ms; letters are shown after {min(latest):.0f} ms at most")
+        self.check("letters are shown in time while paths are made", min(latest) <= LATEST, True)
+        self.browser.js("select('lines')")

@@ -151,6 +151,17 @@ function valuesFrom(from, count, shown) {
 
 const cellOf = it => it.replace(/\\(.)/g, (_, c) => ({ t: '\t', n: '\n', r: '\r' })[c] || c);
 
+// Where each row of some bytes begins, and the end of the last.
+function placesOf(bytes) {
+  let places = new Float64Array(1025), rows = 0;
+  for (let at = 0; at < bytes.length;) {
+    at = bytes.indexOf(10, at) + 1;
+    if (++rows === places.length) { const more = new Float64Array(2 * rows); more.set(places); places = more; }
+    places[rows] = at;
+  }
+  return { bytes, places, rows };
+}
+
 // Rows of the table, whose cells have tabs between them.
 function cellsFrom(from, count) {
   const items = [];
@@ -162,8 +173,13 @@ function cellsFrom(from, count) {
   return items;
 }
 
+// Rows of the survey: in how many lines, how many, path and kind.
+const pathsFrom = (from, count) => Array.from({ length: Math.min(count, survey.rows - from) }, (_, i) =>
+  decoder.decode(survey.bytes.subarray(survey.places[from + i], survey.places[from + i + 1] - 1)).split('\t'));
+
 const LISTS = {
   lines: (from, most, how) => Array.from({ length: Math.min(most, answer.lines - from) }, (_, i) => lineOf(from + i, how.most)),
   values: (from, count, { spelling }) => valuesFrom(from, count, spelling === 'spelled' ? 0 : SHOWN[spelling]),
   table: cellsFrom,
+  paths: pathsFrom,
 };

@@ -1,5 +1,5 @@
 // The engine in a worker: the module, the file that it holds, and its calls, which are those of c/jpq.h.
-const DONE = 0, MEMORY = 16, FORMAT = 5;
+const DONE = 0, MEMORY = 16, FORMAT = 5, NONE = 6;
 const WORDS = {
   1: 'the handle is not open', 3: 'the query, the condition or a column is refused',
   5: 'the file begins with the mark of another format', 11: 'cannot read', 12: 'the file has 4 GiB or more', 14: 'the script is too large', 16: 'out of memory',
@@ -7,9 +7,13 @@ const WORDS = {
 // What jpq_filter writes of what matches.
 const SHOWN = { lines: 1, rows: 2, csv: 3, tsv: 4, canonicalLines: 5, canonical: 7, values: 8, text: 9 };
 const PIECE = 1 << 20; // bytes of an answer that are read at once
+const UNITS = { json: 1, elements: 2 }; // what jpq_values takes for a value
+const FOLD = 1000n; // names of an object in a survey, as jpgrep takes it
+const MOST_PATTERNS = 20;
 const utf8 = new TextEncoder(), decoder = new TextDecoder('utf-8', { ignoreBOM: true });
 let compiled, engine, handle = 0n, room = 0n, depth = 512;
-let file = 0n, size = 0, answer = null, table = null, latest = 0;
+let file = 0n, size = 0, answer = null, table = null, survey = null;
+const latest = {};
 
 const memory = () => new Uint8Array(engine.memory.buffer);
 
@@ -61,6 +65,11 @@ const ask = script => expectDone(withTexts([script], (at, n) => engine.jpq_ask(h
 function filterAt(at, length, where, queries, shown, numbered) {
   const isNumbered = numbered ? 1 : 0;
   return withTexts([where, queries], (...texts) => engine.jpq_filter(handle, at, BigInt(length), ...texts, shown, isNumbered));
+}
+
+// Surveys such a text.
+function surveyAt(at, length, where) {
+  return withTexts([where], (...text) => engine.jpq_survey(handle, at, BigInt(length), ...text, FOLD));
 }
 
 const filter = (where, queries, shown, numbered) => expectDone(filterAt(file, size, where, queries, shown, numbered));
@@ -117,6 +126,45 @@ function faultOf(text, isCondition) {
   return { fault: found.fault, expected: found.expected, place: before.length };
 }
 
+// The patterns of a query or a condition that are not valid, and so match nothing: the first of them.
+function patternsOf(text, isCondition) {
+  const found = [], most = utf8.encode(text).length, told = take(8 + most), at = Number(told);
+  const which = isCondition ? 1 : 0, room = BigInt(most);
+  const call = (at, n) => engine.jpq_pattern(at, n, which, BigInt(found.length), told, told + 8n, room);
+  try {
+    while (found.length < MOST_PATTERNS) {
+      const status = withTexts([text], call);
+      if (status === NONE) break;
+      expectDone(status);
+      const count = Number(new DataView(engine.memory.buffer).getBigUint64(at, true));
+      found.push(decoder.decode(memory().slice(at + 8, at + 8 + count)));
+    }
+    return found;
+  } finally {
+    engine.page_free(told);
+  }
+}
+
+// Has the file's lines be the values of its texts, and answers how many texts or elements are left out, as they are refused; or
+// null, with the file as it is, where it begins like one of another format.
+function takeValues(units) {
+  const told = take(8);
+  try {
+    expectDone(engine.jpq_open(file, 0n, 0, -1, handle));
+    const status = engine.jpq_values(handle, file, BigInt(size), units, told);
+    if (status === FORMAT) return null;
+    expectDone(status);
+    const refused = Number(new DataView(engine.memory.buffer).getBigUint64(Number(told), true));
+    engine.page_free(file);
+    [file, size] = [0n, Number(engine.jpq_left(handle))];
+    file = take(size);
+    engine.jpq_read(handle, file, BigInt(size));
+    return refused;
+  } finally {
+    engine.page_free(told);
+  }
+}
+
 // How many brackets may nest: the parser calls itself for each, and a browser's stack is small. Each try has an instance of its
 // own, as one that ran out of stack is not called again. A third is left for what compiles otherwise later.
 async function findDepth() {
@@ -131,6 +179,8 @@ async function findDepth() {
       for (const condition of forms.map(it => it(n))) {
         ask(`query $[?${condition}]`);
         expectDone(filterAt(text, 1024, condition, '$', SHOWN.rows, false));
+        expectDone(surveyAt(text, 1024, condition));
+        patternsOf(condition, true);
       }
       return true;
     } catch (fault) {

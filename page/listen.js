@@ -66,6 +66,17 @@ function listenToPasting() {
   });
 }
 
+// One of the two switches is on at most. What is open is opened anew.
+function listenToUnits() {
+  for (const [id, other] of [['json', 'elements'], ['elements', 'json']]) {
+    $(id).onchange = () => {
+      if ($(id).checked) $(other).checked = false;
+      showCommand();
+      if (blob) openFile(blob, name);
+    };
+  }
+}
+
 function listenToFiles() {
   $('choose').onclick = () => $('file').click();
   $('file').onchange = () => { const [file] = $('file').files; if (file) openFile(file, file.name); $('file').value = ''; };
@@ -128,10 +139,12 @@ function stepMark(row, step) {
   if (to === row) hideTip();
 }
 
+const pathIn = it => it.dataset.path || it.textContent;
+
 // The path of what was clicked becomes the query, where it has one.
 function takeClicked(event) {
   const it = event.target.closest('mark, button.path');
-  if (it) takePath(it.dataset.path || it.textContent);
+  if (it) takePath(pathIn(it));
   return Boolean(it);
 }
 
@@ -141,15 +154,15 @@ function pressedInRow(event, view) {
   event.preventDefault();
   if (step) stepMark(row, step);
   else if (event.target.matches('mark')) takePath(event.target.dataset.path);
-  else if (view === 'values') takePath(row.querySelector('.path').textContent);
+  else if (view === 'values' || view === 'paths') takePath(pathIn(row.querySelector('.path')));
   else openRow(row);
 }
 
 function listenToRows() {
-  for (const view of ['lines', 'values', 'refused']) {
+  for (const view of ['lines', 'values', 'paths', 'refused']) {
     $(view).onclick = event => {
       const row = event.target.closest('.row');
-      if (!takeClicked(event) && row && view !== 'values') openRow(row);
+      if (!takeClicked(event) && row && (view === 'lines' || view === 'refused')) openRow(row);
     };
     $(view).addEventListener('keydown', event => pressedInRow(event, view));
   }
@@ -194,13 +207,13 @@ function listenToWidth() {
 }
 
 async function begin() {
-  const parts = [listenToQuestion, listenToPasting, listenToFiles, listenToTabs, listenToBar, listenToRows, listenToKeys];
-  for (const listen of [...parts, listenToWidth]) listen();
+  const parts = [listenToQuestion, listenToPasting, listenToFiles, listenToUnits, listenToTabs, listenToBar, listenToRows];
+  for (const listen of [...parts, listenToKeys, listenToWidth]) listen();
   addEventListener('hashchange', () => { readLink(); ask(); });
   readLink();
   showCommand();
   try {
-    wasm = await unpack('wasm');
+    [script, wasm] = await Promise.all([unpack('engine'), unpack('wasm')]);
     startWorker();
   } catch (fault) {
     tellUnable(fault.message);

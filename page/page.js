@@ -1,18 +1,21 @@
 // The page: what is typed and clicked goes to the worker as questions, and what the worker answers is shown.
 const FOREIGN = 'This begins like gzip, zstd, xz, zip or bzip2 data, or like UTF-16: unpack or recode it first.';
-const DOCUMENT = 'The first line goes on in the next one: jpgrep --json and --elements make JSON Lines of such a file.';
+const LEFT_OUT = 'The command below prints what is refused: it is left out here.';
 const NO_MEMORY64 = 'This browser has no 64-bit memory for WebAssembly. Chrome and Edge have it from version 133 on, '
   + 'Firefox from 134 on.';
 const FILES = {
   lines: 'lines.jsonl', rows: 'rows.txt', values: 'values.jsonl', canonical: 'canonical.jsonl', text: 'values.txt',
   csv: 'table.csv', tsv: 'table.tsv',
 };
-const VIEWS = ['lines', 'values', 'table', 'refused'];
+const VIEWS = ['lines', 'values', 'table', 'paths', 'refused'];
 // What the tests look at, too.
-const state = { view: 'lines', answered: null, opened: null, table: null, saved: null, failed: null, started: null };
-let worker, wasm, blob, name = '', asked = 0, shownAsk = 0, shownTable = 0, isOpen = false, areColumnsTyped = false;
+const state = { view: 'lines', answered: null, opened: null, table: null, paths: null, saved: null, failed: null, started: null };
+let worker, script, wasm, blob, name = '', isOpen = false, areColumnsTyped = false;
+let asked = 0, shownAsk = 0, shownTable = 0, shownPaths = 0;
+let surveyed = null; // the condition of the paths that are shown or asked for
 const send = message => worker.postMessage(message);
 const text = id => $(id).value.replace(/[\r\n]/g, ' ').trim();
+const unitsOn = () => ['json', 'elements'].find(it => $(it).checked) || '';
 const question = () => ({ query: text('query'), where: $('hasWhere').checked ? text('where') : '' });
 // A semicolon in quotes parts no columns.
 const COLUMN = /(?:'(?:[^'\\]|\\.)*'|"(?:[^"\\]|\\.)*"|[^;])+/g;
@@ -25,11 +28,11 @@ async function unpack(id) {
 
 function startWorker() {
   if (worker) worker.terminate();
-  const script = URL.createObjectURL(new Blob([$('engine').textContent], { type: 'text/javascript' }));
-  worker = new Worker(script);
+  const url = URL.createObjectURL(new Blob([script], { type: 'text/javascript' }));
+  worker = new Worker(url);
   worker.onmessage = ({ data }) => heard[data.kind](data);
   worker.onerror = event => heard.failed({ of: 'start', message: event.message || 'the worker failed' });
-  URL.revokeObjectURL(script);
+  URL.revokeObjectURL(url);
   isOpen = false;
   send({ kind: 'start', wasm });
 }
@@ -39,8 +42,9 @@ function openFile(given, as) {
   asked++;
   shownTable++;
   Object.assign(state, { opened: null, answered: null, table: null });
+  clearPaths();
   $('told').textContent = `reading ${name}`;
-  if (state.started) send({ kind: 'open', name, blob });
+  if (state.started) send({ kind: 'open', name, blob, units: unitsOn() });
 }
 
 const openExample = async () => openFile(new Blob([await unpack('log')]), 'log.jsonl');
@@ -54,6 +58,24 @@ function ask() {
   state.answered = null;
   send({ kind: 'ask', id: ++asked, ...given });
   if (state.view === 'table') askTable();
+  if (state.view === 'paths') askPaths(300);
+}
+
+function clearPaths() {
+  clearTimeout(askPaths.timer);
+  shownPaths++;
+  [surveyed, state.paths, lists.paths.count] = [null, null, 0];
+  $('paths').replaceChildren();
+}
+
+// Asks for the paths where others are shown than those of the condition, once no key was pressed for some time.
+function askPaths(wait) {
+  const { where } = question();
+  if (!isOpen || where === surveyed) return;
+  [surveyed, state.paths] = [where, null];
+  $('paths').classList.add('stale');
+  clearTimeout(askPaths.timer);
+  askPaths.timer = setTimeout(() => send({ kind: 'paths', id: ++shownPaths, where }), wait);
 }
 
 function askTable() {
@@ -64,7 +86,7 @@ function askTable() {
 }
 
 function showCommand() {
-  const asked = { view: state.view, ...question(), columns: columns(), spelling: $('spelling').value };
+  const asked = { view: state.view, ...question(), columns: columns(), spelling: $('spelling').value, units: unitsOn() };
   $('command').textContent = commandOf(asked, name || 'FILE');
 }
 
@@ -75,21 +97,35 @@ function textRows() {
   return Math.max(1, Math.min(4, Math.ceil(size / Math.max(1, parseInt(summary)) / textWidth())));
 }
 
+const askedOf = view => ({ table: shownTable, paths: shownPaths })[view] ?? shownAsk;
+
 // Asks for rows, unless another file is being read. A line is shown up to some bytes, which leave a row of text room for words
 // that are not broken.
 const wants = view => (from, count) => state.opened && send({
-  kind: 'list', id: view === 'table' ? shownTable : shownAsk, view, from, count,
+  kind: 'list', id: askedOf(view), view, from, count,
   spelling: $('spelling').value, most: Math.floor(textWidth() * (textRows() - 0.15)),
 });
 const lists = {
   lines: new Scroll($('lines'), { label: 'Lines that match', wants: wants('lines'), row: lineRow }),
   values: new Scroll($('values'), { label: 'Values', wants: wants('values'), row: valueRow }),
   table: new Scroll($('table'), { label: 'Rows of the table', wants: wants('table'), row: cellRow }),
+  paths: new Scroll($('paths'), { label: 'Paths', wants: wants('paths'), row: pathRow }),
   refused: new Scroll($('refused'), {
     label: 'Refused lines', row: refusedRow,
     wants: (from, count) => state.opened && lists.refused.show(from, state.opened.refused.slice(from, from + count)),
   }),
 };
+
+// What is said of a file that is hardly JSON Lines, and a button that opens it as what it is.
+function adviceOn({ isForeign, proposed, refused }) {
+  const out = make('div', { className: 'bad', textContent: isForeign ? FOREIGN : '' });
+  if (!proposed) return out;
+  const why = refused.length ? 'The first line goes on in the next one. ' : 'The only line is an array. ';
+  const button = make('button', { type: 'button', id: 'propose', textContent: `Open with --${proposed}` });
+  button.onclick = () => { $(proposed).focus(); $(proposed).click(); };
+  out.append(why, button);
+  return out;
+}
 
 // Shows the answer in the view that is open.
 function showAnswer() {
@@ -102,7 +138,7 @@ function showAnswer() {
   }
   if (view === 'refused' && state.opened) {
     if (state.opened.refused.length) lists.refused.begin(state.opened.refused.length, 28);
-    else $('refused').replaceChildren(emptyNote('Each line is valid or blank.'));
+    else $('refused').replaceChildren(emptyNote(state.opened.leftOut ? LEFT_OUT : 'Each line is valid or blank.'));
   }
 }
 
@@ -116,12 +152,13 @@ const heard = {
   opened(it) {
     isOpen = true;
     state.opened = it;
-    const told = ` ${bytesText(it.size)}, ${it.summary}, loaded in ${timeText(it.loadMs)}`;
-    const foreign = make('div', { className: 'bad', textContent: it.isForeign ? FOREIGN : it.isDocument ? DOCUMENT : '' });
-    $('told').replaceChildren(make('b', { textContent: it.name }), told, foreign);
+    const refused = it.refused.length + it.leftOut, unit = it.units === 'json' ? 'text' : 'element';
+    const summary = it.units ? `${many(parseInt(it.summary), unit)}, ${refused.toLocaleString('en')} refused` : it.summary;
+    const told = ` ${bytesText(it.bytes)}, ${summary}, loaded in ${timeText(it.loadMs)}`;
+    $('told').replaceChildren(make('b', { textContent: it.name }), told, adviceOn(it));
     $('foot').textContent = `Nothing leaves this page. Memory: ${bytesText(it.memory)}.`;
-    $('refusedCount').textContent = it.refused.length.toLocaleString('en');
-    $('refusedCount').className = it.refused.length ? 'bad' : '';
+    $('refusedCount').textContent = refused.toLocaleString('en');
+    $('refusedCount').className = refused ? 'bad' : '';
     $('saveButton').disabled = false;
     $('panel').hidden = true;
     if (state.view === 'refused') showAnswer();
@@ -140,8 +177,10 @@ const heard = {
   answered(it) {
     if (it.id !== asked) return;
     shownAsk = it.id;
-    showFault('query', null);
-    showFault('where', null);
+    for (const name of ['query', 'where']) {
+      showFault(name, null);
+      showPatterns(name, it.patterns[name]);
+    }
     $('lines').classList.remove('stale');
     $('values').classList.remove('stale');
     const [lines, values] = [many(it.lines, 'line'), many(it.values, 'value')].map(textContent => make('b', { textContent }));
@@ -151,7 +190,7 @@ const heard = {
     showAnswer();
   },
   list({ id, view, from, items }) {
-    if (id !== (view === 'table' ? shownTable : shownAsk)) return;
+    if (id !== askedOf(view)) return;
     lists[view].show(from, items);
   },
   whole({ id, item }) { if (id === shownAsk) showWhole(item); },
@@ -170,6 +209,14 @@ const heard = {
     if (rows) lists.table.begin(rows, 28, head);
     else $('table').replaceChildren(emptyNote(names.length ? 'No line matches.' : 'Name columns, as $.time; $.user.name'));
     state.table = { rows, columns: names };
+  },
+  paths({ id, rows, ms }) {
+    if (id !== shownPaths) return;
+    $('paths').classList.remove('stale');
+    const cells = ['path', 'kind', 'in lines', 'values'].map(textContent => make('span', { textContent }));
+    if (rows) lists.paths.begin(rows, 28, make('div', { className: 'row survey head' }, ...cells));
+    else $('paths').replaceChildren(emptyNote('No line matches.'));
+    state.paths = { rows, ms };
   },
   tableRefused({ id, faults }) {
     if (id !== shownTable) return;
@@ -217,6 +264,7 @@ function select(view) {
   $('tableOptions').hidden = view !== 'table';
   showCommand();
   if (view === 'table') askTable();
+  else if (view === 'paths') askPaths(0);
   else showAnswer();
 }
 

@@ -9,9 +9,8 @@ WORKER = ("engine.js", "answer.js", "worker.js")
 SCRIPTS = ("words.js", "help.js", "scroll.js", "view.js", "page.js", "listen.js")
 
 
-def packed(path):
-    with open(path, "rb") as file:
-        return base64.b64encode(gzip.compress(file.read(), 9, mtime=0)).decode()
+def packed(data):
+    return base64.b64encode(gzip.compress(data, 9, mtime=0)).decode()
 
 
 def unpacked(sheet):
@@ -31,8 +30,9 @@ def make_sheet(top, wasm, out):
         return "".join(pathlib.Path(top, "page", name).read_text(encoding="utf-8") for name in names)
 
     script, style = f"'use strict';\n{read(*SCRIPTS)}", read("page.css")
-    parts = {"STYLE": style, "SCRIPT": script, "ENGINE": f"'use strict';\n{read(*WORKER)}"}
-    parts |= {"WASM": packed(wasm), "EXAMPLE": packed(f"{top}/examples/log.jsonl")}
+    worker, example = f"'use strict';\n{read(*WORKER)}", pathlib.Path(top, "examples/log.jsonl").read_bytes()
+    parts = {"STYLE": style, "SCRIPT": script, "ENGINE": packed(worker.encode())}
+    parts |= {"WASM": packed(pathlib.Path(wasm).read_bytes()), "EXAMPLE": packed(example)}
     parts |= {"SCRIPT_DIGEST": digest(script), "STYLE_DIGEST": digest(style)}
     page = re.sub(r"@@(\w+)@@", lambda found: parts[found[1]], read("page.html")).encode()
     pathlib.Path(out).write_bytes(page)

@@ -51,6 +51,18 @@ function cellRow({ number, cells }) {
   return row;
 }
 
+// A path of the survey, indented, with a kind of values there.
+function pathRow([lines, count, path, kind]) {
+  const steps = stepsOf(path), button = make('button', { className: 'path', type: 'button', tabIndex: -1, title: path });
+  button.textContent = steps.at(-1) || '$';
+  button.dataset.path = queryOf(path);
+  const cells = [kind, lines, count].map(textContent => make('span', { textContent }));
+  const row = make('div', { className: 'row survey' }, button, ...cells);
+  row.style.setProperty('--depth', steps.length);
+  row.setAttribute('aria-label', `${path}, ${kind}: ${lines === '-' ? '' : `in lines: ${lines}, `}values: ${count}`);
+  return row;
+}
+
 function refusedRow([number, why]) {
   const words = make('span', { textContent: WHY[why] || why });
   const row = make('div', { className: 'row refusal' }, numberOf(number), make('code', { textContent: why }), words);
@@ -97,6 +109,11 @@ function showFault(name, fault, text, isCondition) {
   if (out.scrollWidth > out.clientWidth) words.replaceChildren('\n' + message);
   if (help) out.append(make('span', { className: 'help', textContent: `help: ${help}` }));
   Object.assign(out.dataset, { place: fault.place, message, help });
+}
+
+// Below what was typed, its patterns that match nothing.
+function showPatterns(name, patterns) {
+  $(name + 'Fault').append(...patterns.map(it => make('span', { className: 'warning', textContent: patternWords(it) })));
 }
 
 // The path of a mark, beside it.

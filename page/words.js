@@ -26,16 +26,27 @@ const timeText = ms => ms < 10 ? `${ms.toFixed(1)} ms` : ms < 1000 ? `${Math.rou
 // A word as a shell reads it.
 const shellWord = word => /^[A-Za-z0-9._\/+,:@%-]+$/.test(word) ? word : `'${word.replaceAll("'", "'\\''")}'`;
 
+// What is said of a pattern, in the words of jpgrep, which shows control characters escaped.
+function patternWords(pattern) {
+  const escaped = c => ({ '\t': '\\t', '\n': '\\n', '\r': '\\r' }[c] || `\\u{${c.codePointAt().toString(16)}}`);
+  return `'${pattern.replace(/\p{Cc}/gu, escaped)}' is not a valid I-Regexp (RFC 9485), so it matches nothing`;
+}
+
+// A path of a survey as steps, and as a query: of the members of a folded object it selects all.
+const stepsOf = path => path.match(/\[(?:\*{1,2}|'(?:[^'\\]|\\.)*')\]/g) || [];
+const queryOf = path => '$' + stepsOf(path).map(it => it === '[**]' ? '[*]' : it).join('');
+
 // The command that writes what is shown. A condition that begins with a hyphen is attached to its option.
-function commandOf({ view, query, where, columns, spelling }, name) {
-  const words = ['jpgrep'], file = shellWord(name.startsWith('-') ? `./${name}` : name);
-  if (view === 'refused') return ['jpgrep', '--refused', file].join(' ');
+function commandOf({ view, query, where, columns, spelling, units }, name) {
+  const words = units ? ['jpgrep', `--${units}`] : ['jpgrep'], file = shellWord(name.startsWith('-') ? `./${name}` : name);
+  if (view === 'refused') return [...words, '--refused', file].join(' ');
   words.push('-s');
   if (view === 'values') words.push('-n', spelling === 'canonical' ? '-opj' : spelling === 'text' ? '-opr' : '-op');
   if (view === 'table') words.push('--csv', '--header');
+  if (view === 'paths') words.push('--paths');
   if (where) words.push(where.startsWith('-') ? `-w${shellWord(where)}` : `-w ${shellWord(where)}`);
   if (view === 'table') words.push(...columns.map(it => `-e ${shellWord(it)}`));
-  else if (!where) words.push(shellWord(query || '$'));
-  else if (query) words.push(`-e ${shellWord(query)}`);
+  else if (view !== 'paths' && !where) words.push(shellWord(query || '$'));
+  else if (view !== 'paths' && query) words.push(`-e ${shellWord(query)}`);
   return [...words, file].join(' ');
 }

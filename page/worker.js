@@ -1,19 +1,26 @@
 // What the page sends, and what is done with it.
-// Whether the first line that is not blank begins an array or an object that goes on in the next one.
-function isDocument(refused) {
-  if (!refused.length || refused[0][0] > 9) return false;
-  const lines = Array.from({ length: refused[0][0] }, (_, i) => decoder.decode(lineBytes(i + 1))), last = lines.pop();
-  if (lines.some(it => it.trim()) || !/^\s*[[{]/.test(last)) return false;
+// How many brackets and braces a beginning of a text leaves open, beside those in strings.
+function bracketsOpen(text) {
   let open = 0;
-  for (const [it] of last.matchAll(/"(?:[^"\\]|\\.)*"?|[[{\]}]/g)) open += '[{'.includes(it) ? 1 : ']}'.includes(it) ? -1 : 0;
-  return open > 0;
+  for (const [it] of text.matchAll(/"(?:[^"\\]|\\.)*"?|[[{\]}]/g)) open += '[{'.includes(it) ? 1 : ']}'.includes(it) ? -1 : 0;
+  return open;
 }
 
-async function open({ name, blob }) {
+// The option that reads a file which is hardly JSON Lines, or '': its first line that is not blank begins an array or an object
+// that goes on in the next one, or is an array, and there is no other line.
+function likelyUnits(refused, summary) {
+  const head = decoder.decode(memory().slice(Number(file), Number(file) + Math.min(size, WHOLE_BYTES))).trimStart();
+  if (!'[{'.includes(head[0])) return '';
+  const [lines, , blank] = summary.match(/\d+/g), isOnly = head[0] === '[' && lines - blank === 1 && !refused.length;
+  const goesOn = bracketsOpen(head.slice(0, Math.max(0, head.indexOf('\n')))) > 0;
+  return !goesOn && !isOnly ? '' : head[0] === '[' ? 'elements' : 'json';
+}
+
+async function open({ name, blob, units: wanted }) {
   const began = performance.now();
   if (file) engine.page_free(file);
   engine.jpq_close(handle);
-  [file, size, answer, table] = [0n, 0, null, null];
+  [file, size, answer, table, survey] = [0n, 0, null, null, null];
   if (blob.size >= 2 ** 32 - 1) throw new Error(WORDS[12]);
   file = take(blob.size);
   const reader = blob.stream().getReader();
@@ -25,7 +32,7 @@ async function open({ name, blob }) {
     size += value.length;
     if (size - told > 1 << 24) { told = size; postMessage({ kind: 'reading', part: size / blob.size }); }
   }
-  const read = performance.now();
+  const read = performance.now(), leftOut = wanted ? takeValues(UNITS[wanted]) : null;
   expectDone(engine.jpq_open(file, BigInt(size), 0, -1, handle));
   const loadMs = performance.now() - read;
   const isForeign = filterAt(file, Math.min(size, 16), '', '$', 0, false) === FORMAT;
@@ -36,12 +43,13 @@ async function open({ name, blob }) {
     if (row.startsWith('= ')) summary = row.slice(2);
     else if (row.includes('\t!')) { const [number, why] = row.split('\t!'); refused.push([Number(number), why]); }
   }
+  const units = leftOut === null ? '' : wanted, proposed = units || isForeign ? '' : likelyUnits(refused, summary);
   const times = { readMs: read - began, loadMs, memory: engine.memory.buffer.byteLength };
-  postMessage({ kind: 'opened', name, size, summary, refused, isForeign, isDocument: isDocument(refused), ...times });
+  postMessage({ kind: 'opened', name, bytes: blob.size, size, summary, refused, isForeign, units, leftOut, proposed, ...times });
 }
 
 function answerTo({ id, where, query }) {
-  if (id !== latest) return;
+  if (id !== latest.ask) return;
   const faults = { where: where ? faultOf(where, true) : null, query: query ? faultOf(query, false) : null };
   if (faults.where || faults.query) return postMessage({ kind: 'refused', id, faults });
   const began = performance.now(), rows = new Rows();
@@ -49,10 +57,11 @@ function answerTo({ id, where, query }) {
   if (where) filter(where, rows.query, SHOWN.rows, true);
   else ask('query ' + rows.query);
   readPieces(piece => rows.push(piece));
-  const ms = performance.now() - began;
+  const ms = performance.now() - began, { lines, values } = rows;
   ask('');
   answer = rows;
-  postMessage({ kind: 'answered', id, lines: rows.lines, values: rows.values, ms, memory: engine.memory.buffer.byteLength });
+  const patterns = { where: where ? patternsOf(where, true) : [], query: patternsOf(rows.query, false) };
+  postMessage({ kind: 'answered', id, lines, values, ms, patterns, memory: engine.memory.buffer.byteLength });
 }
 
 // The fault of a column: that of its query, or that it is not singular.
@@ -87,16 +96,20 @@ function tableOf({ id, where, columns: typed }) {
   if (faults.where || faults.columns) return postMessage({ kind: 'tableRefused', id, faults });
   if (columns.length) filter(where, columns.join('\n'), SHOWN.tsv, true);
   else ask('');
-  const bytes = readAll();
+  table = placesOf(readAll());
   ask('');
-  let places = new Float64Array(1025), rows = 0;
-  for (let at = 0; at < bytes.length;) {
-    at = bytes.indexOf(10, at) + 1;
-    if (++rows === places.length) { const more = new Float64Array(2 * rows); more.set(places); places = more; }
-    places[rows] = at;
-  }
-  table = { bytes, places, rows };
-  postMessage({ kind: 'table', id, columns, rows });
+  postMessage({ kind: 'table', id, columns, rows: table.rows });
+}
+
+// The paths of the lines for which a condition holds. Of a condition that is refused the answer to the question tells.
+function surveyOf({ id, where }) {
+  if (id !== latest.paths || (where && faultOf(where, true))) return;
+  const began = performance.now();
+  const status = surveyAt(file, size, where);
+  if (status !== FORMAT) expectDone(status);
+  survey = placesOf(readAll());
+  ask('');
+  postMessage({ kind: 'paths', id, rows: survey.rows, ms: performance.now() - began });
 }
 
 // The row of the columns' names.
@@ -144,9 +157,11 @@ const calls = {
   open,
   ask: answerTo,
   table: tableOf,
+  paths: surveyOf,
   save,
   list({ id, view, from, count, ...how }) {
-    const isThere = view === 'table' ? table : answer, items = isThere ? LISTS[view](from, count, how) : [];
+    const held = { lines: answer, values: answer, table, paths: survey }[view];
+    const items = held ? LISTS[view](from, count, how) : [];
     postMessage({ kind: 'list', id, view, from, items });
   },
   whole({ id, index }) { if (answer) postMessage({ kind: 'whole', id, index, item: lineOf(index, WHOLE_BYTES) }); },
@@ -155,7 +170,7 @@ const calls = {
 
 let queue = Promise.resolve();
 onmessage = ({ data }) => {
-  if (data.kind === 'ask') latest = data.id;
+  latest[data.kind] = data.id;
   queue = queue.then(async () => {
     // The messages that came meanwhile are heard first, so that of many questions the last alone is answered.
     await new Promise(go => setTimeout(go));
