@@ -18,5 +18,4 @@ pub mod Kept
 pub mod Repeated
 pub mod Refused
 pub mod Statuses
-mod Apart
-mod Doubts
+mod Slots

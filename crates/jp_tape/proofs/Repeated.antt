@@ -156,11 +156,6 @@ sorted_distinct ps s n =
     let y = get_or ps (k + 1) [] in
     less_by (order x y) (order y x) (nat_list_cmp_total.antisymm y x) (s k [] (omega arith) l) (λ e. n k l ((bytes_eq-Decides x y).0 (sym (is_eq-slice_cmp x y) ∙ ap is_eq e)))))
 
-pub few_distinct : (ps : List (List ℕ)) → length ps < 2 → has_repeated ps ≡ false
-few_distinct [] l = refl
-few_distinct (x ∷ []) l = refl
-few_distinct (x ∷ y ∷ ys) l = absurd (omega (arith, l))
-
 -- ---- bodies
 pub text_is : (body : List ℕ) → is_text_from body 0 ≡ true → IsText body
 text_is body h =

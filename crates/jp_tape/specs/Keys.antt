@@ -1,48 +1,54 @@
--- A word that stands for the bytes of a name.
-use Rattle.std.specs.Prelude.{◌≡◌, ◌<◌, ◌+◌, ◌-◌, ◌*◌, ◌^◌, ◌/◌, ◌%◌, ◌++◌, ◌∷◌, [], ℕ, List, length, map, get_or, take, drop, replicate, cond, nat_lt, Bool, false, ◌==◌}
-use Rattle.std.specs.Int.{w64, from_le_bytes}
-use Rattle.jp_model.specs.Json.Faults.{has_repeated}
+-- The slots that names fall on by their bytes.
+use Rattle.std.specs.Prelude.{◌≡◌, ◌<◌, ◌+◌, ◌-◌, ◌*◌, ◌^◌, ◌/◌, ◌%◌, ℕ, List, length, get_or, take, drop, cond, min, max, nat_le, Bool, false, ◌==◌}
+use Rattle.std.specs.Int.{w32, from_le_bytes}
+use Rattle.std.specs.List.{list_all}
 use Rattle.jp_tape.specs.declared.builder.kept.KeptName.{KeptName}
-use Rattle.jp_tape.specs.Names.{bytes_of}
+use Rattle.jp_tape.specs.Names.{bytes_of, spelled_name}
 
--- the eight bytes at a place as a number
-unfoldable pub word_at : List ℕ → ℕ → ℕ
-word_at bytes at = from_le_bytes w64 (take 8 (drop at bytes))
+-- the four bytes at a place as a number
+unfoldable pub four_at : List ℕ → ℕ → ℕ
+four_at bytes at = from_le_bytes w32 (take 4 (drop at bytes))
 
--- the first eight bytes, the last eight and the length of a long name, or all of a short one
+-- a number that depends on all bits of three numbers
+unfoldable pub mixed : ℕ → ℕ → ℕ → ℕ
+mixed first middle last = ((first * 0xD6E8FEB86659FD93 % 2 ^ 64 + middle) % 2 ^ 64 * 0xD6E8FEB86659FD93 % 2 ^ 64 + last) % 2 ^ 64 * 0xD6E8FEB86659FD93 % 2 ^ 64
+
+-- the key of a name: of its first, middle and last four bytes, or of its first, middle and last byte where it is shorter
 unfoldable pub key_of : List ℕ → ℕ
-key_of bytes = cond (nat_lt (length bytes) 8) (from_le_bytes w64 (bytes ++ replicate (8 - length bytes) 0)) (((word_at bytes 0 * 0x9E3779B97F4A7C15) % 2 ^ 64 + word_at bytes (length bytes - 8) + length bytes) % 2 ^ 64)
+key_of name =
+    cond (nat_le 4 (length name))
+    (mixed (four_at name 0) (four_at name ((length name - 4) / 2)) (four_at name (length name - 4)))
+    (mixed (get_or name 0 0) (get_or name (length name / 2) 0) (get_or name (length name - 1) 0))
 
--- one of 64 places, by the length and the first byte
-unfoldable pub place_of : List ℕ → ℕ
-place_of bytes = (length bytes % 64 + get_or bytes 0 0) % 64
+-- one of so many slots for a name
+unfoldable pub slot_of : ℕ → List ℕ → ℕ
+slot_of slots name = key_of name / 2 ^ 32 * slots / 2 ^ 32
 
--- another one, by the length and the last and the middle byte
-unfoldable pub other_place_of : List ℕ → ℕ
-other_place_of bytes = (length bytes % 64 * 4 + 3 * get_or bytes (length bytes - 1) 0 + get_or bytes (length bytes / 2) 0) % 64
+-- that of a name of a line
+abbrev pub slot_in : List ℕ → ℕ → KeptName → ℕ
+slot_in line slots name = slot_of slots (bytes_of line name)
 
--- the keys of a line's names
-abbrev pub keys_of : List ℕ → List KeptName → List ℕ
-keys_of line names = map (λ (n : KeptName). key_of (bytes_of line n)) names
-
--- one of 2^16 slots for a key
-unfoldable pub slot_of : ℕ → ℕ
-slot_of key = key * 0xD6E8FEB86659FD93 % 2 ^ 64 / 2 ^ 48
+-- how many slots there are for some names: one where a name has an escape
+abbrev pub slot_count : List KeptName → ℕ
+slot_count names = cond (list_all (λ (n : KeptName). n.is_plain) names) (max (16 * min (length names) (2 ^ 28)) 256) 1
 
 -- how often a slot was hit, after one more hit; 2 stands for more than once
 abbrev pub hit_again : ℕ → ℕ
 hit_again hits = cond (hits == 0) 1 2
 
--- the key shares its slot with another
-abbrev pub shares_slot : List ℕ → ℕ → Bool
-shares_slot hits key = get_or hits (slot_of key) 0 == 2
+-- a name shares its slot with another
+abbrev pub shares_slot : (KeptName → ℕ) → List ℕ → KeptName → Bool
+shares_slot slot hits name = get_or hits (slot name) 0 == 2
 
--- the first keys have hit their slots, and equal ones more than once
-pub record AreHit (keys : List ℕ) (count : ℕ) (hits : List ℕ) : Type 0 where
-  pub size : length hits ≡ 2 ^ 16
-  pub once : (k : ℕ) → k < count → 0 < get_or hits (slot_of (get_or keys k 0)) 0
-  pub twice : (j k : ℕ) → j < k → k < count → get_or keys j 0 ≡ get_or keys k 0 → get_or hits (slot_of (get_or keys k 0)) 0 ≡ 2
+-- the first names have hit their slots, and those that share one more than once
+pub record AreHit (slot : KeptName → ℕ) (names : List KeptName) (count : ℕ) (hits : List ℕ) : Type 0 where
+  pub once : (k : ℕ) (n : KeptName) → k < count → 0 < get_or hits (slot (get_or names k n)) 0
+  pub twice : (j k : ℕ) (n : KeptName) → j < k → k < count → slot (get_or names j n) ≡ slot (get_or names k n) → get_or hits (slot (get_or names k n)) 0 ≡ 2
 
--- no two numbers are the same
-abbrev pub AreApart : List ℕ → Type 0
-AreApart keys = has_repeated (map (λ (k : ℕ). k ∷ []) keys) ≡ false
+-- none of the first names shares its slot
+abbrev pub AreAlone : (KeptName → ℕ) → List KeptName → ℕ → List ℕ → Type 0
+AreAlone slot names count hits = (k : ℕ) (n : KeptName) → k < count → shares_slot slot hits (get_or names k n) ≡ false
+
+-- names that spell the same have one slot
+abbrev pub FallByText : List ℕ → List KeptName → (KeptName → ℕ) → Type 0
+FallByText line names slot = (j k : ℕ) (n : KeptName) → j < length names → k < length names → spelled_name line (get_or names j n) ≡ spelled_name line (get_or names k n) → slot (get_or names j n) ≡ slot (get_or names k n)

@@ -149,7 +149,7 @@ impl Builder {
         let container = self.innermost;
         if self.later.is_none() {
             let names = &self.names[container.names..];
-            let Ok(is_repeated) = has_equal(line, names, &mut self.keys, self.alloc) else {
+            let Ok(is_repeated) = has_equal(line, names, self.alloc) else {
                 return Err(BuildFault::Memory);
             };
             if is_repeated {

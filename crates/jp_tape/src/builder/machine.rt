@@ -15,7 +15,6 @@ ghost use Rattle.jp_tape.specs.declared.builder.machine.Turn.TheVariants as turn
 use super::BuildFault;
 use super::escapes::first_escape;
 use super::kept::KeptName;
-use super::keys::Keys;
 use super::nesting::Nesting;
 use super::scan::next_token;
 use jp_model::LineFault;
@@ -68,8 +67,6 @@ pub struct Builder {
     pub(super) innermost: Open,
     /// The names in them.
     pub(super) names: Vec<KeptName>,
-    /// Memory for their keys.
-    pub(super) keys: Keys,
     /// The first of the faults that count only where the line is JSON: a lone surrogate, a long exponent, equal names.
     pub(super) later: Option<LineFault>,
 }
@@ -126,7 +123,6 @@ impl Builder {
             opened: Vec::new(alloc),
             innermost: NO_CONTAINER,
             names: Vec::new(alloc),
-            keys: Keys::new(alloc),
             later: None,
         }
     }

@@ -1,27 +1,30 @@
 //! The names of an object: whether two of them are equal.
 
-ghost use Rattle.std.specs.Prelude.{◌≡◌, ◌<◌, Some, nat_eq, refl, IfOk, IsSorted};
+ghost use Rattle.std.specs.Prelude.{◌≡◌, ◌<◌, ◌≤◌, ◌^◌, length, Some, nat_eq, refl, IfOk, IsSorted};
 ghost use Rattle.std.specs.Ordering.{nat_cmp};
 ghost use Rattle.std.specs.Cmp.Lexicographic.{slice_cmp, pointwise, nat_list_eq_equiv, nat_list_cmp_total, texts_po, texts_ties};
 ghost use Rattle.std.specs.Cmp.{on_equiv, on_per, on_po, on_total, partial_equiv_from_equiv};
-ghost use Rattle.std.specs.List.{list_any};
-ghost use Rattle.jp_model.specs.Characters.{text_equal};
+ghost use Rattle.std.specs.List.{filter, list_all};
 ghost use Rattle.jp_model.specs.Json.Faults.{has_repeated};
+ghost use Rattle.jp_tape.specs.Keys.{slot_in, shares_slot, slot_count, FallByText};
 ghost use Rattle.jp_tape.specs.Names.{points, all_points, spelled_names, AreKept};
+ghost use Rattle.jp_tape.specs.declared.builder.kept.KeptName.{KeptName};
 
 use super::body::Body;
 use super::kept::KeptName;
-use super::keys::{Keys, are_distinct, have_one_of_two_places, have_own_places};
+use super::keys::{count_hits, is_shared};
 use jp_lanes::equal_bytes;
 use jp_strings::{compare, equal};
 use std::alloc::{AllocError, Global};
 use std::cmp::Ordering;
 
-/// Up to this number of names are compared by pairs, where two share a place.
-const MOST_PAIRED: usize = 5;
+/// There are this many slots for each name, and never fewer than `FEW_SLOTS`.
+const SLOTS_OF_NAME: usize = 16;
 
-/// Up to this number of names seldom share both of their places, and of more the keys are sorted.
-const MOST_PLACED: usize = 32;
+const FEW_SLOTS: usize = 256;
+
+/// A slot is a number below 2^32, so of more names than these there are fewer slots for each.
+const MOST_SLOTTED: usize = 1 << 28;
 
 /// Fewer names than these have no equal ones.
 const PAIR: usize = 2;
@@ -83,87 +86,106 @@ fn has_equal_neighbours(bodies: &[Body<'_>]) -> bool
     false
 }
 
-/// Whether a body is equal to that of one of these names.
-fn is_among(line: &[u8], names: &[KeptName], body: Body<'_>) -> bool
-    requires { AreKept line.now names.now }
-    ensures { result ≡ list_any (text_equal (points body.entry)) (spelled_names line.now names.now) }
-{
-    for name in names {
-        if body == name.body_in(line) {
-            return true;
-        }
-    }
-    false
-}
-
-/// Whether two names are equal, by comparing each with all after it.
-fn has_equal_pair(line: &[u8], names: &[KeptName]) -> bool
-    requires { AreKept line.now names.now }
-    ensures { result ≡ has_repeated (spelled_names line.now names.now) }
-{
-    for behind in 1..names.len() {
-        if is_among(line, &names[behind..], names[behind - 1].body_in(line)) {
-            return true;
-        }
-    }
-    false
-}
-
-/// The bodies of names.
-fn bodies<'a>(
+/// The bodies of the names that share a slot. All that are equal are among them.
+#[inline(never)]
+fn doubtful<'a>(
     line: &'a [u8],
     names: &[KeptName],
+    hits: &[u8],
     alloc: Global,
 ) -> Result<Vec<Body<'a>>, AllocError>
-    requires { AreKept line.now names.now }
-    ensures { IfOk result (λ bodies. all_points bodies.items ≡ spelled_names line.now names.now) }
+    requires kept { AreKept line.now names.now }
+    requires some { 0 < length hits.now }
+    requires few { length hits.now ≤ 2 ^ 32 }
+    ensures { IfOk result (λ bodies. all_points bodies.items ≡ spelled_names line.now (filter (shares_slot (slot_in line.now (length hits.now)) hits.now) names.now)) }
 {
     let mut bodies = Vec::new(alloc);
-    bodies.reserve(names.len())?;
     for name in names {
-        bodies.push(name.body_in(line))?;
+        if is_shared(line, *name, hits) {
+            bodies.push(name.body_in(line))?;
+        }
     }
     Ok(bodies)
 }
 
-/// Whether two of several names are equal, as `has_equal` finds it. Their bodies are listed only where bytes leave it open.
-#[inline(never)]
-fn has_equal_of_some(
+/// Whether each character stands for itself in all of them.
+fn are_plain(names: &[KeptName]) -> bool
+    ensures { result ≡ list_all (λ (n : KeptName). n.is_plain) names.now }
+{
+    for name in names {
+        if !name.is_plain {
+            return false;
+        }
+    }
+    true
+}
+
+/// The number of slots for some names. Where one has an escape, its bytes do not tell what it spells, and all share one slot.
+#[inline(always)]
+fn slots_for(names: &[KeptName]) -> usize
+    ensures { result ≡ slot_count names.now }
+{
+    if !are_plain(names) {
+        return 1;
+    }
+    (SLOTS_OF_NAME * names.len().min(MOST_SLOTTED)).max(FEW_SLOTS)
+}
+
+/// Whether two of some names are equal: those that share none of the slots differ, and the others are sorted.
+#[inline(always)]
+fn has_equal_by(
     line: &[u8],
     names: &[KeptName],
-    keys: &mut Keys,
+    hits: &mut [u8],
     alloc: Global,
 ) -> Result<bool, AllocError>
-    requires { AreKept line.now names.now }
+    requires kept { AreKept line.now names.now }
+    requires some { 0 < length hits.old }
+    requires few { length hits.old ≤ 2 ^ 32 }
+    requires told { FallByText line.now names.now (slot_in line.now (length hits.old)) }
     ensures { IfOk result (λ is_repeated. is_repeated ≡ has_repeated (spelled_names line.now names.now)) }
 {
-    if names.len() <= MOST_PAIRED {
-        return Ok(!have_own_places(line, names) && has_equal_pair(line, names));
-    }
-    if names.len() <= MOST_PLACED && have_one_of_two_places(line, names) {
+    if !count_hits(line, names, hits) {
         return Ok(false);
     }
-    if are_distinct(line, names, keys)? {
-        return Ok(false);
-    }
-    let mut bodies = bodies(line, names, alloc)?;
+    let mut bodies = doubtful(line, names, hits, alloc)?;
     bodies.sort_unstable();
     Ok(has_equal_neighbours(&bodies))
 }
 
-/// Whether two names are equal. `keys` lends its memory. Arrays and many objects have fewer than two.
+/// The same of many names, for which there are many slots.
+#[inline(never)]
+fn has_equal_of_many(line: &[u8], names: &[KeptName], alloc: Global) -> Result<bool, AllocError>
+    requires { AreKept line.now names.now }
+    ensures { IfOk result (λ is_repeated. is_repeated ≡ has_repeated (spelled_names line.now names.now)) }
+{
+    let mut hits = Vec::new(alloc);
+    hits.resize(slots_for(names), 0)?;
+    has_equal_by(line, names, &mut hits, alloc)
+}
+
+/// The same of two names and more.
+#[inline(never)]
+fn has_equal_of_some(line: &[u8], names: &[KeptName], alloc: Global) -> Result<bool, AllocError>
+    requires { AreKept line.now names.now }
+    ensures { IfOk result (λ is_repeated. is_repeated ≡ has_repeated (spelled_names line.now names.now)) }
+{
+    let slots = slots_for(names);
+    if slots > FEW_SLOTS {
+        return has_equal_of_many(line, names, alloc);
+    }
+    let mut hits = [0; FEW_SLOTS];
+    has_equal_by(line, names, &mut hits[..slots], alloc)
+}
+
+/// Whether two names are equal. Arrays and many objects have fewer than two.
 #[inline(always)]
-pub(super) fn has_equal(
-    line: &[u8],
-    names: &[KeptName],
-    keys: &mut Keys,
-    alloc: Global,
-) -> Result<bool, AllocError>
+pub(super) fn has_equal(line: &[u8], names: &[KeptName], alloc: Global) -> Result<bool, AllocError>
     requires { AreKept line.now names.now }
     ensures { IfOk result (λ is_repeated. is_repeated ≡ has_repeated (spelled_names line.now names.now)) }
 {
     if names.len() < PAIR {
         return Ok(false);
     }
-    has_equal_of_some(line, names, keys, alloc)
+    has_equal_of_some(line, names, alloc)
 }

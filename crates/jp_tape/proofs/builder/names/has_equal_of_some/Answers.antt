@@ -1,13 +1,22 @@
-use Rattle.std.proofs.Common.{List, ◌∙◌, ap}
-use Rattle.jp_tape.specs.declared.builder.body.Body.{Body}
-use Rattle.std.proofs.lemmas.List.Sorted.{IsPermutation-map}
-use Rattle.jp_model.specs.Json.Faults.{has_repeated}
-use Rattle.jp_tape.specs.Names.{points, all_points}
-use Rattle.jp_tape.proofs.Repeated.{same_repeated}
+use Rattle.std.proofs.Common.{◌≡◌, ℕ, ◌<◌, ◌≤◌, ◌^◌, List, length, take, subst, sym}
+use Rattle.std.proofs.lemmas.List.{length-take-le}
+use Rattle.jp_tape.specs.Keys.{slot_in, FallByText}
+use Rattle.jp_tape.proofs.Slots.{some_slots, few_slots, fall_by_text}
 use Rattle.jp_tape.proofs.builder.names.has_equal_of_some.Goals as goal
 
-pub returns : goal.returns
-returns c =
-    let old = c.in_ok-bodies.bodies.items in
-    let new = c.sort_unstable.new.self.items in
-    c.has_equal_neighbours.ensures ∙ ap (λ (bs : List Body). has_repeated (all_points bs)) c.deref.ensures.value ∙ (same_repeated (all_points old) (all_points new) (IsPermutation-map points old new c.sort_unstable.ensures.permutation) ∙ ap has_repeated c.in_ok-bodies.ensures)
+-- what is known of a number is known of how many places so many of some are
+of_length : (P : ℕ → Type 0) (n slots : ℕ) (hits : List ℕ) → slots ≡ n → slots ≤ length hits → P n → P (length (take slots hits))
+of_length P n slots hits e l h = subst P (sym (length-take-le slots hits l)) (subst P (sym e) h)
+
+pub has_equal_by-requires : goal.has_equal_by-requires
+has_equal_by-requires c =
+    let line = c.args.line.now in
+    let names = c.args.names.now in
+    let count = c.slots_for-slots.ensures in
+    let few = c.if-slots-gt-FEW_SLOTS.false in
+    record {
+      kept = c.requires;
+      some = of_length (λ n. 0 < n) _ _ _ count few (some_slots names);
+      few = of_length (λ n. n ≤ 2 ^ 32) _ _ _ count few (few_slots names);
+      told = of_length (λ n. FallByText line names (slot_in line n)) _ _ _ count few (fall_by_text line names c.requires);
+    }

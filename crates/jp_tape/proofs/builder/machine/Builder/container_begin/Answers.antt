@@ -40,7 +40,7 @@ returns-clause-goes_on c =
     let b = c.args.self.now in
     let kind = container_if c.args.is_object in
     let w = c.next_token-inside.ensures in
-    let mid : Builder = record { alloc = b.alloc; words = c.write_node-2.new.words; opened = c.push_reserved.new.self; innermost = record { place = _; start = c.args.at; children = 0; names = _; is_object = c.args.is_object }; names = b.names; keys = b.keys; later = b.later } in
+    let mid : Builder = record { alloc = b.alloc; words = c.write_node-2.new.words; opened = c.push_reserved.new.self; innermost = record { place = _; start = c.args.at; children = 0; names = _; is_object = c.args.is_object }; names = b.names; later = b.later } in
     IfOk-weaker c.child_begin.result _ _
     (λ turn l. enter_goes_on c.args.line.now c.args.at c.next_token-inside.result c.args.label b mid c.child_begin.new.self turn kind c.requires.opens w.white w.stops
     (λ h. c.is_at.ensures.no c.if-is_at.false (subst (λ x. Has c.args.line.now c.next_token-inside.result x) (sym c.closing_of.ensures) h))
