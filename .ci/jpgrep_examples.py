@@ -21,6 +21,7 @@ import termios
 import threading
 import time
 
+from jpgrep_context import context, has_grep
 from jpgrep_lists import model_of_text, random_list
 from jpgrep_paths import paths
 from jpgrep_pieces import BYTE_ORDER_MARK, answers_of, random_stream
@@ -107,7 +108,7 @@ def read_examples():
 def devices(room):
     pathlib.Path(room, "one").write_bytes(b'{"a":1}\n')
     pathlib.Path(room, "many").write_bytes(b'{"a":1}\n' * 100_000)
-    for words in (["$.a", "one"], ["$.a", "many"], ["-c", "$.a", "one"]):
+    for words in (["$.a", "one"], ["$.a", "many"], ["-c", "$.a", "one"], ["-C1", "$.a", "one"], ["-C1", "$.a", "many"]):
         with open("/dev/full", "wb") as full:
             check(f"{words} to a full device", ended(words, room, out=full)[1:], (b"jpgrep: cannot write\n", 2))
     for words in (["--help"], ["--version"]):
@@ -116,13 +117,15 @@ def devices(room):
     for words, stated in (([], b""), (["one", "-", "one"], b'one:{"a":1}\n' * 2)):
         run = subprocess.run(["bash", "-c", '"$0" "$@" <&-', PROGRAM, "$.a", *words], cwd=room, capture_output=True, timeout=SECONDS)
         check(f"a closed standard input {words}", (run.stdout, run.stderr, run.returncode), (stated, b"jpgrep: (standard input): cannot read\n", 2))
-    endless = subprocess.Popen(["yes", '{"a":1}'], stdout=subprocess.PIPE)
-    try:
-        run = subprocess.run(["bash", "-c", '"$0" "$@" | head -1', PROGRAM, "$.a"], stdin=endless.stdout, capture_output=True, timeout=SECONDS)
-    finally:
-        endless.kill()
-    check("endless lines and head -1", (run.stdout, run.stderr), (b'{"a":1}\n', b""))
-    for words, stated in ((["-m1", "$.a"], b'{"a":1}\n'), (["-q", "$.a"], b""), (["-l", "$.a"], b"(standard input)\n"), (["-m0", "$.a"], b"")):
+    for words in (["$.a"], ["-A3", "$.a"]):
+        endless = subprocess.Popen(["yes", '{"a":1}'], stdout=subprocess.PIPE)
+        try:
+            run = subprocess.run(["bash", "-c", '"$0" "$@" | head -1', PROGRAM, *words], stdin=endless.stdout, capture_output=True, timeout=SECONDS)
+        finally:
+            endless.kill()
+        check(f"endless lines, {words} and head -1", (run.stdout, run.stderr), (b'{"a":1}\n', b""))
+    for words, stated in ((["-m1", "$.a"], b'{"a":1}\n'), (["-q", "$.a"], b""), (["-l", "$.a"], b"(standard input)\n"), (["-m0", "$.a"], b""),
+                          (["-m1", "-n", "-A2", "$.a"], b'1:{"a":1}\n2-{"a":1}\n3-{"a":1}\n'), (["-m0", "-A2", "$.a"], b"")):
         endless = subprocess.Popen(["yes", '{"a":1}'], stdout=subprocess.PIPE)
         try:
             run = subprocess.run([PROGRAM, *words], stdin=endless.stdout, capture_output=True, timeout=SECONDS)
@@ -141,7 +144,8 @@ def own_output(room):
     lines = b'{"a":1}\n{"a":2}\n'
     path = pathlib.Path(room, "own")
     cases = [(["$.a", "own"], "", b"own", b""), (["$.a"], "< own", b"(standard input)", b""), (["-c", "$.a", "own"], "", None, b"2\n"),
-             (["-m1", "$.a", "own"], "", None, b'{"a":1}\n'), (["--csv", "--header", "-m1", "$.a", "own"], "", b"own", b"$.a\n")]
+             (["-m1", "$.a", "own"], "", None, b'{"a":1}\n'), (["-m1", "-B1", "-w", "@.a == 2", "own"], "", None, lines),
+             (["-m1", "-A1", "$.a", "own"], "", b"own", b""), (["--csv", "--header", "-m1", "$.a", "own"], "", b"own", b"$.a\n")]
     for words, given, refused, added in cases:
         path.write_bytes(lines)
         run = subprocess.run(["bash", "-c", f'"$0" "$@" {given} >> own', PROGRAM, *words], cwd=room, stdin=subprocess.DEVNULL,
@@ -247,6 +251,12 @@ ELEMENTS = ((b'[{"a":1}', b"", b""), (b",", b'1:{"a":1}\n', b""), (b"[2\n]", b""
             (b",", b"", b"jpgrep: fifo:3: grammar, from line 2\n"), (b'5}{"b":1}', b'5:{"b":1}\n', b"jpgrep: fifo:4: grammar, from line 2\n"))
 
 
+# Lines around selected lines come as soon as it is known that they are shown, and messages as ever.
+AROUND = ((b'{"b":1}\n', b"", b""), (b'{"a":2}', b"", b""), (b"\n", b'1-{"b":1}\n', b""), (b"", b'2:{"a":2}\n', b""),
+          (b"x\n", b"3-x\n", b"jpgrep: fifo:3: grammar\n"), (b'\n{"b":5}\n', b"", b""), (b'{"a":6}\n', b"--\n", b""), (b"", b'5-{"b":5}\n', b""),
+          (b"", b'6:{"a":6}\n', b""), (b"{", b"", b""), (b"}\n", b"7-{}\n", b""))
+
+
 def in_two_reads(words, text, cut, room):
     """What a run writes and says of a text whose first bytes it reads before the others come."""
     with subprocess.Popen([PROGRAM, *words], cwd=room, stdin=subprocess.PIPE, stdout=subprocess.PIPE, stderr=subprocess.PIPE, bufsize=0) as run:
@@ -280,14 +290,17 @@ def long_pieces(room):
 def memory():
     """The peak of the process is asked before its standard input ends."""
     lines = b'{"level":"info","ms":12,"path":["a","b"]}\n' * 25_000  # somewhat more than 1 MB
-    for word, front, text in ((), b"", lines), (("--json",), b"", lines), (("--elements",), b"[0", lines.replace(b"{", b",{")):
-        run = subprocess.Popen([PROGRAM, *word, "-s", "-c", "$[?@ == 12]"], stdin=subprocess.PIPE, stdout=subprocess.PIPE)
+    count = ("-c", "$[?@ == 12]")
+    for words, front, text in (count, b"", lines), (("--json", *count), b"", lines), (("--elements", *count), b"[0", lines.replace(b"{", b",{")), \
+            (("-C", "1000", "$.absent"), b"", lines):
+        run = subprocess.Popen([PROGRAM, "-s", *words], stdin=subprocess.PIPE, stdout=subprocess.PIPE)
         run.stdin.write(front)
         for _ in range(200):
             run.stdin.write(text)
         kilobytes = int(re.search(r"VmHWM:\s*(\d+) kB", pathlib.Path(f"/proc/{run.pid}/status").read_text("ascii"))[1])
-        check(f"{word} the count of 200 MB", run.communicate(b"]" if front else b"", timeout=SECONDS)[0], b"5000000\n")
-        check(f"{word} 200 MB in less than 20 MB", kilobytes if kilobytes >= 20_000 else "less", "less")
+        stated = b"5000000\n" if "-c" in words else b""
+        check(f"{words} of 200 MB", run.communicate(b"]" if front else b"", timeout=SECONDS)[0], stated)
+        check(f"{words} 200 MB in less than 20 MB", kilobytes if kilobytes >= 20_000 else "less", "less")
 
 
 def random_value(dice, depth):
@@ -381,6 +394,13 @@ def in_lists(room):
             check(f"list {number} by {words[0]}", ended(["-n", *words, "list", "-"], room, text)[:2], (stated.encode(), b""))
 
 
+def beside_grep(room):
+    """Lines around selected lines, beside those of grep: as many runs as CONTEXTS says."""
+    dice = random.Random(1988)
+    for number in range(int(os.environ.get("JPGREP_CONTEXTS", "2000"))):
+        context(number, dice, ended, check, room)
+
+
 def main():
     files, examples = read_examples()
     for example in examples:
@@ -394,6 +414,7 @@ def main():
         follows("lines of a fifo", ["-n", "$.a"], LINES, room)
         follows("texts of a fifo", ["-n", "--seq", "$.a"], TEXTS, room)
         follows("JSON texts of a fifo", ["-n", "--json", "$"], JSON, room)
+        follows("lines around those of a fifo", ["-n", "-C1", "$.a"], AROUND, room)
         follows("elements of a fifo", ["-n", "--elements", "$"], ELEMENTS, room)
         each_cut(room)
         long_pieces(room)
@@ -402,6 +423,10 @@ def main():
         pieces_once(room)
         read_back(room)
         in_lists(room)
+        if has_grep():
+            beside_grep(room)
+        else:
+            print("left out: the comparison with grep, as it is not GNU grep 3.5 or later")
         if os.access(JPQ, os.X_OK):
             beside_jpq(room)
         else:

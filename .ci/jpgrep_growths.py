@@ -8,8 +8,8 @@ A run in which a growth was refused ends in one of three ways. It has no need of
 begins no search: then it ends with status 2, says `jpgrep: out of memory` last, and writes and says a beginning of what it writes and
 says without the refusal, but for which line of a list was given up. Or it gives up a line, or passes over the rest of a stream: then
 it says which line of which stream, ends with status 2, and what it writes, and says beside that, is what it writes and says without
-the refusal, less one piece of it (and with other counts). A growth that the library asks for again at once, since it may have been
-asked for with too high a hint, is then refused both times.
+the refusal, less one piece of it (and with other counts, and other lines around those that are selected). A growth that the library
+asks for again at once, since it may have been asked for with too high a hint, is then refused both times.
 """
 import os
 import re
@@ -20,6 +20,8 @@ import time
 PROGRAM, FOLDER, LIBRARY = sys.argv[1:]
 NO_MEMORY = b"jpgrep: out of memory\n"
 LINE_LOST = re.compile(rb"^jpgrep: [^\n]*:\d+: out of memory(, from line \d+|; the rest is not searched)?\n", re.MULTILINE)
+# A row of a selected line, with its number.
+SELECTED = re.compile(rb"^(?:[^\n:{-]*:)?\d+:[^\n]*\n", re.MULTILINE)
 COUNT = re.compile(rb"\b\d+$|\d+ more lines? (is|are) refused; --refused lists them$", re.MULTILINE)
 ASKED_AGAIN = "refused\nasked again\n"
 END = time.monotonic() + 240
@@ -62,6 +64,11 @@ RUNS = [
     (["-n", "-p", "-m", "40", "--each", "$..*", "-w", "@ != $.level || @.*", "-e", "@", "-e", "$.ms", "lines", "lines"], b""),
     (["-c", "-v", "--each", "$.tags[*]", "--in", "@", "ids", "lines"], b""),
     (["--refused", "-n", "-p", "lines", "-"], b"{\n" * 3 + LINES),
+    (["-n", "-H", "-C", "1", "-w", "@.level == 'error'", "lines", "-"], LINES),
+    (["-n", "-v", "-s", "-B", "2", "-A", "1", "$.level", "lines"], b""),
+    (["-n", "-r", "--refused", "-B", "1", "lines"], b""),
+    (["-n", "-s", "-m", "1", "-A", "9", "-w", "@.ms == 340", "lines"], b""),
+    (["-n", "-j", "--json", "-C", "1", "$.level"], DOCUMENTS),
     (["-q", "$.absent", "lines"], b""),
     (["-c", "--in", "@.level", "ids", "--not-in", "$.ms", "-", "lines"], b"1.5e2\n{\n"),
     (["--in", "@", "gone", "lines"], b""),
@@ -122,8 +129,20 @@ def survey_less(part, whole):
                for row, counts in rows[0].items())
 
 
-def refused_fault(words, got, whole):
-    """What is wrong with a run in which a growth was refused, or None."""
+def shows_context(words):
+    """Whether a run shows lines around selected lines."""
+    return any(word in ("-A", "-B", "-C") for word in words)
+
+
+def around_less(part, whole, lines):
+    """Whether the selected rows of a text are those of another, less one piece, and its rows are some of the rows of all lines, in order."""
+    following = iter(lines.split(b"\n"))
+    rows = (row for row in part.split(b"\n") if row != b"--")
+    return all(row in following for row in rows) and lacks_a_piece(*(b"".join(SELECTED.findall(text)) for text in (part, whole)))
+
+
+def refused_fault(words, got, whole, lines):
+    """What is wrong with a run in which a growth was refused, or None. Where it shows lines around selected ones, `lines` shows all."""
     (status, out, said), (_, whole_out, whole_said) = got, whole
     if got == whole:
         return None
@@ -137,7 +156,8 @@ def refused_fault(words, got, whole):
         return f"said {said[-200:]!r}"
     if not lacks_a_piece(LINE_LOST.sub(b"", said), whole_said):
         return f"said {said[-200:]!r} for {whole_said[-200:]!r}"
-    if not (counts_less if "--tally" in words else survey_less if "--paths" in words else lacks_a_piece)(out, whole_out):
+    is_less = counts_less if "--tally" in words else survey_less if "--paths" in words else lacks_a_piece
+    if not (around_less(out, whole_out, lines) if shows_context(words) else is_less(out, whole_out)):
         return f"wrote {out[-200:]!r}, which is not what it writes without that, less one piece"
     return None
 
@@ -145,6 +165,7 @@ def refused_fault(words, got, whole):
 def each_refused(words, text, counts):
     """Refuses each growth of a run in turn, until one meets no refusal."""
     whole = Run(words, text, 0)
+    lines = Run([*words, "-A", "99", "-B", "99"], text, 0).result[1] if shows_context(words) else b""
     number = again = 0
     while time.monotonic() < END:
         run = Run(words, text, number + 1)
@@ -154,7 +175,7 @@ def each_refused(words, text, counts):
         if run.told == ASKED_AGAIN and run.result == whole.result:
             again += 1
             run = Run(words, text, number, next_too=True)
-        fault = refused_fault(words, run.result, whole.result)
+        fault = refused_fault(words, run.result, whole.result, lines)
         counts[fault is None] += 1
         if fault and counts[False] <= MOST_TOLD:
             print(f"jpgrep {words}, growth {number} refused: NOT AS STATED: {fault}")

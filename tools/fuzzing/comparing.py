@@ -30,7 +30,7 @@ def modelled(case):
         each = queries.parse(case.each) if case.each else None
         origin = "@" if case.each and case.query.startswith(b"@") else "$"
         asked = origin, queries.parse(case.query, origin)
-        found = given.filtered(conditions, each, asked, case.shown, case.is_inverted, case.most)
+        found = given.filtered(conditions, each, asked, case.shown, case.is_inverted, case.most, case.around)
     except queries.Refused:
         found = None
     return given.run(script(case)), found
@@ -86,7 +86,8 @@ class Programs:
 
     def filtered(self, case):
         """What jpgrep writes."""
-        options = {"line": ["-n"], "values": ["-n", "-o", "-p"], "count": ["-c"]}[case.shown]
+        around = [f"-B{case.around[0]}", f"-A{case.around[1]}"]
+        options = {"line": ["-n"], "values": ["-n", "-o", "-p"], "count": ["-c"], "around": ["-n", *around]}[case.shown]
         words = [b"-w=" + condition for condition in case.conditions]  # one that begins with a sign is no option so
         words += ["-v"] * case.is_inverted + ["--seq"] * case.is_sequence + [b"--each=" + case.each] * bool(case.each)
         return self.run(self.jpgrep, "-s", "-h", *options, *words, "-m", str(case.most), "-e", case.query, self.file)
@@ -110,6 +111,9 @@ def is_free_of_indexes(case):
 
 
 def is_asked(case):
-    """Whether jpgrep is asked so: rows of sequences have bytes of their own, and an inverted question has no values."""
+    """Whether jpgrep is asked so: rows of sequences have bytes of their own, an inverted question has no values, and nodes have no lines
+    around them."""
     words, has_values = [case.each, case.query, *case.conditions], case.shown == "values" or case.each
-    return not case.is_sequence and not (case.is_inverted and has_values) and not any(b"\0" in word for word in words)
+    if case.is_sequence or case.is_inverted and has_values or case.shown == "around" and case.each:
+        return False
+    return not any(b"\0" in word for word in words)

@@ -12,7 +12,8 @@ COMPARISONS = ["==", "!=", "<", "<=", ">", ">="]
 
 @dataclasses.dataclass(frozen=True)
 class Case:
-    """What the programs are asked: the lines of a collection, the commands of a script, and what jpgrep is to find."""
+    """What the programs are asked: the lines of a collection, the commands of a script, and what jpgrep is to find. `around` says how many
+    lines before and after a selected one are shown where `shown` is "around"."""
 
     is_sequence: bool
     lines: tuple
@@ -23,6 +24,7 @@ class Case:
     shown: str
     is_inverted: bool
     most: int
+    around: tuple
 
 
 def value(rng, depth):
@@ -152,5 +154,6 @@ def case(rng):
     conditions = tuple(expression(rng, 2).encode() for _ in range(rng.choice([0, 1, 1, 2])))
     is_sequence, each = rng.random() < 0.2, query(rng) if rng.random() < 0.3 else b""
     asked = query(rng, rng.choice("$@") if each else "$")
-    return Case(is_sequence, lines, commands, conditions, each, asked, rng.choice(["line", "values", "count"]), rng.random() < 0.1,
-                rng.randrange(1, 5) if rng.random() < 0.2 else 2 ** 64 - 1)
+    most = rng.randrange(1, 5) if rng.random() < 0.2 else 2 ** 64 - 1
+    return Case(is_sequence, lines, commands, conditions, each, asked, rng.choice(["line", "values", "count", "around"]), rng.random() < 0.1,
+                most, (rng.randrange(3), rng.randrange(3)))

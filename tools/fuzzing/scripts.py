@@ -113,10 +113,10 @@ class Collection:
         commands = script.removesuffix(b"\n").split(b"\n") if script else []
         return b"".join(self.answered(command.removesuffix(b"\r")) for command in commands if command.removesuffix(b"\r"))
 
-    def filtered(self, conditions, each, query, shown, is_inverted=False, most=2 ** 64 - 1):
+    def filtered(self, conditions, each, query, shown, is_inverted=False, most=2 ** 64 - 1, around=(0, 0)):
         """What jpgrep writes of the lines, or of the nodes of a query in them, for which each condition holds and the query selects a
-        node: whole lines, values, these with their paths, or how many there are."""
-        rows, count = [], 0
+        node: whole lines, values, these with their paths, how many there are, or whole lines and those around them."""
+        rows, count, selected = [], 0, set()
         for n, (line, root) in enumerate(self.lines, 1):
             if not root or isinstance(root, str):
                 continue
@@ -127,9 +127,20 @@ class Collection:
                 if bool(found) == is_inverted or count == most:
                     continue
                 count += 1
+                selected.add(n)
                 if shown == "values" or each is not None:
                     fronts = [path_text(path).encode() + b"\t" if shown == "values" else b"" for path, _ in found]
                     rows += [b"%d:%s%s\n" % (n, front, line[node.start:node.end]) for front, (_, node) in zip(fronts, found)]
                 else:
                     rows.append(b"%d:%s\n" % (n, line))
+        rows = self.around(selected, *around) if shown == "around" else rows
         return b"%d\n" % count if shown == "count" else b"".join(rows)
+
+    def around(self, selected, before, after):
+        """The rows of selected lines and of those around them, after whose numbers stands a hyphen. Where lines are left out between two,
+        there is a row of two hyphens."""
+        shown = [n for n in range(1, len(self.lines) + 1) if any(at - before <= n <= at + after for at in selected)]
+        for n, last in zip(shown, [None, *shown]):
+            if last and last + 1 < n:
+                yield b"--\n"
+            yield b"%d%s%s\n" % (n, b":" if n in selected else b"-", self.lines[n - 1][0])

@@ -45,7 +45,8 @@ def as_example(case, programs):
     if found is not None:
         conditions = " ".join(f"-w {shown(condition)}" for condition in case.conditions)
         each = f" --each {shown(case.each)}" if case.each else ""
-        how = f"{case.shown}{', inverted' if case.is_inverted else ''}, at most {case.most}"
+        lines = " %d before and %d after" % case.around if case.shown == "around" else ""
+        how = f"{case.shown}{lines}{', inverted' if case.is_inverted else ''}, at most {case.most}"
         parts += [f"$ jpgrep ({how}){each} {conditions} -e {shown(case.query)}"]
         parts += [f"< {shown(line)}" for line in found.split(b"\n")[:-1]]
     programs.write(case)

@@ -9,9 +9,9 @@ use Rattle.jp_devices.specs.Devices.{Begins, Came, Device}
 use Rattle.jp_form.specs.declared.form.Form.{Form}
 use Rattle.jp_grep.specs.Formats.{format_of}
 use Rattle.jp_grep.specs.Fronts.{IsRefused}
-use Rattle.jp_grep.specs.Items.{Item, framing_by, items_come}
+use Rattle.jp_grep.specs.Items.{Item, framing_by, items_come, unjudged_count}
 use Rattle.jp_grep.specs.Matching.{queries_of}
-use Rattle.jp_grep.specs.Watching.{AreCounts, EndsWith, SearchStopped, answered_of, is_whole}
+use Rattle.jp_grep.specs.Watching.{AreCounts, EndsWith, IsEnough, SearchStopped, answered_of, is_whole}
 use Rattle.jp_grep.specs.declared.fault.SearchFault.{SearchFault}
 use Rattle.jp_grep.specs.declared.fault.SearchFault.TheVariants as search_faults
 use Rattle.jp_grep.specs.declared.format.Format.{Format}
@@ -68,12 +68,12 @@ came_to_end : (came : Came) (question : Question) (form : Form) (outcomes : List
 came_to_end came question form outcomes found whole fewer ends = by found.unread _ _ _ _ whole ends
   where
     by : {A : Type 0} (o : Option A) (P Q : Type 0) (R : A → Type 0) (b : Bool) → (is_none o && b) ≡ true
-        → MatchOption o (P × Q × ((came.ended ≡ true) ⊎ (found.counts.selected ≡ form.most))) R → came.ended ≡ true
+        → MatchOption o (P × Q × ((came.ended ≡ true) ⊎ IsEnough form found.counts.selected (unjudged_count (answered_of question form 0 outcomes)))) R → came.ended ≡ true
     by None P Q R b e h = either h.2
       where
-        either : (came.ended ≡ true) ⊎ (found.counts.selected ≡ form.most) → came.ended ≡ true
+        either : (came.ended ≡ true) ⊎ IsEnough form found.counts.selected (unjudged_count (answered_of question form 0 outcomes)) → came.ended ≡ true
         either (inl ended) = ended
-        either (inr enough) = absurd (fewer enough)
+        either (inr enough) = absurd (fewer enough.0)
     by (Some x) P Q R b e h = absurd (false≢true e)
 
 -- then what is answered are the lines of the text
@@ -82,7 +82,7 @@ pub all_answered : (question : Question) (form : Form) (text : List ℕ) (came :
     → answered_of question form 0 outcomes ≡ answered_of question form 0 (items_come form.units true text)
 all_answered question form text came outcomes found whole fewer ends counts all =
     let ended = came_to_end came question form outcomes found whole fewer ends in
-    none_lost question (form.most - 0) (items_come form.units came.ended came.bytes) outcomes (whole_came question form came outcomes found whole ends) (sym counts.given_up ∙ whole_kept question form found whole)
+    none_lost question (form.most - 0) form.trailing (items_come form.units came.ended came.bytes) outcomes (whole_came question form came outcomes found whole ends) (sym counts.given_up ∙ whole_kept question form found whole)
     ∙ ap₂ (λ (b : Bool) (bytes : List ℕ). answered_of question form 0 (items_come form.units b bytes)) ended (all ended)
 
 -- what is found in such a form

@@ -165,6 +165,7 @@ form_of name units rows numbered = record {
   numbered = numbered;
   silent = true;
   most = 18446744073709551615;
+  trailing = 0;
 }
 
 -- lines, as units of a text

@@ -29,6 +29,7 @@ pub(crate) fn form_of<'a>(name: &'a str, units: Units, rows: Rows, numbered: boo
         numbered,
         silent: true,
         most: u64::MAX,
+        trailing: 0,
     }
 }
 

@@ -41,6 +41,10 @@ pub enum Shown {
     Nothing,
     /// The line; of a refused one the word of its fault and a tab in front, where they are wanted.
     Line { faults: bool },
+    /// The line, told to a writer that shows lines around selected ones: a head stands in front of its row (`jp_context`). Each
+    /// other line is told too, as it is, with a hyphen after its name and its number: one that is not selected, a blank one and
+    /// a refused one.
+    Around,
     /// Each value that the queries select, in a row of its own; with its normalized path and a tab in front where they are
     /// wanted. A refused line has none.
     Values { paths: bool },
@@ -79,6 +83,9 @@ pub struct Form<'a> {
     pub numbered: bool,
     /// Whether refused lines are no fault: there is no message about them, and the exit status is none the worse for them.
     pub silent: bool,
-    /// How many selected lines are wanted. What stands after the last of them is not read.
+    /// How many selected lines are wanted.
     pub most: u64,
+    /// How many lines after the last one that is wanted are passed without being judged: nothing of them is selected, and none is
+    /// refused. What stands after them is not read.
+    pub trailing: u64,
 }

@@ -12,10 +12,9 @@ use Rattle.jp_grep.specs.Fronts.{AreRefused}
 use Rattle.jp_grep.specs.Items.{Item}
 use Rattle.jp_grep.specs.Positions.{IsAt}
 use Rattle.jp_grep.specs.Rows.{messages_from, output_from}
-use Rattle.jp_grep.specs.Searching.{Answers, GoesOnBy, IsUnderWay}
+use Rattle.jp_grep.specs.Searching.{Answers, GoesOnBy, IsUnderWay, answered_after}
 use Rattle.jp_grep.specs.Sizes.{TellsOfNumbers, TellsOfSize}
 use Rattle.jp_grep.specs.Streams.{closed_in}
-use Rattle.jp_grep.specs.Watching.{answered_of}
 use Rattle.jp_grep.specs.declared.fault.SearchFault.{SearchFault}
 use Rattle.jp_grep.specs.declared.fault.SearchFault.TheVariants as faults
 use Rattle.jp_form.specs.declared.form.Form.{Form}
@@ -119,11 +118,11 @@ so_anyhow P (Ok x) p = p
 so_anyhow P (Err e) p = λ _. p
 
 module _ (question : Question) (form : Form) where
-  pub none_answered : (selected : ℕ) → answered_of question form selected [] ≡ []
-  none_answered selected = none_up_to question (form.most - selected)
+  pub none_answered : (progress : Progress) → answered_after question form progress [] ≡ []
+  none_answered progress = none_up_to question (form.most - progress.counts.selected) (form.trailing - progress.trailed)
 
   pub none_by : (progress : Progress) → IsUnderWay form progress → GoesOnBy question form progress progress []
-  none_by progress h = record { number = omega arith; selected = omega arith; refused = omega arith; given_up = omega arith; under_way = h }
+  none_by progress h = record { number = omega arith; selected = omega arith; refused = omega arith; given_up = omega arith; trailed = omega arith; under_way = h }
 
   module _ {W E : Type 0} (rows_in : W → Option (List ℕ)) (messages_in : E → Option (List ℕ)) (progress : Progress) (out : Device W) (told : Device E) (r : Result Unit SearchFault) where
     unwritten : IfErr r (λ fault. is_writer_fault fault ≡ false → (out ≡ out) × (told ≡ told) × (progress ≡ progress))
@@ -134,9 +133,9 @@ module _ (question : Question) (form : Form) where
     answers_none h = record {
       outcomes = [];
       each = tt;
-      rows = subst (λ ls. Writes rows_in out out r (output_from question form progress.number ls)) (sym (none_answered progress.counts.selected)) (none_written rows_in r out);
-      messages = subst (λ ls. Writes messages_in told told r (messages_from form progress.counts.refused progress.number ls)) (sym (none_answered progress.counts.selected)) (none_written messages_in r told);
-      progress = holds_at_ok r (subst (λ ls. GoesOnBy question form progress progress ls) (sym (none_answered progress.counts.selected)) (none_by progress h));
+      rows = subst (λ ls. Writes rows_in out out r (output_from question form progress.number ls)) (sym (none_answered progress)) (none_written rows_in r out);
+      messages = subst (λ ls. Writes messages_in told told r (messages_from form progress.counts.refused progress.number ls)) (sym (none_answered progress)) (none_written messages_in r told);
+      progress = holds_at_ok r (subst (λ ls. GoesOnBy question form progress progress ls) (sym (none_answered progress)) (none_by progress h));
       unwritten = unwritten;
     }
 

@@ -33,30 +33,41 @@ pub none_came : (outcomes : List Item) → CameOfEach [] outcomes → outcomes �
 none_came [] h = refl
 none_came (outcome ∷ outcomes) h = absurd h
 
+second : (a b c : ℕ) → c ≡ a + b → c ≡ 0 → b ≡ 0
+second a b c e f = omega (arith, e, f)
+
+first : (a b c : ℕ) → c ≡ a + b → c ≡ 0 → a ≡ 0
+first a b c e f = omega (arith, e, f)
+
+kept : (item outcome : Item) → CameOf item outcome → ◌≡◌ {A = ℕ} (cond (is_given_up outcome) 1 0) 0 → outcome ≡ item
+kept item outcome (inl e) none = e
+kept item outcome (inr lost) none = absurd (one (ap (λ (x : Item). let n : ℕ = cond (is_given_up x) 1 0 in n) (sym lost.1) ∙ none))
+  where
+    one : ◌≡◌ {A = ℕ} 1 0 → ⊥
+    one e = cc
+
 -- where none of those that are answered was given up, they are the items
-pub none_lost : (question : Question) (most : ℕ) (items outcomes : List Item) → CameOfEach items outcomes → given_up_count (up_to question most outcomes) ≡ 0 → up_to question most outcomes ≡ up_to question most items
-none_lost question zero items outcomes h none = refl
-none_lost question (suc most) [] [] h none = refl
-none_lost question (suc most) [] (outcome ∷ outcomes) h none = absurd h
-none_lost question (suc most) (item ∷ items) [] h none = absurd h
-none_lost question (suc most) (item ∷ items) (outcome ∷ outcomes) h none =
+pub none_lost : (question : Question) (most trailing : ℕ) (items outcomes : List Item) → CameOfEach items outcomes → given_up_count (up_to question most trailing outcomes) ≡ 0
+    → up_to question most trailing outcomes ≡ up_to question most trailing items
+none_lost question zero zero items outcomes h none = refl
+none_lost question zero (suc trailing) [] [] h none = refl
+none_lost question zero (suc trailing) [] (outcome ∷ outcomes) h none = absurd h
+none_lost question zero (suc trailing) (item ∷ items) [] h none = absurd h
+none_lost question zero (suc trailing) (item ∷ items) (outcome ∷ outcomes) h none =
+    let one = cut_to 0 outcome in
+    let taken = up_to question zero trailing outcomes in
+    let counted = count-cons is_given_up one taken in
+    let rest = none_lost question zero trailing items outcomes h.1 (second (cond (is_given_up outcome) 1 0) (given_up_count taken) (given_up_count (one ∷ taken)) counted none) in
+    let same = kept item outcome h.0 (first (cond (is_given_up outcome) 1 0) (given_up_count taken) (given_up_count (one ∷ taken)) counted none) in
+    ap (λ ls. one ∷ ls) rest ∙ ap (λ (x : Item). cut_to 0 x ∷ up_to question zero trailing items) same
+none_lost question (suc most) trailing [] [] h none = refl
+none_lost question (suc most) trailing [] (outcome ∷ outcomes) h none = absurd h
+none_lost question (suc most) trailing (item ∷ items) [] h none = absurd h
+none_lost question (suc most) trailing (item ∷ items) (outcome ∷ outcomes) h none =
     let one = cut_to (suc most) outcome in
     let left : ℕ = suc most - selected_in question one in
-    let taken = up_to question left outcomes in
+    let taken = up_to question left trailing outcomes in
     let counted = count-cons is_given_up one taken in
-    let rest = none_lost question left items outcomes h.1 (second (cond (is_given_up outcome) 1 0) (given_up_count taken) (given_up_count (one ∷ taken)) counted none) in
+    let rest = none_lost question left trailing items outcomes h.1 (second (cond (is_given_up outcome) 1 0) (given_up_count taken) (given_up_count (one ∷ taken)) counted none) in
     let same = kept item outcome h.0 (first (cond (is_given_up outcome) 1 0) (given_up_count taken) (given_up_count (one ∷ taken)) counted none) in
-    ap (λ ls. one ∷ ls) rest ∙ ap (λ (x : Item). cut_to (suc most) x ∷ up_to question (suc most - selected_in question (cut_to (suc most) x)) items) same
-  where
-    second : (a b c : ℕ) → c ≡ a + b → c ≡ 0 → b ≡ 0
-    second a b c e f = omega (arith, e, f)
-
-    first : (a b c : ℕ) → c ≡ a + b → c ≡ 0 → a ≡ 0
-    first a b c e f = omega (arith, e, f)
-
-    kept : (item outcome : Item) → CameOf item outcome → ◌≡◌ {A = ℕ} (cond (is_given_up outcome) 1 0) 0 → outcome ≡ item
-    kept item outcome (inl e) none = e
-    kept item outcome (inr lost) none = absurd (one (ap (λ (x : Item). let n : ℕ = cond (is_given_up x) 1 0 in n) (sym lost.1) ∙ none))
-      where
-        one : ◌≡◌ {A = ℕ} 1 0 → ⊥
-        one e = cc
+    ap (λ ls. one ∷ ls) rest ∙ ap (λ (x : Item). cut_to (suc most) x ∷ up_to question (suc most - selected_in question (cut_to (suc most) x)) trailing items) same

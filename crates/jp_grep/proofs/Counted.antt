@@ -1,8 +1,8 @@
 -- Lines, texts and elements that are answered one after another.
-use Rattle.std.proofs.Common.{◌≡◌, ◌∙◌, ◌<◌, ◌≤◌, ℕ, ◌+◌, ◌-◌, List, [], ◌∷◌, ◌++◌, length, refl, sym, ap, ap₂, append_assoc, append-nil, arith, Bool}
-use Rattle.std.specs.Prelude.{zero, suc, count_by, cond}
+use Rattle.std.proofs.Common.{◌≡◌, ◌∙◌, ◌<◌, ◌≤◌, ℕ, ◌+◌, ◌-◌, List, [], ◌∷◌, ◌++◌, length, refl, sym, ap, ap₂, append_assoc, append-nil, arith, inl, inr, Bool, Some}
+use Rattle.std.specs.Prelude.{zero, suc, count_by, cond, ◌⊎◌}
 use Rattle.std.proofs.lemmas.List.Sums.{sum_by-cons}
-use Rattle.jp_grep.specs.Items.{Item}
+use Rattle.jp_grep.specs.Items.{Item, is_unjudged, unjudged_count}
 use Rattle.jp_grep.specs.Rows.{item_message, item_rows, messages_from, output_from, refused_count, refused_item, selected_count, selected_in}
 use Rattle.jp_grep.specs.Watching.{cut_to, up_to}
 use Rattle.jp_form.specs.declared.form.Form.{Form}
@@ -16,37 +16,65 @@ module _ (question : Question) where
   less : (most one rest all : ℕ) → all ≡ one + rest → (most - one) - rest ≡ most - all
   less most one rest all e = omega (arith, e)
 
-  -- the item that comes next is among them, where some are wanted
-  pub next_up_to : (most : ℕ) (item : Item) (rest : List Item) → 0 < most → up_to question most (item ∷ rest) ≡ cut_to most item ∷ up_to question (most - selected_in question (cut_to most item)) rest
-  next_up_to zero item rest l = absurd (omega arith)
-  next_up_to (suc most) item rest l = refl
+  none_less : (n : ℕ) → zero ≡ zero - n
+  none_less n = omega arith
 
-  pub none_up_to : (most : ℕ) → up_to question most [] ≡ []
-  none_up_to zero = refl
-  none_up_to (suc most) = refl
+  all_left : (n : ℕ) → n ≡ n - 0
+  all_left n = omega arith
+
+  one_less : (n : ℕ) → n ≡ suc n - 1
+  one_less n = omega arith
+
+  -- the item that comes next is among them, where some are wanted, or passed after those that are
+  pub next_up_to : (most trailing : ℕ) (item : Item) (rest : List Item) → (0 < most) ⊎ (0 < trailing)
+      → up_to question most trailing (item ∷ rest) ≡ cut_to most item ∷ up_to question (most - selected_in question (cut_to most item)) (trailing - cond (is_unjudged (Some most)) 1 0) rest
+  next_up_to zero zero item rest (inl l) = absurd (omega (arith, l))
+  next_up_to zero zero item rest (inr l) = absurd (omega (arith, l))
+  next_up_to zero (suc trailing) item rest l = ap₂ (λ (j k : ℕ). cut_to 0 item ∷ up_to question j k rest) (none_less (selected_in question (cut_to 0 item))) (one_less trailing)
+  next_up_to (suc most) trailing item rest l = ap (λ (k : ℕ). cut_to (suc most) item ∷ up_to question (suc most - selected_in question (cut_to (suc most) item)) k rest) (all_left trailing)
+
+  pub none_up_to : (most trailing : ℕ) → up_to question most trailing [] ≡ []
+  none_up_to zero zero = refl
+  none_up_to zero (suc trailing) = refl
+  none_up_to (suc most) trailing = refl
 
   -- no more are taken than there are
-  pub few_up_to : (most : ℕ) (items : List Item) → length (up_to question most items) ≤ length items
-  few_up_to zero items = omega arith
-  few_up_to (suc most) [] = omega arith
-  few_up_to (suc most) (item ∷ rest) = let l = few_up_to (suc most - selected_in question (cut_to (suc most) item)) rest in omega (arith, l)
+  pub few_up_to : (most trailing : ℕ) (items : List Item) → length (up_to question most trailing items) ≤ length items
+  few_up_to zero zero items = omega arith
+  few_up_to zero (suc trailing) [] = omega arith
+  few_up_to zero (suc trailing) (item ∷ rest) = let l = few_up_to zero trailing rest in omega (arith, l)
+  few_up_to (suc most) trailing [] = omega arith
+  few_up_to (suc most) trailing (item ∷ rest) = let l = few_up_to (suc most - selected_in question (cut_to (suc most) item)) trailing rest in omega (arith, l)
 
   -- of more items, those after the first are taken as far as they are wanted then
-  pub up_to-append : (most : ℕ) (xs ys : List Item) → up_to question most (xs ++ ys) ≡ up_to question most xs ++ up_to question (most - selected_count question (up_to question most xs)) ys
-  up_to-append zero xs ys = ap (λ n. up_to question n ys) (none_less (selected_count question (up_to question zero xs)))
+  pub up_to-append : (most trailing : ℕ) (xs ys : List Item)
+      → up_to question most trailing (xs ++ ys)
+      ≡ up_to question most trailing xs ++ up_to question (most - selected_count question (up_to question most trailing xs)) (trailing - unjudged_count (up_to question most trailing xs)) ys
+  up_to-append zero zero xs ys = ap₂ (λ (j k : ℕ). up_to question j k ys) (none_less (selected_count question [])) (none_less (unjudged_count []))
+  up_to-append zero (suc trailing) [] ys = ap₂ (λ (j k : ℕ). up_to question j k ys) (none_less (selected_count question [])) (all_left (suc trailing))
+  up_to-append zero (suc trailing) (x ∷ xs) ys =
+      let one = cut_to 0 x in
+      let taken = up_to question zero trailing xs in
+      ap (λ l. one ∷ l) (up_to-append zero trailing xs ys)
+      ∙ ap₂ (λ (j k : ℕ). one ∷ (taken ++ up_to question j k ys)) (both_none (selected_count question taken) (selected_count question (one ∷ taken)))
+      (both_less trailing (unjudged_count taken) (unjudged_count (one ∷ taken)) (count-cons (λ (item : Item). is_unjudged item.most) one taken))
     where
-      none_less : (n : ℕ) → zero ≡ zero - n
-      none_less n = omega arith
-  up_to-append (suc most) [] ys = ap (λ n. up_to question n ys) (all_left (suc most))
-    where
-      all_left : (n : ℕ) → n ≡ n - 0
-      all_left n = omega arith
-  up_to-append (suc most) (x ∷ xs) ys =
+      both_none : (m n : ℕ) → zero - m ≡ zero - n
+      both_none m n = omega arith
+
+      both_less : (trailing rest all : ℕ) → all ≡ 1 + rest → trailing - rest ≡ suc trailing - all
+      both_less trailing rest all e = omega (arith, e)
+  up_to-append (suc most) trailing [] ys = ap₂ (λ (j k : ℕ). up_to question j k ys) (all_left (suc most)) (all_left trailing)
+  up_to-append (suc most) trailing (x ∷ xs) ys =
       let one = cut_to (suc most) x in
       let k : ℕ = suc most - selected_in question one in
-      let taken = up_to question k xs in
-      ap (λ l. one ∷ l) (up_to-append k xs ys)
-      ∙ ap (λ n. one ∷ (taken ++ up_to question n ys)) (less (suc most) (selected_in question one) (selected_count question taken) (selected_count question (one ∷ taken)) (sum_by-cons (selected_in question) one taken))
+      let taken = up_to question k trailing xs in
+      ap (λ l. one ∷ l) (up_to-append k trailing xs ys)
+      ∙ ap₂ (λ (m n : ℕ). one ∷ (taken ++ up_to question m n ys)) (less (suc most) (selected_in question one) (selected_count question taken) (selected_count question (one ∷ taken)) (sum_by-cons (selected_in question) one taken))
+      (as_many trailing (unjudged_count taken) (unjudged_count (one ∷ taken)) (count-cons (λ (item : Item). is_unjudged item.most) one taken))
+    where
+      as_many : (trailing rest all : ℕ) → all ≡ 0 + rest → trailing - rest ≡ trailing - all
+      as_many trailing rest all e = omega (arith, e)
 
 module _ (question : Question) (form : Form) where
   pub output-append : (n : ℕ) (xs ys : List Item) → output_from question form n (xs ++ ys) ≡ output_from question form n xs ++ output_from question form (n + length xs) ys

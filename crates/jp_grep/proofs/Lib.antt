@@ -18,6 +18,7 @@ pub mod RowLists
 pub mod Asking
 pub mod Selecting
 pub mod GivenUp
+pub mod Around
 pub mod Appended
 pub mod Joining
 pub mod Batched

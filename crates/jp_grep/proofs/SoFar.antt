@@ -11,14 +11,14 @@ use Rattle.jp_model.specs.Lines.{is_framed}
 use Rattle.jp_grep.specs.Formats.{format_of}
 use Rattle.jp_grep.specs.Fronts.{IsOfLines, IsRefused}
 use Rattle.jp_grep.specs.Inputs.{WantsMore}
-use Rattle.jp_grep.specs.Items.{Item, framing_by, is_given_up, items_come}
+use Rattle.jp_grep.specs.Items.{Item, framing_by, is_given_up, is_unjudged, items_come, unjudged_count}
 use Rattle.jp_grep.specs.Outcomes.{CameOfEach, CameOfStream, given_up_count}
 use Rattle.jp_grep.specs.Rows.{messages_from, output_from, refused_count, refused_item, selected_count, selected_in, summary_of}
-use Rattle.jp_grep.specs.Searching.{Answers, GoesOnBy, HasAnswered}
+use Rattle.jp_grep.specs.Searching.{Answers, GoesOnBy, HasAnswered, answered_after}
 use Rattle.jp_grep.specs.Sizes.{IsOversize, held_in}
 use Rattle.jp_grep.specs.Stands.{Stands}
 use Rattle.jp_grep.specs.Told.{more_refused}
-use Rattle.jp_grep.specs.Watching.{Answered, AnsweredInPart, AnsweredToEnd, AreCounts, EndsWith, SearchStopped, SearchedLines, answered_of, is_whole, up_to}
+use Rattle.jp_grep.specs.Watching.{Answered, AnsweredInPart, AnsweredToEnd, AreCounts, EndsWith, IsEnough, IsShort, SearchStopped, SearchedLines, answered_of, is_whole, up_to}
 use Rattle.jp_grep.specs.declared.fault.SearchFault.{SearchFault}
 use Rattle.jp_grep.specs.declared.fault.SearchFault.TheVariants as faults
 use Rattle.jp_grep.specs.declared.found.Found.{Found}
@@ -76,7 +76,7 @@ zero_first n = omega arith
 
 module _ (question : Question) (form : Form) where
   none_taken : (selected : ℕ) → answered_of question form selected [] ≡ []
-  none_taken selected = none_up_to question (form.most - selected)
+  none_taken selected = none_up_to question (form.most - selected) form.trailing
 
   counts_as : (outcomes : List Item) (found : Found) (counts : Counts) → found.counts ≡ counts → AreCounts question counts (answered_of question form 0 outcomes) → AreCounts question found.counts (answered_of question form 0 outcomes)
   counts_as outcomes found counts e h = subst (λ (n : Counts). AreCounts question n (answered_of question form 0 outcomes)) (sym e) h
@@ -84,10 +84,10 @@ module _ (question : Question) (form : Form) where
   module _ (came : Came) (outcomes : List Item) (found : Found) where
     ends_so : Option Unread → Type 0
     ends_so unread = MatchOption unread
-        ((format_of came.bytes ≡ None) × CameOfEach (items_come form.units came.ended came.bytes) outcomes × ((came.ended ≡ true) ⊎ (found.counts.selected ≡ form.most)))
+        ((format_of came.bytes ≡ None) × CameOfEach (items_come form.units came.ended came.bytes) outcomes × ((came.ended ≡ true) ⊎ IsEnough form found.counts.selected (unjudged_count (answered_of question form 0 outcomes))))
         (λ there. (there.line ≡ 1 + length (answered_of question form 0 outcomes)) × (there.limit ≡ limits.Size → IsOversize form.units came outcomes))
 
-    ends_whole : found.unread ≡ None → (format_of came.bytes ≡ None) × CameOfEach (items_come form.units came.ended came.bytes) outcomes × ((came.ended ≡ true) ⊎ (found.counts.selected ≡ form.most))
+    ends_whole : found.unread ≡ None → (format_of came.bytes ≡ None) × CameOfEach (items_come form.units came.ended came.bytes) outcomes × ((came.ended ≡ true) ⊎ IsEnough form found.counts.selected (unjudged_count (answered_of question form 0 outcomes)))
         → EndsWith question form came outcomes found
     unfolding ends_so
     ends_whole e h = subst ends_so (sym e) h
@@ -113,52 +113,56 @@ module _ (question : Question) (form : Form) where
       none_of (Some x) n e = absurd (false≢true e)
 
   -- of more lines as many are taken as are wanted after the others
-  taken_more : (before more : List Item) (selected : ℕ) → selected ≡ selected_count question (answered_of question form 0 before)
-      → answered_of question form 0 (before ++ more) ≡ answered_of question form 0 before ++ answered_of question form selected more
-  taken_more before more selected e =
-      up_to-append question (form.most - 0) before more
-      ∙ ap (λ n. answered_of question form 0 before ++ up_to question n more) (left form.most selected (selected_count question (answered_of question form 0 before)) e)
+  taken_more : (before more : List Item) (progress : Progress) → progress.counts.selected ≡ selected_count question (answered_of question form 0 before)
+      → progress.trailed ≡ unjudged_count (answered_of question form 0 before)
+      → answered_of question form 0 (before ++ more) ≡ answered_of question form 0 before ++ answered_after question form progress more
+  taken_more before more progress selected trailed =
+      up_to-append question (form.most - 0) form.trailing before more
+      ∙ ap₂ (λ (m n : ℕ). answered_of question form 0 before ++ up_to question m n more) (left form.most progress.counts.selected (selected_count question (answered_of question form 0 before)) selected) (ap (λ (n : ℕ). form.trailing - n) (sym trailed))
     where
       left : (most selected count : ℕ) → selected ≡ count → (most - 0) - count ≡ most - selected
       left most selected count e = omega (arith, e)
 
-  module _ (before more : List Item) (progress : Progress) (number_is : progress.number ≡ 1 + length (answered_of question form 0 before)) (counts_are : AreCounts question progress.counts (answered_of question form 0 before)) where
-    sum : answered_of question form 0 (before ++ more) ≡ answered_of question form 0 before ++ answered_of question form progress.counts.selected more
-    sum = taken_more before more progress.counts.selected counts_are.selected
+  module _ (before more : List Item) (progress : Progress) (number_is : progress.number ≡ 1 + length (answered_of question form 0 before)) (counts_are : AreCounts question progress.counts (answered_of question form 0 before)) (trailed_is : progress.trailed ≡ unjudged_count (answered_of question form 0 before)) where
+    sum : answered_of question form 0 (before ++ more) ≡ answered_of question form 0 before ++ answered_after question form progress more
+    sum = taken_more before more progress counts_are.selected trailed_is
 
     pub rows_sum : output_from question form 1 (answered_of question form 0 (before ++ more))
-        ≡ output_from question form 1 (answered_of question form 0 before) ++ output_from question form progress.number (answered_of question form progress.counts.selected more)
+        ≡ output_from question form 1 (answered_of question form 0 before) ++ output_from question form progress.number (answered_after question form progress more)
     rows_sum =
         ap (output_from question form 1) sum
-        ∙ output-append question form 1 (answered_of question form 0 before) (answered_of question form progress.counts.selected more)
-        ∙ ap (λ k. output_from question form 1 (answered_of question form 0 before) ++ output_from question form k (answered_of question form progress.counts.selected more)) (sym number_is)
+        ∙ output-append question form 1 (answered_of question form 0 before) (answered_after question form progress more)
+        ∙ ap (λ k. output_from question form 1 (answered_of question form 0 before) ++ output_from question form k (answered_after question form progress more)) (sym number_is)
 
     pub messages_sum : messages_from form 0 1 (answered_of question form 0 (before ++ more))
-        ≡ messages_from form 0 1 (answered_of question form 0 before) ++ messages_from form progress.counts.refused progress.number (answered_of question form progress.counts.selected more)
+        ≡ messages_from form 0 1 (answered_of question form 0 before) ++ messages_from form progress.counts.refused progress.number (answered_after question form progress more)
     messages_sum =
         ap (messages_from form 0 1) sum
-        ∙ messages-append question form 0 1 (answered_of question form 0 before) (answered_of question form progress.counts.selected more)
-        ∙ ap₂ (λ j k. messages_from form 0 1 (answered_of question form 0 before) ++ messages_from form j k (answered_of question form progress.counts.selected more)) (zero_first _ ∙ sym counts_are.refused) (sym number_is)
+        ∙ messages-append question form 0 1 (answered_of question form 0 before) (answered_after question form progress more)
+        ∙ ap₂ (λ j k. messages_from form 0 1 (answered_of question form 0 before) ++ messages_from form j k (answered_after question form progress more)) (zero_first _ ∙ sym counts_are.refused) (sym number_is)
 
-    pub number_sum : (after : Progress) → GoesOnBy question form progress after (answered_of question form progress.counts.selected more) → after.number ≡ 1 + length (answered_of question form 0 (before ++ more))
-    number_sum after by = by.number ∙ ap (λ k. k + length (answered_of question form progress.counts.selected more)) number_is
-        ∙ lengths (length (answered_of question form 0 before)) (length (answered_of question form progress.counts.selected more)) (length (answered_of question form 0 (before ++ more)))
-        (ap length sum ∙ length-append (answered_of question form 0 before) (answered_of question form progress.counts.selected more))
+    pub number_sum : (after : Progress) → GoesOnBy question form progress after (answered_after question form progress more) → after.number ≡ 1 + length (answered_of question form 0 (before ++ more))
+    number_sum after by = by.number ∙ ap (λ k. k + length (answered_after question form progress more)) number_is
+        ∙ lengths (length (answered_of question form 0 before)) (length (answered_after question form progress more)) (length (answered_of question form 0 (before ++ more)))
+        (ap length sum ∙ length-append (answered_of question form 0 before) (answered_after question form progress more))
       where
         lengths : (a b c : ℕ) → c ≡ a + b → (1 + a) + b ≡ 1 + c
         lengths a b c e = omega (arith, e)
 
-    count_sum : (of : Item → ℕ) (was is : ℕ) → was ≡ sum_by of (answered_of question form 0 before) → is ≡ was + sum_by of (answered_of question form progress.counts.selected more)
+    count_sum : (of : Item → ℕ) (was is : ℕ) → was ≡ sum_by of (answered_of question form 0 before) → is ≡ was + sum_by of (answered_after question form progress more)
         → is ≡ sum_by of (answered_of question form 0 (before ++ more))
-    count_sum of was is e f = f ∙ ap (λ k. k + sum_by of (answered_of question form progress.counts.selected more)) e
-        ∙ sym (ap (sum_by of) sum ∙ sum_by-append of (answered_of question form 0 before) (answered_of question form progress.counts.selected more))
+    count_sum of was is e f = f ∙ ap (λ k. k + sum_by of (answered_after question form progress more)) e
+        ∙ sym (ap (sum_by of) sum ∙ sum_by-append of (answered_of question form 0 before) (answered_after question form progress more))
 
-    pub counts_sum : (after : Progress) → GoesOnBy question form progress after (answered_of question form progress.counts.selected more) → AreCounts question after.counts (answered_of question form 0 (before ++ more))
+    pub counts_sum : (after : Progress) → GoesOnBy question form progress after (answered_after question form progress more) → AreCounts question after.counts (answered_of question form 0 (before ++ more))
     counts_sum after by = record {
       selected = count_sum (selected_in question) progress.counts.selected after.counts.selected counts_are.selected by.selected;
       refused = count_sum (λ item. cond (refused_item item) 1 0) progress.counts.refused after.counts.refused counts_are.refused by.refused;
       given_up = count_sum (λ item. cond (is_given_up item) 1 0) progress.counts.given_up after.counts.given_up counts_are.given_up by.given_up;
     }
+
+    pub trailed_sum : (after : Progress) → GoesOnBy question form progress after (answered_after question form progress more) → after.trailed ≡ unjudged_count (answered_of question form 0 (before ++ more))
+    trailed_sum after by = count_sum (λ item. cond (is_unjudged item.most) 1 0) progress.trailed after.trailed trailed_is by.trailed
 
   module _ {W E : Type 0} (rows_in : W → Option (List ℕ)) (messages_in : E → Option (List ℕ)) where
     abbrev pub SoFar : Source → Progress → Device W → Device W → Device E → Device E → List ℕ → List Item → List Item → Type 0
@@ -166,8 +170,8 @@ module _ (question : Question) (form : Form) where
 
     -- at the front
     pub at_start : (source : Source) (progress : Progress) (out : Device W) (told : Device E) → Stands form.units [] source []
-        → progress.number ≡ 1 → progress.counts.selected ≡ 0 → progress.counts.refused ≡ 0 → progress.counts.given_up ≡ 0 → SoFar source progress out out told told [] [] []
-    at_start source progress out told stands number selected refused given_up = record {
+        → progress.number ≡ 1 → progress.counts.selected ≡ 0 → progress.counts.refused ≡ 0 → progress.counts.given_up ≡ 0 → progress.trailed ≡ 0 → SoFar source progress out out told told [] [] []
+    at_start source progress out told stands number selected refused given_up trailed = record {
       position = stands;
       each = tt;
       rows = subst (λ ls. Received rows_in out out (output_from question form 1 ls)) (sym (none_taken 0)) (none_received out);
@@ -178,8 +182,10 @@ module _ (question : Question) (form : Form) where
         refused = refused ∙ ap refused_count (sym (none_taken 0));
         given_up = given_up ∙ ap given_up_count (sym (none_taken 0));
       };
+      trailed = trailed ∙ ap unjudged_count (sym (none_taken 0));
       under_way = record {
         wanted = omega (arith, selected);
+        passed = omega (arith, trailed);
         fewer_refused = omega (arith, refused, number);
         fewer_given_up = omega (arith, given_up, number);
       };
@@ -195,6 +201,7 @@ module _ (question : Question) (form : Form) where
       messages = subst (λ t. Received messages_in told0 told2 t) (append-nil (messages_from form 0 1 (answered_of question form 0 outcomes))) (both_received told0 told1 told2 _ [] so.messages messages);
       number = so.number;
       counts = so.counts;
+      trailed = so.trailed;
       under_way = so.under_way;
     }
 
@@ -213,13 +220,13 @@ module _ (question : Question) (form : Form) where
       all_so_far = record { rows = so.rows; messages = so.messages }
 
       -- as many as are wanted were selected
-      pub enough_selected : (failed : Bool) (found : Found) → progress.counts.selected ≡ form.most → found.counts ≡ progress.counts → found.unread ≡ None
+      pub enough_selected : (failed : Bool) (found : Found) → IsEnough form progress.counts.selected progress.trailed → found.counts ≡ progress.counts → found.unread ≡ None
           → SearchedLines rows_in messages_in question form out0 out1 told0 told1 (came_so came false failed) outcomes found
       enough_selected failed found enough counts unread = record {
         framed = λ ended. absurd (false≢true ended);
         all = all_so_far;
         counts = counts_as outcomes found progress.counts counts so.counts;
-        end = ends_whole (came_so came false failed) outcomes found unread ((goes_as form.units came source lines so.position).format, all_came, inr (ap (λ (n : Counts). n.selected) counts ∙ enough));
+        end = ends_whole (came_so came false failed) outcomes found unread ((goes_as form.units came source lines so.position).format, all_came, inr (ap (λ (n : Counts). n.selected) counts ∙ enough.0, sym so.trailed ∙ enough.1));
       }
 
       -- the rest is passed over
@@ -239,36 +246,33 @@ module _ (question : Question) (form : Form) where
           inl (record { before = came; last = last; bytes = bytes; items = lines; each = so.each; source = source; stands = so.position; many = many })
       oversize now last items others bytes split (inr many) =
           inr (inl (as_many progress.number (length (answered_of question form 0 outcomes)) (length outcomes) (length lines) (length items) (length others) (length (items_come form.units now.ended now.bytes))
-          so.number (few_up_to question (form.most - 0) outcomes) (came_length lines outcomes so.each)
+          so.number (few_up_to question (form.most - 0) form.trailing outcomes) (came_length lines outcomes so.each)
           (ap length split ∙ length-append (lines ++ items) others ∙ ap (λ n. n + length others) (length-append lines items)) many))
         where
           as_many : (number answered all first more rest come : ℕ) → number ≡ 1 + answered → answered ≤ all → first ≡ all → come ≡ (first + more) + rest → 2 ^ 64 ≤ number + more → 2 ^ 64 ≤ 1 + come
           as_many number answered all first more rest come is fewer same sum many = omega (arith, is, fewer, same, sum, many)
 
-      -- fewer lines are selected than are wanted of what came
-      pub wants_more : (progress.counts.selected ≡ form.most → ⊥) → WantsMore question form came outcomes
-      wants_more other = record {
+      -- fewer lines are selected than are wanted of what came, or fewer are passed after them than are to be
+      pub wants_more : IsShort form progress.counts.selected progress.trailed → WantsMore question form came outcomes
+      wants_more short = record {
         front = goes_as form.units came source lines so.position;
         each = all_came;
-        fewer = fewer progress.counts.selected form.most _ so.under_way.wanted other so.counts.selected;
+        fewer = subst (λ (n : ℕ). IsShort form n (unjudged_count (answered_of question form 0 outcomes))) so.counts.selected (subst (λ (n : ℕ). IsShort form progress.counts.selected n) so.trailed short);
       }
-        where
-          fewer : (selected most count : ℕ) → selected ≤ most → (selected ≡ most → ⊥) → selected ≡ count → count < most
-          fewer selected most count l e is = omega (arith, l, e, is)
 
       -- a beginning of the answer of these lines, and of others after them
       pub in_part : (out2 : Device W) (told2 : Device E) (more : List Item)
-          → Part rows_in out1 out2 (output_from question form progress.number (answered_of question form progress.counts.selected more))
-          → Part messages_in told1 told2 (messages_from form progress.counts.refused progress.number (answered_of question form progress.counts.selected more))
+          → Part rows_in out1 out2 (output_from question form progress.number (answered_after question form progress more))
+          → Part messages_in told1 told2 (messages_from form progress.counts.refused progress.number (answered_after question form progress more))
           → AnsweredInPart rows_in messages_in question form out0 out2 told0 told2 (answered_of question form 0 (outcomes ++ more))
       in_part out2 told2 more rows messages =
           let all = answered_of question form 0 (outcomes ++ more) in
           record {
             all = true;
             rows = part_more out0 out2 (output_from question form 1 all) (summary_of form.summary form (selected_count question all) true)
-                (subst (λ t. Part rows_in out0 out2 t) (sym (rows_sum outcomes more progress so.number so.counts)) (part_behind out0 out1 out2 _ _ so.rows rows));
+                (subst (λ t. Part rows_in out0 out2 t) (sym (rows_sum outcomes more progress so.number so.counts so.trailed)) (part_behind out0 out1 out2 _ _ so.rows rows));
             messages = part_more told0 told2 (messages_from form 0 1 all) (more_refused form (refused_count all))
-                (subst (λ t. Part messages_in told0 told2 t) (sym (messages_sum outcomes more progress so.number so.counts)) (part_behind told0 told1 told2 _ _ so.messages messages));
+                (subst (λ t. Part messages_in told0 told2 t) (sym (messages_sum outcomes more progress so.number so.counts so.trailed)) (part_behind told0 told1 told2 _ _ so.messages messages));
           }
 
       -- nothing more was written
@@ -292,10 +296,10 @@ module _ (question : Question) (form : Form) where
 
       module _ (after : Progress) (out2 : Device W) (told2 : Device E) (x : Unit {0}) (more : List Item) (answers : Answers rows_in messages_in question form progress after out1 out2 told1 told2 (Ok x) more) where
         both_rows : Received rows_in out0 out2 (output_from question form 1 (answered_of question form 0 (outcomes ++ answers.outcomes)))
-        both_rows = subst (λ t. Received rows_in out0 out2 t) (sym (rows_sum outcomes answers.outcomes progress so.number so.counts)) (both_received out0 out1 out2 _ _ so.rows answers.rows)
+        both_rows = subst (λ t. Received rows_in out0 out2 t) (sym (rows_sum outcomes answers.outcomes progress so.number so.counts so.trailed)) (both_received out0 out1 out2 _ _ so.rows answers.rows)
 
         both_messages : Received messages_in told0 told2 (messages_from form 0 1 (answered_of question form 0 (outcomes ++ answers.outcomes)))
-        both_messages = subst (λ t. Received messages_in told0 told2 t) (sym (messages_sum outcomes answers.outcomes progress so.number so.counts)) (both_received told0 told1 told2 _ _ so.messages answers.messages)
+        both_messages = subst (λ t. Received messages_in told0 told2 t) (sym (messages_sum outcomes answers.outcomes progress so.number so.counts so.trailed)) (both_received told0 told1 told2 _ _ so.messages answers.messages)
 
         both_each : CameOfEach (lines ++ more) (outcomes ++ answers.outcomes)
         both_each = came_next lines outcomes more answers.outcomes so.each answers.each
@@ -308,8 +312,9 @@ module _ (question : Question) (form : Form) where
           each = both_each;
           rows = both_rows;
           messages = both_messages;
-          number = number_sum outcomes answers.outcomes progress so.number so.counts after answers.progress;
-          counts = counts_sum outcomes answers.outcomes progress so.number so.counts after answers.progress;
+          number = number_sum outcomes answers.outcomes progress so.number so.counts so.trailed after answers.progress;
+          counts = counts_sum outcomes answers.outcomes progress so.number so.counts so.trailed after answers.progress;
+          trailed = trailed_sum outcomes answers.outcomes progress so.number so.counts so.trailed after answers.progress;
           under_way = answers.progress.under_way;
         }
 
@@ -319,7 +324,7 @@ module _ (question : Question) (form : Form) where
         searched_all failed found all framed counts unread = record {
           framed = λ ended. framed;
           all = record { rows = both_rows; messages = both_messages };
-          counts = counts_as (outcomes ++ answers.outcomes) found after.counts counts (counts_sum outcomes answers.outcomes progress so.number so.counts after answers.progress);
+          counts = counts_as (outcomes ++ answers.outcomes) found after.counts counts (counts_sum outcomes answers.outcomes progress so.number so.counts so.trailed after answers.progress);
           end = ends_whole (came_so came true failed) (outcomes ++ answers.outcomes) found unread (framed.format, subst (λ ls. CameOfEach ls (outcomes ++ answers.outcomes)) (sym all) both_each, inl refl);
         }
 

@@ -1,5 +1,5 @@
 -- What plays the lines of a stream: its lines, the texts of a sequence, its JSON texts, or the elements of its arrays.
-use Rattle.std.specs.Prelude.{ℕ, ◌+◌, ◌-◌, ◌^◌, List, map, min, Bool, true, false, Option, Some, None, is_some}
+use Rattle.std.specs.Prelude.{ℕ, zero, suc, count_by, ◌+◌, ◌-◌, ◌^◌, List, map, min, Bool, true, false, Option, Some, None, is_some}
 use Rattle.jp_model.specs.declared.Framing.{Framing}
 use Rattle.jp_model.specs.declared.Framing.TheVariants as framings
 use Rattle.jp_model.specs.declared.LineFault.TheVariants as faults
@@ -18,6 +18,22 @@ pub record Item : Type 0 where
   pub from_line : Option ℕ
   pub most : Option ℕ
   pub given_up : Option ℕ
+
+-- one of whose nodes no more are wanted is not judged: it comes after the last that is wanted
+abbrev pub is_unjudged : (most : Option ℕ) → Bool
+is_unjudged None = false
+is_unjudged (Some zero) = true
+is_unjudged (Some (suc most)) = false
+
+-- how many of some items are not judged
+abbrev pub unjudged_count : List Item → ℕ
+unjudged_count items = count_by (λ item. is_unjudged item.most) items
+
+-- one that is not judged counts as a blank one: nothing of it is selected, and it is not refused
+abbrev pub judged : (most : Option ℕ) → LineStatus → LineStatus
+judged None status = status
+judged (Some zero) status = blank
+judged (Some (suc most)) status = status
 
 -- memory was refused for its answer
 abbrev pub is_given_up : Item → Bool

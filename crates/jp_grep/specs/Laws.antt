@@ -30,6 +30,7 @@ numbered_values summary name silent most = record {
   numbered = true;
   silent = silent;
   most = most;
+  trailing = 0;
 }
 
 -- a row of a query's answer with a colon after its number; that of a refused line is none

@@ -40,6 +40,7 @@ list_form name = record {
   silent = false;
   null = false;
   most = 18446744073709551615;
+  trailing = 0;
 }
 
 -- of what came of a stream a list has the values of the lines, and no other

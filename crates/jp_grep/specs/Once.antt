@@ -30,6 +30,7 @@ bare_lines summary name silent most = record {
   numbered = false;
   silent = silent;
   most = most;
+  trailing = 0;
 }
 
 -- lines are asked the query `$`, which has no segments, and no condition

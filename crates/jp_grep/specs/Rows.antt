@@ -1,6 +1,7 @@
 -- What is written of a line, and what is told of it.
-use Rattle.std.specs.Prelude.{ℕ, ◌+◌, List, [], ◌∷◌, ◌++◌, map, flat_map, codes, cond, decimal, count_by, sum_by, Bool, true, false, ◌==◌, ◌&&◌, if◌then◌else◌, ltb, take, Option, Some, None}
+use Rattle.std.specs.Prelude.{ℕ, zero, ◌+◌, List, [], ◌∷◌, ◌++◌, map, flat_map, codes, cond, decimal, count_by, sum_by, Bool, true, false, ◌==◌, ◌&&◌, if◌then◌else◌, ltb, take, Option, Some, None}
 use Rattle.std.specs.List.{concat}
+use Rattle.jp_context.specs.Told.{told_text}
 use Rattle.jp_model.specs.declared.Framing.TheVariants as framings
 use Rattle.jp_model.specs.declared.LineFault.{LineFault}
 use Rattle.jp_model.specs.Json.Status.{LineStatus, blank, refused, parsed}
@@ -10,7 +11,7 @@ use Rattle.jp_model.specs.Meaning.Paths.{path_text}
 use Rattle.jp_model.specs.Script.Machine.{is_refused_status}
 use Rattle.jp_model.specs.Rows.{row_start, line_fault_word, line_feed, source, tab}
 use Rattle.jp_grep.specs.Matching.{is_selected, nodes_of, queries_of, selected_nodes, selected_of, wanted_of, wants_refused}
-use Rattle.jp_grep.specs.Items.{Item, framing_by, is_given_up}
+use Rattle.jp_grep.specs.Items.{Item, framing_by, is_given_up, judged}
 use Rattle.jp_grep.specs.Spelled.{printed, spelled}
 use Rattle.jp_grep.specs.Tables.{table_row}
 use Rattle.jp_form.specs.declared.form.Form.{Form}
@@ -29,23 +30,31 @@ abbrev pub behind_name : (null : Bool) → List ℕ → List ℕ
 behind_name false other = other
 behind_name true other = 0x00 ∷ []
 
--- the name of the stream in front of a row
-abbrev pub name_front : (named null : Bool) → List ℕ → List ℕ
-name_front false null name = []
-name_front true null name = name ++ behind_name null (codes ":")
+-- the name of the stream in front of a row, and a sign after it
+abbrev pub name_front : (named null : Bool) → List ℕ → (sign : List ℕ) → List ℕ
+name_front false null name sign = []
+name_front true null name sign = name ++ behind_name null sign
 
--- the number of the line in front of a row
-abbrev pub number_front : Bool → ℕ → List ℕ
-number_front false n = []
-number_front true n = decimal n ++ codes ":"
+-- the number of the line in front of a row, and a sign after it
+abbrev pub number_front : Bool → ℕ → (sign : List ℕ) → List ℕ
+number_front false n sign = []
+number_front true n sign = decimal n ++ sign
 
 -- all that stands in front of a row of line n: in a sequence RS first, as in front of each text there (RFC 7464, section 2.2)
-abbrev pub front : Form → ℕ → List ℕ
-front form n = row_start (framing_by form.units) ++ name_front form.named form.null form.name.now ++ number_front form.numbered n
+abbrev pub front : (sign : List ℕ) → Form → ℕ → List ℕ
+front sign form n = row_start (framing_by form.units) ++ name_front form.named form.null form.name.now sign ++ number_front form.numbered n sign
 
 -- a row of line n
 abbrev pub row : Form → ℕ → List ℕ → List ℕ
-row form n body = front form n ++ (body ++ line_feed)
+row form n body = front (codes ":") form n ++ (body ++ line_feed)
+
+-- a row of line n around selected ones
+abbrev pub row_around : Form → ℕ → List ℕ → List ℕ
+row_around form n body = front (codes "-") form n ++ (body ++ line_feed)
+
+-- a row of line n as it is told to a writer that shows rows around selected ones
+abbrev pub row_told : (selected : Bool) → ℕ → List ℕ → List ℕ
+row_told selected n text = told_text (record { selected = selected; first = n == 1; text = text })
 
 -- a line as it is printed: its bytes, and of a text or an element those from the first of its value to the last
 abbrev pub whole : Units → List ℕ → Tree → List ℕ
@@ -72,6 +81,7 @@ value_row form paths n line node = row form n (path_front paths node ++ spelled 
 abbrev pub node_rows : Shown → Question → Form → ℕ → List ℕ → Tree → Node → List (List ℕ)
 node_rows shown.Nothing question form n line t node = []
 node_rows (shown.Line faults) question form n line t node = row form n (line_text form.spelling form.units line t) ∷ []
+node_rows shown.Around question form n line t node = row_told true n (row form n (line_text form.spelling form.units line t)) ∷ []
 node_rows (shown.Values paths) question form n line t node = map (value_row form paths n line) (nodes_of (queries_of question) node t)
 node_rows (shown.Cells table) question form n line t node = table_row table (queries_of question) form n line t node ∷ []
 
@@ -83,6 +93,7 @@ asked_rows question form n line t node = if is_selected question t node then nod
 abbrev pub row_at_once : Shown → Question → Form → ℕ → List ℕ → Tree → Node → List ℕ
 row_at_once shown.Nothing question form n line t node = []
 row_at_once (shown.Line faults) question form n line t node = row form n (line_text form.spelling form.units line t)
+row_at_once shown.Around question form n line t node = row_told true n (row form n (line_text form.spelling form.units line t))
 row_at_once (shown.Values paths) question form n line t node = []
 row_at_once (shown.Cells table) question form n line t node = table_row table (queries_of question) form n line t node
 
@@ -94,13 +105,32 @@ fault_front true fault = line_fault_word fault ++ tab
 -- the rows of a refused line that is selected: its bytes, and no values or cells, since it has none
 abbrev pub refused_rows : Shown → Form → ℕ → List ℕ → LineFault → List (List ℕ)
 refused_rows (shown.Line faults) form n line fault = row form n (fault_front faults fault ++ line) ∷ []
+refused_rows shown.Around form n line fault = row_told true n (row form n line) ∷ []
 refused_rows _ form n line fault = []
 
--- the rows of a line, a text or an element, as far as its nodes are wanted
+-- the rows of the nodes of a line, a text or an element that are selected, as far as they are wanted
+abbrev pub selected_rows : Question → Form → ℕ → List ℕ → (most : Option ℕ) → LineStatus → List (List ℕ)
+selected_rows question form n line most blank = []
+selected_rows question form n line most (refused fault) = if wants_refused question.wanted then refused_rows form.shown form n line fault else []
+selected_rows question form n line most (parsed t) = flat_map (node_rows form.shown question form n line t) (wanted_of most (selected_nodes question t))
+
+-- a line as it stands around selected ones: as it is
+abbrev pub text_around : Units → List ℕ → LineStatus → List ℕ
+text_around units line blank = line
+text_around units line (refused fault) = line
+text_around units line (parsed t) = whole units line t
+
+-- the rows of a line of which so many nodes are selected, where those around selected ones are shown: one where it is none
+abbrev pub rows_around : Shown → Form → ℕ → List ℕ → (selected : ℕ) → LineStatus → List (List ℕ)
+rows_around shown.Around form n line zero status = row_told false n (row_around form n (text_around form.units line status)) ∷ []
+rows_around _ form n line selected status = []
+
+-- the rows of a line, a text or an element that counts as one of this status: one that is not judged as a blank one
+abbrev pub counted_rows : Question → Form → ℕ → List ℕ → (most : Option ℕ) → (counted : LineStatus) → LineStatus → List (List ℕ)
+counted_rows question form n line most counted status = selected_rows question form n line most counted ++ rows_around form.shown form n line (selected_of question most counted) status
+
 abbrev pub status_rows : Question → Form → ℕ → List ℕ → (most : Option ℕ) → LineStatus → List (List ℕ)
-status_rows question form n line most blank = []
-status_rows question form n line most (refused fault) = if wants_refused question.wanted then refused_rows form.shown form n line fault else []
-status_rows question form n line most (parsed t) = flat_map (node_rows form.shown question form n line t) (wanted_of most (selected_nodes question t))
+status_rows question form n line most status = counted_rows question form n line most (judged most status) status
 
 -- those that are written: all, or where memory was refused the first
 abbrev pub written_of : (given_up : Option ℕ) → List (List ℕ) → List ℕ
@@ -115,7 +145,7 @@ from_line_text (Some line) = codes ", from line " ++ decimal line
 -- a message on a line: what is said of it after the program's name, that of the stream and the number of the line
 abbrev pub line_message : (name : List ℕ) → ℕ → (said : List ℕ) → (from_line : Option ℕ) → List ℕ
 line_message name n said from_line =
-    codes "jpgrep: " ++ name_front true false name ++ number_front true n ++ codes " " ++ said ++ (from_line_text from_line ++ line_feed)
+    codes "jpgrep: " ++ name_front true false name (codes ":") ++ number_front true n (codes ":") ++ codes " " ++ said ++ (from_line_text from_line ++ line_feed)
 
 -- the message on a refused line, where messages are wanted
 abbrev pub refusal : Bool → List ℕ → ℕ → LineFault → (from_line : Option ℕ) → List ℕ
@@ -150,18 +180,18 @@ abbrev pub message_where : (given_up : Bool) → Form → (before : ℕ) → ℕ
 message_where false form before n from_line status = status_message form before n from_line status
 message_where true form before n from_line status = given_up_message form.name.now n from_line
 
--- how many of its nodes are selected, as far as they are wanted: of one that is given up none
+-- how many of its nodes are selected, as far as they are wanted: of one that is given up none, and of one that is not judged
 abbrev pub selected_in : Question → Item → ℕ
-selected_in question item = selected_where (is_given_up item) question item.most item.status
+selected_in question item = selected_where (is_given_up item) question item.most (judged item.most item.status)
 
 abbrev pub refused_item : Item → Bool
-refused_item item = refused_where (is_given_up item) item.status
+refused_item item = refused_where (is_given_up item) (judged item.most item.status)
 
 abbrev pub item_rows : Question → Form → ℕ → Item → List ℕ
 item_rows question form n item = written_of item.given_up (status_rows question form n item.text item.most item.status)
 
 abbrev pub item_message : Form → (before : ℕ) → ℕ → Item → List ℕ
-item_message form before n item = message_where (is_given_up item) form before n item.from_line item.status
+item_message form before n item = message_where (is_given_up item) form before n item.from_line (judged item.most item.status)
 
 -- the output of some items, where the first has number n
 abbrev pub output_from : Question → Form → ℕ → List Item → List ℕ
@@ -185,6 +215,6 @@ selected_count question items = sum_by (selected_in question) items
 -- without selected lines is one of which all were
 abbrev pub summary_of : Summary → Form → (count : ℕ) → (all : Bool) → List ℕ
 summary_of summaries.Nothing form count all = []
-summary_of summaries.Count form count all = name_front form.named form.null form.name.now ++ (decimal count ++ line_feed)
+summary_of summaries.Count form count all = name_front form.named form.null form.name.now (codes ":") ++ (decimal count ++ line_feed)
 summary_of summaries.NameWith form count all = if count == 0 then [] else form.name.now ++ behind_name form.null line_feed
 summary_of summaries.NameWithout form count all = if (count == 0) && all then form.name.now ++ behind_name form.null line_feed else []

@@ -11,12 +11,12 @@ use Rattle.jp_grep.specs.Fronts.{AreRefused, IsOfLines}
 use Rattle.jp_grep.specs.Holding.{Puts}
 use Rattle.jp_grep.specs.Matching.{is_selected}
 use Rattle.std.specs.List.{concat}
-use Rattle.jp_grep.specs.Items.{Item, framing_by, is_given_up, items_come}
+use Rattle.jp_grep.specs.Items.{Item, framing_by, is_given_up, items_come, judged, unjudged_count}
 use Rattle.jp_grep.specs.Outcomes.{CameOf, CameOfEach, given_up_count}
-use Rattle.jp_grep.specs.Rows.{asked_rows, item_message, item_rows, messages_from, output_from, refused_count, refused_where, selected_count, selected_where, status_rows, written_of}
+use Rattle.jp_grep.specs.Rows.{asked_rows, item_message, item_rows, messages_from, output_from, refused_count, refused_where, selected_count, selected_rows, selected_where, status_rows, written_of}
 use Rattle.jp_grep.specs.Sizes.{TellsOfSize}
 use Rattle.jp_grep.specs.Stands.{Stands}
-use Rattle.jp_grep.specs.Watching.{AreCounts, answered_of, cut_to}
+use Rattle.jp_grep.specs.Watching.{AreCounts, answered_of, cut_to, up_to}
 use Rattle.jp_grep.specs.declared.fault.SearchFault.{SearchFault}
 use Rattle.jp_grep.specs.declared.fault.SearchFault.TheVariants as faults
 use Rattle.jp_form.specs.declared.form.Form.{Form}
@@ -25,11 +25,17 @@ use Rattle.jp_grep.specs.declared.progress.Verdict.{Verdict}
 use Rattle.jp_grep.specs.declared.question.Question.{Question}
 use Rattle.jp_grep.specs.declared.source.Source.{Source}
 
--- no more nodes are selected than are wanted, and of the items so far each is refused or given up at most once
+-- no more nodes are selected than are wanted, and no more items passed after them than are to be, and of the items so far each is
+-- refused or given up at most once
 pub record IsUnderWay (form : Form) (progress : Progress) : Type 0 where
   pub wanted : progress.counts.selected ≤ form.most
+  pub passed : progress.trailed ≤ form.trailing
   pub fewer_refused : progress.counts.refused < progress.number
   pub fewer_given_up : progress.counts.given_up < progress.number
+
+-- of some items those that are answered after this progress
+abbrev pub answered_after : Question → Form → Progress → List Item → List Item
+answered_after question form progress items = up_to question (form.most - progress.counts.selected) (form.trailing - progress.trailed) items
 
 -- the progress goes on by these items
 pub record GoesOnBy (question : Question) (form : Form) (before after : Progress) (items : List Item) : Type 0 where
@@ -37,6 +43,7 @@ pub record GoesOnBy (question : Question) (form : Form) (before after : Progress
   pub selected : after.counts.selected ≡ before.counts.selected + selected_count question items
   pub refused : after.counts.refused ≡ before.counts.refused + refused_count items
   pub given_up : after.counts.given_up ≡ before.counts.given_up + given_up_count items
+  pub trailed : after.trailed ≡ before.trailed + unjudged_count items
   pub under_way : IsUnderWay form after
 
 -- the verdict is that of this line, from which no more nodes are wanted, given up or not
@@ -59,11 +66,22 @@ pub record AnswersNode {W : Type 0} (rows_in : W → Option (List ℕ)) (questio
   pub rows : PutsFirst rows_in out0 out1 was_held is_held result is_some (asked_rows question form n line t node)
   pub selected : IfOk result (λ answer. MatchOption answer ⊤ (λ selected. selected ≡ is_selected question t node))
 
--- A line from which no more nodes are wanted is answered or given up: its rows are put, at an Err a beginning.
-pub record AnswersStatus {W : Type 0} (rows_in : W → Option (List ℕ)) (question : Question) (form : Form) (n : ℕ) (line : List ℕ) (most : ℕ) (out0 out1 : Device W) (was_held is_held : List ℕ) (result : Result Verdict SearchFault) (status : LineStatus) : Type 0 where
+-- A line from which no more nodes are wanted is answered or given up: of these rows those that are written are put, at an Err a
+-- beginning.
+pub record PutsRows {W : Type 0} (rows_in : W → Option (List ℕ)) (question : Question) (most : ℕ) (out0 out1 : Device W) (was_held is_held : List ℕ) (result : Result Verdict SearchFault) (status : LineStatus) (all : List (List ℕ)) : Type 0 where
   pub given_up : Option ℕ
-  pub rows : Puts rows_in out0 out1 was_held is_held result (written_of given_up (status_rows question form n line (Some most) status))
+  pub rows : Puts rows_in out0 out1 was_held is_held result (written_of given_up all)
   pub verdict : IfOk result (λ verdict. IsVerdict question verdict most (is_some given_up) status)
+
+-- the rows of what is selected of a line
+abbrev pub PutsSelected : {W : Type 0} → (W → Option (List ℕ)) → Question → Form → ℕ → (line : List ℕ) → (most : ℕ) → Device W → Device W → (was_held is_held : List ℕ) → Result Verdict SearchFault → LineStatus → Type 0
+PutsSelected rows_in question form n line most out0 out1 was_held is_held result status =
+    PutsRows rows_in question most out0 out1 was_held is_held result status (selected_rows question form n line (Some most) status)
+
+-- all rows of a line
+abbrev pub AnswersStatus : {W : Type 0} → (W → Option (List ℕ)) → Question → Form → ℕ → (line : List ℕ) → (most : ℕ) → Device W → Device W → (was_held is_held : List ℕ) → Result Verdict SearchFault → LineStatus → Type 0
+AnswersStatus rows_in question form n line most out0 out1 was_held is_held result status =
+    PutsRows rows_in question most out0 out1 was_held is_held result (judged (Some most) status) (status_rows question form n line (Some most) status)
 
 module _ {W E : Type 0} (rows_in : W → Option (List ℕ)) (messages_in : E → Option (List ℕ)) where
   -- An item is answered, as far as its nodes are wanted, or given up: its rows are put, and its message is written, at an Err a
@@ -72,25 +90,25 @@ module _ {W E : Type 0} (rows_in : W → Option (List ℕ)) (messages_in : E →
     pub outcome : Item
     pub came : CameOf item outcome
     pub rows : Puts rows_in out0 out1 was_held is_held result (item_rows question form progress.number (cut_to (form.most - progress.counts.selected) outcome))
-    pub message : Writes messages_in told0 told1 result (item_message form progress.counts.refused progress.number outcome)
-    pub verdict : IfOk result (λ verdict. IsVerdict question verdict (form.most - progress.counts.selected) (is_given_up outcome) outcome.status)
+    pub message : Writes messages_in told0 told1 result (item_message form progress.counts.refused progress.number (cut_to (form.most - progress.counts.selected) outcome))
+    pub verdict : IfOk result (λ verdict. IsVerdict question verdict (form.most - progress.counts.selected) (is_given_up outcome) (judged (Some (form.most - progress.counts.selected)) outcome.status))
 
   -- These items are answered, as far as they are wanted, where rows are held in front of a writer.
   pub record AnswersHeld (question : Question) (form : Form) (before after : Progress) (out0 out1 : Device W) (was_held is_held : List ℕ) (told0 told1 : Device E) (result : Result Unit SearchFault) (items : List Item) : Type 0 where
     pub outcomes : List Item
     pub each : CameOfEach items outcomes
-    pub rows : Puts rows_in out0 out1 was_held is_held result (output_from question form before.number (answered_of question form before.counts.selected outcomes))
-    pub messages : Writes messages_in told0 told1 result (messages_from form before.counts.refused before.number (answered_of question form before.counts.selected outcomes))
-    pub progress : OnOk result (GoesOnBy question form before after (answered_of question form before.counts.selected outcomes))
+    pub rows : Puts rows_in out0 out1 was_held is_held result (output_from question form before.number (answered_after question form before outcomes))
+    pub messages : Writes messages_in told0 told1 result (messages_from form before.counts.refused before.number (answered_after question form before outcomes))
+    pub progress : OnOk result (GoesOnBy question form before after (answered_after question form before outcomes))
 
   -- These items are answered, as far as they are wanted: both writers received what is written of what came of them, at an Err a
   -- beginning, and nothing where no writer failed.
   pub record Answers (question : Question) (form : Form) (before after : Progress) (out0 out1 : Device W) (told0 told1 : Device E) (result : Result Unit SearchFault) (items : List Item) : Type 0 where
     pub outcomes : List Item
     pub each : CameOfEach items outcomes
-    pub rows : Writes rows_in out0 out1 result (output_from question form before.number (answered_of question form before.counts.selected outcomes))
-    pub messages : Writes messages_in told0 told1 result (messages_from form before.counts.refused before.number (answered_of question form before.counts.selected outcomes))
-    pub progress : OnOk result (GoesOnBy question form before after (answered_of question form before.counts.selected outcomes))
+    pub rows : Writes rows_in out0 out1 result (output_from question form before.number (answered_after question form before outcomes))
+    pub messages : Writes messages_in told0 told1 result (messages_from form before.counts.refused before.number (answered_after question form before outcomes))
+    pub progress : OnOk result (GoesOnBy question form before after (answered_after question form before outcomes))
     pub unwritten : IfErr result (λ fault. is_writer_fault fault ≡ false → (out1 ≡ out0) × (told1 ≡ told0) × (after ≡ before))
 
   -- bytes of the stream came, and what ends in them is answered, whatever came before
@@ -125,4 +143,5 @@ module _ {W E : Type 0} (rows_in : W → Option (List ℕ)) (messages_in : E →
     pub messages : Received messages_in told0 told1 (messages_from form 0 1 (answered_of question form 0 outcomes))
     pub number : progress.number ≡ 1 + length (answered_of question form 0 outcomes)
     pub counts : AreCounts question progress.counts (answered_of question form 0 outcomes)
+    pub trailed : progress.trailed ≡ unjudged_count (answered_of question form 0 outcomes)
     pub under_way : IsUnderWay form progress

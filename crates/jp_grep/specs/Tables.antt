@@ -48,5 +48,6 @@ header_row table form names = joined table (front_cells form (codes "file") (cod
 abbrev pub header_text : Shown → Form → List (List ℕ) → List ℕ
 header_text shown.Nothing form names = []
 header_text (shown.Line faults) form names = []
+header_text shown.Around form names = []
 header_text (shown.Values paths) form names = []
 header_text (shown.Cells table) form names = header_row table form names

@@ -1,9 +1,9 @@
 -- What passed in a search, by the fault that it answers.
-use Rattle.std.specs.Prelude.{◌≡◌, ℕ, zero, suc, ◌+◌, ◌-◌, List, [], ◌∷◌, ◌++◌, length, Bool, true, false, ◌&&◌, ◌==◌, is_none, Option, Some, None, MatchOption, ◌⊎◌}
+use Rattle.std.specs.Prelude.{◌≡◌, ◌<◌, ℕ, zero, suc, map, take, ◌+◌, ◌-◌, List, [], ◌∷◌, ◌++◌, length, Bool, true, false, ◌&&◌, ◌==◌, is_none, Option, Some, None, MatchOption, ◌⊎◌}
 use Rattle.jp_devices.specs.Devices.{Begins, Came, Device, Received}
 use Rattle.jp_grep.specs.Formats.{format_of}
 use Rattle.jp_grep.specs.Fronts.{IsOfLines, IsRefused}
-use Rattle.jp_grep.specs.Items.{Item, framing_by, items_come}
+use Rattle.jp_grep.specs.Items.{Item, framing_by, items_come, unjudged_count}
 use Rattle.jp_grep.specs.Outcomes.{CameOfEach, given_up_count}
 use Rattle.jp_grep.specs.Rows.{messages_from, output_from, refused_count, selected_count, selected_in, summary_of}
 use Rattle.jp_grep.specs.Sizes.{IsOversize}
@@ -20,16 +20,24 @@ use Rattle.jp_grep.specs.declared.question.Question.{Question}
 abbrev pub cut_to : (most : ℕ) → Item → Item
 cut_to most item = record { text = item.text; status = item.status; from_line = item.from_line; most = Some most; given_up = item.given_up }
 
--- The items up to the one with which a given number of nodes are selected, or all where fewer are. Of each no more nodes are
--- wanted than are left of that number.
-abbrev pub up_to : Question → ℕ → List Item → List Item
-up_to question zero items = []
-up_to question (suc most) [] = []
-up_to question (suc most) (item ∷ rest) = cut_to (suc most) item ∷ up_to question (suc most - selected_in question (cut_to (suc most) item)) rest
+-- The items up to the one with which a given number of nodes are selected, and so many after it, or all where there are fewer. Of
+-- each no more nodes are wanted than are left of that number: of those after it none.
+abbrev pub up_to : Question → (most trailing : ℕ) → List Item → List Item
+up_to question zero trailing items = map (cut_to 0) (take trailing items)
+up_to question (suc most) trailing [] = []
+up_to question (suc most) trailing (item ∷ rest) = cut_to (suc most) item ∷ up_to question (suc most - selected_in question (cut_to (suc most) item)) trailing rest
 
--- of some items those that are answered, where `selected` nodes were selected before
+-- of some items those that are answered, where `selected` nodes were selected before, and none was passed after the last of them
 abbrev pub answered_of : Question → Form → ℕ → List Item → List Item
-answered_of question form selected items = up_to question (form.most - selected) items
+answered_of question form selected items = up_to question (form.most - selected) form.trailing items
+
+-- as many nodes are selected as are wanted, and as many items were passed after them as are to be
+abbrev pub IsEnough : Form → (selected trailed : ℕ) → Type 0
+IsEnough form selected trailed = (selected ≡ form.most) × (trailed ≡ form.trailing)
+
+-- fewer are
+abbrev pub IsShort : Form → (selected trailed : ℕ) → Type 0
+IsShort form selected trailed = (selected < form.most) ⊎ (trailed < form.trailing)
 
 -- none is given up, and the rest of the stream was not passed over
 abbrev pub is_whole : Found → Bool
@@ -41,12 +49,12 @@ pub record AreCounts (question : Question) (counts : Counts) (items : List Item)
   pub refused : counts.refused ≡ refused_count items
   pub given_up : counts.given_up ≡ given_up_count items
 
--- A search came to its end: all items that came have these outcomes, and the stream has ended or as many lines were selected as
--- are wanted. Or the rest of the stream was passed over, from the first line on that is not answered, and for its size only where it is
--- larger than can be held or counted.
+-- A search came to its end: all items that came have these outcomes, and the stream has ended, or as many lines were selected as
+-- are wanted and as many passed after them as are to be. Or the rest of the stream was passed over, from the first line on that is
+-- not answered, and for its size only where it is larger than can be held or counted.
 abbrev pub EndsWith : Question → Form → Came → List Item → Found → Type 0
 EndsWith question form came outcomes found = MatchOption found.unread
-    ((format_of came.bytes ≡ None) × CameOfEach (items_come form.units came.ended came.bytes) outcomes × ((came.ended ≡ true) ⊎ (found.counts.selected ≡ form.most)))
+    ((format_of came.bytes ≡ None) × CameOfEach (items_come form.units came.ended came.bytes) outcomes × ((came.ended ≡ true) ⊎ IsEnough form found.counts.selected (unjudged_count (answered_of question form 0 outcomes))))
     (λ unread. (unread.line ≡ 1 + length (answered_of question form 0 outcomes)) × (unread.limit ≡ limits.Size → IsOversize form.units came outcomes))
 
 module _ {W E : Type 0} (rows_in : W → Option (List ℕ)) (messages_in : E → Option (List ℕ)) where

@@ -1,6 +1,6 @@
 //! The answer of lines: rows of those that are selected, messages on those that are refused.
 
-ghost use Rattle.std.specs.Prelude.{◌≡◌, ◌+◌, ◌<◌, ◌≤◌, ◌^◌, ◌∷◌, [], false, length, map, IfOk, OnOk, if◌then◌else◌};
+ghost use Rattle.std.specs.Prelude.{Some, ◌≡◌, ◌+◌, ◌<◌, ◌≤◌, ◌^◌, ◌∷◌, [], false, length, map, IfOk, OnOk, if◌then◌else◌};
 ghost use Rattle.std.specs.List.{concat};
 ghost use Rattle.jp_devices.specs.Devices.{Writes};
 ghost use Rattle.jp_model.specs.Json.Status.{parsed, refused};
@@ -9,11 +9,12 @@ ghost use Rattle.jp_nodes.specs.Cursors.{node_of};
 ghost use Rattle.jp_children.specs.Found.{AreOf};
 ghost use Rattle.jp_lines.specs.Views.{text_of_view, tree_of_view};
 ghost use Rattle.jp_grep.specs.Holding.{Puts, TellsOfBoth, TellsOfWriter};
+ghost use Rattle.jp_grep.specs.Items.{judged};
 ghost use Rattle.jp_grep.specs.Faults.{IsToldOf, is_input_fault, is_report_fault, is_write_fault};
 ghost use Rattle.jp_grep.specs.Matching.{each_of, nodes_asked, wants_refused};
 ghost use Rattle.jp_grep.specs.ReadItems.{AreRead, IsReadItem, item_of, items_of, status_by};
-ghost use Rattle.jp_grep.specs.Rows.{message_where, refused_rows};
-ghost use Rattle.jp_grep.specs.Searching.{Answers, AnswersHeld, AnswersItem, AnswersStatus, IsUnderWay};
+ghost use Rattle.jp_grep.specs.Rows.{message_where, refused_rows, row_around, row_told, rows_around, text_around};
+ghost use Rattle.jp_grep.specs.Searching.{Answers, AnswersHeld, AnswersItem, AnswersStatus, IsUnderWay, PutsFirst, PutsSelected};
 ghost use Rattle.jp_grep.specs.Sizes.{TellsOfNumbers};
 
 use crate::asked::AskedNode;
@@ -23,7 +24,7 @@ use crate::outlet::Outlet;
 use crate::progress::{Progress, Verdict};
 use crate::question::Question;
 use crate::room::{NodeRoom, Room};
-use crate::rows::add_refused;
+use crate::rows::{add_front, add_refused};
 use crate::told::{tell_given_up, tell_refused, wants_refused};
 use jp_eval::Frame;
 use jp_form::{Form, Shown};
@@ -32,6 +33,13 @@ use jp_model::{LineFault, Watched};
 use jp_nodes::Cursor;
 use std::alloc::{AllocError, Global};
 use std::io::Write;
+
+/// What a line, a text or an element counts as: where no more nodes are wanted it is not judged, and counts as a blank one.
+fn judged<'r>(most: u64, state: LineState<'r>) -> LineState<'r>
+    ensures { status_by result ≡ judged (Some most) (status_by state.entry) }
+{
+    if most == 0 { LineState::Blank } else { state }
+}
 
 /// What answers lines.
 #[derive(Clone, Copy)]
@@ -77,7 +85,7 @@ impl<'q> Answerer<'q> {
     ) -> Result<Verdict, SearchFault>
         requires text { text_of_view line ≡ text.now }
         requires working { out.old.failed ≡ false }
-        ensures answers { AnswersStatus W.contents self.entry.question.now self.entry.form.now number text.now most out.old out.new outlet.old.held.items outlet.new.held.items result (parsed (tree_of_view line.entry)) }
+        ensures answers { PutsSelected W.contents self.entry.question.now self.entry.form.now number text.now most out.old out.new outlet.old.held.items outlet.new.held.items result (parsed (tree_of_view line.entry)) }
         ensures fits { IfOk result (λ verdict. verdict.selected ≤ most) }
         ensures tells { TellsOfWriter result out.old out.new }
     {
@@ -100,24 +108,30 @@ impl<'q> Answerer<'q> {
     }
 
     /// Makes the row of a refused line, where refused lines are wanted, and tells whether they are.
-    fn make_refused_row(
+    fn make_refused_row<'r>(
         self,
         number: u64,
         fault: LineFault,
         text: &[u8],
-        row: &mut Vec<u8>,
+        room: &mut NodeRoom<'r>,
     ) -> Result<bool, AllocError>
         ensures selected { IfOk result (λ selected. selected ≡ wants_refused self.entry.question.now.wanted) }
-        ensures row { OnOk result (row.new.items ≡ concat (if wants_refused self.entry.question.now.wanted then refused_rows self.entry.form.now.shown self.entry.form.now number text.now fault else [])) }
+        ensures row { OnOk result (room.new.row.items ≡ concat (if wants_refused self.entry.question.now.wanted then refused_rows self.entry.form.now.shown self.entry.form.now number text.now fault else [])) }
     {
-        row.clear();
+        room.row.clear();
         if !self.question.wanted.wants_refused() {
             return Ok(false);
         }
-        let Shown::Line { faults } = self.form.shown else {
-            return Ok(true);
-        };
-        add_refused(self.form, faults, number, fault, text, row)?;
+        match self.form.shown {
+            Shown::Line { faults } => {
+                add_refused(self.form, faults, number, fault, text, &mut room.row)?;
+            }
+            Shown::Around => {
+                add_refused(self.form, false, number, fault, text, &mut room.row)?;
+                room.tell(true, number)?;
+            }
+            _ => {}
+        }
         Ok(true)
     }
 
@@ -134,15 +148,110 @@ impl<'q> Answerer<'q> {
     ) -> Result<Verdict, SearchFault>
         requires some { 0 < most }
         requires working { out.old.failed ≡ false }
-        ensures answers { AnswersStatus W.contents self.entry.question.now self.entry.form.now number text.now most out.old out.new outlet.old.held.items outlet.new.held.items result (refused fault) }
+        ensures answers { PutsSelected W.contents self.entry.question.now self.entry.form.now number text.now most out.old out.new outlet.old.held.items outlet.new.held.items result (refused fault) }
         ensures fits { IfOk result (λ verdict. verdict.selected ≤ most) }
         ensures tells { TellsOfWriter result out.old out.new }
     {
-        let Ok(selected) = self.make_refused_row(number, fault, text, &mut room.row) else {
+        let Ok(selected) = self.make_refused_row(number, fault, text, room) else {
             return Ok(Verdict::of_given_up());
         };
         outlet.put(&room.row, out)?;
         Ok(Verdict::of_refused(selected))
+    }
+
+    /// Puts the rows of what is selected of a line, a text or an element that is judged.
+    fn put_selected<'r, W: Write>(
+        self,
+        number: u64,
+        most: u64,
+        item: ReadItem<'r>,
+        room: &mut Room<'r>,
+        outlet: &mut Outlet,
+        out: &mut Watched<W>,
+    ) -> Result<Verdict, SearchFault>
+        requires item { IsReadItem item }
+        requires some { 0 < most }
+        requires writes { out.old.failed ≡ false }
+        ensures answers { PutsSelected W.contents self.entry.question.now self.entry.form.now number item.entry.text.now most out.old out.new outlet.old.held.items outlet.new.held.items result (status_by item.entry.state) }
+        ensures fits { IfOk result (λ verdict. verdict.selected ≤ most) }
+        ensures tells { TellsOfWriter result out.old out.new }
+    {
+        match item.state {
+            LineState::Blank => Ok(Verdict::of_value(0)),
+            LineState::Refused(fault) => {
+                self.answer_refused(number, most, fault, item.text, &mut room.node, outlet, out)
+            }
+            LineState::Tree(view) => {
+                self.answer_value(number, most, view, item.text, room, outlet, out)
+            }
+        }
+    }
+
+    /// Puts the rows of what is selected of a line, a text or an element. Where no more nodes are wanted it is not judged.
+    fn put_wanted<'r, W: Write>(
+        self,
+        number: u64,
+        most: u64,
+        item: ReadItem<'r>,
+        room: &mut Room<'r>,
+        outlet: &mut Outlet,
+        out: &mut Watched<W>,
+    ) -> Result<Verdict, SearchFault>
+        requires item { IsReadItem item }
+        requires writes { out.old.failed ≡ false }
+        ensures answers { PutsSelected W.contents self.entry.question.now self.entry.form.now number item.entry.text.now most out.old out.new outlet.old.held.items outlet.new.held.items result (judged (Some most) (status_by item.entry.state)) }
+        ensures fits { IfOk result (λ verdict. verdict.selected ≤ most) }
+        ensures tells { TellsOfWriter result out.old out.new }
+    {
+        if most == 0 {
+            return Ok(Verdict::of_value(0));
+        }
+        self.put_selected(number, most, item, room, outlet, out)
+    }
+
+    /// Makes the told row of a line, a text or an element around selected ones.
+    fn make_row_around<'r>(
+        self,
+        number: u64,
+        item: ReadItem<'r>,
+        room: &mut NodeRoom<'r>,
+    ) -> Result<(), AllocError>
+        requires item { IsReadItem item }
+        ensures row { OnOk result (room.new.row.items ≡ row_told false number (row_around self.entry.form.now number (text_around self.entry.form.now.units item.entry.text.now (status_by item.entry.state)))) }
+    {
+        room.row.clear();
+        add_front(b'-', self.form, number, &mut room.row)?;
+        match item.state {
+            LineState::Tree(view) => self.append_whole(view, item.text, &mut room.row)?,
+            _ => room.row.extend_from_slice(item.text)?,
+        }
+        room.row.push(b'\n')?;
+        room.tell(false, number)
+    }
+
+    /// Puts the row of a line, a text or an element of which nothing is selected, where the rows around selected ones are shown,
+    /// and tells whether there was memory for it.
+    fn put_around<'r, W: Write>(
+        self,
+        number: u64,
+        item: ReadItem<'r>,
+        room: &mut NodeRoom<'r>,
+        outlet: &mut Outlet,
+        out: &mut Watched<W>,
+    ) -> Result<bool, SearchFault>
+        requires item { IsReadItem item }
+        requires working { out.old.failed ≡ false }
+        ensures rows { PutsFirst W.contents out.old out.new outlet.old.held.items outlet.new.held.items result (λ whole. whole) (rows_around self.entry.form.now.shown self.entry.form.now number item.entry.text.now 0 (status_by item.entry.state)) }
+        ensures tells { TellsOfWriter result out.old out.new }
+    {
+        let Shown::Around = self.form.shown else {
+            return Ok(true);
+        };
+        if self.make_row_around(number, item, room).is_err() {
+            return Ok(false);
+        }
+        outlet.put(&room.row, out)?;
+        Ok(true)
     }
 
     /// Puts the rows of a line, a text or an element.
@@ -156,21 +265,19 @@ impl<'q> Answerer<'q> {
         out: &mut Watched<W>,
     ) -> Result<Verdict, SearchFault>
         requires item { IsReadItem item }
-        requires some { 0 < most }
         requires writes { out.old.failed ≡ false }
         ensures answers { AnswersStatus W.contents self.entry.question.now self.entry.form.now number item.entry.text.now most out.old out.new outlet.old.held.items outlet.new.held.items result (status_by item.entry.state) }
         ensures fits { IfOk result (λ verdict. verdict.selected ≤ most) }
         ensures tells { TellsOfWriter result out.old out.new }
     {
-        match item.state {
-            LineState::Blank => Ok(Verdict::of_value(0)),
-            LineState::Refused(fault) => {
-                self.answer_refused(number, most, fault, item.text, &mut room.node, outlet, out)
-            }
-            LineState::Tree(view) => {
-                self.answer_value(number, most, view, item.text, room, outlet, out)
-            }
+        let verdict = self.put_wanted(number, most, item, room, outlet, out)?;
+        if verdict.selected > 0 || verdict.given_up {
+            return Ok(verdict);
         }
+        if !self.put_around(number, item, &mut room.node, outlet, out)? {
+            return Ok(Verdict::of_given_up());
+        }
+        Ok(verdict)
     }
 
     /// Tells of a line, a text or an element that was refused or given up. The rows so far are written first.
@@ -213,7 +320,7 @@ impl<'q> Answerer<'q> {
         out: &mut Watched<W>,
         messages: &mut Watched<E>,
     ) -> Result<Verdict, SearchFault>
-        requires wanted { progress.counts.selected < self.form.now.most }
+        requires wanted { progress.counts.selected ≤ self.form.now.most }
         requires item { IsReadItem item }
         requires writes { out.old.failed ≡ false }
         requires reports { messages.old.failed ≡ false }
@@ -225,7 +332,7 @@ impl<'q> Answerer<'q> {
         let verdict = self.put_item(progress.number, most, item, room, outlet, out)?;
         self.tell(
             progress,
-            item.state,
+            judged(most, item.state),
             item.from_line,
             verdict.given_up,
             outlet,
@@ -235,7 +342,8 @@ impl<'q> Answerer<'q> {
         Ok(verdict)
     }
 
-    /// Answers lines, texts or elements in turn, up to the last one that is wanted. Of their rows the last may be held.
+    /// Answers lines, texts or elements in turn, up to the last one that is wanted and those that are passed after it. Of their rows
+    /// the last may be held.
     fn answer_each<W: Write, E: Write>(
         self,
         items: ReadItems<'_>,
@@ -254,17 +362,17 @@ impl<'q> Answerer<'q> {
     {
         let mut room = Room::new(self.alloc);
         for index in 0..items.count() {
-            if progress.wants(*self.form) == 0 {
+            if progress.is_done(*self.form) {
                 return Ok(());
             }
             let item = items.item(index);
             let verdict = self.answer_item(*progress, item, &mut room, outlet, out, messages)?;
-            progress.pass(verdict);
+            progress.pass(*self.form, verdict);
         }
         Ok(())
     }
 
-    /// Answers lines, texts or elements, up to the last one that is wanted, and writes their rows.
+    /// Answers lines, texts or elements, up to the last one that is wanted and those that are passed after it, and writes their rows.
     ///
     /// # Errors
     ///

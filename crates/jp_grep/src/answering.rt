@@ -56,6 +56,7 @@ impl Answering {
         ensures selected { result.progress.counts.selected ≡ 0 }
         ensures refused { result.progress.counts.refused ≡ 0 }
         ensures given_up { result.progress.counts.given_up ≡ 0 }
+        ensures trailed { result.progress.trailed ≡ 0 }
     {
         Answering {
             room: BatchRoom::new(alloc),

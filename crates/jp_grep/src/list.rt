@@ -30,6 +30,7 @@ fn list_form<'a>(name: &'a str) -> Form<'a>
         silent: false,
         null: false,
         most: u64::MAX,
+        trailing: 0,
     }
 }
 

@@ -1,6 +1,6 @@
 //! The answer of a node: its rows, where it is selected.
 
-ghost use Rattle.std.specs.Prelude.{◌≡◌, ◌∷◌, ◌++◌, [], List, false, is_some, map, IfOk, MatchOption, OnOk, ⊤, if◌then◌else◌};
+ghost use Rattle.std.specs.Prelude.{◌≡◌, ◌∷◌, ◌++◌, [], List, false, true, is_some, map, IfOk, MatchOption, OnOk, ⊤, if◌then◌else◌};
 ghost use Rattle.jp_model.specs.Meaning.Selecting.{path_nodes};
 ghost use Rattle.jp_nodes.specs.Cursors.{node_of};
 ghost use Rattle.jp_children.specs.Found.{AreOf};
@@ -11,7 +11,7 @@ ghost use Rattle.jp_table.specs.Held.{Holds, row_bytes};
 ghost use Rattle.jp_grep.specs.Asked.{IsOfItsLine, asked_tree, query_path};
 ghost use Rattle.jp_grep.specs.Holding.{TellsOfWriter};
 ghost use Rattle.jp_grep.specs.Matching.{has_nodes, is_selected, nodes_of, queries_of, selects, wants_nodes};
-ghost use Rattle.jp_grep.specs.Rows.{line_text, row, row_at_once, value_row, whole};
+ghost use Rattle.jp_grep.specs.Rows.{line_text, row, row_at_once, row_told, value_row, whole};
 ghost use Rattle.jp_grep.specs.Searching.{AnswersNode, PutsFirst};
 ghost use Rattle.jp_grep.specs.Tables.{nodes_cell, table_row};
 
@@ -35,7 +35,7 @@ use std::io::Write;
 // How the row of a node is made.
 impl<'q> Answerer<'q> {
     /// Appends a line as it is printed: its bytes, and of a text or an element those from the first of its value to the last.
-    fn append_whole<'r>(
+    pub(crate) fn append_whole<'r>(
         self,
         line: LineView<'r>,
         text: &'r [u8],
@@ -83,7 +83,7 @@ impl<'q> Answerer<'q> {
         requires { text_of_view line ≡ text.now }
         ensures { OnOk result (room.new.row.items ≡ room.old.row.items ++ row self.entry.form.now number (line_text self.entry.form.now.spelling self.entry.form.now.units text.now (tree_of_view line.entry))) }
     {
-        add_front(self.form, number, &mut room.row)?;
+        add_front(b':', self.form, number, &mut room.row)?;
         self.append_line(line, text, room)?;
         room.row.extend_from_slice(b"\n")
     }
@@ -205,6 +205,29 @@ impl<'q> Answerer<'q> {
         Ok(true)
     }
 
+    /// Makes the told row of a line where a node of it is selected, in place of the row that was made before, and tells whether it
+    /// is selected.
+    fn make_told_row<'r>(
+        self,
+        number: u64,
+        asked: &AskedNode<'r>,
+        text: &'r [u8],
+        room: &mut NodeRoom<'r>,
+    ) -> Result<bool, AllocError>
+        requires node { IsOfItsLine asked.now }
+        requires text { text_of_view asked.now.line ≡ text.now }
+        ensures selected { IfOk result (λ selected. selected ≡ is_selected self.entry.question.now (asked_tree asked.now) (node_of asked.now.node)) }
+        ensures row { OnOk result (room.new.row.items ≡ (if is_selected self.entry.question.now (asked_tree asked.now) (node_of asked.now.node)
+            then row_told true number (row self.entry.form.now number (line_text self.entry.form.now.spelling self.entry.form.now.units text.now (asked_tree asked.now))) else [])) }
+    {
+        room.row.clear();
+        if !self.make_line_row(true, number, asked, text, room)? {
+            return Ok(false);
+        }
+        room.tell(true, number)?;
+        Ok(true)
+    }
+
     /// Makes the row of a node, where it is selected, unless the values are shown that the queries select, and tells whether it
     /// is.
     #[inline(always)]
@@ -227,6 +250,7 @@ impl<'q> Answerer<'q> {
                 self.make_line_row(false, number, asked, text, room)
             }
             Shown::Line { .. } => self.make_line_row(true, number, asked, text, room),
+            Shown::Around => self.make_told_row(number, asked, text, room),
             Shown::Cells(table) => self.make_table_row(table, number, asked, room),
         }
     }

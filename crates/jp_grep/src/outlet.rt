@@ -1,6 +1,6 @@
 //! Rows on their way to a writer.
 
-ghost use Rattle.std.specs.Prelude.{◌≡◌, ◌<◌, ◌++◌, [], List, ℕ, decimal, false, is_err, OnOk};
+ghost use Rattle.std.specs.Prelude.{◌≡◌, ◌<◌, ◌++◌, [], List, ℕ, codes, decimal, false, is_err, OnOk};
 ghost use Rattle.jp_devices.specs.Devices.{Device, Writes};
 ghost use Rattle.jp_model.specs.Rows.{line_feed};
 ghost use Rattle.jp_grep.specs.Faults.{write_of};
@@ -99,7 +99,7 @@ fn write_count<W: Write>(
     out: &mut Watched<W>,
 ) -> Result<(), WriteFault>
     requires working { out.old.failed ≡ false }
-    ensures text { Writes W.contents out.old out.new result (name_front form.now.named form.now.null form.now.name.now ++ (decimal count ++ line_feed)) }
+    ensures text { Writes W.contents out.old out.new result (name_front form.now.named form.now.null form.now.name.now (codes ":") ++ (decimal count ++ line_feed)) }
     ensures fault { out.new.failed ≡ is_err result }
     ensures after { out.new.after ≡ out.old.after }
 {

@@ -1,7 +1,9 @@
 //! How far a search has come.
 
-ghost use Rattle.std.specs.Prelude.{◌≡◌, ◌+◌, ◌-◌, ◌<◌, ◌≤◌, ◌^◌, None, Some, MatchResult, cond, false, ltb, true};
+ghost use Rattle.std.specs.Prelude.{◌≡◌, ◌+◌, ◌==◌, ◌<◌, ◌^◌, None, Some, MatchResult, cond, false, ltb, true};
 ghost use Rattle.jp_grep.specs.Faults.{is_inner_fault, limit_of};
+ghost use Rattle.jp_grep.specs.Searching.{IsUnderWay};
+ghost use Rattle.jp_grep.specs.Watching.{IsEnough, IsShort};
 
 use crate::fault::SearchFault;
 use crate::found::{Found, Limit, Unread};
@@ -73,6 +75,8 @@ pub(crate) struct Progress {
     /// The number of the next line, from 1.
     pub(crate) number: u64,
     pub(crate) counts: Counts,
+    /// How many lines were passed after the last one that is wanted.
+    pub(crate) trailed: u64,
 }
 
 impl Progress {
@@ -82,6 +86,7 @@ impl Progress {
         ensures selected { result.counts.selected ≡ 0 }
         ensures refused { result.counts.refused ≡ 0 }
         ensures given_up { result.counts.given_up ≡ 0 }
+        ensures trailed { result.trailed ≡ 0 }
     {
         Progress {
             number: 1,
@@ -90,6 +95,7 @@ impl Progress {
                 refused: 0,
                 given_up: 0,
             },
+            trailed: 0,
         }
     }
 
@@ -100,26 +106,34 @@ impl Progress {
         self.number.checked_add(count as u64).is_some()
     }
 
-    /// How many more nodes are wanted.
-    pub(crate) fn wants(&self, form: Form<'_>) -> u64
-        requires { self.now.counts.selected ≤ form.most }
-        ensures more { result ≡ form.entry.most - self.now.counts.selected }
+    /// Whether no more lines matter: as many nodes are selected as are wanted, and as many lines were passed after them as are to
+    /// be.
+    pub(crate) fn is_done(&self, form: Form<'_>) -> bool
+        requires { IsUnderWay form self.now }
+        ensures done { result ≡ true → IsEnough form.entry self.now.counts.selected self.now.trailed }
+        ensures more { result ≡ false → IsShort form.entry self.now.counts.selected self.now.trailed }
         ensures fits { form.entry.most < 2 ^ 64 }
+        ensures few { form.entry.trailing < 2 ^ 64 }
     {
-        form.most - self.counts.selected
+        self.counts.selected == form.most && self.trailed == form.trailing
     }
 
     /// Goes on after a line with this outcome.
-    pub(crate) fn pass(&mut self, verdict: Verdict)
+    pub(crate) fn pass(&mut self, form: Form<'_>, verdict: Verdict)
         requires number { self.old.number + 1 < 2 ^ 64 }
         requires selected { self.old.counts.selected + verdict.selected < 2 ^ 64 }
+        requires trailed { self.old.counts.selected ≡ form.most → self.old.trailed + 1 < 2 ^ 64 }
         requires refused { self.old.counts.refused < self.old.number }
         requires given_up { self.old.counts.given_up < self.old.number }
         ensures number { self.new.number ≡ self.old.number + 1 }
         ensures selected { self.new.counts.selected ≡ self.old.counts.selected + verdict.selected }
         ensures refused { self.new.counts.refused ≡ self.old.counts.refused + cond verdict.refused 1 0 }
         ensures given_up { self.new.counts.given_up ≡ self.old.counts.given_up + cond verdict.given_up 1 0 }
+        ensures trailed { self.new.trailed ≡ self.old.trailed + cond (self.old.counts.selected == form.entry.most) 1 0 }
     {
+        if self.counts.selected == form.most {
+            self.trailed += 1;
+        }
         self.number += 1;
         self.counts.selected += verdict.selected;
         if verdict.refused {

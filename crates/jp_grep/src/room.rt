@@ -1,9 +1,14 @@
 //! What lines lend to each other.
 
+ghost use Rattle.std.specs.Prelude.{◌≡◌, OnOk};
+ghost use Rattle.jp_grep.specs.Rows.{row_told};
+
 use crate::spelling::Speller;
+use jp_context::{Told, push_told};
 use jp_eval::Frame;
 use jp_table::TableRow;
-use std::alloc::Global;
+use std::alloc::{AllocError, Global};
+use std::mem::swap;
 
 /// The nodes of a line that are asked, and what each of them lends to the next.
 #[derive(Drop)]
@@ -18,6 +23,8 @@ pub(crate) struct NodeRoom<'r> {
     pub(crate) frame: Frame<'r>,
     pub(crate) speller: Speller,
     pub(crate) row: Vec<u8>,
+    /// That row with the head that it is told with.
+    told: Vec<u8>,
     pub(crate) cells: TableRow,
     /// A cell that is made, where it does not stand in the line.
     pub(crate) cell: Vec<u8>,
@@ -32,9 +39,27 @@ impl<'r> Room<'r> {
                 frame: Frame::new(alloc),
                 speller: Speller::new(alloc),
                 row: Vec::new(alloc),
+                told: Vec::new(alloc),
                 cells: TableRow::new(alloc),
                 cell: Vec::new(alloc),
             },
         }
+    }
+}
+
+impl<'r> NodeRoom<'r> {
+    /// Makes the row of a line a told one.
+    pub(crate) fn tell(&mut self, is_selected: bool, number: u64) -> Result<(), AllocError>
+        ensures { OnOk result (self.new.row.items ≡ row_told is_selected number self.old.row.items) }
+    {
+        self.told.clear();
+        let told = Told {
+            is_selected,
+            is_first: number == 1,
+            text: &self.row,
+        };
+        push_told(told, &mut self.told)?;
+        swap(&mut self.row, &mut self.told);
+        Ok(())
     }
 }

@@ -35,35 +35,46 @@ fn add_ended_name(null: bool, name: &str, other: u8, text: &mut Vec<u8>) -> Resu
     Ok(text.push(if null { b'\0' } else { other })?)
 }
 
-/// Adds a name and a colon or a NUL, where it is wanted.
-fn add_name(named: bool, null: bool, name: &str, text: &mut Vec<u8>) -> Result<(), AllocError>
-    ensures { OnOk result (text.new.items ≡ text.old.items ++ name_front named null name.now) }
+/// Adds a name and a sign or a NUL, where it is wanted.
+fn add_name(
+    named: bool,
+    null: bool,
+    name: &str,
+    sign: u8,
+    text: &mut Vec<u8>,
+) -> Result<(), AllocError>
+    ensures { OnOk result (text.new.items ≡ text.old.items ++ name_front named null name.now (sign ∷ [])) }
 {
     if !named {
         return Ok(());
     }
-    add_ended_name(null, name, b':', text)
+    add_ended_name(null, name, sign, text)
 }
 
-/// Adds the number of a line and a colon, where it is wanted.
-fn add_number(numbered: bool, number: u64, text: &mut Vec<u8>) -> Result<(), AllocError>
-    ensures { OnOk result (text.new.items ≡ text.old.items ++ number_front numbered number) }
+/// Adds the number of a line and a sign, where it is wanted.
+fn add_number(numbered: bool, number: u64, sign: u8, text: &mut Vec<u8>) -> Result<(), AllocError>
+    ensures { OnOk result (text.new.items ≡ text.old.items ++ number_front numbered number (sign ∷ [])) }
 {
     if !numbered {
         return Ok(());
     }
     let mut digits = Buffer::new();
     text.extend_from_slice(digits.format(number).as_bytes())?;
-    text.extend_from_slice(b":")
+    Ok(text.push(sign)?)
 }
 
-/// Adds what stands in front of a row of a line.
-pub(crate) fn add_front(form: &Form<'_>, number: u64, text: &mut Vec<u8>) -> Result<(), AllocError>
-    ensures { OnOk result (text.new.items ≡ text.old.items ++ front form.now number) }
+/// Adds what stands in front of a row of a line, with a sign after its name and its number.
+pub(crate) fn add_front(
+    sign: u8,
+    form: &Form<'_>,
+    number: u64,
+    text: &mut Vec<u8>,
+) -> Result<(), AllocError>
+    ensures { OnOk result (text.new.items ≡ text.old.items ++ front (sign ∷ []) form.now number) }
 {
     add_row_start(form.units, text)?;
-    add_name(form.named, form.null, form.name, text)?;
-    add_number(form.numbered, number, text)
+    add_name(form.named, form.null, form.name, sign, text)?;
+    add_number(form.numbered, number, sign, text)
 }
 
 /// Adds bytes and a line feed.
@@ -96,7 +107,7 @@ pub(crate) fn add_value(
 ) -> Result<(), AllocError>
     ensures { OnOk result (text.new.items ≡ text.old.items ++ row form.now number (path_front paths (node_of node.entry) ++ spelled form.now.spelling form.now.units (line_of node.entry) (node_of node.entry).tree)) }
 {
-    add_front(form, number, text)?;
+    add_front(b':', form, number, text)?;
     add_path_front(paths, node, text)?;
     speller.append(form.spelling, form.units, node, text)?;
     text.extend_from_slice(b"\n")
@@ -124,7 +135,7 @@ pub(crate) fn add_refused(
 ) -> Result<(), AllocError>
     ensures { OnOk result (text.new.items ≡ text.old.items ++ row form.now number (fault_front faults fault ++ line.now)) }
 {
-    add_front(form, number, text)?;
+    add_front(b':', form, number, text)?;
     add_fault_front(faults, fault, text)?;
     add_ended(line, text)
 }

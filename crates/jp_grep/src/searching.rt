@@ -117,8 +117,8 @@ impl Searcher {
     }
 }
 
-/// Answers the lines of a stream, piece by piece, up to its end, to the last line that is wanted, or to the first one that there is
-/// no memory or no number for.
+/// Answers the lines of a stream, piece by piece, up to its end, to the last line that is wanted and those that are passed after it,
+/// or to the first one that there is no memory or no number for.
 fn search_lines<R: Read, W: Write, E: Write>(
     answerer: Answerer<'_>,
     input: &mut Input<R>,
@@ -147,13 +147,13 @@ fn search_lines<R: Read, W: Write, E: Write>(
     };
     let mut buffer = [0; PIECE];
     for _read in 0..u64::MAX {
-        let counts = searcher.answering.progress.counts;
-        if counts.selected == answerer.form.most {
-            return Ok(searcher.answering.progress.found());
+        let progress = searcher.answering.progress;
+        if progress.is_done(*answerer.form) {
+            return Ok(progress.found());
         }
         flush_all(out, messages)?;
         let Ok(count) = input.read_after(out, &mut buffer) else {
-            tell_more(answerer.form, counts.refused, messages)?;
+            tell_more(answerer.form, progress.counts.refused, messages)?;
             return Err(SearchFault::Read);
         };
         if count == 0 {
@@ -178,8 +178,8 @@ fn search_lines<R: Read, W: Write, E: Write>(
 /// is passed over, from the first line on that is not answered: `Found::unread` tells it.
 ///
 /// Before each read both writers are flushed where they took bytes since, and each line that ended is answered. No read follows
-/// one that answered 0, one that failed, the last line that is wanted, or bytes that refuse the stream as a whole, and no write
-/// follows one that failed or took no byte.
+/// one that answered 0, one that failed, the last line that is wanted and those that are passed after it, or bytes that refuse the
+/// stream as a whole, and no write follows one that failed or took no byte.
 ///
 /// # Errors
 ///

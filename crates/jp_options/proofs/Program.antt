@@ -73,7 +73,7 @@ has_first_kind [] next e (inl memory) = inl memory
 has_first_kind [] next e (inr none) = absurd none
 has_first_kind (k ∷ ks) next e has = has
 
--- where the arguments are read, the values of `-m` and `--fold` decide
+-- where the arguments are read, the values that are to be numbers decide
 pub counts_taken : (first : Kinds) (found : List Row) → first ≡ [] → has_counts found ≡ true → or_else first (count_faults found) ≡ []
 counts_taken first found none taken = rw (none, taken) refl
 

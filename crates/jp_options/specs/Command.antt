@@ -30,9 +30,9 @@ option_rule id letter word = record (new_rule id) {
 abbrev pub list_rule : Text → Rule
 list_rule id = record (new_rule id) { long = Some id; action = Some Append; value_names = 1 }
 
--- `-m`; its last value counts
-abbrev pub most_rule : Rule
-most_rule = record (option_rule (codes "most") 0x6D (codes "max-count")) { action = Some Set }
+-- `-m`, `-A`, `-B` and `-C`, of which the last value counts
+abbrev pub number_rule : Text → ℕ → Text → Rule
+number_rule id letter word = record (option_rule id letter word) { action = Some Set }
 
 -- `--names`, `--each` and `--fold`, of which the last value counts
 abbrev pub value_rule : Text → Rule
@@ -93,7 +93,14 @@ front_rules = flag_rule (codes "number") 0x6E (codes "line-number")
     ∷ flag_rule (codes "name") 0x48 (codes "with-filename")
     ∷ flag_rule (codes "unnamed") 0x68 (codes "no-filename")
     ∷ flag_rule (codes "null") 0x5A (codes "null")
-    ∷ most_rule
+    ∷ number_rule (codes "most") 0x6D (codes "max-count")
+    ∷ []
+
+-- how many lines around selected lines are shown: `-A`, `-B`, `-C`
+abbrev pub context_rules : List Rule
+context_rules = number_rule (codes "after") 0x41 (codes "after-context")
+    ∷ number_rule (codes "before") 0x42 (codes "before-context")
+    ∷ number_rule (codes "around") 0x43 (codes "context")
     ∷ []
 
 -- the others: `-s`, `--check`, `--json`, `--elements`, `--seq`, `--help`
@@ -119,7 +126,7 @@ with_settings app = record app {
 
 -- the arguments that the program takes
 abbrev pub program : App
-program = with_rules (with_settings (new_app (codes "jpgrep"))) (asking_rules ++ printing_rules ++ survey_rules ++ spelling_rules ++ front_rules ++ general_rules)
+program = with_rules (with_settings (new_app (codes "jpgrep"))) (asking_rules ++ printing_rules ++ survey_rules ++ spelling_rules ++ front_rules ++ context_rules ++ general_rules)
 
 -- what the command line gives each argument, its first text being the program's own name
 unfoldable pub found_in : List Text → List Row
@@ -133,7 +140,7 @@ values_in id found = unwrap_or (all_of id found) []
 abbrev pub is_given : Text → List Row → Bool
 is_given id found = option_map_or (λ value. bytes_eq value (codes "true")) (first_of id found) false
 
--- a value of `-m` or `--fold`, if there is one, is a number that 64 bits hold: decimal digits, after a plus or not
+-- a value of `-m`, `--fold`, `-A`, `-B` or `-C`, if there is one, is a number that 64 bits hold: decimal digits, after a plus or not
 abbrev pub is_count : Option Text → Bool
 is_count value = option_map_or (is_unsigned_in 0 18446744073709551615) value true
 
@@ -167,6 +174,9 @@ pub record IsAskedBy (found : List Row) (o : Options) : Type 0 where
   pub tally : o.tally ≡ is_given (codes "tally") found
   pub survey : o.survey ≡ is_given (codes "paths") found
   pub fold : o.fold ≡ count_of (first_of (codes "fold") found)
+  pub after : o.after ≡ count_of (first_of (codes "after") found)
+  pub before : o.before ≡ count_of (first_of (codes "before") found)
+  pub around : o.around ≡ count_of (first_of (codes "around") found)
   pub numbered : o.numbered ≡ is_given (codes "number") found
   pub counted : o.counted ≡ is_given (codes "count") found
   pub quiet : o.quiet ≡ is_given (codes "quiet") found
@@ -238,6 +248,15 @@ counts_all found = is_given (codes "tally") found || is_given (codes "paths") fo
 abbrev pub asks_fold : List Row → Bool
 asks_fold found = is_some (count_of (first_of (codes "fold") found))
 
+-- lines around selected lines are asked for: `-A`, `-B` or `-C` is given
+abbrev pub asks_context : List Row → Bool
+asks_context found =
+    is_some (count_of (first_of (codes "after") found)) || is_some (count_of (first_of (codes "before") found)) || is_some (count_of (first_of (codes "around") found))
+
+-- something is printed that has no lines around it: values, a table, nodes, or what is told at the end
+abbrev pub refuses_context : List Row → Bool
+refuses_context found = asks_values found || asks_table found || asks_each found || counts_all found
+
 -- why a word lacks another: `--header` or `--names` a table, a tally or paths, `--fold` paths; and none where none does
 abbrev pub missing_conflicts : List Row → Kinds
 missing_conflicts found = if asks_header found && not (asks_table found) && not (counts_all found) then MissingRequiredArgument ∷ []
@@ -274,29 +293,36 @@ refuses_survey found =
     || is_given (codes "tally") found || not (is_empty (names_of (first_of (codes "names") found)))
     || asks_spelling found || refuses_tally found
 
--- why the options do not go together: `-l` with `-L`, `-H` with `-h`, `--refused` with what asks of values, `--tally` with what it
--- has none of, `--paths` likewise, what is printed, what plays the lines, no query; and none where they do
+-- why what is printed does not go together with `--paths`, with `--tally`, or with `-A`, `-B` or `-C`, which have none of it; and none
+-- where it does
+abbrev pub told_conflicts : List Row → Kinds
+told_conflicts found = if is_given (codes "paths") found && refuses_survey found then ArgumentConflict ∷ []
+    else if is_given (codes "tally") found && refuses_tally found then ArgumentConflict ∷ []
+    else if asks_context found && refuses_context found then ArgumentConflict ∷ [] else []
+
+-- why the options do not go together: `-l` with `-L`, `-H` with `-h`, `--refused` with what asks of values, `--paths`, `--tally` or
+-- lines around selected ones with what they have none of, what is printed, what plays the lines, no query; and none where they do
 abbrev pub conflicts_in : List Row → Kinds
 conflicts_in found = if is_given (codes "with") found && is_given (codes "without") found then ArgumentConflict ∷ []
     else if is_given (codes "name") found && is_given (codes "unnamed") found then ArgumentConflict ∷ []
     else if is_given (codes "refused") found && asks_of_values found then ArgumentConflict ∷ []
-    else if is_given (codes "paths") found && refuses_survey found then ArgumentConflict ∷ []
-    else if is_given (codes "tally") found && refuses_tally found then ArgumentConflict ∷ []
-    else or_else (form_conflicts found) (or_else (stream_conflicts found) (if asks_nothing found then MissingRequiredArgument ∷ [] else []))
+    else or_else (told_conflicts found) (or_else (form_conflicts found) (or_else (stream_conflicts found) (if asks_nothing found then MissingRequiredArgument ∷ [] else [])))
 
 -- why the arguments are refused as they are read: the kinds that the error may have, and none where they are taken
 unfoldable pub parse_faults : List Text → Kinds
 parse_faults words = fault_of program words
 
--- the values of `-m` and of `--fold` are numbers, where they are given
+-- the values of `-m`, `--fold`, `-A`, `-B` and `-C` are numbers, where they are given
 abbrev pub has_counts : List Row → Bool
-has_counts found = is_count (first_of (codes "most") found) && is_count (first_of (codes "fold") found)
+has_counts found =
+    is_count (first_of (codes "most") found) && is_count (first_of (codes "fold") found)
+    && is_count (first_of (codes "after") found) && is_count (first_of (codes "before") found) && is_count (first_of (codes "around") found)
 
 -- why one of them is refused
 abbrev pub count_faults : List Row → Kinds
 count_faults found = if has_counts found then [] else InvalidValue ∷ []
 
--- why the arguments are refused one by one: as they are read, or after that for the value of `-m` or `--fold`
+-- why the arguments are refused one by one: as they are read, or after that for a value that is no number
 abbrev pub reading_faults : List Text → Kinds
 reading_faults words = or_else (parse_faults words) (count_faults (found_in words))
 

@@ -1,5 +1,5 @@
 -- What the program's arguments ask for, once they are read.
-use Rattle.std.specs.Prelude.{ℕ, List, [], ◌∷◌, length, take, drop, map, codes, Bool, false, ◌&&◌, ◌||◌, not, ltb, if◌then◌else◌, min, unwrap_or}
+use Rattle.std.specs.Prelude.{ℕ, List, [], ◌∷◌, length, take, drop, map, codes, Bool, false, ◌&&◌, ◌||◌, not, ltb, if◌then◌else◌, min, is_some, unwrap_or}
 use Rattle.jp_cut.specs.declared.machine.Pieces.TheVariants as pieces
 use Rattle.jp_form.specs.declared.form.Shown.{Shown}
 use Rattle.jp_form.specs.declared.form.Shown.TheVariants as shown
@@ -93,11 +93,33 @@ counted_table o = if o.commas then tables.Commas else if o.tabs || o.raw then ta
 abbrev pub asked_fold : Options → ℕ
 asked_fold o = unwrap_or o.fold 1000
 
--- what a row shows: nothing where something else is printed, what is tallied, the line whose paths are counted, cells where `--tsv` or `--csv` asks for them, values
--- where `-o` or `-p` does or nodes are asked one by one, and of a refused line with `-p` the word of its fault
+-- lines around selected lines are asked for: `-A`, `-B` or `-C` is given
+abbrev pub asks_context : Options → Bool
+asks_context o = is_some o.after || is_some o.before || is_some o.around
+
+-- they are shown, unless something else is printed
+abbrev pub shows_context : Options → Bool
+shows_context o = asks_context o && not (first_decides o || o.counted)
+
+-- how many lines before a selected line are shown: as many as `-B` says, or else as `-C` says, or else none
+abbrev pub asked_before : Options → ℕ
+asked_before o = unwrap_or o.before (unwrap_or o.around 0)
+
+-- how many after it: as many as `-A` says, or else as `-C` says, or else none
+abbrev pub asked_after : Options → ℕ
+asked_after o = unwrap_or o.after (unwrap_or o.around 0)
+
+-- how many lines are shown after the last selected line that is wanted
+abbrev pub asked_trailing : Options → ℕ
+asked_trailing o = if shows_context o then asked_after o else 0
+
+-- what a row shows: nothing where something else is printed, a line or one around it where `-A`, `-B` or `-C` asks for them, what is
+-- tallied, the line whose paths are counted, cells where `--tsv` or `--csv` asks for them, values where `-o` or `-p` does or nodes are
+-- asked one by one, and of a refused line with `-p` the word of its fault
 abbrev pub asked_rows : Options → Shown
 asked_rows o =
     if first_decides o || o.counted then shown.Nothing
+    else if asks_context o then shown.Around
     else if o.tally then tally_rows o
     else if o.survey then shown.Line false
     else if o.tabs then shown.Cells tables.Tabs

@@ -2,7 +2,7 @@
 
 ghost use Rattle.std.specs.Prelude.{◌≡◌, IfOk, codes, false};
 ghost use Rattle.clap.specs.Words.{app_of, new_app, rule_of};
-ghost use Rattle.jp_options.specs.Command.{asking_rules, flag_rule, front_rules, general_rules, help_rule, list_rule, most_rule, option_rule, printing_rules, program, spelling_rules, survey_rules, value_rule, with_rules, with_settings, word_rule, words_rule};
+ghost use Rattle.jp_options.specs.Command.{asking_rules, context_rules, flag_rule, front_rules, general_rules, help_rule, list_rule, number_rule, option_rule, printing_rules, program, spelling_rules, survey_rules, value_rule, with_rules, with_settings, word_rule, words_rule};
 
 use clap::{Arg, ArgAction, Command};
 use std::alloc::{AllocError, Global};
@@ -25,6 +25,7 @@ Examples:
   jpgrep --csv --names time,ms -e '$.time' -e '$.ms' log.jsonl
   jpgrep --csv --each '$.items[*]' -e '$.id' -e '@.sku' -e '@.qty' orders.jsonl
   tail -f log.jsonl | jpgrep -or '$.msg'
+  jpgrep -n -C 3 -w '@.level == \"error\"' log.jsonl
   jpgrep --refused -np log.jsonl
   jpgrep --paths log.jsonl
   jpgrep --elements -w '@.ms > 200' export.json";
@@ -35,8 +36,8 @@ pub(crate) fn program_command<'a>(alloc: Global) -> Result<Command<'a>, AllocErr
 {
     let command = add_asking(alloc, bare_command(alloc))?;
     let command = add_survey(alloc, add_printing(alloc, command)?)?;
-    let command = add_spelling(alloc, command)?;
-    add_general(alloc, add_fronts(alloc, command)?)
+    let command = add_fronts(alloc, add_spelling(alloc, command)?)?;
+    add_general(alloc, add_context(alloc, command)?)
 }
 
 /// The command without its arguments.
@@ -121,17 +122,23 @@ fn list_argument<'a>(alloc: Global, id: &'a str, help: &'a str) -> Arg<'a>
         .help(help)
 }
 
-/// `-m NUMBER`.
-fn most_argument<'a>(alloc: Global) -> Arg<'a>
-    ensures rule { rule_of result ≡ most_rule }
+/// `-m NUMBER`, `-A NUMBER`, `-B NUMBER` or `-C NUMBER`, whose last value counts.
+fn number_argument<'a>(
+    alloc: Global,
+    id: &'a str,
+    short: char,
+    long: &'a str,
+    help: &'a str,
+) -> Arg<'a>
+    ensures rule { rule_of result ≡ number_rule id.entry.now short long.entry.now }
     ensures local { result.global ≡ false }
 {
-    Arg::new(alloc, "most")
-        .short('m')
-        .long("max-count")
+    Arg::new(alloc, id)
+        .short(short)
+        .long(long)
         .value_name("NUMBER")
         .action(ArgAction::Set)
-        .help("Stops after NUMBER selected lines of each file")
+        .help(help)
 }
 
 /// `--names NAMES`, `--each QUERY` or `--fold NUMBER`, whose last value counts.
@@ -353,7 +360,41 @@ fn add_fronts<'a>(alloc: Global, command: Command<'a>) -> Result<Command<'a>, Al
             "null",
             "Prints a NUL behind the name of a file, in place of what follows it",
         ))?
-        .arg(most_argument(alloc))
+        .arg(number_argument(
+            alloc,
+            "most",
+            'm',
+            "max-count",
+            "Stops after NUMBER selected lines of each file",
+        ))
+}
+
+/// The options that say how many lines around selected lines are shown.
+fn add_context<'a>(alloc: Global, command: Command<'a>) -> Result<Command<'a>, AllocError>
+    ensures { IfOk result (λ more. app_of more ≡ with_rules (app_of command.entry) context_rules) }
+{
+    command
+        .arg(number_argument(
+            alloc,
+            "after",
+            'A',
+            "after-context",
+            "Prints NUMBER lines after each selected line too",
+        ))?
+        .arg(number_argument(
+            alloc,
+            "before",
+            'B',
+            "before-context",
+            "Prints NUMBER lines before each selected line too",
+        ))?
+        .arg(number_argument(
+            alloc,
+            "around",
+            'C',
+            "context",
+            "Prints NUMBER lines before and after it, unless -B or -A says how many",
+        ))
 }
 
 /// The others.

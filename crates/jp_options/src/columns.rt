@@ -3,10 +3,10 @@
 ghost use Rattle.std.specs.Prelude.{◌≡◌, ◌||◌, ◌∷◌, [], List, map};
 ghost use Rattle.std.specs.Option.{option_map_or};
 ghost use Rattle.clap.specs.Words.{Row};
-ghost use Rattle.jp_options.specs.Command.{IsAskedBy, counts_all, missing_conflicts, refuses_survey, refuses_tally};
+ghost use Rattle.jp_options.specs.Command.{IsAskedBy, counts_all, missing_conflicts, refuses_survey, refuses_tally, told_conflicts};
 ghost use Rattle.jp_options.specs.Words.{asked_columns, asked_fold, asks_names, counted_table, has_columns, has_header, has_several, tally_rows};
 
-use crate::messages::{NO_PATHS, NO_TABLE};
+use crate::messages::{NO_CONTEXT, NO_PATHS, NO_SURVEY, NO_TABLE, NO_TALLY};
 use crate::options::Options;
 use clap::error::ErrorKind;
 use jp_form::{Shown, Table};
@@ -104,6 +104,23 @@ impl<'a> Options<'a> {
         }
         if self.fold.is_some() && !self.survey {
             return Some((ErrorKind::MissingRequiredArgument, NO_PATHS));
+        }
+        None
+    }
+
+    /// Why something is printed that paths, a tally or lines around selected lines have none of, if it is.
+    pub(crate) fn told_conflict(&self) -> Option<(ErrorKind, &'static str)>
+        ensures { (found : List Row) → IsAskedBy found self.now
+            → option_map_or (λ conflict. conflict.0 ∷ []) result [] ≡ told_conflicts found }
+    {
+        if self.survey && self.refuses_survey() {
+            return Some((ErrorKind::ArgumentConflict, NO_SURVEY));
+        }
+        if self.tally && self.refuses_tally() {
+            return Some((ErrorKind::ArgumentConflict, NO_TALLY));
+        }
+        if self.asks_context() && self.refuses_context() {
+            return Some((ErrorKind::ArgumentConflict, NO_CONTEXT));
         }
         None
     }

@@ -8,6 +8,7 @@
 
 mod arguments;
 mod columns;
+mod context;
 mod messages;
 mod options;
 mod pairs;

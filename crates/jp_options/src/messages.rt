@@ -8,6 +8,10 @@ pub(crate) const NO_TALLY: &str =
 pub(crate) const NO_SURVEY: &str =
     "the argument '--paths' cannot be used with '--query', '--each', '--tally', '--names', '--raw', '--canonical', '--only-matching', '--path', '--count', '--files-with-matches', '--files-without-match', '--quiet', '--line-number', '--with-filename', '--null', '--invert-match', '--seq' or '--refused'";
 
+/// What is said if `-A`, `-B` or `-C` is used with what has no lines around it.
+pub(crate) const NO_CONTEXT: &str =
+    "the arguments '--after-context', '--before-context' and '--context' cannot be used with '--only-matching', '--path', '--tsv', '--csv', '--each', '--tally' or '--paths'";
+
 /// What is said if `--fold` is used without paths.
 pub(crate) const NO_PATHS: &str = "the argument '--fold <NUMBER>' is used with '--paths' alone";
 

@@ -4,11 +4,11 @@ ghost use Rattle.std.specs.Prelude.{◌≡◌, ◌||◌, ◌∷◌, [], List, ma
 ghost use Rattle.std.specs.Option.{option_map_or};
 ghost use Rattle.clap.specs.Words.{Row};
 ghost use Rattle.jp_options.specs.Command.{IsAskedBy, asks_each, asks_of_values, asks_spelling, conflicts_in, form_conflicts, names_nothing, prints_others, prints_values, stream_conflicts};
-ghost use Rattle.jp_options.specs.Words.{asked_files, asked_most, asked_queries, asked_rows, asked_spelling, asked_summary, asked_units, asks_names, begins_with_query, names_list};
+ghost use Rattle.jp_options.specs.Words.{asked_files, asked_most, asked_queries, asked_rows, asked_spelling, asked_summary, asked_trailing, asked_units, asks_names, begins_with_query, first_decides, names_list};
 
 use crate::messages::{
     BOTH_FRONTS, BOTH_NAMES, BOTH_PIECES, BOTH_SPELLINGS, BOTH_TABLES, NO_NAMES, NO_PIECES,
-    NO_QUERY, NO_QUESTION, NO_SPELLING, NO_SURVEY, NO_TALLY, NO_VALUES, NO_VALUES_OF_NODES,
+    NO_QUERY, NO_QUESTION, NO_SPELLING, NO_VALUES, NO_VALUES_OF_NODES,
 };
 use clap::error::ErrorKind;
 use jp_form::{Form, Pieces, Shown, Spelling, Summary, Table, Units};
@@ -57,6 +57,12 @@ pub struct Options<'a> {
     pub survey: bool,
     /// `--fold`: how many names the nodes of an object's path may have before its paths are folded.
     pub fold: Option<u64>,
+    /// `-A`: how many lines after each selected line are shown.
+    pub after: Option<u64>,
+    /// `-B`: how many lines before it are.
+    pub before: Option<u64>,
+    /// `-C`: how many lines before and after it are, where `-B` or `-A` does not say.
+    pub around: Option<u64>,
     /// `-n`: the number of each line is printed in front.
     pub numbered: bool,
     /// `-c`: how many lines are selected is printed.
@@ -94,7 +100,7 @@ impl<'a> Options<'a> {
     }
 
     /// Whether nodes are asked one by one.
-    fn asks_each(&self) -> bool
+    pub(crate) fn asks_each(&self) -> bool
         ensures { (found : List Row) → IsAskedBy found self.now → result ≡ asks_each found }
     {
         !self.each.is_empty()
@@ -211,11 +217,8 @@ impl<'a> Options<'a> {
         if self.refused && self.asks_of_values() {
             return Some((ErrorKind::ArgumentConflict, NO_QUESTION));
         }
-        if self.survey && self.refuses_survey() {
-            return Some((ErrorKind::ArgumentConflict, NO_SURVEY));
-        }
-        if self.tally && self.refuses_tally() {
-            return Some((ErrorKind::ArgumentConflict, NO_TALLY));
+        if let Some(conflict) = self.told_conflict() {
+            return Some(conflict);
         }
         if let Some(conflict) = self.form_conflict() {
             return Some(conflict);
@@ -279,13 +282,20 @@ impl<'a> Options<'a> {
         }
     }
 
+    /// Whether the first selected line of a file decides: nothing but that there is one is asked for.
+    pub(crate) fn first_decides(&self) -> bool
+        ensures { result ≡ first_decides self.now }
+    {
+        self.quiet || self.with_matches || self.without_matches
+    }
+
     /// How many selected lines of each file are wanted: as many as `-m` says, or else as 64 bits count. Where the first
     /// decides, it is no more than one.
     pub fn most(&self) -> u64
         ensures { result ≡ asked_most self.now }
     {
         let most = self.most.unwrap_or(u64::MAX);
-        if self.quiet || self.with_matches || self.without_matches {
+        if self.first_decides() {
             most.min(1)
         } else {
             most
@@ -311,8 +321,10 @@ impl<'a> Options<'a> {
     fn shown(&self) -> Shown
         ensures { result ≡ asked_rows self.now }
     {
-        if self.quiet || self.with_matches || self.without_matches || self.counted {
+        if self.first_decides() || self.counted {
             Shown::Nothing
+        } else if self.asks_context() {
+            Shown::Around
         } else if self.tally {
             self.tallied()
         } else if self.survey {
@@ -374,6 +386,7 @@ impl<'a> Options<'a> {
         ensures silent { result.silent ≡ (self.now.silent || self.now.refused) }
         ensures units { result.units ≡ asked_units self.now }
         ensures most { result.most ≡ asked_most self.now }
+        ensures trailing { result.trailing ≡ asked_trailing self.now }
     {
         Form {
             units: self.units(),
@@ -386,6 +399,7 @@ impl<'a> Options<'a> {
             numbered: self.numbered,
             silent: self.silent || self.refused,
             most: self.most(),
+            trailing: self.lines_trailing(),
         }
     }
 }

@@ -48,14 +48,23 @@ struct Counts {
     most: Option<u64>,
     /// `--fold`.
     fold: Option<u64>,
+    /// `-A`.
+    after: Option<u64>,
+    /// `-B`.
+    before: Option<u64>,
+    /// `-C`.
+    around: Option<u64>,
 }
 
-/// The numbers that the values of `-m` and `--fold` write, or what is said of the first value that writes none.
+/// The numbers that the values of `-m`, `--fold`, `-A`, `-B` and `-C` write, or what is said of the first value that writes none.
 fn read_counts(matches: &ArgMatches<'_>) -> Result<Counts, &'static str>
     ensures taken { IsOk result → has_counts (rows_of (found_of matches.now)) ≡ true }
     ensures refused { IsErr result → has_counts (rows_of (found_of matches.now)) ≡ false }
     ensures most { IfOk result (λ counts. counts.most ≡ count_of (first_of (codes "most") (rows_of (found_of matches.now)))) }
     ensures fold { IfOk result (λ counts. counts.fold ≡ count_of (first_of (codes "fold") (rows_of (found_of matches.now)))) }
+    ensures after { IfOk result (λ counts. counts.after ≡ count_of (first_of (codes "after") (rows_of (found_of matches.now)))) }
+    ensures before { IfOk result (λ counts. counts.before ≡ count_of (first_of (codes "before") (rows_of (found_of matches.now)))) }
+    ensures around { IfOk result (λ counts. counts.around ≡ count_of (first_of (codes "around") (rows_of (found_of matches.now)))) }
 {
     let Ok(most) = read_count(matches, "most") else {
         return Err(NO_MOST);
@@ -63,7 +72,22 @@ fn read_counts(matches: &ArgMatches<'_>) -> Result<Counts, &'static str>
     let Ok(fold) = read_count(matches, "fold") else {
         return Err(NO_FOLD);
     };
-    Ok(Counts { most, fold })
+    let Ok(after) = read_count(matches, "after") else {
+        return Err(NO_AFTER);
+    };
+    let Ok(before) = read_count(matches, "before") else {
+        return Err(NO_BEFORE);
+    };
+    let Ok(around) = read_count(matches, "around") else {
+        return Err(NO_AROUND);
+    };
+    Ok(Counts {
+        most,
+        fold,
+        after,
+        before,
+        around,
+    })
 }
 
 /// The number that the value of an option writes, if it is given.
@@ -82,6 +106,18 @@ const NO_MOST: &str =
 
 /// What is said if the value of `--fold` is no number.
 const NO_FOLD: &str = "the value of '--fold <NUMBER>' is no number from 0 to 18446744073709551615";
+
+/// What is said if the value of `-A` is no number.
+const NO_AFTER: &str =
+    "the value of '--after-context <NUMBER>' is no number from 0 to 18446744073709551615";
+
+/// What is said if the value of `-B` is no number.
+const NO_BEFORE: &str =
+    "the value of '--before-context <NUMBER>' is no number from 0 to 18446744073709551615";
+
+/// What is said if the value of `-C` is no number.
+const NO_AROUND: &str =
+    "the value of '--context <NUMBER>' is no number from 0 to 18446744073709551615";
 
 /// The values of an argument, in their order.
 fn values<'a>(alloc: Global, matches: &ArgMatches<'a>, id: &str) -> Result<Vec<&'a str>, AllocError>
@@ -125,6 +161,9 @@ fn read_matches<'a>(
 ) -> Result<Options<'a>, AllocError>
     requires most { counts.most ≡ count_of (first_of (codes "most") (rows_of (found_of matches.now))) }
     requires fold { counts.fold ≡ count_of (first_of (codes "fold") (rows_of (found_of matches.now))) }
+    requires after { counts.after ≡ count_of (first_of (codes "after") (rows_of (found_of matches.now))) }
+    requires before { counts.before ≡ count_of (first_of (codes "before") (rows_of (found_of matches.now))) }
+    requires around { counts.around ≡ count_of (first_of (codes "around") (rows_of (found_of matches.now))) }
     ensures { IfOk result (IsAskedBy (rows_of (found_of matches.now))) }
 {
     Ok(Options {
@@ -148,6 +187,9 @@ fn read_matches<'a>(
         tally: is_given(matches, "tally"),
         survey: is_given(matches, "paths"),
         fold: counts.fold,
+        after: counts.after,
+        before: counts.before,
+        around: counts.around,
         numbered: is_given(matches, "number"),
         counted: is_given(matches, "count"),
         quiet: is_given(matches, "quiet"),

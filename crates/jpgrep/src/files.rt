@@ -3,7 +3,8 @@
 use crate::foreign::foreign_message;
 use crate::lists::Lists;
 use crate::opening::Looking;
-use crate::output::{Output, RegularFile};
+use crate::output::{Output, Printer, RegularFile};
+use jp_context::Context;
 use jp_devices::StandardInput;
 use jp_grep::{
     Finished, Format, Framing, Input, Limit, Question, Run, SearchFault, Shown, Summary, Units,
@@ -21,7 +22,7 @@ pub(crate) struct Searcher<'q, W: Write + Drop> {
     pub(crate) rt: &'q HostRuntime,
     pub(crate) options: &'q Options<'q>,
     pub(crate) run: Run<'q, W, Stderr>,
-    /// The file that more than one row may be added to.
+    /// The file that rows may be added to while lines are read.
     pub(crate) output: Option<RegularFile>,
     /// Whether memory was refused, which it has reported.
     pub(crate) lacks_memory: bool,
@@ -256,7 +257,7 @@ impl<W: Write + Drop> Searcher<'_, W> {
     }
 }
 
-impl Searcher<'_, Output> {
+impl<W: Printer> Searcher<'_, W> {
     /// Ends the run, reports rows or messages that were not written, and gives the exit status. A pipe that nobody reads any
     /// more is no news.
     fn end(self) -> Searched {
@@ -265,8 +266,10 @@ impl Searcher<'_, Output> {
         let finished = self.run.finish();
         let unwritten = finished.rows.failed() || finished.messages.failed();
         let Finished { status, rows, .. } = finished;
-        let output = rows.into_inner();
-        if unwritten && !output.is_unread() {
+        let printer = rows.into_inner();
+        if printer.is_full() {
+            tell_memory(rt);
+        } else if unwritten && !printer.into_output().is_unread() {
             let _ = eprintln!(rt; "jpgrep: {CANNOT_WRITE}");
         }
         Searched {
@@ -287,10 +290,11 @@ pub(crate) fn find_input(rt: &HostRuntime, options: &Options<'_>) -> StandardInp
     StandardInput::find(rt, files.is_empty() || files.contains(&"-"))
 }
 
-/// The file that more than one row may be added to.
+/// The file that rows may be added to while lines are read.
 fn find_output(rt: &HostRuntime, options: &Options<'_>) -> Option<RegularFile> {
     let form = options.form(STANDARD_INPUT);
-    if form.shown != Shown::Nothing && (form.most > 1 || options.has_header()) {
+    let reads_on = form.most > 1 || form.trailing > 0 || options.has_header();
+    if form.shown != Shown::Nothing && reads_on {
         RegularFile::of_output(rt)
     } else {
         None
@@ -304,7 +308,8 @@ fn reads_nothing(options: &Options<'_>) -> bool {
 }
 
 /// Searches the files that the arguments name in turn, and gives the exit status: 0 if a line was selected, 1 if none was, 2 if
-/// something was refused or failed, in the lists or in the files. The header of a table stands above all rows.
+/// something was refused or failed, in the lists or in the files. The header of a table stands above all rows, and lines around
+/// selected lines are printed where they are asked for.
 ///
 /// # Errors
 ///
@@ -315,8 +320,26 @@ pub(crate) fn search_files(
     question: &Question,
     lists: Lists,
 ) -> Result<Searched, AllocError> {
+    let output = Output::new(rt);
+    if options.shows_context() {
+        let (before, after) = (options.lines_before(), options.lines_after());
+        let context = Context::new(rt.alloc(), before, after, output);
+        print_files(rt, options, question, lists, context)
+    } else {
+        print_files(rt, options, question, lists, output)
+    }
+}
+
+/// Searches the files in turn, and prints the rows that they give by `printer`.
+fn print_files<W: Printer>(
+    rt: &HostRuntime,
+    options: &Options<'_>,
+    question: &Question,
+    lists: Lists,
+    printer: W,
+) -> Result<Searched, AllocError> {
     let stdin = find_input(rt, options);
-    let rows = Watched::new(Output::new(rt));
+    let rows = Watched::new(printer);
     let messages = Watched::new(rt.stderr());
     let run = Run::new(rt.alloc(), question, options.quiet, rows, messages)?;
     let output = find_output(rt, options);

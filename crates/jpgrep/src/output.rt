@@ -1,8 +1,18 @@
-//! Standard output: whether anybody reads it, and which file it goes to.
+//! Standard output: whether anybody reads it, which file it goes to, and what rows pass on their way to it.
 
+use jp_context::Context;
 use std::fs::{self, Metadata};
 use std::io::{self, Stdout, Write};
 use std::os::unix::fs::MetadataExt;
+
+/// What prints rows on standard output, as they come or some of them.
+pub(crate) trait Printer: Write + Drop {
+    /// Whether memory was refused for what it keeps of the rows.
+    fn is_full(&self) -> bool;
+
+    /// Standard output.
+    fn into_output(self) -> Output;
+}
 
 /// Standard output, and whether its last call found that nobody reads the pipe any more.
 #[derive(Drop)]
@@ -45,6 +55,26 @@ impl Write for Output {
         let flushed = self.stdout.flush();
         self.is_unread = found_unread(&flushed);
         flushed
+    }
+}
+
+impl Printer for Output {
+    fn is_full(&self) -> bool {
+        false
+    }
+
+    fn into_output(self) -> Output {
+        self
+    }
+}
+
+impl Printer for Context<Output> {
+    fn is_full(&self) -> bool {
+        Context::is_full(self)
+    }
+
+    fn into_output(self) -> Output {
+        self.into_inner().into_inner()
     }
 }
 

@@ -10,9 +10,12 @@ struct Foreign {
 /// Patterns know no case.
 const CASE: &str = "patterns cannot ignore case: spell both, as in search(@.a, \"[Ee]rror\")";
 
-/// Lines around a line are not printed.
-const CONTEXT: &str =
-    "there is none: -n gives the number of a line, and sed -n the lines around it";
+/// A number by itself, by which grep asks for lines of context.
+const NUMBER: Foreign = Foreign {
+    letter: None,
+    words: &[],
+    instead: "the number of lines around a line is given by -C, as in -C 3",
+};
 
 /// The options of other programs.
 const FOREIGN: &[Foreign] = &[
@@ -102,19 +105,9 @@ const FOREIGN: &[Foreign] = &[
         instead: "there is none: a value stands in the query, as in -w '@.user == \"u1\"'",
     },
     Foreign {
-        letter: Some('A'),
-        words: &["after-context"],
-        instead: CONTEXT,
-    },
-    Foreign {
-        letter: Some('B'),
-        words: &["before-context"],
-        instead: CONTEXT,
-    },
-    Foreign {
-        letter: Some('C'),
-        words: &["context"],
-        instead: CONTEXT,
+        letter: None,
+        words: &["group-separator", "no-group-separator"],
+        instead: "there is none: -- stands between lines around a line that do not touch",
     },
     Foreign {
         letter: None,
@@ -124,13 +117,16 @@ const FOREIGN: &[Foreign] = &[
 ];
 
 /// The letters of jpgrep's own options that take a value, which ends a group of letters.
-const WITH_VALUE: &[char] = &['e', 'w', 'm'];
+const WITH_VALUE: &[char] = &['e', 'w', 'm', 'A', 'B', 'C'];
 
 /// The option of another program that a group of letters has.
 fn by_letter(letters: &str) -> Option<&'static Foreign> {
     for letter in letters.chars() {
         if WITH_VALUE.contains(&letter) {
             return None;
+        }
+        if letter.is_ascii_digit() {
+            return Some(&NUMBER);
         }
         let found = FOREIGN.iter().find(|it| it.letter == Some(letter));
         if found.is_some() {

@@ -61,6 +61,7 @@ fn searched(
         numbered: false,
         silent: false,
         most,
+        trailing: 0,
     };
     let mut input = Input::new(Watched::new(Reads::new(pieces, behind)));
     let mut rows = Watched::new(Taking::new(alloc));

@@ -7,7 +7,7 @@ use Rattle.jp_grep.specs.Items.{Item, items_come}
 use Rattle.jp_grep.specs.Rows.{output_from, refused_count, selected_count, summary_of}
 use Rattle.jp_grep.specs.Watching.{answered_of, is_whole}
 use Rattle.jp_c.proofs.Asking.{all_answered, all_came, first_came, foreign_mark}
-use Rattle.jp_c.proofs.Whole.{all_counted, received_as}
+use Rattle.jp_c.proofs.Whole.{all_counted, come_judged, received_as}
 use Rattle.jp_c.proofs.searching.search_text.Goals as goal
 
 pub returns-in-Ok-clause-found : goal.returns-in-Ok-clause-found
@@ -43,7 +43,7 @@ returns-in-Ok-clause-refused g c =
     let most : ℕ = form.most - 0 in
     let selected : selected_count question (answered_of question form 0 items) ≡ found.counts.selected = sym (o.5.counts.selected ∙ ap (selected_count question) all) in
     o.5.counts.refused ∙ ap refused_count all
-    ∙ all_counted question most items (λ e. c.if-came-form.false (sym selected ∙ e ∙ omega arith))
+    ∙ all_counted question most form.trailing items (come_judged form.units true c.args.text.now) (λ e. c.if-came-form.false (sym selected ∙ e ∙ omega arith))
 
 pub returns-in-Err-Foreign-clause-fault : goal.returns-in-Err-Foreign-clause-fault
 returns-in-Err-Foreign-clause-fault g c =

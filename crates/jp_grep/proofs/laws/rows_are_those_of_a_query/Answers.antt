@@ -16,7 +16,7 @@ use Rattle.jp_grep.specs.Conditions.{Condition}
 use Rattle.jp_model.specs.Rows.{node_row, status_rows as query_rows}
 use Rattle.jp_grep.specs.Laws.{numbered_values, row_with_colon}
 use Rattle.jp_grep.specs.Matching.{all_hold, conditions_of, each_of, is_selected, let_match, matches, nodes_asked, nodes_of, queries_of, selects, wants_refused, wants_value}
-use Rattle.jp_grep.specs.Rows.{status_rows, value_row}
+use Rattle.jp_grep.specs.Rows.{selected_rows, status_rows, value_row}
 use Rattle.jp_form.specs.declared.form.Summary.{Summary}
 use Rattle.jp_grep.specs.declared.question.Queries.{Queries}
 use Rattle.jp_grep.specs.declared.question.Queries.TheVariants as purposes
@@ -51,11 +51,11 @@ module _ (summary : Summary) (name : Bor (List ℕ)) (silent : Bool) (most n : �
   where_matching purposes.Filter queries t ns e = where_some queries t ns e
   where_matching purposes.Columns queries t ns e = root_rows queries t ∙ ap (λ l. concat (map row_of l)) e
 
-  by_status : (question : Question) (query : Segments) → each_of question ≡ None → queries_of question ≡ path root query ∷ [] → conditions_of question ≡ [] → question.wanted ≡ wanted.Matching → (s : LineStatus)
-      → concat (status_rows question (numbered_values summary name silent most) n line None s) ≡ flat_map (row_with_colon line) (query_rows query n s)
-  by_status question query of_lines queries conditions matching blank = refl
-  by_status question query of_lines queries conditions matching (refused fault) = ap (λ (b : Bool). concat (if b then [] else [])) (ap wants_refused matching)
-  by_status question query of_lines queries conditions matching (parsed t) =
+  selected_by : (question : Question) (query : Segments) → each_of question ≡ None → queries_of question ≡ path root query ∷ [] → conditions_of question ≡ [] → question.wanted ≡ wanted.Matching → (s : LineStatus)
+      → concat (selected_rows question (numbered_values summary name silent most) n line None s) ≡ flat_map (row_with_colon line) (query_rows query n s)
+  selected_by question query of_lines queries conditions matching blank = refl
+  selected_by question query of_lines queries conditions matching (refused fault) = ap (λ (b : Bool). concat (if b then [] else [])) (ap wants_refused matching)
+  selected_by question query of_lines queries conditions matching (parsed t) =
       let rows_at : Node → List (List ℕ) = λ node. map row_of (nodes_of (queries_of question) node t) in
       let found = path_nodes (path root query) (root_node t) t in
       ap (λ (o : Option Segments). concat (flat_map rows_at (filter (is_selected question t) (nodes_asked o t)))) of_lines
@@ -64,6 +64,12 @@ module _ (summary : Summary) (name : Bor (List ℕ)) (silent : Bool) (most n : �
       ∙ ap (λ (qs : List Path). of_root (let_match question.purpose (selects qs (root_node t) t)) qs t) queries
       ∙ where_matching question.purpose (path root query ∷ []) t found (flat_map-cons (λ (q : Path). path_nodes q (root_node t) t) (path root query) [] ∙ append-nil found)
       ∙ each found
+
+  -- no row stands around others
+  by_status : (question : Question) (query : Segments) → each_of question ≡ None → queries_of question ≡ path root query ∷ [] → conditions_of question ≡ [] → question.wanted ≡ wanted.Matching → (s : LineStatus)
+      → concat (status_rows question (numbered_values summary name silent most) n line None s) ≡ flat_map (row_with_colon line) (query_rows query n s)
+  by_status question query of_lines queries conditions matching s =
+      ap concat (append-nil (selected_rows question (numbered_values summary name silent most) n line None s)) ∙ selected_by question query of_lines queries conditions matching s
 
 pub returns : goal.returns
 returns c = λ question query of_lines queries conditions matching summary name silent most n line. by_status summary name silent most n line question query of_lines queries conditions matching (status_of framings.Lines line)

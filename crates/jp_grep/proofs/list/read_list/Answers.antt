@@ -24,7 +24,7 @@ returns-in-Ok-of_lines-clause-list g c =
     let ends = subst (λ (f : Form). EndsWith question f came outcomes found) c.list_form.ensures o.5.end in
     let counts = subst (λ (f : Form). AreCounts question found.counts (answered_of question f 0 outcomes)) c.list_form.ensures o.5.counts in
     let all : answered_of question form 0 outcomes ≡ answered_of question form 0 (items_come form.units came.ended came.bytes) =
-    none_lost question (form.most - 0) (items_come form.units came.ended came.bytes) outcomes (whole_came question form came outcomes found whole ends) (sym counts.given_up ∙ whole_kept question form found whole) in
+    none_lost question (form.most - 0) form.trailing (items_come form.units came.ended came.bytes) outcomes (whole_came question form came outcomes found whole ends) (sym counts.given_up ∙ whole_kept question form found whole) in
     let text : Form → List ℕ = λ f. output_from question f 1 (answered_of question f 0 outcomes) ++ summary_of f.summary f (selected_count question (answered_of question f 0 outcomes)) (is_whole found) in
     let items : c.into_inner.result.items ≡ output_from question form 1 (answered_of question form 0 (items_come form.units came.ended came.bytes)) =
     ap (λ v. v.items) c.into_inner.ensures

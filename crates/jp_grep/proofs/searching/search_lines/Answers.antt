@@ -29,7 +29,7 @@ loop-read-init g c = record {
     [],
     gave_none g.R.Read.remaining c.args.input.now.reader c.args.input.now.reader refl (Consumes-nil (g.R.Read.remaining c.args.input.now.reader.device)),
     at_start c.args.answerer.question.now c.args.answerer.form.now g.W.Write.contents g.E.Write.contents c.new.result c.new-2.result.progress c.args.out.now c.args.messages.now c.new.ensures
-        c.new-2.ensures.number c.new-2.ensures.selected c.new-2.ensures.refused c.new-2.ensures.given_up,
+        c.new-2.ensures.number c.new-2.ensures.selected c.new-2.ensures.refused c.new-2.ensures.given_up c.new-2.ensures.trailed,
     inl refl,
     omega arith,
   );
@@ -44,8 +44,8 @@ loop-read-init g c = record {
   early = refl;
 }
 
-pub returns-then-counts-answerer-clause-output : goal.returns-then-counts-answerer-clause-output
-returns-then-counts-answerer-clause-output g c =
+pub returns-then-is_done-clause-output : goal.returns-then-is_done-clause-output
+returns-then-is_done-clause-output g c =
     let q = c.args.answerer.question.now in
     let f = c.args.answerer.form.now in
     let inv = c.loop-read.invariant in
@@ -59,7 +59,7 @@ returns-then-counts-answerer-clause-output g c =
       came_so_far q f g.W.Write.contents g.E.Write.contents source progress c.args.out.now c.loop-read.out c.args.messages.now c.loop-read.messages so.0 so.1 so.2 so.4 failed,
       so.5,
       enough_selected q f g.W.Write.contents g.E.Write.contents source progress c.args.out.now c.loop-read.out c.args.messages.now c.loop-read.messages so.0 so.1 so.2 so.4 failed c.found.result
-          c.if-counts-answerer.true c.found.ensures.counts c.found.ensures.unread,
+          (c.is_done.ensures.done c.if-is_done.true) c.found.ensures.counts c.found.ensures.unread,
     )
 
 pub returns-in_err-flush_all-clause-output : goal.returns-in_err-flush_all-clause-output
@@ -103,7 +103,7 @@ returns-in_default-clause-output g c =
           (c.in_default.ensures.ended ∙ sym (or_false c.loop-read.input.reader.ended) ∙ inv.unended ∙ sym c.requires.unended),
       came_so_far q f g.W.Write.contents g.E.Write.contents source progress c.args.out.now out c.args.messages.now told so.0 so.1 so.2 now input.failed,
       none_more q f c.args.input.now c.read_after.new.self so.0 so.2 (read_nothing q f c.args.input.now c.read_after.new.self so.0 so.2 [] c.in_default.ensures.last
-          (wants_more q f g.W.Write.contents g.E.Write.contents source progress c.args.out.now out c.args.messages.now told so.0 so.1 so.2 now c.if-counts-answerer.false)),
+          (wants_more q f g.W.Write.contents g.E.Write.contents source progress c.args.out.now out c.args.messages.now told so.0 so.1 so.2 now (c.is_done.ensures.more c.if-is_done.false))),
       (
         refl,
         (goes_as f.units so.0 source so.1 now.position).format,
@@ -134,7 +134,7 @@ returns-in_err-tell_more-clause-output g c =
           (c.in_default.ensures.ended ∙ sym (or_false c.loop-read.input.reader.ended) ∙ inv.unended ∙ sym c.requires.unended),
       came_so_far q f g.W.Write.contents g.E.Write.contents source progress c.args.out.now out c.args.messages.now told so.0 so.1 so.2 now input.failed,
       none_more q f c.args.input.now c.read_after.new.self so.0 so.2 (read_nothing q f c.args.input.now c.read_after.new.self so.0 so.2 [] c.in_default.ensures.last
-          (wants_more q f g.W.Write.contents g.E.Write.contents source progress c.args.out.now out c.args.messages.now told so.0 so.1 so.2 now c.if-counts-answerer.false)),
+          (wants_more q f g.W.Write.contents g.E.Write.contents source progress c.args.out.now out c.args.messages.now told so.0 so.1 so.2 now (c.is_done.ensures.more c.if-is_done.false))),
       handed _ _ c.from_residual-in_err-tell_more.result fault c.from_residual-in_err-tell_more.ensures.1
           (stopped_in_part q f g.W.Write.contents g.E.Write.contents c.args.out.now out c.args.messages.now c.tell_more.new.messages fault came so.2 (of_report fault c.in_err-tell_more.ensures.fault) (λ ended. absurd (false≢true ended))
           (told_in_part q f g.W.Write.contents g.E.Write.contents c.args.out.now out c.args.messages.now told c.tell_more.new.messages (answered_of q f 0 so.2) progress.counts.refused now.counts.refused
@@ -173,7 +173,7 @@ loop-read-preserved g c =
         goes_on_by q f g.W.Write.contents g.E.Write.contents source before c.args.out.now out c.args.messages.now told so.0 so.1 so.2 now c.answer_read.new.self.answering.progress c.answer_read.new.out c.answer_read.new.messages
             c.in_default-answer_read.field-0 advances.items advances.answers c.answer_read.new.self.source piece (advances.position so.0 so.1 now.position),
         read_last q f c.args.input.now c.read_after.new.self so.0 piece so.2 advances.answers.outcomes (length-take-le c.in-Ok.count c.read_after.new.bytes c.in-Ok.ensures.bound.0 ∙ sym c.in-Ok.ensures.last)
-            (wants_more q f g.W.Write.contents g.E.Write.contents source before c.args.out.now out c.args.messages.now told so.0 so.1 so.2 now c.if-counts-answerer.false),
+            (wants_more q f g.W.Write.contents g.E.Write.contents source before c.args.out.now out c.args.messages.now told so.0 so.1 so.2 now (c.is_done.ensures.more c.if-is_done.false)),
         one_more c.loop-read._read (length so.0) c.in-Ok.count (length piece) (length (so.0 ++ piece)) so.6 c.if-count-eq0.false
             (length-take-le c.in-Ok.count c.read_after.new.bytes c.in-Ok.ensures.bound.0) (length-append so.0 piece),
       );
@@ -200,7 +200,7 @@ returns-in-Err-clause-output g c =
     let out = c.flush_all.new.out in
     let told = c.flush_all.new.messages in
     let now = flushed q f g.W.Write.contents g.E.Write.contents source before c.args.out.now c.loop-read.out out c.args.messages.now c.loop-read.messages told so.0 so.1 so.2 so.4 c.flush_all.ensures.rows c.flush_all.ensures.messages in
-    let wants = wants_more q f g.W.Write.contents g.E.Write.contents source before c.args.out.now out c.args.messages.now told so.0 so.1 so.2 now c.if-counts-answerer.false in
+    let wants = wants_more q f g.W.Write.contents g.E.Write.contents source before c.args.out.now out c.args.messages.now told so.0 so.1 so.2 now (c.is_done.ensures.more c.if-is_done.false) in
     let room : 0 < length c.read_after.new.bytes = omega (arith, inv.room, c.read_after.auto.bytes) in
     let nothing = ap (λ n. take n c.read_after.new.bytes) c.if-count-eq0.true in
     let gave = subst (λ l. Gave g.R.Read.remaining c.args.input.now.reader input l) (ap (λ l. so.0 ++ l) nothing ∙ append-nil so.0)
@@ -258,7 +258,7 @@ returns-then-count-eq0-clause-output g c =
     let out = c.flush_all.new.out in
     let told = c.flush_all.new.messages in
     let now = flushed q f g.W.Write.contents g.E.Write.contents source before c.args.out.now c.loop-read.out out c.args.messages.now c.loop-read.messages told so.0 so.1 so.2 so.4 c.flush_all.ensures.rows c.flush_all.ensures.messages in
-    let wants = wants_more q f g.W.Write.contents g.E.Write.contents source before c.args.out.now out c.args.messages.now told so.0 so.1 so.2 now c.if-counts-answerer.false in
+    let wants = wants_more q f g.W.Write.contents g.E.Write.contents source before c.args.out.now out c.args.messages.now told so.0 so.1 so.2 now (c.is_done.ensures.more c.if-is_done.false) in
     let room : 0 < length c.read_after.new.bytes = omega (arith, inv.room, c.read_after.auto.bytes) in
     let nothing = ap (λ n. take n c.read_after.new.bytes) c.if-count-eq0.true in
     let gave = subst (λ l. Gave g.R.Read.remaining c.args.input.now.reader input l) (ap (λ l. so.0 ++ l) nothing ∙ append-nil so.0)
@@ -290,7 +290,7 @@ returns-in-Err-answer_read-clause-output g c =
     let out = c.flush_all.new.out in
     let told = c.flush_all.new.messages in
     let now = flushed q f g.W.Write.contents g.E.Write.contents source before c.args.out.now c.loop-read.out out c.args.messages.now c.loop-read.messages told so.0 so.1 so.2 so.4 c.flush_all.ensures.rows c.flush_all.ensures.messages in
-    let wants = wants_more q f g.W.Write.contents g.E.Write.contents source before c.args.out.now out c.args.messages.now told so.0 so.1 so.2 now c.if-counts-answerer.false in
+    let wants = wants_more q f g.W.Write.contents g.E.Write.contents source before c.args.out.now out c.args.messages.now told so.0 so.1 so.2 now (c.is_done.ensures.more c.if-is_done.false) in
     let piece = take c.in-Ok.count c.read_after.new.bytes in
     let out2 = c.answer_read.new.out in
     let told2 = c.answer_read.new.messages in

@@ -12,6 +12,6 @@ returns c =
     let e2 = with_one_more c.in_ok-arg.field-0 c.in_ok-arg-2.field-0 c.flag-2.result start (flag_rule (codes "number") 0x6E (codes "line-number") ∷ []) _ c.in_ok-arg-2.ensures c.flag-2.ensures.local c.flag-2.ensures.rule e1 in
     let e3 = with_one_more c.in_ok-arg-2.field-0 c.in_ok-arg-3.field-0 c.flag-3.result start (flag_rule (codes "number") 0x6E (codes "line-number") ∷ flag_rule (codes "name") 0x48 (codes "with-filename") ∷ []) _ c.in_ok-arg-3.ensures c.flag-3.ensures.local c.flag-3.ensures.rule e2 in
     let e4 = with_one_more c.in_ok-arg-3.field-0 c.in_ok-arg-4.field-0 c.flag-4.result start (flag_rule (codes "number") 0x6E (codes "line-number") ∷ flag_rule (codes "name") 0x48 (codes "with-filename") ∷ flag_rule (codes "unnamed") 0x68 (codes "no-filename") ∷ []) _ c.in_ok-arg-4.ensures c.flag-4.ensures.local c.flag-4.ensures.rule e3 in
-    IfOk-weaker c.arg-5.result (AddsArg c.in_ok-arg-4.field-0 c.most_argument.result) (λ more. app_of more ≡ with_rules start front_rules)
-    (λ more adds. with_one_more c.in_ok-arg-4.field-0 more c.most_argument.result start (flag_rule (codes "number") 0x6E (codes "line-number") ∷ flag_rule (codes "name") 0x48 (codes "with-filename") ∷ flag_rule (codes "unnamed") 0x68 (codes "no-filename") ∷ flag_rule (codes "null") 0x5A (codes "null") ∷ []) _ adds c.most_argument.ensures.local c.most_argument.ensures.rule e4)
+    IfOk-weaker c.arg-5.result (AddsArg c.in_ok-arg-4.field-0 c.number_argument.result) (λ more. app_of more ≡ with_rules start front_rules)
+    (λ more adds. with_one_more c.in_ok-arg-4.field-0 more c.number_argument.result start (flag_rule (codes "number") 0x6E (codes "line-number") ∷ flag_rule (codes "name") 0x48 (codes "with-filename") ∷ flag_rule (codes "unnamed") 0x68 (codes "no-filename") ∷ flag_rule (codes "null") 0x5A (codes "null") ∷ []) _ adds c.number_argument.ensures.local c.number_argument.ensures.rule e4)
     c.arg-5.ensures

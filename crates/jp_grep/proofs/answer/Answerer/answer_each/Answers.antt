@@ -1,17 +1,18 @@
 -- One of them is answered after the others.
-use Rattle.std.proofs.Common.{◌≡◌, ◌∙◌, ◌<◌, ◌+◌, ◌-◌, ◌++◌, [], ◌∷◌, ℕ, List, ap, ap₂, sym, subst, append_assoc, drop, length, length-append, take, take-append-drop, refl, arith, true, false, Bool}
-use Rattle.std.specs.Prelude.{cond, sum_by}
+use Rattle.std.proofs.Common.{◌≡◌, ◌∙◌, ◌<◌, ◌+◌, ◌-◌, ◌++◌, [], ◌∷◌, ℕ, List, ap, ap₂, sym, subst, append_assoc, drop, length, length-append, take, take-append-drop, refl, arith, inl, inr, true, false, Bool, Some}
+use Rattle.std.specs.Prelude.{cond, sum_by, suc, zero, ◌==◌, ◌^◌, ◌≤◌, ◌⊎◌}
+use Rattle.std.proofs.lemmas.Bool.{eq-eqb, ne_eqb}
 use Rattle.std.proofs.lemmas.List.{take_more}
 use Rattle.std.proofs.lemmas.Option.{get_or_from_slice_get}
 use Rattle.jp_devices.specs.Devices.{Received}
 use Rattle.jp_devices.proofs.Chains.{Part, both_received, ends_in_part}
 use Rattle.jp_grep.specs.Holding.{HoldsBack, HoldsPart}
-use Rattle.jp_grep.specs.Items.{Item, is_given_up}
+use Rattle.jp_grep.specs.Items.{Item, is_given_up, is_unjudged}
 use Rattle.jp_grep.specs.Outcomes.{CameOfEach}
 use Rattle.jp_grep.specs.ReadItems.{item_of, items_of}
 use Rattle.jp_grep.specs.Rows.{item_message, item_rows, messages_from, output_from, refused_count, refused_item, selected_in}
-use Rattle.jp_grep.specs.Searching.{GoesOnBy}
-use Rattle.jp_grep.specs.Watching.{answered_of, cut_to}
+use Rattle.jp_grep.specs.Searching.{GoesOnBy, answered_after}
+use Rattle.jp_grep.specs.Watching.{cut_to}
 use Rattle.jp_grep.proofs.Advancing.{none_answered, none_by, says_nothing}
 use Rattle.jp_grep.proofs.Batched.{enough, messages_around, messages_more, one_more, rows_around, rows_more, with_next}
 use Rattle.jp_grep.proofs.Coming.{came_next, came_one, came_same}
@@ -34,12 +35,36 @@ counted : (of : Item → ℕ) (before was is one : ℕ) (done : List Item) (item
 counted of before was is one done item e f same =
     f ∙ ap₂ (λ (n k : ℕ). n + k) e same ∙ together before (sum_by of done) (of item) (sum_by of (done ++ item ∷ [])) (sum_by_push of done item)
 
+-- one is not judged where as many are selected as are wanted
+unjudged_where : (selected most : ℕ) → selected ≤ most → (selected == most) ≡ is_unjudged (Some (most - selected))
+unjudged_where selected most few = by_left (most - selected) refl
+  where
+    by_left : (left : ℕ) → left ≡ most - selected → (selected == most) ≡ is_unjudged (Some left)
+    by_left zero e = eq-eqb selected most (omega (arith, few, e))
+    by_left (suc left) e = ne_eqb selected most (λ same. omega (arith, same, e))
+
+-- no more are passed after these than are to be
+one_passed : (selected most trailed trailing next : ℕ) → next ≡ trailed + cond (selected == most) 1 0 → trailed ≤ trailing → (selected < most) ⊎ (trailed < trailing) → next ≤ trailing
+one_passed selected most trailed trailing next e few (inl l) = as_many next trailed trailing (e ∙ ap (λ (b : Bool). trailed + cond b 1 0) (ne_eqb selected most (λ same. omega (arith, same, l)))) few
+  where
+    as_many : (next trailed trailing : ℕ) → next ≡ trailed + 0 → trailed ≤ trailing → next ≤ trailing
+    as_many next trailed trailing e few = omega (arith, e, few)
+one_passed selected most trailed trailing next e few (inr l) = one_at_most next trailed trailing (selected == most) e l
+  where
+    one_at_most : (next trailed trailing : ℕ) (b : Bool) → next ≡ trailed + cond b 1 0 → trailed < trailing → next ≤ trailing
+    one_at_most next trailed trailing true e l = omega (arith, e, l)
+    one_at_most next trailed trailing false e l = omega (arith, e, l)
+
+few_passed : (selected most trailed trailing : ℕ) → selected ≡ most → trailing < 2 ^ 64 → (selected < most) ⊎ (trailed < trailing) → trailed + 1 < 2 ^ 64
+few_passed selected most trailed trailing all few (inl l) = absurd (omega (arith, all, l))
+few_passed selected most trailed trailing all few (inr l) = omega (arith, few, l)
+
 pub loop-index-init : goal.loop-index-init
 loop-index-init g c =
     let q = c.args.self.question.now in
     let f = c.args.self.form.now in
     let held = c.args.outlet.now.held.items in
-    let none = none_answered q f c.args.progress.now.counts.selected in
+    let none = none_answered q f c.args.progress.now in
     record {
       so_far = (
         [],
@@ -54,8 +79,8 @@ loop-index-init g c =
       messages_after = refl;
     }
 
-pub returns-then-wants-eq0-clause-answers : goal.returns-then-wants-eq0-clause-answers
-returns-then-wants-eq0-clause-answers g c =
+pub returns-then-is_done-clause-answers : goal.returns-then-is_done-clause-answers
+returns-then-is_done-clause-answers g c =
     let q = c.args.self.question.now in
     let f = c.args.self.form.now in
     let all = items_of c.args.items in
@@ -63,7 +88,8 @@ returns-then-wants-eq0-clause-answers g c =
     let before = c.args.progress.now in
     let so = c.loop-index.invariant.so_far in
     let done = so.0 in
-    let is = sym (enough q f before.counts.selected done (drop i all) (omega (arith, so.2.by.selected, so.2.by.under_way.wanted, c.wants.ensures.more, c.if-wants-eq0.true))) in
+    let is_enough = c.is_done.ensures.done c.if-is_done.true in
+    let is = sym (enough q f before done (drop i all) (sym so.2.by.selected ∙ is_enough.0, sym so.2.by.trailed ∙ is_enough.1)) in
     record {
       outcomes = done ++ drop i all;
       each = subst (λ (ls : List Item). CameOfEach ls (done ++ drop i all)) (take-append-drop i all) (came_next (take i all) done (drop i all) (drop i all) so.2.each (came_same (drop i all)));
@@ -91,17 +117,17 @@ returns-in_err-verdict-clause-answers g c =
     let within : i < length all = omega (arith, c.loop-index-test.true, c.count-index-end.ensures) in
     let is = sym (get_or_from_slice_get all i item item c.item-item.ensures.item) in
     let rest = drop (i + 1) all in
-    let answered = answered_of q f before.counts.selected done in
-    let fewer : c.loop-index.progress.counts.selected < f.most = omega (arith, so.2.by.under_way.wanted, c.wants.ensures.more, c.if-wants-eq0.false) in
+    let answered = answered_after q f before done in
+    let short = c.is_done.ensures.more c.if-is_done.false in
     let cut = cut_to (f.most - c.loop-index.progress.counts.selected) said.outcome in
-    let next = one_more q f before.counts.selected done c.loop-index.progress.counts.selected so.2.by.selected fewer said.outcome rest in
+    let next = one_more q f before done c.loop-index.progress so.2.by short said.outcome rest in
     let rows = subst (λ k. HoldsPart g.W.Write.contents c.loop-index.out out c.loop-index.outlet.held.items held (item_rows q f k cut)) so.2.by.number said.rows in
     let part = subst (λ (l : List ℕ). Part g.E.Write.contents c.loop-index.messages told l) (ap₂ (λ j k. item_message f j k cut) so.2.by.refused so.2.by.number) said.message in
     record {
       outcomes = done ++ said.outcome ∷ rest;
       each = subst (λ (ls : List Item). CameOfEach ls (done ++ said.outcome ∷ rest)) (sym (around all i item within ∙ ap (λ (x : Item). (take i all ++ x ∷ []) ++ rest) (sym is) ∙ append_assoc (take i all) (item ∷ []) rest))
           (came_next (take i all) done (item ∷ rest) (said.outcome ∷ rest) so.2.each (said.came, came_same rest));
-      rows = ends_put r c.args.out.now out c.args.outlet.now.held.items held (output_from q f before.number (answered_of q f before.counts.selected (done ++ said.outcome ∷ rest))) failed
+      rows = ends_put r c.args.out.now out c.args.outlet.now.held.items held (output_from q f before.number (answered_after q f before (done ++ said.outcome ∷ rest))) failed
           (put_next c.args.out.now c.loop-index.out out _ _ _ _ (item_rows q f (before.number + length answered) cut) _ _
           (rows_around q f answered cut before.number _ next.0 next.1) so.3 rows);
       messages = ends_in_part r _ _ _ failed
@@ -131,10 +157,10 @@ loop-index-preserved g c =
     let now = c.pass.new.self in
     let within : i < length all = omega (arith, c.loop-index-test.true, c.count-index-end.ensures) in
     let is = sym (get_or_from_slice_get all i item item c.item-item.ensures.item) in
-    let answered = answered_of q f before.counts.selected done in
-    let less : c.loop-index.progress.counts.selected < f.most = omega (arith, by.under_way.wanted, c.wants.ensures.more, c.if-wants-eq0.false) in
+    let answered = answered_after q f before done in
+    let short = c.is_done.ensures.more c.if-is_done.false in
     let cut = cut_to (f.most - c.loop-index.progress.counts.selected) said.outcome in
-    let all_now = with_next q f before.counts.selected done c.loop-index.progress.counts.selected by.selected less said.outcome in
+    let all_now = with_next q f before done c.loop-index.progress by short said.outcome in
     let rows = subst (λ k. HoldsBack g.W.Write.contents c.loop-index.out out c.loop-index.outlet.held.items held (item_rows q f k cut)) by.number said.rows in
     let message = subst (λ (l : List ℕ). Received g.E.Write.contents c.loop-index.messages told l) (ap₂ (λ j k. item_message f j k cut) by.refused by.number) said.message in
     record {
@@ -149,8 +175,11 @@ loop-index-preserved g c =
             selected = counted (selected_in q) before.counts.selected _ _ _ answered cut by.selected passed.selected said.verdict.selected;
             refused = counted (λ x. cond (refused_item x) 1 0) before.counts.refused _ _ _ answered cut by.refused passed.refused (ap (λ (b : Bool). let n : ℕ = cond b 1 0 in n) said.verdict.refused);
             given_up = counted (λ x. cond (is_given_up x) 1 0) before.counts.given_up _ _ _ answered cut by.given_up passed.given_up (ap (λ (b : Bool). let n : ℕ = cond b 1 0 in n) said.verdict.given_up);
+            trailed = counted (λ x. cond (is_unjudged x.most) 1 0) before.trailed _ _ _ answered cut by.trailed passed.trailed
+                (ap (λ (b : Bool). let n : ℕ = cond b 1 0 in n) (unjudged_where c.loop-index.progress.counts.selected f.most by.under_way.wanted));
             under_way = record {
               wanted = omega (arith, passed.selected, c.in_ok-verdict.ensures.fits);
+              passed = one_passed c.loop-index.progress.counts.selected f.most c.loop-index.progress.trailed f.trailing now.trailed passed.trailed by.under_way.passed short;
               fewer_refused = one_fewer _ _ _ _ _ passed.refused passed.number by.under_way.fewer_refused;
               fewer_given_up = one_fewer _ _ _ _ _ passed.given_up passed.number by.under_way.fewer_given_up;
             };
@@ -171,8 +200,11 @@ loop-index-preserved g c =
 pub pass-requires-clause-number : goal.pass-requires-clause-number
 pass-requires-clause-number g c =
     let so = c.loop-index.invariant.so_far in
-    let few = few_up_to c.args.self.question.now (c.args.self.form.now.most - c.args.progress.now.counts.selected) so.0 in
+    let few = few_up_to c.args.self.question.now (c.args.self.form.now.most - c.args.progress.now.counts.selected) (c.args.self.form.now.trailing - c.args.progress.now.trailed) so.0 in
     omega (arith, so.1, so.2.by.number, few, c.requires.numbers, c.loop-index-test.true, c.count-index-end.ensures)
 
 pub pass-requires-clause-selected : goal.pass-requires-clause-selected
-pass-requires-clause-selected g c = omega (arith, c.in_ok-verdict.ensures.fits, c.wants.ensures.fits)
+pass-requires-clause-selected g c = omega (arith, c.in_ok-verdict.ensures.fits, c.is_done.ensures.fits)
+
+pub pass-requires-clause-trailed : goal.pass-requires-clause-trailed
+pass-requires-clause-trailed g c = λ all. few_passed c.loop-index.progress.counts.selected c.args.self.form.now.most c.loop-index.progress.trailed c.args.self.form.now.trailing all c.is_done.ensures.few (c.is_done.ensures.more c.if-is_done.false)

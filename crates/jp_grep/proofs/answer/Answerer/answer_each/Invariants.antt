@@ -5,15 +5,15 @@ use Rattle.jp_grep.specs.Holding.{HoldsBack}
 use Rattle.jp_grep.specs.Items.{Item}
 use Rattle.jp_grep.specs.ReadItems.{items_of}
 use Rattle.jp_grep.specs.Rows.{messages_from, output_from}
-use Rattle.jp_grep.specs.Watching.{answered_of}
+use Rattle.jp_grep.specs.Searching.{answered_after}
 use Rattle.jp_grep.proofs.Batched.{AreDone}
 use Rattle.jp_grep.proofs.answer.Answerer.answer_each.Given as goal
 
 abbrev pub invariant-loop-index : goal.invariant-loop-index
 invariant-loop-index g l = record {
   so_far : (done : List Item) × (length done ≡ l.index) × AreDone l.self.question.now l.self.form.now l.fn.progress l.progress (take l.index (items_of l.items)) done
-      × HoldsBack g.W.Write.contents l.fn.out l.out l.fn.outlet.held.items l.outlet.held.items (output_from l.self.question.now l.self.form.now l.fn.progress.number (answered_of l.self.question.now l.self.form.now l.fn.progress.counts.selected done))
-      × Received g.E.Write.contents l.fn.messages l.messages (messages_from l.self.form.now l.fn.progress.counts.refused l.fn.progress.number (answered_of l.self.question.now l.self.form.now l.fn.progress.counts.selected done));
+      × HoldsBack g.W.Write.contents l.fn.out l.out l.fn.outlet.held.items l.outlet.held.items (output_from l.self.question.now l.self.form.now l.fn.progress.number (answered_after l.self.question.now l.self.form.now l.fn.progress done))
+      × Received g.E.Write.contents l.fn.messages l.messages (messages_from l.self.form.now l.fn.progress.counts.refused l.fn.progress.number (answered_after l.self.question.now l.self.form.now l.fn.progress done));
   writes : l.out.failed ≡ false;
   reports : l.messages.failed ≡ false;
   after : l.out.after ≡ l.fn.out.after;

@@ -1,8 +1,10 @@
 -- The rows are put, and after them the message is written.
 use Rattle.std.proofs.Common.{[], ◌-◌, ℕ, List, Bool, None, Some, append-nil, subst}
+use Rattle.std.specs.Prelude.{is_some}
 use Rattle.jp_devices.specs.Devices.{Received}
 use Rattle.jp_devices.proofs.Chains.{Part, ends_in_part}
 use Rattle.jp_grep.specs.Holding.{HoldsBack, HoldsPart}
+use Rattle.jp_model.specs.Json.Status.{LineStatus}
 use Rattle.jp_grep.specs.ReadItems.{status_by}
 use Rattle.jp_grep.specs.Rows.{message_where, status_rows, written_of}
 use Rattle.jp_grep.proofs.Advancing.{nothing_of}
@@ -41,8 +43,9 @@ returns-in_err-tell-clause-answers g c =
           (subst (λ (l : List ℕ). HoldsPart g.W.Write.contents c.args.out.now c.tell.new.out c.args.outlet.now.held.items c.tell.new.outlet.held.items l) (append-nil rows)
           (part_put c.args.out.now c.put_item.new.out c.tell.new.out c.args.outlet.now.held.items c.put_item.new.outlet.held.items c.tell.new.outlet.held.items rows [] said.rows told.rows));
       message = ends_in_part r c.args.messages.now c.tell.new.messages _ failed
-          (subst (λ (b : Bool). Part g.E.Write.contents c.args.messages.now c.tell.new.messages (message_where b f c.args.progress.counts.refused c.args.progress.number item.from_line (status_by item.state)))
-          said.verdict.given_up told.message);
+          (subst (λ (s : LineStatus). Part g.E.Write.contents c.args.messages.now c.tell.new.messages (message_where (is_some said.given_up) f c.args.progress.counts.refused c.args.progress.number item.from_line s)) c.judged.ensures
+          (subst (λ (b : Bool). Part g.E.Write.contents c.args.messages.now c.tell.new.messages (message_where b f c.args.progress.counts.refused c.args.progress.number item.from_line (status_by c.judged.result)))
+          said.verdict.given_up told.message));
       verdict = no_answer _ r failed;
     }
 
@@ -59,7 +62,8 @@ returns-clause-answers g c =
       came = came_by item.text.now (status_by item.state) item.from_line said.given_up;
       rows = subst (λ (l : List ℕ). HoldsBack g.W.Write.contents c.args.out.now c.tell.new.out c.args.outlet.now.held.items c.tell.new.outlet.held.items l) (append-nil rows)
           (both_put c.args.out.now c.put_item.new.out c.tell.new.out c.args.outlet.now.held.items c.put_item.new.outlet.held.items c.tell.new.outlet.held.items rows [] said.rows told.rows);
-      message = subst (λ (b : Bool). Received g.E.Write.contents c.args.messages.now c.tell.new.messages (message_where b f c.args.progress.counts.refused c.args.progress.number item.from_line (status_by item.state)))
-          said.verdict.given_up told.message;
+      message = subst (λ (s : LineStatus). Received g.E.Write.contents c.args.messages.now c.tell.new.messages (message_where (is_some said.given_up) f c.args.progress.counts.refused c.args.progress.number item.from_line s)) c.judged.ensures
+          (subst (λ (b : Bool). Received g.E.Write.contents c.args.messages.now c.tell.new.messages (message_where b f c.args.progress.counts.refused c.args.progress.number item.from_line (status_by c.judged.result)))
+          said.verdict.given_up told.message);
       verdict = said.verdict;
     }

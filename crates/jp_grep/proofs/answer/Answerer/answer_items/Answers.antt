@@ -3,7 +3,7 @@ use Rattle.std.proofs.Common.{List, ℕ, Result, Err, refl, subst}
 use Rattle.jp_grep.specs.Holding.{HoldsBack, Puts}
 use Rattle.jp_grep.specs.ReadItems.{items_of}
 use Rattle.jp_grep.specs.Rows.{output_from}
-use Rattle.jp_grep.specs.Watching.{answered_of}
+use Rattle.jp_grep.specs.Searching.{answered_after}
 use Rattle.jp_grep.specs.declared.fault.SearchFault.{SearchFault}
 use Rattle.jp_grep.specs.declared.fault.SearchFault.TheVariants as faults
 use Rattle.jp_devices.proofs.Chains.{ends_in_part}
@@ -26,7 +26,7 @@ returns-in_err-answer_each-clause-answers g c =
     let r = c.from_residual.result in
     let failed = c.from_residual.ensures.0 in
     let now = c.answer_each.new in
-    let text = output_from q f before.number (answered_of q f before.counts.selected said.outcomes) in
+    let text = output_from q f before.number (answered_after q f before said.outcomes) in
     record {
       outcomes = said.outcomes;
       each = said.each;
@@ -45,7 +45,7 @@ returns-clause-answers g c =
     let said = c.in_ok-answer_each.ensures.answers in
     let now = c.answer_each.new in
     let r = c.write_held.result in
-    let text = output_from q f before.number (answered_of q f before.counts.selected said.outcomes) in
+    let text = output_from q f before.number (answered_after q f before said.outcomes) in
     record {
       outcomes = said.outcomes;
       each = said.each;

@@ -21,6 +21,7 @@ use Rattle.jp_grep.proofs.answer.Answerer.answer_node.Goals as goal
 at_once : (s : Shown) (q : Question) (f : Form) (n : ℕ) (line : List ℕ) (t : Tree) (node : Node) → ((paths : Bool) → s ≡ shown.Values paths → ⊥) → concat (node_rows s q f n line t node) ≡ row_at_once s q f n line t node
 at_once shown.Nothing q f n line t node other = refl
 at_once (shown.Line faults) q f n line t node other = append-nil (row_at_once (shown.Line faults) q f n line t node)
+at_once shown.Around q f n line t node other = append-nil (row_at_once shown.Around q f n line t node)
 at_once (shown.Values paths) q f n line t node other = absurd (other paths refl)
 at_once (shown.Cells table) q f n line t node other = append-nil (row_at_once (shown.Cells table) q f n line t node)
 

@@ -1,0 +1,6 @@
+-- Lines of context: the rows that a search tells, those of them that are shown, and in which groups.
+pub mod Told
+pub mod Groups
+pub mod Steps
+pub mod Worked
+pub mod Near

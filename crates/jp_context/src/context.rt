@@ -1,0 +1,152 @@
+//! A writer of the rows that a search tells, which shows those that are selected and those near them.
+
+ghost use Rattle.std.specs.Prelude.{◌≡◌, ◌++◌, ◌||◌, [], ℕ, List, OnOk, IfOk, Some, false, is_err};
+ghost use Rattle.std.specs.Io.{WritesAtMost};
+ghost use Rattle.std.specs.Io.KnownBytes.{Keeps, WriteAppends};
+ghost use Rattle.jp_context.specs.Groups.{context_text};
+ghost use Rattle.jp_context.specs.Steps.{HasBegun, falls_short, will_show};
+ghost use Rattle.jp_context.specs.Told.{ToldRow, open_row, told_rows};
+
+use crate::rows::take_rows;
+use crate::state::{Groups, Limits};
+use jp_devices::{Watched, write_whole};
+use std::alloc::{AllocError, Global};
+use std::io::{self, Sink, Write};
+
+/// A writer of rows that a search tells, as `push_told` puts them: it writes those that are selected and, of their stream, as many
+/// as are wanted before and after each of them. Groups of rows that do not touch are parted by two hyphens. What comes may be cut
+/// anywhere.
+///
+/// It keeps as many rows as are wanted before one that is selected, and what came of a row that is not whole.
+#[derive(Drop)]
+pub struct Context<W> {
+    alloc: Global,
+    groups: Groups,
+    /// What came of a row that is not whole.
+    held: Vec<u8>,
+    /// All that came, which proofs alone see: nothing is written anywhere.
+    came: Watched<Sink>,
+    out: Watched<W>,
+    is_full: bool,
+    ghost begins: { HasBegun groups.limits.before groups.limits.after came.taken out.taken },
+    ghost rest: { is_full ≡ false → out.failed ≡ false → held.items ≡ open_row came.taken },
+    ghost shows: { is_full ≡ false → out.failed ≡ false → (more : List ToldRow)
+        → context_text groups.limits.before groups.limits.after (told_rows came.taken ++ more) ≡ out.taken ++ will_show groups more },
+}
+
+impl<W> Context<W> {
+    /// A writer to which no row came yet, with so many rows before each that is selected and after it.
+    pub fn new(alloc: Global, before: u64, after: u64, out: W) -> Context<W>
+        ensures limits { result.groups.limits ≡ record { before = before; after = after } }
+        ensures came { result.came.taken ≡ [] }
+        ensures out { result.out.device ≡ out }
+        ensures taken { result.out.taken ≡ [] }
+        ensures full { result.is_full ≡ false }
+    {
+        Context {
+            alloc,
+            groups: Groups::new(alloc, Limits { before, after }),
+            held: Vec::new(alloc),
+            came: Watched::new(io::sink()),
+            out: Watched::new(out),
+            is_full: false,
+        }
+    }
+
+    /// Whether a write failed for want of memory.
+    pub fn is_full(&self) -> bool
+        ensures { result ≡ self.now.is_full }
+    {
+        self.is_full
+    }
+
+    /// The writer after it. What a row needs that is not whole is let go.
+    ///
+    /// Unless memory was refused or a call of it failed, it took what is to be shown of all that came. Else it took a beginning of
+    /// what would be, had what was offered come as well.
+    pub fn into_inner(self) -> Watched<W>
+        ensures out { result ≡ self.out }
+        ensures shown { self.is_full ≡ false → result.failed ≡ false
+            → result.taken ≡ context_text self.groups.limits.before self.groups.limits.after (told_rows self.came.taken) }
+        ensures begins { HasBegun self.groups.limits.before self.groups.limits.after self.came.taken result.taken }
+    {
+        self.out
+    }
+}
+
+/// Takes more bytes after those that are held, and gives the text that is to be shown now that they came.
+fn take_bytes(
+    alloc: Global,
+    groups: &mut Groups,
+    held: &mut Vec<u8>,
+    bytes: &[u8],
+) -> Result<Vec<u8>, AllocError>
+    ensures limits { groups.new.limits ≡ groups.old.limits }
+    ensures held { OnOk result (held.new.items ≡ open_row (held.old.items ++ bytes.now)) }
+    ensures shows { IfOk result (λ text. (more : List ToldRow) → will_show groups.old (told_rows (held.old.items ++ bytes.now) ++ more) ≡ text.items ++ will_show groups.new more) }
+{
+    held.extend_from_slice(bytes)?;
+    let mut text = Vec::new(alloc);
+    let rest = take_rows(groups, held, &mut text)?;
+    if rest.len() == held.len() {
+        return Ok(text);
+    }
+    let rest = Vec::from_slice(alloc, rest)?;
+    *held = rest;
+    Ok(text)
+}
+
+/// Whether a write failed, or did not take all of the bytes.
+fn falls_short(taken: &io::Result<usize>, bytes: &[u8]) -> bool
+    ensures { result ≡ falls_short taken.now bytes.now }
+{
+    match taken {
+        Ok(count) => *count < bytes.len(),
+        Err(_) => true,
+    }
+}
+
+/// The bytes that it has are those that came. A write fails where memory is refused, and where the writer after it fails. It is
+/// then of no use, and calls that writer no more.
+impl<W: Write> Write for Context<W> {
+    ghost contents = { λ context. Some context.came.taken };
+
+    fn write(&mut self, bytes: &[u8]) -> io::Result<usize>
+        ensures bound { WritesAtMost result bytes.now }
+        ensures bytes { WriteAppends (Some self.old.came.taken) (Some self.new.came.taken) result bytes.now }
+        ensures limits { self.new.groups.limits ≡ self.old.groups.limits }
+        ensures shown { self.new.is_full ≡ false → self.new.out.failed ≡ false
+            → self.new.out.taken ≡ context_text self.new.groups.limits.before self.new.groups.limits.after (told_rows self.new.came.taken) }
+        ensures begins { HasBegun self.new.groups.limits.before self.new.groups.limits.after self.new.came.taken self.new.out.taken }
+        ensures fault { (self.new.is_full || self.new.out.failed) ≡ falls_short result bytes.now }
+        ensures after { self.new.out.after ≡ self.old.out.after }
+    {
+        if self.is_full || self.out.failed() {
+            return Err(io::ErrorKind::Other.into());
+        }
+        let Ok(text) = take_bytes(self.alloc, &mut self.groups, &mut self.held, bytes) else {
+            self.is_full = true;
+            return Err(io::ErrorKind::OutOfMemory.into());
+        };
+        if write_whole(&text, &mut self.out).is_err() {
+            return Err(io::ErrorKind::WriteZero.into());
+        }
+        let taken = self.came.write(bytes);
+        self.is_full = falls_short(&taken, bytes);
+        taken
+    }
+
+    fn flush(&mut self) -> io::Result<()>
+        ensures bytes { Keeps (Some self.old.came.taken) (Some self.new.came.taken) }
+        ensures came { self.new.came ≡ self.old.came }
+        ensures limits { self.new.groups.limits ≡ self.old.groups.limits }
+        ensures taken { self.new.out.taken ≡ self.old.out.taken }
+        ensures fault { (self.new.is_full || self.new.out.failed) ≡ is_err result }
+        ensures after { self.new.out.after ≡ self.old.out.after }
+    {
+        if self.is_full || self.out.failed() {
+            return Err(io::ErrorKind::Other.into());
+        }
+        self.out.flush()
+    }
+}

@@ -1,0 +1,44 @@
+//! Laws of the rows that are shown, and of how rows are told.
+
+ghost use Rattle.std.specs.Prelude.{◌≡◌, ◌++◌, ◌^◌, ◌<◌, [], ℕ, List, All, flat_map, length, map, true};
+ghost use Rattle.jp_devices.specs.Devices.{Begins};
+ghost use Rattle.jp_context.specs.Groups.{context_text, marks};
+ghost use Rattle.jp_context.specs.Near.{IsNear, is_stream, shown_at};
+ghost use Rattle.jp_context.specs.Told.{ToldRow, open_row, told_rows, told_text};
+
+/// Each row that is selected is shown, whatever stands near it. This refuses a definition in which a row that is already shown
+/// after another is passed over as one that is selected.
+pub fn selected_rows_are_shown()
+    ensures { (before after : ℕ) (rows : List ToldRow) → All (λ mark. mark.row.selected ≡ true → mark.shown ≡ true) (marks before after rows) }
+{}
+
+/// With no context the rows that are selected are shown, and no other. This refuses a definition that counts one row too many.
+pub fn without_context_selected_rows_alone()
+    ensures { (rows : List ToldRow) → map (λ mark. mark.shown) (marks 0 0 rows) ≡ map (λ row. row.selected) rows }
+{}
+
+/// A row of a stream is shown exactly where one that is selected stands near enough: at most `before` rows after it, or at most
+/// `after` rows before it. This refuses a definition that shows a row too many or too few on one side, such as one that counts the
+/// row that is selected among those after it.
+pub fn rows_near_selected_ones_are_shown()
+    ensures near { (before after : ℕ) (rows : List ToldRow) → is_stream rows ≡ true → (place : ℕ) → shown_at (marks before after rows) place ≡ true → IsNear before after rows place }
+    ensures shown { (before after : ℕ) (rows : List ToldRow) → is_stream rows ≡ true → (place : ℕ) → place < length rows → IsNear before after rows place → shown_at (marks before after rows) place ≡ true }
+{}
+
+/// Each row is judged once, in order, so none is shown twice. This refuses a definition that shows a row both after one that is
+/// selected and before the next one.
+pub fn each_row_is_judged_once()
+    ensures { (before after : ℕ) (rows : List ToldRow) → map (λ mark. mark.row) (marks before after rows) ≡ rows }
+{}
+
+/// What is shown stays when more rows come. This refuses a definition that takes back what was written.
+pub fn what_is_shown_stays()
+    ensures { (before after : ℕ) (rows more : List ToldRow) → Begins (context_text before after rows) (context_text before after (rows ++ more)) }
+{}
+
+/// Rows that are told one after another are read as they were told, and nothing is left. This refuses heads that say another
+/// length, or from which a row that holds any bytes cannot be told.
+pub fn told_rows_are_read()
+    ensures rows { (rows : List ToldRow) → All (λ row. length row.text < 2 ^ 64) rows → told_rows (flat_map told_text rows) ≡ rows }
+    ensures rest { (rows : List ToldRow) → All (λ row. length row.text < 2 ^ 64) rows → open_row (flat_map told_text rows) ≡ [] }
+{}

@@ -1,0 +1,47 @@
+//! What was shown.
+
+ghost use Rattle.std.specs.Prelude.{◌≡◌, ◌++◌, OnOk};
+ghost use Rattle.jp_context.specs.Groups.{parted, separator};
+
+use std::alloc::AllocError;
+
+/// What was shown before a row.
+#[derive(Clone, Copy, Debug)]
+pub(crate) enum Shown {
+    /// Nothing.
+    Nothing,
+    /// The row before it, of its stream.
+    Neighbour,
+    /// Other rows.
+    Others,
+}
+
+impl Shown {
+    /// The same after a row that is not shown, and where a stream begins.
+    pub(crate) fn parted(self) -> Shown
+        ensures { result ≡ parted self }
+    {
+        match self {
+            Shown::Nothing => Shown::Nothing,
+            Shown::Neighbour | Shown::Others => Shown::Others,
+        }
+    }
+
+    /// What parts a row from what was shown.
+    fn separator(self) -> &'static [u8]
+        ensures { result.now ≡ separator self }
+    {
+        match self {
+            Shown::Nothing | Shown::Neighbour => b"",
+            Shown::Others => b"--\n",
+        }
+    }
+
+    /// Shows a row.
+    pub(crate) fn show(self, row: &[u8], text: &mut Vec<u8>) -> Result<(), AllocError>
+        ensures { OnOk result (text.new.items ≡ text.old.items ++ (separator self ++ row.now)) }
+    {
+        text.extend_from_slice(self.separator())?;
+        text.extend_from_slice(row)
+    }
+}
