@@ -51,8 +51,8 @@ soon_from count (row ∷ more) (suc place) goes is low =
     first_soon count row more (omega (arith, low)) parts.0
     (or_right row.selected (selected_soon (count - 1) more) (soon_from (count - 1) more place parts.1 is (omega (arith, low))))
 
--- so many rows are to follow, whether the first of them begins a stream or not
-abbrev Flows : ℕ → List ToldRow → Type 0
+-- `left` rows are to follow, whether the first of them begins a stream or not
+abbrev Flows : (left : ℕ) → List ToldRow → Type 0
 Flows left [] = ⊤
 Flows left (row ∷ more) = (to_follow left row ≡ left) × (list_all goes_on more ≡ true)
 

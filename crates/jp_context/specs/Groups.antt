@@ -4,8 +4,8 @@ use Rattle.jp_context.specs.Told.{ToldRow}
 use Rattle.jp_context.specs.declared.shown.Shown.{Shown}
 use Rattle.jp_context.specs.declared.shown.Shown.TheVariants as showing
 
--- one of the next rows of the stream, at most so many, is selected
-abbrev pub selected_soon : ℕ → List ToldRow → Bool
+-- one of the next rows of the stream, at most `count`, is selected
+abbrev pub selected_soon : (count : ℕ) → List ToldRow → Bool
 selected_soon count [] = false
 selected_soon count (row ∷ more) = nat_lt 0 count && (not row.first && (row.selected || selected_soon (count - 1) more))
 
@@ -26,8 +26,8 @@ pub record Mark : Type 0 where
   pub row : ToldRow
   pub shown : Bool
 
--- rows, each with whether it is shown, where so many are still to be shown after one that is selected
-abbrev pub marks_from : ℕ → ℕ → ℕ → List ToldRow → List Mark
+-- rows, each with whether it is shown, where `left` are still to be shown after one that is selected
+abbrev pub marks_from : (before after left : ℕ) → List ToldRow → List Mark
 marks_from before after left [] = []
 marks_from before after left (row ∷ more) = record { row = row; shown = is_shown before left row more } ∷ marks_from before after (left_after after left row) more
 

@@ -7,8 +7,8 @@ use Rattle.jp_context.specs.declared.state.Groups.{Groups}
 use Rattle.jp_context.specs.declared.shown.Shown.{Shown}
 use Rattle.jp_context.specs.declared.shown.Shown.TheVariants as showing
 
--- the text of rows, where so many are still to be shown after one that is selected, and so much was shown
-abbrev pub text_from : ℕ → ℕ → ℕ → Shown → List ToldRow → List ℕ
+-- the text of rows, where `left` are still to be shown after one that is selected, and `shown` tells what was shown before them
+abbrev pub text_from : (before after left : ℕ) → (shown : Shown) → List ToldRow → List ℕ
 text_from before after left shown rows = text_of shown (marks_from before after left rows)
 
 -- a row within a stream

@@ -35,7 +35,7 @@ pub struct Context<W> {
 }
 
 impl<W> Context<W> {
-    /// A writer to which no row came yet, with so many rows before each that is selected and after it.
+    /// A writer to which no row came yet. It is to show `before` rows before each selected row, and `after` rows after it.
     pub fn new(alloc: Global, before: u64, after: u64, out: W) -> Context<W>
         ensures limits { result.groups.limits ≡ record { before = before; after = after } }
         ensures came { result.came.taken ≡ [] }
@@ -60,7 +60,7 @@ impl<W> Context<W> {
         self.is_full
     }
 
-    /// The writer after it. What a row needs that is not whole is let go.
+    /// The writer after it. What came of a row that is not whole is let go.
     ///
     /// Unless memory was refused or a call of it failed, it took what is to be shown of all that came. Else it took a beginning of
     /// what would be, had what was offered come as well.

@@ -17,7 +17,7 @@ pub(crate) enum Shown {
 }
 
 impl Shown {
-    /// The same after a row that is not shown, and where a stream begins.
+    /// What was shown, as it stands after a row that is not shown, and where a stream begins.
     pub(crate) fn parted(self) -> Shown
         ensures { result ≡ parted self }
     {

@@ -30,7 +30,7 @@ fn tell(alloc: Global, letters: &str) -> Result<Vec<u8>, Fail> {
     Ok(rows)
 }
 
-/// What is shown of such rows, where so many bytes are written together.
+/// What is shown of such rows, where `together` bytes are written at a time.
 fn show(
     rt: &impl Abort,
     alloc: Global,

@@ -120,7 +120,7 @@ text_around units line blank = line
 text_around units line (refused fault) = line
 text_around units line (parsed t) = whole units line t
 
--- the rows of a line of which so many nodes are selected, where those around selected ones are shown: one where it is none
+-- the rows of a line of which `selected` nodes are selected, where those around selected ones are shown: one where it is none
 abbrev pub rows_around : Shown → Form → ℕ → List ℕ → (selected : ℕ) → LineStatus → List (List ℕ)
 rows_around shown.Around form n line zero status = row_told false n (row_around form n (text_around form.units line status)) ∷ []
 rows_around _ form n line selected status = []

@@ -20,8 +20,8 @@ use Rattle.jp_grep.specs.declared.question.Question.{Question}
 abbrev pub cut_to : (most : ℕ) → Item → Item
 cut_to most item = record { text = item.text; status = item.status; from_line = item.from_line; most = Some most; given_up = item.given_up }
 
--- The items up to the one with which a given number of nodes are selected, and so many after it, or all where there are fewer. Of
--- each no more nodes are wanted than are left of that number: of those after it none.
+-- The items up to the one with which `most` nodes are selected, and `trailing` after it, or all where there are fewer. Of each no
+-- more nodes are wanted than are left of that number: of those after it none.
 abbrev pub up_to : Question → (most trailing : ℕ) → List Item → List Item
 up_to question zero trailing items = map (cut_to 0) (take trailing items)
 up_to question (suc most) trailing [] = []

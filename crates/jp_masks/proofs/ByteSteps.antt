@@ -124,7 +124,7 @@ counted base start from k word b s few l e clear fits order =
         let behind = order (k + i) within there in
         omega (arith, e, b, s, few, room, behind)
 
--- what is left of a word after so many bytes
+-- what is left of a word after `byte` bytes
 pub smaller : (byte word : ℕ) → byte < 8 → word < 2 ^ (64 - byte * 8) → word / 256 < 2 ^ (64 - (byte + 1) * 8)
 smaller byte word l h =
     let same : 64 - byte * 8 ≡ 64 - (byte + 1) * 8 + 8 = omega (arith, l) in

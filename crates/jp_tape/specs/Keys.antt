@@ -20,8 +20,8 @@ key_of name =
     (mixed (four_at name 0) (four_at name ((length name - 4) / 2)) (four_at name (length name - 4)))
     (mixed (get_or name 0 0) (get_or name (length name / 2) 0) (get_or name (length name - 1) 0))
 
--- one of so many slots for a name
-unfoldable pub slot_of : ℕ → List ℕ → ℕ
+-- which of `slots` slots a name falls on
+unfoldable pub slot_of : (slots : ℕ) → List ℕ → ℕ
 slot_of slots name = key_of name / 2 ^ 32 * slots / 2 ^ 32
 
 -- that of a name of a line

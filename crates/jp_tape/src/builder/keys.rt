@@ -58,7 +58,7 @@ fn key(name: &[u8]) -> u64
     )
 }
 
-/// The slot of a name, of so many.
+/// Which of `slots` slots a name falls on.
 #[inline(always)]
 #[tactic(auto, unfolding(crate::specs::Keys::slot_of))]
 fn slot(name: &[u8], slots: usize) -> usize

@@ -153,7 +153,7 @@ fn has_equal_by(
     Ok(has_equal_neighbours(&bodies))
 }
 
-/// The same of many names, for which there are many slots.
+/// Whether two of many names are equal. They have more slots than the stack is to hold.
 #[inline(never)]
 fn has_equal_of_many(line: &[u8], names: &[KeptName], alloc: Global) -> Result<bool, AllocError>
     requires { AreKept line.now names.now }
@@ -164,7 +164,7 @@ fn has_equal_of_many(line: &[u8], names: &[KeptName], alloc: Global) -> Result<b
     has_equal_by(line, names, &mut hits, alloc)
 }
 
-/// The same of two names and more.
+/// Whether two of two or more names are equal.
 #[inline(never)]
 fn has_equal_of_some(line: &[u8], names: &[KeptName], alloc: Global) -> Result<bool, AllocError>
     requires { AreKept line.now names.now }

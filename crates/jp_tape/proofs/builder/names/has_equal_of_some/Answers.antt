@@ -4,7 +4,7 @@ use Rattle.jp_tape.specs.Keys.{slot_in, FallByText}
 use Rattle.jp_tape.proofs.Slots.{some_slots, few_slots, fall_by_text}
 use Rattle.jp_tape.proofs.builder.names.has_equal_of_some.Goals as goal
 
--- what is known of a number is known of how many places so many of some are
+-- what is known of `n` is known of how many the first `n` places of some are
 of_length : (P : ℕ → Type 0) (n slots : ℕ) (hits : List ℕ) → slots ≡ n → slots ≤ length hits → P n → P (length (take slots hits))
 of_length P n slots hits e l h = subst P (sym (length-take-le slots hits l)) (subst P (sym e) h)
 
