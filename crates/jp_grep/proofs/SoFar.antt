@@ -97,13 +97,21 @@ module _ (question : Question) (form : Form) where
     unfolding ends_so
     ends_short there e h oversize = subst ends_so (sym e) (h, oversize)
 
-  -- where all were answered the outcomes are those of all that came
-  pub whole_came : (came : Came) (outcomes : List Item) (found : Found) → is_whole found ≡ true → EndsWith question form came outcomes found → CameOfEach (items_come form.units came.ended came.bytes) outcomes
-  whole_came came outcomes found whole ends = (first found.unread _ _ (eqb found.counts.given_up 0) whole ends).1
+  -- where all were answered the outcomes are those of all that came, and the stream has ended, or as many were selected as are wanted
+  whole_ends : (came : Came) (outcomes : List Item) (found : Found) → is_whole found ≡ true → EndsWith question form came outcomes found
+      → CameOfEach (items_come form.units came.ended came.bytes) outcomes × ((came.ended ≡ true) ⊎ IsEnough form found.counts.selected (unjudged_count (answered_of question form 0 outcomes)))
+  whole_ends came outcomes found whole ends = let all = first found.unread _ _ (eqb found.counts.given_up 0) whole ends in (all.1, all.2)
     where
       first : {A : Type 0} (o : Option A) (P : Type 0) (Q : A → Type 0) (b : Bool) → (is_none o && b) ≡ true → MatchOption o P Q → P
       first None P Q b e h = h
       first (Some x) P Q b e h = absurd (false≢true e)
+
+  pub whole_came : (came : Came) (outcomes : List Item) (found : Found) → is_whole found ≡ true → EndsWith question form came outcomes found → CameOfEach (items_come form.units came.ended came.bytes) outcomes
+  whole_came came outcomes found whole ends = (whole_ends came outcomes found whole ends).0
+
+  pub whole_end : (came : Came) (outcomes : List Item) (found : Found) → is_whole found ≡ true → EndsWith question form came outcomes found
+      → (came.ended ≡ true) ⊎ IsEnough form found.counts.selected (unjudged_count (answered_of question form 0 outcomes))
+  whole_end came outcomes found whole ends = (whole_ends came outcomes found whole ends).1
 
   pub whole_kept : (found : Found) → is_whole found ≡ true → found.counts.given_up ≡ 0
   whole_kept found whole = none_of found.unread found.counts.given_up whole

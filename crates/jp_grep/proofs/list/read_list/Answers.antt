@@ -1,5 +1,6 @@
 -- What the search wrote are the lines of the list.
-use Rattle.std.proofs.Common.{◌≡◌, ◌∙◌, ◌++◌, ◌-◌, List, ℕ, append-nil, ap, subst, sym, true}
+use Rattle.std.proofs.Common.{◌≡◌, ◌∙◌, ◌++◌, ◌-◌, List, ℕ, append-nil, ap, subst, sym, true, inl, inr}
+use Rattle.std.specs.Prelude.{◌⊎◌}
 use Rattle.jp_canon.specs.Canonical.{value_text}
 use Rattle.jp_listed.specs.Slots.{has_text}
 use Rattle.jp_model.specs.Lines.{closed_lines}
@@ -9,8 +10,45 @@ use Rattle.jp_grep.specs.Lists.{list_form}
 use Rattle.jp_grep.specs.Rows.{output_from, selected_count, summary_of}
 use Rattle.jp_grep.specs.Watching.{AreCounts, EndsWith, answered_of, is_whole}
 use Rattle.jp_grep.proofs.Coming.{none_lost}
-use Rattle.jp_grep.proofs.SoFar.{whole_came, whole_kept}
+use Rattle.jp_devices.specs.Devices.{Received}
+use Rattle.std.proofs.Common.{Option}
+use Rattle.std.proofs.lemmas.Bool.{false≢true}
+use Rattle.jp_devices.specs.Devices.{Came, Device}
+use Rattle.jp_model.specs.declared.Framing.TheVariants as framings
+use Rattle.jp_grep.specs.Faults.{is_front_fault}
+use Rattle.jp_grep.specs.Fronts.{IsRefused}
+use Rattle.jp_grep.specs.Items.{framing_by}
+use Rattle.jp_grep.specs.Lists.{list_fault}
+use Rattle.jp_grep.specs.Watching.{SearchStopped}
+use Rattle.jp_grep.specs.declared.fault.SearchFault.{SearchFault}
+use Rattle.jp_grep.specs.declared.fault.SearchFault.TheVariants as faults
+use Rattle.jp_grep.specs.declared.question.Question.{Question}
+use Rattle.jp_grep.specs.Told.{told_of}
+use Rattle.jp_grep.proofs.SoFar.{whole_came, whole_end, whole_kept}
 use Rattle.jp_grep.proofs.list.read_list.Goals as goal
+
+-- a stream of lines is refused by the fault that a list tells
+refused_by : {W E : Type 0} (rows_in : W → Option (List ℕ)) (messages_in : E → Option (List ℕ)) (question : Question) (form : Form) (out0 out1 : Device W) (told0 told1 : Device E) (fault : SearchFault) (came : Came) (outcomes : List Item)
+    → is_front_fault (list_fault fault) ≡ true → SearchStopped rows_in messages_in question form out0 out1 told0 told1 fault came outcomes → IsRefused (framing_by form.units) came (list_fault fault)
+refused_by rows_in messages_in question form out0 out1 told0 told1 faults.Read came outcomes e stopped = absurd (false≢true e)
+refused_by rows_in messages_in question form out0 out1 told0 told1 faults.Framing came outcomes e stopped = stopped.0
+refused_by rows_in messages_in question form out0 out1 told0 told1 (faults.Foreign format) came outcomes e stopped = stopped.0
+refused_by rows_in messages_in question form out0 out1 told0 told1 faults.Size came outcomes e stopped = absurd (false≢true e)
+refused_by rows_in messages_in question form out0 out1 told0 told1 faults.Write came outcomes e stopped = absurd (false≢true e)
+refused_by rows_in messages_in question form out0 out1 told0 told1 faults.Report came outcomes e stopped = absurd (false≢true e)
+refused_by rows_in messages_in question form out0 out1 told0 told1 faults.Memory came outcomes e stopped = absurd (false≢true e)
+
+pub returns-in-Err-clause-refused : goal.returns-in-Err-clause-refused
+returns-in-Err-clause-refused g c front =
+    let o = c.in-Err.ensures.output in
+    let form = c.list_form.result in
+    let told = c.fault_of_list.ensures in
+    let refused = refused_by _ g.E.Write.contents c.new-question.result form _ _ c.args.messages.now c.search.new.messages c.in-Err.fault o.0 o.1 (ap is_front_fault (sym told) ∙ front) o.5 in
+    (o.0, o.2, subst (IsRefused framings.Lines o.0) (sym told) (subst (λ (f : Form). IsRefused (framing_by f.units) o.0 (list_fault c.in-Err.fault)) c.list_form.ensures refused))
+
+ended_or_most : {A B C : Type 0} → A ⊎ (B × C) → A ⊎ B
+ended_or_most (inl a) = inl a
+ended_or_most (inr both) = inr both.0
 
 pub returns-in-Ok-of_lines-clause-list : goal.returns-in-Ok-of_lines-clause-list
 returns-in-Ok-of_lines-clause-list g c =
@@ -32,12 +70,16 @@ returns-in-Ok-of_lines-clause-list g c =
     ∙ ap (λ front. front ++ text c.list_form.result) (ap (λ v. v.items) c.new-texts.ensures.device ∙ c.new.ensures.items)
     ∙ ap text c.list_form.ensures
     ∙ append-nil (output_from question form 1 (answered_of question form 0 outcomes))
-    ∙ ap (λ (ls : List Item). output_from question form 1 ls) all in (
+    ∙ ap (λ (ls : List Item). output_from question form 1 ls) all in
+    let told = subst (λ (f : Form). Received g.E.Write.contents c.args.messages.now c.search.new.messages (told_of f (answered_of question f 0 outcomes))) c.list_form.ensures o.5.messages in (
       came,
       o.2,
-      (
-        question,
-        record { each = c.new-question.ensures.each; purpose = c.new-question.ensures.purpose; queries = c.new-question.ensures.queries; conditions = c.new-question.ensures.conditions; wanted = c.new-question.ensures.wanted },
-        λ value. c.in-Ok-of_lines.ensures.lines value ∙ ap (λ bytes. has_text (closed_lines bytes) (value_text value)) items,
-      ),
+      record {
+        question = question;
+        asks = record { each = c.new-question.ensures.each; purpose = c.new-question.ensures.purpose; queries = c.new-question.ensures.queries; conditions = c.new-question.ensures.conditions; wanted = c.new-question.ensures.wanted };
+        values = λ value. c.in-Ok-of_lines.ensures.lines value ∙ ap (λ bytes. has_text (closed_lines bytes) (value_text value)) items;
+        messages = subst (λ (ls : List Item). Received g.E.Write.contents c.args.messages.now c.search.new.messages (told_of form ls)) all told;
+        counted = subst (λ (ls : List Item). AreCounts question found.counts ls) all counts;
+        all = ended_or_most (whole_end question form came outcomes found whole ends);
+      },
     )
