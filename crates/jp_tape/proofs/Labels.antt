@@ -72,7 +72,7 @@ no_string_no_name line from none (Some n) place l s i =
     none (n.body.end + 1) n.points (record { last = n.body.end; opens = l.opens; body = subst (λ x. SpellsBody line x n.body.end n.points) l.behind_quote l.body; closes = l.closes; end = refl })
 
 -- before an element nothing stands
-pub found_none : (line : List ℕ) (from : ℕ) → FoundLabel line array from (record { name = None; is_lone = false; is_plain = true; value = from })
+unfoldable pub found_none : (line : List ℕ) (from : ℕ) → FoundLabel line array from (record { name = None; is_lone = false; is_plain = true; value = from })
 found_none line from = record { name = None; is_body = refl; surrogate = refl; spelled = refl; only = only_none }
   where
     only_none : (own : Option Name) (place : ℕ) → SpellsLabel line array from place own → Stops line place → (own ≡ None) × (place ≡ from)

@@ -12,7 +12,8 @@ pub mod Scalars
 pub mod Steps
 pub mod Held
 pub mod Walk
-pub mod Nesting
+pub mod Deep
+pub mod Reader
 pub mod Room
 pub mod Kept
 pub mod Repeated

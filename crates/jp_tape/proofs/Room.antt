@@ -10,6 +10,7 @@ use Rattle.jp_tape.specs.declared.builder.machine.Turn.TheVariants as turns
 use Rattle.jp_tape.specs.Ahead.{HasRoom}
 use Rattle.jp_tape.specs.Machine.{State, Value_at, After_value, Finished, Keeps, BuilderStands, BuilderSteps, WalkReached, IsRoomier, held}
 use Rattle.jp_tape.specs.Names.{spelled_names, AreKept}
+use Rattle.jp_tape.proofs.Steps.{leads_on}
 
 -- a node is written
 pub room_behind_node : (b new : Builder) (n m h s l : ℕ) → HasRoom b (suc n) m → new.words.items ≡ b.words.items ++ h ∷ s ∷ l ∷ [] → vec_capacity new.words ≡ vec_capacity b.words → new.names ≡ b.names → HasRoom new n m
@@ -40,17 +41,14 @@ stands_roomier line (turns.Value label at) b new r (Finished t) h = absurd h
 stands_roomier line (turns.After at) b new r (Value_at frames own from) h = absurd h
 stands_roomier line (turns.After at) b new r (After_value frames own t from) h = (h.0, h.1, keeps_roomier line b new _ _ _ _ _ _ _ r h.2)
 stands_roomier line (turns.After at) b new r (Finished t) h = absurd h
-stands_roomier line (turns.TooDeep at flag) b new r (Value_at frames own from) h = (h.0, h.1, h.2, ap held r.rest ∙ h.3)
-stands_roomier line (turns.TooDeep at flag) b new r (After_value frames own t from) h = absurd h
-stands_roomier line (turns.TooDeep at flag) b new r (Finished t) h = absurd h
-stands_roomier line turns.End b new r (Value_at frames own from) h = absurd h
+stands_roomier line turns.End b new r (Value_at frames own from) h = (ap held r.rest ∙ h.0, h.1, h.2)
 stands_roomier line turns.End b new r (After_value frames own t from) h = absurd h
 stands_roomier line turns.End b new r (Finished t) h = keeps_roomier line b new _ _ _ _ _ _ _ r h
 
 pub reached_roomier : (line : List ℕ) (turn : Turn) (b new : Builder) → IsRoomier b new → WalkReached line turn b → WalkReached line turn new
-reached_roomier line turn b new r h = record { state = h.state; stands = stands_roomier line turn b new r h.state h.stands; forth = h.forth; back = h.back }
+reached_roomier line turn b new r h = record { state = h.state; stands = stands_roomier line turn b new r h.state h.stands; leads = h.leads }
 
 -- a step leads on from what was held
 pub reached_then : (line : List ℕ) (before turn : Turn) (b new : Builder) → WalkReached line before b → BuilderSteps line before b turn new → WalkReached line turn new
 reached_then line before turn b new h s =
-    let g = s h.state h.stands in record { state = g.next; stands = g.stands; forth = λ whole t. g.alike.forth whole (h.forth whole t); back = λ whole t. h.back whole (g.alike.back whole t) }
+    let g = s h.state h.stands in record { state = g.next; stands = g.stands; leads = leads_on line h.state g.next h.leads g.alike }

@@ -12,7 +12,7 @@ use Rattle.jp_tape.specs.declared.builder.tokens.Label.{Label}
 use Rattle.jp_tape.specs.declared.builder.tokens.Scalar.{Scalar}
 use Rattle.jp_tape.specs.Places.{Ended, Stops}
 use Rattle.jp_tape.specs.Reading.{FoundScalar, NoValue, FoundLabel, NoLabel}
-use Rattle.jp_tape.specs.Machine.{Frame, Value_at, After_value, Finished, Completes, CompletesAfter, Alike, IsStuck}
+use Rattle.jp_tape.specs.Machine.{Frame, entered, grown, State, Value_at, After_value, Finished, Completes, CompletesAfter, Alike, IsStuck, Leads}
 use Rattle.jp_tape.proofs.Scalars.{value_at}
 
 pub completes_ended : (line : List ℕ) (frames : List Frame) (own : Option Name) (t : Tree) (i : ℕ) (whole : Tree) → CompletesAfter line frames own t i whole → Ended line i
@@ -78,9 +78,6 @@ empty_step line kind from place frames own b w c =
     }
 
 -- a container with a child
-abbrev pub entered : Container → ℕ → Option Name → Frame
-entered kind from own = record { kind = kind; start = from; name = own; done = no_child }
-
 enter_forth : (line : List ℕ) (kind : Container) (from place : ℕ) (frames : List Frame) (own : Option Name) (whole : Tree) → White line (from + 1) place → Stops line place → (Has line place (closing kind) → ⊥) →
     (r : Label) → (l : FoundLabel line kind place r) →
     (children : Children) (to : ℕ) → SpellsFirst line kind (from + 1) to children → CompletesAfter line frames own (node (record { start = from; end = to }) (container kind children)) to whole →
@@ -122,10 +119,6 @@ enter_stuck line kind from place frames own b w s n l whole h =
 pub joined_assoc : (a : Children) (name : Option Name) (t : Tree) (more : Children) → joined (joined a (child name t no_child)) more ≡ joined a (child name t more)
 joined_assoc no_child name t more = refl
 joined_assoc (child other u rest) name t more = ap (child other u) (joined_assoc rest name t more)
-
--- a frame with one more child
-abbrev pub grown : Frame → Option Name → Tree → Frame
-grown f own t = record { kind = f.kind; start = f.start; name = f.name; done = joined f.done (child own t no_child) }
 
 comma_stops : (line : List ℕ) (i : ℕ) → Has line i 0x2C → Stops line i
 comma_stops line i h = ap is_white h.is
@@ -221,9 +214,11 @@ pub no_end_stuck : (line : List ℕ) (own : Option Name) (t : Tree) (at next : �
 no_end_stuck line own t at next w s n whole h = n (sym (white_unique line at next (length line) w s h.0 (end_stops line)))
 
 -- the beginning
-pub start_forth : (line : List ℕ) (from : ℕ) → White line 0 from → Stops line from → (whole : Tree) → Text line whole → Completes line (Value_at [] None from) whole
-start_forth line from w s whole h = (whole, white_unique line 0 from (span whole).start w s h.before (stops line whole h.value), h.value, (h.after, refl))
+pub start_leads : (line : List ℕ) (from : ℕ) → White line 0 from → Stops line from → Leads line (Value_at [] None from)
+start_leads line from w s = record {
+  forth = λ whole h. (whole, white_unique line 0 from (span whole).start w s h.before (stops line whole h.value), h.value, (h.after, refl));
+  back = λ whole h. subst (λ t. Text line t) (sym h.3.1) (record { before = subst (λ x. White line 0 x) (sym h.1) w; value = h.2; after = h.3.0 });
+}
 
-pub start_back : (line : List ℕ) (from : ℕ) → White line 0 from → (whole : Tree) → Completes line (Value_at [] None from) whole → Text line whole
-start_back line from w whole h =
-    subst (λ t. Text line t) (sym h.3.1) (record { before = subst (λ x. White line 0 x) (sym h.1) w; value = h.2; after = h.3.0 })
+pub leads_on : (line : List ℕ) (x y : State) → Leads line x → Alike line x y → Leads line y
+leads_on line x y l a = record { forth = λ whole t. a.forth whole (l.forth whole t); back = λ whole c. l.back whole (a.back whole c) }

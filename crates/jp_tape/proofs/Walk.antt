@@ -25,8 +25,8 @@ use Rattle.jp_nodes.specs.Kinds.{code_of, container_if}
 use Rattle.jp_model.specs.declared.LineFault.TheVariants as line_faults
 use Rattle.jp_tape.specs.declared.builder.BuildFault.{BuildFault}
 use Rattle.jp_tape.specs.declared.builder.BuildFault.TheVariants as faults
-use Rattle.jp_tape.specs.Machine.{Frame, State, Value_at, After_value, Finished, Alike, IsStuck, Keeps, BuilderStands, GoesOn, BuilderSteps, NoBuilderStep, Labelled, IsCounted, IsClosed, IsInnermost, first_fault, held, no_container, next_parent, next_index, open_count, open_words, open_names, opens, open_of, open_depth, open_surrogate, open_long, open_duplicate, is_object}
-use Rattle.jp_tape.proofs.Steps.{scalar_step, no_value_step, empty_step, enter_step, enter_stuck, entered, comma_step, comma_stuck, close_step, neither_stuck, grown, end_step, no_end_stuck}
+use Rattle.jp_tape.specs.Machine.{Frame, entered, grown, State, Value_at, After_value, Finished, Alike, IsStuck, Keeps, BuilderStands, GoesOn, BuilderSteps, NoBuilderStep, Labelled, IsCounted, IsClosed, IsInnermost, first_fault, held, no_container, next_parent, next_index, open_count, open_words, open_names, opens, open_of, open_depth, open_surrogate, open_long, open_duplicate, is_object}
+use Rattle.jp_tape.proofs.Steps.{scalar_step, no_value_step, empty_step, enter_step, enter_stuck, comma_step, comma_stuck, close_step, neither_stuck, end_step, no_end_stuck}
 use Rattle.jp_tape.proofs.Held.{or_false, or_swap, left_false, right_false, open_length, with_child, outer_names, next_label, next_words, grown_tail, grown_length, grown_few, joined_count, third, innermost_is, outer_is, outer_count, parent_place, child_index, flat_depth, root_depth, not_too_deep, grown_depth, closed_depth, grown_surrogate, grown_long, grown_duplicate, grown_names}
 
 word_of_body : (index : ℕ) (own : Option Name) → body_word index (body_of own) ≡ label_word index own
@@ -137,13 +137,13 @@ label_keeps line kind from turn old new l ws os d lone long ps dup k = record {
   kept = λ z. l.kept (l.found.surrogate ∙ right_false _ _ z) (k.kept (left_false _ _ z));
 }
 
--- a container that would nest too deep is left to another walk
-pub too_deep : (line : List ℕ) (at label : ℕ) (b : Builder) (flag : Bool) → Has line at (opening (container_if flag)) → 512 ≤ length b.opened.items → BuilderSteps line (turns.Value label at) b (turns.TooDeep at flag) b
+-- a container would nest too deep
+pub too_deep : (line : List ℕ) (at label : ℕ) (b : Builder) (flag : Bool) → Has line at (opening (container_if flag)) → 512 ≤ length b.opened.items → BuilderSteps line (turns.Value label at) b turns.End b
 too_deep line at label b flag o many (After_value frames own t from) h = absurd h
 too_deep line at label b flag o many (Finished t) h = absurd h
 too_deep line at label b flag o many (Value_at frames own from) h =
     let n = outer_count frames b.opened.items b.innermost h.3.opened in
-    record { next = Value_at frames own from; stands = (h.1, o, omega (arith, n, many), h.3.opened); alike = record { forth = λ whole x. x; back = λ whole x. x } }
+    record { next = Value_at frames own from; stands = (h.3.opened, omega (arith, n, many), (container_if flag, subst (λ x. Has line x (opening (container_if flag))) h.1 o)); alike = record { forth = λ whole x. x; back = λ whole x. x } }
 
 -- a container with a child is entered
 pub record Entered (b mid : Builder) (at label : ℕ) (kind : Container) : Type 0 where

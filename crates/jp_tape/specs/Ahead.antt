@@ -57,5 +57,4 @@ pub record HasRoom (b : Builder) (node_count name_count : ℕ) : Type 0 where
 abbrev pub IsAheadOf : List ℕ → ℕ → Turn → List ℕ → Builder → Type 0
 IsAheadOf line n (turns.Value label at) marks b = IsNext line at marks × HasRoom b n n
 IsAheadOf line n (turns.After at) marks b = IsAhead line at marks × HasRoom b n (suc n) × (may_begin line at ≡ true)
-IsAheadOf line n (turns.TooDeep at flag) marks b = IsNext line at marks
 IsAheadOf line n turns.End marks b = Unit {0}

@@ -5,5 +5,5 @@ pub mod Keys
 pub mod Ahead
 pub mod Reading
 pub mod Machine
-pub mod Nesting
+pub mod Reader
 pub mod Refusals

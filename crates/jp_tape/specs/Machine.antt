@@ -1,9 +1,9 @@
 -- The states of the walk over a line, and which trees each completes to.
-use Rattle.std.specs.Prelude.{◌≡◌, ℕ, suc, ◌+◌, ◌-◌, ◌*◌, ◌<◌, ◌≤◌, max, cond, Bool, true, false, ◌||◌, List, [], ◌∷◌, ◌++◌, length, take, drop, map, slice_set, ◌/◌, Option, Some, None}
+use Rattle.std.specs.Prelude.{◌≡◌, ℕ, suc, ◌+◌, ◌-◌, ◌*◌, ◌<◌, ◌≤◌, max, cond, Bool, true, false, ◌||◌, List, [], ◌∷◌, ◌++◌, length, take, drop, slice_set, ◌/◌, Option, Some, None}
 use Rattle.jp_model.specs.declared.LineFault.{LineFault}
 use Rattle.jp_model.specs.declared.LineFault.TheVariants as line_faults
 use Rattle.jp_model.specs.Json.Places.{White, Has}
-use Rattle.jp_model.specs.Json.Tree.{Tree, node, container, Container, array, object, Children, child, Name, span, count_children, joined}
+use Rattle.jp_model.specs.Json.Tree.{Tree, node, container, Container, array, object, Children, no_child, child, Name, span, count_children, joined}
 use Rattle.jp_model.specs.Json.Faults.{depth, greatest_depth, name_has_lone_surrogate, has_surrogate, children_have_surrogate, has_long_exponent, children_have_long_exponent, name_points, names, has_repeated, has_duplicate, children_have_duplicate}
 use Rattle.jp_model.specs.Json.Spelling.{Spells, SpellsMore, Text, opening}
 use Rattle.jp_tape.specs.declared.builder.machine.Open.{Open}
@@ -22,6 +22,14 @@ pub record Frame : Type 0 where
   pub start : ℕ
   pub name : Option Name
   pub done : Children
+
+-- one that has no child yet
+abbrev pub entered : Container → ℕ → Option Name → Frame
+entered kind start name = record { kind = kind; start = start; name = name; done = no_child }
+
+-- one with one more child
+abbrev pub grown : Frame → Option Name → Tree → Frame
+grown f own t = record { kind = f.kind; start = f.start; name = f.name; done = joined f.done (child own t no_child) }
 
 -- the innermost open container comes first
 pub data State : Type 0 where
@@ -46,6 +54,11 @@ Completes line (Finished t) whole = whole ≡ t
 pub record Alike (line : List ℕ) (x y : State) : Type 0 where
   pub forth : (whole : Tree) → Completes line x whole → Completes line y whole
   pub back : (whole : Tree) → Completes line y whole → Completes line x whole
+
+-- the trees of the line are those that complete the state
+pub record Leads (line : List ℕ) (x : State) : Type 0 where
+  pub forth : (whole : Tree) → Text line whole → Completes line x whole
+  pub back : (whole : Tree) → Completes line x whole → Text line whole
 
 -- how many nodes have begun
 abbrev pub open_count : List Frame → ℕ
@@ -93,10 +106,6 @@ no_container = record { place = 0; start = 0; children = 0; names = 0; is_object
 -- the containers that the builder holds, the innermost last
 abbrev pub held : Builder → List Open
 held b = b.opened.items ++ b.innermost ∷ []
-
--- whether each is an object
-abbrev pub flags_of : List Open → List Bool
-flags_of opened = map (λ (o : Open). o.is_object) opened
 
 -- how deep the open containers and what is read in them nest
 abbrev pub open_depth : List Frame → ℕ
@@ -148,7 +157,7 @@ pub record IsFresh (b : Builder) : Type 0 where
 abbrev pub IsFinished : List ℕ → Builder → Tree → Type 0
 IsFinished line b t = Keeps line b (tape_words t) [] (depth t) (has_surrogate t) (has_long_exponent line t) [] (has_duplicate t)
 
--- what the builder holds stands for the state
+-- what the builder holds stands for the state; the walk ends also where a container would nest too deep
 abbrev pub BuilderStands : List ℕ → Turn → Builder → State → Type 0
 BuilderStands line (turns.Value label at) b (Value_at frames own from) =
     (label ≡ label_word (next_index frames) own) × (at ≡ from) × NoRootName frames own
@@ -157,8 +166,7 @@ BuilderStands line (turns.After at) b (After_value frames own t from) =
     (at ≡ from) × NoRootName frames own
     × Keeps line b (open_words frames ++ words_from (open_count frames) (next_parent frames) (next_index frames) own t) (opens frames) (max (open_depth frames) (length frames + depth t)) ((open_surrogate frames || name_has_lone_surrogate own) || has_surrogate t) (open_long line frames || has_long_exponent line t)
     (open_names frames ++ name_points own []) (open_duplicate frames || has_duplicate t)
-BuilderStands line (turns.TooDeep at flag) b (Value_at frames own from) =
-    (at ≡ from) × Has line at (opening (container_if flag)) × (512 ≤ length frames) × (held b ≡ no_container ∷ opens frames)
+BuilderStands line turns.End b (Value_at frames own from) = (held b ≡ no_container ∷ opens frames) × (512 ≤ length frames) × ((kind : Container) × Has line from (opening kind))
 BuilderStands line turns.End b (Finished t) = IsFinished line b t
 BuilderStands line turn b state = ⊥
 
@@ -184,14 +192,12 @@ NoBuilderStep line before b = (x : State) → BuilderStands line before b x → 
 pub record WalkReached (line : List ℕ) (turn : Turn) (b : Builder) : Type 0 where
   pub state : State
   pub stands : BuilderStands line turn b state
-  pub forth : (whole : Tree) → Text line whole → Completes line state whole
-  pub back : (whole : Tree) → Completes line state whole → Text line whole
+  pub leads : Leads line state
 
 -- how much is left to read
 abbrev pub turn_left : List ℕ → Turn → ℕ
 turn_left line (turns.Value label at) = suc (length line - at)
 turn_left line (turns.After at) = suc (length line - at)
-turn_left line (turns.TooDeep at flag) = 0
 turn_left line turns.End = 0
 
 -- a value begins in the line, or the turn is at a place of it or at its end, and three words at most are written for a byte
@@ -199,21 +205,18 @@ turn_left line turns.End = 0
 abbrev pub IsWithin : List ℕ → Turn → Builder → Type 0
 IsWithin line (turns.Value label at) b = (at < length line) × (length b.words.items ≤ 3 * at)
 IsWithin line (turns.After at) b = (at ≤ length line) × (length b.words.items ≤ 3 * at)
-IsWithin line (turns.TooDeep at flag) b = Unit {0}
 IsWithin line turns.End b = Unit {0}
 
 -- the turn is after this place, and within the line
 abbrev pub IsBehind : List ℕ → ℕ → Turn → Builder → Type 0
 IsBehind line from (turns.Value label at) b = (from < at) × IsWithin line (turns.Value label at) b
 IsBehind line from (turns.After at) b = (from < at) × IsWithin line (turns.After at) b
-IsBehind line from (turns.TooDeep at flag) b = Unit {0}
 IsBehind line from turns.End b = Unit {0}
 
 -- a value is read next, or nothing
 abbrev pub IsSettled : Turn → Type 0
 IsSettled (turns.Value label at) = Unit {0}
 IsSettled (turns.After at) = ⊥
-IsSettled (turns.TooDeep at flag) = Unit {0}
 IsSettled turns.End = Unit {0}
 
 -- the innermost open container of the state is this one

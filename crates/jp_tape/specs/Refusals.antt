@@ -1,9 +1,11 @@
 -- Why a line has no tape.
-use Rattle.std.specs.Prelude.{List, ℕ}
+use Rattle.std.specs.Prelude.{List, ℕ, ◌<◌}
 use Rattle.jp_model.specs.declared.Framing.{Framing}
 use Rattle.jp_model.specs.declared.LineFault.TheVariants as line_faults
+use Rattle.jp_model.specs.Json.Tree.{Tree}
+use Rattle.jp_model.specs.Json.Faults.{depth}
+use Rattle.jp_model.specs.Json.Spelling.{Text}
 use Rattle.jp_model.specs.Json.Status.{HasStatus, IsNoText, refused}
-use Rattle.jp_tape.specs.Nesting.{NestsTooDeep}
 use Rattle.jp_tape.specs.declared.builder.BuildFault.{BuildFault}
 use Rattle.jp_tape.specs.declared.builder.BuildFault.TheVariants as faults
 
@@ -11,6 +13,12 @@ use Rattle.jp_tape.specs.declared.builder.BuildFault.TheVariants as faults
 abbrev pub IsRefused : Framing → List ℕ → BuildFault → Type 0
 IsRefused framing line (faults.Line fault) = HasStatus framing line (refused fault)
 IsRefused framing line faults.Memory = Unit {0}
+
+-- the line is JSON, and nests too deep (profile)
+pub record NestsTooDeep (line : List ℕ) : Type 0 where
+  pub tree : Tree
+  pub text : Text line tree
+  pub deep : 512 < depth tree
 
 -- what a fault of the walk tells of a line that is UTF-8; there is no other one
 abbrev pub IsFaultOf : List ℕ → BuildFault → Type 0

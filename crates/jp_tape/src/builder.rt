@@ -17,10 +17,11 @@ mod containers;
 mod escapes;
 mod kept;
 mod keys;
+mod listener;
 mod machine;
 mod names;
-mod nesting;
 mod numbers;
+mod reader;
 mod scan;
 mod tokens;
 mod values;
@@ -119,8 +120,8 @@ impl Builder {
 /// faults are reported in this order: `Utf8`; `Grammar` if the line is not valid JSON; `Truncated` if a text of a
 /// sequence may have lost its end (RFC 7464, section 2.4); `Depth`, where arrays and objects nest deeper than 512;
 /// `Surrogate`, where half of a pair stands alone; `Number` if an exponent has more than 15 digits after its leading
-/// zeros; and `Duplicate` if an object has two equal names (profile). The line is walked over once, however deep it
-/// nests, after one look for escapes, and equal names are found by a sort of each object's names.
+/// zeros; and `Duplicate` if an object has two equal names (profile). The line is walked over once, or twice where it
+/// nests too deep, after one look for escapes, and equal names are found by a sort of each object's names.
 pub fn build(
     alloc: Global,
     line: &[u8],

@@ -105,7 +105,7 @@ impl Builder {
         ensures stuck { IfErr result (λ fault. OnFault fault (NoBuilderStep line.now (turns.Value label at) self.old)) }
     {
         if self.opened.len() >= MOST_DEPTH {
-            return Ok(Turn::TooDeep(at, is_object));
+            return Ok(Turn::End);
         }
         *marks = marks_behind(*marks, 1);
         let inside = next_token(line, *marks, at + 1);

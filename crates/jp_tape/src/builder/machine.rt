@@ -1,24 +1,24 @@
 //! The walk over a line: a machine with a stack of open containers, which writes the words of the nodes.
 
-ghost use Rattle.std.specs.Prelude.{◌≡◌, ◌+◌, ◌*◌, ◌^◌, ◌<◌, ◌≤◌, ◌||◌, ◌++◌, ◌∷◌, [], ℕ, length, Bool, None, false, IfOk, IfErr, IsUtf8};
-ghost use Rattle.jp_model.specs.Json.Tree.{Tree, object};
+ghost use Rattle.std.specs.Prelude.{◌≡◌, ◌^◌, ◌<◌, ◌≤◌, ◌||◌, ℕ, length, Bool, IfOk, IfErr, IsUtf8};
+ghost use Rattle.jp_model.specs.Json.Tree.{Tree};
+ghost use Rattle.jp_model.specs.Json.Faults.{depth};
 ghost use Rattle.jp_model.specs.Json.Spelling.{Text, closing};
 ghost use Rattle.jp_model.specs.Json.Marks.{marks as marks_of};
-ghost use Rattle.jp_tape.specs.Ahead.{HasRoom, IsNext};
+ghost use Rattle.jp_tape.specs.Ahead.{HasRoom};
 ghost use Rattle.jp_tape.specs.Reading.{IsReadable, OnFault};
 ghost use Rattle.jp_nodes.specs.Kinds.{container_if};
-ghost use Rattle.jp_tape.specs.Machine.{WalkReached, IsFinished, IsRoomier, IsFresh, first_fault, flags_of};
+ghost use Rattle.jp_tape.specs.Machine.{IsFinished, IsRoomier, IsFresh, first_fault};
 ghost use Rattle.jp_tape.specs.Refusals.{IsFaultOf};
-ghost use Rattle.jp_tape.specs.declared.builder.machine.Open.{Open};
-ghost use Rattle.jp_tape.specs.declared.builder.machine.Turn.TheVariants as turns;
 
 use super::BuildFault;
 use super::escapes::first_escape;
 use super::kept::KeptName;
-use super::nesting::Nesting;
+use super::listener::Deaf;
+use super::reader::read_text;
 use super::scan::next_token;
 use jp_model::LineFault;
-use std::alloc::{AllocError, Global};
+use std::alloc::Global;
 
 /// A container that is open.
 #[derive(Clone, Copy)]
@@ -50,8 +50,7 @@ pub(super) enum Turn {
     Value(u64, usize),
     /// What follows an array or an object.
     After(usize),
-    /// The array or the object at this place, which nests too deep. It is an object where the flag says so.
-    TooDeep(usize, bool),
+    /// Nothing: the line ends, or an array or an object nests too deep in those that are open.
     End,
 }
 
@@ -100,16 +99,18 @@ pub(super) fn closing_of(is_object: bool) -> u8
     if is_object { b'}' } else { b']' }
 }
 
-/// Whether each of these containers is an object.
-fn are_objects(opened: &[Open], innermost: Open, alloc: Global) -> Result<Vec<bool>, AllocError>
-    ensures { IfOk result (λ flags. flags.items ≡ flags_of (opened.now ++ innermost ∷ [])) }
+/// The fault of a line in which an array or an object nests too deep: that it does, if the line is JSON.
+#[inline(never)]
+fn fault_of_deep(alloc: Global, line: &[u8], escape: usize, marks: &[u32]) -> BuildFault
+    requires line { IsReadable line.now escape }
+    requires marks { marks.now ≡ marks_of line.now }
+    requires deep { (t : Tree) → Text line.now t → 512 < depth t }
+    ensures { IsFaultOf line.now result }
 {
-    let mut flags = Vec::new(alloc);
-    for open in opened {
-        flags.push(open.is_object)?;
+    match read_text(alloc, line, escape, marks, &mut Deaf) {
+        Ok(()) => BuildFault::Line(LineFault::Depth),
+        Err(fault) => fault,
     }
-    flags.push(innermost.is_object)?;
-    Ok(flags)
 }
 
 impl Builder {
@@ -164,32 +165,6 @@ impl Builder {
         }
         Ok(self.room())
     }
-
-    /// The fault of the line in which the array or the object at `at` nests too deep: that it does, if the line is JSON.
-    #[inline(never)]
-    fn fault_of_deep(
-        &self,
-        line: &[u8],
-        escape: usize,
-        marks: &[u32],
-        at: usize,
-        is_object: bool,
-    ) -> BuildFault
-        requires line { IsReadable line.now escape }
-        requires reached { WalkReached line.now (turns.TooDeep at is_object) self.now }
-        requires some { 0 < length self.now.opened.items }
-        requires ahead { IsNext line.now at marks.now }
-        ensures { IsFaultOf line.now result }
-    {
-        let Ok(are_objects) = are_objects(&self.opened[1..], self.innermost, self.alloc) else {
-            return BuildFault::Memory;
-        };
-        let mut nesting = Nesting { marks, are_objects };
-        match nesting.read(line, escape, is_object, at) {
-            Ok(()) => BuildFault::Line(LineFault::Depth),
-            Err(fault) => fault,
-        }
-    }
 }
 
 /// Reads the whole line, and forgets the line before.
@@ -217,8 +192,8 @@ pub(super) fn walk(builder: &mut Builder, line: &[u8], marks: &[u32]) -> Result<
         let read = builder.read_value(line, escape, &mut ahead, at, label)?;
         turn = builder.until_value(line, escape, &mut ahead, read)?;
     }
-    if let Turn::TooDeep(at, is_object) = turn {
-        return Err(builder.fault_of_deep(line, escape, ahead, at, is_object));
+    if !builder.opened.is_empty() {
+        return Err(fault_of_deep(builder.alloc, line, escape, marks));
     }
     Ok(())
 }

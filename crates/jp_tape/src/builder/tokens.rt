@@ -144,6 +144,7 @@ pub(super) fn name_at(line: &[u8], escape: usize, marks: &[u32], from: usize) ->
     requires within { from ≤ length line.now }
     requires ahead { IsNext line.now from marks.now }
     ensures within { IfSome result (λ r. (from ≤ r.value) × (r.value < length line.now)) }
+    ensures marks { IfSome result (λ r. 3 ≤ length marks.now) }
     ensures stops { IfSome result (λ r. Stops line.now r.value) }
     ensures ahead { IfSome result (λ r. IsPassed line.now marks.now (name_marks r.name) r.value) }
     ensures first { IfSome result (λ r. r.value ≡ first_or (drop (name_marks r.name) marks.now) (length line.now)) }
