@@ -96,7 +96,7 @@ def table(number, dice, ended, check, room):
     file = dice.choice(FILES)
     lines = [random_line(dice) for _ in range(dice.randrange(6))]
     pathlib.Path(room, file).write_text("".join(line + "\n" for line in lines), "utf-8")
-    columns = dice.sample(NAMES, dice.randrange(1, 6))
+    columns = dice.sample(NAMES, dice.randrange(1, 6)) if dice.random() < 0.7 else dice.choices(NAMES, k=40)
     words = [word for name in columns for word in ("-e", f"$[{json.dumps(name)}]")] + ["-H", "-n", "--", file]
     stated = [[file, Number(place)] + [values_of(line).get(name, NOTHING) for name in columns] for place, line in enumerate(lines, 1)]
     text = ended(["--csv", *words], room)[0].decode()
@@ -106,7 +106,8 @@ def table(number, dice, ended, check, room):
         check(f"a row of table {number}, {row} of {values}", len(row) == len(values) and all(map(may_be, row, values)), True)
     texts = [[text_of(value) for value in row] for row in stated]
     check(f"table {number} by Python", list(csv.reader(io.StringIO(text, newline=""))), texts)
-    named = ended(["--csv", "--names", ",".join("pqrst"[:len(columns)]), *words], room)[0].decode()
-    check(f"table {number} with names", named, ",".join(["file", "line", *"pqrst"[:len(columns)]]) + "\n" + text)
+    names = [f"c{place}" for place in range(len(columns))]
+    named = ended(["--csv", "--names", ",".join(names), *words], room)[0].decode()
+    check(f"table {number} with names", named, ",".join(["file", "line", *names]) + "\n" + text)
     tabbed = ended(["--tsv", *words], room)[0].decode().split("\n")[:-1]
     check(f"table {number} with tabs", [[re.sub(r"\\(.)", lambda found: LETTERS[found[1]], cell) for cell in row.split("\t")] for row in tabbed], texts)

@@ -451,6 +451,18 @@ def nodes_one_by_one(checks):
         checks.check(f"seconds of {name}", seconds_so_far() - before <= 1.5, True)
 
 
+def tables_of_many_columns(checks):
+    """The members of a wide table's columns are found together, and not each by a walk over all members."""
+    for columns, count, most in ((2_000, 100, 0.5), (10_000, 20, 1)):
+        lines = file_of("wide", ("{" + ",".join(f'"n{place}":{place}' for place in range(columns)) + "}\n") * count)
+        words = [word for place in range(columns) for word in ("-e", f"$.n{place}")]
+        before = seconds_so_far()
+        run = subprocess.run([FILTER, "--csv", *words, lines], capture_output=True, timeout=SECONDS)
+        written = (",".join(map(str, range(columns))) + "\n") * count
+        checks.check(f"a table of {columns} columns", (run.returncode, run.stdout.decode(), run.stderr), (0, written, b""))
+        checks.check(f"seconds of a table of {columns} columns", seconds_so_far() - before <= most, True)
+
+
 def conditions_of_the_root(checks):
     """What a filter asks of the root is answered once in a line, beside whatever it asks of each child."""
     text, numbers = "ab" * 200_000, list(range(20_000))
@@ -618,6 +630,7 @@ def main():
                  many_lines, lines_of_one_key, edits_of_many_lines, texts_of_numbers, texts_of_names, queries, patterns,
                  long_texts, turns_in_turns, long_numbers, objects_turned, large_objects, filters_from_the_root,
                  filters_of_many_roots, questions_of_a_filter, lines_beyond_memory, lines_of_megabytes, nodes_one_by_one,
+                 tables_of_many_columns,
                  conditions_of_the_root, texts_from_the_root, counts_of_many_nodes, nodes_met_again, indexes_of_one_array,
                  checks_of_many_lines, queries_of_one_line, devices, sizes):
         part(checks)

@@ -146,5 +146,6 @@ pub(crate) fn question_of(
     add_condition(alloc, &mut question, condition)?;
     let texts = query_texts(alloc, queries)?;
     add_queries(alloc, &mut question, &texts, purpose)?;
+    question.gather_columns(alloc)?;
     Ok(question)
 }

@@ -1,8 +1,8 @@
 -- Queries that are asked one after another.
-use Rattle.std.proofs.Common.{◌≡◌, ◌∙◌, ◌+◌, ◌<◌, ℕ, List, [], ◌∷◌, ◌++◌, get_or, length, map, take, refl, sym, ap, arith, Bool, true, false, ◌||◌, ◌&&◌, if◌then◌else◌}
+use Rattle.std.proofs.Common.{◌≡◌, ◌∙◌, ◌+◌, ◌<◌, ℕ, List, [], ◌∷◌, ◌++◌, drop, get_or, length, map, take, refl, sym, ap, arith, Bool, true, false, ◌||◌, ◌&&◌, if◌then◌else◌}
 use Rattle.std.specs.Prelude.{not}
 use Rattle.std.proofs.lemmas.Bool.{ne_eqb}
-use Rattle.std.proofs.lemmas.List.{map-append, take_more}
+use Rattle.std.proofs.lemmas.List.{drop_more, map-append, take_more}
 use Rattle.std.proofs.lemmas.List.Concat.{flat_map-cons}
 use Rattle.jp_model.specs.Json.Tree.{Tree}
 use Rattle.jp_model.specs.Meaning.Nodes.{Node}
@@ -33,6 +33,12 @@ selects_more queries i query node t within is =
     ∙ ap (λ l. selects l node t) (map-append query_path (take i queries) (query ∷ []))
     ∙ selects-append (map query_path (take i queries)) (query_path query ∷ []) node t
     ∙ ap (λ b. selects (map query_path (take i queries)) node t || b) (sym (or_false (has_nodes (path_nodes (query_path query) node t))))
+
+-- a query, and those after it
+pub selects_next : (queries : List AskedQuery) (i : ℕ) (query : AskedQuery) (node : Node) (t : Tree) → i < length queries → query ≡ get_or queries i query
+    → selects (map query_path (drop i queries)) node t ≡ (has_nodes (path_nodes (query_path query) node t) || selects (map query_path (drop (i + 1) queries)) node t)
+selects_next queries i query node t within is =
+    ap (λ l. selects (map query_path l) node t) (drop_more queries i query within ∙ ap (λ q. q ∷ drop (i + 1) queries) (sym is))
 
 some_node : (n : Node) (ns : List Node) → has_nodes (n ∷ ns) ≡ true
 some_node n ns = ap not (ne_eqb (length (n ∷ ns)) 0 (λ e. omega (arith, e)))

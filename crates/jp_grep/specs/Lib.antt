@@ -1,5 +1,6 @@
 -- What jpgrep answers.
 pub mod Asked
+pub mod Members
 pub mod Conditions
 pub mod Matching
 pub mod Spelled

@@ -14,10 +14,12 @@
 mod answer;
 mod answering;
 mod asked;
+mod cells;
 mod condition;
 mod cutting;
 mod fault;
 mod finding;
+mod first_names;
 mod format;
 mod found;
 mod header;

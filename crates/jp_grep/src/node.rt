@@ -1,34 +1,29 @@
 //! The answer of a node: its rows, where it is selected.
 
-ghost use Rattle.std.specs.Prelude.{◌≡◌, ◌∷◌, ◌++◌, [], List, false, true, is_some, map, IfOk, MatchOption, OnOk, ⊤, if◌then◌else◌};
-ghost use Rattle.jp_model.specs.Meaning.Selecting.{path_nodes};
+ghost use Rattle.std.specs.Prelude.{◌≡◌, ◌++◌, [], false, true, is_some, map, IfOk, MatchOption, OnOk, ⊤, if◌then◌else◌};
 ghost use Rattle.jp_nodes.specs.Cursors.{node_of};
 ghost use Rattle.jp_children.specs.Found.{AreOf};
 ghost use Rattle.jp_lines.specs.Views.{text_of_view, tree_of_view};
 ghost use Rattle.jp_form.specs.declared.form.Shown.TheVariants as shown;
-ghost use Rattle.jp_table.specs.Cells.{Cell};
-ghost use Rattle.jp_table.specs.Held.{Holds, row_bytes};
-ghost use Rattle.jp_grep.specs.Asked.{IsOfItsLine, asked_tree, query_path};
+ghost use Rattle.jp_grep.specs.Asked.{IsOfItsLine, asked_tree};
 ghost use Rattle.jp_grep.specs.Holding.{TellsOfWriter};
-ghost use Rattle.jp_grep.specs.Matching.{has_nodes, is_selected, nodes_of, queries_of, selects, wants_nodes};
+ghost use Rattle.jp_grep.specs.Matching.{is_selected, nodes_of, queries_of, selects, wants_nodes};
 ghost use Rattle.jp_grep.specs.Rows.{line_text, row, row_at_once, row_told, value_row, whole};
 ghost use Rattle.jp_grep.specs.Searching.{AnswersNode, PutsFirst};
-ghost use Rattle.jp_grep.specs.Tables.{nodes_cell, table_row};
+ghost use Rattle.jp_grep.specs.Tables.{table_row};
 
 use crate::answer::Answerer;
-use crate::asked::{AskedNode, AskedQuery};
+use crate::asked::AskedNode;
 use crate::fault::SearchFault;
 use crate::outlet::Outlet;
 use crate::question::Wanted;
 use crate::room::NodeRoom;
 use crate::rows::{add_front, add_value};
-use crate::spelling::{Speller, append_printed, cell_kind};
-use itoa::Buffer;
+use crate::spelling::{Speller, append_printed};
 use jp_form::{Shown, Spelling, Table, Units};
 use jp_lines::LineView;
 use jp_model::{Framing, Watched};
 use jp_nodes::Cursor;
-use jp_table::CellKind;
 use std::alloc::AllocError;
 use std::io::Write;
 
@@ -86,55 +81,6 @@ impl<'q> Answerer<'q> {
         add_front(b':', self.form, number, &mut room.row)?;
         self.append_line(line, text, room)?;
         room.row.extend_from_slice(b"\n")
-    }
-
-    /// Adds the cell of a query to the cells of a node, and tells whether it selects a node.
-    fn add_cell<'r>(
-        self,
-        table: Table,
-        query: &AskedQuery,
-        asked: &AskedNode<'r>,
-        room: &mut NodeRoom<'r>,
-    ) -> Result<bool, AllocError>
-        requires { IsOfItsLine asked.now }
-        ensures cell { (cells : List Cell) → Holds table room.old.cells cells → OnOk result (Holds table room.new.cells
-            (cells ++ nodes_cell table (text_of_view asked.now.line) (path_nodes (query_path query.now) (node_of asked.now.node) (asked_tree asked.now)) ∷ [])) }
-        ensures some { IfOk result (λ some. some ≡ has_nodes (path_nodes (query_path query.now) (node_of asked.now.node) (asked_tree asked.now))) }
-        ensures row { room.new.row ≡ room.old.row }
-    {
-        let some = query.find(self.alloc, asked, &mut room.frame)?;
-        let Some(node) = room.frame.found().first() else {
-            room.cells.add(table, CellKind::Nothing, &[])?;
-            return Ok(some);
-        };
-        let text = room.speller.cell_text(table, *node, &mut room.cell)?;
-        room.cells.add(table, cell_kind(node.kind()), text)?;
-        Ok(some)
-    }
-
-    /// Makes the cells of a node, and tells whether a query selects a node.
-    fn make_cells<'r>(
-        self,
-        table: Table,
-        number: u64,
-        asked: &AskedNode<'r>,
-        room: &mut NodeRoom<'r>,
-    ) -> Result<bool, AllocError>
-        requires { IsOfItsLine asked.now }
-        ensures cells { OnOk result (row_bytes room.new.cells ≡ table_row table (queries_of self.entry.question.now) self.entry.form.now number (text_of_view asked.now.line) (asked_tree asked.now) (node_of asked.now.node)) }
-        ensures some { IfOk result (λ some. some ≡ selects (queries_of self.entry.question.now) (node_of asked.now.node) (asked_tree asked.now)) }
-        ensures row { room.new.row ≡ room.old.row }
-    {
-        let mut digits = Buffer::new();
-        let digits = digits.format(number).as_bytes();
-        room.cells
-            .begin(table, self.form, self.form.name.as_bytes(), digits)?;
-        let mut some = false;
-        for query in &self.question.queries {
-            some |= self.add_cell(table, query, asked, room)?;
-        }
-        room.cells.end()?;
-        Ok(some)
     }
 
     /// Whether the queries are asked of a node: whether the conditions hold, or, where the others are wanted, whether it does not

@@ -1,17 +1,19 @@
 //! What lines, or the nodes of lines, are asked.
 
-ghost use Rattle.std.specs.Prelude.{◌≡◌, [], ◌∷◌, ◌++◌, IfOk, None, OnErr, OnOk, Some};
+ghost use Rattle.std.specs.Prelude.{◌≡◌, [], ◌∷◌, ◌++◌, IfOk, None, OnErr, OnOk, Some, map};
+ghost use Rattle.std.specs.Option.{ForSome};
+ghost use Rattle.jp_columns.specs.Columns.{names_of};
 ghost use Rattle.jp_model.specs.Query.Syntax.{path};
 ghost use Rattle.jp_nodes.specs.Cursors.{node_of};
 ghost use Rattle.jp_syntax.specs.View.{origin_view};
 ghost use Rattle.jp_types.specs.Checks.{checked_view};
 ghost use Rattle.jp_types.specs.CheckedConditions.{checked_condition_view};
-ghost use Rattle.jp_grep.specs.Asked.{IsOfItsLine, asked_tree};
+ghost use Rattle.jp_grep.specs.Asked.{IsOfItsLine, asked_tree, first_name, query_path};
 ghost use Rattle.jp_grep.specs.Conditions.{expression, membership};
-ghost use Rattle.jp_grep.specs.Matching.{all_hold, conditions_of, each_of, let_match, matches, queries_of, selects, wants_found, wants_refused, wants_value};
 
 use crate::asked::{AskedNode, AskedQuery};
 use crate::condition::Condition;
+use crate::first_names::FirstNames;
 use jp_eval::{Frame, Predicate, Program};
 use jp_listed::Listed;
 use jp_syntax::Origin;
@@ -30,6 +32,8 @@ pub enum Wanted {
 }
 
 impl Wanted {
+    ghost use Rattle.jp_grep.specs.Matching.{wants_found, wants_refused, wants_value};
+
     /// Whether a node is wanted, by whether it matches.
     pub(crate) fn wants_value(self, matching: bool) -> bool
         ensures { result ≡ wants_value self matching }
@@ -73,6 +77,8 @@ pub enum Queries {
 }
 
 impl Queries {
+    ghost use Rattle.jp_grep.specs.Matching.{let_match};
+
     /// Whether they let a node match, by whether one of them selects a node.
     pub(crate) fn let_match(self, some: bool) -> bool
         ensures { result ≡ let_match self some }
@@ -80,6 +86,21 @@ impl Queries {
         match self {
             Queries::Filter => some,
             Queries::Columns => true,
+        }
+    }
+
+    /// A query as it is asked for that.
+    fn compile(
+        self,
+        alloc: Global,
+        origin: Origin,
+        query: &Checked,
+    ) -> Result<AskedQuery, AllocError>
+        ensures { IfOk result (λ asked. query_path asked ≡ path (origin_view origin) (checked_view query.now)) }
+    {
+        match self {
+            Queries::Filter => AskedQuery::compile(alloc, origin, query),
+            Queries::Columns => AskedQuery::compile_column(alloc, origin, query),
         }
     }
 }
@@ -92,11 +113,16 @@ pub struct Question {
     pub(crate) each: Option<Program>,
     pub(crate) purpose: Queries,
     pub(crate) queries: Vec<AskedQuery>,
+    /// The names that they begin with, where they are columns whose members are found together.
+    pub(crate) first_names: Option<FirstNames>,
     pub(crate) conditions: Vec<Condition>,
     pub(crate) wanted: Wanted,
+    ghost gathered: { ForSome first_names (λ found. names_of found.names ≡ map first_name queries.items) },
 }
 
 impl Question {
+    ghost use Rattle.jp_grep.specs.Matching.{all_hold, conditions_of, each_of, let_match, matches, queries_of, selects, wants_found};
+
     /// Of lines, with no query and no condition yet.
     pub fn new(alloc: Global, wanted: Wanted, purpose: Queries) -> Question
         ensures each { each_of result ≡ None }
@@ -109,6 +135,7 @@ impl Question {
             each: None,
             purpose,
             queries: Vec::new(alloc),
+            first_names: None,
             conditions: Vec::new(alloc),
             wanted,
         }
@@ -146,8 +173,24 @@ impl Question {
         ensures wanted { self.new.wanted ≡ self.old.wanted }
         ensures purpose { self.new.purpose ≡ self.old.purpose }
     {
-        let query = AskedQuery::compile(alloc, origin, query)?;
+        let query = self.purpose.compile(alloc, origin, query)?;
+        self.first_names = None;
         self.queries.push(query)?;
+        Ok(())
+    }
+
+    /// From then on, and until a query is added, the members of the names that columns begin with are found together, where they
+    /// are many. The question means what it meant.
+    ///
+    /// If memory is refused, the answer is `AllocError`.
+    pub fn gather_columns(&mut self, alloc: Global) -> Result<(), AllocError>
+        ensures each { each_of self.new ≡ each_of self.old }
+        ensures queries { queries_of self.new ≡ queries_of self.old }
+        ensures conditions { conditions_of self.new ≡ conditions_of self.old }
+        ensures wanted { self.new.wanted ≡ self.old.wanted }
+        ensures purpose { self.new.purpose ≡ self.old.purpose }
+    {
+        self.first_names = FirstNames::of(alloc, &self.queries)?;
         Ok(())
     }
 

@@ -3,6 +3,7 @@
 ghost use Rattle.std.specs.Prelude.{◌≡◌, OnOk};
 ghost use Rattle.jp_grep.specs.Rows.{row_told};
 
+use crate::first_names::Members;
 use crate::spelling::Speller;
 use jp_context::{Told, push_told};
 use jp_eval::Frame;
@@ -21,6 +22,7 @@ pub(crate) struct Room<'r> {
 #[derive(Drop)]
 pub(crate) struct NodeRoom<'r> {
     pub(crate) frame: Frame<'r>,
+    pub(crate) members: Members<'r>,
     pub(crate) speller: Speller,
     pub(crate) row: Vec<u8>,
     /// That row with the head that it is told with.
@@ -37,6 +39,7 @@ impl<'r> Room<'r> {
             asked: Frame::new(alloc),
             node: NodeRoom {
                 frame: Frame::new(alloc),
+                members: Members::new(alloc),
                 speller: Speller::new(alloc),
                 row: Vec::new(alloc),
                 told: Vec::new(alloc),

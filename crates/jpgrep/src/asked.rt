@@ -172,6 +172,7 @@ pub(crate) fn read_question<'a>(
     for text in options.queries() {
         reader.add_query(text, options.has_columns(), !options.each.is_empty())?;
     }
+    reader.question.gather_columns(rt.alloc())?;
     for text in &options.conditions {
         reader.add_condition(text)?;
     }

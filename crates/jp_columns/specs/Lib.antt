@@ -1,0 +1,3 @@
+-- What the contracts of the names of columns speak of.
+pub mod Names
+pub mod Columns
