@@ -6,7 +6,7 @@ use Rattle.std.specs.Int.Bits.{or_zero_r}
 use lib.Bits.{bit_and}
 use Rattle.std.proofs.lemmas.Nat.Bits.{bit_at_or, bit_at_and, bit_at_not, bit_at-lt, bit_at-zero, bit_at_set_same, bit_at_set_other, bit_at-trailing_zeros, bit_at_ones, bit_at_ones_above, ones_shr}
 use Rattle.std.proofs.Math.ListN.{get_or-eq_default}
-use Rattle.jp_iregexp.specs.declared.window.Window.{Window}
+use Rattle.jp_iregexp.specs.declared.positions.PositionSet.{PositionSet}
 use Rattle.jp_iregexp.specs.Words.{word_of}
 
 -- two numbers are the same or they are not
@@ -23,10 +23,10 @@ below_or_not (suc m) zero = inr (omega arith)
 below_or_not (suc m) (suc n) = elim (below_or_not m n) [ inl l ↦ inl (omega (arith, l)) | inr l ↦ inr (omega (arith, l)) ]
 
 -- a bit of an `or` is that of one side or of the other
-or_left : (a b i : ℕ) → bit_at a i ≡ 1 → bit_at (bit_or a b) i ≡ 1
+pub or_left : (a b i : ℕ) → bit_at a i ≡ 1 → bit_at (bit_or a b) i ≡ 1
 or_left a b i h = let l : bit_at b i < 2 = bit_at-lt b i in let e = bit_at_or a b i in omega arith
 
-or_right : (a b i : ℕ) → bit_at b i ≡ 1 → bit_at (bit_or a b) i ≡ 1
+pub or_right : (a b i : ℕ) → bit_at b i ≡ 1 → bit_at (bit_or a b) i ≡ 1
 or_right a b i h = let l : bit_at a i < 2 = bit_at-lt a i in let e = bit_at_or a b i in omega arith
 
 max_is : (m n : ℕ) → m < 2 → max m n ≡ 1 → (m ≡ 1) ⊎ (n ≡ 1)
@@ -34,10 +34,10 @@ max_is zero n l h = inr (omega (arith, h))
 max_is (suc zero) n l h = inl refl
 max_is (suc (suc m)) n l h = absurd (omega arith)
 
-or_either : (a b i : ℕ) → bit_at (bit_or a b) i ≡ 1 → (bit_at a i ≡ 1) ⊎ (bit_at b i ≡ 1)
+pub or_either : (a b i : ℕ) → bit_at (bit_or a b) i ≡ 1 → (bit_at a i ≡ 1) ⊎ (bit_at b i ≡ 1)
 or_either a b i h = max_is (bit_at a i) (bit_at b i) (bit_at-lt a i) (sym (bit_at_or a b i) ∙ h)
 
--- ---- the words of a window
+-- ---- words that are kept from the first one on
 
 pub word_in : (first : ℕ) (words : List ℕ) (w : ℕ) → first ≤ w → word_of first words w ≡ get_or words (w - first) 0
 word_in first words w l = rw (le-leb first w l) refl
@@ -158,18 +158,18 @@ no_bit words q e h = (let n = bit_at-zero (q % 64) in let z : bit_at 0 (q % 64) 
 pub next_or_below : (m n : ℕ) → m < n + 1 → (m < n) ⊎ (m ≡ n)
 next_or_below m n l = elim (same_or_not m n) [ inl e ↦ inr e | inr d ↦ inl (omega (arith, l, d)) ]
 
-word_bit : (words : ℕ → ℕ) (n word q : ℕ) → words n ≡ word → q / 64 ≡ n → BitOf words q → bit_at word (q % 64) ≡ 1
+pub word_bit : (words : ℕ → ℕ) (n word q : ℕ) → words n ≡ word → q / 64 ≡ n → BitOf words q → bit_at word (q % 64) ≡ 1
 word_bit words n word q kept e h = subst (λ x. bit_at x (q % 64) ≡ 1) kept (subst (λ v. bit_at (words v) (q % 64) ≡ 1) e h)
 
-bit_of_word : (words : ℕ → ℕ) (n word q : ℕ) → words n ≡ word → q / 64 ≡ n → bit_at word (q % 64) ≡ 1 → BitOf words q
+pub bit_of_word : (words : ℕ → ℕ) (n word q : ℕ) → words n ≡ word → q / 64 ≡ n → bit_at word (q % 64) ≡ 1 → BitOf words q
 bit_of_word words n word q kept e h = subst (λ v. bit_at (words v) (q % 64) ≡ 1) (sym e) (subst (λ x. bit_at x (q % 64) ≡ 1) (sym kept) h)
 
--- the words of a window, by their numbers
-abbrev pub words_in : Window → ℕ → ℕ
-words_in window w = word_of window.first window.words.items w
+-- the words of a set, by their numbers
+abbrev pub words_in : PositionSet → ℕ → ℕ
+words_in set w = word_of set.first set.words.items w
 
-pub kept_in : (window : Window) (items : List ℕ) (i : ℕ) → items ≡ window.words.items → words_in window (window.first + i) ≡ get_or items i 0
-kept_in window items i is = word_kept window.first window.words.items i ∙ ap (λ x. get_or x i 0) (sym is)
+pub kept_in : (set : PositionSet) (items : List ℕ) (i : ℕ) → items ≡ set.words.items → words_in set (set.first + i) ≡ get_or items i 0
+kept_in set items i is = word_kept set.first set.words.items i ∙ ap (λ x. get_or x i 0) (sym is)
 
 -- a word of the other set is put in
 module _ (start other old new : ℕ → ℕ) (n word : ℕ) (kept : other n ≡ word) (at : new n ≡ bit_or (old n) word) (rest : (v : ℕ) → v ≢ n → new v ≡ old v) where
@@ -205,7 +205,7 @@ module _ (one other old new : ℕ → ℕ) (n word out : ℕ) (kept : one n ≡ 
     ]
   ]
 
--- no bit stands before the window or after it
+-- no bit is before the words that are kept, or after them
 pub bit_in_front : (first : ℕ) (words : List ℕ) (q : ℕ) → q / 64 < first + 0 → BitOf (word_of first words) q → ⊥
 bit_in_front first words q l h = no_bit (word_of first words) q (word_before first words (q / 64) (omega (arith, l))) h
 

@@ -2,11 +2,13 @@
 use Rattle.std.proofs.Common.{◌≡◌, ◌≢◌, ℕ, zero, suc, ◌+◌, ◌-◌, ◌*◌, ◌%◌, ◌^◌, ◌<◌, ◌≤◌, ◌⊎◌, inl, inr, ◌↔◌, IsTrue, List, [], ◌∷◌, ◌++◌, length, map, get_or, Some, bit_or, bit_and, Bool, w64, arith, refl, sym, ◌∙◌, ap, subst}
 use Rattle.std.specs.Int.{trailing_zeros, Width}
 use mir.Val.{bits}
+use Rattle.std.proofs.lemmas.List.{get_or_append_left, get_or_push, length_push}
+use Rattle.std.proofs.Math.ListN.{get_or-eq_default}
 use Rattle.std.proofs.lemmas.Nat.Bits.{bit_at_and, bit_at-lt, bit_at-zero, bit_at_set_same, bit_at_set_other}
 use Rattle.jp_model.proofs.LowestBit.{is_kept}
 use Rattle.jp_model.specs.Pattern.Classes.{in_class}
 use Rattle.jp_iregexp.specs.declared.automaton.State.{State as ProgramState}
-use Rattle.jp_iregexp.specs.States.{State, HasState, state_at, IsStep, waits_for, AreMasks, AreCodes, WaitsBehind}
+use Rattle.jp_iregexp.specs.States.{State, HasState, state_at, IsStep, waits_for, AreMasks, AreCodes, AreSets, WaitsBehind}
 use Rattle.jp_iregexp.specs.Layouts.{state_of}
 use Rattle.jp_iregexp.proofs.Sums.{same_or_not, holds_either, holds_left, holds_right}
 use Rattle.jp_iregexp.proofs.Lowest.{lowest_in, was_there}
@@ -138,40 +140,29 @@ below_or_past p zero = inr (omega arith)
 below_or_past zero (suc n) = inl (omega arith)
 below_or_past (suc p) (suc n) = elim (below_or_past p n) [ inl i ↦ inl (omega arith) | inr i ↦ inr (omega arith) ]
 
-pub whole_mask : (states : List State) (scalar n mask : ℕ) → length states ≤ n → IsMaskBelow (λ p. waits_for states p scalar) n mask → (p : ℕ) → HasState mask p ↔ IsTrue (waits_for states p scalar)
-whole_mask states scalar n mask l m p = (m.sound p, λ h. elim (below_or_past p n) [ inl i ↦ m.complete p i h | inr i ↦ absurd (past_all states p scalar (omega arith) h) ])
+-- by state the scalars that it waits for are bits; of a state that is not there, none
+pub waiting_bits : (states : List State) (sets : List ℕ) (scalar : ℕ) → AreSets states sets → scalar < 128 → (p : ℕ) → HasState (get_or sets p 0) scalar ↔ IsTrue (waits_for states p scalar)
+waiting_bits states sets scalar s few p = elim (below_or_past p (length sets)) [
+  | inl i ↦ s.each p i scalar few
+  | inr i ↦ (let same = s.size in ((λ h. absurd (no_bit scalar (subst (λ n. HasState n scalar) (get_or-eq_default sets 0 i) h))), (λ h. absurd (past_all states p scalar (omega (arith, i, same)) h))))
+]
 
 pub waits_at : (ps : List ProgramState) (k scalar : ℕ) (p : ProgramState) → k < length ps → p ≡ get_or ps k p → waits_for (map state_of ps) k scalar ≡ in_class (state_of p).class scalar
 waits_at [] k scalar p l is = absurd (omega arith)
 waits_at (x ∷ ps) zero scalar p l is = ap (λ (y : ProgramState). in_class (state_of y).class scalar) (sym is)
 waits_at (x ∷ ps) (suc k) scalar p l is = waits_at ps k scalar p (omega arith) is
 
-size : (ms : List ℕ) (x : ℕ) → length (ms ++ x ∷ []) ≡ suc (length ms)
-size [] x = refl
-size (m ∷ ms) x = ap suc (size ms x)
-
-last_mask : (ms : List ℕ) (x k : ℕ) → k ≡ length ms → get_or (ms ++ x ∷ []) k 0 ≡ x
-last_mask [] x zero e = refl
-last_mask [] x (suc k) e = absurd (omega arith)
-last_mask (m ∷ ms) x zero e = absurd (omega arith)
-last_mask (m ∷ ms) x (suc k) e = last_mask ms x k (omega arith)
-
-earlier_mask : (ms : List ℕ) (x k : ℕ) → k < length ms → get_or (ms ++ x ∷ []) k 0 ≡ get_or ms k 0
-earlier_mask [] x k l = absurd (omega arith)
-earlier_mask (m ∷ ms) x zero l = refl
-earlier_mask (m ∷ ms) x (suc k) l = earlier_mask ms x k (omega arith)
-
 -- one set more
 pub set_more : (states : List State) (sets more : List ℕ) (set n : ℕ) → more ≡ sets ++ set ∷ [] → n ≡ length sets → AreCodes (waits_for states n) set
     → ((k : ℕ) → k < length sets → AreCodes (waits_for states k) (get_or sets k 0)) → (k : ℕ) → k < length more → AreCodes (waits_for states k) (get_or more k 0)
 set_more states sets more set n is at s all = subst (λ ws. (k : ℕ) → k < length ws → AreCodes (waits_for states k) (get_or ws k 0)) (sym is) (λ k l. elim (same_or_not k n) [
-  | inl e ↦ subst (AreCodes (waits_for states k)) (sym (last_mask sets set k (e ∙ at))) (subst (λ j. AreCodes (waits_for states j) set) (sym e) s)
-  | inr d ↦ (let f : k ≢ n = d in let less : k < length sets = (let z = size sets set in omega (arith, z, f)) in subst (AreCodes (waits_for states k)) (sym (earlier_mask sets set k less)) (all k less))
+  | inl e ↦ subst (AreCodes (waits_for states k)) (sym (get_or_push sets set 0 k (sym (e ∙ at)))) (subst (λ j. AreCodes (waits_for states j) set) (sym e) s)
+  | inr d ↦ (let f : k ≢ n = d in let less : k < length sets = (let z = length_push sets set in omega (arith, z, f)) in subst (AreCodes (waits_for states k)) (sym (get_or_append_left sets (set ∷ []) 0 k less)) (all k less))
 ])
 
 -- one mask more
 pub mask_more : (states : List State) (masks more : List ℕ) (mask scalar : ℕ) → more ≡ masks ++ mask ∷ [] → scalar ≡ length masks → ((p : ℕ) → HasState mask p ↔ IsTrue (waits_for states p scalar)) → AreMasks states masks → AreMasks states more
 mask_more states masks more mask scalar is at m all = subst (AreMasks states) (sym is) (λ c p l. elim (same_or_not c scalar) [
-  | inl e ↦ subst (λ w. HasState w p ↔ IsTrue (waits_for states p c)) (sym (last_mask masks mask c (e ∙ at))) (subst (λ k. HasState mask p ↔ IsTrue (waits_for states p k)) (sym e) (m p))
-  | inr d ↦ (let f : c ≢ scalar = d in let less : c < length masks = (let s = size masks mask in omega (arith, s, f)) in subst (λ w. HasState w p ↔ IsTrue (waits_for states p c)) (sym (earlier_mask masks mask c less)) (all c p less))
+  | inl e ↦ subst (λ w. HasState w p ↔ IsTrue (waits_for states p c)) (sym (get_or_push masks mask 0 c (sym (e ∙ at)))) (subst (λ k. HasState mask p ↔ IsTrue (waits_for states p k)) (sym e) (m p))
+  | inr d ↦ (let f : c ≢ scalar = d in let less : c < length masks = (let s = length_push masks mask in omega (arith, s, f)) in subst (λ w. HasState w p ↔ IsTrue (waits_for states p c)) (sym (get_or_append_left masks (mask ∷ []) 0 c less)) (all c p less))
 ])

@@ -1,6 +1,6 @@
 -- Tables of ends, and one turn by them.
 use Rattle.std.proofs.Common.{◌≡◌, ℕ, zero, suc, ◌+◌, ◌<◌, ◌≤◌, ◌⊎◌, inl, inr, List, [], ◌∷◌, ◌++◌, length, get_or, arith, refl, sym, ◌∙◌, ap, subst, length-append}
-use Rattle.std.proofs.lemmas.List.{get_or_append_left}
+use Rattle.std.proofs.lemmas.List.{get_or_append_left, get_or_push}
 use Rattle.jp_iregexp.specs.declared.positions.PositionSet.{PositionSet}
 use Rattle.jp_iregexp.specs.Positions.{Has, IsSetOver, Reach, AreEnds}
 use Rattle.jp_iregexp.specs.Tables.{AreEndsFrom, AreInRows, EndsInRow, IsTable}
@@ -83,10 +83,6 @@ pub record RowsBelow (Member : List ℕ → Type 0) (text : List ℕ) (n : ℕ) 
   pub size : length rows ≡ n
   pub each : (p : ℕ) (row : PositionSet) → p < length rows → row ≡ get_or rows p row → AreEndsFrom Member text p row
 
-last_item : (rows : List PositionSet) (row other : PositionSet) → get_or (rows ++ row ∷ []) (length rows) other ≡ row
-last_item [] row other = refl
-last_item (r ∷ rows) row other = last_item rows row other
-
 pub rows_push : (Member : List ℕ → Type 0) (text : List ℕ) (n : ℕ) (rows more : List PositionSet) (row : PositionSet) → RowsBelow Member text n rows → more ≡ rows ++ row ∷ [] → AreEndsFrom Member text n row → RowsBelow Member text (n + 1) more
 rows_push Member text n rows more row b e a =
     let size = b.size in
@@ -97,7 +93,7 @@ rows_push Member text n rows more row b e a =
           elim (below_or_not p (length rows)) [
             | inl k ↦ b.each p r k (is ∙ ap (λ x. get_or x p r) e ∙ get_or_append_left rows (row ∷ []) r p k)
             | inr k ↦ (let at : length rows ≡ p = omega arith in
-                let same : row ≡ r = sym (last_item rows row r) ∙ ap (λ i. get_or (rows ++ row ∷ []) i r) at ∙ ap (λ x. get_or x p r) (sym e) ∙ sym is in
+                let same : row ≡ r = sym (get_or_push rows row r p at) ∙ ap (λ x. get_or x p r) (sym e) ∙ sym is in
                 let position : n ≡ p = omega arith in
                 subst (λ i. AreEndsFrom Member text i r) position (subst (λ (x : PositionSet). AreEndsFrom Member text n x) same a))
           ];

@@ -5,7 +5,7 @@ ghost use Rattle.std.specs.Prelude.{◌≡◌, ◌↔◌, ◌<◌, ◌≤◌, �
 ghost use Rattle.std.specs.Option.{IfSome};
 ghost use Rattle.std.specs.Str.{chars};
 ghost use Rattle.jp_model.specs.Pattern.Language.{Occurs};
-ghost use Rattle.jp_iregexp.specs.States.{AreMasks, AreSets, HasState, IsPassed, IsStep, Leads, WaitsBehind, is_chained, is_link, waits_for};
+ghost use Rattle.jp_iregexp.specs.States.{AreMasks, AreSets, HasState, IsPassed, IsStep, Leads, WaitsBehind, is_chained, is_link};
 ghost use Rattle.jp_iregexp.specs.Layouts.{state_of};
 
 use crate::class::Class;
@@ -233,7 +233,7 @@ fn ascii_masks(alloc: Global, states: &[State]) -> Result<Vec<u64>, AllocError>
     let mut masks = Vec::new(alloc);
     masks.reserve(128)?;
     for code in 0u8..128 {
-        masks.push(having(states, sets.as_slice(), code))?;
+        masks.push(having(sets.as_slice(), code))?;
     }
     Ok(masks)
 }
@@ -250,12 +250,11 @@ fn ascii_sets(alloc: Global, states: &[State]) -> Result<Vec<u128>, AllocError>
     Ok(sets)
 }
 
-/// The states that wait for the ASCII scalar with this code.
-fn having(_states: &[State], sets: &[u128], code: u8) -> u64
+/// The numbers of the sets that have the ASCII scalar with this code.
+fn having(sets: &[u128], code: u8) -> u64
     requires few { length sets.now ≤ 63 }
-    requires sets { AreSets (map state_of _states.now) sets.now }
     requires ascii { code < 128 }
-    ensures { (number : ℕ) → HasState result number ↔ IsTrue (waits_for (map state_of _states.now) number code) }
+    ensures { (number : ℕ) → HasState result number ↔ HasState (get_or sets.now number 0) code }
 {
     let mut all = 0;
     for (number, codes) in sets.iter().enumerate() {

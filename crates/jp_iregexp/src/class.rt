@@ -1,7 +1,8 @@
 //! Classes of scalars (RFC 9485, sections 3 and 4).
 
-ghost use Rattle.std.specs.Prelude.{◌≡◌, map, IfOk};
+ghost use Rattle.std.specs.Prelude.{◌≡◌, ◌<◌, ◌==◌, ℕ, map, IfOk};
 ghost use Rattle.std.specs.List.{list_any};
+ghost use Rattle.std.specs.Option.{IfSome};
 ghost use Rattle.jp_model.specs.Pattern.Classes.{in_property, in_item, in_class};
 ghost use Rattle.jp_iregexp.specs.Nodes.{property_of, item_of, class_of};
 
@@ -47,6 +48,7 @@ pub(crate) fn has_property(property: Property, scalar: char) -> bool
 }
 
 /// Whether a scalar is one of those that the item stands for.
+#[inline(always)]
 fn is_in_item(item: Item, scalar: char) -> bool
     ensures { result ≡ in_item scalar (item_of item) }
 {
@@ -58,6 +60,7 @@ fn is_in_item(item: Item, scalar: char) -> bool
 }
 
 /// Whether a scalar is in the union of the items.
+#[inline(always)]
 fn has_some_item(items: &[Item], scalar: char) -> bool
     ensures { result ≡ list_any (in_item scalar) (map item_of items.now) }
 {
@@ -83,7 +86,27 @@ impl Class {
         }
     }
 
+    /// The scalar that is alone in the class, where it is ASCII.
+    pub(crate) fn only_ascii(&self) -> Option<u8>
+        ensures scalar { IfSome result (λ only. (scalar : ℕ) → in_class (class_of self.now) scalar ≡ (scalar == only)) }
+        ensures ascii { IfSome result (λ only. only < 128) }
+    {
+        match self {
+            Class::Members {
+                negated: false,
+                items,
+            } => match items.as_slice() {
+                [Item::Range(first, last)] if first == last && first.is_ascii() => Some(
+                    *first as u8,
+                ),
+                _ => None,
+            },
+            _ => None,
+        }
+    }
+
     /// Whether a scalar is in the class.
+    #[inline(always)]
     pub(crate) fn contains(&self, scalar: char) -> bool
         ensures { result ≡ in_class (class_of self.now) scalar }
     {

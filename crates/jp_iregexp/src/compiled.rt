@@ -11,15 +11,17 @@ use crate::automaton::Automaton;
 use crate::layout::automaton_of;
 use crate::node::Node;
 use crate::numbers::with_numbers;
+use crate::places::scalars_alone;
 use std::alloc::{AllocError, Global};
 
 /// A tree and its automaton, which it has where it is small enough. In another one the tables are numbered, and it is known
-/// whether a match makes them.
+/// whether a match makes them, and which ASCII scalars it looks for in a text beforehand.
 #[derive(Drop)]
 pub(crate) struct Compiled {
     pub(crate) root: Node,
     pub(crate) automaton: Option<Automaton>,
     pub(crate) keeps_tables: bool,
+    pub(crate) scalars: u128,
     ghost same: { ∥ IfSome automaton (λ a. Accepts (map state_of a.states.items) a.starts (tree_of root)) ∥₁ },
     ghost numbered: { automaton ≡ None → is_some (numbers_behind 0 root) ≡ true },
 }
@@ -35,13 +37,16 @@ impl Compiled {
                 root,
                 automaton,
                 keeps_tables: false,
+                scalars: 0,
             });
         }
         let (root, keeps_tables) = with_numbers(alloc, &root)?;
+        let scalars = scalars_alone(&root);
         Ok(Compiled {
             root,
             automaton: None,
             keeps_tables,
+            scalars,
         })
     }
 }

@@ -19,16 +19,17 @@ mod items;
 pub mod laws;
 mod layout;
 mod matcher;
+mod members;
 mod names;
 mod node;
 mod numbers;
 mod parser;
 mod pattern;
+mod places;
 mod positions;
 mod runs;
 mod tables;
 mod token;
-mod window;
 
 pub use pattern::Pattern;
 

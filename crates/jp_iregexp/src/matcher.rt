@@ -2,6 +2,7 @@
 
 ghost use Rattle.std.specs.Prelude.{◌≡◌, ◌<◌, ◌≤◌, ◌+◌, ◌*◌, ◌^◌, ◌⊎◌, length, Some, IfOk};
 ghost use Rattle.jp_iregexp.specs.Evens.{HaveLength};
+ghost use Rattle.jp_iregexp.specs.Places.{AreAfterEach};
 ghost use Rattle.jp_iregexp.specs.Positions.{AreEnds, AreStarts};
 ghost use Rattle.jp_model.specs.Pattern.Language.{Language, Repeats, RepeatsWithin};
 ghost use Rattle.jp_iregexp.specs.Tables.{Kept, KeptList, KeptTurns};
@@ -49,12 +50,14 @@ fn joined(once: u32, most: usize, least: u32, further: usize) -> usize
     turns.saturating_mul(most) - (least * once) as usize
 }
 
-/// A text, and by number the tables that are kept of it.
+/// A text, by number the tables that are kept of it, and by ASCII scalar the positions after it, where it was looked for.
 #[derive(Drop)]
 pub(crate) struct Matcher<'a> {
     pub(crate) alloc: Global,
     pub(crate) text: &'a [char],
     pub(crate) tables: Vec<Vec<PositionSet>>,
+    pub(crate) after: Vec<Option<PositionSet>>,
+    ghost places: { AreAfterEach text.now after.items },
 }
 
 impl Matcher<'_> {
@@ -69,7 +72,7 @@ impl Matcher<'_> {
             return Ok(PositionSet::empty(self.alloc));
         }
         match node {
-            Node::Class(class) => class_ends(self.alloc, class, self.text, starts),
+            Node::Class(class) => self.scalar_ends(class, starts),
             Node::Sequence(parts) => self.sequence_ends(parts.as_slice(), starts),
             Node::Choice(parts) => self.choice_ends(parts.as_slice(), starts),
             Node::Repeated {
@@ -79,6 +82,19 @@ impl Matcher<'_> {
                 table,
             } => self.repeated_ends(body, *table, *least, self.turns(*further), starts),
         }
+    }
+
+    /// The positions after one scalar of the class. Where it is alone in the class, and was looked for, no scalar is read.
+    fn scalar_ends(&self, class: &Class, starts: &PositionSet) -> Result<PositionSet>
+        requires { AreStarts self.now.text.now starts.now }
+        ensures { IfOk result (λ out. AreEnds (Language (one_of (class_of class.now))) self.now.text.now starts.now out) }
+    {
+        if let Some(scalar) = class.only_ascii() {
+            if let Some(Some(after)) = self.after.get(scalar as usize) {
+                return starts.moved_within(self.alloc, 1, after);
+            }
+        }
+        class_ends(self.alloc, class, self.text, starts)
     }
 
     /// The positions where the parts one after another end.

@@ -1,176 +1,105 @@
-//! Sets of positions of a text, as bits of 64-bit words.
+//! The words of sets of positions of a text. They are kept from the first one on: the others are 0, and take no memory.
 
-ghost use Rattle.std.specs.Prelude.{◌≡◌, ◌^◌, ℕ, ◌+◌, ◌-◌, ◌<◌, ◌≤◌, ◌↔◌, ◌⊎◌, IsTrue, IfOk, OnOk};
+ghost use Rattle.std.specs.Prelude.{◌≡◌, ◌≢◌, ◌^◌, ℕ, ◌+◌, ◌-◌, ◌*◌, ◌<◌, ◌≤◌, ◌↔◌, OnOk, bit_or, vec_len};
 ghost use Rattle.std.specs.Int.{bit_at};
-ghost use Rattle.jp_iregexp.specs.Positions.{Has, IsSetOver};
+ghost use Rattle.jp_iregexp.specs.Words.{HasBit, word_of};
 
 use crate::Result;
-use crate::window::Window;
-use std::alloc::Global;
 
-/// A set of positions.
+/// A set of positions, as bits of words.
 #[derive(Drop)]
 pub(crate) struct PositionSet {
-    pub(crate) window: Window,
+    pub(crate) first: usize,
+    pub(crate) words: Vec<u64>,
+    ghost fits: { first + vec_len words ≤ 2 ^ 57 },
 }
 
 impl PositionSet {
-    /// No position.
-    pub(crate) fn empty(alloc: Global) -> PositionSet
-        ensures { (p : ℕ) → ¬ (Has result p) }
+    /// A word, whether it is kept or not.
+    #[inline(always)]
+    pub(crate) fn word(&self, w: usize) -> u64
+        ensures { result ≡ word_of self.now.first self.now.words.items w }
     {
-        PositionSet {
-            window: Window::empty(alloc),
+        if w < self.first {
+            return 0;
+        }
+        match self.words.get(w - self.first) {
+            Some(word) => *word,
+            None => 0,
         }
     }
 
-    /// One position.
-    pub(crate) fn one(alloc: Global, p: usize) -> Result<PositionSet>
-        requires { p < 2 ^ 63 }
-        ensures has { IfOk result (λ set. Has set p) }
-        ensures only { IfOk result (λ set. (q : ℕ) → Has set q → q ≡ p) }
+    /// A word of the bits, each of them this far after where it is kept.
+    pub(crate) fn moved(&self, w: usize, distance: usize) -> u64
+        ensures { (i : ℕ) → i < 64 → bit_at result i ≡ 1 ↔ (distance ≤ w * 64 + i × HasBit self.now.first self.now.words.items (w * 64 + i - distance)) }
     {
-        let mut set = PositionSet::empty(alloc);
-        set.insert(p)?;
-        Ok(set)
-    }
-
-    /// Each position of a text of this length.
-    pub(crate) fn all(alloc: Global, length: usize) -> Result<PositionSet>
-        requires { length < 2 ^ 63 }
-        ensures over { IfOk result (λ set. IsSetOver length set) }
-        ensures each { IfOk result (λ set. (p : ℕ) → p ≤ length → Has set p) }
-    {
-        let mut set = PositionSet::empty(alloc);
-        for w in 0..length / 64 + 1 {
-            set.window.add_word(w, first_bits(length - w * 64))?;
+        let whole = distance / 64;
+        let bits = distance % 64;
+        if w < whole {
+            return 0;
         }
-        Ok(set)
-    }
-
-    /// Each position from the first one on, up to the one before the second.
-    pub(crate) fn range(alloc: Global, low: usize, high: usize) -> Result<PositionSet>
-        requires { high ≤ 2 ^ 63 }
-        ensures sound { IfOk result (λ set. (p : ℕ) → Has set p → low ≤ p × p < high) }
-        ensures each { IfOk result (λ set. (p : ℕ) → low ≤ p → p < high → Has set p) }
-    {
-        let mut set = PositionSet::empty(alloc);
-        for p in low..high {
-            set.insert(p)?;
+        let upper = self.word(w - whole) << bits;
+        if bits == 0 || w == whole {
+            return upper;
         }
-        Ok(set)
+        upper | self.word(w - whole - 1) >> (64 - bits)
     }
 
-    /// Whether there is a position.
-    pub(crate) fn has_any(&self) -> bool
-        ensures some { IsTrue result → (p : ℕ) × Has self.now p }
-        ensures none { (p : ℕ) → Has self.now p → IsTrue result }
+    /// The bits are put into a word.
+    #[inline(always)]
+    pub(crate) fn add_word(&mut self, w: usize, bits: u64) -> Result<()>
+        requires { w < 2 ^ 57 }
+        ensures at { OnOk result (word_of self.new.first self.new.words.items w ≡ bit_or (word_of self.old.first self.old.words.items w) bits) }
+        ensures rest { OnOk result ((v : ℕ) → v ≢ w → word_of self.new.first self.new.words.items v ≡ word_of self.old.first self.old.words.items v) }
     {
-        for word in &self.window.words {
-            if *word != 0 {
-                return true;
-            }
+        if bits == 0 {
+            return Ok(());
         }
-        false
-    }
-
-    /// A position that none in the set is below.
-    pub(crate) fn low(&self) -> usize
-        ensures { (p : ℕ) → Has self.now p → result ≤ p }
-    {
-        self.window.low()
-    }
-
-    /// A position that each in the set is below.
-    pub(crate) fn high(&self) -> usize
-        ensures above { (p : ℕ) → Has self.now p → p < result }
-        ensures fits { result ≤ 2 ^ 63 }
-    {
-        self.window.high()
-    }
-
-    /// A set of the same positions, with words of its own.
-    pub(crate) fn copy(&self, alloc: Global) -> Result<PositionSet>
-        ensures { IfOk result (λ set. (p : ℕ) → Has set p ↔ Has self.now p) }
-    {
-        Ok(PositionSet {
-            window: self.window.copy(alloc)?,
-        })
-    }
-
-    /// Whether a position is in the set.
-    pub(crate) fn contains(&self, p: usize) -> bool
-        ensures { IsTrue result ↔ Has self.now p }
-    {
-        (self.window.word(p / 64) >> (p % 64)) & 1 == 1
-    }
-
-    /// One more position, which the set may have already.
-    pub(crate) fn insert(&mut self, p: usize) -> Result<()>
-        requires { p < 2 ^ 63 }
-        ensures same { OnOk result (Has self.new p) }
-        ensures old { OnOk result ((q : ℕ) → Has self.old q → Has self.new q) }
-        ensures new { OnOk result ((q : ℕ) → Has self.new q → (q ≡ p) ⊎ Has self.old q) }
-    {
-        self.window.add_word(p / 64, 1 << (p % 64))?;
+        if w < self.first || self.words.len() <= w - self.first {
+            self.cover(w)?;
+        }
+        let at = w - self.first;
+        self.words[at] |= bits;
         Ok(())
     }
 
-    /// The positions of the other set are put into this one.
-    pub(crate) fn add_all(&mut self, other: &PositionSet) -> Result<()>
-        ensures old { OnOk result ((q : ℕ) → Has self.old q → Has self.new q) }
-        ensures added { OnOk result ((q : ℕ) → Has other.now q → Has self.new q) }
-        ensures new { OnOk result ((q : ℕ) → Has self.new q → Has self.old q ⊎ Has other.now q) }
+    /// Makes room for a word: it is kept, and so are those between it and the others.
+    #[inline(never)]
+    fn cover(&mut self, w: usize) -> Result<()>
+        requires { w < 2 ^ 57 }
+        ensures same { OnOk result ((v : ℕ) → word_of self.new.first self.new.words.items v ≡ word_of self.old.first self.old.words.items v) }
+        ensures from { OnOk result (self.new.first ≤ w) }
+        ensures to { OnOk result (w < self.new.first + vec_len self.new.words) }
     {
-        for (i, word) in other.window.words.iter().enumerate() {
-            self.window.add_word(other.window.first + i, *word)?;
+        if self.words.is_empty() {
+            self.first = w;
+        }
+        if w < self.first {
+            self.lower(w)?;
+        }
+        let width = w - self.first + 1;
+        for _ in self.words.len()..width {
+            self.words.push(0)?;
         }
         Ok(())
     }
 
-    /// The positions that are not in the other set.
-    pub(crate) fn without(&self, alloc: Global, other: &PositionSet) -> Result<PositionSet>
-        ensures sound { IfOk result (λ set. (q : ℕ) → Has set q → Has self.now q) }
-        ensures complete { IfOk result (λ set. (q : ℕ) → Has self.now q → Has set q ⊎ Has other.now q) }
+    /// Puts words that are 0 in front, so that the words are kept from this one on.
+    fn lower(&mut self, first: usize) -> Result<()>
+        requires { first ≤ self.old.first }
+        ensures same { OnOk result ((v : ℕ) → word_of self.new.first self.new.words.items v ≡ word_of self.old.first self.old.words.items v) }
+        ensures first { OnOk result (self.new.first ≡ first) }
     {
-        let mut set = PositionSet::empty(alloc);
-        for (i, word) in self.window.words.iter().enumerate() {
-            let w = self.window.first + i;
-            set.window.add_word(w, *word & !other.window.word(w))?;
-        }
-        Ok(set)
-    }
-
-    /// The positions so far after those of this set, as far as the other set has them.
-    pub(crate) fn moved_within(
-        &self,
-        alloc: Global,
-        distance: usize,
-        other: &PositionSet,
-    ) -> Result<PositionSet>
-        ensures { IfOk result (λ set. (q : ℕ) → Has set q ↔ (distance ≤ q × Has self.now (q - distance) × Has other.now q)) }
-    {
-        let mut set = PositionSet::empty(alloc);
-        let low = self.low().saturating_add(distance);
-        let high = self.high().saturating_add(distance);
-        for q in low.max(other.low())..high.min(other.high()) {
-            if other.contains(q) && self.contains(q - distance) {
-                set.insert(q)?;
-            }
-        }
-        Ok(set)
-    }
-
-    /// Whether both sets keep the same words, and so the same positions. Equal sets may differ in the words that are 0.
-    pub(crate) fn is_same(&self, other: &PositionSet) -> bool
-        ensures { IsTrue result → (p : ℕ) → Has self.now p ↔ Has other.now p }
-    {
-        self.window.is_same(&other.window)
+        let mut words = vec![in *self.words.allocator(); 0; self.first - first]?;
+        words.extend_from_slice(self.words.as_slice())?;
+        self.words = words;
+        self.first = first;
+        Ok(())
     }
 }
 
 /// A word's bits up to this one, which may follow the word.
-fn first_bits(last: usize) -> u64
+pub(crate) fn first_bits(last: usize) -> u64
     ensures within { (i : ℕ) → i < 64 → bit_at result i ≡ 1 → i ≤ last }
     ensures each { (i : ℕ) → i < 64 → i ≤ last → bit_at result i ≡ 1 }
 {

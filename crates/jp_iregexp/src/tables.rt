@@ -11,6 +11,7 @@ use crate::Result;
 use crate::compiled::Compiled;
 use crate::matcher::Matcher;
 use crate::node::Node;
+use crate::places::rows_after;
 use crate::positions::PositionSet;
 use std::alloc::Global;
 
@@ -25,10 +26,17 @@ pub(crate) fn reach(
     requires starts { AreStarts text.now starts.now }
     ensures { IfOk result (λ out. AreEnds (Language (tree_of compiled.now.root)) text.now starts.now out) }
 {
+    // From few starts few scalars are read.
+    let scalars = if starts.high() > 64 {
+        compiled.scalars
+    } else {
+        0
+    };
     let mut matcher = Matcher {
         alloc,
         text,
         tables: Vec::new(alloc),
+        after: rows_after(alloc, text, scalars)?,
     };
     if compiled.keeps_tables {
         matcher.prepare(&compiled.root)?;

@@ -1,7 +1,8 @@
-use Rattle.std.proofs.Common.{◌≡◌, ◌+◌, length, map, sym, ◌∙◌, ap}
+use Rattle.std.proofs.Common.{◌≡◌, ◌+◌, length, map, sym, ◌∙◌, ap, subst}
 use Rattle.std.proofs.lemmas.List.{length_push}
 use Rattle.jp_iregexp.specs.Layouts.{state_of}
-use Rattle.jp_iregexp.proofs.Masks.{mask_more}
+use Rattle.jp_iregexp.specs.States.{AreSets}
+use Rattle.jp_iregexp.proofs.Masks.{mask_more, waiting_bits}
 use Rattle.jp_iregexp.proofs.automaton.ascii_masks.Goals as goal
 
 pub loop-code-preserved : goal.loop-code-preserved
@@ -12,5 +13,5 @@ loop-code-preserved c =
     record {
       size = size;
       masked = mask_more states l.masks.items c.push.new.self.items c.having.result l.code c.in_ok-push.ensures.items (sym l.invariant.size)
-          c.having.ensures l.invariant.masked;
+          (λ p. (let here = waiting_bits states c.as_slice.result.now l.code (subst (AreSets states) (sym c.as_slice.ensures.value) c.in_ok-sets.ensures) c.loop-code-test.true p in let is = c.having.ensures p in ((λ h. here.0 (is.0 h)), (λ h. is.1 (here.1 h))))) l.invariant.masked;
     }

@@ -1,8 +1,7 @@
-use Rattle.std.proofs.Common.{map}
-use Rattle.jp_iregexp.specs.Layouts.{state_of}
-use Rattle.jp_iregexp.specs.States.{waits_for}
+use Rattle.std.proofs.Common.{◌==◌, get_or}
+use Rattle.std.specs.Int.{bit_at}
 use Rattle.jp_iregexp.proofs.Masks.{IsMaskBelow}
 use Rattle.jp_iregexp.proofs.automaton.having.Given as goal
 
 abbrev pub invariant-loop-number : goal.invariant-loop-number
-invariant-loop-number l = IsMaskBelow (λ p. waits_for (map state_of l._states) p l.code) l.number l.all
+invariant-loop-number l = IsMaskBelow (λ p. bit_at (get_or l.sets p 0) l.code == 1) l.number l.all

@@ -6,6 +6,6 @@ use Rattle.jp_iregexp.proofs.positions.PositionSet.add_all.Given as goal
 abbrev pub invariant-loop-i : goal.invariant-loop-i
 invariant-loop-i l = record {
   old : (q : ℕ) → Has l.initial.self q → Has l.self q;
-  added : (q : ℕ) → q / 64 < l.other.window.first + l.i → Has l.other q → Has l.self q;
+  added : (q : ℕ) → q / 64 < l.other.first + l.i → Has l.other q → Has l.self q;
   new : (q : ℕ) → Has l.self q → Has l.initial.self q ⊎ Has l.other q;
 }

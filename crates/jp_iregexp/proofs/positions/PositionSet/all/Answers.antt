@@ -6,7 +6,7 @@ use Rattle.jp_iregexp.proofs.positions.PositionSet.all.Goals as goal
 pub loop-w-preserved : goal.loop-w-preserved
 loop-w-preserved c =
     let l = c.loop-w in
-    let old = l.set.window in
+    let old = l.set in
     let new = c.add_word.new.self in
     let bits = c.first_bits.result in
     let b = c.first_bits.ensures in

@@ -1,6 +1,6 @@
 use Rattle.std.proofs.Common.{◌≡◌, ℕ, ◌+◌, ◌≤◌, vec_len}
 use Rattle.jp_iregexp.specs.Words.{word_of}
-use Rattle.jp_iregexp.proofs.window.Window.cover.Given as goal
+use Rattle.jp_iregexp.proofs.positions.PositionSet.cover.Given as goal
 
 abbrev pub invariant-loop : goal.invariant-loop
 invariant-loop l = record {

@@ -1,7 +1,7 @@
 use Rattle.std.proofs.Common.{ap, ◌∙◌, arith}
 use Rattle.jp_iregexp.specs.Words.{word_of}
 use Rattle.jp_iregexp.proofs.Bits.{word_pushed}
-use Rattle.jp_iregexp.proofs.window.Window.cover.Goals as goal
+use Rattle.jp_iregexp.proofs.positions.PositionSet.cover.Goals as goal
 
 pub invariant_of-self-in-loop : goal.invariant_of-self-in-loop
 invariant_of-self-in-loop c = record {
