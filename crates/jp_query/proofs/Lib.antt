@@ -15,7 +15,6 @@ pub mod Statuses
 pub mod SoundNumbers
 -- Lemmas of the parser.
 mod Digits
-mod Exponents
 mod Faults
 mod Loop
 mod OneFilter

@@ -1,7 +1,6 @@
 -- What the contracts of queries speak of.
 pub mod Answers
 pub mod Integers
-pub mod Limits
 pub mod Outcome
 pub mod Places
 pub mod Refusals

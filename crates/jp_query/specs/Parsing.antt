@@ -1,10 +1,10 @@
 -- What the parser's functions give, beside the reader.
-use Rattle.std.specs.Prelude.{◌≡◌, ℕ, Bool, cond, Option, Some, None, Result, Ok, Err}
+use Rattle.std.specs.Prelude.{◌≡◌, ℕ, List, Bool, true, false, cond, Option, Some, None, Result, Ok, Err}
 use Rattle.jp_model.specs.Characters.{is_white, is_digit, is_lower}
 use Rattle.jp_model.specs.Query.Spelling.{is_name_first, is_name_scalar, is_function_scalar}
 use Rattle.jp_model.specs.Query.Syntax.{Selector, name_selector}
 use Rattle.jp_query.specs.Integers.{clamp}
-use Rattle.jp_query.specs.Reading.Scalars.{Reader, ◌>>=◌, choose, after, begins}
+use Rattle.jp_query.specs.Reading.Scalars.{Read, Reader, ◌>>=◌, choose, after, begins}
 use Rattle.jp_query.specs.Reading.Numbers.{is_int_first, is_positive_digit}
 use Rattle.jp_query.specs.Reading.Strings.{string_at}
 use Rattle.jp_query.specs.Reading.Queries.{Expression, slice_behind, index_or_slice}
@@ -24,6 +24,27 @@ Fails (failures.Syntax stop) read = read ≡ None
 abbrev pub Gives : {X Y : Type 0} → (X → Y) → Result X Failure → Option Y → Type 0
 Gives view (Ok x) read = read ≡ Some (view x)
 Gives view (Err e) read = Fails e read
+
+-- what a function returned, seen by view, is what the reader gives, and what it left is what is left, unless memory ran out
+abbrev pub Reads : {X Y : Type 0} → (X → Y) → Result X Failure → List ℕ → Read Y → Type 0
+Reads view (Ok x) left read = read ≡ Some (view x, left)
+Reads view (Err e) left read = Fails e read
+
+-- the same of what may stand there or not; where it does not, all of the scalars are left
+abbrev pub ReadsItem : {X Y : Type 0} → (X → Y) → Result (Option X) Failure → List ℕ → List ℕ → Option (Read Y) → Type 0
+ReadsItem view (Ok (Some x)) before left read = read ≡ Some (Some (view x, left))
+ReadsItem view (Ok None) before left read = (read ≡ Some None) × (left ≡ before)
+ReadsItem view (Err e) before left read = Fails e read
+
+-- scalars stand in front and are passed, or they do not and none is
+abbrev pub Takes : Bool → List ℕ → List ℕ → Option (List ℕ) → Type 0
+Takes true before left behind = behind ≡ Some left
+Takes false before left behind = (behind ≡ None) × (left ≡ before)
+
+-- what may stand in front was read, or it does not stand there and none of the scalars is passed
+abbrev pub TakesAs : {X Y : Type 0} → (X → Y) → Option X → List ℕ → List ℕ → Read Y → Type 0
+TakesAs view (Some x) before left read = read ≡ Some (view x, left)
+TakesAs view None before left read = (read ≡ None) × (left ≡ before)
 
 -- the scalars of a class
 abbrev pub is_member : Class → ℕ → Bool

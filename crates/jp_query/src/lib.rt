@@ -14,11 +14,8 @@
 mod expected;
 mod fault;
 pub mod laws;
-mod limit;
-mod limits;
 mod parser;
 mod reading;
-mod search;
 
 pub use expected::Expected;
 pub use fault::ParseFault;

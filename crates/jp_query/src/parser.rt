@@ -7,6 +7,7 @@ mod expression;
 mod failure;
 mod literals;
 mod logical;
+mod noted;
 mod numbers;
 mod parsed;
 mod places;
@@ -15,34 +16,33 @@ mod scalars;
 mod selectors;
 mod stops;
 mod strings;
-mod tokens;
 
-ghost use Rattle.std.specs.Prelude.{◌≡◌, true, IsFalse, IfOk, IfErr, chars};
+ghost use Rattle.std.specs.Prelude.{◌≡◌, true, IsFalse, IfOk, IfErr, chars, is_some};
 ghost use Rattle.jp_model.specs.Query.Limits.{is_oversized, has_exact_integers, has_small_exponents};
 ghost use Rattle.jp_model.specs.Query.Status.{TextSpells};
 ghost use Rattle.jp_model.specs.Query.Syntax.{Segments};
 ghost use Rattle.jp_query.specs.Answers.{GivesQuery, IsFirstFault, TellsRelativeStatus, TellsStatus};
 ghost use Rattle.jp_query.specs.Integers.{clamp};
-ghost use Rattle.jp_query.specs.Parsing.{Gives};
+ghost use Rattle.jp_query.specs.Parsing.{Gives, Takes};
 ghost use Rattle.jp_syntax.specs.Queries.{query_view};
 ghost use Rattle.jp_query.specs.Reading.Queries.{query_at, relative_at, whole_segments};
+ghost use Rattle.jp_query.specs.Reading.Scalars.{after, after_blanks, skip_blanks};
 ghost use Rattle.jp_query.specs.Outcome.{MeantBehind};
 ghost use Rattle.jp_query.specs.Status.{read_behind};
 ghost use Rattle.jp_syntax.specs.View.{origin_view, segments_view};
 
 use crate::expected::Expected;
 use crate::fault::ParseFault;
-use crate::limit::Limit;
-use crate::limits::segments_pass;
 pub use conditions::parse_condition;
 use failure::{Failure, Stop};
 use jp_model::QueryFault;
 use jp_syntax::{Origin, Query, Segment};
+use jp_types::{Limit, Walk};
+use noted::Noted;
 pub(crate) use places::place_of_relative_fault;
 pub use places::{
     FaultPlace, character_at, place_of_condition_fault, place_of_fault, place_of_function,
 };
-use queries::segments;
 use scalars::{after, skip_blanks};
 use std::alloc::{AllocError, Global};
 
@@ -75,37 +75,110 @@ fn to_scalars(alloc: Global, text: &str) -> Result<Vec<char>, AllocError>
     text.chars().collect(alloc)
 }
 
-/// The segments that are the whole of the scalars after an identifier (RFC 9535, section 2.1.1).
-fn whole_segments(alloc: Global, text: &[char]) -> Result<Vec<Segment>, Failure>
-    ensures { Gives (λ v. segments_view v.items) result (whole_segments clamp 512 text.now) }
-{
-    let (segments, rest) = segments(alloc, text, MAX_DEPTH)?;
-    if !rest.is_empty() {
-        return Err(Failure::Syntax(Stop::at(skip_blanks(rest), Expected::Segment)));
+/// A reader of a text from its front.
+#[derive(Drop)]
+pub(crate) struct Parser<'t> {
+    alloc: Global,
+    /// The scalars that are left.
+    rest: &'t [char],
+    noted: Noted,
+}
+
+impl<'t> Parser<'t> {
+    /// At the front of a text.
+    fn new(alloc: Global, text: &'t [char]) -> Parser<'t>
+        ensures { result.rest.now ≡ text.now }
+    {
+        let noted = Noted {
+            integer: None,
+            exponent: None,
+            functions: Vec::new(alloc),
+        };
+        Parser {
+            alloc,
+            rest: text,
+            noted,
+        }
     }
-    Ok(segments)
-}
 
-/// The segments of a query that is the whole of the scalars (RFC 9535, section 2.1.1).
-#[tactic(auto, unfolding(crate::specs::Reading::Queries::query_at))]
-fn query_segments(alloc: Global, text: &[char]) -> Result<Vec<Segment>, Failure>
-    ensures { Gives (λ v. segments_view v.items) result (query_at clamp 512 text.now) }
-{
-    let Some(rest) = after(text, '$') else {
-        return Err(Failure::Syntax(Stop::at(text, Expected::Root)));
-    };
-    whole_segments(alloc, rest)
-}
+    /// Passes blanks.
+    fn skip_blanks(&mut self)
+        ensures { self.new.rest.now ≡ skip_blanks self.old.rest.now }
+    {
+        self.rest = skip_blanks(self.rest);
+    }
 
-/// The segments of a rel-query that is the whole of the scalars (RFC 9535, section 2.3.5.1).
-#[tactic(auto, unfolding(crate::specs::Reading::Queries::relative_at))]
-fn relative_segments(alloc: Global, text: &[char]) -> Result<Vec<Segment>, Failure>
-    ensures { Gives (λ v. segments_view v.items) result (relative_at clamp 512 text.now) }
-{
-    let Some(rest) = after(text, '@') else {
-        return Err(Failure::Syntax(Stop::at(text, Expected::Current)));
-    };
-    whole_segments(alloc, rest)
+    /// Passes a scalar, if it is at the front.
+    fn takes(&mut self, wanted: char) -> bool
+        ensures { Takes result self.old.rest.now self.new.rest.now (after wanted self.old.rest.now) }
+    {
+        let Some(rest) = after(self.rest, wanted) else {
+            return false;
+        };
+        self.rest = rest;
+        true
+    }
+
+    /// Passes blanks and a scalar, if the scalar stands behind them.
+    fn takes_next(&mut self, wanted: char) -> bool
+        ensures { Takes result self.old.rest.now self.new.rest.now (after_blanks wanted self.old.rest.now) }
+    {
+        let Some(rest) = after(skip_blanks(self.rest), wanted) else {
+            return false;
+        };
+        self.rest = rest;
+        true
+    }
+
+    /// Whether blanks and a scalar are at the front.
+    fn is_next(&self, wanted: char) -> bool
+        ensures { result ≡ is_some (after_blanks wanted self.now.rest.now) }
+    {
+        after(skip_blanks(self.rest), wanted).is_some()
+    }
+
+    /// Where the text cannot go on as it does: here.
+    fn stop(&self, expected: Expected) -> Stop {
+        Stop::at(self.rest, expected)
+    }
+
+    /// Where the text cannot go on as it does: behind blanks.
+    fn next_stop(&self, expected: Expected) -> Stop {
+        Stop::at(skip_blanks(self.rest), expected)
+    }
+
+    /// The segments that are the whole of what is left, after an identifier (RFC 9535, section 2.1.1).
+    fn whole_segments(&mut self) -> Result<Vec<Segment>, Failure>
+        ensures { Gives (λ v. segments_view v.items) result (whole_segments clamp 512 self.old.rest.now) }
+    {
+        let segments = self.segments(MAX_DEPTH)?;
+        if !self.rest.is_empty() {
+            return Err(Failure::Syntax(self.next_stop(Expected::Segment)));
+        }
+        Ok(segments)
+    }
+
+    /// The segments of a query that is the whole of what is left (RFC 9535, section 2.1.1).
+    #[tactic(auto, unfolding(crate::specs::Reading::Queries::query_at))]
+    fn query_segments(&mut self) -> Result<Vec<Segment>, Failure>
+        ensures { Gives (λ v. segments_view v.items) result (query_at clamp 512 self.old.rest.now) }
+    {
+        if !self.takes('$') {
+            return Err(Failure::Syntax(self.stop(Expected::Root)));
+        }
+        self.whole_segments()
+    }
+
+    /// The segments of a rel-query that is the whole of what is left (RFC 9535, section 2.3.5.1).
+    #[tactic(auto, unfolding(crate::specs::Reading::Queries::relative_at))]
+    fn relative_segments(&mut self) -> Result<Vec<Segment>, Failure>
+        ensures { Gives (λ v. segments_view v.items) result (relative_at clamp 512 self.old.rest.now) }
+    {
+        if !self.takes('@') {
+            return Err(Failure::Syntax(self.stop(Expected::Current)));
+        }
+        self.whole_segments()
+    }
 }
 
 /// The segments of the query or rel-query that a text spells, each integer of a selector brought to one step outside the exact
@@ -117,9 +190,10 @@ fn read(alloc: Global, text: &[u8], origin: Origin) -> Result<Vec<Segment>, Fail
         return Err(Failure::Syntax(Stop::at_end(Expected::Utf8)));
     };
     let scalars = to_scalars(alloc, text)?;
+    let mut parser = Parser::new(alloc, &scalars);
     match origin {
-        Origin::Root => query_segments(alloc, scalars.as_slice()),
-        Origin::Current => relative_segments(alloc, scalars.as_slice()),
+        Origin::Root => parser.query_segments(),
+        Origin::Current => parser.relative_segments(),
     }
 }
 
@@ -135,10 +209,10 @@ fn answer(alloc: Global, text: &[u8], origin: Origin) -> Result<Query, ParseFaul
         Err(Failure::Syntax(_)) => return Err(ParseFault::Refused(QueryFault::Syntax)),
         Err(Failure::Memory) => return Err(ParseFault::Memory),
     };
-    if !segments_pass(segments.as_slice(), Limit::Integers) {
+    if !Walk::new().segments_pass(&segments, Limit::Integers) {
         return Err(ParseFault::Refused(QueryFault::Integer));
     }
-    if !segments_pass(segments.as_slice(), Limit::Exponents) {
+    if !Walk::new().segments_pass(&segments, Limit::Exponents) {
         return Err(ParseFault::Refused(QueryFault::Number));
     }
     Ok(Query::new(segments))

@@ -14,10 +14,9 @@ use crate::parser::{
     FaultPlace, parse, parse_condition, parse_relative, place_of_condition_fault, place_of_fault,
     place_of_function, place_of_relative_fault,
 };
-use crate::search::Search;
 use jp_model::QueryFault;
-use jp_syntax::Segment;
-use jp_types::{Checked, CheckedCondition, check, check_condition};
+use jp_syntax::{Logical, Segment};
+use jp_types::{Checked, CheckedCondition, Limit, Walk, check, check_condition};
 use std::alloc::{AllocError, Global};
 
 /// Why a text was not read.
@@ -37,17 +36,17 @@ impl From<AllocError> for Refusal {
     }
 }
 
-/// The place of a fault of functions or types: the name of the function where the search stopped.
+/// The place of a fault of functions or types: the name of the function where a walk stopped.
 fn place_of_call(
     alloc: Global,
     text: &[u8],
     fault: QueryFault,
-    search: &Search,
+    walk: &Walk,
 ) -> Result<FaultPlace, AllocError>
     ensures fault { IfOk result (λ found. found.fault ≡ fault) }
     ensures place { IfOk result (λ found. IsPlace text.now found.place) }
 {
-    let place = place_of_function(alloc, text, search.passed())?;
+    let place = place_of_function(alloc, text, walk.passed())?;
     Ok(FaultPlace {
         fault,
         place,
@@ -65,9 +64,32 @@ fn place_in_segments(
     ensures fault { IfOk result (λ found. found.fault ≡ fault) }
     ensures place { IfOk result (λ found. IsPlace text.now found.place) }
 {
-    let mut search = Search::new(fault == QueryFault::Function);
-    search.finds_in_segments(segments);
-    place_of_call(alloc, text, fault, &search)
+    let mut walk = Walk::new();
+    if fault == QueryFault::Function {
+        walk.segments_pass(segments, Limit::Functions);
+    } else {
+        walk.segments_typed(segments);
+    }
+    place_of_call(alloc, text, fault, &walk)
+}
+
+/// The place of a fault of functions or types in the condition that a text spells.
+fn place_in_condition(
+    alloc: Global,
+    text: &[u8],
+    fault: QueryFault,
+    expression: &Logical,
+) -> Result<FaultPlace, AllocError>
+    ensures fault { IfOk result (λ found. found.fault ≡ fault) }
+    ensures place { IfOk result (λ found. IsPlace text.now found.place) }
+{
+    let mut walk = Walk::new();
+    if fault == QueryFault::Function {
+        walk.logical_passes(expression, Limit::Functions);
+    } else {
+        walk.logical_typed(expression);
+    }
+    place_of_call(alloc, text, fault, &walk)
 }
 
 /// The query that a text spells, where it is well-typed (RFC 9535, sections 2.1 and 2.4.3).
@@ -145,10 +167,11 @@ pub fn read_condition(alloc: Global, text: &[u8]) -> Result<CheckedCondition, Re
     };
     match check_condition(condition) {
         Ok(checked) => Ok(checked),
-        Err((fault, condition)) => {
-            let mut search = Search::new(fault == QueryFault::Function);
-            search.finds_in_condition(condition.expression());
-            Err(Refusal::Fault(place_of_call(alloc, text, fault, &search)?))
-        }
+        Err((fault, condition)) => Err(Refusal::Fault(place_in_condition(
+            alloc,
+            text,
+            fault,
+            condition.expression(),
+        )?)),
     }
 }

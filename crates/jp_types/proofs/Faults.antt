@@ -9,7 +9,8 @@ use Rattle.jp_model.specs.Query.Syntax.{Logical, Segments}
 use Rattle.jp_model.specs.Query.Typing.{logical_typed, segments_typed}
 use Rattle.jp_syntax.specs.Filters.{filter_by}
 use Rattle.jp_syntax.specs.WellFormed.{IsWellFormed}
-use Rattle.jp_types.specs.Checks.{names}
+use Rattle.jp_types.specs.Limits.{limit_tests}
+use Rattle.jp_types.specs.declared.limits.Limit.TheVariants as limits
 
 -- it is exact, and its exponents are small
 pub exact : (q : Segments) → ∥ IsWellFormed q ∥₁ → has_exact_integers q ≡ true
@@ -32,6 +33,6 @@ pub filter_typed : (l : Logical) (b : Bool) → logical_typed l ≡ b → segmen
 filter_typed l true e = rw e refl
 filter_typed l false e = rw e refl
 
-pub filter_known : (l : Logical) (b : Bool) → logical_passes l names ≡ b → knows_functions (filter_by l) ≡ b
+pub filter_known : (l : Logical) (b : Bool) → logical_passes l (limit_tests limits.Functions) ≡ b → knows_functions (filter_by l) ≡ b
 filter_known l true e = rw e refl
 filter_known l false e = rw e refl

@@ -1,6 +1,6 @@
 -- The types of the functions, as the program has them.
-use Rattle.std.specs.Prelude.{map, Bool, true}
-use Rattle.jp_model.specs.Query.Syntax.{Argument, constant_argument, nodes_argument, condition, result_argument}
+use Rattle.std.specs.Prelude.{map, List, [], ◌∷◌, Bool, true, false, ◌&&◌}
+use Rattle.jp_model.specs.Query.Syntax.{Argument, constant_argument, nodes_argument, condition, result_argument, Arguments, no_arguments, argument}
 use Rattle.jp_model.specs.Query.Typing as typing
 use Rattle.jp_model.specs.Query.Typing.{value_kind, nodes_kind, logical_kind, is_kind, is_singular_path}
 use Rattle.jp_types.specs.declared.signature.Kind.{Kind}
@@ -25,3 +25,10 @@ fits (nodes_argument p) nodes_kind = true
 fits (nodes_argument p) logical_kind = true
 fits (condition l) kind = is_kind logical_kind kind
 fits (result_argument c) kind = true
+
+-- each argument may stand for its parameter, and there are as many (section 2.4.3)
+abbrev pub all_fit : Arguments → List typing.Kind → Bool
+all_fit no_arguments [] = true
+all_fit (argument a args) (kind ∷ kinds) = fits a kind && all_fit args kinds
+all_fit no_arguments (kind ∷ kinds) = false
+all_fit (argument a args) [] = false

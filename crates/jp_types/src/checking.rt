@@ -9,8 +9,8 @@ ghost use Rattle.jp_types.specs.Checks.{checked_view};
 
 use crate::checked::Checked;
 use crate::condition::CheckedCondition;
-use crate::names::{logical_known, segments_known};
-use crate::typing::{logical_typed, segments_typed};
+use crate::limits::Limit;
+use crate::walk::Walk;
 use jp_model::QueryFault;
 use jp_syntax::{Condition, Query};
 
@@ -25,10 +25,10 @@ pub fn check(query: Query) -> Result<Checked, (QueryFault, Query)>
     ensures fault { MatchResult result (λ c. fault_of_query (query_view query) ≡ None) (λ e. fault_of_query (query_view query) ≡ Some e.0) }
 {
     // A well-typed query names no other function.
-    if segments_typed(query.segments()) {
+    if Walk::new().segments_typed(query.segments()) {
         return Ok(Checked::new(query));
     }
-    if segments_known(query.segments()) {
+    if Walk::new().segments_pass(query.segments(), Limit::Functions) {
         return Err((QueryFault::Types, query));
     }
     Err((QueryFault::Function, query))
@@ -43,10 +43,10 @@ pub fn check_condition(condition: Condition) -> Result<CheckedCondition, (QueryF
     ensures same { MatchResult result (λ c. checked_condition_view c ≡ condition_view condition) (λ e. e.1 ≡ condition) }
     ensures fault { MatchResult result (λ c. fault_of_query (filter_by (condition_view condition)) ≡ None) (λ e. fault_of_query (filter_by (condition_view condition)) ≡ Some e.0) }
 {
-    if logical_typed(condition.expression()) {
+    if Walk::new().logical_typed(condition.expression()) {
         return Ok(CheckedCondition::new(condition));
     }
-    if logical_known(condition.expression()) {
+    if Walk::new().logical_passes(condition.expression(), Limit::Functions) {
         return Err((QueryFault::Types, condition));
     }
     Err((QueryFault::Function, condition))

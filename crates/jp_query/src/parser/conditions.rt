@@ -15,10 +15,9 @@ ghost use Rattle.jp_syntax.specs.View.{logical_view, segments_view, selectors_vi
 use super::failure::Failure;
 use super::{is_oversized, read};
 use crate::fault::ParseFault;
-use crate::limit::Limit;
-use crate::limits::logical_passes;
 use jp_model::QueryFault;
 use jp_syntax::{Condition, Logical, Origin, Segment, Selector};
+use jp_types::{Limit, Walk};
 use std::alloc::{AllocError, Global};
 
 /// The text of the query in whose only filter a text stands.
@@ -71,10 +70,10 @@ fn limited(_whole: &[u8], segments: Vec<Segment>) -> Result<Condition, ParseFaul
     let Some(expression) = only_filter(segments) else {
         return Err(ParseFault::Refused(QueryFault::Syntax));
     };
-    if !logical_passes(&expression, Limit::Integers) {
+    if !Walk::new().logical_passes(&expression, Limit::Integers) {
         return Err(ParseFault::Refused(QueryFault::Integer));
     }
-    if !logical_passes(&expression, Limit::Exponents) {
+    if !Walk::new().logical_passes(&expression, Limit::Exponents) {
         return Err(ParseFault::Refused(QueryFault::Number));
     }
     Ok(Condition::new(expression))

@@ -1,313 +1,288 @@
 //! Logical expressions: comparisons, tests, and what joins them (RFC 9535, section 2.3.5.1).
 //!
-//! Each function reads from the front of a text and gives what is left. `depth` is how deep brackets and parentheses may
-//! still nest.
+//! `depth` is how deep brackets and parentheses may still nest.
 
-ghost use Rattle.std.specs.Prelude.{option_map, map};
+ghost use Rattle.std.specs.Prelude.{IfOk, map};
 ghost use Rattle.jp_query.specs.Integers.{clamp};
-ghost use Rattle.jp_query.specs.Parsing.{Gives, parsed_view};
+ghost use Rattle.jp_query.specs.Parsing.{Reads, ReadsItem, TakesAs, parsed_view};
+ghost use Rattle.jp_query.specs.Reading.Literals.{operator_at, origin_at};
 ghost use Rattle.jp_query.specs.Reading.Queries.{closed_at, comparison_behind, query_behind, call_or_comparison, literal_comparison, test_at, negated_at, plain_at, basic_at, next_basic, and_at, next_and, logical_at};
-ghost use Rattle.jp_query.specs.Reading.Scalars.{all_of};
+ghost use Rattle.jp_query.specs.Reading.Scalars.{all_of, call_start, skip_blanks};
 ghost use Rattle.jp_syntax.specs.View.{logical_view, comparable_view, op_view, origin_view};
 
-use super::calls::{call, comparable};
+use super::Parser;
 use super::expression::{Connective, exists_of, joined, not_of, side_of, single_of, test_of};
-use super::failure::{Failure, Stop};
-use super::literals::{literal, operator, origin};
+use super::failure::Failure;
+use super::literals::{operator, origin};
 use super::parsed::Parsed;
-use super::queries::segments;
-use super::scalars::{after, after_blanks, call_start, skip_blanks};
-use super::selectors::singular;
-use super::stops::{at_operator, at_word, behind_condition};
+use super::scalars::{call_start, skip_blanks};
+use super::stops::{at_operator, at_word};
 use crate::expected::Expected;
 use jp_syntax::{Comparable, CompareOp, Logical, Origin};
-use std::alloc::Global;
+use std::alloc::AllocError;
 
-/// An expression and a parenthesis after it, after the first parenthesis (RFC 9535, section 2.3.5.1).
-#[cycle(query)]
-#[tactic(auto, unfolding(crate::specs::Reading::Queries::closed_at))]
-fn closed(alloc: Global, text: &[char], depth: u32) -> Result<(Logical, &[char]), Failure>
-    ensures { Gives (λ x. (logical_view x.0, x.1.now)) result (closed_at clamp (logical_at clamp depth) text.now) }
-{
-    let (inner, rest) = logical(alloc, skip_blanks(text), depth)?;
-    match after_blanks(rest, ')') {
-        Some(rest) => Ok((inner.logical, rest)),
-        None => Err(Failure::Syntax(behind_condition(
-            alloc,
-            &inner.logical,
-            skip_blanks(rest),
-            Expected::ComparisonOrParenthesis,
-            Expected::Parenthesis,
-        ))),
+impl<'t> Parser<'t> {
+    /// Passes the mark with which a query begins, if one is at the front.
+    pub(super) fn takes_origin(&mut self) -> Option<Origin>
+        ensures { TakesAs (λ o. origin_view o) result self.old.rest.now self.new.rest.now (origin_at self.old.rest.now) }
+    {
+        let (origin, rest) = origin(self.rest)?;
+        self.rest = rest;
+        Some(origin)
     }
-}
 
-/// A comparison after its first side and its operator (RFC 9535, section 2.3.5.1).
-#[cycle(query)]
-#[tactic(auto, unfolding(crate::specs::Reading::Queries::comparison_behind))]
-fn comparison(
-    left: Comparable,
-    op: CompareOp,
-    alloc: Global,
-    text: &[char],
-    depth: u32,
-) -> Result<(Parsed, &[char]), Failure>
-    ensures { Gives (λ x. (parsed_view x.0, x.1.now)) result (comparison_behind clamp (logical_at clamp depth) (comparable_view left) (op_view op) text.now) }
-{
-    let (right, rest) = comparable(alloc, skip_blanks(text), depth)?;
-    Ok((
-        Parsed {
+    /// Passes blanks and an operator of a comparison, if an operator stands behind them.
+    fn takes_operator(&mut self) -> Option<CompareOp>
+        ensures { TakesAs (λ op. op_view op) result self.old.rest.now self.new.rest.now (operator_at (skip_blanks self.old.rest.now)) }
+    {
+        let (operator, rest) = operator(skip_blanks(self.rest))?;
+        self.rest = rest;
+        Some(operator)
+    }
+
+    /// Passes the name of a function and the parenthesis after it, if a call is at the front, and gives the name.
+    pub(super) fn takes_call(&mut self) -> Result<Option<&'t [char]>, AllocError>
+        ensures { IfOk result (λ found. TakesAs (λ name. name.now) found self.old.rest.now self.new.rest.now (call_start self.old.rest.now)) }
+    {
+        let left = self.rest.len();
+        let Some((name, rest)) = call_start(self.rest) else {
+            return Ok(None);
+        };
+        self.noted.functions.push(left)?;
+        self.rest = rest;
+        Ok(Some(name))
+    }
+
+    /// An expression and a parenthesis after it, after the first parenthesis (RFC 9535, section 2.3.5.1).
+    #[cycle(query)]
+    #[tactic(auto, unfolding(crate::specs::Reading::Queries::closed_at))]
+    fn closed(&mut self, depth: u32) -> Result<Logical, Failure>
+        ensures { Reads (λ l. logical_view l) result self.new.rest.now (closed_at clamp (logical_at clamp depth) self.old.rest.now) }
+    {
+        self.skip_blanks();
+        let inner = self.logical(depth)?.logical;
+        if !self.takes_next(')') {
+            return Err(Failure::Syntax(self.stop_behind_condition(
+                &inner,
+                Expected::ComparisonOrParenthesis,
+                Expected::Parenthesis,
+            )));
+        }
+        Ok(inner)
+    }
+
+    /// A comparison after its first side and its operator (RFC 9535, section 2.3.5.1).
+    #[cycle(query)]
+    #[tactic(auto, unfolding(crate::specs::Reading::Queries::comparison_behind))]
+    fn comparison(&mut self, left: Comparable, op: CompareOp, depth: u32) -> Result<Parsed, Failure>
+        ensures { Reads (λ e. parsed_view e) result self.new.rest.now (comparison_behind clamp (logical_at clamp depth) (comparable_view left) (op_view op) self.old.rest.now) }
+    {
+        self.skip_blanks();
+        let right = self.comparable(depth)?;
+        Ok(Parsed {
             is_bare: false,
             logical: Logical::Compare { left, op, right },
-        },
-        rest,
-    ))
-}
-
-/// A comparison whose first side is a query, or a test of a query, after its mark.
-#[cycle(query)]
-#[tactic(auto, unfolding(crate::specs::Reading::Queries::query_behind))]
-fn query_or_comparison(
-    origin: Origin,
-    alloc: Global,
-    text: &[char],
-    depth: u32,
-) -> Result<(Parsed, &[char]), Failure>
-    ensures { Gives (λ x. (parsed_view x.0, x.1.now)) result (query_behind clamp (logical_at clamp depth) (origin_view origin) text.now) }
-{
-    let (steps, rest) = singular(alloc, text)?;
-    if let Some((op, rest)) = operator(skip_blanks(rest)) {
-        return comparison(single_of(origin, steps), op, alloc, rest, depth);
+        })
     }
-    let (segments, rest) = segments(alloc, text, depth)?;
-    let logical = exists_of(origin, segments);
-    Ok((
-        Parsed {
+
+    /// A comparison whose first side is a query, or a test of a query, after its mark.
+    #[cycle(query)]
+    #[tactic(auto, unfolding(crate::specs::Reading::Queries::query_behind))]
+    fn query_or_comparison(&mut self, origin: Origin, depth: u32) -> Result<Parsed, Failure>
+        ensures { Reads (λ e. parsed_view e) result self.new.rest.now (query_behind clamp (logical_at clamp depth) (origin_view origin) self.old.rest.now) }
+    {
+        let before = self.rest;
+        let steps = self.singular()?;
+        if let Some(op) = self.takes_operator() {
+            return self.comparison(single_of(origin, steps), op, depth);
+        }
+        self.rest = before;
+        let segments = self.segments(depth)?;
+        Ok(Parsed {
             is_bare: true,
-            logical,
-        },
-        rest,
-    ))
-}
-
-/// A comparison whose first side is a call, or a test of a call, after its name and its parenthesis.
-#[cycle(query)]
-#[tactic(auto, unfolding(crate::specs::Reading::Queries::call_or_comparison))]
-fn call_or_comparison<'a>(
-    alloc: Global,
-    name: &[char],
-    text: &'a [char],
-    depth: u32,
-) -> Result<(Parsed, &'a [char]), Failure>
-    ensures { Gives (λ x. (parsed_view x.0, x.1.now)) result (call_or_comparison clamp (logical_at clamp depth) name.now text.now) }
-{
-    let (call, rest) = call(alloc, name, text, depth)?;
-    if let Some((op, rest)) = operator(skip_blanks(rest)) {
-        return comparison(side_of(call), op, alloc, rest, depth);
+            logical: exists_of(origin, segments),
+        })
     }
-    Ok((
-        Parsed {
+
+    /// A comparison whose first side is a call, or a test of a call, after its name and its parenthesis.
+    #[cycle(query)]
+    #[tactic(auto, unfolding(crate::specs::Reading::Queries::call_or_comparison))]
+    fn call_or_comparison(&mut self, name: &[char], depth: u32) -> Result<Parsed, Failure>
+        ensures { Reads (λ e. parsed_view e) result self.new.rest.now (call_or_comparison clamp (logical_at clamp depth) name.now self.old.rest.now) }
+    {
+        let call = self.call(name, depth)?;
+        if let Some(op) = self.takes_operator() {
+            return self.comparison(side_of(call), op, depth);
+        }
+        Ok(Parsed {
             is_bare: true,
             logical: test_of(call),
-        },
-        rest,
-    ))
-}
-
-/// A comparison whose first side is a literal.
-#[cycle(query)]
-#[tactic(auto, unfolding(crate::specs::Reading::Queries::literal_comparison))]
-fn literal_comparison(
-    alloc: Global,
-    text: &[char],
-    depth: u32,
-) -> Result<(Parsed, &[char]), Failure>
-    ensures { Gives (λ x. (parsed_view x.0, x.1.now)) result (literal_comparison clamp (logical_at clamp depth) text.now) }
-{
-    let (value, rest) = literal(alloc, text)?;
-    let Some((op, rest)) = operator(skip_blanks(rest)) else {
-        return Err(Failure::Syntax(at_operator(skip_blanks(rest), Expected::Comparison)));
-    };
-    comparison(Comparable::Constant(value), op, alloc, rest, depth)
-}
-
-/// A query or a call alone (RFC 9535, section 2.3.5.1).
-#[cycle(query)]
-#[tactic(auto, unfolding(crate::specs::Reading::Queries::test_at))]
-fn test(alloc: Global, text: &[char], depth: u32) -> Result<(Logical, &[char]), Failure>
-    ensures { Gives (λ x. (logical_view x.0, x.1.now)) result (test_at clamp (logical_at clamp depth) text.now) }
-{
-    if let Some((origin, rest)) = origin(text) {
-        let (segments, rest) = segments(alloc, rest, depth)?;
-        return Ok((exists_of(origin, segments), rest));
+        })
     }
-    let Some((name, rest)) = call_start(text) else {
-        return Err(Failure::Syntax(at_word(text, Expected::Test)));
-    };
-    let (call, rest) = call(alloc, name, rest, depth)?;
-    Ok((test_of(call), rest))
-}
 
-/// What follows `!`: a parenthesis, a query or a call, and no comparison.
-#[cycle(query)]
-#[tactic(auto, unfolding(crate::specs::Reading::Queries::negated_at))]
-fn negated(alloc: Global, text: &[char], depth: u32) -> Result<(Parsed, &[char]), Failure>
-    ensures { Gives (λ x. (parsed_view x.0, x.1.now)) result (negated_at clamp (logical_at clamp depth) text.now) }
-{
-    let (inner, rest) = match after(text, '(') {
-        Some(rest) => closed(alloc, rest, depth)?,
-        None => test(alloc, text, depth)?,
-    };
-    let logical = not_of(alloc, inner)?;
-    Ok((
-        Parsed {
+    /// A comparison whose first side is a literal.
+    #[cycle(query)]
+    #[tactic(auto, unfolding(crate::specs::Reading::Queries::literal_comparison))]
+    fn literal_comparison(&mut self, depth: u32) -> Result<Parsed, Failure>
+        ensures { Reads (λ e. parsed_view e) result self.new.rest.now (literal_comparison clamp (logical_at clamp depth) self.old.rest.now) }
+    {
+        let value = self.literal()?;
+        let Some(op) = self.takes_operator() else {
+            return Err(Failure::Syntax(at_operator(skip_blanks(self.rest), Expected::Comparison)));
+        };
+        self.comparison(Comparable::Constant(value), op, depth)
+    }
+
+    /// A query or a call alone (RFC 9535, section 2.3.5.1).
+    #[cycle(query)]
+    #[tactic(auto, unfolding(crate::specs::Reading::Queries::test_at))]
+    fn test(&mut self, depth: u32) -> Result<Logical, Failure>
+        ensures { Reads (λ l. logical_view l) result self.new.rest.now (test_at clamp (logical_at clamp depth) self.old.rest.now) }
+    {
+        if let Some(origin) = self.takes_origin() {
+            return Ok(exists_of(origin, self.segments(depth)?));
+        }
+        let Some(name) = self.takes_call()? else {
+            return Err(Failure::Syntax(at_word(self.rest, Expected::Test)));
+        };
+        Ok(test_of(self.call(name, depth)?))
+    }
+
+    /// What follows `!`: a parenthesis, a query or a call, and no comparison.
+    #[cycle(query)]
+    #[tactic(auto, unfolding(crate::specs::Reading::Queries::negated_at))]
+    fn negated(&mut self, depth: u32) -> Result<Parsed, Failure>
+        ensures { Reads (λ e. parsed_view e) result self.new.rest.now (negated_at clamp (logical_at clamp depth) self.old.rest.now) }
+    {
+        let inner = if self.takes('(') {
+            self.closed(depth)?
+        } else {
+            self.test(depth)?
+        };
+        Ok(Parsed {
             is_bare: false,
-            logical,
-        },
-        rest,
-    ))
-}
+            logical: not_of(self.alloc, inner)?,
+        })
+    }
 
-/// A basic expression without `!` (RFC 9535, section 2.3.5.1).
-#[cycle(query)]
-#[tactic(auto, unfolding(crate::specs::Reading::Queries::plain_at))]
-fn plain(alloc: Global, text: &[char], depth: u32) -> Result<(Parsed, &[char]), Failure>
-    ensures { Gives (λ x. (parsed_view x.0, x.1.now)) result (plain_at clamp (logical_at clamp depth) text.now) }
-{
-    if let Some(rest) = after(text, '(') {
-        let (logical, rest) = closed(alloc, rest, depth)?;
-        return Ok((
-            Parsed {
+    /// A basic expression without `!` (RFC 9535, section 2.3.5.1).
+    #[cycle(query)]
+    #[tactic(auto, unfolding(crate::specs::Reading::Queries::plain_at))]
+    fn plain(&mut self, depth: u32) -> Result<Parsed, Failure>
+        ensures { Reads (λ e. parsed_view e) result self.new.rest.now (plain_at clamp (logical_at clamp depth) self.old.rest.now) }
+    {
+        if self.takes('(') {
+            return Ok(Parsed {
                 is_bare: false,
-                logical,
-            },
-            rest,
-        ));
+                logical: self.closed(depth)?,
+            });
+        }
+        if let Some(origin) = self.takes_origin() {
+            return self.query_or_comparison(origin, depth);
+        }
+        match self.takes_call()? {
+            Some(name) => self.call_or_comparison(name, depth),
+            None => self.literal_comparison(depth),
+        }
     }
-    if let Some((origin, rest)) = origin(text) {
-        return query_or_comparison(origin, alloc, rest, depth);
+
+    /// A basic expression (RFC 9535, section 2.3.5.1).
+    #[cycle(query)]
+    #[tactic(auto, unfolding(crate::specs::Reading::Queries::basic_at))]
+    fn basic(&mut self, depth: u32) -> Result<Parsed, Failure>
+        ensures { Reads (λ e. parsed_view e) result self.new.rest.now (basic_at clamp (logical_at clamp depth) self.old.rest.now) }
+    {
+        if self.takes('!') {
+            self.skip_blanks();
+            return self.negated(depth);
+        }
+        self.plain(depth)
     }
-    match call_start(text) {
-        Some((name, rest)) => call_or_comparison(alloc, name, rest, depth),
-        None => literal_comparison(alloc, text, depth),
+
+    /// Blanks, `&&`, blanks and a basic expression, if there is a `&`.
+    #[cycle(query)]
+    #[tactic(auto, unfolding(crate::specs::Reading::Queries::next_basic))]
+    fn next_basic(&mut self, depth: u32) -> Result<Option<Logical>, Failure>
+        ensures { ReadsItem (λ l. logical_view l) result self.old.rest.now self.new.rest.now (next_basic clamp (logical_at clamp depth) self.old.rest.now) }
+    {
+        if !self.takes_next('&') {
+            return Ok(None);
+        }
+        if !self.takes('&') {
+            return Err(Failure::Syntax(self.stop(Expected::And)));
+        }
+        self.skip_blanks();
+        Ok(Some(self.basic(depth)?.logical))
     }
-}
 
-/// A basic expression (RFC 9535, section 2.3.5.1).
-#[cycle(query)]
-#[tactic(auto, unfolding(crate::specs::Reading::Queries::basic_at))]
-fn basic(alloc: Global, text: &[char], depth: u32) -> Result<(Parsed, &[char]), Failure>
-    ensures { Gives (λ x. (parsed_view x.0, x.1.now)) result (basic_at clamp (logical_at clamp depth) text.now) }
-{
-    match after(text, '!') {
-        Some(rest) => negated(alloc, skip_blanks(rest), depth),
-        None => plain(alloc, text, depth),
+    /// The parts after the first `&&`.
+    #[cycle(query)]
+    fn more_basics(&mut self, depth: u32) -> Result<Vec<Logical>, Failure>
+        ensures { Reads (λ v. map logical_view v.items) result self.new.rest.now (all_of (next_basic clamp (logical_at clamp depth)) self.old.rest.now) }
+    {
+        let mut all = Vec::new(self.alloc);
+        for _ in 0..self.rest.len() {
+            let Some(one) = self.next_basic(depth)? else {
+                break;
+            };
+            all.push(one)?;
+        }
+        Ok(all)
     }
-}
 
-/// Blanks, `&&`, blanks and a basic expression, if there is a `&`.
-#[cycle(query)]
-#[tactic(auto, unfolding(crate::specs::Reading::Queries::next_basic))]
-fn next_basic(
-    alloc: Global,
-    text: &[char],
-    depth: u32,
-) -> Result<Option<(Logical, &[char])>, Failure>
-    ensures { Gives (option_map (λ x. (logical_view x.0, x.1.now))) result (next_basic clamp (logical_at clamp depth) text.now) }
-{
-    let Some(rest) = after_blanks(text, '&') else {
-        return Ok(None);
-    };
-    let Some(rest) = after(rest, '&') else {
-        return Err(Failure::Syntax(Stop::at(rest, Expected::And)));
-    };
-    let (part, rest) = basic(alloc, skip_blanks(rest), depth)?;
-    Ok(Some((part.logical, rest)))
-}
-
-/// The parts after the first `&&`.
-#[cycle(query)]
-fn more_basics(alloc: Global, text: &[char], depth: u32) -> Result<(Vec<Logical>, &[char]), Failure>
-    ensures { Gives (λ x. (map logical_view x.0.items, x.1.now)) result (all_of (next_basic clamp (logical_at clamp depth)) text.now) }
-{
-    let mut all = Vec::new(alloc);
-    let mut rest = text;
-    for _ in 0..text.len() {
-        let Some((one, others)) = next_basic(alloc, rest, depth)? else {
-            break;
-        };
-        all.push(one)?;
-        rest = others;
+    /// Parts between `&&` (RFC 9535, section 2.3.5.1).
+    #[cycle(query)]
+    #[tactic(auto, unfolding(crate::specs::Reading::Queries::and_at))]
+    fn conjunction(&mut self, depth: u32) -> Result<Parsed, Failure>
+        ensures { Reads (λ e. parsed_view e) result self.new.rest.now (and_at clamp (logical_at clamp depth) self.old.rest.now) }
+    {
+        let first = self.basic(depth)?;
+        let others = self.more_basics(depth)?;
+        Ok(joined(Connective::And, first, others)?)
     }
-    Ok((all, rest))
-}
 
-/// Parts between `&&` (RFC 9535, section 2.3.5.1).
-#[cycle(query)]
-#[tactic(auto, unfolding(crate::specs::Reading::Queries::and_at))]
-fn conjunction(alloc: Global, text: &[char], depth: u32) -> Result<(Parsed, &[char]), Failure>
-    ensures { Gives (λ x. (parsed_view x.0, x.1.now)) result (and_at clamp (logical_at clamp depth) text.now) }
-{
-    let (first, rest) = basic(alloc, text, depth)?;
-    let (others, rest) = more_basics(alloc, rest, depth)?;
-    Ok((joined(Connective::And, first, others)?, rest))
-}
-
-/// Blanks, `||`, blanks and parts between `&&`, if there is a `|`.
-#[cycle(query)]
-#[tactic(auto, unfolding(crate::specs::Reading::Queries::next_and))]
-fn next_conjunction(
-    alloc: Global,
-    text: &[char],
-    depth: u32,
-) -> Result<Option<(Logical, &[char])>, Failure>
-    ensures { Gives (option_map (λ x. (logical_view x.0, x.1.now))) result (next_and clamp (logical_at clamp depth) text.now) }
-{
-    let Some(rest) = after_blanks(text, '|') else {
-        return Ok(None);
-    };
-    let Some(rest) = after(rest, '|') else {
-        return Err(Failure::Syntax(Stop::at(rest, Expected::Or)));
-    };
-    let (part, rest) = conjunction(alloc, skip_blanks(rest), depth)?;
-    Ok(Some((part.logical, rest)))
-}
-
-/// The parts after the first `||`.
-#[cycle(query)]
-fn more_conjunctions(
-    alloc: Global,
-    text: &[char],
-    depth: u32,
-) -> Result<(Vec<Logical>, &[char]), Failure>
-    ensures { Gives (λ x. (map logical_view x.0.items, x.1.now)) result (all_of (next_and clamp (logical_at clamp depth)) text.now) }
-{
-    let mut all = Vec::new(alloc);
-    let mut rest = text;
-    for _ in 0..text.len() {
-        let Some((one, others)) = next_conjunction(alloc, rest, depth)? else {
-            break;
-        };
-        all.push(one)?;
-        rest = others;
+    /// Blanks, `||`, blanks and parts between `&&`, if there is a `|`.
+    #[cycle(query)]
+    #[tactic(auto, unfolding(crate::specs::Reading::Queries::next_and))]
+    fn next_conjunction(&mut self, depth: u32) -> Result<Option<Logical>, Failure>
+        ensures { ReadsItem (λ l. logical_view l) result self.old.rest.now self.new.rest.now (next_and clamp (logical_at clamp depth) self.old.rest.now) }
+    {
+        if !self.takes_next('|') {
+            return Ok(None);
+        }
+        if !self.takes('|') {
+            return Err(Failure::Syntax(self.stop(Expected::Or)));
+        }
+        self.skip_blanks();
+        Ok(Some(self.conjunction(depth)?.logical))
     }
-    Ok((all, rest))
-}
 
-/// An expression (RFC 9535, section 2.3.5.1).
-#[cycle(query)]
-#[tactic(auto, unfolding(crate::specs::Reading::Queries::logical_at, crate::specs::Reading::Queries::or_at))]
-pub(crate) fn logical(
-    alloc: Global,
-    text: &[char],
-    depth: u32,
-) -> Result<(Parsed, &[char]), Failure>
-    ensures { Gives (λ x. (parsed_view x.0, x.1.now)) result (logical_at clamp depth text.now) }
-{
-    if depth == 0 {
-        return Err(Failure::Syntax(Stop::at(text, Expected::Operand)));
+    /// The parts after the first `||`.
+    #[cycle(query)]
+    fn more_conjunctions(&mut self, depth: u32) -> Result<Vec<Logical>, Failure>
+        ensures { Reads (λ v. map logical_view v.items) result self.new.rest.now (all_of (next_and clamp (logical_at clamp depth)) self.old.rest.now) }
+    {
+        let mut all = Vec::new(self.alloc);
+        for _ in 0..self.rest.len() {
+            let Some(one) = self.next_conjunction(depth)? else {
+                break;
+            };
+            all.push(one)?;
+        }
+        Ok(all)
     }
-    let (first, rest) = conjunction(alloc, text, depth - 1)?;
-    let (others, rest) = more_conjunctions(alloc, rest, depth - 1)?;
-    Ok((joined(Connective::Or, first, others)?, rest))
+
+    /// An expression (RFC 9535, section 2.3.5.1).
+    #[cycle(query)]
+    #[tactic(auto, unfolding(crate::specs::Reading::Queries::logical_at, crate::specs::Reading::Queries::or_at))]
+    pub(super) fn logical(&mut self, depth: u32) -> Result<Parsed, Failure>
+        ensures { Reads (λ e. parsed_view e) result self.new.rest.now (logical_at clamp depth self.old.rest.now) }
+    {
+        if depth == 0 {
+            return Err(Failure::Syntax(self.stop(Expected::Operand)));
+        }
+        let first = self.conjunction(depth - 1)?;
+        let others = self.more_conjunctions(depth - 1)?;
+        Ok(joined(Connective::Or, first, others)?)
+    }
 }

@@ -4,13 +4,8 @@ ghost use Rattle.std.specs.Prelude.{◌≡◌, ◌≤◌, IfOk};
 ghost use Rattle.jp_query.specs.Places.{IsPlace};
 
 use super::failure::{Failure, Stop};
-use super::logical::logical;
-use super::scalars::skip_blanks;
-use super::stops::behind_condition;
-use super::tokens::Tokens;
-use super::{MAX_BYTES, MAX_DEPTH, MAX_OPENED, query_segments, relative_segments, to_scalars};
+use super::{MAX_BYTES, MAX_DEPTH, MAX_OPENED, Parser, to_scalars};
 use crate::expected::Expected;
-use crate::limit::Limit;
 use jp_model::QueryFault;
 use std::alloc::{AllocError, Global};
 
@@ -60,7 +55,7 @@ fn past_size(text: &[u8], before: usize) -> usize {
     MAX_BYTES
 }
 
-/// What the parser reads of a text, up to where it stops: a query, a rel-query, or a condition that stands alone.
+/// What the parser reads of a text: a query, a rel-query, or a condition that stands alone.
 #[derive(Clone, Copy)]
 enum Grammar {
     Query,
@@ -87,37 +82,44 @@ impl Grammar {
         }
     }
 
-    /// Where the parser stops in a text, which may be its end.
-    fn stop(self, alloc: Global, text: &[char]) -> Result<Stop, Failure> {
+    /// Reads a text, as far as it can. It gives where the text stops, which may be its end.
+    fn read(self, parser: &mut Parser<'_>) -> Result<Stop, Failure> {
         match self {
             Grammar::Query => {
-                query_segments(alloc, text)?;
-                Ok(Stop::at_end(Expected::Segment))
+                parser.query_segments()?;
             }
             Grammar::RelativeQuery => {
-                relative_segments(alloc, text)?;
-                Ok(Stop::at_end(Expected::Segment))
+                parser.relative_segments()?;
             }
             Grammar::Condition => {
-                let (condition, rest) = logical(alloc, skip_blanks(text), MAX_DEPTH)?;
-                Ok(behind_condition(
-                    alloc,
-                    &condition.logical,
-                    skip_blanks(rest),
+                parser.skip_blanks();
+                let condition = parser.logical(MAX_DEPTH)?.logical;
+                return Ok(parser.stop_behind_condition(
+                    &condition,
                     Expected::ComparisonOrEnd,
                     Expected::End,
-                ))
+                ));
             }
         }
+        Ok(Stop::at_end(Expected::Segment))
     }
 
-    /// Where a fault other than the size is in a text.
-    fn fault_stop(self, alloc: Global, text: &[char], fault: QueryFault) -> Result<Stop, Failure> {
-        match fault {
-            QueryFault::Integer => Tokens::new(alloc, text).find_number(Limit::Integers),
-            QueryFault::Number => Tokens::new(alloc, text).find_number(Limit::Exponents),
-            _ => self.stop(alloc, text),
-        }
+    /// Where a fault is in a text of which it is not the size, and what the grammar has there.
+    fn stop(self, alloc: Global, text: &[char], fault: QueryFault) -> Result<Stop, AllocError> {
+        let mut parser = Parser::new(alloc, text);
+        let stop = match self.read(&mut parser) {
+            Ok(stop) | Err(Failure::Syntax(stop)) => stop,
+            Err(Failure::Memory) => return Err(AllocError),
+        };
+        let left = match fault {
+            QueryFault::Integer => parser.noted.integer,
+            QueryFault::Number => parser.noted.exponent,
+            _ => None,
+        };
+        Ok(Stop {
+            left: left.unwrap_or(stop.left),
+            expected: stop.expected,
+        })
     }
 
     /// Where a fault is, and what the grammar has there.
@@ -143,10 +145,7 @@ impl Grammar {
             });
         };
         let scalars = to_scalars(alloc, spelled)?;
-        let stop = match self.fault_stop(alloc, &scalars, fault) {
-            Ok(stop) | Err(Failure::Syntax(stop)) => stop,
-            Err(Failure::Memory) => return Err(AllocError),
-        };
+        let stop = self.stop(alloc, &scalars, fault)?;
         Ok(FaultPlace {
             fault,
             place: character_at(text, byte_of(spelled, stop.left)),
@@ -207,6 +206,25 @@ pub fn place_of_condition_fault(
     Grammar::Condition.find(alloc, text, fault)
 }
 
+/// How many scalars of a text are left at the function that is number `number`, from 0, read by the first grammar that the text
+/// follows: 0 where there are fewer.
+fn left_at_function(alloc: Global, text: &[char], number: usize) -> Result<usize, AllocError> {
+    for grammar in [Grammar::Query, Grammar::RelativeQuery, Grammar::Condition] {
+        let mut parser = Parser::new(alloc, text);
+        match grammar.read(&mut parser) {
+            Ok(stop) if stop.left == 0 => {
+                return Ok(match parser.noted.functions.get(number) {
+                    Some(left) => *left,
+                    None => 0,
+                });
+            }
+            Err(Failure::Memory) => return Err(AllocError),
+            _ => {}
+        }
+    }
+    Ok(0)
+}
+
 /// The byte at which the name of the function begins that is number `number`, from 0, in a text that is a query, a rel-query
 /// or a condition: the text's length where there are fewer.
 ///
@@ -220,11 +238,6 @@ pub fn place_of_function(alloc: Global, text: &[u8], number: usize) -> Result<us
         return Ok(character_at(text, 0));
     };
     let scalars = to_scalars(alloc, spelled)?;
-    match Tokens::new(alloc, &scalars).find_function(number) {
-        Ok(stop) | Err(Failure::Syntax(stop)) => Ok(character_at(
-            text,
-            byte_of(spelled, stop.left),
-        )),
-        Err(Failure::Memory) => Err(AllocError),
-    }
+    let left = left_at_function(alloc, &scalars, number)?;
+    Ok(character_at(text, byte_of(spelled, left)))
 }

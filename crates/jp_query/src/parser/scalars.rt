@@ -2,7 +2,7 @@
 
 ghost use Rattle.std.specs.Prelude.{◌≡◌, ◌++◌, [], ◌∷◌, IfOk, OnOk, option_map, chars, string_bytes};
 ghost use Rattle.jp_query.specs.Parsing.{Gives, is_member};
-ghost use Rattle.jp_query.specs.Reading.Scalars.{after, after_all, run, skip_blanks, after_blanks, begins, first_and_run, shorthand, call_start};
+ghost use Rattle.jp_query.specs.Reading.Scalars.{after, after_all, run, skip_blanks, begins, first_and_run, shorthand, call_start};
 
 use super::class::Class;
 use super::failure::{Failure, Stop};
@@ -58,14 +58,6 @@ pub(crate) fn skip_blanks(text: &[char]) -> &[char]
 {
     run(text, Class::Blank).1
 }
-
-/// After blanks and a scalar, if it is there.
-pub(crate) fn after_blanks(text: &[char], wanted: char) -> Option<&[char]>
-    ensures { option_map (λ r. r.now) result ≡ after_blanks wanted text.now }
-{
-    after(skip_blanks(text), wanted)
-}
-
 /// A run of a class whose first scalar is of another one, and what is left.
 pub(crate) fn first_and_run(
     text: &[char],

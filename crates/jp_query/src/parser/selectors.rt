@@ -1,78 +1,22 @@
 //! Selectors and singular segments, which contain no expression (RFC 9535, sections 2.3 and 2.3.5.1).
 
-ghost use Rattle.std.specs.Prelude.{◌≡◌, [], ◌∷◌, IfOk, Some, option_map, map};
+ghost use Rattle.std.specs.Prelude.{◌≡◌, [], ◌∷◌, IfOk, Some, map};
 ghost use Rattle.jp_query.specs.Integers.{clamp};
-ghost use Rattle.jp_query.specs.Parsing.{Gives, simple_selector};
+ghost use Rattle.jp_query.specs.Parsing.{Reads, ReadsItem, simple_selector};
+ghost use Rattle.jp_query.specs.Reading.Numbers.{int_at};
 ghost use Rattle.jp_query.specs.Reading.Queries.{bound_at, step_at, slice_behind, index_or_slice, singular_behind, singular_segment, next_singular, singular_at, dotted};
 ghost use Rattle.jp_query.specs.Reading.Scalars.{all_of};
 ghost use Rattle.jp_syntax.specs.View.{selector_view, segment_view, segments_view};
 
-use super::failure::{Failure, Stop};
+use super::Parser;
+use super::failure::Failure;
 use super::numbers::{begins_number, int};
-use super::scalars::{after, after_blanks, shorthand, skip_blanks};
+use super::scalars::{shorthand, skip_blanks};
 use super::strings::string;
 use crate::expected::Expected;
 use jp_syntax::{Segment, Selector};
+use jp_types::{Limit, integer_passes};
 use std::alloc::{AllocError, Global};
-
-/// Blanks and an integer, if there is an integer, and what is left.
-#[tactic(auto, unfolding(crate::specs::Reading::Queries::bound_at))]
-fn bound(text: &[char]) -> Result<(Option<i64>, &[char]), Failure>
-    ensures { Gives (λ x. (x.0, x.1.now)) result (bound_at clamp text.now) }
-{
-    if !begins_number(skip_blanks(text)) {
-        return Ok((None, text));
-    }
-    let (value, rest) = int(skip_blanks(text))?;
-    Ok((Some(value), rest))
-}
-
-/// After blanks and a colon, if there is a colon, the step of a slice, and what is left.
-#[tactic(auto, unfolding(crate::specs::Reading::Queries::step_at))]
-fn step(text: &[char]) -> Result<(Option<i64>, &[char]), Failure>
-    ensures { Gives (λ x. (x.0, x.1.now)) result (step_at clamp text.now) }
-{
-    match after_blanks(text, ':') {
-        Some(rest) => bound(rest),
-        None => Ok((None, text)),
-    }
-}
-
-/// A slice after its first colon, and what is left (RFC 9535, section 2.3.4.1).
-#[tactic(auto, unfolding(crate::specs::Reading::Queries::slice_behind))]
-fn slice_behind(first: Option<i64>, text: &[char]) -> Result<(Selector, &[char]), Failure>
-    ensures { Gives (λ x. (selector_view x.0, x.1.now)) result (slice_behind clamp first text.now) }
-{
-    let (last, rest) = bound(text)?;
-    let (step, rest) = step(rest)?;
-    Ok((Selector::Slice { first, last, step }, rest))
-}
-
-/// An index, or a slice that begins with an integer, and what is left.
-#[tactic(auto, unfolding(crate::specs::Reading::Queries::index_or_slice))]
-fn index_or_slice(text: &[char]) -> Result<(Selector, &[char]), Failure>
-    ensures { Gives (λ x. (selector_view x.0, x.1.now)) result (index_or_slice clamp text.now) }
-{
-    let (value, rest) = int(text)?;
-    match after_blanks(rest, ':') {
-        Some(rest) => slice_behind(Some(value), rest),
-        None => Ok((Selector::Index(value), rest)),
-    }
-}
-
-/// A selector that is neither a wildcard nor a filter, and what is left (RFC 9535, section 2.3).
-pub(crate) fn simple_selector(alloc: Global, text: &[char]) -> Result<(Selector, &[char]), Failure>
-    ensures { Gives (λ x. (selector_view x.0, x.1.now)) result (simple_selector text.now) }
-{
-    if let Some(rest) = after(text, ':') {
-        return slice_behind(None, rest);
-    }
-    if begins_number(text) {
-        return index_or_slice(text);
-    }
-    let (name, rest) = string(alloc, text, Expected::Selector)?;
-    Ok((Selector::Name(name), rest))
-}
 
 /// A list of one.
 pub(crate) fn one<T: Drop>(alloc: Global, item: T) -> Result<Vec<T>, AllocError>
@@ -83,83 +27,163 @@ pub(crate) fn one<T: Drop>(alloc: Global, item: T) -> Result<Vec<T>, AllocError>
     Ok(items)
 }
 
-/// A wildcard, or a name without quotes, after a point or two, and what is left (RFC 9535, section 2.5).
-#[tactic(auto, unfolding(crate::specs::Reading::Queries::dotted))]
-pub(crate) fn dotted(alloc: Global, text: &[char]) -> Result<(Vec<Selector>, &[char]), Failure>
-    ensures { Gives (λ x. (map selector_view x.0.items, x.1.now)) result (dotted text.now) }
-{
-    if let Some(rest) = after(text, '*') {
-        return Ok((one(alloc, Selector::Wildcard)?, rest));
+impl<'t> Parser<'t> {
+    /// An integer, brought to one step outside the exact ones where it is farther from them (RFC 9535, section 2.3.3.1).
+    fn integer(&mut self) -> Result<i64, Failure>
+        ensures { Reads (λ i. i) result self.new.rest.now (int_at clamp self.old.rest.now) }
+    {
+        let left = self.rest.len();
+        let (value, rest) = int(self.rest)?;
+        self.rest = rest;
+        if !integer_passes(value, Limit::Integers) {
+            let _ = self.noted.integer.get_or_insert(left);
+        }
+        Ok(value)
     }
-    let (name, rest) = shorthand(alloc, text)?;
-    Ok((one(alloc, Selector::Name(name))?, rest))
-}
 
-/// A name or an index and the second bracket, after the first one, with no blanks between them, and what is left.
-#[tactic(auto, unfolding(crate::specs::Reading::Queries::singular_behind))]
-fn singular_behind(alloc: Global, text: &[char]) -> Result<(Segment, &[char]), Failure>
-    ensures { Gives (λ x. (segment_view x.0, x.1.now)) result (singular_behind clamp text.now) }
-{
-    let (selector, rest) = if begins_number(text) {
-        let (value, rest) = int(text)?;
-        (Selector::Index(value), rest)
-    } else {
-        let (name, rest) = string(alloc, text, Expected::Selector)?;
-        (Selector::Name(name), rest)
-    };
-    let Some(rest) = after(rest, ']') else {
-        return Err(Failure::Syntax(Stop::at(rest, Expected::Bracket)));
-    };
-    Ok((Segment::Child(one(alloc, selector)?), rest))
-}
-
-/// A segment of a singular query, and what is left (RFC 9535, section 2.3.5.1).
-#[tactic(auto, unfolding(crate::specs::Reading::Queries::singular_segment))]
-pub(super) fn singular_segment(alloc: Global, text: &[char]) -> Result<(Segment, &[char]), Failure>
-    ensures { Gives (λ x. (segment_view x.0, x.1.now)) result (singular_segment clamp text.now) }
-{
-    if let Some(rest) = after(text, '[') {
-        return singular_behind(alloc, rest);
+    /// Blanks and an integer, if there is an integer.
+    #[tactic(auto, unfolding(crate::specs::Reading::Queries::bound_at))]
+    fn bound(&mut self) -> Result<Option<i64>, Failure>
+        ensures { Reads (λ b. b) result self.new.rest.now (bound_at clamp self.old.rest.now) }
+    {
+        if !begins_number(skip_blanks(self.rest)) {
+            return Ok(None);
+        }
+        self.skip_blanks();
+        Ok(Some(self.integer()?))
     }
-    let Some(rest) = after(text, '.') else {
-        return Err(Failure::Syntax(Stop::at(text, Expected::Segment)));
-    };
-    let (name, rest) = shorthand(alloc, rest)?;
-    Ok((Segment::Child(one(alloc, Selector::Name(name))?), rest))
-}
 
-/// Blanks and a segment of a singular query, if there is one, and what is left.
-#[tactic(auto, unfolding(crate::specs::Reading::Queries::next_singular))]
-fn next_singular(alloc: Global, text: &[char]) -> Result<Option<(Segment, &[char])>, Failure>
-    ensures { Gives (option_map (λ x. (segment_view x.0, x.1.now))) result (next_singular clamp text.now) }
-{
-    match singular_segment(alloc, skip_blanks(text)) {
-        Ok(found) => Ok(Some(found)),
-        Err(Failure::Syntax(_)) => Ok(None),
-        Err(Failure::Memory) => Err(Failure::Memory),
+    /// After blanks and a colon, if there is a colon, the step of a slice.
+    #[tactic(auto, unfolding(crate::specs::Reading::Queries::step_at))]
+    fn step(&mut self) -> Result<Option<i64>, Failure>
+        ensures { Reads (λ b. b) result self.new.rest.now (step_at clamp self.old.rest.now) }
+    {
+        if !self.takes_next(':') {
+            return Ok(None);
+        }
+        self.bound()
     }
-}
 
-/// The segments of a singular query as a list, and what is left.
-fn singular_list(alloc: Global, text: &[char]) -> Result<(Vec<Segment>, &[char]), Failure>
-    ensures { Gives (λ x. (map segment_view x.0.items, x.1.now)) result (all_of (next_singular clamp) text.now) }
-{
-    let mut all = Vec::new(alloc);
-    let mut rest = text;
-    for _ in 0..text.len() {
-        let Some((one, others)) = next_singular(alloc, rest)? else {
-            break;
+    /// A slice after its first colon (RFC 9535, section 2.3.4.1).
+    #[tactic(auto, unfolding(crate::specs::Reading::Queries::slice_behind))]
+    fn slice(&mut self, first: Option<i64>) -> Result<Selector, Failure>
+        ensures { Reads (λ s. selector_view s) result self.new.rest.now (slice_behind clamp first self.old.rest.now) }
+    {
+        let last = self.bound()?;
+        let step = self.step()?;
+        Ok(Selector::Slice { first, last, step })
+    }
+
+    /// An index, or a slice that begins with an integer.
+    #[tactic(auto, unfolding(crate::specs::Reading::Queries::index_or_slice))]
+    fn index_or_slice(&mut self) -> Result<Selector, Failure>
+        ensures { Reads (λ s. selector_view s) result self.new.rest.now (index_or_slice clamp self.old.rest.now) }
+    {
+        let value = self.integer()?;
+        if self.takes_next(':') {
+            return self.slice(Some(value));
+        }
+        Ok(Selector::Index(value))
+    }
+
+    /// A selector that is neither a wildcard nor a filter (RFC 9535, section 2.3).
+    pub(super) fn simple_selector(&mut self) -> Result<Selector, Failure>
+        ensures { Reads (λ s. selector_view s) result self.new.rest.now (simple_selector self.old.rest.now) }
+    {
+        if self.takes(':') {
+            return self.slice(None);
+        }
+        if begins_number(self.rest) {
+            return self.index_or_slice();
+        }
+        let (name, rest) = string(self.alloc, self.rest, Expected::Selector)?;
+        self.rest = rest;
+        Ok(Selector::Name(name))
+    }
+
+    /// A wildcard, or a name without quotes, after a point or two (RFC 9535, section 2.5).
+    #[tactic(auto, unfolding(crate::specs::Reading::Queries::dotted))]
+    pub(super) fn dotted(&mut self) -> Result<Vec<Selector>, Failure>
+        ensures { Reads (λ v. map selector_view v.items) result self.new.rest.now (dotted self.old.rest.now) }
+    {
+        if self.takes('*') {
+            return Ok(one(self.alloc, Selector::Wildcard)?);
+        }
+        let (name, rest) = shorthand(self.alloc, self.rest)?;
+        self.rest = rest;
+        Ok(one(self.alloc, Selector::Name(name))?)
+    }
+
+    /// A name or an index and the second bracket, after the first one, with no blanks between them.
+    #[tactic(auto, unfolding(crate::specs::Reading::Queries::singular_behind))]
+    fn singular_behind(&mut self) -> Result<Segment, Failure>
+        ensures { Reads (λ s. segment_view s) result self.new.rest.now (singular_behind clamp self.old.rest.now) }
+    {
+        let selector = if begins_number(self.rest) {
+            Selector::Index(self.integer()?)
+        } else {
+            let (name, rest) = string(self.alloc, self.rest, Expected::Selector)?;
+            self.rest = rest;
+            Selector::Name(name)
         };
-        all.push(one)?;
-        rest = others;
+        if !self.takes(']') {
+            return Err(Failure::Syntax(self.stop(Expected::Bracket)));
+        }
+        Ok(Segment::Child(one(self.alloc, selector)?))
     }
-    Ok((all, rest))
-}
 
-/// The segments of a singular query, and what is left (RFC 9535, section 2.3.5.1).
-#[tactic(auto, unfolding(crate::specs::Reading::Queries::singular_at))]
-pub(crate) fn singular(alloc: Global, text: &[char]) -> Result<(Vec<Segment>, &[char]), Failure>
-    ensures { Gives (λ x. (segments_view x.0.items, x.1.now)) result (singular_at clamp text.now) }
-{
-    singular_list(alloc, text)
+    /// A segment of a singular query (RFC 9535, section 2.3.5.1).
+    #[tactic(auto, unfolding(crate::specs::Reading::Queries::singular_segment))]
+    pub(super) fn singular_segment(&mut self) -> Result<Segment, Failure>
+        ensures { Reads (λ s. segment_view s) result self.new.rest.now (singular_segment clamp self.old.rest.now) }
+    {
+        if self.takes('[') {
+            return self.singular_behind();
+        }
+        if !self.takes('.') {
+            return Err(Failure::Syntax(self.stop(Expected::Segment)));
+        }
+        let (name, rest) = shorthand(self.alloc, self.rest)?;
+        self.rest = rest;
+        Ok(Segment::Child(one(self.alloc, Selector::Name(name))?))
+    }
+
+    /// Blanks and a segment of a singular query, if there is one.
+    #[tactic(auto, unfolding(crate::specs::Reading::Queries::next_singular))]
+    fn next_singular(&mut self) -> Result<Option<Segment>, Failure>
+        ensures { ReadsItem (λ s. segment_view s) result self.old.rest.now self.new.rest.now (next_singular clamp self.old.rest.now) }
+    {
+        let before = self.rest;
+        self.skip_blanks();
+        match self.singular_segment() {
+            Ok(found) => Ok(Some(found)),
+            Err(Failure::Syntax(_)) => {
+                self.rest = before;
+                Ok(None)
+            }
+            Err(Failure::Memory) => Err(Failure::Memory),
+        }
+    }
+
+    /// The segments of a singular query as a list.
+    fn singular_list(&mut self) -> Result<Vec<Segment>, Failure>
+        ensures { Reads (λ v. map segment_view v.items) result self.new.rest.now (all_of (next_singular clamp) self.old.rest.now) }
+    {
+        let mut all = Vec::new(self.alloc);
+        for _ in 0..self.rest.len() {
+            let Some(one) = self.next_singular()? else {
+                break;
+            };
+            all.push(one)?;
+        }
+        Ok(all)
+    }
+
+    /// The segments of a singular query (RFC 9535, section 2.3.5.1).
+    #[tactic(auto, unfolding(crate::specs::Reading::Queries::singular_at))]
+    pub(super) fn singular(&mut self) -> Result<Vec<Segment>, Failure>
+        ensures { Reads (λ v. segments_view v.items) result self.new.rest.now (singular_at clamp self.old.rest.now) }
+    {
+        self.singular_list()
+    }
 }

@@ -2,15 +2,14 @@
 //!
 //! A text that some more characters would make a query has its place at the end.
 
+use super::Parser;
 use super::class::Class;
 use super::failure::{Failure, Stop};
 use super::literals::operator;
 use super::scalars::{begins_with, run};
-use super::selectors::singular_segment;
 use super::strings::escape;
 use crate::expected::Expected;
 use jp_syntax::{Comparable, Logical, Selector, is_singular};
-use std::alloc::Global;
 
 /// Where no literal and no function begins. A word that goes on to the end may become one.
 pub(super) fn at_word(text: &[char], expected: Expected) -> Stop {
@@ -50,50 +49,59 @@ fn in_singular(expected: Expected) -> Expected {
     }
 }
 
-/// After a comparison with a query, where neither one more segment of it nor what closes the condition stands: the place in
-/// what begins as a segment, where a singular query cannot go on.
-fn at_segment(alloc: Global, text: &[char], closed: Expected) -> Stop {
-    match singular_segment(alloc, text) {
-        Err(Failure::Syntax(stop)) if matches!(text, ['.' | '[', ..]) => Stop {
-            left: stop.left,
-            expected: in_singular(stop.expected),
-        },
-        _ => Stop::at(text, closed),
+impl<'t> Parser<'t> {
+    /// After a comparison with a query, where neither one more segment of it nor what closes the condition stands: the place in
+    /// what begins as a segment, where a singular query cannot go on.
+    fn stop_at_segment(&mut self, closed: Expected) -> Stop {
+        let here = self.stop(closed);
+        if !matches!(self.rest, ['.' | '[', ..]) {
+            return here;
+        }
+        match self.singular_segment() {
+            Err(Failure::Syntax(stop)) => Stop {
+                left: stop.left,
+                expected: in_singular(stop.expected),
+            },
+            _ => here,
+        }
     }
-}
 
-/// After a condition, where what closes it does not stand, and where an operator does, after a query that is not singular.
-pub(super) fn behind_condition(
-    alloc: Global,
-    condition: &Logical,
-    text: &[char],
-    compared: Expected,
-    closed: Expected,
-) -> Stop {
-    match last_part(last_part(condition)) {
-        Logical::Exists(_) if operator(text).is_some() => Stop::at(text, Expected::SingularQuery),
-        Logical::Exists(path) if is_singular(&path.segments) => at_operator(text, compared),
-        Logical::Test(_) => at_operator(text, compared),
-        Logical::Compare {
-            right: Comparable::Single(_),
-            ..
-        } => at_segment(alloc, text, closed),
-        _ => Stop::at(text, closed),
+    /// After a condition and blanks, where what closes it does not stand, and where an operator does, after a query that is not
+    /// singular.
+    pub(super) fn stop_behind_condition(
+        &mut self,
+        condition: &Logical,
+        compared: Expected,
+        closed: Expected,
+    ) -> Stop {
+        self.skip_blanks();
+        match last_part(last_part(condition)) {
+            Logical::Exists(_) if operator(self.rest).is_some() => {
+                self.stop(Expected::SingularQuery)
+            }
+            Logical::Exists(path) if is_singular(&path.segments) => at_operator(
+                self.rest, compared,
+            ),
+            Logical::Test(_) => at_operator(self.rest, compared),
+            Logical::Compare {
+                right: Comparable::Single(_),
+                ..
+            } => self.stop_at_segment(closed),
+            _ => self.stop(closed),
+        }
     }
-}
 
-/// After the selectors of a segment, where no bracket stands.
-pub(super) fn behind_selectors(alloc: Global, selectors: &[Selector], text: &[char]) -> Stop {
-    if let Some(Selector::Filter(condition)) = selectors.last() {
-        return behind_condition(
-            alloc,
-            condition,
-            text,
-            Expected::ComparisonOrBracket,
-            Expected::Bracket,
-        );
+    /// After the selectors of a segment and blanks, where no bracket stands.
+    pub(super) fn stop_behind_selectors(&mut self, selectors: &[Selector]) -> Stop {
+        if let Some(Selector::Filter(condition)) = selectors.last() {
+            return self.stop_behind_condition(
+                condition,
+                Expected::ComparisonOrBracket,
+                Expected::Bracket,
+            );
+        }
+        self.next_stop(Expected::Bracket)
     }
-    Stop::at(text, Expected::Bracket)
 }
 
 /// An escape with all that it may have, whatever stands in it first.

@@ -10,10 +10,10 @@ returns-in_default c = not_read_behind (origin_view c.args.origin) clamp c.args.
 
 pub returns-in-Root : goal.returns-in-Root
 returns-in-Root c =
-    let e : c.as_slice.result.now ≡ chars c.args.text.now = c.as_slice.ensures.value ∙ (c.in_ok-scalars.ensures ∙ ap chars c.in-Ok.ensures.0) in
+    let e : c.new-parser.result.rest.now ≡ chars c.args.text.now = c.new-parser.ensures ∙ (c.deref.ensures.value ∙ (c.in_ok-scalars.ensures ∙ ap chars c.in-Ok.ensures.0)) in
     rw (c.in-Root.is, read_of_scalars clamp c.args.text.now c.in-Ok.ensures.1, ← e) c.query_segments.ensures
 
 pub returns : goal.returns
 returns c =
-    let e : c.as_slice-in-Current.result.now ≡ chars c.args.text.now = c.as_slice-in-Current.ensures.value ∙ (c.in_ok-scalars.ensures ∙ ap chars c.in-Ok.ensures.0) in
+    let e : c.new-parser.result.rest.now ≡ chars c.args.text.now = c.new-parser.ensures ∙ (c.deref.ensures.value ∙ (c.in_ok-scalars.ensures ∙ ap chars c.in-Ok.ensures.0)) in
     rw (c.in-Current.is, relative_of_scalars clamp c.args.text.now c.in-Ok.ensures.1, ← e) c.relative_segments.ensures

@@ -10,8 +10,8 @@ use Rattle.jp_query.proofs.Outcomes.{well_formed}
 use Rattle.jp_query.proofs.SoundNumbers.{well_formed_sound}
 use Rattle.jp_query.proofs.parser.conditions.limited.Goals as goal
 
-pub new-requires : goal.new-requires
-new-requires c =
+pub new-requires-3 : goal.new-requires-3
+new-requires-3 c =
     let l = logical_view c.in-Some.expression in
     let exact : has_exact_integers (filter_by l) ≡ true = filter_passes l _ true (sym c.if-not-logical_passes.ensures) in
     let small : has_small_exponents (filter_by l) ≡ true = filter_passes l _ true (sym c.if-not-logical_passes-2.ensures) in

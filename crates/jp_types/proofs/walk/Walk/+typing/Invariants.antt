@@ -3,7 +3,7 @@ use Rattle.std.proofs.Common.{◌≡◌, drop, map}
 use Rattle.jp_model.specs.Query.Typing.{segments_typed, selectors_typed, logicals_typed, arguments_typed}
 use Rattle.jp_syntax.specs.View.{segments_view, selectors_view, logicals_view, arguments_view}
 use Rattle.jp_types.specs.Signatures.{kind_view}
-use Rattle.jp_types.proofs.typing.+typing.Given as goal
+use Rattle.jp_types.proofs.walk.Walk.+typing.Given as goal
 
 abbrev pub invariant-segments_typed-loop-segment : goal.invariant-segments_typed-loop-segment
 invariant-segments_typed-loop-segment l = segments_typed (segments_view (drop l.segment-index l.segments)) ≡ segments_typed (segments_view l.segments)

@@ -1,8 +1,8 @@
 use Rattle.std.proofs.Common.{rules, ◌≡◌, refl, sym, true, ◌||◌, ◌==◌}
 use Rattle.std.proofs.lemmas.List.{take_rest}
 use Rattle.jp_model.specs.Json.Numbers.{head_of}
-use Rattle.jp_query.proofs.Exponents.{letter_read, digits_behind_zeros}
-use Rattle.jp_query.proofs.limits.begins_with_long_exponent.Goals as goal
+use Rattle.jp_types.proofs.Exponents.{letter_read, digits_behind_zeros}
+use Rattle.jp_types.proofs.numbers.begins_with_long_exponent.Goals as goal
 
 pub returns-in-101 : goal.returns-in-101
 returns-in-101 c =
