@@ -1,9 +1,9 @@
 -- Where single scalars are in a text, and a step by that.
-use Rattle.std.proofs.Common.{◌≡◌, ℕ, ◌+◌, ◌-◌, ◌<◌, ◌≤◌, ◌⊎◌, ◌↔◌, inl, inr, List, [], ◌∷◌, ◌++◌, length, get_or, Option, Some, arith, sym, ◌∙◌, ap, subst, length-append}
-use Rattle.std.specs.Option.{IfSome}
-use Rattle.std.proofs.lemmas.List.{get_or_append_left, get_or_push}
+use Rattle.std.proofs.Common.{◌≡◌, ℕ, ◌+◌, ◌-◌, ◌<◌, ◌≤◌, ◌⊎◌, ◌↔◌, inl, inr, List, [], length, get_or, Option, None, arith, sym, ◌∙◌, ap, subst}
+use Rattle.std.proofs.lemmas.Option.{none-some}
 use Rattle.jp_model.specs.Pattern.Language.{IsOne}
 use Rattle.jp_iregexp.specs.declared.positions.PositionSet.{PositionSet}
+use Rattle.jp_iregexp.specs.Kept.{IsAdded}
 use Rattle.jp_iregexp.specs.Places.{AreAfterEach, IsAfterEach}
 use Rattle.jp_iregexp.specs.Positions.{Has, Reach, AreEnds}
 use Rattle.jp_iregexp.proofs.Bits.{below_or_not}
@@ -49,19 +49,13 @@ after_all text scalar n set e b q = (
 -- ---- the rows
 
 pub no_rows : (text : List ℕ) (rows : List (Option PositionSet)) → rows ≡ [] → AreAfterEach text rows
-no_rows text rows e scalar set inside is = absurd (let none = ap length e in omega (arith, inside, none))
+no_rows text rows e scalar set is = absurd (none-some set (ap (λ l. get_or l scalar None) (sym e) ∙ is))
 
-pub rows_more : (text : List ℕ) (rows more : List (Option PositionSet)) (row : Option PositionSet) (n : ℕ) → AreAfterEach text rows → length rows ≡ n → more ≡ rows ++ row ∷ [] → IfSome row (IsAfterEach text n) → AreAfterEach text more
-rows_more text rows more row n a size e here scalar set inside is =
-    let lengths : length more ≡ length rows + 1 = ap length e ∙ length-append rows (row ∷ []) in
-    let read : Some set ≡ get_or (rows ++ row ∷ []) scalar (Some set) = is ∙ ap (λ x. get_or x scalar (Some set)) e in
-    elim (below_or_not scalar (length rows)) [
-      | inl k ↦ a scalar set k (read ∙ get_or_append_left rows (row ∷ []) (Some set) scalar k)
-      | inr k ↦
-          (let at : scalar ≡ length rows = omega (arith, k, inside, lengths) in
-          let same : row ≡ Some set = sym (read ∙ get_or_push rows row (Some set) scalar (sym at)) in
-          let number : n ≡ scalar = sym (at ∙ size) in
-          subst (λ i. IsAfterEach text i set) number (subst (λ (r : Option PositionSet). IfSome r (IsAfterEach text n)) same here))
+pub rows_more : (text : List ℕ) (rows more : List (Option PositionSet)) (row : PositionSet) (n : ℕ) → AreAfterEach text rows → IsAdded n row rows more → IsAfterEach text n row → AreAfterEach text more
+rows_more text rows more row n a added here scalar set is =
+    elim (added scalar set is) [
+      | inl e ↦ subst (λ i. IsAfterEach text i set) (sym e.0) (subst (IsAfterEach text n) (sym e.1) here)
+      | inr e ↦ a scalar set e
     ]
 
 -- ---- a step

@@ -4,7 +4,7 @@ use Rattle.jp_iregexp.specs.declared.node.Node.{Node, Sequence, Choice}
 use Rattle.jp_iregexp.specs.declared.positions.PositionSet.{PositionSet}
 use Rattle.jp_iregexp.specs.Nodes.{most_of, turns_of, tree_of, sequence_list, choice_list}
 use Rattle.jp_iregexp.specs.Positions.{ReachFrom, AreEnds}
-use Rattle.jp_iregexp.specs.Tables.{IsTable, IsKept, Kept, KeptList}
+use Rattle.jp_iregexp.specs.Tables.{AreAlike, IsTable, IsNumber, Numbered, NumberedList}
 use Rattle.jp_model.specs.Pattern.Language.{Language, AtMost, Splits, Repeats, RepeatsWithin}
 use Rattle.jp_model.specs.Pattern.Tree.{Pattern, empty, followed_by, never, either_of}
 use Rattle.jp_iregexp.proofs.Bits.{below_or_not}
@@ -180,11 +180,6 @@ bounded_ends Member most text starts ends short a = record {
 
 -- ---- a part that is all of another one
 
--- both have the same texts
-record AreAlike (First Second : List ℕ → Type 0) : Type 0 where
-  pub to : (x : List ℕ) → First x → Second x
-  pub from : (x : List ℕ) → Second x → First x
-
 repeats_alike : (First Second : List ℕ → Type 0) → ((x : List ℕ) → First x → Second x) → (count : ℕ) (x : List ℕ) → Repeats First count x → Repeats Second count x
 repeats_alike First Second f zero x r = r
 repeats_alike First Second f (suc count) x r = record { front = r.front; rest = r.rest; is = r.is; first = f r.front r.first; second = repeats_alike First Second f count r.rest r.second }
@@ -192,7 +187,7 @@ repeats_alike First Second f (suc count) x r = record { front = r.front; rest = 
 within_alike : (First Second : List ℕ → Type 0) → ((x : List ℕ) → First x → Second x) → (least : ℕ) (most : Option ℕ) (x : List ℕ) → RepeatsWithin First least most x → RepeatsWithin Second least most x
 within_alike First Second f least most x r = record { count = r.count; enough = r.enough; few = r.few; repeats = repeats_alike First Second f r.count x r.repeats }
 
-table_alike : (First Second : List ℕ → Type 0) (text : List ℕ) (rows : List PositionSet) → AreAlike First Second → IsTable First text rows → IsTable Second text rows
+pub table_alike : (First Second : List ℕ → Type 0) (text : List ℕ) (rows : List PositionSet) → AreAlike First Second → IsTable First text rows → IsTable Second text rows
 table_alike First Second text rows a t = record {
   size = t.size;
   each = λ p row l is. (let e = t.each p row l is in record { over = e.over; sound = λ q h. reach_map a.to text p q (e.sound q h); complete = λ q r. e.complete q (reach_map a.from text p q r) });
@@ -220,20 +215,20 @@ only_alike node part parts (inr is) one =
     let tree : tree_of node ≡ either_of (tree_of part) never = ap tree_of is ∙ tree_of_Choice parts ∙ ap choice_list one in
     subst (λ (r : Pattern). AreAlike (Language (tree_of part)) (Language r)) (sym tree) (only_in_choice (tree_of part))
 
-part_kept : (text : List ℕ) (tables : List (Vec PositionSet Global)) (node part : Node) (parts : Vec Node Global) → (node ≡ Sequence parts) ⊎ (node ≡ Choice parts) → parts.items ≡ part ∷ [] → Kept text tables node → Kept text tables part
-part_kept text tables node part parts (inl is) one k = (subst (KeptList text tables) one (from_Sequence text tables parts (subst (Kept text tables) is k))).0
-part_kept text tables node part parts (inr is) one k = (subst (KeptList text tables) one (from_Choice text tables parts (subst (Kept text tables) is k))).0
+part_numbered : (bodies : List Pattern) (node part : Node) (parts : Vec Node Global) → (node ≡ Sequence parts) ⊎ (node ≡ Choice parts) → parts.items ≡ part ∷ [] → Numbered bodies node → Numbered bodies part
+part_numbered bodies node part parts (inl is) one k = (subst (NumberedList bodies) one (from_Sequence bodies parts (subst (Numbered bodies) is k))).0
+part_numbered bodies node part parts (inr is) one k = (subst (NumberedList bodies) one (from_Choice bodies parts (subst (Numbered bodies) is k))).0
 
-table_kept : (text : List ℕ) (tables : List (Vec PositionSet Global)) (node part : Node) (table : Option ℕ) → AreAlike (Language (tree_of part)) (Language (tree_of node)) → IsKept text tables node table → IsKept text tables part table
-table_kept text tables node part None a k = tt
-table_kept text tables node part (Some number) a k = λ rows l is. table_alike (Language (tree_of node)) (Language (tree_of part)) text rows.items (record { to = a.from; from = a.to }) (k rows l is)
+number_alike : (bodies : List Pattern) (node part : Node) (table : Option ℕ) → AreAlike (Language (tree_of part)) (Language (tree_of node)) → IsNumber bodies node table → IsNumber bodies part table
+number_alike bodies node part None a k = tt
+number_alike bodies node part (Some number) a k = record { to = λ x m. a.from x (k.to x m); from = λ x m. k.from x (a.to x m) }
 
 module _ (node part : Node) (parts : Vec Node Global) (items : List Node) (is : (node ≡ Sequence parts) ⊎ (node ≡ Choice parts)) (are : items ≡ parts.items) (size : length items ≡ 1) (found : part ≡ get_or items 0 part) where
   one : parts.items ≡ part ∷ []
   one = sym are ∙ one_item items part size found
 
-  pub only_kept : (text : List ℕ) (tables : List (Vec PositionSet Global)) (table : Option ℕ) → Kept text tables node × IsKept text tables node table → Kept text tables part × IsKept text tables part table
-  only_kept text tables table k = (part_kept text tables node part parts is one k.0, table_kept text tables node part table (only_alike node part parts is one) k.1)
+  pub only_numbered : (bodies : List Pattern) (table : Option ℕ) → Numbered bodies node × IsNumber bodies node table → Numbered bodies part × IsNumber bodies part table
+  only_numbered bodies table k = (part_numbered bodies node part parts is one k.0, number_alike bodies node part table (only_alike node part parts is one) k.1)
 
   pub only_ends : (least : ℕ) (most : Option ℕ) (text : List ℕ) (starts ends : PositionSet) → AreEnds (RepeatsWithin (Language (tree_of part)) least most) text starts ends → AreEnds (RepeatsWithin (Language (tree_of node)) least most) text starts ends
   only_ends least most text starts ends a =

@@ -1,135 +1,136 @@
--- Parts with their tables, as a row and as a list.
-use Rattle.std.proofs.Common.{◌≡◌, ℕ, zero, suc, ◌+◌, ◌<◌, ◌≤◌, List, [], ◌∷◌, ◌++◌, length, take, map, get_or, Option, Some, None, option_and_then, arith, refl, sym, ◌∙◌, ap, subst, length-append, Global, Vec}
-use Rattle.std.proofs.lemmas.List.{map-append, get_or_append_left}
-use Rattle.std.proofs.lemmas.Option.{option_and_then_some}
+-- Parts with their numbers, as a row and as a list.
+use Rattle.std.proofs.Common.{◌≡◌, ℕ, zero, suc, ◌+◌, ◌<◌, ◌⊎◌, inl, inr, List, [], ◌∷◌, ◌++◌, length, take, map, get_or, Option, Some, None, arith, refl, sym, ◌∙◌, ap, subst, length-append, slice_set, Global, Vec}
+use Rattle.std.proofs.Math.Seq.{get_or-append_seam}
+use Rattle.std.proofs.lemmas.List.{map-append, append_assoc}
+use Rattle.std.proofs.lemmas.Option.{none-some, option_and_then_some}
 use Rattle.jp_model.specs.Pattern.Language.{Language}
 use Rattle.jp_model.specs.Pattern.Tree.{Pattern, empty, followed_by, never, either_of}
 use Rattle.jp_iregexp.specs.declared.node.Node.{Node, Sequence, Choice, Class as ClassNode, Sequence', Choice', Repeated', Row_of-Node, end_of-Node, more_of-Node, items-the_row-Node, items_hidden-the_row-Node-0}
 use Rattle.jp_iregexp.specs.declared.positions.PositionSet.{PositionSet}
-use Rattle.jp_iregexp.specs.Numbers.{next_of, numbers_behind, parts_behind, list_behind}
-use Rattle.jp_iregexp.specs.Tables.{AreLonger, IsTable, IsKept, Kept, KeptParts, KeptList}
+use Rattle.jp_iregexp.specs.Numbers.{next_of, numbers_behind, parts_behind}
+use Rattle.jp_iregexp.specs.Kept.{IsAdded}
+use Rattle.jp_iregexp.specs.Tables.{AreAlike, AreTables, IsTable, IsNumber, Numbered, NumberedParts, NumberedList, bodies_of, bodies_in, with_number}
 use Rattle.jp_iregexp.specs.Nodes.{tree_of, sequence_list, choice_list}
-use Rattle.jp_iregexp.proofs.Numbering.{next_is, next_rises, row_rises, list_rises}
+use Rattle.jp_iregexp.proofs.Numbering.{next_is}
 use Rattle.jp_iregexp.proofs.Parts.{row_of, take_item, tree_of_Sequence, tree_of_Choice}
 
--- the tables that a match keeps
-abbrev Tables : Type 0
-Tables = List (Vec PositionSet Global)
+list_numbered : (bodies : List Pattern) (n : _) (row : Row_of-Node n) → NumberedParts bodies row → NumberedList bodies (items-the_row-Node n row)
+list_numbered bodies n end_of-Node k = tt
+list_numbered bodies n (more_of-Node part rest) k = (k.0, list_numbered bodies _ rest k.1)
 
-list_kept : (text : List ℕ) (tables : Tables) (n : _) (row : Row_of-Node n) → KeptParts text tables row → KeptList text tables (items-the_row-Node n row)
-list_kept text tables n end_of-Node k = tt
-list_kept text tables n (more_of-Node part rest) k = (k.0, list_kept text tables _ rest k.1)
-
-row_kept : (text : List ℕ) (tables : Tables) (n : _) (row : Row_of-Node n) → KeptList text tables (items-the_row-Node n row) → KeptParts text tables row
-row_kept text tables n end_of-Node k = tt
-row_kept text tables n (more_of-Node part rest) k = (k.0, row_kept text tables _ rest k.1)
-
-pub from_Sequence : (text : List ℕ) (tables : Tables) (parts : Vec Node Global) → Kept text tables (Sequence parts) → KeptList text tables parts.items
-from_Sequence text tables parts k =
+pub from_Sequence : (bodies : List Pattern) (parts : Vec Node Global) → Numbered bodies (Sequence parts) → NumberedList bodies parts.items
+from_Sequence bodies parts k =
     let row = row_of (Sequence parts) in
-    subst (KeptList text tables) (items_hidden-the_row-Node-0 parts) (list_kept text tables row.0 row.1 k)
+    subst (NumberedList bodies) (items_hidden-the_row-Node-0 parts) (list_numbered bodies row.0 row.1 k)
 
-pub from_Choice : (text : List ℕ) (tables : Tables) (parts : Vec Node Global) → Kept text tables (Choice parts) → KeptList text tables parts.items
-from_Choice text tables parts k =
+pub from_Choice : (bodies : List Pattern) (parts : Vec Node Global) → Numbered bodies (Choice parts) → NumberedList bodies parts.items
+from_Choice bodies parts k =
     let row = row_of (Choice parts) in
-    subst (KeptList text tables) (items_hidden-the_row-Node-0 parts) (list_kept text tables row.0 row.1 k)
+    subst (NumberedList bodies) (items_hidden-the_row-Node-0 parts) (list_numbered bodies row.0 row.1 k)
 
-pub to_Sequence : (text : List ℕ) (tables : Tables) (parts : Vec Node Global) → KeptList text tables parts.items → Kept text tables (Sequence parts)
-to_Sequence text tables parts k =
-    let row = row_of (Sequence parts) in
-    row_kept text tables row.0 row.1 (subst (KeptList text tables) (sym (items_hidden-the_row-Node-0 parts)) k)
+pub numbered_at : (bodies : List Pattern) (parts : List Node) (i : ℕ) (part : Node) → i < length parts → part ≡ get_or parts i part → NumberedList bodies parts → Numbered bodies part
+numbered_at bodies [] i part l is k = absurd (omega (arith, l))
+numbered_at bodies (p ∷ parts) zero part l is k = subst (Numbered bodies) (sym is) k.0
+numbered_at bodies (p ∷ parts) (suc i) part l is k = numbered_at bodies parts i part (omega (arith, l)) is k.1
 
-pub to_Choice : (text : List ℕ) (tables : Tables) (parts : Vec Node Global) → KeptList text tables parts.items → Kept text tables (Choice parts)
-to_Choice text tables parts k =
-    let row = row_of (Choice parts) in
-    row_kept text tables row.0 row.1 (subst (KeptList text tables) (sym (items_hidden-the_row-Node-0 parts)) k)
+-- ---- numbers that ascend are those of the bodies
 
-pub kept_at : (text : List ℕ) (tables : Tables) (parts : List Node) (i : ℕ) (part : Node) → i < length parts → part ≡ get_or parts i part → KeptList text tables parts → Kept text tables part
-kept_at text tables [] i part l is k = absurd (omega (arith, l))
-kept_at text tables (p ∷ parts) zero part l is k = subst (Kept text tables) (sym is) k.0
-kept_at text tables (p ∷ parts) (suc i) part l is k = kept_at text tables parts i part (omega (arith, l)) is k.1
-
-kept_push : (text : List ℕ) (tables : Tables) (parts : List Node) (part : Node) → KeptList text tables parts → Kept text tables part → KeptList text tables (parts ++ part ∷ [])
-kept_push text tables [] part k h = (h, tt)
-kept_push text tables (p ∷ parts) part k h = (k.0, kept_push text tables parts part k.1 h)
-
--- ---- where there is no table
-
-none_kept : (text : List ℕ) (body : Node) (table : Option ℕ) → IsKept text [] body table
-none_kept text body None = tt
-none_kept text body (Some number) = λ rows l is. absurd (omega (arith, l))
+number_size : (due last : ℕ) (table : Option ℕ) (body : Pattern) → next_of due table ≡ Some last → last ≡ due + length (with_number table body)
+number_size due last None body e = (let same : due ≡ last = cc in omega arith)
+number_size due last (Some number) body e = (let next = (next_is due last number e).next in omega (arith, next))
 
 mutual
-  pub kept_none : (text : List ℕ) (node : Node) → Kept text [] node
-  kept_none text (ClassNode c) = tt
-  kept_none text (Sequence' shape parts) = row_none text _ parts
-  kept_none text (Choice' shape parts) = row_none text _ parts
-  kept_none text (Repeated' p body least further table) = (kept_none text body, none_kept text body table)
-
-  row_none : (text : List ℕ) (n : _) (row : Row_of-Node n) → KeptParts text [] row
-  row_none text n end_of-Node = tt
-  row_none text n (more_of-Node part rest) = (kept_none text part, row_none text _ rest)
-
--- ---- more tables
-
-pub longer_then : (one two three : Tables) → AreLonger one two → AreLonger two three → AreLonger one three
-longer_then one two three a b =
-    let first = a.longer in
-    let second = b.longer in
-    record { longer = omega arith; same = λ number rows l is. a.same number rows l (b.same number rows (omega (arith, l, first)) is) }
-
-pub longer_push : (tables more : Tables) (rows : Vec PositionSet Global) → more ≡ tables ++ rows ∷ [] → AreLonger tables more
-longer_push tables more rows e =
-    let size : length more ≡ length tables + 1 = ap length e ∙ length-append tables (rows ∷ []) in
-    record { longer = omega arith; same = λ number other l is. is ∙ ap (λ x. get_or x number other) e ∙ get_or_append_left tables (rows ∷ []) other number l }
-
-table_longer : (text : List ℕ) (old new : Tables) (body : Node) (due last : ℕ) (table : Option ℕ) → AreLonger old new → next_of due table ≡ Some last → last ≤ length old → IsKept text old body table → IsKept text new body table
-table_longer text old new body due last None a e l k = tt
-table_longer text old new body due last (Some number) a e l k =
-    let n = next_is due last number e in
-    λ rows within is. (let inside : number < length old = (let one = n.is in let other = n.next in omega (arith, one, other, l)) in k rows inside (a.same number rows inside is))
-
-mutual
-  pub kept_longer : (text : List ℕ) (old new : Tables) (node : Node) (first last : ℕ) → AreLonger old new → numbers_behind first node ≡ Some last → last ≤ length old → Kept text old node → Kept text new node
-  kept_longer text old new (ClassNode c) first last a e l k = tt
-  kept_longer text old new (Sequence' shape parts) first last a e l k = row_longer text old new _ parts first last a e l k
-  kept_longer text old new (Choice' shape parts) first last a e l k = row_longer text old new _ parts first last a e l k
-  kept_longer text old new (Repeated' p body least further table) first last a e l k =
+  bodies_size : (first last : ℕ) (node : Node) → numbers_behind first node ≡ Some last → last ≡ first + length (bodies_of node)
+  bodies_size first last (ClassNode c) e = (let same : first ≡ last = cc in omega arith)
+  bodies_size first last (Sequence' shape parts) e = row_size first last _ parts e
+  bodies_size first last (Choice' shape parts) e = row_size first last _ parts e
+  bodies_size first last (Repeated' p body least further table) e =
       option_and_then_some (λ due. next_of due table) (numbers_behind first body) last e
-      (λ due b n. (kept_longer text old new body first due a b (let r = next_rises due last table n in omega (arith, r, l)) k.0, table_longer text old new body due last table a n l k.1))
+      (λ due b n. (let one = bodies_size first due body b in let other = number_size due last table (tree_of body) n in let both = length-append (bodies_of body) (with_number table (tree_of body)) in omega (arith, one, other, both)))
 
-  row_longer : (text : List ℕ) (old new : Tables) (n : _) (row : Row_of-Node n) (first last : ℕ) → AreLonger old new → parts_behind first row ≡ Some last → last ≤ length old → KeptParts text old row → KeptParts text new row
-  row_longer text old new n end_of-Node first last a e l k = tt
-  row_longer text old new n (more_of-Node part rest) first last a e l k =
+  row_size : (first last : ℕ) (n : _) (row : Row_of-Node n) → parts_behind first row ≡ Some last → last ≡ first + length (bodies_in row)
+  row_size first last n end_of-Node e = (let same : first ≡ last = cc in omega arith)
+  row_size first last n (more_of-Node part rest) e =
       option_and_then_some (λ due. parts_behind due rest) (numbers_behind first part) last e
-      (λ due b r. (kept_longer text old new part first due a b (let rise = row_rises due last _ rest r in omega (arith, rise, l)) k.0, row_longer text old new _ rest due last a r l k.1))
+      (λ due b r. (let one = bodies_size first due part b in let other = row_size due last _ rest r in let both = length-append (bodies_of part) (bodies_in rest) in omega (arith, one, other, both)))
 
-list_longer : (text : List ℕ) (old new : Tables) (parts : List Node) (first last : ℕ) → AreLonger old new → list_behind first parts ≡ Some last → last ≤ length old → KeptList text old parts → KeptList text new parts
-list_longer text old new [] first last a e l k = tt
-list_longer text old new (part ∷ rest) first last a e l k =
-    option_and_then_some (λ due. list_behind due rest) (numbers_behind first part) last e
-    (λ due b r. (kept_longer text old new part first due a b (let rise = list_rises due last rest r in omega (arith, rise, l)) k.0, list_longer text old new rest due last a r l k.1))
+has_number : (before after : List Pattern) (body : Node) (due last : ℕ) (table : Option ℕ) → due ≡ length before → next_of due table ≡ Some last → IsNumber (before ++ (with_number table (tree_of body) ++ after)) body table
+has_number before after body due last None at e = tt
+has_number before after body due last (Some number) at e =
+    let is : number ≡ length before = (next_is due last number e).is ∙ at in
+    let same : get_or (before ++ tree_of body ∷ after) number empty ≡ tree_of body = ap (λ n. get_or (before ++ tree_of body ∷ after) n empty) is ∙ get_or-append_seam before (tree_of body) after empty in
+    subst (λ (r : Pattern). AreAlike (Language r) (Language (tree_of body))) (sym same) (record { to = λ x m. m; from = λ x m. m })
 
--- one more of the parts
-pub kept_more : (text : List ℕ) (old new : Tables) (parts : List Node) (i first : ℕ) (part : Node) → i < length parts → part ≡ get_or parts i part → AreLonger old new → list_behind first (take i parts) ≡ Some (length old) → KeptList text old (take i parts) → Kept text new part → KeptList text new (take (i + 1) parts)
-kept_more text old new parts i first part l is a e k h =
-    subst (KeptList text new) (sym (take_item parts i part l is)) (kept_push text new (take i parts) part (list_longer text old new (take i parts) first (length old) a e (omega arith) k) h)
+-- the list of all bodies, by what stands in front of some, and after them
+three : (before one two after : List Pattern) → before ++ one ++ (two ++ after) ≡ before ++ (one ++ two ++ after)
+three before one two after = append_assoc before one (two ++ after) ∙ ap (λ l. before ++ l) (sym (append_assoc one two after))
 
-last_table : (tables : Tables) (rows other : Vec PositionSet Global) → get_or (tables ++ rows ∷ []) (length tables) other ≡ rows
-last_table [] rows other = refl
-last_table (t ∷ tables) rows other = last_table tables rows other
+mutual
+  numbered : (before after : List Pattern) (node : Node) (first last : ℕ) → first ≡ length before → numbers_behind first node ≡ Some last → Numbered (before ++ (bodies_of node ++ after)) node
+  numbered before after (ClassNode c) first last at e = tt
+  numbered before after (Sequence' shape parts) first last at e = row_numbered before after _ parts first last at e
+  numbered before after (Choice' shape parts) first last at e = row_numbered before after _ parts first last at e
+  numbered before after (Repeated' p body least further table) first last at e =
+      option_and_then_some (λ due. next_of due table) (numbers_behind first body) last e
+      (λ due b n.
+      (let inner = bodies_of body in
+      let own = with_number table (tree_of body) in
+      let size = bodies_size first due body b in
+      let both = length-append before inner in
+      let place : due ≡ length (before ++ inner) = omega (arith, at, size, both) in (
+        subst (λ (l : List Pattern). Numbered l body) (ap (λ l. before ++ l) (sym (append_assoc inner own after))) (numbered before (own ++ after) body first due at b),
+        subst (λ (l : List Pattern). IsNumber l body table) (three before inner own after) (has_number (before ++ inner) after body due last table place n),
+      )))
 
-table_made : (text : List ℕ) (tables more : Tables) (rows : Vec PositionSet Global) (body : Node) (last : ℕ) (table : Option ℕ) → more ≡ tables ++ rows ∷ [] → next_of (length tables) table ≡ Some last → IsTable (Language (tree_of body)) text rows.items → IsKept text more body table
-table_made text tables more rows body last None e next t = tt
-table_made text tables more rows body last (Some number) e next t = λ other l is.
-    (let at = (next_is (length tables) last number next).is in
-    let same : other ≡ rows = is ∙ ap (λ x. get_or x number other) e ∙ ap (λ n. get_or (tables ++ rows ∷ []) n other) at ∙ last_table tables rows other in
-    subst (λ (r : Vec PositionSet Global). IsTable (Language (tree_of body)) text r.items) (sym same) t)
+  row_numbered : (before after : List Pattern) (n : _) (row : Row_of-Node n) (first last : ℕ) → first ≡ length before → parts_behind first row ≡ Some last → NumberedParts (before ++ (bodies_in row ++ after)) row
+  row_numbered before after n end_of-Node first last at e = tt
+  row_numbered before after n (more_of-Node part rest) first last at e =
+      option_and_then_some (λ due. parts_behind due rest) (numbers_behind first part) last e
+      (λ due b r.
+      (let inner = bodies_of part in
+      let own = bodies_in rest in
+      let size = bodies_size first due part b in
+      let both = length-append before inner in
+      let place : due ≡ length (before ++ inner) = omega (arith, at, size, both) in (
+        subst (λ (l : List Pattern). Numbered l part) (ap (λ l. before ++ l) (sym (append_assoc inner own after))) (numbered before (own ++ after) part first due at b),
+        subst (λ (l : List Pattern). NumberedParts l rest) (three before inner own after) (row_numbered (before ++ inner) after _ rest due last place r),
+      )))
 
--- a repeated part, where the table that is due was made last
-pub repeated_kept : (text : List ℕ) (tables more : Tables) (rows : Vec PositionSet Global) (body : Node) (first last : ℕ) (table : Option ℕ) → more ≡ tables ++ rows ∷ [] → numbers_behind first body ≡ Some (length tables) → option_and_then (λ due. next_of due table) (numbers_behind first body) ≡ Some last → Kept text tables body → IsTable (Language (tree_of body)) text rows.items → Kept text more body × IsKept text more body table
-repeated_kept text tables more rows body first last table e behind next k t =
-    (kept_longer text tables more body first (length tables) (longer_push tables more rows e) behind (omega arith) k, table_made text tables more rows body last table e (subst (λ (o : Option ℕ). option_and_then (λ due. next_of due table) o ≡ Some last) behind next) t)
+append_none : (l : List Pattern) → l ++ [] ≡ l
+append_none [] = refl
+append_none (r ∷ l) = ap (λ x. r ∷ x) (append_none l)
+
+-- each body of a pattern has its number
+pub whole_numbered : (root : Node) (last : ℕ) → numbers_behind 0 root ≡ Some last → Numbered (bodies_of root) root
+whole_numbered root last e = subst (λ (l : List Pattern). Numbered l root) (append_none (bodies_of root)) (numbered [] [] root 0 last refl e)
+
+-- ---- tables
+
+abbrev Tables : Type 0
+Tables = List (Option (Vec PositionSet Global))
+
+pub none_made : (text : List ℕ) (root : Node) (tables : Tables) → tables ≡ [] → AreTables text root tables
+none_made text root tables e number table is = absurd (none-some table (ap (λ l. get_or l number None) (sym e) ∙ is))
+
+pub more_made : (text : List ℕ) (root : Node) (old new : Tables) (number : ℕ) (rows : Vec PositionSet Global) → IsTable (Language (get_or (bodies_of root) number empty)) text rows.items → IsAdded number rows old new → AreTables text root old → AreTables text root new
+more_made text root old new number rows t kept are n table is =
+    elim (kept n table is) [
+      | inl e ↦ subst (λ i. IsTable (Language (get_or (bodies_of root) i empty)) text table.items) (sym e.0) (subst (λ (v : Vec PositionSet Global). IsTable (Language (get_or (bodies_of root) number empty)) text v.items) (sym e.1) t)
+      | inr e ↦ are n table e
+    ]
+
+pub push_none : {A : Type 0} → (rows : List (Option A)) (n : ℕ) → get_or (rows ++ None ∷ []) n None ≡ get_or rows n None
+push_none [] zero = refl
+push_none [] (suc n) = refl
+push_none (r ∷ rows) zero = refl
+push_none (r ∷ rows) (suc n) = push_none rows n
+
+pub set_some : {A : Type 0} → (rows : List (Option A)) (i : ℕ) (row : A) (n : ℕ) (other : A) → get_or (slice_set rows i (Some row)) n None ≡ Some other → (n ≡ i × other ≡ row) ⊎ (get_or rows n None ≡ Some other)
+set_some [] i row n other e = inr e
+set_some (r ∷ rows) zero row zero other e = inl (refl, cc)
+set_some (r ∷ rows) zero row (suc n) other e = inr e
+set_some (r ∷ rows) (suc i) row zero other e = inr e
+set_some (r ∷ rows) (suc i) row (suc n) other e = elim (set_some rows i row n other e) [ inl p ↦ inl (ap suc p.0, p.1) | inr p ↦ inr p ]
 
 -- ---- the trees of parts in a row
 

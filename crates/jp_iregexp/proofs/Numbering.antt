@@ -1,12 +1,11 @@
--- The numbers of tables, and what is kept in them, of parts in a row and in a list.
-use Rattle.std.proofs.Common.{◌≡◌, ◌==◌, ℕ, suc, ◌+◌, ◌<◌, ◌≤◌, List, [], ◌∷◌, ◌++◌, length, take, drop, get_or, Option, Some, None, option_and_then, Bool, true, false, if◌then◌else◌, arith, refl, sym, ◌∙◌, ap, Global, Vec}
+-- The numbers of bodies, of parts in a row and in a list.
+use Rattle.std.proofs.Common.{◌≡◌, ◌==◌, ℕ, suc, List, [], ◌∷◌, ◌++◌, Option, Some, None, option_and_then, Bool, true, false, if◌then◌else◌, refl, ◌∙◌, ap, Global, Vec}
 use Rattle.std.specs.Option.{is_some}
 use Rattle.std.proofs.lemmas.Bool.{eqb-true}
-use Rattle.std.proofs.lemmas.List.{take-append-drop}
-use Rattle.std.proofs.lemmas.Option.{none-some, option_and_then_some}
-use Rattle.jp_iregexp.specs.declared.node.Node.{Node, Sequence, Choice, Class as ClassNode, Sequence', Choice', Repeated', Row_of-Node, end_of-Node, more_of-Node, items-the_row-Node, items_hidden-the_row-Node-0}
+use Rattle.std.proofs.lemmas.Option.{none-some}
+use Rattle.jp_iregexp.specs.declared.node.Node.{Node, Sequence, Choice, Row_of-Node, end_of-Node, more_of-Node, items-the_row-Node, items_hidden-the_row-Node-0}
 use Rattle.jp_iregexp.specs.Numbers.{next_of, numbers_behind, parts_behind, list_behind}
-use Rattle.jp_iregexp.proofs.Parts.{row_of, drop_item, take_item}
+use Rattle.jp_iregexp.proofs.Parts.{row_of}
 
 -- ---- numbers
 
@@ -42,23 +41,10 @@ pub behind_push : (first middle last : ℕ) (front : List Node) (part : Node) �
 behind_push first middle last front part e next =
     behind_append first front (part ∷ []) ∙ ap (option_and_then (λ due. list_behind due (part ∷ []))) e ∙ ap (option_and_then (λ due. Some due)) next
 
-pub behind_more : (first middle last : ℕ) (parts : List Node) (i : ℕ) (part : Node) → i < length parts → part ≡ get_or parts i part → list_behind first (take i parts) ≡ Some middle → numbers_behind middle part ≡ Some last → list_behind first (take (i + 1) parts) ≡ Some last
-behind_more first middle last parts i part l is e next =
-    ap (list_behind first) (take_item parts i part l is) ∙ behind_push first middle last (take i parts) part e next
-
--- the part that is next has its numbers
-pub next_behind : (first middle last : ℕ) (parts : List Node) (i : ℕ) (part : Node) → i < length parts → part ≡ get_or parts i part → list_behind first parts ≡ Some last → list_behind first (take i parts) ≡ Some middle → (due : ℕ) × numbers_behind middle part ≡ Some due
-next_behind first middle last parts i part l is whole front =
-    let split : list_behind first parts ≡ list_behind middle (drop i parts) = ap (list_behind first) (sym (take-append-drop i parts)) ∙ behind_append first (take i parts) (drop i parts) ∙ ap (option_and_then (λ due. list_behind due (drop i parts))) front in
-    let rest : list_behind middle (part ∷ drop (i + 1) parts) ≡ Some last = ap (list_behind middle) (sym (drop_item parts i part l is)) ∙ sym split ∙ whole in
-    option_and_then_some (λ due. list_behind due (drop (i + 1) parts)) (numbers_behind middle part) last rest (λ due e _. (due, e))
-
 -- a part has its numbers, where there is one after them
 pub last_behind : (o : Option ℕ) → is_some o ≡ true → (last : ℕ) × o ≡ Some last
 last_behind None e = absurd (cc)
 last_behind (Some last) e = (last, refl)
-
--- ---- numbers do not fall
 
 -- a number that is the one that is due
 pub record IsDue (due last number : ℕ) : Type 0 where
@@ -73,25 +59,3 @@ pub next_is : (due last number : ℕ) → next_of due (Some number) ≡ Some las
 next_is due last number e =
     let c = due_case due last (number == due) e in
     record { is = eqb-true number due c.0; next = c.1 }
-
-pub next_rises : (due last : ℕ) (table : Option ℕ) → next_of due table ≡ Some last → due ≤ last
-next_rises due last None e = (let same : due ≡ last = cc in omega arith)
-next_rises due last (Some number) e = (let next = (next_is due last number e).next in omega (arith, next))
-
-mutual
-  rises : (first last : ℕ) (node : Node) → numbers_behind first node ≡ Some last → first ≤ last
-  rises first last (ClassNode c) e = (let same : first ≡ last = cc in omega arith)
-  rises first last (Sequence' shape parts) e = row_rises first last _ parts e
-  rises first last (Choice' shape parts) e = row_rises first last _ parts e
-  rises first last (Repeated' p body least further table) e =
-      option_and_then_some (λ due. next_of due table) (numbers_behind first body) last e (λ due b n. (let one = rises first due body b in let other = next_rises due last table n in omega (arith, one, other)))
-
-  pub row_rises : (first last : ℕ) (n : _) (row : Row_of-Node n) → parts_behind first row ≡ Some last → first ≤ last
-  row_rises first last n end_of-Node e = (let same : first ≡ last = cc in omega arith)
-  row_rises first last n (more_of-Node part rest) e =
-      option_and_then_some (λ due. parts_behind due rest) (numbers_behind first part) last e (λ due b r. (let one = rises first due part b in let other = row_rises due last _ rest r in omega (arith, one, other)))
-
-pub list_rises : (first last : ℕ) (parts : List Node) → list_behind first parts ≡ Some last → first ≤ last
-list_rises first last [] e = (let same : first ≡ last = cc in omega arith)
-list_rises first last (part ∷ rest) e =
-    option_and_then_some (λ due. list_behind due rest) (numbers_behind first part) last e (λ due b r. (let one = rises first due part b in let other = list_rises due last rest r in omega (arith, one, other)))

@@ -1,8 +1,8 @@
--- The numbers of the tables of a pattern's parts.
+-- The numbers of the bodies of a pattern's repeated parts.
 use Rattle.std.specs.Prelude.{ℕ, suc, ◌==◌, if◌then◌else◌, List, [], ◌∷◌, Option, Some, None, option_and_then}
 use Rattle.jp_iregexp.specs.declared.node.Node.{Node, Class as ClassNode, Sequence', Choice', Repeated', Row_of-Node, end_of-Node, more_of-Node}
 
--- the next number after that of a table, if it is the one that is due
+-- the next number after that of a body, if it is the one that is due
 abbrev pub next_of : ℕ → Option ℕ → Option ℕ
 next_of due None = Some due
 next_of due (Some number) = if number == due then Some (suc due) else None

@@ -1,5 +1,5 @@
 -- Where scalars are in a text.
-use Rattle.std.specs.Prelude.{ℕ, ◌≡◌, ◌-◌, ◌<◌, ◌≤◌, ◌↔◌, List, length, get_or, slice_index_or, Option, Some}
+use Rattle.std.specs.Prelude.{ℕ, ◌≡◌, ◌-◌, ◌<◌, ◌≤◌, ◌↔◌, List, length, get_or, Option, Some, None}
 use Rattle.jp_iregexp.specs.declared.positions.PositionSet.{PositionSet}
 use Rattle.jp_iregexp.specs.Positions.{Has}
 
@@ -9,4 +9,4 @@ IsAfterEach text scalar set = (q : ℕ) → Has set q ↔ (0 < q × q ≤ length
 
 -- so has the row of each scalar that has one
 abbrev pub AreAfterEach : List ℕ → List (Option PositionSet) → Type 0
-AreAfterEach text rows = (scalar : ℕ) (set : PositionSet) → scalar < length rows → Some set ≡ slice_index_or rows scalar (Some set) → IsAfterEach text scalar set
+AreAfterEach text rows = (scalar : ℕ) (set : PositionSet) → get_or rows scalar None ≡ Some set → IsAfterEach text scalar set

@@ -1,7 +1,8 @@
 -- The ends of a set of texts from each position.
-use Rattle.std.specs.Prelude.{ℕ, ◌≡◌, ◌+◌, ◌<◌, ◌≤◌, List, [], ◌∷◌, length, slice_index_or, Option, Some, None, Vec}
+use Rattle.std.specs.Prelude.{ℕ, ◌≡◌, ◌+◌, ◌<◌, List, [], ◌∷◌, ◌++◌, length, get_or, slice_index_or, Option, Some, None, Vec}
 use Rattle.std.specs.declared.alloc.Global.{Global}
 use Rattle.jp_model.specs.Pattern.Language.{Language}
+use Rattle.jp_model.specs.Pattern.Tree.{Pattern, empty}
 use Rattle.jp_iregexp.specs.declared.node.Node.{Node, Class as ClassNode, Sequence', Choice', Repeated', Row_of-Node, end_of-Node, more_of-Node}
 use Rattle.jp_iregexp.specs.Nodes.{tree_of}
 use Rattle.jp_iregexp.specs.declared.positions.PositionSet.{PositionSet}
@@ -32,33 +33,54 @@ pub record AreInRows (rows : List PositionSet) (starts set : PositionSet) : Type
   pub sound : (q : ℕ) → Has set q → EndsInRow rows starts q
   pub complete : (q : ℕ) → EndsInRow rows starts q → Has set q
 
--- the table of this number, where it was made, has the ends of the part
-abbrev pub IsKept : List ℕ → List (Vec PositionSet Global) → Node → Option ℕ → Type 0
-IsKept text tables body None = Unit {0}
-IsKept text tables body (Some number) = (rows : Vec PositionSet Global) → number < length tables → rows ≡ slice_index_or tables number rows → IsTable (Language (tree_of body)) text rows.items
+-- the members of both are the same
+pub record AreAlike (First Second : List ℕ → Type 0) : Type 0 where
+  pub to : (x : List ℕ) → First x → Second x
+  pub from : (x : List ℕ) → Second x → First x
 
--- so has the table of each repeated part in a part
+-- the pattern of a body, if it has a number
+abbrev pub with_number : Option ℕ → Pattern → List Pattern
+with_number None body = []
+with_number (Some number) body = body ∷ []
+
+-- the patterns of the bodies that have a number, each after those within it
 abbrev mutual
-  pub Kept : List ℕ → List (Vec PositionSet Global) → Node → Type 0
-  Kept text tables (ClassNode c) = Unit {0}
-  Kept text tables (Sequence' shape parts) = KeptParts text tables parts
-  Kept text tables (Choice' shape parts) = KeptParts text tables parts
-  Kept text tables (Repeated' p body least further table) = Kept text tables body × IsKept text tables body table
+  pub bodies_of : Node → List Pattern
+  bodies_of (ClassNode c) = []
+  bodies_of (Sequence' shape parts) = bodies_in parts
+  bodies_of (Choice' shape parts) = bodies_in parts
+  bodies_of (Repeated' p body least further table) = bodies_of body ++ with_number table (tree_of body)
 
-  pub KeptParts : List ℕ → List (Vec PositionSet Global) → {m : _} → Row_of-Node m → Type 0
-  KeptParts text tables end_of-Node = Unit {0}
-  KeptParts text tables (more_of-Node part rest) = Kept text tables part × KeptParts text tables rest
+  pub bodies_in : {m : _} → Row_of-Node m → List Pattern
+  bodies_in end_of-Node = []
+  bodies_in (more_of-Node part rest) = bodies_of part ++ bodies_in rest
+
+-- the number of a body, if it has one, is that of a pattern with the same members
+abbrev pub IsNumber : List Pattern → Node → Option ℕ → Type 0
+IsNumber bodies body None = Unit {0}
+IsNumber bodies body (Some number) = AreAlike (Language (get_or bodies number empty)) (Language (tree_of body))
+
+-- so is that of each body in a part
+abbrev mutual
+  pub Numbered : List Pattern → Node → Type 0
+  Numbered bodies (ClassNode c) = Unit {0}
+  Numbered bodies (Sequence' shape parts) = NumberedParts bodies parts
+  Numbered bodies (Choice' shape parts) = NumberedParts bodies parts
+  Numbered bodies (Repeated' p body least further table) = Numbered bodies body × IsNumber bodies body table
+
+  pub NumberedParts : List Pattern → {m : _} → Row_of-Node m → Type 0
+  NumberedParts bodies end_of-Node = Unit {0}
+  NumberedParts bodies (more_of-Node part rest) = Numbered bodies part × NumberedParts bodies rest
 
 -- the same of the turns of a part
-abbrev pub KeptTurns : List ℕ → List (Vec PositionSet Global) → Node → Option ℕ → Type 0
-KeptTurns text tables body table = Kept text tables body × IsKept text tables body table
+abbrev pub NumberedTurns : List Pattern → Node → Option ℕ → Type 0
+NumberedTurns bodies body table = Numbered bodies body × IsNumber bodies body table
 
 -- the same of a list of parts
-abbrev pub KeptList : List ℕ → List (Vec PositionSet Global) → List Node → Type 0
-KeptList text tables [] = Unit {0}
-KeptList text tables (part ∷ rest) = Kept text tables part × KeptList text tables rest
+abbrev pub NumberedList : List Pattern → List Node → Type 0
+NumberedList bodies [] = Unit {0}
+NumberedList bodies (part ∷ rest) = Numbered bodies part × NumberedList bodies rest
 
--- the new tables are the old ones, and others after them
-pub record AreLonger (old new : List (Vec PositionSet Global)) : Type 0 where
-  pub longer : length old ≤ length new
-  pub same : (number : ℕ) (rows : Vec PositionSet Global) → number < length old → rows ≡ slice_index_or new number rows → rows ≡ slice_index_or old number rows
+-- each table that there is has the ends of the body with its number
+abbrev pub AreTables : List ℕ → Node → List (Option (Vec PositionSet Global)) → Type 0
+AreTables text root tables = (number : ℕ) (table : Vec PositionSet Global) → get_or tables number None ≡ Some table → IsTable (Language (get_or (bodies_of root) number empty)) text table.items

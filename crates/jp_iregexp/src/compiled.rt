@@ -11,17 +11,15 @@ use crate::automaton::Automaton;
 use crate::layout::automaton_of;
 use crate::node::Node;
 use crate::numbers::with_numbers;
-use crate::places::scalars_alone;
 use std::alloc::{AllocError, Global};
 
-/// A tree and its automaton, which it has where it is small enough. In another one the tables are numbered, and it is known
-/// whether a match makes them, and which ASCII scalars it looks for in a text beforehand.
+/// A tree and its automaton, which it has where it is small enough. In another one the bodies of repeated parts are numbered, and
+/// it is known how many they are.
 #[derive(Drop)]
 pub(crate) struct Compiled {
     pub(crate) root: Node,
     pub(crate) automaton: Option<Automaton>,
-    pub(crate) keeps_tables: bool,
-    pub(crate) scalars: u128,
+    pub(crate) repeated: usize,
     ghost same: { ∥ IfSome automaton (λ a. Accepts (map state_of a.states.items) a.starts (tree_of root)) ∥₁ },
     ghost numbered: { automaton ≡ None → is_some (numbers_behind 0 root) ≡ true },
 }
@@ -36,17 +34,14 @@ impl Compiled {
             return Ok(Compiled {
                 root,
                 automaton,
-                keeps_tables: false,
-                scalars: 0,
+                repeated: 0,
             });
         }
-        let (root, keeps_tables) = with_numbers(alloc, &root)?;
-        let scalars = scalars_alone(&root);
+        let (root, repeated) = with_numbers(alloc, &root)?;
         Ok(Compiled {
             root,
             automaton: None,
-            keeps_tables,
-            scalars,
+            repeated,
         })
     }
 }

@@ -1,7 +1,7 @@
 use Rattle.std.proofs.Common.{arith}
 use Rattle.jp_iregexp.proofs.Rows.{rows_start, row_skip, row_add, rows_all}
-use Rattle.jp_iregexp.proofs.matcher.Matcher.ends_in.Goals as goal
-use Rattle.jp_iregexp.proofs.matcher.Matcher.ends_in.Goals.{then-contains+in_ok-add_all, else-contains}
+use Rattle.jp_iregexp.proofs.tables.ends_in.Goals as goal
+use Rattle.jp_iregexp.proofs.tables.ends_in.Goals.{then-contains+in_ok-add_all, else-contains}
 
 pub loop-p-preserved : goal.loop-p-preserved
 loop-p-preserved c =
