@@ -1,5 +1,5 @@
 """Random lines around selected lines, beside those of GNU grep, for `jpgrep_examples.py`. In each run jpgrep's question and grep's pattern
-select the same lines."""
+select the same lines, and neither colours anything in them."""
 import os
 import pathlib
 import re
@@ -9,11 +9,13 @@ VALUES = (b'{"a":1}', b'{"a":[2,{}]}', b'{"b":1}', b'{"b":{"a":1}}', b"[1]", b'"
 OTHERS = (b"", b" \t", b"oops", b'{"a"', b'"\xff"')
 # The words of jpgrep's question, those of grep's, and the lines of which both select the same.
 QUESTIONS = (
-    (("-s", "$.a"), ('^{"a":',), VALUES + OTHERS),
+    (("-s", "-w", "@.a"), ('^{"a":',), VALUES + OTHERS),
     (("-v", "$.a"), ("-v", '^{"a":'), VALUES),
     (("--refused",), ("-e", "^oops", "-e", '^{"a"$', "-e", b'^"\xff'), VALUES + OTHERS),
 )
 LETTERS = {"A": "after-context", "B": "before-context", "C": "context"}
+# Without a colour for what matches.
+ENVIRONMENT = {**os.environ, "LC_ALL": "C", "GREP_COLORS": "mt="}
 NUMBERS = (0, 0, 1, 1, 1, 2, 2, 3, 5, 100)
 
 
@@ -36,7 +38,7 @@ def option_words(dice):
     words = [*number_words(dice)]
     if dice.random() < 0.4:
         words.append(f"-m{dice.randrange(5)}")
-    for options in (("-n",), ("-H", "-h"), ("-Z",)):
+    for options in (("-n",), ("-H", "-h"), ("-Z",), ("--color=always",)):
         if dice.random() < 0.5:
             words.append(dice.choice(options))
     if dice.random() < 0.1:
@@ -57,6 +59,6 @@ def context(number, dice, ended, check, room):
         pathlib.Path(room, name).write_bytes(random_text(dice, dice.sample(lines, dice.randrange(1, len(lines) + 1))))
     words = option_words(dice)
     files = dice.choice((["first"], ["first", "second"], ["second", "first", "first"]))
-    run = subprocess.run(["grep", "-a", *words, *grepped, *files], cwd=room, env={**os.environ, "LC_ALL": "C"}, capture_output=True, check=False)
+    run = subprocess.run(["grep", "-a", *words, *grepped, *files], cwd=room, env=ENVIRONMENT, capture_output=True, check=False)
     rows, _, status = ended([*words, *asked, *files], room)
     check(f"context {number} {words} of {asked} in {files}", (rows, status), (run.stdout, run.returncode))

@@ -22,6 +22,8 @@ NO_MEMORY = b"jpgrep: out of memory\n"
 LINE_LOST = re.compile(rb"^jpgrep: [^\n]*:\d+: out of memory(, from line \d+|; the rest is not searched)?\n", re.MULTILINE)
 # A row of a selected line, with its number.
 SELECTED = re.compile(rb"^(?:[^\n:{-]*:)?\d+:[^\n]*\n", re.MULTILINE)
+# What begins or ends a colour.
+COLOUR = re.compile(rb"\x1b\[[0-9;]*[mK]")
 COUNT = re.compile(rb"\b\d+$|\d+ more lines? (is|are) refused; --refused lists them$", re.MULTILINE)
 ASKED_AGAIN = "refused\nasked again\n"
 END = time.monotonic() + 240
@@ -69,6 +71,10 @@ RUNS = [
     (["-n", "-r", "--refused", "-B", "1", "lines"], b""),
     (["-n", "-s", "-m", "1", "-A", "9", "-w", "@.ms == 340", "lines"], b""),
     (["-n", "-j", "--json", "-C", "1", "$.level"], DOCUMENTS),
+    (["--color=always", "-n", "-H", "-e", "$..*", "-e", "$", "lines", "-"], LINES),
+    (["--color=always", "-n", "-o", "-p", "-e", "$..*", "-w", "@.ms", "lines"], b""),
+    (["--color=always", "-n", "-C", "1", "$.ms", "lines"], b""),
+    (["--color=always", "-c", "--json", "$..*"], DOCUMENTS),
     (["-q", "$.absent", "lines"], b""),
     (["-c", "--in", "@.level", "ids", "--not-in", "$.ms", "-", "lines"], b"1.5e2\n{\n"),
     (["--in", "@", "gone", "lines"], b""),
@@ -157,7 +163,8 @@ def refused_fault(words, got, whole, lines):
     if not lacks_a_piece(LINE_LOST.sub(b"", said), whole_said):
         return f"said {said[-200:]!r} for {whole_said[-200:]!r}"
     is_less = counts_less if "--tally" in words else survey_less if "--paths" in words else lacks_a_piece
-    if not (around_less(out, whole_out, lines) if shows_context(words) else is_less(out, whole_out)):
+    around = (COLOUR.sub(b"", text) for text in (out, whole_out, lines))
+    if not (around_less(*around) if shows_context(words) else is_less(out, whole_out)):
         return f"wrote {out[-200:]!r}, which is not what it writes without that, less one piece"
     return None
 

@@ -153,6 +153,7 @@ def made_tables():
         "canonical": tables([CRATES / f"jp_canon/specs/{name}.antt" for name in ("Canonical", "Layout")], commented, "Name"),
         "cut": tables([*(CRATES / f"jp_cut/specs/{name}.antt" for name in ("Machine", "Cuts")), *files(CRATES / "jp_cut_laws/specs/Lib.antt")], commented, "Name"),
         "context": tables([CRATES / f"jp_context/specs/{name}.antt" for name in ("Told", "Groups")], commented, "Name"),
+        "colours": tables([*files(CRATES / "jp_paint/specs/Lib.antt"), *(CRATES / f"{name}/specs/Colours.antt" for name in ("jp_context", "jp_grep"))], commented, "Name"),
         "laws": tables([*law_files, *sorted(CRATES.glob("*/src/laws.rt"))], laws, "Law"),
         "words": tables(files(CRATES / "jp_laws/specs/Lib.antt"), commented, "Name", set(re.findall(r"\w+", " ".join(used)))),
     }

@@ -27,6 +27,8 @@ pub(crate) fn form_of<'a>(name: &'a str, units: Units, rows: Rows, numbered: boo
         named: false,
         null: false,
         numbered,
+        coloured: false,
+        marked: false,
         silent: true,
         most: u64::MAX,
         trailing: 0,

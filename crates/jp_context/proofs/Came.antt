@@ -9,7 +9,7 @@ use Rattle.jp_context.specs.Groups.{context_text}
 use Rattle.jp_context.specs.Steps.{HasBegun, falls_short, will_show}
 use Rattle.jp_context.specs.Told.{ToldRow, open_row, told_rows}
 use Rattle.jp_context.specs.declared.state.Groups.{Groups}
-use Rattle.jp_context.specs.declared.state.Limits.{Limits}
+use Rattle.jp_context.specs.declared.state.Layout.{Layout}
 use Rattle.jp_context.proofs.Kept.{nothing_waits}
 use Rattle.jp_context.proofs.Telling.{told_more}
 
@@ -38,24 +38,24 @@ goes_on shown old new came held part out text is first next more =
     ∙ append_assoc (told_rows came) fresh more in
     ap shown rows ∙ (first (fresh ++ more) ∙ (ap (λ (t : List ℕ). out ++ t) (next more) ∙ sym (append_assoc out text (new more))))
 
-pub shows_on : (old new : Groups) (came held part out text : List ℕ) → new.limits ≡ old.limits → held ≡ open_row came
-    → ((more : List ToldRow) → context_text old.limits.before old.limits.after (told_rows came ++ more) ≡ out ++ will_show old more)
+pub shows_on : (old new : Groups) (came held part out text : List ℕ) → new.layout ≡ old.layout → held ≡ open_row came
+    → ((more : List ToldRow) → context_text old.layout.coloured old.layout.before old.layout.after (told_rows came ++ more) ≡ out ++ will_show old more)
     → ((more : List ToldRow) → will_show old (told_rows (held ++ part) ++ more) ≡ text ++ will_show new more)
-    → (more : List ToldRow) → context_text new.limits.before new.limits.after (told_rows (came ++ part) ++ more) ≡ (out ++ text) ++ will_show new more
+    → (more : List ToldRow) → context_text new.layout.coloured new.layout.before new.layout.after (told_rows (came ++ part) ++ more) ≡ (out ++ text) ++ will_show new more
 shows_on old new came held part out text same is first next more =
-    ap (λ (limits : Limits). context_text limits.before limits.after (told_rows (came ++ part) ++ more)) same
-    ∙ goes_on (context_text old.limits.before old.limits.after) (will_show old) (will_show new) came held part out text is first next more
+    ap (λ (layout : Layout). context_text layout.coloured layout.before layout.after (told_rows (came ++ part) ++ more)) same
+    ∙ goes_on (context_text old.layout.coloured old.layout.before old.layout.after) (will_show old) (will_show new) came held part out text is first next more
 
 -- what came, and what was offered and not taken
-pub begins_grown : {E : Type 0} (limits : Limits) (result : Result ℕ E) (old new bytes out : List ℕ) → Grew old new result bytes
-    → Begins out (context_text limits.before limits.after (told_rows (old ++ bytes))) → HasBegun limits.before limits.after new out
-begins_grown limits (Ok count) old new bytes out grew begins =
+pub begins_grown : {E : Type 0} (layout : Layout) (result : Result ℕ E) (old new bytes out : List ℕ) → Grew old new result bytes
+    → Begins out (context_text layout.coloured layout.before layout.after (told_rows (old ++ bytes))) → HasBegun layout.coloured layout.before layout.after new out
+begins_grown layout (Ok count) old new bytes out grew begins =
     let all : old ++ bytes ≡ new ++ drop count bytes =
     ap (λ (b : List ℕ). old ++ b) (sym (take-append-drop count bytes))
     ∙ (sym (append_assoc old (take count bytes) (drop count bytes)) ∙ ap (λ (t : List ℕ). t ++ drop count bytes) (sym grew)) in
-    ∣ (drop count bytes, subst (λ (t : List ℕ). Begins out (context_text limits.before limits.after (told_rows t))) all begins) ∣₁
-begins_grown limits (Err fault) old new bytes out grew begins =
-    ∣ (bytes, subst (λ (t : List ℕ). Begins out (context_text limits.before limits.after (told_rows (t ++ bytes)))) (sym grew) begins) ∣₁
+    ∣ (drop count bytes, subst (λ (t : List ℕ). Begins out (context_text layout.coloured layout.before layout.after (told_rows t))) all begins) ∣₁
+begins_grown layout (Err fault) old new bytes out grew begins =
+    ∣ (bytes, subst (λ (t : List ℕ). Begins out (context_text layout.coloured layout.before layout.after (told_rows (t ++ bytes)))) (sym grew) begins) ∣₁
 
 -- a write that does not fall short took all
 pub grew_by_all : {E : Type 0} (result : Result ℕ E) (old new bytes : List ℕ) → Grew old new result bytes → falls_short result bytes ≡ false → new ≡ old ++ bytes
@@ -63,10 +63,10 @@ grew_by_all (Ok count) old new bytes grew whole = grew ∙ ap (λ (t : List ℕ)
 grew_by_all (Err fault) old new bytes grew whole = absurd (false≢true (sym whole))
 
 -- what came is shown, as far as no more comes
-pub all_shown : (groups : Groups) (all out : List ℕ) → ((more : List ToldRow) → context_text groups.limits.before groups.limits.after (told_rows all ++ more) ≡ out ++ will_show groups more)
-    → context_text groups.limits.before groups.limits.after (told_rows all) ≡ out
+pub all_shown : (groups : Groups) (all out : List ℕ) → ((more : List ToldRow) → context_text groups.layout.coloured groups.layout.before groups.layout.after (told_rows all ++ more) ≡ out ++ will_show groups more)
+    → context_text groups.layout.coloured groups.layout.before groups.layout.after (told_rows all) ≡ out
 all_shown groups all out shows =
-    ap (context_text groups.limits.before groups.limits.after) (sym (append-nil (told_rows all)))
+    ap (context_text groups.layout.coloured groups.layout.before groups.layout.after) (sym (append-nil (told_rows all)))
     ∙ (shows [] ∙ (ap (λ (t : List ℕ). out ++ t) (nothing_waits groups) ∙ append-nil out))
 
 module _ {W A E : Type 0} (contents : W → Option (List ℕ)) where

@@ -54,66 +54,66 @@ one_soon count (kept ∷ texts) text more h =
     ap (λ b. b && selected_soon (count - 1) (kept_rows texts ++ next_row true text ∷ more)) (lt-ltb 0 count (omega (arith, h)))
     ∙ one_soon (count - 1) texts text more (omega (arith, h))
 
-pub one_shown : (shown : Shown) (text rest : List ℕ) → separator shown ++ (text ++ rest) ≡ show_all shown (text ∷ []) ++ rest
-one_shown shown text rest =
-    ap (λ (t : List ℕ). separator shown ++ (t ++ rest)) (sym (append-nil text)) ∙ sym (append_assoc (separator shown) (text ++ []) rest)
+pub one_shown : (coloured : Bool) (shown : Shown) (text rest : List ℕ) → separator coloured shown ++ (text ++ rest) ≡ show_all coloured shown (text ∷ []) ++ rest
+one_shown coloured shown text rest =
+    ap (λ (t : List ℕ). separator coloured shown ++ (t ++ rest)) (sym (append-nil text)) ∙ sym (append_assoc (separator coloured shown) (text ++ []) rest)
 
 -- the text once a row is shown after those that were kept
-pub shown_last : (text kept all whole rest row : List ℕ) (shown : Shown) → text ++ whole ≡ kept ++ show_all shown (row ∷ []) → all ≡ kept ++ (separator shown ++ row) → text ++ (whole ++ rest) ≡ all ++ rest
-shown_last text kept all whole rest row shown first last =
+pub shown_last : (coloured : Bool) (text kept all whole rest row : List ℕ) (shown : Shown) → text ++ whole ≡ kept ++ show_all coloured shown (row ∷ []) → all ≡ kept ++ (separator coloured shown ++ row) → text ++ (whole ++ rest) ≡ all ++ rest
+shown_last coloured text kept all whole rest row shown first last =
     sym (append_assoc text whole rest)
-    ∙ ap (λ (t : List ℕ). t ++ rest) (first ∙ (ap (λ (t : List ℕ). kept ++ (separator shown ++ t)) (append-nil row) ∙ sym last))
+    ∙ ap (λ (t : List ℕ). t ++ rest) (first ∙ (ap (λ (t : List ℕ). kept ++ (separator coloured shown ++ t)) (append-nil row) ∙ sym last))
 
-module _ (before after : ℕ) where
+module _ (coloured : Bool) (before after : ℕ) where
   -- where a stream begins, what is kept is not shown
   pub begin_empty : (left : ℕ) (shown : Shown) (selected : Bool) (text : List ℕ) (more : List ToldRow)
-      → text_from before after left shown (row_of selected true text ∷ more) ≡ text_from before after 0 (parted shown) (next_row selected text ∷ more)
+      → text_from coloured before after left shown (row_of selected true text ∷ more) ≡ text_from coloured before after 0 (parted shown) (next_row selected text ∷ more)
   begin_empty left shown true text more = refl
   begin_empty left shown false text more =
-      elim (selected_soon before more) as (λ b. (if b then separator (parted shown) ++ (text ++ text_from before after 0 showing.Neighbour more) else text_from before after 0 (parted shown) more)
-      ≡ (if b then separator (parted shown) ++ (text ++ text_from before after 0 showing.Neighbour more) else text_from before after 0 (parted (parted shown)) more)) [
+      elim (selected_soon before more) as (λ b. (if b then separator coloured (parted shown) ++ (text ++ text_from coloured before after 0 showing.Neighbour more) else text_from coloured before after 0 (parted shown) more)
+      ≡ (if b then separator coloured (parted shown) ++ (text ++ text_from coloured before after 0 showing.Neighbour more) else text_from coloured before after 0 (parted (parted shown)) more)) [
         | true ↦ refl
-        | false ↦ ap (λ s. text_from before after 0 s more) (sym (parted_again shown))
+        | false ↦ ap (λ s. text_from coloured before after 0 s more) (sym (parted_again shown))
       ]
 
   pub begin_kept : (shown : Shown) (texts : List (List ℕ)) (selected : Bool) (text : List ℕ) (more : List ToldRow)
-      → text_from before after 0 shown (kept_rows texts ++ row_of selected true text ∷ more) ≡ text_from before after 0 (parted shown) (next_row selected text ∷ more)
+      → text_from coloured before after 0 shown (kept_rows texts ++ row_of selected true text ∷ more) ≡ text_from coloured before after 0 (parted shown) (next_row selected text ∷ more)
   begin_kept shown [] selected text more = begin_empty 0 shown selected text more
   begin_kept shown (kept ∷ texts) selected text more =
-      ap (λ b. if b then separator shown ++ (kept ++ text_from before after 0 showing.Neighbour (kept_rows texts ++ row_of selected true text ∷ more)) else text_from before after 0 (parted shown) (kept_rows texts ++ row_of selected true text ∷ more))
+      ap (λ b. if b then separator coloured shown ++ (kept ++ text_from coloured before after 0 showing.Neighbour (kept_rows texts ++ row_of selected true text ∷ more)) else text_from coloured before after 0 (parted shown) (kept_rows texts ++ row_of selected true text ∷ more))
       (none_soon_first before texts selected text more)
-      ∙ (begin_kept (parted shown) texts selected text more ∙ ap (λ s. text_from before after 0 s (next_row selected text ∷ more)) (parted_again shown))
+      ∙ (begin_kept (parted shown) texts selected text more ∙ ap (λ s. text_from coloured before after 0 s (next_row selected text ∷ more)) (parted_again shown))
 
   -- a row that is not shown goes, once enough of its stream follow it
   pub first_goes : (shown : Shown) (kept : List ℕ) (texts : List (List ℕ)) (more : List ToldRow) → before ≤ length texts
-      → text_from before after 0 shown (next_row false kept ∷ (kept_rows texts ++ more)) ≡ text_from before after 0 (parted shown) (kept_rows texts ++ more)
+      → text_from coloured before after 0 shown (next_row false kept ∷ (kept_rows texts ++ more)) ≡ text_from coloured before after 0 (parted shown) (kept_rows texts ++ more)
   first_goes shown kept texts more h =
-      ap (λ b. if b then separator shown ++ (kept ++ text_from before after 0 showing.Neighbour (kept_rows texts ++ more)) else text_from before after 0 (parted shown) (kept_rows texts ++ more))
+      ap (λ b. if b then separator coloured shown ++ (kept ++ text_from coloured before after 0 showing.Neighbour (kept_rows texts ++ more)) else text_from coloured before after 0 (parted shown) (kept_rows texts ++ more))
       (none_soon_kept before texts more h)
 
   -- nothing is shown of rows that are kept alone
-  pub kept_alone : (shown : Shown) (texts : List (List ℕ)) → text_from before after 0 shown (kept_rows texts) ≡ []
+  pub kept_alone : (shown : Shown) (texts : List (List ℕ)) → text_from coloured before after 0 shown (kept_rows texts) ≡ []
   kept_alone shown [] = refl
   kept_alone shown (kept ∷ texts) =
-      ap (λ b. if b then separator shown ++ (kept ++ text_from before after 0 showing.Neighbour (kept_rows texts)) else text_from before after 0 (parted shown) (kept_rows texts))
+      ap (λ b. if b then separator coloured shown ++ (kept ++ text_from coloured before after 0 showing.Neighbour (kept_rows texts)) else text_from coloured before after 0 (parted shown) (kept_rows texts))
       (none_soon_end before texts)
       ∙ kept_alone (parted shown) texts
 
   -- a row that is selected shows those that are kept before it
   pub shown_with : (shown : Shown) (texts : List (List ℕ)) (text : List ℕ) (more : List ToldRow) → length texts ≤ before
-      → text_from before after 0 shown (kept_rows texts ++ next_row true text ∷ more) ≡ show_all shown (texts ++ text ∷ []) ++ text_from before after after showing.Neighbour more
-  shown_with shown [] text more h = one_shown shown text (text_from before after after showing.Neighbour more)
+      → text_from coloured before after 0 shown (kept_rows texts ++ next_row true text ∷ more) ≡ show_all coloured shown (texts ++ text ∷ []) ++ text_from coloured before after after showing.Neighbour more
+  shown_with shown [] text more h = one_shown coloured shown text (text_from coloured before after after showing.Neighbour more)
   shown_with shown (kept ∷ texts) text more h =
-      let rest = text_from before after after showing.Neighbour more in
-      ap (λ b. if b then separator shown ++ (kept ++ text_from before after 0 showing.Neighbour (kept_rows texts ++ next_row true text ∷ more)) else text_from before after 0 (parted shown) (kept_rows texts ++ next_row true text ∷ more))
+      let rest = text_from coloured before after after showing.Neighbour more in
+      ap (λ b. if b then separator coloured shown ++ (kept ++ text_from coloured before after 0 showing.Neighbour (kept_rows texts ++ next_row true text ∷ more)) else text_from coloured before after 0 (parted shown) (kept_rows texts ++ next_row true text ∷ more))
       (one_soon before texts text more (omega (arith, h)))
-      ∙ (ap (λ (t : List ℕ). separator shown ++ (kept ++ t)) (shown_with showing.Neighbour texts text more (omega (arith, h)))
-      ∙ (ap (λ (t : List ℕ). separator shown ++ t) (sym (append_assoc kept (show_all showing.Neighbour (texts ++ text ∷ [])) rest))
-      ∙ sym (append_assoc (separator shown) (kept ++ show_all showing.Neighbour (texts ++ text ∷ [])) rest)))
+      ∙ (ap (λ (t : List ℕ). separator coloured shown ++ (kept ++ t)) (shown_with showing.Neighbour texts text more (omega (arith, h)))
+      ∙ (ap (λ (t : List ℕ). separator coloured shown ++ t) (sym (append_assoc kept (show_all coloured showing.Neighbour (texts ++ text ∷ [])) rest))
+      ∙ sym (append_assoc (separator coloured shown) (kept ++ show_all coloured showing.Neighbour (texts ++ text ∷ [])) rest)))
 
   -- the same, where no row is kept while some are still to follow
   pub begins : (left : ℕ) (shown : Shown) (texts : List (List ℕ)) (selected : Bool) (text : List ℕ) (more : List ToldRow) → (0 < left → texts ≡ [])
-      → text_from before after left shown (kept_rows texts ++ row_of selected true text ∷ more) ≡ text_from before after 0 (parted shown) (next_row selected text ∷ more)
+      → text_from coloured before after left shown (kept_rows texts ++ row_of selected true text ∷ more) ≡ text_from coloured before after 0 (parted shown) (next_row selected text ∷ more)
   begins zero shown texts selected text more none = begin_kept shown texts selected text more
   begins (suc left) shown [] selected text more none = begin_empty (suc left) shown selected text more
   begins (suc left) shown (kept ∷ texts) selected text more none = absurd (cons_not_nil (none (omega arith)))
@@ -122,9 +122,9 @@ module _ (before after : ℕ) where
       cons_not_nil q = cc
 
   pub selects : (left : ℕ) (shown : Shown) (texts : List (List ℕ)) (text : List ℕ) (more : List ToldRow) → (0 < left → texts ≡ []) → length texts ≤ before
-      → text_from before after left shown (kept_rows texts ++ next_row true text ∷ more) ≡ show_all shown (texts ++ text ∷ []) ++ text_from before after after showing.Neighbour more
+      → text_from coloured before after left shown (kept_rows texts ++ next_row true text ∷ more) ≡ show_all coloured shown (texts ++ text ∷ []) ++ text_from coloured before after after showing.Neighbour more
   selects zero shown texts text more none h = shown_with shown texts text more h
-  selects (suc left) shown [] text more none h = one_shown shown text (text_from before after after showing.Neighbour more)
+  selects (suc left) shown [] text more none h = one_shown coloured shown text (text_from coloured before after after showing.Neighbour more)
   selects (suc left) shown (kept ∷ texts) text more none h = absurd (cons_not_nil (none (omega arith)))
     where
       cons_not_nil : kept ∷ texts ≡ [] → ⊥
@@ -132,25 +132,25 @@ module _ (before after : ℕ) where
 
   -- a row that is kept last makes the first one go
   pub first_gone : (shown : Shown) (kept : List ℕ) (texts : List (List ℕ)) (text : List ℕ) (more : List ToldRow) → before ≤ length texts + 1
-      → text_from before after 0 shown (next_row false kept ∷ (kept_rows texts ++ next_row false text ∷ more)) ≡ text_from before after 0 (parted shown) (kept_rows texts ++ next_row false text ∷ more)
+      → text_from coloured before after 0 shown (next_row false kept ∷ (kept_rows texts ++ next_row false text ∷ more)) ≡ text_from coloured before after 0 (parted shown) (kept_rows texts ++ next_row false text ∷ more)
   first_gone shown kept texts text more h =
       let all : kept_rows (texts ++ text ∷ []) ++ more ≡ kept_rows texts ++ next_row false text ∷ more =
       ap (λ (rows : List ToldRow). rows ++ more) (map-append (next_row false) texts (text ∷ [])) ∙ append_assoc (kept_rows texts) (next_row false text ∷ []) more in
       let long = length-append texts (text ∷ []) in
-      subst (λ (rows : List ToldRow). text_from before after 0 shown (next_row false kept ∷ rows) ≡ text_from before after 0 (parted shown) rows) all
+      subst (λ (rows : List ToldRow). text_from coloured before after 0 shown (next_row false kept ∷ rows) ≡ text_from coloured before after 0 (parted shown) rows) all
       (first_goes shown kept (texts ++ text ∷ []) more (omega (arith, h, long)))
 
   -- where none is kept, a row that is not shown goes
   pub not_kept : (left : ℕ) (shown next : Shown) (texts : List (List ℕ)) (text : List ℕ) (more : List ToldRow) → before ≡ 0 → left ≡ 0 → length texts ≤ before → next ≡ parted shown
-      → text_from before after left shown (kept_rows texts ++ next_row false text ∷ more) ≡ text_from before after left next (kept_rows texts ++ more)
-  not_kept zero shown next [] text more none off few is = first_goes shown text [] more (omega (arith, none)) ∙ ap (λ s. text_from before after 0 s more) (sym is)
+      → text_from coloured before after left shown (kept_rows texts ++ next_row false text ∷ more) ≡ text_from coloured before after left next (kept_rows texts ++ more)
+  not_kept zero shown next [] text more none off few is = first_goes shown text [] more (omega (arith, none)) ∙ ap (λ s. text_from coloured before after 0 s more) (sym is)
   not_kept zero shown next (kept ∷ texts) text more none off few is = absurd (omega (arith, none, few))
   not_kept (suc left) shown next texts text more none off few is = absurd (omega (arith, off))
 
-  nothing_from : (left : ℕ) (shown : Shown) (texts : List (List ℕ)) → (0 < left → texts ≡ []) → text_from before after left shown (kept_rows texts ++ []) ≡ []
-  nothing_from zero shown texts none = ap (λ (rows : List ToldRow). text_from before after 0 shown rows) (append-nil (kept_rows texts)) ∙ kept_alone shown texts
-  nothing_from (suc left) shown texts none = ap (λ (t : List (List ℕ)). text_from before after (suc left) shown (kept_rows t ++ [])) (none (omega arith))
+  nothing_from : (left : ℕ) (shown : Shown) (texts : List (List ℕ)) → (0 < left → texts ≡ []) → text_from coloured before after left shown (kept_rows texts ++ []) ≡ []
+  nothing_from zero shown texts none = ap (λ (rows : List ToldRow). text_from coloured before after 0 shown rows) (append-nil (kept_rows texts)) ∙ kept_alone shown texts
+  nothing_from (suc left) shown texts none = ap (λ (t : List (List ℕ)). text_from coloured before after (suc left) shown (kept_rows t ++ [])) (none (omega arith))
 
 -- no row will be shown that was not, unless more come
 pub nothing_waits : (groups : Groups) → will_show groups [] ≡ []
-nothing_waits groups = nothing_from groups.limits.before groups.limits.after groups.left groups.shown (kept_texts groups) (λ some. ap texts_of (groups.none some))
+nothing_waits groups = nothing_from groups.layout.coloured groups.layout.before groups.layout.after groups.left groups.shown (kept_texts groups) (λ some. ap texts_of (groups.none some))

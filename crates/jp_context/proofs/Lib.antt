@@ -6,3 +6,4 @@ pub mod Marks
 pub mod Stays
 pub mod Reading
 pub mod Near
+pub mod InColours

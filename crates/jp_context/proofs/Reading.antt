@@ -56,7 +56,7 @@ module _ (row : ToldRow) (more : List ℕ) (short : length row.text < 2 ^ 64) wh
         whole.1 ∙ ap open_row after_row,
       )
 
-abbrev IsShort : ToldRow → Type 0
+abbrev pub IsShort : ToldRow → Type 0
 IsShort row = length row.text < 2 ^ 64
 
 pub rows_read : (rows : List ToldRow) → All IsShort rows → told_rows (flat_map told_text rows) ≡ rows

@@ -50,17 +50,17 @@ none_to_see count (row ∷ rows) h =
       | false ↦ refl
     ]
 
-module _ (before after : ℕ) where
+module _ (coloured : Bool) (before after : ℕ) where
   -- the text of rows of which the first is shown, and where it is not
   abbrev text_by : Bool → ℕ → Shown → ToldRow → List ToldRow → List ℕ
   text_by is left shown row more =
-      if is then separator (shown_before shown row) ++ (row.text ++ text_from before after (left_after after left row) showing.Neighbour more)
-      else text_from before after (left_after after left row) (parted shown) more
+      if is then separator coloured (shown_before shown row) ++ (row.text ++ text_from coloured before after (left_after after left row) showing.Neighbour more)
+      else text_from coloured before after (left_after after left row) (parted shown) more
 
   none_left : (left : ℕ) (row : ToldRow) → row.first ≡ false → row.selected ≡ false → left_after after left row ≡ left - 1
   none_left left row first selected = ap (λ b. if b then after else to_follow left row - 1) selected ∙ ap (λ b. (if b then 0 else left) - 1) first
 
-  plain_text : (shown : Shown) (rows : List ToldRow) → list_all is_plain rows ≡ true → text_from before after 0 shown rows ≡ []
+  plain_text : (shown : Shown) (rows : List ToldRow) → list_all is_plain rows ≡ true → text_from coloured before after 0 shown rows ≡ []
   plain_text shown [] h = refl
   plain_text shown (row ∷ rows) h =
       let parts = plain_parts row.first row.selected (list_all is_plain rows) h in
@@ -68,10 +68,10 @@ module _ (before after : ℕ) where
       ap (λ b. b || (nat_lt 0 (to_follow 0 row) || selected_soon before rows)) parts.1
       ∙ (ap (λ b. nat_lt 0 (if b then 0 else 0) || selected_soon before rows) parts.0 ∙ none_to_see before rows parts.2) in
       ap (λ is. text_by is 0 shown row rows) hidden
-      ∙ (ap (λ left. text_from before after left (parted shown) rows) (none_left 0 row parts.0 parts.1) ∙ plain_text (parted shown) rows parts.2)
+      ∙ (ap (λ left. text_from coloured before after left (parted shown) rows) (none_left 0 row parts.0 parts.1) ∙ plain_text (parted shown) rows parts.2)
 
   abbrev Stays : ℕ → Shown → List ToldRow → List ToldRow → Type 0
-  Stays left shown rows more = (rest : List ℕ) × (text_from before after left shown (rows ++ more) ≡ text_from before after left shown rows ++ rest)
+  Stays left shown rows more = (rest : List ℕ) × (text_from coloured before after left shown (rows ++ more) ≡ text_from coloured before after left shown rows ++ rest)
 
   -- a row that is shown stays so
   soon_stays : (count : ℕ) (rows more : List ToldRow) → selected_soon count rows ≡ true → selected_soon count (rows ++ more) ≡ true
@@ -100,8 +100,8 @@ module _ (before after : ℕ) where
       → (old new : Bool) → is_shown before left row rows ≡ old → is_shown before left row (rows ++ more) ≡ new → Stays left shown (row ∷ rows) more
   first_stays left shown row rows more rest true true p q =
       let next = rest (left_after after left row) showing.Neighbour in
-      let mark = separator (shown_before shown row) in
-      let text = text_from before after (left_after after left row) showing.Neighbour rows in (
+      let mark = separator coloured (shown_before shown row) in
+      let text = text_from coloured before after (left_after after left row) showing.Neighbour rows in (
         next.0,
         ap (λ is. text_by is left shown row (rows ++ more)) q
             ∙ (ap (λ (t : List ℕ). mark ++ (row.text ++ t)) next.1
@@ -118,10 +118,10 @@ module _ (before after : ℕ) where
       let parts = newly_shown row.selected (nat_lt 0 (to_follow left row)) (selected_soon before rows) (selected_soon before (rows ++ more)) p q in
       let none : left_after after left row ≡ 0 =
       ap (λ b. if b then after else to_follow left row - 1) parts.0 ∙ (let low = ltb-false 0 (to_follow left row) parts.1 in omega (arith, low)) in
-      let empty : text_from before after left shown (row ∷ rows) ≡ [] =
+      let empty : text_from coloured before after left shown (row ∷ rows) ≡ [] =
       ap (λ is. text_by is left shown row rows) p
-      ∙ (ap (λ n. text_from before after n (parted shown) rows) none ∙ plain_text (parted shown) rows (all_plain before rows more parts.2 parts.3)) in
-      (text_from before after left shown (row ∷ (rows ++ more)), ap (λ (t : List ℕ). t ++ text_from before after left shown (row ∷ (rows ++ more))) (sym empty))
+      ∙ (ap (λ n. text_from coloured before after n (parted shown) rows) none ∙ plain_text (parted shown) rows (all_plain before rows more parts.2 parts.3)) in
+      (text_from coloured before after left shown (row ∷ (rows ++ more)), ap (λ (t : List ℕ). t ++ text_from coloured before after left shown (row ∷ (rows ++ more))) (sym empty))
   first_stays left shown row rows more rest true false p q =
       absurd (true≢false (sym (shown_stays row.selected (nat_lt 0 (to_follow left row)) (selected_soon before rows) (selected_soon before (rows ++ more)) p (soon_stays before rows more)) ∙ q))
     where
@@ -129,10 +129,10 @@ module _ (before after : ℕ) where
       true≢false e = cc
 
   stays : (left : ℕ) (shown : Shown) (rows more : List ToldRow) → Stays left shown rows more
-  stays left shown [] more = (text_from before after left shown more, refl)
+  stays left shown [] more = (text_from coloured before after left shown more, refl)
   stays left shown (row ∷ rows) more =
       first_stays left shown row rows more (λ next so_far. stays next so_far rows more) (is_shown before left row rows) (is_shown before left row (rows ++ more)) refl refl
 
-  pub text_stays : (rows more : List ToldRow) → Begins (context_text before after rows) (context_text before after (rows ++ more))
+  pub text_stays : (rows more : List ToldRow) → Begins (context_text coloured before after rows) (context_text coloured before after (rows ++ more))
   text_stays rows more =
-      let rest = stays 0 showing.Nothing rows more in begins_with (context_text before after rows) rest.0 (context_text before after (rows ++ more)) rest.1
+      let rest = stays 0 showing.Nothing rows more in begins_with (context_text coloured before after rows) rest.0 (context_text coloured before after (rows ++ more)) rest.1

@@ -1,5 +1,8 @@
 -- Which rows are shown of those that a search tells: those that are selected, and those near one (profile).
 use Rattle.std.specs.Prelude.{ℕ, ◌-◌, List, [], ◌∷◌, ◌++◌, codes, Bool, false, ◌&&◌, ◌||◌, not, nat_lt, if◌then◌else◌}
+use Rattle.jp_model.specs.Rows.{line_feed}
+use Rattle.jp_paint.specs.Colours.{painted}
+use Rattle.jp_paint.specs.declared.part.Part.TheVariants as parts
 use Rattle.jp_context.specs.Told.{ToldRow}
 use Rattle.jp_context.specs.declared.shown.Shown.{Shown}
 use Rattle.jp_context.specs.declared.shown.Shown.TheVariants as showing
@@ -44,18 +47,18 @@ parted showing.Others = showing.Others
 abbrev pub shown_before : Shown → ToldRow → Shown
 shown_before shown row = if row.first then parted shown else shown
 
--- two hyphens part a row from others that are not next to it
-abbrev pub separator : Shown → List ℕ
-separator showing.Nothing = []
-separator showing.Neighbour = []
-separator showing.Others = codes "--\n"
+-- two hyphens, in the colour of a sign where rows have colours, part a row from others that are not next to it
+abbrev pub separator : (coloured : Bool) → Shown → List ℕ
+separator coloured showing.Nothing = []
+separator coloured showing.Neighbour = []
+separator coloured showing.Others = painted coloured parts.Sign (codes "--") ++ line_feed
 
 -- the text of the rows that are shown, in groups
-abbrev pub text_of : Shown → List Mark → List ℕ
-text_of shown [] = []
-text_of shown (mark ∷ more) =
-    if mark.shown then separator (shown_before shown mark.row) ++ (mark.row.text ++ text_of showing.Neighbour more) else text_of (parted shown) more
+abbrev pub text_of : (coloured : Bool) → Shown → List Mark → List ℕ
+text_of coloured shown [] = []
+text_of coloured shown (mark ∷ more) =
+    if mark.shown then separator coloured (shown_before shown mark.row) ++ (mark.row.text ++ text_of coloured showing.Neighbour more) else text_of coloured (parted shown) more
 
 -- the text of rows with `before` rows of context before each that is selected, and `after` rows after it
-abbrev pub context_text : ℕ → ℕ → List ToldRow → List ℕ
-context_text before after rows = text_of showing.Nothing (marks before after rows)
+abbrev pub context_text : (coloured : Bool) → (before after : ℕ) → List ToldRow → List ℕ
+context_text coloured before after rows = text_of coloured showing.Nothing (marks before after rows)

@@ -3,4 +3,5 @@ pub mod Told
 pub mod Groups
 pub mod Steps
 pub mod Worked
+pub mod Colours
 pub mod Near

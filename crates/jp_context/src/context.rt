@@ -8,14 +8,14 @@ ghost use Rattle.jp_context.specs.Steps.{HasBegun, falls_short, will_show};
 ghost use Rattle.jp_context.specs.Told.{ToldRow, open_row, told_rows};
 
 use crate::rows::take_rows;
-use crate::state::{Groups, Limits};
+use crate::state::{Groups, Layout};
 use jp_devices::{Watched, write_whole};
 use std::alloc::{AllocError, Global};
 use std::io::{self, Sink, Write};
 
 /// A writer of rows that a search tells, as `push_told` puts them: it writes those that are selected and, of their stream, as many
-/// as are wanted before and after each of them. Groups of rows that do not touch are parted by two hyphens. What comes may be cut
-/// anywhere.
+/// as are wanted before and after each of them. Groups of rows that do not touch are parted by two hyphens, which have a colour
+/// where they are to. What comes may be cut anywhere.
 ///
 /// It keeps as many rows as are wanted before one that is selected, and what came of a row that is not whole.
 #[derive(Drop)]
@@ -28,16 +28,17 @@ pub struct Context<W> {
     came: Watched<Sink>,
     out: Watched<W>,
     is_full: bool,
-    ghost begins: { HasBegun groups.limits.before groups.limits.after came.taken out.taken },
+    ghost begins: { HasBegun groups.layout.coloured groups.layout.before groups.layout.after came.taken out.taken },
     ghost rest: { is_full ≡ false → out.failed ≡ false → held.items ≡ open_row came.taken },
     ghost shows: { is_full ≡ false → out.failed ≡ false → (more : List ToldRow)
-        → context_text groups.limits.before groups.limits.after (told_rows came.taken ++ more) ≡ out.taken ++ will_show groups more },
+        → context_text groups.layout.coloured groups.layout.before groups.layout.after (told_rows came.taken ++ more) ≡ out.taken ++ will_show groups more },
 }
 
 impl<W> Context<W> {
-    /// A writer to which no row came yet. It is to show `before` rows before each selected row, and `after` rows after it.
-    pub fn new(alloc: Global, before: u64, after: u64, out: W) -> Context<W>
-        ensures limits { result.groups.limits ≡ record { before = before; after = after } }
+    /// A writer to which no row came yet. It is to show `before` rows before each selected row, and `after` rows after it, with
+    /// groups of rows parted in grep's colour where it is `coloured`.
+    pub fn new(alloc: Global, before: u64, after: u64, coloured: bool, out: W) -> Context<W>
+        ensures layout { result.groups.layout ≡ record { before = before; after = after; coloured = coloured } }
         ensures came { result.came.taken ≡ [] }
         ensures out { result.out.device ≡ out }
         ensures taken { result.out.taken ≡ [] }
@@ -45,7 +46,14 @@ impl<W> Context<W> {
     {
         Context {
             alloc,
-            groups: Groups::new(alloc, Limits { before, after }),
+            groups: Groups::new(
+                alloc,
+                Layout {
+                    before,
+                    after,
+                    coloured,
+                },
+            ),
             held: Vec::new(alloc),
             came: Watched::new(io::sink()),
             out: Watched::new(out),
@@ -67,8 +75,8 @@ impl<W> Context<W> {
     pub fn into_inner(self) -> Watched<W>
         ensures out { result ≡ self.out }
         ensures shown { self.is_full ≡ false → result.failed ≡ false
-            → result.taken ≡ context_text self.groups.limits.before self.groups.limits.after (told_rows self.came.taken) }
-        ensures begins { HasBegun self.groups.limits.before self.groups.limits.after self.came.taken result.taken }
+            → result.taken ≡ context_text self.groups.layout.coloured self.groups.layout.before self.groups.layout.after (told_rows self.came.taken) }
+        ensures begins { HasBegun self.groups.layout.coloured self.groups.layout.before self.groups.layout.after self.came.taken result.taken }
     {
         self.out
     }
@@ -81,7 +89,7 @@ fn take_bytes(
     held: &mut Vec<u8>,
     bytes: &[u8],
 ) -> Result<Vec<u8>, AllocError>
-    ensures limits { groups.new.limits ≡ groups.old.limits }
+    ensures layout { groups.new.layout ≡ groups.old.layout }
     ensures held { OnOk result (held.new.items ≡ open_row (held.old.items ++ bytes.now)) }
     ensures shows { IfOk result (λ text. (more : List ToldRow) → will_show groups.old (told_rows (held.old.items ++ bytes.now) ++ more) ≡ text.items ++ will_show groups.new more) }
 {
@@ -114,10 +122,10 @@ impl<W: Write> Write for Context<W> {
     fn write(&mut self, bytes: &[u8]) -> io::Result<usize>
         ensures bound { WritesAtMost result bytes.now }
         ensures bytes { WriteAppends (Some self.old.came.taken) (Some self.new.came.taken) result bytes.now }
-        ensures limits { self.new.groups.limits ≡ self.old.groups.limits }
+        ensures layout { self.new.groups.layout ≡ self.old.groups.layout }
         ensures shown { self.new.is_full ≡ false → self.new.out.failed ≡ false
-            → self.new.out.taken ≡ context_text self.new.groups.limits.before self.new.groups.limits.after (told_rows self.new.came.taken) }
-        ensures begins { HasBegun self.new.groups.limits.before self.new.groups.limits.after self.new.came.taken self.new.out.taken }
+            → self.new.out.taken ≡ context_text self.new.groups.layout.coloured self.new.groups.layout.before self.new.groups.layout.after (told_rows self.new.came.taken) }
+        ensures begins { HasBegun self.new.groups.layout.coloured self.new.groups.layout.before self.new.groups.layout.after self.new.came.taken self.new.out.taken }
         ensures fault { (self.new.is_full || self.new.out.failed) ≡ falls_short result bytes.now }
         ensures after { self.new.out.after ≡ self.old.out.after }
     {
@@ -139,7 +147,7 @@ impl<W: Write> Write for Context<W> {
     fn flush(&mut self) -> io::Result<()>
         ensures bytes { Keeps (Some self.old.came.taken) (Some self.new.came.taken) }
         ensures came { self.new.came ≡ self.old.came }
-        ensures limits { self.new.groups.limits ≡ self.old.groups.limits }
+        ensures layout { self.new.groups.layout ≡ self.old.groups.layout }
         ensures taken { self.new.out.taken ≡ self.old.out.taken }
         ensures fault { (self.new.is_full || self.new.out.failed) ≡ is_err result }
         ensures after { self.new.out.after ≡ self.old.out.after }

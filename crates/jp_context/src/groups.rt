@@ -6,20 +6,20 @@ ghost use Rattle.jp_context.specs.Steps.{kept_texts, next_row, show_all, will_sh
 ghost use Rattle.jp_context.specs.Told.{ToldRow, told_row};
 
 use crate::shown::Shown;
-use crate::state::{Groups, Limits};
+use crate::state::{Groups, Layout};
 use crate::told::Told;
 use std::alloc::{AllocError, Global};
 use std::collections::VecDeque;
 
 impl Groups {
     /// With no row yet.
-    pub(crate) fn new(alloc: Global, limits: Limits) -> Groups
-        ensures limits { result.limits ≡ limits }
-        ensures shows { (rows : List ToldRow) → will_show result rows ≡ context_text limits.before limits.after rows }
+    pub(crate) fn new(alloc: Global, layout: Layout) -> Groups
+        ensures layout { result.layout ≡ layout }
+        ensures shows { (rows : List ToldRow) → will_show result rows ≡ context_text layout.coloured layout.before layout.after rows }
     {
         Groups {
             alloc,
-            limits,
+            layout,
             left: 0,
             shown: Shown::Nothing,
             kept: VecDeque::new(alloc),
@@ -28,7 +28,7 @@ impl Groups {
 
     /// Where a stream begins, no row of the one before is kept.
     fn begin(&mut self, is_first: bool)
-        ensures limits { self.new.limits ≡ self.old.limits }
+        ensures layout { self.new.layout ≡ self.old.layout }
         ensures shows { (selected : Bool) (text : List ℕ) (more : List ToldRow)
             → will_show self.old (record { selected = selected; first = is_first; text = text } ∷ more) ≡ will_show self.new (next_row selected text ∷ more) }
     {
@@ -41,13 +41,13 @@ impl Groups {
 
     /// Shows the rows that are kept.
     fn show_kept(&mut self, text: &mut Vec<u8>) -> Result<(), AllocError>
-        ensures limits { self.new.limits ≡ self.old.limits }
+        ensures layout { self.new.layout ≡ self.old.layout }
         ensures left { self.new.left ≡ self.old.left }
         ensures kept { OnOk result (self.new.kept.items ≡ []) }
-        ensures shows { OnOk result ((more : List (List ℕ)) → text.old.items ++ show_all self.old.shown (kept_texts self.old ++ more) ≡ text.new.items ++ show_all self.new.shown more) }
+        ensures shows { OnOk result ((more : List (List ℕ)) → text.old.items ++ show_all self.old.layout.coloured self.old.shown (kept_texts self.old ++ more) ≡ text.new.items ++ show_all self.new.layout.coloured self.new.shown more) }
     {
         while let Some(row) = self.kept.pop_front() {
-            self.shown.show(&row, text)?;
+            self.shown.show(self.layout.coloured, &row, text)?;
             self.shown = Shown::Neighbour;
         }
         Ok(())
@@ -55,23 +55,23 @@ impl Groups {
 
     /// Takes a row that is selected: it is shown, and those that are kept before it.
     fn select(&mut self, row: &[u8], text: &mut Vec<u8>) -> Result<(), AllocError>
-        ensures limits { self.new.limits ≡ self.old.limits }
+        ensures layout { self.new.layout ≡ self.old.layout }
         ensures shows { OnOk result ((more : List ToldRow) → text.old.items ++ will_show self.old (next_row true row.now ∷ more) ≡ text.new.items ++ will_show self.new more) }
     {
         self.show_kept(text)?;
-        self.shown.show(row, text)?;
+        self.shown.show(self.layout.coloured, row, text)?;
         self.shown = Shown::Neighbour;
-        self.left = self.limits.after;
+        self.left = self.layout.after;
         Ok(())
     }
 
     /// Takes a row that follows one that is selected: it is shown.
     fn follow(&mut self, row: &[u8], text: &mut Vec<u8>) -> Result<(), AllocError>
         requires { 0 < self.old.left }
-        ensures limits { self.new.limits ≡ self.old.limits }
+        ensures layout { self.new.layout ≡ self.old.layout }
         ensures shows { OnOk result ((more : List ToldRow) → text.old.items ++ will_show self.old (next_row false row.now ∷ more) ≡ text.new.items ++ will_show self.new more) }
     {
-        self.shown.show(row, text)?;
+        self.shown.show(self.layout.coloured, row, text)?;
         self.shown = Shown::Neighbour;
         self.left -= 1;
         Ok(())
@@ -80,10 +80,10 @@ impl Groups {
     /// Takes a row that may stand before one that is selected: it is kept, in the place of the first one where there are enough.
     fn keep(&mut self, row: &[u8]) -> Result<(), AllocError>
         requires { self.old.left ≡ 0 }
-        ensures limits { self.new.limits ≡ self.old.limits }
+        ensures layout { self.new.layout ≡ self.old.layout }
         ensures shows { OnOk result ((more : List ToldRow) → will_show self.old (next_row false row.now ∷ more) ≡ will_show self.new more) }
     {
-        if self.limits.before == 0 {
+        if self.layout.before == 0 {
             self.shown = self.shown.parted();
             return Ok(());
         }
@@ -94,15 +94,15 @@ impl Groups {
 
     /// Room for the row that is to be kept, so that no more are kept than are wanted: that of the first, where there is one too many.
     fn make_room(&mut self) -> Vec<u8>
-        requires before { 0 < self.old.limits.before }
+        requires before { 0 < self.old.layout.before }
         requires left { self.old.left ≡ 0 }
-        ensures limits { self.new.limits ≡ self.old.limits }
+        ensures layout { self.new.layout ≡ self.old.layout }
         ensures left { self.new.left ≡ 0 }
         ensures room { result.items ≡ [] }
-        ensures few { length self.new.kept.items < self.new.limits.before }
+        ensures few { length self.new.kept.items < self.new.layout.before }
         ensures shows { (row : List ℕ) (more : List ToldRow) → will_show self.old (next_row false row ∷ more) ≡ will_show self.new (next_row false row ∷ more) }
     {
-        if (self.kept.len() as u64) < self.limits.before {
+        if (self.kept.len() as u64) < self.layout.before {
             return Vec::new(self.alloc);
         }
         let Some(mut room) = self.kept.pop_front() else {
@@ -120,7 +120,7 @@ impl Groups {
         row: &[u8],
         text: &mut Vec<u8>,
     ) -> Result<(), AllocError>
-        ensures limits { self.new.limits ≡ self.old.limits }
+        ensures layout { self.new.layout ≡ self.old.layout }
         ensures shows { OnOk result ((more : List ToldRow) → text.old.items ++ will_show self.old (next_row is_selected row.now ∷ more) ≡ text.new.items ++ will_show self.new more) }
     {
         if is_selected {
@@ -134,7 +134,7 @@ impl Groups {
 
     /// Takes a row, and adds to the text what is to be shown now that it came.
     pub(crate) fn take(&mut self, row: Told<'_>, text: &mut Vec<u8>) -> Result<(), AllocError>
-        ensures limits { self.new.limits ≡ self.old.limits }
+        ensures layout { self.new.layout ≡ self.old.layout }
         ensures shows { OnOk result ((more : List ToldRow) → text.old.items ++ will_show self.old (told_row row.entry ∷ more) ≡ text.new.items ++ will_show self.new more) }
     {
         self.begin(row.is_first);

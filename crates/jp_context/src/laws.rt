@@ -1,7 +1,8 @@
 //! Laws of the rows that are shown, and of how rows are told.
 
-ghost use Rattle.std.specs.Prelude.{◌≡◌, ◌++◌, ◌^◌, ◌<◌, [], ℕ, List, All, flat_map, length, map, true};
+ghost use Rattle.std.specs.Prelude.{◌≡◌, ◌++◌, ◌^◌, ◌<◌, [], ℕ, Bool, List, All, flat_map, length, map, true};
 ghost use Rattle.jp_devices.specs.Devices.{Begins};
+ghost use Rattle.jp_context.specs.Colours.{ColoursComeOffRows, ColoursComeOffTold};
 ghost use Rattle.jp_context.specs.Groups.{context_text, marks};
 ghost use Rattle.jp_context.specs.Near.{IsNear, is_stream, shown_at};
 ghost use Rattle.jp_context.specs.Told.{ToldRow, open_row, told_rows, told_text};
@@ -33,7 +34,7 @@ pub fn each_row_is_judged_once()
 
 /// What is shown stays when more rows come. This refuses a definition that takes back what was written.
 pub fn what_is_shown_stays()
-    ensures { (before after : ℕ) (rows more : List ToldRow) → Begins (context_text before after rows) (context_text before after (rows ++ more)) }
+    ensures { (coloured : Bool) (before after : ℕ) (rows more : List ToldRow) → Begins (context_text coloured before after rows) (context_text coloured before after (rows ++ more)) }
 {}
 
 /// Rows that are told one after another are read as they were told, and nothing is left. This refuses heads that say another
@@ -41,4 +42,12 @@ pub fn what_is_shown_stays()
 pub fn told_rows_are_read()
     ensures rows { (rows : List ToldRow) → All (λ row. length row.text < 2 ^ 64) rows → told_rows (flat_map told_text rows) ≡ rows }
     ensures rest { (rows : List ToldRow) → All (λ row. length row.text < 2 ^ 64) rows → open_row (flat_map told_text rows) ≡ [] }
+{}
+
+/// Rows that differ from others by the escape sequences of colours alone are shown where those are, and what is shown differs by
+/// escape sequences alone: also where groups are parted by hyphens in colour, and where the rows are told as bytes. This refuses a
+/// definition in which colours make a row longer than its head says, or in which the hyphens of groups are let out with colours.
+pub fn rows_in_colours_are_shown_alike()
+    ensures rows { ColoursComeOffRows }
+    ensures told { ColoursComeOffTold }
 {}

@@ -40,7 +40,7 @@ pub(crate) fn take_rows<'a>(
     bytes: &'a [u8],
     text: &mut Vec<u8>,
 ) -> Result<&'a [u8], AllocError>
-    ensures limits { groups.new.limits ≡ groups.old.limits }
+    ensures layout { groups.new.layout ≡ groups.old.layout }
     ensures rest { IfOk result (λ rest. rest.now ≡ open_row bytes.now) }
     ensures shows { OnOk result ((more : List ToldRow) → text.old.items ++ will_show groups.old (told_rows bytes.now ++ more) ≡ text.new.items ++ will_show groups.new more) }
 {

@@ -3,6 +3,7 @@
 ghost use Rattle.std.specs.Prelude.{◌≡◌, ◌++◌, OnOk};
 ghost use Rattle.jp_context.specs.Groups.{parted, separator};
 
+use jp_paint::{Part, push_painted};
 use std::alloc::AllocError;
 
 /// What was shown before a row.
@@ -27,21 +28,29 @@ impl Shown {
         }
     }
 
-    /// What parts a row from what was shown.
-    fn separator(self) -> &'static [u8]
-        ensures { result.now ≡ separator self }
+    /// Shows what parts a row from what was shown.
+    fn part(self, coloured: bool, text: &mut Vec<u8>) -> Result<(), AllocError>
+        ensures { OnOk result (text.new.items ≡ text.old.items ++ separator coloured self) }
     {
         match self {
-            Shown::Nothing | Shown::Neighbour => b"",
-            Shown::Others => b"--\n",
+            Shown::Nothing | Shown::Neighbour => Ok(()),
+            Shown::Others => {
+                push_painted(coloured, Part::Sign, b"--", text)?;
+                Ok(text.push(b'\n')?)
+            }
         }
     }
 
     /// Shows a row.
-    pub(crate) fn show(self, row: &[u8], text: &mut Vec<u8>) -> Result<(), AllocError>
-        ensures { OnOk result (text.new.items ≡ text.old.items ++ (separator self ++ row.now)) }
+    pub(crate) fn show(
+        self,
+        coloured: bool,
+        row: &[u8],
+        text: &mut Vec<u8>,
+    ) -> Result<(), AllocError>
+        ensures { OnOk result (text.new.items ≡ text.old.items ++ (separator coloured self ++ row.now)) }
     {
-        text.extend_from_slice(self.separator())?;
+        self.part(coloured, text)?;
         text.extend_from_slice(row)
     }
 }

@@ -41,7 +41,7 @@ fn show(
 ) -> Result<Vec<u8>, Fail> {
     assert!(rt; together > 0);
     let rows = tell(alloc, letters)?;
-    let mut context = Context::new(alloc, before, after, Vec::new(alloc));
+    let mut context = Context::new(alloc, before, after, false, Vec::new(alloc));
     for piece in rows.chunks(together) {
         let taken = context.write(piece)?;
         assert_eq!(rt; taken, piece.len());
@@ -123,13 +123,26 @@ fn streams_are_parted(rt: HostRuntime) -> Result<(), Fail> {
 
 #[test]
 fn takes_any_bytes(rt: HostRuntime) -> Result<(), Fail> {
-    let mut context = Context::new(rt.alloc(), 0, 0, Vec::new(rt.alloc()));
+    let mut context = Context::new(rt.alloc(), 0, 0, false, Vec::new(rt.alloc()));
     let _ = context.write(&[
         9, 5, 1, 0, 0, 0, 0, 0, 0, 0, b'x', 255, 255, 255, 255, 255, 255, 255, 255, 255, 255, 1,
     ])?;
     assert_eq!(rt;
         context.into_inner().into_inner().as_slice(),
         b"x".as_slice()
+    );
+    Ok(())
+}
+
+#[test]
+fn parts_in_colour(rt: HostRuntime) -> Result<(), Fail> {
+    let rows = tell(rt.alloc(), "AbC")?;
+    let mut context = Context::new(rt.alloc(), 0, 0, true, Vec::new(rt.alloc()));
+    let _ = context.write(&rows)?;
+    // As `grep -B0 --color=always` of GNU grep 3.11 writes it.
+    assert_eq!(rt;
+        context.into_inner().into_inner().as_slice(),
+        b"A\n\x1b[36m\x1b[K--\x1b[m\x1b[K\nC\n".as_slice()
     );
     Ok(())
 }

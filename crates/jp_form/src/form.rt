@@ -81,6 +81,11 @@ pub struct Form<'a> {
     pub null: bool,
     /// Whether the number of the line, from 1, stands in front of each row, with a colon.
     pub numbered: bool,
+    /// Whether what stands in front of a row has colours: the name, the number, the path, and the signs after them. The rows of a
+    /// table have none.
+    pub coloured: bool,
+    /// Whether a selected line is shown as it stands with the nodes coloured that the queries select, whatever the spelling.
+    pub marked: bool,
     /// Whether refused lines are no fault: there is no message about them, and the exit status is none the worse for them.
     pub silent: bool,
     /// How many selected lines are wanted.

@@ -27,3 +27,4 @@ pub mod Advancing
 pub mod SoFar
 pub mod Stepping
 pub mod Unbroken
+pub mod Coloured

@@ -27,3 +27,4 @@ pub mod Laws
 pub mod Once
 pub mod Ends
 pub mod Lists
+pub mod Colours

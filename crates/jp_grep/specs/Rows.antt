@@ -2,10 +2,14 @@
 use Rattle.std.specs.Prelude.{ℕ, zero, ◌+◌, List, [], ◌∷◌, ◌++◌, map, flat_map, codes, cond, decimal, count_by, sum_by, Bool, true, false, ◌==◌, ◌&&◌, if◌then◌else◌, ltb, take, Option, Some, None}
 use Rattle.std.specs.List.{concat}
 use Rattle.jp_context.specs.Told.{told_text}
+use Rattle.jp_paint.specs.Colours.{painted}
+use Rattle.jp_paint.specs.Marked.{marked_part, marked_text}
+use Rattle.jp_paint.specs.declared.part.Part.TheVariants as parts
 use Rattle.jp_model.specs.declared.Framing.TheVariants as framings
 use Rattle.jp_model.specs.declared.LineFault.{LineFault}
 use Rattle.jp_model.specs.Json.Status.{LineStatus, blank, refused, parsed}
-use Rattle.jp_model.specs.Json.Tree.{Tree}
+use Rattle.jp_model.specs.declared.Span.{Span}
+use Rattle.jp_model.specs.Json.Tree.{Tree, span}
 use Rattle.jp_model.specs.Meaning.Nodes.{Node}
 use Rattle.jp_model.specs.Meaning.Paths.{path_text}
 use Rattle.jp_model.specs.Script.Machine.{is_refused_status}
@@ -31,18 +35,18 @@ behind_name false other = other
 behind_name true other = 0x00 ∷ []
 
 -- the name of the stream in front of a row, and a sign after it
-abbrev pub name_front : (named null : Bool) → List ℕ → (sign : List ℕ) → List ℕ
-name_front false null name sign = []
-name_front true null name sign = name ++ behind_name null sign
+abbrev pub name_front : (named null coloured : Bool) → List ℕ → (sign : List ℕ) → List ℕ
+name_front false null coloured name sign = []
+name_front true null coloured name sign = painted coloured parts.Name name ++ behind_name null (painted coloured parts.Sign sign)
 
 -- the number of the line in front of a row, and a sign after it
-abbrev pub number_front : Bool → ℕ → (sign : List ℕ) → List ℕ
-number_front false n sign = []
-number_front true n sign = decimal n ++ sign
+abbrev pub number_front : (numbered coloured : Bool) → ℕ → (sign : List ℕ) → List ℕ
+number_front false coloured n sign = []
+number_front true coloured n sign = painted coloured parts.Place (decimal n) ++ painted coloured parts.Sign sign
 
 -- all that stands in front of a row of line n: in a sequence RS first, as in front of each text there (RFC 7464, section 2.2)
 abbrev pub front : (sign : List ℕ) → Form → ℕ → List ℕ
-front sign form n = row_start (framing_by form.units) ++ name_front form.named form.null form.name.now sign ++ number_front form.numbered n sign
+front sign form n = row_start (framing_by form.units) ++ name_front form.named form.null form.coloured form.name.now sign ++ number_front form.numbered form.coloured n sign
 
 -- a row of line n
 abbrev pub row : Form → ℕ → List ℕ → List ℕ
@@ -68,20 +72,34 @@ line_text spellings.Source units line t = whole units line t
 line_text spellings.Text units line t = spelled spellings.Text units line t
 line_text spellings.Canonical units line t = spelled spellings.Canonical units line t
 
--- the path in front of a value
-abbrev pub path_front : Bool → Node → List ℕ
-path_front false node = []
-path_front true node = path_text node.location ++ tab
+-- a line as it is printed, its bytes within some spans coloured
+abbrev pub whole_marked : Units → List Span → List ℕ → Tree → List ℕ
+whole_marked (unit.Lines framings.Lines) spans line t = marked_text spans 0 line
+whole_marked (unit.Lines framings.Sequence) spans line t = marked_part spans (span t) line
+whole_marked (unit.Pieces pieces) spans line t = printed (unit.Pieces pieces) (marked_part spans (span t) line)
+
+-- where the nodes stand that the queries select of one
+abbrev pub marks_of : Question → Tree → Node → List Span
+marks_of question t node = map (λ (found : Node). span found.tree) (nodes_of (queries_of question) node t)
+
+-- a selected line, asked at a node, as it is shown
+abbrev pub shown_line : Question → Form → List ℕ → Tree → Node → List ℕ
+shown_line question form line t node = if form.marked then whole_marked form.units (marks_of question t node) line t else line_text form.spelling form.units line t
+
+-- the path in front of a value, and a tab after it
+abbrev pub path_front : (paths coloured : Bool) → Node → List ℕ
+path_front false coloured node = []
+path_front true coloured node = painted coloured parts.Place (path_text node.location) ++ tab
 
 -- the row of a value in line n
 abbrev pub value_row : Form → Bool → ℕ → List ℕ → Node → List ℕ
-value_row form paths n line node = row form n (path_front paths node ++ spelled form.spelling form.units line node.tree)
+value_row form paths n line node = row form n (path_front paths form.coloured node ++ spelled form.spelling form.units line node.tree)
 
 -- the rows of a node of line n that is selected
 abbrev pub node_rows : Shown → Question → Form → ℕ → List ℕ → Tree → Node → List (List ℕ)
 node_rows shown.Nothing question form n line t node = []
-node_rows (shown.Line faults) question form n line t node = row form n (line_text form.spelling form.units line t) ∷ []
-node_rows shown.Around question form n line t node = row_told true n (row form n (line_text form.spelling form.units line t)) ∷ []
+node_rows (shown.Line faults) question form n line t node = row form n (shown_line question form line t node) ∷ []
+node_rows shown.Around question form n line t node = row_told true n (row form n (shown_line question form line t node)) ∷ []
 node_rows (shown.Values paths) question form n line t node = map (value_row form paths n line) (nodes_of (queries_of question) node t)
 node_rows (shown.Cells table) question form n line t node = table_row table (queries_of question) form n line t node ∷ []
 
@@ -92,8 +110,8 @@ asked_rows question form n line t node = if is_selected question t node then nod
 -- the same as one text, but for the rows of values, since there may be many
 abbrev pub row_at_once : Shown → Question → Form → ℕ → List ℕ → Tree → Node → List ℕ
 row_at_once shown.Nothing question form n line t node = []
-row_at_once (shown.Line faults) question form n line t node = row form n (line_text form.spelling form.units line t)
-row_at_once shown.Around question form n line t node = row_told true n (row form n (line_text form.spelling form.units line t))
+row_at_once (shown.Line faults) question form n line t node = row form n (shown_line question form line t node)
+row_at_once shown.Around question form n line t node = row_told true n (row form n (shown_line question form line t node))
 row_at_once (shown.Values paths) question form n line t node = []
 row_at_once (shown.Cells table) question form n line t node = table_row table (queries_of question) form n line t node
 
@@ -145,7 +163,7 @@ from_line_text (Some line) = codes ", from line " ++ decimal line
 -- a message on a line: what is said of it after the program's name, that of the stream and the number of the line
 abbrev pub line_message : (name : List ℕ) → ℕ → (said : List ℕ) → (from_line : Option ℕ) → List ℕ
 line_message name n said from_line =
-    codes "jpgrep: " ++ name_front true false name (codes ":") ++ number_front true n (codes ":") ++ codes " " ++ said ++ (from_line_text from_line ++ line_feed)
+    codes "jpgrep: " ++ name_front true false false name (codes ":") ++ number_front true false n (codes ":") ++ codes " " ++ said ++ (from_line_text from_line ++ line_feed)
 
 -- the message on a refused line, where messages are wanted
 abbrev pub refusal : Bool → List ℕ → ℕ → LineFault → (from_line : Option ℕ) → List ℕ
@@ -215,6 +233,6 @@ selected_count question items = sum_by (selected_in question) items
 -- without selected lines is one of which all were
 abbrev pub summary_of : Summary → Form → (count : ℕ) → (all : Bool) → List ℕ
 summary_of summaries.Nothing form count all = []
-summary_of summaries.Count form count all = name_front form.named form.null form.name.now (codes ":") ++ (decimal count ++ line_feed)
-summary_of summaries.NameWith form count all = if count == 0 then [] else form.name.now ++ behind_name form.null line_feed
-summary_of summaries.NameWithout form count all = if (count == 0) && all then form.name.now ++ behind_name form.null line_feed else []
+summary_of summaries.Count form count all = name_front form.named form.null form.coloured form.name.now (codes ":") ++ (decimal count ++ line_feed)
+summary_of summaries.NameWith form count all = if count == 0 then [] else painted form.coloured parts.Name form.name.now ++ behind_name form.null line_feed
+summary_of summaries.NameWithout form count all = if (count == 0) && all then painted form.coloured parts.Name form.name.now ++ behind_name form.null line_feed else []

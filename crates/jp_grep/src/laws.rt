@@ -1,5 +1,6 @@
 //! Laws of the definitions.
 
+ghost use Rattle.jp_grep.specs.Colours.{ColoursComeOffContext, ColoursComeOffRows, ColoursComeOffSummaries, HeadersHaveNoColours};
 ghost use Rattle.jp_grep.specs.Laws.{EachRootIsItsLine, RowsAreThoseOfAQuery};
 ghost use Rattle.jp_grep.specs.Once.{EachLineIsSelectedOnce};
 ghost use Rattle.jp_grep.specs.Tables.{CanonicalTextsMayStand, CellsHaveTexts};
@@ -34,4 +35,15 @@ pub fn cells_have_texts()
 /// canonical texts leads back to them.
 pub fn canonical_texts_may_stand()
     ensures { CanonicalTextsMayStand }
+{}
+
+/// Without its escape sequences what is written in colours is what is written without colours, whatever is asked of which
+/// stream, and where lines around selected ones are shown: colours add, leave out and move nothing. A definition in which a
+/// colour stands in a row whose head says its length without it, in which a coloured line loses the spaces around its value, or
+/// in which a node is coloured in a value that is not printed as it stands, is no such definition.
+pub fn colours_come_off()
+    ensures rows { ColoursComeOffRows }
+    ensures summaries { ColoursComeOffSummaries }
+    ensures headers { HeadersHaveNoColours }
+    ensures context { ColoursComeOffContext }
 {}

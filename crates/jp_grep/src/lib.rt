@@ -27,6 +27,7 @@ mod input;
 mod items;
 pub mod laws;
 mod list;
+mod marks;
 mod node;
 mod outlet;
 mod progress;

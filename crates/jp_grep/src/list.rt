@@ -31,6 +31,8 @@ fn list_form<'a>(name: &'a str) -> Form<'a>
         name,
         named: false,
         numbered: false,
+        coloured: false,
+        marked: false,
         silent: false,
         null: false,
         most: u64::MAX,

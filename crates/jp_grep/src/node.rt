@@ -8,7 +8,7 @@ ghost use Rattle.jp_form.specs.declared.form.Shown.TheVariants as shown;
 ghost use Rattle.jp_grep.specs.Asked.{IsOfItsLine, asked_tree};
 ghost use Rattle.jp_grep.specs.Holding.{TellsOfWriter};
 ghost use Rattle.jp_grep.specs.Matching.{is_selected, nodes_of, queries_of, selects, wants_nodes};
-ghost use Rattle.jp_grep.specs.Rows.{line_text, row, row_at_once, row_told, value_row, whole};
+ghost use Rattle.jp_grep.specs.Rows.{line_text, row, row_at_once, row_told, shown_line, value_row, whole};
 ghost use Rattle.jp_grep.specs.Searching.{AnswersNode, PutsFirst};
 ghost use Rattle.jp_grep.specs.Tables.{table_row};
 
@@ -67,19 +67,24 @@ impl<'q> Answerer<'q> {
         }
     }
 
-    /// Adds the row of a line.
+    /// Adds the row of a line that is selected by a node of it.
     fn add_line<'r>(
         self,
         number: u64,
-        line: LineView<'r>,
+        asked: &AskedNode<'r>,
         text: &'r [u8],
         room: &mut NodeRoom<'r>,
     ) -> Result<(), AllocError>
-        requires { text_of_view line ≡ text.now }
-        ensures { OnOk result (room.new.row.items ≡ room.old.row.items ++ row self.entry.form.now number (line_text self.entry.form.now.spelling self.entry.form.now.units text.now (tree_of_view line.entry))) }
+        requires node { IsOfItsLine asked.now }
+        requires text { text_of_view asked.now.line ≡ text.now }
+        ensures { OnOk result (room.new.row.items ≡ room.old.row.items ++ row self.entry.form.now number (shown_line self.entry.question.now self.entry.form.now text.now (asked_tree asked.now) (node_of asked.now.node))) }
     {
         add_front(b':', self.form, number, &mut room.row)?;
-        self.append_line(line, text, room)?;
+        if self.form.marked {
+            self.append_marked(asked, text, room)?;
+        } else {
+            self.append_line(asked.line, text, room)?;
+        }
         room.row.extend_from_slice(b"\n")
     }
 
@@ -139,14 +144,14 @@ impl<'q> Answerer<'q> {
         requires text { text_of_view asked.now.line ≡ text.now }
         ensures selected { IfOk result (λ selected. selected ≡ is_selected self.entry.question.now (asked_tree asked.now) (node_of asked.now.node)) }
         ensures row { OnOk result (room.new.row.items ≡ room.old.row.items ++ (if is_selected self.entry.question.now (asked_tree asked.now) (node_of asked.now.node)
-            then (if shown then row self.entry.form.now number (line_text self.entry.form.now.spelling self.entry.form.now.units text.now (asked_tree asked.now)) else []) else [])) }
+            then (if shown then row self.entry.form.now number (shown_line self.entry.question.now self.entry.form.now text.now (asked_tree asked.now) (node_of asked.now.node)) else []) else [])) }
     {
         let matching = self.question.matches(self.alloc, asked, &mut room.frame)?;
         if !self.question.wanted.wants_value(matching) {
             return Ok(false);
         }
         if shown {
-            self.add_line(number, asked.line, text, room)?;
+            self.add_line(number, asked, text, room)?;
         }
         Ok(true)
     }
@@ -164,7 +169,7 @@ impl<'q> Answerer<'q> {
         requires text { text_of_view asked.now.line ≡ text.now }
         ensures selected { IfOk result (λ selected. selected ≡ is_selected self.entry.question.now (asked_tree asked.now) (node_of asked.now.node)) }
         ensures row { OnOk result (room.new.row.items ≡ (if is_selected self.entry.question.now (asked_tree asked.now) (node_of asked.now.node)
-            then row_told true number (row self.entry.form.now number (line_text self.entry.form.now.spelling self.entry.form.now.units text.now (asked_tree asked.now))) else [])) }
+            then row_told true number (row self.entry.form.now number (shown_line self.entry.question.now self.entry.form.now text.now (asked_tree asked.now) (node_of asked.now.node))) else [])) }
     {
         room.row.clear();
         if !self.make_line_row(true, number, asked, text, room)? {

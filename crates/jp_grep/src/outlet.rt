@@ -3,6 +3,8 @@
 ghost use Rattle.std.specs.Prelude.{◌≡◌, ◌<◌, ◌++◌, [], List, ℕ, codes, decimal, false, is_err, OnOk};
 ghost use Rattle.jp_devices.specs.Devices.{Device, Writes};
 ghost use Rattle.jp_model.specs.Rows.{line_feed};
+ghost use Rattle.jp_paint.specs.Colours.{painted};
+ghost use Rattle.jp_paint.specs.declared.part.Part.TheVariants as parts;
 ghost use Rattle.jp_grep.specs.Faults.{write_of};
 ghost use Rattle.jp_grep.specs.Holding.{Puts, TellsOfWriter};
 ghost use Rattle.jp_grep.specs.Rows.{behind_name, name_front, summary_of};
@@ -11,6 +13,7 @@ use crate::fault::SearchFault;
 use itoa::Buffer;
 use jp_form::{Form, Summary};
 use jp_model::Watched;
+use jp_paint::{Part, stop};
 use jp_rows::{WriteFault, write_whole};
 use std::alloc::Global;
 use std::io::Write;
@@ -58,22 +61,44 @@ pub(crate) fn then_write<W: Write>(
     }
 }
 
-/// Writes the name of a stream and what follows it: a NUL where it is wanted, and else other bytes.
+/// Writes a part of a row after those before it, in its colour where it is `coloured`.
+fn then_paint<W: Write>(
+    before: Result<(), WriteFault>,
+    coloured: bool,
+    part: Part,
+    bytes: &[u8],
+    out: &mut Watched<W>,
+) -> Result<(), WriteFault>
+    requires working { out.old.failed ≡ is_err before }
+    ensures text { (start : Device W) (text : List ℕ) → Writes W.contents start out.old before text → Writes W.contents start out.new result (text ++ painted coloured part bytes.now) }
+    ensures fault { out.new.failed ≡ is_err result }
+    ensures after { out.new.after ≡ out.old.after }
+{
+    if !coloured {
+        return then_write(before, bytes, out);
+    }
+    let begun = then_write(before, part.start(), out);
+    let written = then_write(begun, bytes, out);
+    then_write(written, stop(), out)
+}
+
+/// Writes the name of a stream and what follows it: a NUL where it is wanted, and else other bytes, which may be a sign.
 fn write_name<W: Write>(
     form: &Form<'_>,
+    coloured_sign: bool,
     other: &[u8],
     out: &mut Watched<W>,
 ) -> Result<(), WriteFault>
     requires working { out.old.failed ≡ false }
-    ensures text { Writes W.contents out.old out.new result (form.now.name.now ++ behind_name form.now.null other.now) }
+    ensures text { Writes W.contents out.old out.new result (painted form.now.coloured parts.Name form.now.name.now ++ behind_name form.now.null (painted coloured_sign parts.Sign other.now)) }
     ensures fault { out.new.failed ≡ is_err result }
     ensures after { out.new.after ≡ out.old.after }
 {
-    let written = write_whole(form.name.as_bytes(), out);
+    let written = then_paint(Ok(()), form.coloured, Part::Name, form.name.as_bytes(), out);
     if form.null {
         return then_write(written, b"\0", out);
     }
-    then_write(written, other, out)
+    then_paint(written, coloured_sign, Part::Sign, other, out)
 }
 
 /// Writes a number and a line feed after what was written.
@@ -99,14 +124,14 @@ fn write_count<W: Write>(
     out: &mut Watched<W>,
 ) -> Result<(), WriteFault>
     requires working { out.old.failed ≡ false }
-    ensures text { Writes W.contents out.old out.new result (name_front form.now.named form.now.null form.now.name.now (codes ":") ++ (decimal count ++ line_feed)) }
+    ensures text { Writes W.contents out.old out.new result (name_front form.now.named form.now.null form.now.coloured form.now.name.now (codes ":") ++ (decimal count ++ line_feed)) }
     ensures fault { out.new.failed ≡ is_err result }
     ensures after { out.new.after ≡ out.old.after }
 {
     if !form.named {
         return write_number(Ok(()), count, out);
     }
-    let named = write_name(form, b":", out);
+    let named = write_name(form, form.coloured, b":", out);
     write_number(named, count, out)
 }
 
@@ -128,8 +153,8 @@ pub(crate) fn write_summary<W: Write>(
 {
     match form.summary {
         Summary::Count => told(write_count(form, count, out)),
-        Summary::NameWith if count > 0 => told(write_name(form, b"\n", out)),
-        Summary::NameWithout if count == 0 && all => told(write_name(form, b"\n", out)),
+        Summary::NameWith if count > 0 => told(write_name(form, false, b"\n", out)),
+        Summary::NameWithout if count == 0 && all => told(write_name(form, false, b"\n", out)),
         _ => Ok(()),
     }
 }

@@ -7,6 +7,7 @@ use crate::first_names::Members;
 use crate::spelling::Speller;
 use jp_context::{Told, push_told};
 use jp_eval::Frame;
+use jp_model::Span;
 use jp_table::TableRow;
 use std::alloc::{AllocError, Global};
 use std::mem::swap;
@@ -28,8 +29,10 @@ pub(crate) struct NodeRoom<'r> {
     /// That row with the head that it is told with.
     told: Vec<u8>,
     pub(crate) cells: TableRow,
-    /// A cell that is made, where it does not stand in the line.
+    /// A cell that is made, where it does not stand in the line, or a value in which nodes are coloured.
     pub(crate) cell: Vec<u8>,
+    /// Where these nodes stand.
+    pub(crate) marks: Vec<Span>,
 }
 
 impl<'r> Room<'r> {
@@ -45,6 +48,7 @@ impl<'r> Room<'r> {
                 told: Vec::new(alloc),
                 cells: TableRow::new(alloc),
                 cell: Vec::new(alloc),
+                marks: Vec::new(alloc),
             },
         }
     }

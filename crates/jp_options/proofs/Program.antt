@@ -16,7 +16,7 @@ use Rattle.clap.specs.declared.builder.arg.Arg.{Arg}
 use Rattle.clap.specs.declared.builder.command.Command.{Command}
 use Rattle.clap.specs.declared.error.Error.{Error}
 use Rattle.clap.specs.declared.parser.matches.ArgMatches.{ArgMatches}
-use Rattle.jp_options.specs.Command.{conflicts_in, count_faults, found_in, has_counts, parse_faults, program, with_rules}
+use Rattle.jp_options.specs.Command.{conflicts_in, value_faults, found_in, has_values, parse_faults, program, with_rules}
 
 -- a command with no more rules is the same
 pub with_no_rules : (a : App) → a ≡ with_rules a []
@@ -74,12 +74,12 @@ has_first_kind [] next e (inr none) = absurd none
 has_first_kind (k ∷ ks) next e has = has
 
 -- where the arguments are read, the values that are to be numbers decide
-pub counts_taken : (first : Kinds) (found : List Row) → first ≡ [] → has_counts found ≡ true → or_else first (count_faults found) ≡ []
-counts_taken first found none taken = rw (none, taken) refl
+pub values_taken : (first : Kinds) (found : List Row) → first ≡ [] → has_values found ≡ true → or_else first (value_faults found) ≡ []
+values_taken first found none taken = rw (none, taken) refl
 
-pub count_refused : (first : Kinds) (found : List Row) (e : Error) → first ≡ [] → has_counts found ≡ false
-    → kind_of e ≡ InvalidValue → HasKind (or_else first (count_faults found)) e
-count_refused first found e none refused kind = rw (none, refused) (inr (inl kind))
+pub value_refused : (first : Kinds) (found : List Row) (e : Error) → first ≡ [] → has_values found ≡ false
+    → kind_of e ≡ InvalidValue → HasKind (or_else first (value_faults found)) e
+value_refused first found e none refused kind = rw (none, refused) (inr (inl kind))
 
 -- where these values are taken too, the arguments that do not go together are refused by their conflict
 pub refused_by_conflict : (first : Kinds) (found : List Row) (kind : ErrorKind) (e : Error) → first ≡ [] → kind ∷ [] ≡ conflicts_in found → kind_of e ≡ kind

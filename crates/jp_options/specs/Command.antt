@@ -11,6 +11,7 @@ use Rattle.clap.specs.Words.{App, Kinds, Row, Rule, Text, all_of, fault_of, firs
 use Rattle.clap.specs.declared.builder.action.ArgAction.TheVariants.{Append, Help, Set, SetTrue}
 use Rattle.clap.specs.declared.error.kind.ErrorKind.TheVariants.{ArgumentConflict, InvalidValue, MissingRequiredArgument, WrongNumberOfValues}
 use Rattle.jp_model.specs.Lines.{pieces}
+use Rattle.jp_options.specs.Colour.{colour_of}
 use Rattle.jp_options.specs.declared.options.Options.{Options}
 
 -- the arguments that belong to no option, as many as there are
@@ -34,7 +35,7 @@ list_rule id = record (new_rule id) { long = Some id; action = Some Append; valu
 abbrev pub number_rule : Text → ℕ → Text → Rule
 number_rule id letter word = record (option_rule id letter word) { action = Some Set }
 
--- `--names`, `--each` and `--fold`, of which the last value counts
+-- `--names`, `--each`, `--fold` and `--color`, of which the last value counts
 abbrev pub value_rule : Text → Rule
 value_rule id = record (new_rule id) { long = Some id; action = Some Set; value_names = 1 }
 
@@ -94,6 +95,7 @@ front_rules = flag_rule (codes "number") 0x6E (codes "line-number")
     ∷ flag_rule (codes "unnamed") 0x68 (codes "no-filename")
     ∷ flag_rule (codes "null") 0x5A (codes "null")
     ∷ number_rule (codes "most") 0x6D (codes "max-count")
+    ∷ value_rule (codes "color")
     ∷ []
 
 -- how many lines around selected lines are shown: `-A`, `-B`, `-C`
@@ -171,6 +173,7 @@ pub record IsAskedBy (found : List Row) (o : Options) : Type 0 where
   pub commas : o.commas ≡ is_given (codes "csv") found
   pub header : o.header ≡ is_given (codes "header") found
   pub names : map (λ s. s.now) o.names.items ≡ names_of (first_of (codes "names") found)
+  pub colour : colour_of (first_of (codes "color") found) ≡ Some o.colour
   pub tally : o.tally ≡ is_given (codes "tally") found
   pub survey : o.survey ≡ is_given (codes "paths") found
   pub fold : o.fold ≡ count_of (first_of (codes "fold") found)
@@ -312,19 +315,20 @@ conflicts_in found = if is_given (codes "with") found && is_given (codes "withou
 unfoldable pub parse_faults : List Text → Kinds
 parse_faults words = fault_of program words
 
--- the values of `-m`, `--fold`, `-A`, `-B` and `-C` are numbers, where they are given
-abbrev pub has_counts : List Row → Bool
-has_counts found =
+-- the values of `-m`, `--fold`, `-A`, `-B` and `-C` are numbers, where they are given, and that of `--color` says when
+abbrev pub has_values : List Row → Bool
+has_values found =
     is_count (first_of (codes "most") found) && is_count (first_of (codes "fold") found)
     && is_count (first_of (codes "after") found) && is_count (first_of (codes "before") found) && is_count (first_of (codes "around") found)
+    && is_some (colour_of (first_of (codes "color") found))
 
 -- why one of them is refused
-abbrev pub count_faults : List Row → Kinds
-count_faults found = if has_counts found then [] else InvalidValue ∷ []
+abbrev pub value_faults : List Row → Kinds
+value_faults found = if has_values found then [] else InvalidValue ∷ []
 
--- why the arguments are refused one by one: as they are read, or after that for a value that is no number
+-- why the arguments are refused one by one: as they are read, or after that for a value that is no number or does not say when
 abbrev pub reading_faults : List Text → Kinds
-reading_faults words = or_else (parse_faults words) (count_faults (found_in words))
+reading_faults words = or_else (parse_faults words) (value_faults (found_in words))
 
 -- why the arguments are refused: one by one, or after that since they do not go together
 abbrev pub faults_in : List Text → Kinds

@@ -1,4 +1,4 @@
--- The options that take two values, as those that take one are read.
+-- The options that take two values, and the one that may take none, as those that take one are read.
 use Rattle.std.specs.Prelude.{List, [], ◌∷◌, take, codes, Bool, ◌||◌, bytes_eq, if◌then◌else◌}
 use Rattle.clap.specs.Words.{Text}
 use Rattle.jp_options.specs.declared.pairs.Place.{Place}
@@ -8,8 +8,12 @@ use Rattle.jp_options.specs.declared.pairs.Place.TheVariants as places
 abbrev pub is_list_word : Text → Bool
 is_list_word word = bytes_eq word (codes "--in") || bytes_eq word (codes "--not-in")
 
+-- `--color` without a value has the value `auto`
+abbrev pub valued : Text → Text
+valued word = if bytes_eq word (codes "--color") then codes "--color=auto" else word
+
 abbrev mutual
-  -- the arguments with the option once more before the file of each list, up to `--`
+  -- the arguments with the option once more before the file of each list, and with a value of `--color`, up to `--`
   pub paired : List Text → List Text
   paired [] = []
   paired (word ∷ rest) =
@@ -17,7 +21,7 @@ abbrev mutual
       else if is_list_word word then word ∷ paired_query word rest
       else if bytes_eq (take 5 word) (codes "--in=") then word ∷ codes "--in" ∷ paired_file rest
       else if bytes_eq (take 9 word) (codes "--not-in=") then word ∷ codes "--not-in" ∷ paired_file rest
-      else word ∷ paired rest
+      else valued word ∷ paired rest
 
   -- the same after such an option
   pub paired_query : Text → List Text → List Text
@@ -40,3 +44,8 @@ paired_at places.Behind words = words
 abbrev pub before_word : Place → List Text → List Text
 before_word (places.File option) words = option.now ∷ words
 before_word _ words = words
+
+-- an argument at a place, as it is read
+abbrev pub read_at : Place → Text → Text
+read_at places.Any word = valued word
+read_at place word = word

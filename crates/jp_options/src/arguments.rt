@@ -141,7 +141,7 @@ fn number_argument<'a>(
         .help(help)
 }
 
-/// `--names NAMES`, `--each QUERY` or `--fold NUMBER`, whose last value counts.
+/// `--names NAMES`, `--each QUERY`, `--fold NUMBER` or `--color=WHEN`, whose last value counts.
 fn value_argument<'a>(alloc: Global, id: &'a str, value: &'a str, help: &'a str) -> Arg<'a>
     ensures rule { rule_of result ≡ value_rule id.entry.now }
     ensures local { result.global ≡ false }
@@ -327,7 +327,7 @@ fn add_spelling<'a>(alloc: Global, command: Command<'a>) -> Result<Command<'a>, 
         ))
 }
 
-/// The options that say what stands in front, and how many lines are wanted.
+/// The options that say what stands in front, how many lines are wanted, and in which colours.
 fn add_fronts<'a>(alloc: Global, command: Command<'a>) -> Result<Command<'a>, AllocError>
     ensures { IfOk result (λ more. app_of more ≡ with_rules (app_of command.entry) front_rules) }
 {
@@ -366,6 +366,12 @@ fn add_fronts<'a>(alloc: Global, command: Command<'a>) -> Result<Command<'a>, Al
             'm',
             "max-count",
             "Stops after NUMBER selected lines of each file",
+        ))?
+        .arg(value_argument(
+            alloc,
+            "color",
+            "WHEN",
+            "Prints in colours: =auto, as without a value, where it is to a terminal, =always or =never",
         ))
 }
 

@@ -3,10 +3,12 @@
 //! Public calls:
 //!
 //! - `pair_words`, `read_words`: the arguments as options
+//! - `Colour`: when what is printed has colours
 //! - `Options`: the queries, the conditions and the files, and the form of what is written of a file
 #![tactic(auto)]
 
 mod arguments;
+mod colour;
 mod columns;
 mod context;
 mod messages;
@@ -14,6 +16,7 @@ mod options;
 mod pairs;
 mod words;
 
+pub use colour::Colour;
 pub use options::Options;
 pub use pairs::pair_words;
 pub use words::read_words;

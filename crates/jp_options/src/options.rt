@@ -3,9 +3,11 @@
 ghost use Rattle.std.specs.Prelude.{◌≡◌, ◌||◌, ◌∷◌, [], List, map};
 ghost use Rattle.std.specs.Option.{option_map_or};
 ghost use Rattle.clap.specs.Words.{Row};
+ghost use Rattle.jp_options.specs.Colour.{asked_marks, gives_query};
 ghost use Rattle.jp_options.specs.Command.{IsAskedBy, asks_each, asks_of_values, asks_spelling, conflicts_in, form_conflicts, names_nothing, prints_others, prints_values, stream_conflicts};
 ghost use Rattle.jp_options.specs.Words.{asked_files, asked_most, asked_queries, asked_rows, asked_spelling, asked_summary, asked_trailing, asked_units, asks_names, begins_with_query, first_decides, names_list};
 
+use crate::colour::Colour;
 use crate::messages::{
     BOTH_FRONTS, BOTH_NAMES, BOTH_PIECES, BOTH_SPELLINGS, BOTH_TABLES, NO_NAMES, NO_PIECES,
     NO_QUERY, NO_QUESTION, NO_SPELLING, NO_VALUES, NO_VALUES_OF_NODES,
@@ -63,6 +65,8 @@ pub struct Options<'a> {
     pub before: Option<u64>,
     /// `-C`: how many lines before and after it are, where `-B` or `-A` does not say.
     pub around: Option<u64>,
+    /// `--color`: when what is printed has colours.
+    pub colour: Colour,
     /// `-n`: the number of each line is printed in front.
     pub numbered: bool,
     /// `-c`: how many lines are selected is printed.
@@ -246,6 +250,13 @@ impl<'a> Options<'a> {
             && !self.names_list()
     }
 
+    /// Whether a query is given: the first argument, or one of `-e`.
+    pub(crate) fn gives_query(&self) -> bool
+        ensures { result ≡ gives_query self.now }
+    {
+        self.begins_with_query() || !self.queries.is_empty()
+    }
+
     /// The queries that the arguments name: those of `-e`, or the first argument where there is none of `-e`, `-w`, `--each`, `--in`,
     /// `--not-in` and `--paths`. Without `-e` it is the node that is asked otherwise: `$`, or with `--each` `@`. With `--refused` there is none.
     pub fn queries(&self) -> &[&'a str]
@@ -343,7 +354,7 @@ impl<'a> Options<'a> {
     }
 
     /// How a row spells what it shows.
-    fn spelling(&self) -> Spelling
+    pub(crate) fn spelling(&self) -> Spelling
         ensures { result ≡ asked_spelling self.now }
     {
         if self.tally {
@@ -374,8 +385,8 @@ impl<'a> Options<'a> {
         }
     }
 
-    /// What is written of the file with this name. Refused lines that are selected are no fault.
-    pub fn form<'f>(&self, name: &'f str) -> Form<'f>
+    /// What is written of the file with this name, in colours or not. Refused lines that are selected are no fault.
+    pub fn form<'f>(&self, name: &'f str, coloured: bool) -> Form<'f>
         ensures shown { result.shown ≡ asked_rows self.now }
         ensures spelling { result.spelling ≡ asked_spelling self.now }
         ensures summary { result.summary ≡ asked_summary self.now }
@@ -383,6 +394,8 @@ impl<'a> Options<'a> {
         ensures named { result.named ≡ asks_names self.now }
         ensures null { result.null ≡ self.now.null }
         ensures numbered { result.numbered ≡ self.now.numbered }
+        ensures coloured { result.coloured ≡ coloured }
+        ensures marked { result.marked ≡ asked_marks coloured self.now }
         ensures silent { result.silent ≡ (self.now.silent || self.now.refused) }
         ensures units { result.units ≡ asked_units self.now }
         ensures most { result.most ≡ asked_most self.now }
@@ -397,6 +410,8 @@ impl<'a> Options<'a> {
             named: self.is_named(),
             null: self.null,
             numbered: self.numbered,
+            coloured,
+            marked: self.marks_nodes(coloured),
             silent: self.silent || self.refused,
             most: self.most(),
             trailing: self.lines_trailing(),

@@ -1,7 +1,7 @@
-//! The options that take two values, as those that take one are read.
+//! The options that take two values, and the one that may take none, as those that take one are read.
 
 ghost use Rattle.std.specs.Prelude.{◌≡◌, ◌∷◌, List, ℕ, IfOk, map};
-ghost use Rattle.jp_options.specs.Pairs.{before_word, is_list_word, paired, paired_at};
+ghost use Rattle.jp_options.specs.Pairs.{before_word, is_list_word, paired, paired_at, read_at, valued};
 
 use std::alloc::{AllocError, Global};
 
@@ -28,7 +28,7 @@ fn is_list_word(word: &str) -> bool
 impl<'a> Place<'a> {
     /// What follows an argument that is neither a query nor a file of a list.
     fn behind(word: &'a str) -> Place<'a>
-        ensures { (rest : List (List ℕ)) → word.entry.now ∷ paired_at result rest ≡ paired (word.entry.now ∷ rest) }
+        ensures { (rest : List (List ℕ)) → valued word.entry.now ∷ paired_at result rest ≡ paired (word.entry.now ∷ rest) }
     {
         if word == "--" {
             Place::Behind
@@ -43,9 +43,19 @@ impl<'a> Place<'a> {
         }
     }
 
+    /// An argument as it is read.
+    fn read(self, word: &'a str) -> &'a str
+        ensures { result.now ≡ read_at self.entry word.entry.now }
+    {
+        match self {
+            Place::Any if word == "--color" => "--color=auto",
+            _ => word,
+        }
+    }
+
     /// What follows an argument.
     fn next(self, word: &'a str) -> Place<'a>
-        ensures { (rest : List (List ℕ)) → before_word self.entry (word.entry.now ∷ paired_at result rest) ≡ paired_at self.entry (word.entry.now ∷ rest) }
+        ensures { (rest : List (List ℕ)) → before_word self.entry (read_at self.entry word.entry.now ∷ paired_at result rest) ≡ paired_at self.entry (word.entry.now ∷ rest) }
     {
         match self {
             Place::Any => Place::behind(word),
@@ -57,7 +67,8 @@ impl<'a> Place<'a> {
 }
 
 /// The arguments with `--in` and `--not-in` once more before the file after their query, which may stand after an equals sign:
-/// so each use of them is two uses of an option that takes one value, which `read_words` reads. Arguments after `--` stay.
+/// so each use of them is two uses of an option that takes one value, which `read_words` reads. And with its value after a
+/// `--color` that has none. Arguments after `--` stay.
 ///
 /// # Errors
 ///
@@ -71,7 +82,7 @@ pub fn pair_words<'a>(alloc: Global, words: &[&'a str]) -> Result<Vec<&'a str>, 
         if let Place::File(option) = place {
             paired.push(option)?;
         }
-        paired.push(*word)?;
+        paired.push(place.read(word))?;
         place = place.next(word);
     }
     if let Place::File(option) = place {

@@ -1,11 +1,13 @@
 //! The program's arguments.
 
-ghost use Rattle.std.specs.Prelude.{◌≡◌, IfOk, IsErr, IsOk, OkIff, codes, false, map, true};
+ghost use Rattle.std.specs.Prelude.{◌≡◌, Some, IfOk, IsErr, IsOk, OkIff, codes, false, map, true};
 ghost use Rattle.clap.specs.Words.{FailsBy, first_of, found_of, rows_of};
 ghost use Rattle.jp_model.specs.Lines.{pieces};
-ghost use Rattle.jp_options.specs.Command.{IsAskedBy, count_of, faults_in, found_in, has_counts, is_count, is_given, names_of, reading_faults, values_in};
+ghost use Rattle.jp_options.specs.Colour.{colour_of};
+ghost use Rattle.jp_options.specs.Command.{IsAskedBy, count_of, faults_in, found_in, has_values, is_count, is_given, names_of, reading_faults, values_in};
 
 use crate::arguments::program_command;
+use crate::colour::Colour;
 use crate::options::Options;
 use clap::error::ErrorKind;
 use clap::{ArgMatches, Error};
@@ -35,15 +37,15 @@ fn parse<'a>(alloc: Global, words: &'a [&'a str]) -> Result<Options<'a>, Error>
 {
     let command = program_command(alloc)?;
     let matches = command.try_get_matches_from(words)?;
-    match read_counts(&matches) {
-        Ok(counts) => Ok(read_matches(alloc, &matches, counts)?),
+    match read_values(&matches) {
+        Ok(read) => Ok(read_matches(alloc, &matches, read)?),
         Err(message) => Err(program_command(alloc)?.error(ErrorKind::InvalidValue, message)?),
     }
 }
 
-/// The numbers that options write, where they are given.
+/// The values of options that have to be read.
 #[derive(Clone, Copy)]
-struct Counts {
+struct ReadValues {
     /// `-m`.
     most: Option<u64>,
     /// `--fold`.
@@ -54,17 +56,21 @@ struct Counts {
     before: Option<u64>,
     /// `-C`.
     around: Option<u64>,
+    /// `--color`.
+    colour: Colour,
 }
 
-/// The numbers that the values of `-m`, `--fold`, `-A`, `-B` and `-C` write, or what is said of the first value that writes none.
-fn read_counts(matches: &ArgMatches<'_>) -> Result<Counts, &'static str>
-    ensures taken { IsOk result → has_counts (rows_of (found_of matches.now)) ≡ true }
-    ensures refused { IsErr result → has_counts (rows_of (found_of matches.now)) ≡ false }
-    ensures most { IfOk result (λ counts. counts.most ≡ count_of (first_of (codes "most") (rows_of (found_of matches.now)))) }
-    ensures fold { IfOk result (λ counts. counts.fold ≡ count_of (first_of (codes "fold") (rows_of (found_of matches.now)))) }
-    ensures after { IfOk result (λ counts. counts.after ≡ count_of (first_of (codes "after") (rows_of (found_of matches.now)))) }
-    ensures before { IfOk result (λ counts. counts.before ≡ count_of (first_of (codes "before") (rows_of (found_of matches.now)))) }
-    ensures around { IfOk result (λ counts. counts.around ≡ count_of (first_of (codes "around") (rows_of (found_of matches.now)))) }
+/// The numbers that the values of `-m`, `--fold`, `-A`, `-B` and `-C` write, and what that of `--color` says, or what is said of the
+/// first value that writes or says nothing.
+fn read_values(matches: &ArgMatches<'_>) -> Result<ReadValues, &'static str>
+    ensures taken { IsOk result → has_values (rows_of (found_of matches.now)) ≡ true }
+    ensures refused { IsErr result → has_values (rows_of (found_of matches.now)) ≡ false }
+    ensures most { IfOk result (λ read. read.most ≡ count_of (first_of (codes "most") (rows_of (found_of matches.now)))) }
+    ensures fold { IfOk result (λ read. read.fold ≡ count_of (first_of (codes "fold") (rows_of (found_of matches.now)))) }
+    ensures after { IfOk result (λ read. read.after ≡ count_of (first_of (codes "after") (rows_of (found_of matches.now)))) }
+    ensures before { IfOk result (λ read. read.before ≡ count_of (first_of (codes "before") (rows_of (found_of matches.now)))) }
+    ensures colour { IfOk result (λ read. colour_of (first_of (codes "color") (rows_of (found_of matches.now))) ≡ Some read.colour) }
+    ensures around { IfOk result (λ read. read.around ≡ count_of (first_of (codes "around") (rows_of (found_of matches.now)))) }
 {
     let Ok(most) = read_count(matches, "most") else {
         return Err(NO_MOST);
@@ -81,12 +87,16 @@ fn read_counts(matches: &ArgMatches<'_>) -> Result<Counts, &'static str>
     let Ok(around) = read_count(matches, "around") else {
         return Err(NO_AROUND);
     };
-    Ok(Counts {
+    let Some(colour) = read_colour(matches) else {
+        return Err(NO_COLOUR);
+    };
+    Ok(ReadValues {
         most,
         fold,
         after,
         before,
         around,
+        colour,
     })
 }
 
@@ -97,6 +107,16 @@ fn read_count(matches: &ArgMatches<'_>, id: &str) -> Result<Option<u64>, ParseIn
     match matches.get_str(id) {
         Some(word) => Ok(Some(word.parse()?)),
         None => Ok(None),
+    }
+}
+
+/// What the value of `--color` says, if it says anything. Where it is not given there are no colours.
+fn read_colour(matches: &ArgMatches<'_>) -> Option<Colour>
+    ensures { result ≡ colour_of (first_of (codes "color") (rows_of (found_of matches.now))) }
+{
+    match matches.get_str("color") {
+        Some(value) => Colour::read(value),
+        None => Some(Colour::Never),
     }
 }
 
@@ -118,6 +138,9 @@ const NO_BEFORE: &str =
 /// What is said if the value of `-C` is no number.
 const NO_AROUND: &str =
     "the value of '--context <NUMBER>' is no number from 0 to 18446744073709551615";
+
+/// What is said if the value of `--color` says nothing.
+const NO_COLOUR: &str = "the value of '--color=<WHEN>' is none of auto, always and never";
 
 /// The values of an argument, in their order.
 fn values<'a>(alloc: Global, matches: &ArgMatches<'a>, id: &str) -> Result<Vec<&'a str>, AllocError>
@@ -157,13 +180,14 @@ fn is_given(matches: &ArgMatches<'_>, id: &str) -> bool
 fn read_matches<'a>(
     alloc: Global,
     matches: &ArgMatches<'a>,
-    counts: Counts,
+    read: ReadValues,
 ) -> Result<Options<'a>, AllocError>
-    requires most { counts.most ≡ count_of (first_of (codes "most") (rows_of (found_of matches.now))) }
-    requires fold { counts.fold ≡ count_of (first_of (codes "fold") (rows_of (found_of matches.now))) }
-    requires after { counts.after ≡ count_of (first_of (codes "after") (rows_of (found_of matches.now))) }
-    requires before { counts.before ≡ count_of (first_of (codes "before") (rows_of (found_of matches.now))) }
-    requires around { counts.around ≡ count_of (first_of (codes "around") (rows_of (found_of matches.now))) }
+    requires most { read.most ≡ count_of (first_of (codes "most") (rows_of (found_of matches.now))) }
+    requires fold { read.fold ≡ count_of (first_of (codes "fold") (rows_of (found_of matches.now))) }
+    requires after { read.after ≡ count_of (first_of (codes "after") (rows_of (found_of matches.now))) }
+    requires before { read.before ≡ count_of (first_of (codes "before") (rows_of (found_of matches.now))) }
+    requires colour { colour_of (first_of (codes "color") (rows_of (found_of matches.now))) ≡ Some read.colour }
+    requires around { read.around ≡ count_of (first_of (codes "around") (rows_of (found_of matches.now))) }
     ensures { IfOk result (IsAskedBy (rows_of (found_of matches.now))) }
 {
     Ok(Options {
@@ -173,7 +197,7 @@ fn read_matches<'a>(
         each: values(alloc, matches, "each")?,
         lists: values(alloc, matches, "in")?,
         other_lists: values(alloc, matches, "not-in")?,
-        most: counts.most,
+        most: read.most,
         inverted: is_given(matches, "invert"),
         refused: is_given(matches, "refused"),
         only_matching: is_given(matches, "only"),
@@ -184,12 +208,13 @@ fn read_matches<'a>(
         commas: is_given(matches, "csv"),
         header: is_given(matches, "header"),
         names: read_names(alloc, matches)?,
+        colour: read.colour,
         tally: is_given(matches, "tally"),
         survey: is_given(matches, "paths"),
-        fold: counts.fold,
-        after: counts.after,
-        before: counts.before,
-        around: counts.around,
+        fold: read.fold,
+        after: read.after,
+        before: read.before,
+        around: read.around,
         numbered: is_given(matches, "number"),
         counted: is_given(matches, "count"),
         quiet: is_given(matches, "quiet"),

@@ -112,6 +112,7 @@ pub(crate) fn count_files<C: Counter>(
         options,
         run,
         output: None,
+        coloured: false,
         lacks_memory: false,
     };
     if lists != Lists::Read {

@@ -14,7 +14,7 @@ use jp_model::Watched;
 use jp_options::Options;
 use std::alloc::AllocError;
 use std::fs;
-use std::io::{ErrorKind, Read, Stderr, Write};
+use std::io::{ErrorKind, IsTerminal, Read, Stderr, Write};
 
 /// What goes through the files, and writes the rows that they give to `W`.
 #[derive(Drop)]
@@ -24,6 +24,8 @@ pub(crate) struct Searcher<'q, W: Write + Drop> {
     pub(crate) run: Run<'q, W, Stderr>,
     /// The file that rows may be added to while lines are read.
     pub(crate) output: Option<RegularFile>,
+    /// Whether rows have colours.
+    pub(crate) coloured: bool,
     /// Whether memory was refused, which it has reported.
     pub(crate) lacks_memory: bool,
 }
@@ -108,7 +110,7 @@ impl<W: Write + Drop> Searcher<'_, W> {
         if !self.run.is_open() {
             return Next::Stop;
         }
-        let form = self.options.form(STANDARD_INPUT);
+        let form = self.options.form(STANDARD_INPUT, self.coloured);
         match self.run.write_header(&form, self.options.columns()) {
             Ok(()) => Next::GoOn,
             Err(SearchFault::Memory) => self.stop_for_memory(),
@@ -172,7 +174,7 @@ impl<W: Write + Drop> Searcher<'_, W> {
         if !self.run.is_open() {
             return Next::Stop;
         }
-        let form = self.options.form(name);
+        let form = self.options.form(name, self.coloured);
         let mut input = Input::new(Watched::new(Looking::new(input)));
         let found = self.run.search(&form, &mut input);
         let opening = input.into_reader().into_inner().opening();
@@ -292,7 +294,7 @@ pub(crate) fn find_input(rt: &HostRuntime, options: &Options<'_>) -> StandardInp
 
 /// The file that rows may be added to while lines are read.
 fn find_output(rt: &HostRuntime, options: &Options<'_>) -> Option<RegularFile> {
-    let form = options.form(STANDARD_INPUT);
+    let form = options.form(STANDARD_INPUT, false);
     let reads_on = form.most > 1 || form.trailing > 0 || options.has_header();
     if form.shown != Shown::Nothing && reads_on {
         RegularFile::of_output(rt)
@@ -301,9 +303,14 @@ fn find_output(rt: &HostRuntime, options: &Options<'_>) -> Option<RegularFile> {
     }
 }
 
+/// Whether what is printed has colours.
+fn is_coloured(rt: &HostRuntime, options: &Options<'_>) -> bool {
+    options.is_coloured(rt.stdout().is_terminal())
+}
+
 /// Whether no file is looked at, since no line is wanted and no name of a file without one.
 fn reads_nothing(options: &Options<'_>) -> bool {
-    let form = options.form(STANDARD_INPUT);
+    let form = options.form(STANDARD_INPUT, false);
     form.most == 0 && form.summary != Summary::NameWithout
 }
 
@@ -323,7 +330,8 @@ pub(crate) fn search_files(
     let output = Output::new(rt);
     if options.shows_context() {
         let (before, after) = (options.lines_before(), options.lines_after());
-        let context = Context::new(rt.alloc(), before, after, output);
+        let coloured = is_coloured(rt, options);
+        let context = Context::new(rt.alloc(), before, after, coloured, output);
         print_files(rt, options, question, lists, context)
     } else {
         print_files(rt, options, question, lists, output)
@@ -348,6 +356,7 @@ fn print_files<W: Printer>(
         options,
         run,
         output,
+        coloured: is_coloured(rt, options),
         lacks_memory: false,
     };
     if lists != Lists::Read {

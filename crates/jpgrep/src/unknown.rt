@@ -111,8 +111,8 @@ const FOREIGN: &[Foreign] = &[
     },
     Foreign {
         letter: None,
-        words: &["color", "colour"],
-        instead: "there is none",
+        words: &["colour"],
+        instead: "it is spelled --color",
     },
 ];
 

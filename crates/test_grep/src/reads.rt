@@ -59,6 +59,8 @@ fn searched(
         named: false,
         null: false,
         numbered: false,
+        coloured: false,
+        marked: false,
         silent: false,
         most,
         trailing: 0,

@@ -7,7 +7,7 @@ use Rattle.jp_context.proofs.rows.take_rows.Goals as goal
 pub loop-row-preserved : goal.loop-row-preserved
 loop-row-preserved c =
     let old = c.loop-row.invariant in record {
-      limits = c.take.ensures.limits ∙ old.limits;
+      layout = c.take.ensures.layout ∙ old.layout;
       rest = old.rest ∙ c.in-Some.ensures.rest;
       shows = λ more. old.shows more ∙ (ap (λ (rows : List ToldRow). c.loop-row.text.items ++ will_show c.loop-row.groups (rows ++ more)) c.in-Some.ensures.rows
           ∙ c.in_ok-take.ensures.shows (told_rows c.in-Some.more.now ++ more));
@@ -16,7 +16,7 @@ loop-row-preserved c =
 pub returns : goal.returns
 returns c =
     let old = c.loop-row.invariant in record {
-      limits = old.limits;
+      layout = old.layout;
       rest = sym (old.rest ∙ c.in_default.ensures.rest);
       shows = λ more. old.shows more ∙ ap (λ (rows : List ToldRow). c.loop-row.text.items ++ will_show c.loop-row.groups (rows ++ more)) c.in_default.ensures.rows;
     }

@@ -6,7 +6,7 @@ use Rattle.jp_context.proofs.rows.take_rows.Given as goal
 
 abbrev pub invariant-loop-row : goal.invariant-loop-row
 invariant-loop-row l = record {
-  limits : l.groups.limits ≡ l.initial.groups.limits;
+  layout : l.groups.layout ≡ l.initial.groups.layout;
   rest : open_row l.bytes ≡ open_row l.rest;
   shows : (more : List ToldRow) → l.initial.text.items ++ will_show l.initial.groups (told_rows l.bytes ++ more) ≡ l.text.items ++ will_show l.groups (told_rows l.rest ++ more);
 }

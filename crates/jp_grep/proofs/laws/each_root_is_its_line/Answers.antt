@@ -1,7 +1,7 @@
 -- The node that `$` selects is the root.
 use Rattle.std.proofs.Common.{◌≡◌, ◌∙◌, ℕ, List, [], ◌∷◌, Bool, refl, sym, ap, ap₂, ◌++◌, filter, flat_map, length, map, true, false, cond, ◌&&◌, if◌then◌else◌, Option}
 use Rattle.jp_model.specs.Json.Status.{LineStatus, blank, refused, parsed}
-use Rattle.jp_model.specs.Json.Tree.{Tree}
+use Rattle.jp_model.specs.Json.Tree.{Tree, span}
 use Rattle.jp_model.specs.Meaning.Nodes.{Node}
 use Rattle.jp_model.specs.Query.Syntax.{Path, Segments}
 use Rattle.jp_form.specs.declared.form.Form.{Form}
@@ -11,7 +11,7 @@ use Rattle.jp_grep.specs.Conditions.{Condition}
 use Rattle.jp_grep.specs.Items.{is_given_up, judged}
 use Rattle.jp_grep.specs.Laws.{AsksEachRoot}
 use Rattle.jp_grep.specs.Matching.{all_hold, conditions_of, each_of, let_match, nodes_asked, nodes_of, queries_of, selected_nodes, selected_of, selects, wanted_of, wants_refused, wants_value}
-use Rattle.jp_grep.specs.Rows.{node_rows, refused_rows, rows_around, selected_rows, selected_where, status_rows, value_row, written_of}
+use Rattle.jp_grep.specs.Rows.{line_text, node_rows, refused_rows, row, row_told, rows_around, selected_rows, selected_where, status_rows, value_row, whole_marked, written_of}
 use Rattle.jp_grep.specs.Tables.{table_row}
 use Rattle.jp_grep.specs.declared.question.Queries.{Queries}
 use Rattle.jp_grep.specs.declared.question.Question.{Question}
@@ -32,10 +32,14 @@ module _ (lines each : Question) (asks : AsksEachRoot lines each) where
       ∙ ap (λ (o : Option Segments). chosen lines.wanted (conditions_of lines) lines.purpose (queries_of lines) o t) (sym asks.of_lines)
 
   module _ (form : Form) (n : ℕ) (line : List ℕ) (most : Option ℕ) where
+    abbrev shown_by : Tree → Node → List Path → List ℕ
+    shown_by t node queries =
+        if form.marked then whole_marked form.units (map (λ (found : Node). span found.tree) (nodes_of queries node t)) line t else line_text form.spelling form.units line t
+
     same_rows : (s : Shown) (t : Tree) (ns : List Node) → flat_map (node_rows s each form n line t) ns ≡ flat_map (node_rows s lines form n line t) ns
     same_rows shown.Nothing t ns = refl
-    same_rows (shown.Line faults) t ns = refl
-    same_rows shown.Around t ns = refl
+    same_rows (shown.Line faults) t ns = ap (λ (qs : List Path). flat_map (λ node. row form n (shown_by t node qs) ∷ []) ns) asks.queries
+    same_rows shown.Around t ns = ap (λ (qs : List Path). flat_map (λ node. row_told true n (row form n (shown_by t node qs)) ∷ []) ns) asks.queries
     same_rows (shown.Values paths) t ns = ap (λ (qs : List Path). flat_map (λ node. map (value_row form paths n line) (nodes_of qs node t)) ns) asks.queries
     same_rows (shown.Cells table) t ns = ap (λ (qs : List Path). flat_map (λ node. table_row table qs form n line t node ∷ []) ns) asks.queries
 

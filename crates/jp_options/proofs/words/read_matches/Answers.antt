@@ -20,6 +20,7 @@ returns c = record {
   commas = c.is_given-8.ensures;
   header = c.is_given-9.ensures;
   names = c.in_ok-read_names.ensures;
+  colour = c.requires.colour;
   tally = c.is_given-10.ensures;
   survey = c.is_given-11.ensures;
   fold = c.requires.fold;

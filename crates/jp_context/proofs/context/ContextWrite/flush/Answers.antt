@@ -8,7 +8,7 @@ invariant_of-self g c =
     let s = c.args.self.now in
     let off : s.out.failed ≡ false = sym c.failed.ensures ∙ c.if-failed.false in
     record {
-      begins = subst (λ (t : List ℕ). HasBegun s.groups.limits.before s.groups.limits.after s.came.taken t) (sym c.flush.ensures.taken) s.begins;
+      begins = subst (λ (t : List ℕ). HasBegun s.groups.layout.coloured s.groups.layout.before s.groups.layout.after s.came.taken t) (sym c.flush.ensures.taken) s.begins;
       rest = λ full working. s.rest full off;
       shows = λ full working more. s.shows full off more ∙ ap (λ (t : List ℕ). t ++ will_show s.groups more) (sym c.flush.ensures.taken);
     }

@@ -7,7 +7,7 @@ use Rattle.jp_context.proofs.state.Groups.begin.Goals as goal
 
 pub returns-then-is_first-clause-shows : goal.returns-then-is_first-clause-shows
 returns-then-is_first-clause-shows c selected text more =
-    let s = c.args.self.now in let before = s.limits.before in let after = s.limits.after in
+    let s = c.args.self.now in let coloured = s.layout.coloured in let before = s.layout.before in let after = s.layout.after in
     ap (λ first. will_show s (row_of selected first text ∷ more)) c.if-is_first.true
-    ∙ (begins before after s.left s.shown (kept_texts s) selected text more (λ h. ap texts_of (s.none h))
-    ∙ sym (ap₂ (λ (shown : Shown) (rows : List (Vec ℕ Global)). text_from before after 0 shown (kept_rows (texts_of rows) ++ next_row selected text ∷ more)) c.parted-self.ensures c.clear.ensures.items))
+    ∙ (begins coloured before after s.left s.shown (kept_texts s) selected text more (λ h. ap texts_of (s.none h))
+    ∙ sym (ap₂ (λ (shown : Shown) (rows : List (Vec ℕ Global)). text_from coloured before after 0 shown (kept_rows (texts_of rows) ++ next_row selected text ∷ more)) c.parted-self.ensures c.clear.ensures.items))

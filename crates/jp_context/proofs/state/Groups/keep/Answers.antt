@@ -9,5 +9,5 @@ pub returns-then-self-eq0-clause-shows : goal.returns-then-self-eq0-clause-shows
 returns-then-self-eq0-clause-shows c more =
     let s = c.args.self.now in
     let same = length-map s.kept.items (λ (r : Vec ℕ Global). r.items) in
-    not_kept s.limits.before s.limits.after s.left s.shown c.parted-self.result (kept_texts s) c.args.row.now more c.if-self-eq0.true c.requires
+    not_kept s.layout.coloured s.layout.before s.layout.after s.left s.shown c.parted-self.result (kept_texts s) c.args.row.now more c.if-self-eq0.true c.requires
     (omega (arith, s.few, same)) c.parted-self.ensures

@@ -9,11 +9,11 @@ use Rattle.jp_context.proofs.state.Groups.make_room.Goals as goal
 
 pub returns-clause-shows : goal.returns-clause-shows
 returns-clause-shows c row more =
-    let s = c.args.self.now in let before = s.limits.before in let after = s.limits.after in
+    let s = c.args.self.now in let coloured = s.layout.coloured in let before = s.layout.before in let after = s.layout.after in
     let rest = c.pop_front.new.self.items in
     let all : s.kept.items ≡ c.in-Some.room ∷ rest = c.in-Some.ensures.items in
     let many : before ≤ length rest + 1 = grind (arith, common_steps) in
     let same = length-map rest (λ (r : Vec ℕ Global). r.items) in
-    ap₂ (λ (left : ℕ) (rows : List (Vec ℕ Global)). text_from before after left s.shown (kept_rows (texts_of rows) ++ next_row false row ∷ more)) c.requires.left all
-    ∙ (first_gone before after s.shown c.in-Some.room.items (texts_of rest) row more (omega (arith, many, same))
-    ∙ sym (ap₂ (λ (left : ℕ) (shown : Shown). text_from before after left shown (kept_rows (texts_of rest) ++ next_row false row ∷ more)) c.requires.left c.parted-self.ensures))
+    ap₂ (λ (left : ℕ) (rows : List (Vec ℕ Global)). text_from coloured before after left s.shown (kept_rows (texts_of rows) ++ next_row false row ∷ more)) c.requires.left all
+    ∙ (first_gone coloured before after s.shown c.in-Some.room.items (texts_of rest) row more (omega (arith, many, same))
+    ∙ sym (ap₂ (λ (left : ℕ) (shown : Shown). text_from coloured before after left shown (kept_rows (texts_of rest) ++ next_row false row ∷ more)) c.requires.left c.parted-self.ensures))

@@ -1,0 +1,3 @@
+-- Lemmas on rows in colours.
+pub mod Sequences
+pub mod Runs

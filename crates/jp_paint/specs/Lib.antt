@@ -1,0 +1,4 @@
+-- Rows in colours.
+pub mod Colours
+pub mod Marked
+pub mod Laws
