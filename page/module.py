@@ -77,6 +77,26 @@ def retarget(text):
     return export_calls(text)
 
 
+def read_number(module, at):
+    """An unsigned number of a module in LEB128 (WebAssembly core specification, 5.2.2), and where it ends."""
+    number = shift = 0
+    while module[at] & 128:
+        number |= (module[at] & 127) << shift
+        shift, at = shift + 7, at + 1
+    return number | module[at] << shift, at + 1
+
+
+def without_custom_sections(module):
+    """The module without its custom sections, names of functions mostly, which mean nothing to an engine (5.5.3)."""
+    kept, at = module[:8], 8
+    while at < len(module):
+        size, start = read_number(module, at + 1)
+        if module[at] != 0:
+            kept += module[at : start + size]
+        at = start + size
+    return kept
+
+
 def wanted_calls(header):
     """The calls that the header of the library declares, and those that the worker makes."""
     with open(header, encoding="utf-8") as file:
@@ -104,3 +124,5 @@ def make_wasm(module, header, room, out):
     linked = subprocess.run([*link, f"{room}/page.a"], capture_output=True, text=True)
     if linked.returncode or "import" in linked.stderr:
         sys.exit(f"page: not linked, or with imports: {linked.stderr}")
+    module = pathlib.Path(out)
+    module.write_bytes(without_custom_sections(module.read_bytes()))
