@@ -67,7 +67,7 @@ basic_first (call_test {x} {y} n c) = negation_first n (lower_side_first (head y
 and_first : {x y : List ℕ} {b : Bool} {l : Logical} → IsAnd x y b l → is_basic_first (head x) ≡ true
 and_first (some_basic a more) = basic_first a
 
-logical_first : {x y : List ℕ} {b : Bool} {l : Logical} → IsLogical x y b l → is_basic_first (head x) ≡ true
+pub logical_first : {x y : List ℕ} {b : Bool} {l : Logical} → IsLogical x y b l → is_basic_first (head x) ≡ true
 logical_first (some_and a more) = and_first a
 
 argument_first : {x y : List ℕ} {a : Argument} → IsArgument x y a → is_basic_first (head x) ≡ true
@@ -273,7 +273,7 @@ module _ (of_int : ℤ → ℤ) where
         let before : opens y ≤ opens x = blanks_shrink opens more_opens b in
         (z, filter_reads of_int (logical_at of_int d) b (basic_stays y (logical_first l)) (logical_found l d (omega arith) e), refl)
 
-    logical_found : {x y : List ℕ} {b : Bool} {l : Logical} → IsLogical x y b l → (d : ℕ) → opens x < d + opens y → ends_logical (next y) ≡ true → logical_at of_int d x ≡ Some ((b, logical_ints of_int l), y)
+    pub logical_found : {x y : List ℕ} {b : Bool} {l : Logical} → IsLogical x y b l → (d : ℕ) → opens x < d + opens y → ends_logical (next y) ≡ true → logical_at of_int d x ≡ Some ((b, logical_ints of_int l), y)
     logical_found (some_and a more) zero o e = absurd (omega (arith, and_shrinks opens more_opens a, more_or_shrinks opens more_opens more))
     logical_found (some_and {x} {y} {z} {bare} {l} {ls} a more) (suc d) o e =
         let here : opens y ≤ opens x = and_shrinks opens more_opens a in

@@ -14,10 +14,10 @@ pub mod IntegerChanges
 pub mod Statuses
 pub mod SoundNumbers
 -- Lemmas of the parser.
+mod Alone
 mod Digits
 mod Faults
 mod Loop
-mod OneFilter
 mod Outcomes
 mod Quotes
 mod RelativeOutcomes

@@ -539,7 +539,7 @@ unfolding logical_at
 logical_sound of_int zero x r h = absurd (cc)
 logical_sound of_int (suc depth) x r h = or_sound of_int (logical_at of_int depth) (logical_sound of_int depth) x r h
 
-whole_is : {A : Type 0} (p : A × List ℕ) (a : A) → whole p ≡ Some a → (p.0 ≡ a) × (p.1 ≡ [])
+pub whole_is : {A : Type 0} (p : A × List ℕ) (a : A) → whole p ≡ Some a → (p.0 ≡ a) × (p.1 ≡ [])
 whole_is (b, []) a h = (some_same b a h, refl)
 whole_is (b, c ∷ x) a h = absurd (cc)
 

@@ -54,7 +54,7 @@ opens_encoded (c ∷ cs) = omega (arith, opener_bytes c, opens_encoded cs, sum_b
 opens_text : (bytes : List ℕ) → IsUtf8 bytes → opens (chars bytes) ≤ count_by is_opener bytes
 opens_text bytes u = subst (λ b. opens (chars bytes) ≤ count_by is_opener b) (encodes-chars bytes u) (opens_encoded (chars bytes))
 
-few_opens : (bytes : List ℕ) → IsUtf8 bytes → is_oversized bytes ≡ false → opens (chars bytes) ≤ 512
+pub few_opens : (bytes : List ℕ) → IsUtf8 bytes → is_oversized bytes ≡ false → opens (chars bytes) ≤ 512
 few_opens bytes u h =
     let p = or_parts _ _ h in
     let few = ltb-false 512 (count_by is_opener bytes) p.1 in

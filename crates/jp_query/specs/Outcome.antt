@@ -15,10 +15,6 @@ use Rattle.jp_syntax.specs.declared.query.Query.{Query}
 abbrev pub IsReadBehind : Origin → List ℕ → Segments → Type 0
 IsReadBehind origin text q = (is_oversized text ≡ false) × (read_behind origin clamp text ≡ Some q)
 
--- the same of a query
-abbrev pub IsRead : List ℕ → Segments → Type 0
-IsRead text q = IsReadBehind root text q
-
 -- the tree that is read is within its limits
 abbrev pub PassesBehind : Origin → List ℕ → Segments → Type 0
 PassesBehind origin text q = IsReadBehind origin text q × ((has_exact_integers q ≡ true) × (has_small_exponents q ≡ true))

@@ -1,12 +1,12 @@
 -- The status of the text of a query, by computing.
-use Rattle.std.specs.Prelude.{ℕ, ℤ, List, Option, Some, None, cond, chars}
+use Rattle.std.specs.Prelude.{ℕ, ℤ, List, [], ◌∷◌, ◌++◌, Option, Some, None, cond, chars}
 use Rattle.std.specs.Str.{is_utf8}
 use Rattle.jp_model.specs.declared.QueryFault.{QueryFault}
 use Rattle.jp_model.specs.declared.QueryFault.TheVariants as faults
-use Rattle.jp_model.specs.Query.Syntax.{Origin, root, current, Segments}
+use Rattle.jp_model.specs.Query.Syntax.{Logical, Origin, root, current, Segments}
 use Rattle.jp_model.specs.Query.Limits.{is_oversized}
 use Rattle.jp_model.specs.Query.Status.{QueryStatus, refused_query, query, fault_of_query}
-use Rattle.jp_query.specs.Reading.Queries.{query_at, relative_at}
+use Rattle.jp_query.specs.Reading.Queries.{alone_at, query_at, relative_at}
 
 -- the query that the bytes of a text within the limits spell; brackets and parentheses nest at most 512 deep in it
 unfoldable pub read_text : (ℤ → ℤ) → List ℕ → Option Segments
@@ -15,6 +15,10 @@ read_text of_int bytes = cond (is_utf8 bytes) (query_at of_int 512 (chars bytes)
 -- the rel-query that the bytes of a text within the limits spell
 unfoldable pub read_relative : (ℤ → ℤ) → List ℕ → Option Segments
 read_relative of_int bytes = cond (is_utf8 bytes) (relative_at of_int 512 (chars bytes)) None
+
+-- the logical expression that the bytes of a text within the limits spell, which is all of a filter
+unfoldable pub read_alone : (ℤ → ℤ) → List ℕ → Option Logical
+read_alone of_int bytes = cond (is_utf8 bytes) (alone_at of_int 512 (chars bytes ++ 0x5D ∷ [])) None
 
 -- the segments that a text spells after an identifier: as a query after `$`, as a rel-query after `@`
 abbrev pub read_behind : Origin → (ℤ → ℤ) → List ℕ → Option Segments

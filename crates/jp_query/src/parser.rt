@@ -17,8 +17,8 @@ mod selectors;
 mod stops;
 mod strings;
 
-ghost use Rattle.std.specs.Prelude.{◌≡◌, true, IsFalse, IfOk, IfErr, chars, is_some};
-ghost use Rattle.jp_model.specs.Query.Limits.{is_oversized, has_exact_integers, has_small_exponents};
+ghost use Rattle.std.specs.Prelude.{◌≡◌, true, IsFalse, IfOk, IfErr, chars, count_by, is_some};
+ghost use Rattle.jp_model.specs.Query.Limits.{is_opener, is_oversized, has_exact_integers, has_small_exponents};
 ghost use Rattle.jp_model.specs.Query.Status.{TextSpells};
 ghost use Rattle.jp_model.specs.Query.Syntax.{Segments};
 ghost use Rattle.jp_query.specs.Answers.{GivesQuery, IsFirstFault, TellsRelativeStatus, TellsStatus};
@@ -55,9 +55,9 @@ const MAX_BYTES: usize = 65_535;
 /// The brackets and parentheses that are opened in a text at most.
 const MAX_OPENED: usize = 512;
 
-/// Whether the text is too long, or opens too many brackets and parentheses.
-fn is_oversized(text: &[u8]) -> bool
-    ensures { result ≡ is_oversized text.now }
+/// How many brackets and parentheses a text opens.
+fn opened(text: &[u8]) -> usize
+    ensures { result ≡ count_by is_opener text.now }
 {
     let mut opened: usize = 0;
     for byte in text {
@@ -65,7 +65,14 @@ fn is_oversized(text: &[u8]) -> bool
             opened += 1;
         }
     }
-    text.len() > MAX_BYTES || opened > MAX_OPENED
+    opened
+}
+
+/// Whether the text is too long, or opens too many brackets and parentheses.
+fn is_oversized(text: &[u8]) -> bool
+    ensures { result ≡ is_oversized text.now }
+{
+    text.len() > MAX_BYTES || opened(text) > MAX_OPENED
 }
 
 /// The scalars of a text.

@@ -36,60 +36,49 @@ impl From<AllocError> for Refusal {
     }
 }
 
-/// The place of a fault of functions or types: the name of the function where a walk stopped.
+/// What a text spells.
+#[derive(Clone, Copy)]
+enum Spelled<'t> {
+    /// The segments of a query.
+    Segments(&'t [Segment]),
+    /// A condition.
+    Condition(&'t Logical),
+}
+
+impl Spelled<'_> {
+    /// A walk that stopped at the first function that is unknown, or else at the first that does not fit where it stands.
+    fn walk_to(self, fault: QueryFault) -> Walk {
+        let mut walk = Walk::new();
+        let _ = match (self, fault) {
+            (Spelled::Segments(segments), QueryFault::Function) => {
+                walk.segments_pass(segments, Limit::Functions)
+            }
+            (Spelled::Segments(segments), _) => walk.segments_typed(segments),
+            (Spelled::Condition(expression), QueryFault::Function) => {
+                walk.logical_passes(expression, Limit::Functions)
+            }
+            (Spelled::Condition(expression), _) => walk.logical_typed(expression),
+        };
+        walk
+    }
+}
+
+/// The place of a fault of functions or types in what a text spells: the name of the function at fault.
 fn place_of_call(
     alloc: Global,
     text: &[u8],
     fault: QueryFault,
-    walk: &Walk,
+    spelled: Spelled<'_>,
 ) -> Result<FaultPlace, AllocError>
     ensures fault { IfOk result (λ found. found.fault ≡ fault) }
     ensures place { IfOk result (λ found. IsPlace text.now found.place) }
 {
-    let place = place_of_function(alloc, text, walk.passed())?;
+    let place = place_of_function(alloc, text, spelled.walk_to(fault).passed())?;
     Ok(FaultPlace {
         fault,
         place,
         expected: None,
     })
-}
-
-/// The place of a fault of functions or types in the segments that a text spells.
-fn place_in_segments(
-    alloc: Global,
-    text: &[u8],
-    fault: QueryFault,
-    segments: &[Segment],
-) -> Result<FaultPlace, AllocError>
-    ensures fault { IfOk result (λ found. found.fault ≡ fault) }
-    ensures place { IfOk result (λ found. IsPlace text.now found.place) }
-{
-    let mut walk = Walk::new();
-    if fault == QueryFault::Function {
-        walk.segments_pass(segments, Limit::Functions);
-    } else {
-        walk.segments_typed(segments);
-    }
-    place_of_call(alloc, text, fault, &walk)
-}
-
-/// The place of a fault of functions or types in the condition that a text spells.
-fn place_in_condition(
-    alloc: Global,
-    text: &[u8],
-    fault: QueryFault,
-    expression: &Logical,
-) -> Result<FaultPlace, AllocError>
-    ensures fault { IfOk result (λ found. found.fault ≡ fault) }
-    ensures place { IfOk result (λ found. IsPlace text.now found.place) }
-{
-    let mut walk = Walk::new();
-    if fault == QueryFault::Function {
-        walk.logical_passes(expression, Limit::Functions);
-    } else {
-        walk.logical_typed(expression);
-    }
-    place_of_call(alloc, text, fault, &walk)
 }
 
 /// The query that a text spells, where it is well-typed (RFC 9535, sections 2.1 and 2.4.3).
@@ -112,11 +101,11 @@ pub fn read_query(alloc: Global, text: &[u8]) -> Result<Checked, Refusal>
     };
     match check(query) {
         Ok(checked) => Ok(checked),
-        Err((fault, query)) => Err(Refusal::Fault(place_in_segments(
+        Err((fault, query)) => Err(Refusal::Fault(place_of_call(
             alloc,
             text,
             fault,
-            query.segments(),
+            Spelled::Segments(query.segments()),
         )?)),
     }
 }
@@ -140,11 +129,11 @@ pub fn read_relative_query(alloc: Global, text: &[u8]) -> Result<Checked, Refusa
     };
     match check(query) {
         Ok(checked) => Ok(checked),
-        Err((fault, query)) => Err(Refusal::Fault(place_in_segments(
+        Err((fault, query)) => Err(Refusal::Fault(place_of_call(
             alloc,
             text,
             fault,
-            query.segments(),
+            Spelled::Segments(query.segments()),
         )?)),
     }
 }
@@ -167,11 +156,11 @@ pub fn read_condition(alloc: Global, text: &[u8]) -> Result<CheckedCondition, Re
     };
     match check_condition(condition) {
         Ok(checked) => Ok(checked),
-        Err((fault, condition)) => Err(Refusal::Fault(place_in_condition(
+        Err((fault, condition)) => Err(Refusal::Fault(place_of_call(
             alloc,
             text,
             fault,
-            condition.expression(),
+            Spelled::Condition(condition.expression()),
         )?)),
     }
 }

@@ -323,3 +323,10 @@ unfoldable pub relative_at : (ℤ → ℤ) → ℕ → List ℕ → Option Segme
 relative_at of_int depth x = do
   y ← after 64 x
   whole_segments of_int depth y
+
+-- logical-expr: all of the scalars up to the bracket that closes the filter of which it is all (RFC 9535, sections 2.3.5 and 2.5.1.1)
+unfoldable pub alone_at : (ℤ → ℤ) → ℕ → List ℕ → Option Logical
+alone_at of_int depth x = do
+  r ← logical_at of_int depth (skip_blanks x)
+  y ← after_blanks 93 r.1
+  whole (r.0.1, y)

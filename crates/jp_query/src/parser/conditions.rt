@@ -1,74 +1,82 @@
 //! Reading a logical expression that stands alone (RFC 9535, section 2.3.5).
-//!
-//! Its text is read within the query of one filter, so that it has no grammar of its own.
 
-ghost use Rattle.std.specs.Prelude.{◌≡◌, [], ◌∷◌, true, IsFalse, IfErr, IfOk, MatchOption};
+ghost use Rattle.std.specs.Prelude.{◌≡◌, true, IsFalse, IfErr, IfOk};
 ghost use Rattle.jp_model.specs.Query.Limits.{is_oversized, has_exact_integers, has_small_exponents};
 ghost use Rattle.jp_model.specs.Query.Syntax as syntax;
-ghost use Rattle.jp_query.specs.ConditionOutcome.{MeantInFilter};
+ghost use Rattle.jp_query.specs.ConditionOutcome.{MeantAlone};
 ghost use Rattle.jp_query.specs.Conditions.{GivesCondition, IsFirstConditionFault};
+ghost use Rattle.jp_query.specs.Integers.{clamp};
+ghost use Rattle.jp_query.specs.Parsing.{Gives};
+ghost use Rattle.jp_query.specs.Reading.Queries.{alone_at};
+ghost use Rattle.jp_query.specs.Status.{read_alone};
 ghost use Rattle.jp_syntax.specs.Queries.{condition_view};
 ghost use Rattle.jp_syntax.specs.Filters.{SpellsCondition, filter_by, in_filter};
-ghost use Rattle.jp_query.specs.Outcome.{IsRead};
-ghost use Rattle.jp_syntax.specs.View.{logical_view, segments_view, selectors_view};
+ghost use Rattle.jp_syntax.specs.View.{logical_view};
 
-use super::failure::Failure;
-use super::{is_oversized, read};
+use super::failure::{Failure, Stop};
+use super::{MAX_BYTES, MAX_DEPTH, MAX_OPENED, Parser, opened, to_scalars};
+use crate::expected::Expected;
 use crate::fault::ParseFault;
 use jp_model::QueryFault;
-use jp_syntax::{Condition, Logical, Origin, Segment, Selector};
+use jp_syntax::{Condition, Logical};
 use jp_types::{Limit, Walk};
-use std::alloc::{AllocError, Global};
+use std::alloc::Global;
 
-/// The text of the query in whose only filter a text stands.
-fn in_filter(alloc: Global, text: &[u8]) -> Result<Vec<u8>, AllocError>
-    ensures { IfOk result (λ v. v.items ≡ in_filter text.now) }
+/// The bytes before a condition in the query in whose only filter it stands: `$[?`.
+pub(super) const BYTES_BEFORE: usize = 3;
+
+/// The bytes after it: `]`.
+const BYTES_AFTER: usize = 1;
+
+/// The brackets that are opened before it.
+pub(super) const OPENED_BEFORE: usize = 1;
+
+/// Whether the query in whose only filter the text stands is too long, or opens too many brackets and parentheses.
+fn is_oversized(text: &[u8]) -> bool
+    ensures { result ≡ is_oversized (in_filter text.now) }
 {
-    let mut whole = Vec::from_slice(alloc, b"$[?")?;
-    whole.extend_from_slice(text)?;
-    whole.push(b']')?;
-    Ok(whole)
+    text.len() > MAX_BYTES - BYTES_BEFORE - BYTES_AFTER || opened(text) > MAX_OPENED - OPENED_BEFORE
 }
 
-/// The only element of a list, where it has just one.
-fn only<T: Drop>(mut list: Vec<T>) -> Option<T>
-    ensures { MatchOption result ((x : T) → list.items ≡ x ∷ [] → ⊥) (λ x. list.items ≡ x ∷ []) }
-{
-    if list.len() != 1 {
-        return None;
+impl Parser<'_> {
+    /// An expression, up to the bracket with which the text ends (RFC 9535, section 2.3.5.1).
+    #[tactic(auto, unfolding(crate::specs::Reading::Queries::alone_at))]
+    fn alone(&mut self) -> Result<Logical, Failure>
+        ensures { Gives (λ l. logical_view l) result (alone_at clamp 512 self.old.rest.now) }
+    {
+        self.skip_blanks();
+        let expression = self.logical(MAX_DEPTH)?.logical;
+        if !self.takes_next(']') || !self.rest.is_empty() {
+            return Err(Failure::Syntax(self.next_stop(Expected::End)));
+        }
+        Ok(expression)
     }
-    list.pop()
 }
 
-/// The selectors of a query of one child segment, and none of any other.
-fn child_selectors(segments: Vec<Segment>) -> Option<Vec<Selector>>
-    ensures { MatchOption result ((ss : syntax.Selectors) → segments_view segments.items ≡ syntax.segment (syntax.child_segment ss) syntax.no_segments → ⊥)
-        (λ selectors. segments_view segments.items ≡ syntax.segment (syntax.child_segment (selectors_view selectors.items)) syntax.no_segments) }
+/// The expression that a text spells, each integer of a selector brought to one step outside the exact ones where it is farther
+/// from them. The bracket that closes its filter is put after it.
+fn read(alloc: Global, text: &[u8]) -> Result<Logical, Failure>
+    ensures { Gives (λ l. logical_view l) result (read_alone clamp text.now) }
 {
-    match only(segments)? {
-        Segment::Child(selectors) => Some(selectors),
-        Segment::Descendant(_) => None,
-    }
-}
-
-/// The expression of a query of one filter, and none of any other.
-fn only_filter(segments: Vec<Segment>) -> Option<Logical>
-    ensures { MatchOption result ((l : syntax.Logical) → segments_view segments.items ≡ filter_by l → ⊥) (λ e. segments_view segments.items ≡ filter_by (logical_view e)) }
-{
-    let selectors = child_selectors(segments)?;
-    let Selector::Filter(expression) = only(selectors)? else {
-        return None;
+    let Ok(text) = simdutf8::basic::from_utf8(text) else {
+        return Err(Failure::Syntax(Stop::at_end(Expected::Utf8)));
     };
-    Some(expression)
+    let mut scalars = to_scalars(alloc, text)?;
+    scalars.push(']')?;
+    Parser::new(alloc, &scalars).alone()
 }
 
-/// The condition of segments that were read, where they are one filter and within their limits.
-fn limited(_whole: &[u8], segments: Vec<Segment>) -> Result<Condition, ParseFault>
-    requires { IsRead _whole.now (segments_view segments.items) }
-    ensures { MeantInFilter _whole.now result }
+/// The condition that a text spells, or the first fault that it meets.
+fn answer(alloc: Global, text: &[u8]) -> Result<Condition, ParseFault>
+    ensures { MeantAlone text.now result }
 {
-    let Some(expression) = only_filter(segments) else {
-        return Err(ParseFault::Refused(QueryFault::Syntax));
+    if is_oversized(text) {
+        return Err(ParseFault::Refused(QueryFault::Size));
+    }
+    let expression = match read(alloc, text) {
+        Ok(expression) => expression,
+        Err(Failure::Syntax(_)) => return Err(ParseFault::Refused(QueryFault::Syntax)),
+        Err(Failure::Memory) => return Err(ParseFault::Memory),
     };
     if !Walk::new().logical_passes(&expression, Limit::Integers) {
         return Err(ParseFault::Refused(QueryFault::Integer));
@@ -77,20 +85,6 @@ fn limited(_whole: &[u8], segments: Vec<Segment>) -> Result<Condition, ParseFaul
         return Err(ParseFault::Refused(QueryFault::Number));
     }
     Ok(Condition::new(expression))
-}
-
-/// The condition that stands in the filter of a whole query's text, or the first fault that it meets.
-fn answer(alloc: Global, whole: &[u8]) -> Result<Condition, ParseFault>
-    ensures { MeantInFilter whole.now result }
-{
-    if is_oversized(whole) {
-        return Err(ParseFault::Refused(QueryFault::Size));
-    }
-    match read(alloc, whole, Origin::Root) {
-        Ok(segments) => limited(whole, segments),
-        Err(Failure::Syntax(_)) => Err(ParseFault::Refused(QueryFault::Syntax)),
-        Err(Failure::Memory) => Err(ParseFault::Memory),
-    }
 }
 
 /// The logical expression that a text spells, as it may stand between `$[?` and `]` of a query of one filter, blanks around it
@@ -110,8 +104,5 @@ pub fn parse_condition(alloc: Global, text: &[u8]) -> Result<Condition, ParseFau
     ensures only { (l : syntax.Logical) → IsFalse (is_oversized (in_filter text.now)) → SpellsCondition text.now l → has_exact_integers (filter_by l) ≡ true → has_small_exponents (filter_by l) ≡ true → GivesCondition l result }
     ensures fault { IfErr result (λ e. IsFirstConditionFault text.now e) }
 {
-    match in_filter(alloc, text) {
-        Ok(whole) => answer(alloc, &whole),
-        Err(_) => Err(ParseFault::Memory),
-    }
+    answer(alloc, text)
 }

@@ -3,6 +3,7 @@
 ghost use Rattle.std.specs.Prelude.{◌≡◌, ◌≤◌, IfOk};
 ghost use Rattle.jp_query.specs.Places.{IsPlace};
 
+use super::conditions::{BYTES_BEFORE, OPENED_BEFORE};
 use super::failure::{Failure, Stop};
 use super::{MAX_BYTES, MAX_DEPTH, MAX_OPENED, Parser, to_scalars};
 use crate::expected::Expected;
@@ -64,13 +65,13 @@ enum Grammar {
 }
 
 impl Grammar {
-    /// How many bytes of the query stand before the text: `$[?` before a condition.
+    /// How many bytes of the query stand before the text.
     fn bytes_before(self) -> usize
         ensures { result ≤ 3 }
     {
         match self {
             Grammar::Query | Grammar::RelativeQuery => 0,
-            Grammar::Condition => 3,
+            Grammar::Condition => BYTES_BEFORE,
         }
     }
 
@@ -78,7 +79,7 @@ impl Grammar {
     fn opened_before(self) -> usize {
         match self {
             Grammar::Query | Grammar::RelativeQuery => 0,
-            Grammar::Condition => 1,
+            Grammar::Condition => OPENED_BEFORE,
         }
     }
 
