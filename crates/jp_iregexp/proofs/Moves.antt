@@ -23,7 +23,7 @@ up_low : (x s i : ℕ) → i < s → i < 64 → bit_at (x * 2 ^ s % 2 ^ 64) i �
 up_low x s i h l = (let whole : x * 2 ^ s ≡ x * 2 ^ s + 0 = omega arith in low_bit (x * 2 ^ s) i l ∙ ap (λ n. bit_at n i) whole ∙ bit_at_cat_low x s 0 i h ∙ bit_at-zero i)
 
 -- a bit that is moved down
-down : (x t i : ℕ) → bit_at (x / 2 ^ t) i ≡ bit_at x (i + t)
+pub down : (x t i : ℕ) → bit_at (x / 2 ^ t) i ≡ bit_at x (i + t)
 down x t i =
     let whole : x / 2 ^ t * 2 ^ t + x % 2 ^ t ≡ x = (let e = div-add-mod x (2 ^ t) in omega (arith, e)) in
     let back : i + t - t ≡ i = omega arith in

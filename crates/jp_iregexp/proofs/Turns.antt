@@ -3,7 +3,7 @@ use Rattle.std.proofs.Common.{◌≡◌, ℕ, zero, suc, ◌+◌, ◌-◌, ◌<�
 use Rattle.jp_iregexp.specs.declared.node.Node.{Node}
 use Rattle.jp_iregexp.specs.Nodes.{tree_of, sequence_list, choice_list}
 use Rattle.jp_iregexp.specs.declared.positions.PositionSet.{PositionSet}
-use Rattle.jp_iregexp.specs.Positions.{Has, IsSetOver, Reach, ReachFrom, AreEnds}
+use Rattle.jp_iregexp.specs.Positions.{Has, IsClosed, IsSetOver, Reach, ReachFrom, AreEnds}
 use Rattle.jp_model.specs.Pattern.Language.{Language, Splits, Repeats, RepeatsWithin}
 use Rattle.jp_iregexp.proofs.Reaching.{ends_nothing, ends_then, ends_same, AreSame, same_over, same_starts, same_ends, Fronts, ends_repeats_closed, ends_within_closed, ends_up_to_one, one_more, one_fewer, within_join, within_split, reach_map}
 
@@ -112,10 +112,9 @@ module _ (Member Whole : List ℕ → Type 0) (text : List ℕ) (starts reached 
       (λ x s. subst (λ k. RepeatsWithin Member 0 (Some k) x) (sym e) (one_more (most - (turn + 1)) x s))
       (λ x s. one_fewer (most - (turn + 1)) x (subst (λ k. RepeatsWithin Member 0 (Some k) x) e s))
 
-  -- nothing new follows the frontier
-  pub further_exit : (frontier : PositionSet) (most turn : ℕ) → Continues (RepeatsWithin Member 0 (Some (most - turn))) Whole text starts reached → Fronts Member text reached frontier → AreEnds Member text frontier next → ((q : ℕ) → Has next q → Has reached q) → AreEnds Whole text starts reached
-  further_exit frontier most turn c f a left =
-      c.rest reached (ends_within_closed text reached (most - turn) c.over (λ p q h r. elim (f.closed p q h r) [ inl i ↦ left q (a.complete p q i r) | inr i ↦ i ]))
+  -- no turn leaves what is reached
+  pub further_exit : (most turn : ℕ) → Continues (RepeatsWithin Member 0 (Some (most - turn))) Whole text starts reached → IsClosed Member text reached → AreEnds Whole text starts reached
+  further_exit most turn c closed = c.rest reached (ends_within_closed text reached (most - turn) c.over closed)
 
   pub further_end : (most turn : ℕ) → most ≤ turn → Continues (RepeatsWithin Member 0 (Some (most - turn))) Whole text starts reached → AreEnds Whole text starts reached
   further_end most turn l c =

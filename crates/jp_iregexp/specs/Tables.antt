@@ -6,7 +6,7 @@ use Rattle.jp_model.specs.Pattern.Tree.{Pattern, empty}
 use Rattle.jp_iregexp.specs.declared.node.Node.{Node, Class as ClassNode, Sequence', Choice', Repeated', Row_of-Node, end_of-Node, more_of-Node}
 use Rattle.jp_iregexp.specs.Nodes.{tree_of}
 use Rattle.jp_iregexp.specs.declared.positions.PositionSet.{PositionSet}
-use Rattle.jp_iregexp.specs.Positions.{Has, IsSetOver, Reach}
+use Rattle.jp_iregexp.specs.Positions.{Has, IsClosed, IsSetOver, IsTail, Reach}
 
 -- the set holds exactly the positions that are reached from p
 pub record AreEndsFrom (Member : List ℕ → Type 0) (text : List ℕ) (p : ℕ) (ends : PositionSet) : Type 0 where
@@ -84,3 +84,15 @@ NumberedList bodies (part ∷ rest) = Numbered bodies part × NumberedList bodie
 -- each table that there is has the ends of the body with its number
 abbrev pub AreTables : List ℕ → Node → List (Option (Vec PositionSet Global)) → Type 0
 AreTables text root tables = (number : ℕ) (table : Vec PositionSet Global) → get_or tables number None ≡ Some table → IsTable (Language (get_or (bodies_of root) number empty)) text table.items
+
+-- each set that there is is closed under the body with its number
+abbrev pub AreClosed : List ℕ → Node → List (Option PositionSet) → Type 0
+AreClosed text root sets = (number : ℕ) (set : PositionSet) → get_or sets number None ≡ Some set → IsClosed (Language (get_or (bodies_of root) number empty)) text set
+
+-- the set is a tail of the one that is kept by this number
+pub record IsTailOfKept (sets : List (Option PositionSet)) (table : Option ℕ) (set : PositionSet) : Type 0 where
+  pub number : ℕ
+  pub whole : PositionSet
+  pub is : table ≡ Some number
+  pub kept : get_or sets number None ≡ Some whole
+  pub tail : IsTail set whole

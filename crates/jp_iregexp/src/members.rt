@@ -1,7 +1,7 @@
 //! Which positions are in a set.
 
 ghost use Rattle.std.specs.Prelude.{◌≡◌, ◌^◌, ℕ, ◌-◌, ◌<◌, ◌≤◌, ◌↔◌, ◌⊎◌, IsTrue, IfOk, OnOk};
-ghost use Rattle.jp_iregexp.specs.Positions.{Has, IsSetOver};
+ghost use Rattle.jp_iregexp.specs.Positions.{Has, IsSetOver, IsTail};
 
 use crate::Result;
 use crate::positions::{PositionSet, first_bits};
@@ -157,6 +157,25 @@ impl PositionSet {
             words.push(self.moved(w, distance) & other.word(w))?;
         }
         Ok(PositionSet { first, words })
+    }
+
+    /// Whether the other set has each of these positions, and no others from the lowest of them on. It goes by words.
+    pub(crate) fn is_tail_of(&self, whole: &PositionSet) -> bool
+        ensures { IsTrue result → IsTail self.now whole.now }
+    {
+        let end = (self.first + self.words.len()).max(whole.first + whole.words.len());
+        let mut begun = false;
+        for w in self.first..end {
+            let own = self.word(w);
+            let low = if begun { 0 } else { own.trailing_zeros() };
+            if low < 64 {
+                if own >> low != whole.word(w) >> low {
+                    return false;
+                }
+                begun = true;
+            }
+        }
+        true
     }
 
     /// Whether both sets keep the same words, and so the same positions. Equal sets may differ in the words that are 0.

@@ -1,13 +1,13 @@
 //! Which positions the turns of a repeated part reach.
 
-ghost use Rattle.std.specs.Prelude.{◌≡◌, ◌<◌, ◌≤◌, ◌+◌, ◌*◌, ◌^◌, ◌⊎◌, length, Some, IfOk, OnOk};
+ghost use Rattle.std.specs.Prelude.{◌≡◌, ◌<◌, ◌≤◌, ◌+◌, ◌*◌, ◌^◌, ◌⊎◌, ℕ, length, get_or, Some, IfOk, OnOk};
 ghost use Rattle.jp_iregexp.specs.Evens.{HaveLength};
-ghost use Rattle.jp_iregexp.specs.Positions.{AreEnds, AreStarts};
+ghost use Rattle.jp_iregexp.specs.Positions.{AreEnds, AreStarts, IsClosed};
 ghost use Rattle.jp_model.specs.Pattern.Language.{Language, Repeats, RepeatsWithin};
 ghost use Rattle.jp_iregexp.specs.Right.{AreRight};
 ghost use Rattle.jp_iregexp.specs.Tables.{IsTable, Numbered, NumberedTurns, bodies_of};
 ghost use Rattle.jp_iregexp.specs.Nodes.{turns_of, tree_of};
-ghost use Rattle.jp_model.specs.Pattern.Tree.{times};
+ghost use Rattle.jp_model.specs.Pattern.Tree.{empty, times};
 
 use crate::Result;
 use crate::even::{LONGEST, common_length, doubled};
@@ -16,6 +16,12 @@ use crate::node::Node;
 use crate::positions::PositionSet;
 use crate::runs::{count_ends, run_ends, window_ends};
 use crate::tables::{Tables, ends_in};
+
+/// It is kept for no more bodies than this what their turns reach, which takes 64 bytes for each scalar of the text at most.
+const KEPT: usize = 512;
+
+/// It is kept only once a match has asked the bodies of repeated parts this often.
+const OFTEN: usize = 64;
 
 /// How many turns of a part may follow `least * once` of them, where it is taken from `once` up to `most` times in each of
 /// `least` turns and up to `further` more. What goes beyond the greatest number is left out, as no text is as long.
@@ -196,7 +202,8 @@ impl Matcher<'_> {
         }
     }
 
-    /// The part up to `most` times. A turn starts from what the one before it added, and they stop where one adds nothing.
+    /// The part up to `most` times. A turn starts from what the one before it added, and they stop where one adds nothing, or
+    /// where it is known before that it would add nothing.
     #[cycle(ends)]
     fn added_turns(
         &self,
@@ -215,15 +222,40 @@ impl Matcher<'_> {
         let mut reached = starts.copy(self.alloc)?;
         let mut frontier = starts.copy(self.alloc)?;
         for turn in 0..most {
+            if tables.stays(table, &frontier) {
+                return Ok(reached);
+            }
             let next = self.one_turn(body, table, &frontier, tables)?;
             let fresh = next.without(self.alloc, &reached)?;
             if !fresh.has_any() {
+                self.keep_closed(table, &reached, tables)?;
                 return Ok(reached);
             }
             reached.add_all(&fresh)?;
             frontier = fresh;
         }
         Ok(reached)
+    }
+
+    /// Keeps a set that no turn of the body with this number leaves, in place of the one before, once the match has asked
+    /// often.
+    fn keep_closed(
+        &self,
+        table: Option<usize>,
+        reached: &PositionSet,
+        tables: &mut Tables,
+    ) -> Result<()>
+        requires closed { (number : ℕ) → table ≡ Some number → IsClosed (Language (get_or (bodies_of self.now.root.now) number empty)) self.now.text.now reached.now }
+        requires right { AreRight self.now.text.now self.now.root.now tables.old }
+        ensures { OnOk result (AreRight self.now.text.now self.now.root.now tables.new) }
+    {
+        match table {
+            Some(number) if number < KEPT && tables.asked >= OFTEN => {
+                let set = reached.copy(self.alloc)?;
+                tables.closed.keep(number, set)
+            }
+            _ => Ok(()),
+        }
     }
 
     /// The part once: by its table, if it was made.
@@ -241,8 +273,8 @@ impl Matcher<'_> {
         ensures kept { OnOk result (AreRight self.now.text.now self.now.root.now tables.new) }
         ensures ends { IfOk result (λ out. AreEnds (Language (tree_of body.now)) self.now.text.now starts.now out) }
     {
-        if tables.direct > 0 {
-            tables.direct -= 1;
+        if tables.asked < tables.direct {
+            tables.asked += 1;
             return self.ends(body, starts, tables);
         }
         match table {

@@ -1,8 +1,8 @@
 //! What a match keeps beside a pattern: for a text of n scalars a table has n + 1 rows, each as wide as what it reaches.
 
-ghost use Rattle.std.specs.Prelude.{◌≡◌, IfOk, None, []};
+ghost use Rattle.std.specs.Prelude.{◌≡◌, IfOk, IsTrue, None, []};
 ghost use Rattle.jp_iregexp.specs.Positions.{AreEnds, AreStarts};
-ghost use Rattle.jp_iregexp.specs.Tables.{AreInRows};
+ghost use Rattle.jp_iregexp.specs.Tables.{AreInRows, IsTailOfKept};
 ghost use Rattle.jp_model.specs.Pattern.Language.{Language};
 ghost use Rattle.jp_iregexp.specs.Nodes.{tree_of};
 
@@ -34,14 +34,16 @@ pub(crate) fn reach(
     matcher.ends(&compiled.root, starts, &mut tables)
 }
 
-/// What a match keeps: by the numbers of the bodies of repeated parts their ends from each position, and by ASCII scalar the
-/// positions after it. Bodies are first asked directly, as often as it would cost to make all the tables. From then on the first
-/// question of a body makes its table.
+/// What a match keeps: by the numbers of the bodies of repeated parts their ends from each position, and the last set that each
+/// cannot leave; by ASCII scalar the positions after it. Bodies are first asked directly, as often as it would cost to make all
+/// the tables. From then on the first question of a body makes its table.
 #[derive(Drop)]
 pub(crate) struct Tables {
-    /// How many more questions are asked directly.
+    /// How many questions were asked directly, and how many may be.
+    pub(crate) asked: usize,
     pub(crate) direct: usize,
     pub(crate) bodies: Kept<Vec<PositionSet>>,
+    pub(crate) closed: Kept<PositionSet>,
     pub(crate) after: Kept<PositionSet>,
 }
 
@@ -49,13 +51,29 @@ impl Tables {
     /// Nothing yet, where this many parts are repeated and the text has this many scalars.
     fn new(alloc: Global, repeated: usize, length: usize) -> Tables
         ensures bodies { result.bodies.rows.items ≡ [] }
+        ensures closed { result.closed.rows.items ≡ [] }
         ensures after { result.after.rows.items ≡ [] }
     {
         let questions = repeated.saturating_add(1).saturating_mul(length);
         Tables {
+            asked: 0,
             direct: questions.saturating_mul(2),
             bodies: Kept::new(alloc),
+            closed: Kept::new(alloc),
             after: Kept::new(alloc),
+        }
+    }
+
+    /// Whether no turn of the body leaves this set: it is what is left, from its lowest position on, of one that none leaves.
+    pub(crate) fn stays(&self, table: Option<usize>, set: &PositionSet) -> bool
+        ensures { IsTrue result → IsTailOfKept self.now.closed.rows.items table set.now }
+    {
+        match table {
+            Some(number) => match self.closed.get(number) {
+                Some(whole) => set.is_tail_of(whole),
+                None => false,
+            },
+            None => false,
         }
     }
 }

@@ -2,6 +2,7 @@ use Rattle.jp_iregexp.specs.Numbers.{numbers_behind}
 use Rattle.jp_iregexp.proofs.Alone.{no_rows}
 use Rattle.jp_iregexp.proofs.Keeping.{none_made, whole_numbered}
 use Rattle.jp_iregexp.proofs.Numbering.{last_behind}
+use Rattle.jp_iregexp.proofs.Tails.{no_sets}
 use Rattle.jp_iregexp.proofs.tables.reach.Goals as goal
 
 pub ends-requires-clause-numbered : goal.ends-requires-clause-numbered
@@ -15,4 +16,4 @@ ends-requires-clause-right c =
     let text = c.args.text.now in
     let tables = c.new-tables.result in
     let none = c.new-tables.ensures in
-    record { bodies = none_made text c.args.compiled.now.root tables.bodies.rows.items none.bodies; after = no_rows text tables.after.rows.items none.after }
+    record { bodies = none_made text c.args.compiled.now.root tables.bodies.rows.items none.bodies; closed = no_sets text c.args.compiled.now.root tables.closed.rows.items none.closed; after = no_rows text tables.after.rows.items none.after }

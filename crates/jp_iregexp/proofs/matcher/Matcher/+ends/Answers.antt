@@ -10,6 +10,7 @@ use Rattle.jp_iregexp.proofs.Parts.{tree_of_Sequence, tree_of_Choice, drop_item,
 use Rattle.jp_iregexp.proofs.Turns.{continue_start, sequence_step, sequence_end, gather_step, gather_end, exact_start, exact_step, exact_exit, exact_end, further_start, further_step, further_exit, further_end, front_start, front_step, times_some}
 use Rattle.jp_iregexp.proofs.Joined.{joined_ends, turns_ends, bounded_ends, only_numbered, only_ends, table_alike}
 use Rattle.jp_iregexp.proofs.Reaching.{ends_none, same_over}
+use Rattle.jp_iregexp.proofs.Tails.{closed_numbered, front_left, kept_stays}
 use Rattle.jp_iregexp.proofs.Rows.{from_one, rows_push, table_ends}
 use Rattle.jp_iregexp.specs.Kept.{IsAdded}
 use Rattle.jp_iregexp.specs.Right.{AreRight}
@@ -130,13 +131,32 @@ added_turns-loop-turn-preserved t c =
       right = c.in_ok-next.ensures.kept;
     }
 
+pub added_turns-returns-then-stays-clause-ends : goal.added_turns-returns-then-stays-clause-ends
+added_turns-returns-then-stays-clause-ends t c =
+    let member = Language (tree_of c.args.body.now) in
+    let text = c.args.self.now.text.now in
+    let l = c.loop-turn in
+    let i = l.invariant in
+    let closed = kept_stays text c.args.self.now.root.now c.args.body.now c.args.table l.tables.closed.rows.items l.reached l.frontier c.requires.numbered.1 i.right.closed (c.stays.ensures c.if-stays.true) i.fronts in
+    further_exit member (RepeatsWithin member 0 (Some c.args.most)) text c.args.starts.now l.reached l.reached c.args.most l.turn i.continues closed
+
+pub added_turns-keep_closed-requires-clause-closed : goal.added_turns-keep_closed-requires-clause-closed
+added_turns-keep_closed-requires-clause-closed t c =
+    let member = Language (tree_of c.args.body.now) in
+    let text = c.args.self.now.text.now in
+    let l = c.loop-turn in
+    closed_numbered text c.args.self.now.root.now c.args.body.now c.args.table l.reached c.requires.numbered.1
+    (front_left member text l.reached l.frontier c.in_ok-next.next l.invariant.fronts c.in_ok-next.ensures.ends
+    (λ q h. elim (c.in_ok-fresh.ensures.complete q h) [ inl n ↦ absurd (let some = c.has_any.ensures.none q n in let none = c.if-not-has_any.true in cc) | inr o ↦ o ]))
+
 pub added_turns-returns-then-not-has_any-clause-ends : goal.added_turns-returns-then-not-has_any-clause-ends
 added_turns-returns-then-not-has_any-clause-ends t c =
     let member = Language (tree_of c.args.body.now) in
+    let text = c.args.self.now.text.now in
     let l = c.loop-turn in
-    let i = l.invariant in
-    further_exit member (RepeatsWithin member 0 (Some c.args.most)) c.args.self.now.text.now c.args.starts.now l.reached c.in_ok-next.next l.frontier c.args.most l.turn i.continues i.fronts c.in_ok-next.ensures.ends
-    (λ q h. elim (c.in_ok-fresh.ensures.complete q h) [ inl n ↦ absurd (let some = c.has_any.ensures.none q n in let none = c.if-not-has_any.true in cc) | inr o ↦ o ])
+    let closed = front_left member text l.reached l.frontier c.in_ok-next.next l.invariant.fronts c.in_ok-next.ensures.ends
+    (λ q h. elim (c.in_ok-fresh.ensures.complete q h) [ inl n ↦ absurd (let some = c.has_any.ensures.none q n in let none = c.if-not-has_any.true in cc) | inr o ↦ o ]) in
+    further_exit member (RepeatsWithin member 0 (Some c.args.most)) text c.args.starts.now l.reached l.reached c.args.most l.turn l.invariant.continues closed
 
 pub added_turns-returns-clause-ends : goal.added_turns-returns-clause-ends
 added_turns-returns-clause-ends t c =
@@ -266,7 +286,7 @@ make_table-returns t c =
     let body = Language (tree_of c.args.body.now) in
     let table = table_alike body (Language (get_or (bodies_of root) number empty)) text rows.items (record { to = alike.from; from = alike.to }) c.in_ok-rows.ensures.rows in
     if_ok_map (λ _. IsAdded number rows old new) (λ _. AreRight text root (record c.rows.new.tables { bodies = c.keep.new.self })) c.keep.result
-    (λ _ added. record { bodies = more_made text root old new number rows table added c.in_ok-rows.ensures.kept.bodies; after = c.in_ok-rows.ensures.kept.after }) c.keep.ensures
+    (λ _ added. record { bodies = more_made text root old new number rows table added c.in_ok-rows.ensures.kept.bodies; closed = c.in_ok-rows.ensures.kept.closed; after = c.in_ok-rows.ensures.kept.after }) c.keep.ensures
 
 pub kept_turn-returns-in-Some-clause-ends : goal.kept_turn-returns-in-Some-clause-ends
 kept_turn-returns-in-Some-clause-ends t c =

@@ -14,4 +14,4 @@ returns c =
     let after = c.in_ok-after.after in
     let rows = c.keep.new.self.rows.items in
     if_ok_map (λ _. IsAdded c.args.scalar after old.after.rows.items rows) (λ _. AreRight text c.args.self.now.root.now (record old { after = c.keep.new.self })) c.keep.result
-    (λ _ added. record { bodies = right.bodies; after = rows_more text old.after.rows.items rows after c.args.scalar right.after added (subst (λ s. IsAfterEach text s after) c.from.ensures c.in_ok-after.ensures) }) c.keep.ensures
+    (λ _ added. record { bodies = right.bodies; closed = right.closed; after = rows_more text old.after.rows.items rows after c.args.scalar right.after added (subst (λ s. IsAfterEach text s after) c.from.ensures c.in_ok-after.ensures) }) c.keep.ensures
