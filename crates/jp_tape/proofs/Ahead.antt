@@ -2,6 +2,8 @@
 use Rattle.std.proofs.Common.{◌≡◌, ℕ, zero, suc, ◌+◌, ◌-◌, ◌%◌, ◌<◌, ◌≤◌, ◌==◌, ◌⊎◌, inl, inr, Bool, true, false, not, ◌&&◌, ◌||◌, cond, List, [], ◌∷◌, length, drop, get_or, sym, ◌∙◌, ap, ap₂, refl, arith, add-one, subst}
 use Rattle.std.specs.List.{filter, range_with_len, list_all}
 use Rattle.std.proofs.lemmas.List.{length-drop, drop-drop}
+use Rattle.std.proofs.lemmas.List.Filters.{length-filter_both}
+use Rattle.std.proofs.lemmas.List.FromFn.{length-range_with_len}
 use Rattle.std.proofs.lemmas.List.Folds.{list_all_at}
 use Rattle.std.proofs.lemmas.List.Edits.{get_or-between, length-between}
 use Rattle.std.proofs.lemmas.Bool.{cases_lt, cases_Bool, eq-eqb, eqb-true, eqb-false, true≢false}
@@ -9,7 +11,7 @@ use Rattle.std.proofs.lemmas.Bool.Decides.{nat_tests}
 use Rattle.jp_model.specs.Characters.{is_white, is_structural, is_quote, is_backslash}
 use Rattle.jp_model.specs.Json.Places.{byte_at, White, Has, Reads}
 use Rattle.jp_model.specs.Json.Tree.{Container, array, object}
-use Rattle.jp_model.specs.Json.Spelling.{opening, closing}
+use Rattle.jp_model.specs.Json.Spelling.{opening}
 use Rattle.jp_model.specs.Json.Marks.{is_mark, is_inside, is_escaped, is_unescaped_quote, may_begin, backslashes_before, quotes_before, marks}
 use Rattle.jp_model.proofs.Reader.Lexical.{end_stops}
 use Rattle.jp_tape.specs.Places.{Stops, in_number}
@@ -263,23 +265,23 @@ structural b h = (grind (arith, nat_tests, h), grind (arith, nat_tests, h), grin
 passed : (line ms : List ℕ) (m to : ℕ) → ms ≡ m ∷ marks_from line to → is_escaped line to ≡ false → is_inside line to ≡ false → IsPassed line ms 1 to
 passed line ms m to e u s = let n = ap length e in record { within = omega (arith, n); ahead = record { outside = s; unescaped = u; are = ap (drop 1) e } }
 
+pub structural_first : (line ms : List ℕ) (i : ℕ) → i < length line → is_structural (byte_at line i) ≡ true → IsAhead line i ms → ms ≡ i ∷ marks_from line (i + 1)
+structural_first line ms i l h a =
+    let b = structural (byte_at line i) h in
+    a.are ∙ marked line i l (outside_mark line i false true false (may_begin line i) a.unescaped a.outside b.0 h b.1 refl)
+
 -- a structural byte is the next mark
 pub passes_structural : (line ms : List ℕ) (i : ℕ) → i < length line → is_structural (byte_at line i) ≡ true → IsAhead line i ms → IsPassed line ms 1 (i + 1)
 passes_structural line ms i l h a =
     let b = structural (byte_at line i) h in
     let u = no_quote_unescaped line i b.1 in
-    let m = outside_mark line i false true false (may_begin line i) a.unescaped a.outside b.0 h b.1 refl in
-    passed line ms i (i + 1) (a.are ∙ marked line i l m) (free_next line i b.2) (inside_stays line i u ∙ a.outside)
+    passed line ms i (i + 1) (structural_first line ms i l h a) (free_next line i b.2) (inside_stays line i u ∙ a.outside)
 
 or_middle : (a c : Bool) → (a || true || c) ≡ true
 or_middle true c = refl
 or_middle false c = refl
 
 -- a token may begin after a structural byte
--- where no mark is ahead, no structural character is there
-pub no_mark_there : (line : List ℕ) (at byte : ℕ) (ms : List ℕ) → IsAhead line at ms → length ms ≡ 0 → is_structural byte ≡ true → Has line at byte → ⊥
-no_mark_there line at byte ms a none s h = let p = (passes_structural line ms at h.inside (ap is_structural h.is ∙ s) a).within in omega (arith, p, none)
-
 pub structural_begins : (line : List ℕ) (i : ℕ) → is_structural (byte_at line i) ≡ true → may_begin line (i + 1) ≡ true
 structural_begins line i h = begins_is line i ∙ (ap (λ x. is_white (byte_at line i) || x || is_unescaped_quote line i) h ∙ or_middle (is_white (byte_at line i)) (is_unescaped_quote line i))
 
@@ -404,10 +406,6 @@ pub bracket_structural : (kind : Container) (b : ℕ) → b ≡ opening kind →
 bracket_structural array b e = ap is_structural e
 bracket_structural object b e = ap is_structural e
 
-pub closing_structural : (kind : Container) (b : ℕ) → b ≡ closing kind → is_structural b ≡ true
-closing_structural array b e = ap is_structural e
-closing_structural object b e = ap is_structural e
-
 -- before a line nothing is known, and all of its marks are ahead
 pub all_ahead : (line ms : List ℕ) → ms ≡ marks line → IsAhead line 0 ms
 unfolding marks marks_from quotes_before backslashes_before
@@ -417,3 +415,11 @@ all_ahead line ms e = let n : length line ≡ length line - 0 = omega arith in r
 pub begins_first : (line : List ℕ) → may_begin line 0 ≡ true
 unfolding may_begin
 begins_first line = refl
+
+-- there are no more marks than bytes
+pub marks_few : (line : List ℕ) → length (marks line) ≤ length line
+unfolding marks
+marks_few line =
+    let both = length-filter_both (is_mark line) (λ i. not (is_mark line i)) (λ i. refl) (range_with_len 0 (length line)) in
+    let all = length-range_with_len 0 (length line) in
+    omega (arith, both, all)

@@ -1,5 +1,5 @@
 -- Where the body of a string ends: at the first quote that is not escaped.
-use Rattle.std.proofs.Common.{◌≡◌, ℕ, ◌+◌, ◌-◌, ◌<◌, ◌≤◌, inl, inr, true, false, List, ◌++◌, drop, get_or, ◌∙◌, ap, arith, Some, encode_utf8, get_or-drop}
+use Rattle.std.proofs.Common.{◌≡◌, ℕ, ◌-◌, ◌<◌, ◌≤◌, inl, inr, true, false, List, ◌++◌, drop, get_or, ◌∙◌, ap, arith, Some, encode_utf8, get_or-drop}
 use Rattle.std.proofs.lemmas.Bool.{cases_lt, and_parts}
 use Rattle.std.proofs.lemmas.Bool.Decides.{nat_tests}
 use Rattle.std.proofs.lemmas.Option.{cond_some}
@@ -9,7 +9,6 @@ use Rattle.jp_model.specs.Characters.{four_digits}
 use Rattle.jp_model.specs.Json.Places.{byte_at}
 use Rattle.jp_model.specs.Json.Strings.{Unescaped}
 use Rattle.jp_model.proofs.Reader.Lexical.{reads_end, reads_rest}
-use Rattle.jp_model.proofs.Reader.Bodies.{no_quote}
 use Rattle.jp_lanes.specs.Search.{is_special}
 
 -- ---- bytes that are not special

@@ -1,11 +1,9 @@
 -- What the builder holds is that of the state.
-use Rattle.std.proofs.Common.{◌≡◌, ℕ, suc, ◌+◌, ◌-◌, ◌*◌, ◌/◌, ◌<◌, ◌≤◌, max, Bool, true, false, ◌||◌, List, [], ◌∷◌, ◌++◌, length, take, get_or, sym, ◌∙◌, ap, ap₂, refl, arith, Option, Some, None, append_assoc, append-nil, add-zero, add_assoc, length-append, get_or-append-add, true≢false}
-use Rattle.std.proofs.Math.Seq.{take-append_seam}
+use Rattle.std.proofs.Common.{◌≡◌, ℕ, suc, ◌+◌, ◌-◌, ◌*◌, ◌≤◌, max, Bool, true, false, ◌||◌, List, [], ◌∷◌, ◌++◌, length, get_or, sym, ◌∙◌, ap, ap₂, refl, arith, Option, Some, None, append_assoc, append-nil, add-zero, add_assoc, length-append, get_or-append-add, true≢false}
 use Rattle.jp_model.specs.Json.Tree.{Tree, node, Value, null, boolean, number, string, container, Children, no_child, child, Name, count_children, joined}
 use Rattle.jp_model.specs.Json.Faults.{depth, greatest_depth, name_has_lone_surrogate, has_surrogate, children_have_surrogate, has_long_exponent, children_have_long_exponent, name_points, names, has_duplicate, children_have_duplicate}
-use Rattle.jp_tape.specs.declared.builder.machine.Open.{Open}
-use Rattle.jp_nodes.specs.Words.{node_count, value_node_count, children_node_count, label_word, words_from, words_below, children_words}
-use Rattle.jp_tape.specs.Machine.{Frame, open_count, open_words, open_names, opens, open_of, next_parent, next_index, no_container, open_depth, open_surrogate, open_long, open_duplicate}
+use Rattle.jp_nodes.specs.Words.{node_count, value_node_count, children_node_count, label_word, words_from, words_below, children_words, head_word, span_word, container_code}
+use Rattle.jp_tape.specs.Machine.{Frame, open_count, open_words, open_names, outer_count, next_parent, next_index, open_depth, open_surrogate, open_long, open_duplicate}
 
 -- ---- tests
 
@@ -79,17 +77,17 @@ grown_words place parent a own t =
 abbrev pub next_label : List Frame → Option Name → ℕ
 next_label frames own = label_word (next_index frames) own
 
+-- the words after those of the outer containers
+abbrev pub inner_words : Frame → List Frame → Children → List ℕ
+inner_words f frames children = head_word (container_code f.kind) 0 (next_parent frames) ∷ span_word (record { start = f.start; end = outer_count f frames }) ∷ next_label frames f.name ∷ children_words (open_count frames + 1) (open_count frames) 0 children
+
 pub open_length : (frames : List Frame) → length (open_words frames) ≡ 3 * open_count frames
 open_length [] = refl
 open_length (f ∷ frames) =
     let e = length_children (open_count frames + 1) (open_count frames) 0 f.done in
     let i = open_length frames in
-    let l = length-append (open_words frames) (0 ∷ 0 ∷ next_label frames f.name ∷ children_words (open_count frames + 1) (open_count frames) 0 f.done) in
+    let l = length-append (open_words frames) (inner_words f frames f.done) in
     omega (arith, e, i, l)
-
--- the words after those of the outer containers
-abbrev pub inner_words : Frame → List Frame → Children → List ℕ
-inner_words f frames children = 0 ∷ 0 ∷ next_label frames f.name ∷ children_words (open_count frames + 1) (open_count frames) 0 children
 
 -- the words of the next value, a child of the innermost container
 abbrev pub next_words : List Frame → Option Name → Tree → List ℕ
@@ -99,31 +97,12 @@ pub grown_tail : (f : Frame) (frames : List Frame) (own : Option Name) (t : Tree
     open_words (f ∷ frames) ++ next_words (f ∷ frames) own t ≡ open_words frames ++ inner_words f frames (with_child f own t)
 grown_tail f frames own t =
     append_assoc (open_words frames) (inner_words f frames f.done) (next_words (f ∷ frames) own t)
-    ∙ ap (λ xs. open_words frames ++ 0 ∷ 0 ∷ next_label frames f.name ∷ xs) (sym (grown_words (open_count frames + 1) (open_count frames) f.done own t))
-
-pub grown_length : (f : Frame) (frames : List Frame) (own : Option Name) (t : Tree) →
-    length (open_words (f ∷ frames) ++ next_words (f ∷ frames) own t) ≡ 3 * (open_count frames + (1 + children_node_count (with_child f own t)))
-grown_length f frames own t =
-    let e = ap (λ (xs : List ℕ). length xs) (grown_tail f frames own t) in
-    let c = length_children (open_count frames + 1) (open_count frames) 0 (with_child f own t) in
-    let o = open_length frames in
-    let l = length-append (open_words frames) (inner_words f frames (with_child f own t)) in
-    omega (arith, e, c, o, l)
-
-pub third : (n m : ℕ) → n ≡ 3 * m → n / 3 ≡ m
-third n m e = omega (arith, e)
+    ∙ ap (λ xs. open_words frames ++ head_word (container_code f.kind) 0 (next_parent frames) ∷ span_word (record { start = f.start; end = outer_count f frames }) ∷ next_label frames f.name ∷ xs) (sym (grown_words (open_count frames + 1) (open_count frames) f.done own t))
 
 -- each child has a node
-children_few : (a : Children) → count_children a ≤ children_node_count a
+pub children_few : (a : Children) → count_children a ≤ children_node_count a
 children_few no_child = omega arith
 children_few (child own (node s v) more) = let h = children_few more in let l = length_below 0 v in omega (arith, h, l)
-
-pub grown_few : (f : Frame) (frames : List Frame) (own : Option Name) (t : Tree) → 3 * (count_children f.done + 1) ≤ length (open_words (f ∷ frames) ++ next_words (f ∷ frames) own t)
-grown_few f frames own t =
-    let h = children_few f.done in
-    let o = open_length (f ∷ frames) in
-    let l = length-append (open_words (f ∷ frames)) (next_words (f ∷ frames) own t) in
-    omega (arith, h, o, l)
 
 -- one more child
 pub joined_count : (a : Children) (own : Option Name) (t : Tree) → count_children (joined a (child own t no_child)) ≡ count_children a + 1
@@ -136,18 +115,11 @@ open_depth_above : (frames : List Frame) → length frames ≤ open_depth frames
 open_depth_above [] = omega arith
 open_depth_above (f ∷ frames) = let h = open_depth_above frames in omega arith
 
+pub shallow_open : (frames : List Frame) (most : ℕ) → open_depth frames ≤ most → length frames ≤ most
+shallow_open frames most l = let h = open_depth_above frames in omega (arith, h, l)
+
 pub flat_depth : (frames : List Frame) (d : ℕ) → d ≡ 0 → open_depth frames ≡ max (open_depth frames) (length frames + d)
 flat_depth frames d e = let h = open_depth_above frames in omega (arith, h, e)
-
-pub root_depth : (d : ℕ) → max 0 (0 + d) ≡ d
-root_depth d = omega arith
-
-opens_count : (frames : List Frame) → length (opens frames) ≡ length frames
-opens_count [] = refl
-opens_count (f ∷ frames) = let h = opens_count frames in let l = length-append (opens frames) (open_of f frames ∷ []) in omega (arith, h, l)
-
-pub not_too_deep : (frames : List Frame) (n : ℕ) → open_depth frames ≤ 512 → n < 512 → n ≡ length frames → max (open_depth frames) (length frames + 1) ≤ 512
-not_too_deep frames n d few l = omega (arith, d, few, l)
 
 joined_depth : (a : Children) (own : Option Name) (t : Tree) → greatest_depth (joined a (child own t no_child)) ≡ max (greatest_depth a) (depth t)
 joined_depth no_child own t = omega arith
@@ -212,56 +184,32 @@ outer_names f frames = open_names frames ++ name_points f.name []
 pub grown_names : (f : Frame) (frames : List Frame) (own : Option Name) (t : Tree) → open_names (f ∷ frames) ++ name_points own [] ≡ outer_names f frames ++ names (with_child f own t)
 grown_names f frames own t = append_assoc (outer_names f frames) (names f.done) (name_points own []) ∙ ap (λ x. outer_names f frames ++ x) (sym (joined_names f.done own t))
 
--- ---- the innermost container
+-- there are no more names than nodes
+pub name_few : (own : Option Name) (rest : List (List ℕ)) → length (name_points own rest) ≤ length rest + 1
+name_few None rest = omega arith
+name_few (Some name) rest = omega arith
 
--- lists with one more at the end are equal only where their fronts are
-snoc_front : {A : Type 0} (xs ys : List A) (a b : A) → xs ++ a ∷ [] ≡ ys ++ b ∷ [] → xs ≡ ys
-snoc_front {A} xs ys a b e =
-    let l : length xs + 1 ≡ length ys + 1 = sym (length-append xs (a ∷ [])) ∙ (ap (λ (zs : List A). length zs) e ∙ length-append ys (b ∷ [])) in
-    let m : length xs ≡ length ys = omega arith in
-    sym (take-append_seam xs (a ∷ [])) ∙ (ap₂ (λ n (zs : List A). take n zs) m e ∙ take-append_seam ys (b ∷ []))
+names_few : (a : Children) → length (names a) ≤ children_node_count a
+names_few no_child = omega arith
+names_few (child own (node s v) more) = let h = names_few more in let n = name_few own (names more) in let l = length_below 0 v in omega (arith, h, n, l)
+
+pub open_names_few : (frames : List Frame) → length (open_names frames) ≤ open_count frames
+open_names_few [] = omega arith
+open_names_few (f ∷ frames) =
+    let h = open_names_few frames in
+    let n = name_few f.name [] in
+    let c = names_few f.done in
+    let l = length-append (outer_names f frames) (names f.done) in
+    let m = length-append (open_names frames) (name_points f.name []) in
+    omega (arith, h, n, c, l, m)
+
+pub next_names_few : (frames : List Frame) (own : Option Name) → length (open_names frames ++ name_points own []) ≤ open_count frames + 1
+next_names_few frames own = let h = open_names_few frames in let n = name_few own [] in let m = length-append (open_names frames) (name_points own []) in omega (arith, h, n, m)
+
+-- ---- the last of a list
 
 pub last_of : {A : Type 0} (xs : List A) (y d : A) → get_or (xs ++ y ∷ []) (length (xs ++ y ∷ []) - 1) d ≡ y
 last_of {A} xs y d =
     let l = length-append xs (y ∷ []) in
     let e : length (xs ++ y ∷ []) - 1 ≡ length xs + 0 = omega (arith, l) in
     ap (λ n. get_or (xs ++ y ∷ []) n d) e ∙ get_or-append-add xs (y ∷ []) 0 d
-
-snoc_last : {A : Type 0} (xs ys : List A) (a b : A) → xs ++ a ∷ [] ≡ ys ++ b ∷ [] → a ≡ b
-snoc_last {A} xs ys a b e = sym (last_of xs a a) ∙ (ap (λ (zs : List A). get_or zs (length zs - 1) a) e ∙ last_of ys b a)
-
--- ---- the innermost container, and those around it
-
--- that of the state
-abbrev pub innermost_of : List Frame → Open
-innermost_of [] = no_container
-innermost_of (f ∷ frames) = open_of f frames
-
-pub innermost_is : (frames : List Frame) (os : List Open) (o : Open) → os ++ o ∷ [] ≡ no_container ∷ opens frames → o ≡ innermost_of frames
-innermost_is [] os o e = snoc_last os [] o no_container e
-innermost_is (f ∷ frames) os o e = snoc_last os (no_container ∷ opens frames) o (open_of f frames) e
-
-pub outer_is : (f : Frame) (frames : List Frame) (os : List Open) (o : Open) → os ++ o ∷ [] ≡ no_container ∷ opens (f ∷ frames) → os ≡ no_container ∷ opens frames
-outer_is f frames os o e = snoc_front os (no_container ∷ opens frames) o (open_of f frames) e
-
-pub outer_count : (frames : List Frame) (os : List Open) (o : Open) → os ++ o ∷ [] ≡ no_container ∷ opens frames → length os ≡ length frames
-outer_count frames os o e =
-    let l = length-append os (o ∷ []) in
-    let n = ap (λ (xs : List Open). length xs) e in
-    let c = opens_count frames in
-    omega (arith, l, n, c)
-
-place_of : (frames : List Frame) → (innermost_of frames).place ≡ next_parent frames
-place_of [] = refl
-place_of (f ∷ frames) = refl
-
-index_of : (frames : List Frame) → (innermost_of frames).children ≡ next_index frames
-index_of [] = refl
-index_of (f ∷ frames) = refl
-
--- where the next value stands
-pub parent_place : (frames : List Frame) (os : List Open) (o : Open) → os ++ o ∷ [] ≡ no_container ∷ opens frames → o.place ≡ next_parent frames
-parent_place frames os o e = ap (λ (x : Open). x.place) (innermost_is frames os o e) ∙ place_of frames
-
-pub child_index : (frames : List Frame) (os : List Open) (o : Open) → os ++ o ∷ [] ≡ no_container ∷ opens frames → o.children ≡ next_index frames
-child_index frames os o e = ap (λ (x : Open). x.children) (innermost_is frames os o e) ∙ index_of frames

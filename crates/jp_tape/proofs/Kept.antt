@@ -1,7 +1,5 @@
 -- The names that are kept.
-use Rattle.std.proofs.Common.{◌≡◌, ℕ, ◌+◌, ◌<◌, ◌≤◌, ◌||◌, Bool, true, false, List, [], ◌∷◌, ◌++◌, length, sym, ◌∙◌, ap, subst, refl, arith, Option, Some, None, length-append, add-zero, append-nil}
-use Rattle.std.proofs.lemmas.List.{map-append}
-use Rattle.std.proofs.lemmas.List.Elements.{All-append, All-cons}
+use Rattle.std.proofs.Common.{◌≡◌, ℕ, ◌≤◌, Bool, true, false, List, [], ◌∷◌, length, sym, ◌∙◌, ap, subst, refl, arith, Option, Some, None}
 use Rattle.std.proofs.lemmas.Option.{same_Some, none-some}
 use Rattle.jp_model.specs.declared.Span.{Span}
 use Rattle.jp_model.specs.Json.Places.{Has, bytes_between}
@@ -9,14 +7,9 @@ use Rattle.jp_model.specs.Json.Strings.{SpellsBody, has_lone_surrogate}
 use Rattle.jp_model.specs.Json.Tree.{Name, Container, array, object}
 use Rattle.jp_model.specs.Json.Faults.{name_points, name_has_lone_surrogate}
 use Rattle.jp_model.specs.Json.Spelling.{SpellsLabel}
-use Rattle.jp_tape.specs.declared.builder.kept.KeptName.{KeptName}
-use Rattle.jp_tape.specs.declared.builder.machine.Builder.{Builder}
-use Rattle.jp_tape.specs.declared.builder.machine.Turn.TheVariants as turns
 use Rattle.jp_tape.specs.declared.builder.tokens.Label.{Label}
-use Rattle.jp_tape.specs.Machine.{Labelled, first_fault, held}
-use Rattle.jp_tape.specs.Names.{spelled_name, spelled_names, IsKept, AreKept}
+use Rattle.jp_tape.specs.Names.{IsKept}
 use Rattle.jp_tape.specs.Reading.{body_of, FoundLabel}
-use Rattle.jp_nodes.specs.Words.{body_word}
 use Rattle.jp_strings.specs.Plain.{ArePlain}
 use Rattle.jp_strings.specs.Points.{is_text_from, points_of}
 use Rattle.jp_tape.proofs.Bodies.{plain_between}
@@ -26,10 +19,6 @@ use Rattle.jp_strings.proofs.Texts.{text_of_body}
 name_some : (o : Option Name) (s : Span) → body_of o ≡ Some s → (n : Name) × (o ≡ Some n) × (n.body ≡ s)
 name_some None s e = absurd (none-some s e)
 name_some (Some n) s e = (n, refl, same_Some _ _ e)
-
-name_none : (o : Option Name) → body_of o ≡ None → o ≡ None
-name_none None e = refl
-name_none (Some n) e = absurd (none-some n.body (sym e))
 
 label_body : (line : List ℕ) (kind : Container) (from value : ℕ) (n : Name) → SpellsLabel line kind from value (Some n) → SpellsBody line n.body.start n.body.end n.points × Has line n.body.end 0x22
 label_body line array from value n l = absurd l
@@ -61,48 +50,7 @@ kept_span line kind from r f s e =
     (o, omega (arith, i))
 
 -- what is kept of it
-kept_name : (line : List ℕ) (kind : Container) (from : ℕ) (r : Label) (f : FoundLabel line kind from r) (s : Span) (plain : Bool) → r.name ≡ Some s → r.is_lone ≡ false → (plain ≡ true → ArePlain line s.start s.end) → IsKept line (record { body = s; is_plain = plain })
+pub kept_name : (line : List ℕ) (kind : Container) (from : ℕ) (r : Label) (f : FoundLabel line kind from r) (s : Span) (plain : Bool) → r.name ≡ Some s → r.is_lone ≡ false → (plain ≡ true → ArePlain line s.start s.end) → IsKept line (record { body = s; is_plain = plain })
 kept_name line kind from r f s plain e l p =
     let span = kept_span line kind from r f s e in
     record { order = span.0; within = span.1; text = (kept_text line kind from r f s e l).0; plain = λ t. plain_between line s.start s.end span.0 span.1 (p t) }
-
-pub labelled_named : (line : List ℕ) (kind : Container) (from : ℕ) (r : Label) (f : FoundLabel line kind from r) (old new : Builder) (s : Span) (plain : Bool) (word : ℕ) → word ≡ body_word old.innermost.children r.name → r.name ≡ Some s → from ≤ r.value → r.value < length line →
-    (plain ≡ true → ArePlain line s.start s.end) → new.names.items ≡ old.names.items ++ record { body = s; is_plain = plain } ∷ [] → new.words.items ≡ old.words.items → held new ≡ held old →
-    ((lone too_long repeated : Bool) → old.later ≡ first_fault lone too_long repeated → new.later ≡ first_fault (lone || r.is_lone) too_long repeated) → Labelled line kind from (turns.Value word r.value) old new
-labelled_named line kind from r f old new s plain word m e o i p n w q u =
-    let named = label_named line kind from r f s e in
-    let b : KeptName = record { body = s; is_plain = plain } in
-    record {
-      label = r;
-      found = f;
-      is_turn = ap (λ (x : ℕ). turns.Value x r.value) m;
-      order = o;
-      within = i;
-      words = w;
-      opened = q;
-      later = u;
-      count = ap length n ∙ (length-append old.names.items (b ∷ []) ∙ ap (λ (x : Option Name). length old.names.items + length (name_points x [])) (sym named.1));
-      names = λ z.
-          ap (spelled_names line) n
-          ∙ (map-append (spelled_name line) old.names.items (b ∷ []) ∙ ap (λ (xs : List (List ℕ)). spelled_names line old.names.items ++ xs) (sym (kept_text line kind from r f s e z).1));
-      kept = λ z all. subst (AreKept line) (sym n) (All-append (IsKept line) old.names.items (b ∷ []) all (All-cons (IsKept line) b [] (kept_name line kind from r f s plain e z p) (λ k d l. absurd (omega arith))));
-    }
-
-pub labelled_bare : (line : List ℕ) (kind : Container) (from : ℕ) (r : Label) (f : FoundLabel line kind from r) (old new : Builder) (word : ℕ) → word ≡ body_word old.innermost.children r.name → r.name ≡ None → from ≤ r.value → r.value < length line →
-    new.names.items ≡ old.names.items → new.words.items ≡ old.words.items → held new ≡ held old →
-    ((lone too_long repeated : Bool) → old.later ≡ first_fault lone too_long repeated → new.later ≡ first_fault (lone || r.is_lone) too_long repeated) → Labelled line kind from (turns.Value word r.value) old new
-labelled_bare line kind from r f old new word m e o i n w q u =
-    let bare : f.name ≡ None = name_none f.name (sym f.is_body ∙ e) in
-    record {
-      label = r;
-      found = f;
-      is_turn = ap (λ (x : ℕ). turns.Value x r.value) m;
-      order = o;
-      within = i;
-      words = w;
-      opened = q;
-      later = u;
-      count = ap length n ∙ (sym (add-zero _) ∙ ap (λ (x : Option Name). length old.names.items + length (name_points x [])) (sym bare));
-      names = λ z. ap (spelled_names line) n ∙ (sym (append-nil _) ∙ ap (λ (x : Option Name). spelled_names line old.names.items ++ name_points x []) (sym bare));
-      kept = λ z all. subst (AreKept line) (sym n) all;
-    }

@@ -1,20 +1,14 @@
 -- What stands before a child's value is one thing.
-use Rattle.std.proofs.Common.{◌≡◌, ℕ, ◌+◌, ◌<◌, ◌≤◌, inl, inr, Bool, true, false, List, length, drop, get_or, Option, Some, None, arith, sym, ◌∙◌, refl, ap, ap₂, subst}
-use Rattle.std.proofs.lemmas.Bool.{cases_lt}
-use Rattle.std.proofs.lemmas.List.{length-drop}
+use Rattle.std.proofs.Common.{◌≡◌, ℕ, ◌+◌, Bool, true, false, List, Option, Some, None, arith, sym, ◌∙◌, refl, ap, ap₂, subst}
 use Rattle.std.proofs.lemmas.Option.{same_Some}
 use Rattle.jp_model.specs.declared.Span.{Span}
-use Rattle.jp_model.specs.Characters.{is_white, is_structural}
+use Rattle.jp_model.specs.Characters.{is_white}
 use Rattle.jp_model.specs.Json.Places.{White, Has}
 use Rattle.jp_model.specs.Json.Strings.{SpellsBody, has_lone_surrogate}
-use Rattle.jp_model.specs.Json.Tree.{Name, Container, array, object}
+use Rattle.jp_model.specs.Json.Tree.{Name, array, object}
 use Rattle.jp_model.specs.Json.Spelling.{SpellsString, SpellsName, SpellsLabel, Separator}
 use Rattle.jp_model.proofs.Reader.Lexical.{white_unique, span_is}
 use Rattle.jp_model.proofs.Reader.Bodies.{body_whole}
-use Rattle.jp_model.specs.Json.Marks.{may_begin}
-use Rattle.jp_tape.specs.Ahead.{IsAhead, first_or}
-use Rattle.jp_tape.proofs.Ahead.{skips_to_mark, passes_next, structural_begins, none_is_end}
-use Rattle.jp_tape.proofs.Quotes.{closes, never_closes}
 use Rattle.jp_tape.specs.Places.{Stops}
 use Rattle.jp_tape.specs.Reading.{FoundLabel, NoLabel}
 
@@ -84,13 +78,6 @@ pub no_quote_no_name : (line : List ℕ) (from : ℕ) → (Has line from 0x22 �
 no_quote_no_name line from none None place l s i = absurd l
 no_quote_no_name line from none (Some n) place l s i = none l.opens
 
--- at the end of the line nothing stands
-pub end_no_label : (line : List ℕ) (kind : Container) (from : ℕ) → length line ≤ from → NoLabel line kind from
-end_no_label line array from end None place l s i = omega (arith, l, end, i)
-end_no_label line array from end (Some n) place l s i = absurd l
-end_no_label line object from end None place l s i = absurd l
-end_no_label line object from end (Some n) place l s i = let o = l.opens.inside in omega (arith, o, end)
-
 -- a string with no colon after it is none
 pub no_colon_no_name : (line : List ℕ) (from end colon : ℕ) (points : List ℕ) → SpellsString line from end points → White line end colon → Stops line colon → (Has line colon 0x3A → ⊥) → NoLabel line object from
 no_colon_no_name line from end colon points string w s none None place l r i = absurd l
@@ -100,29 +87,3 @@ no_colon_no_name line from end colon points string w s none (Some n) place l r i
     let before : White line end l.colon.place = subst (λ x. White line x l.colon.place) (ap (λ x. x + 1) last ∙ sym string.end) l.colon.before in
     let there : l.colon.place ≡ colon = white_unique line end colon l.colon.place w s before (ap is_white l.colon.is.is) in
     none (subst (λ x. Has line x 0x3A) there l.colon.is)
-
--- nor does a string with fewer marks than the quotes, the colon and the value have
-pub few_marks_no_name : (line ms : List ℕ) (from : ℕ) → IsAhead line from ms → length ms < 4 → NoLabel line object from
-few_marks_no_name line ms from a few None place l s i = absurd l
-few_marks_no_name line ms from a few (Some n) place l s i =
-    let body : SpellsBody line (from + 1) n.body.end n.points = subst (λ x. SpellsBody line x n.body.end n.points) l.behind_quote l.body in
-    elim (cases_lt (length ms) 2) [
-      | inl one ↦ never_closes line ms from l.opens a one n.body.end n.points body l.closes
-      | inr two ↦ (
-          let c = closes line ms from l.opens a two in
-          let last : n.body.end ≡ get_or ms 1 0 = c.only n.body.end n.points body l.closes in
-          let behind : IsAhead line (n.body.end + 1) (drop 2 ms) = subst (λ x. IsAhead line (x + 1) (drop 2 ms)) (sym last) c.ahead.ahead in
-          let begins : may_begin line (n.body.end + 1) ≡ true = subst (λ x. may_begin line (x + 1) ≡ true) (sym last) c.begins in
-          let inside = l.closes.inside in
-          let next = skips_to_mark line (drop 2 ms) (n.body.end + 1) (first_or (drop 2 ms) (length line)) (omega (arith, inside)) begins behind refl in
-          let there : l.colon.place ≡ first_or (drop 2 ms) (length line) = white_unique line (n.body.end + 1) _ l.colon.place next.white next.stops l.colon.before (ap is_white l.colon.is.is) in
-          let colon = ap is_structural l.colon.is.is in
-          let three = passes_next line ms 2 l.colon.place c.ahead.within (subst (λ x. IsAhead line x (drop 2 ms)) (sym there) next.ahead) l.colon.is.inside colon in
-          let within = l.colon.is.inside in
-          let value = skips_to_mark line (drop 3 ms) (l.colon.place + 1) (first_or (drop 3 ms) (length line)) (omega (arith, within)) (structural_begins line l.colon.place colon) three.ahead refl in
-          let same : place ≡ first_or (drop 3 ms) (length line) = white_unique line (l.colon.place + 1) _ place value.white value.stops l.colon.after s in
-          let count = length-drop 3 ms in
-          let end = none_is_end (drop 3 ms) (length line) (omega (arith, count, few)) in
-          omega (arith, same, end, i)
-          )
-    ]

@@ -1,5 +1,6 @@
 -- Lemmas on the walk over a line.
 pub mod Ahead
+pub mod More
 pub mod Quotes
 mod Escapes
 pub mod Bodies
@@ -11,12 +12,13 @@ pub mod Labels
 pub mod Scalars
 pub mod Steps
 pub mod Held
-pub mod Walk
 pub mod Deep
 pub mod Reader
-pub mod Room
+pub mod Nodes
+pub mod Closed
 pub mod Kept
 pub mod Repeated
 pub mod Refused
 pub mod Statuses
+pub mod Begins
 mod Slots

@@ -6,10 +6,12 @@ use Rattle.jp_lanes.specs.Search.{is_special}
 use Rattle.jp_model.specs.Characters.{is_quote, is_backslash}
 use Rattle.jp_model.specs.Json.Places.{byte_at, Has}
 use Rattle.jp_model.specs.Json.Strings.{SpellsCharacter, SpellsCharacters, SpellsBody}
-use Rattle.jp_model.specs.Json.Marks.{is_inside, is_escaped, is_unescaped_quote, may_begin}
+use Rattle.jp_model.specs.Json.Marks.{is_inside, is_escaped, is_unescaped_quote}
 use Rattle.jp_strings.proofs.Reading.{characters_longer}
-use Rattle.jp_tape.specs.Ahead.{marks_from, IsAhead, IsPassed}
+use Rattle.jp_tape.specs.Ahead.{marks_from, IsAhead, is_closing}
+use Rattle.jp_tape.proofs.More.{more_after}
 use Rattle.jp_tape.specs.Places.{IsUnquoted}
+use Rattle.jp_tape.specs.Reading.{Closes}
 use Rattle.jp_tape.proofs.Closing.{character_plain, four_plain}
 use Rattle.jp_tape.proofs.Ahead.{same_head, same_tail, marked, unmarked, none_at_end, free_next, slash_next, letter_next, no_quote_unescaped, escaped_no_quote, quote_unescaped, inside_stays, opens_next, closes_next, quote_is_mark, quote_begins, within_no_mark}
 
@@ -141,14 +143,6 @@ ends_body line ms from to points o b q =
     let u = quote_unescaped line to (ap is_quote q.is) w.unescaped in
     o.are ∙ ap (λ xs. from ∷ xs) (w.clear ∙ marked line to i (quote_is_mark line to u))
 
-pub record Closes (line ms : List ℕ) (from last : ℕ) : Type 0 where
-  pub order : from < last
-  pub quote : Has line last 0x22
-  pub only : (to : ℕ) (points : List ℕ) → SpellsBody line (from + 1) to points → Has line to 0x22 → to ≡ last
-  pub first : IsUnquoted line (from + 1) last
-  pub ahead : IsPassed line ms 2 (last + 1)
-  pub begins : may_begin line (last + 1) ≡ true
-
 closes_by : (line ms : List ℕ) (from last : ℕ) (rest : List ℕ) → from < length line → Opens line ms from → ms ≡ from ∷ last ∷ rest → Closes line ms from last
 unfolding IsUnquoted
 closes_by line ms from last rest i o e =
@@ -163,6 +157,7 @@ closes_by line ms from last rest i o e =
       only = λ to points b q. sym (same_head last to rest (marks_from line (to + 1)) (same_tail from from (last ∷ rest) (to ∷ marks_from line (to + 1)) (sym e ∙ ends_body line ms from to points o b q)));
       ahead = record { within = omega (arith, n); ahead = subst (λ xs. IsAhead line (last + 1) xs) (sym (ap (drop 2) e)) s.ahead };
       begins = quote_begins line last s.closing;
+      more = λ c. more_after line ms 1 c (omega (arith, n)) (ap (λ (xs : List ℕ). is_closing (byte_at line (get_or xs 1 0))) e ∙ ap is_closing s.quote.is);
     }
 
 two_at_least : (ms : List ℕ) (a : ℕ) (xs : List ℕ) → ms ≡ a ∷ xs → 2 ≤ length ms → (rest : List ℕ) × (ms ≡ a ∷ get_or ms 1 0 ∷ rest)
@@ -174,6 +169,3 @@ closes line ms from q a l =
     let o = opens line ms from q a in
     let two = two_at_least ms from (marks_from line (from + 1)) o.are l in
     closes_by line ms from (get_or ms 1 0) two.0 q.inside o two.1
-
-pub never_closes : (line ms : List ℕ) (from : ℕ) → Has line from 0x22 → IsAhead line from ms → length ms < 2 → (to : ℕ) (points : List ℕ) → SpellsBody line (from + 1) to points → Has line to 0x22 → ⊥
-never_closes line ms from q a l to points b c = let n = ap length (ends_body line ms from to points (opens line ms from q a) b c) in omega (arith, n, l)

@@ -6,13 +6,13 @@ use Rattle.jp_model.specs.Json.Places.{byte_at, White, Has}
 use Rattle.jp_model.specs.Json.Tree.{Tree, node, container, Container, array, object, Children, no_child, child, Name, span, joined}
 use Rattle.jp_model.specs.Json.Spelling.{Spells, SpellsValue, SpellsFirst, SpellsMore, SpellsLabel, opening, closing, Text}
 use Rattle.jp_model.specs.Json.Reader.{Bracket, lead_of}
-use Rattle.jp_model.proofs.Reader.Lexical.{white_unique, white_ended, end_ended, end_stops, more_ended, span_is, closing_stops, comma_no_closing}
+use Rattle.jp_model.proofs.Reader.Lexical.{white_unique, white_ended, end_ended, more_ended, span_is, closing_stops, comma_no_closing}
 use Rattle.jp_model.proofs.Reader.Leads.{stops, starts_inside, label_stops, label_no_closing}
 use Rattle.jp_tape.specs.declared.builder.tokens.Label.{Label}
 use Rattle.jp_tape.specs.declared.builder.tokens.Scalar.{Scalar}
 use Rattle.jp_tape.specs.Places.{Ended, Stops}
 use Rattle.jp_tape.specs.Reading.{FoundScalar, NoValue, FoundLabel, NoLabel}
-use Rattle.jp_tape.specs.Machine.{Frame, entered, grown, State, Value_at, After_value, Finished, Completes, CompletesAfter, Alike, IsStuck, Leads}
+use Rattle.jp_tape.specs.Machine.{Frame, entered, grown, State, Value_at, After_value, Completes, CompletesAfter, Alike, IsStuck, Leads}
 use Rattle.jp_tape.proofs.Scalars.{value_at}
 
 pub completes_ended : (line : List ℕ) (frames : List Frame) (own : Option Name) (t : Tree) (i : ℕ) (whole : Tree) → CompletesAfter line frames own t i whole → Ended line i
@@ -205,13 +205,6 @@ neither_at line kind at next to w s c b (child name u more) m =
 pub neither_stuck : (line : List ℕ) (f : Frame) (frames : List Frame) (own : Option Name) (t : Tree) (at next : ℕ) → White line at next → Stops line next → (Has line next 0x2C → ⊥) → (Has line next (closing f.kind) → ⊥) →
     IsStuck line (After_value (f ∷ frames) own t at)
 neither_stuck line f frames own t at next w s c b whole h = neither_at line f.kind at next h.1 w s c b h.0 h.2
-
--- the end
-pub end_step : (line : List ℕ) (own : Option Name) (t : Tree) (at : ℕ) → White line at (length line) → Alike line (After_value [] own t at) (Finished t)
-end_step line own t at w = record { forth = λ whole h. h.1; back = λ whole h. (w, h) }
-
-pub no_end_stuck : (line : List ℕ) (own : Option Name) (t : Tree) (at next : ℕ) → White line at next → Stops line next → (next ≡ length line → ⊥) → IsStuck line (After_value [] own t at)
-no_end_stuck line own t at next w s n whole h = n (sym (white_unique line at next (length line) w s h.0 (end_stops line)))
 
 -- the beginning
 pub start_leads : (line : List ℕ) (from : ℕ) → White line 0 from → Stops line from → Leads line (Value_at [] None from)

@@ -1,13 +1,10 @@
 -- The marks that are to come while a line is read.
-use Rattle.std.specs.Prelude.{◌≡◌, ℕ, suc, ◌+◌, ◌-◌, ◌*◌, ◌<◌, ◌≤◌, Bool, true, false, not, ◌||◌, List, [], ◌∷◌, length, drop, Option, Some, None, vec_capacity}
+use Rattle.std.specs.Prelude.{◌≡◌, ℕ, ◌-◌, ◌<◌, ◌≤◌, Bool, true, false, not, ◌||◌, List, [], ◌∷◌, length, drop, get_or, ◌==◌, Option, Some, None}
 use Rattle.std.specs.List.{filter, range_with_len}
 use Rattle.jp_model.specs.declared.Span.{Span}
 use Rattle.jp_model.specs.Characters.{is_white, is_structural, is_quote, is_backslash}
 use Rattle.jp_model.specs.Json.Places.{byte_at}
-use Rattle.jp_model.specs.Json.Marks.{is_mark, is_inside, is_escaped, may_begin}
-use Rattle.jp_tape.specs.declared.builder.machine.Builder.{Builder}
-use Rattle.jp_tape.specs.declared.builder.machine.Turn.{Turn}
-use Rattle.jp_tape.specs.declared.builder.machine.Turn.TheVariants as turns
+use Rattle.jp_model.specs.Json.Marks.{is_mark, is_inside, is_escaped}
 
 -- the marks of a line from a place on
 unfoldable pub marks_from : List ℕ → ℕ → List ℕ
@@ -34,6 +31,14 @@ pub record IsPassed (line marks : List ℕ) (count to : ℕ) : Type 0 where
   pub within : count ≤ length marks
   pub ahead : IsAhead line to (drop count marks)
 
+-- a closing bracket
+abbrev pub is_closing : ℕ → Bool
+is_closing b = (b == 0x5D) || (b == 0x7D)
+
+-- the last of these marks is that of a closing bracket
+abbrev pub IsClosed : List ℕ → List ℕ → Type 0
+IsClosed line marks = 0 < length marks → is_closing (byte_at line (get_or marks (length marks - 1) 0)) ≡ true
+
 -- a byte that may stand in a number or a word
 abbrev pub in_token : ℕ → Bool
 in_token b = not (is_white b || is_structural b || is_quote b || is_backslash b)
@@ -46,15 +51,3 @@ IsSolid line from to = (k : ℕ) → from ≤ k → k < to → in_token (byte_at
 abbrev pub name_marks : Option Span → ℕ
 name_marks None = 0
 name_marks (Some body) = 3
-
--- the lists have room for `node_count` more nodes and `name_count` more names
-pub record HasRoom (b : Builder) (node_count name_count : ℕ) : Type 0 where
-  pub words : length b.words.items + 3 * node_count ≤ vec_capacity b.words
-  pub names : length b.names.items + name_count ≤ vec_capacity b.names
-
--- the marks ahead of a turn, and room for `n` values that are to come, each with a name. A turn after a value is one after a
--- bracket, where a token may begin, and a name may be kept before the first of those values is read.
-abbrev pub IsAheadOf : List ℕ → ℕ → Turn → List ℕ → Builder → Type 0
-IsAheadOf line n (turns.Value label at) marks b = IsNext line at marks × HasRoom b n n
-IsAheadOf line n (turns.After at) marks b = IsAhead line at marks × HasRoom b n (suc n) × (may_begin line at ≡ true)
-IsAheadOf line n turns.End marks b = Unit {0}

@@ -6,4 +6,6 @@ pub mod Ahead
 pub mod Reading
 pub mod Machine
 pub mod Reader
+pub mod Nodes
+pub mod Fresh
 pub mod Refusals

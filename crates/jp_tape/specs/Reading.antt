@@ -1,8 +1,12 @@
 -- What the readers of single tokens answer.
-use Rattle.std.specs.Prelude.{◌≡◌, ℕ, ◌+◌, ◌*◌, ◌^◌, ◌<◌, Bool, true, false, List, [], length, Option, Some, None, IsUtf8}
+use Rattle.std.specs.Prelude.{◌≡◌, ℕ, ◌+◌, ◌^◌, ◌<◌, true, false, List, [], length, Option, Some, None, IsUtf8}
 use Rattle.jp_model.specs.declared.Span.{Span}
 use Rattle.jp_model.specs.declared.LineFault.TheVariants as line_faults
-use Rattle.jp_model.specs.Json.Tree.{Tree, node, Value, Container, array, object, Name, span}
+use Rattle.jp_model.specs.Json.Places.{Has}
+use Rattle.jp_model.specs.Json.Strings.{SpellsBody}
+use Rattle.jp_model.specs.Json.Marks.{may_begin}
+use Rattle.jp_tape.specs.Ahead.{IsClosed, IsPassed}
+use Rattle.jp_model.specs.Json.Tree.{Tree, node, Value, Container, Name, span}
 use Rattle.jp_model.specs.Json.Faults.{value_depth, value_has_surrogate, value_has_long_exponent, value_has_duplicate, name_has_lone_surrogate}
 use Rattle.jp_model.specs.Json.Spelling.{Spells, SpellsValue, SpellsLabel}
 use Rattle.jp_tape.specs.declared.builder.BuildFault.{BuildFault}
@@ -10,9 +14,9 @@ use Rattle.jp_tape.specs.declared.builder.BuildFault.TheVariants as faults
 use Rattle.jp_tape.specs.declared.builder.tokens.Scalar.{Scalar}
 use Rattle.jp_tape.specs.declared.builder.tokens.Label.{Label}
 use Rattle.jp_strings.specs.Plain.{ArePlain}
-use Rattle.jp_tape.specs.Places.{Ended, Stops, IsUnescaped}
+use Rattle.jp_tape.specs.Places.{Ended, Stops, IsUnescaped, IsUnquoted}
 use Rattle.jp_nodes.specs.Kinds.{code_of}
-use Rattle.jp_nodes.specs.Words.{kind_code, nodes_below, words_below, span_word}
+use Rattle.jp_nodes.specs.Words.{kind_code, nodes_below, words_below}
 
 -- a line that can be read: it is UTF-8, has at most 4,294,967,295 bytes, and no escape before this place
 pub record IsReadable (line : List ℕ) (escape : ℕ) : Type 0 where
@@ -37,6 +41,16 @@ pub record FoundScalar (line : List ℕ) (from : ℕ) (r : Scalar) : Type 0 wher
   pub duplicate : value_has_duplicate value ≡ false
   pub spelled : SpellsValue line (record { start = from; end = r.end }) value
   pub only : (t : Tree) → (span t).start ≡ from → Spells line t → Ended line (span t).end → t ≡ node (record { start = from; end = r.end }) value
+
+-- the quote at `last` closes the string at `from`
+pub record Closes (line ms : List ℕ) (from last : ℕ) : Type 0 where
+  pub order : from < last
+  pub quote : Has line last 0x22
+  pub only : (to : ℕ) (points : List ℕ) → SpellsBody line (from + 1) to points → Has line to 0x22 → to ≡ last
+  pub first : IsUnquoted line (from + 1) last
+  pub ahead : IsPassed line ms 2 (last + 1)
+  pub begins : may_begin line (last + 1) ≡ true
+  pub more : IsClosed line ms → 2 < length ms
 
 -- no value does
 abbrev pub NoValue : List ℕ → ℕ → Type 0

@@ -1,9 +1,10 @@
 -- Why a line has no tape.
-use Rattle.std.specs.Prelude.{List, ℕ, ◌<◌}
+use Rattle.std.specs.Prelude.{List, ℕ, ◌<◌, length}
 use Rattle.jp_model.specs.declared.Framing.{Framing}
 use Rattle.jp_model.specs.declared.LineFault.TheVariants as line_faults
 use Rattle.jp_model.specs.Json.Tree.{Tree}
 use Rattle.jp_model.specs.Json.Faults.{depth}
+use Rattle.jp_model.specs.Json.Marks.{marks}
 use Rattle.jp_model.specs.Json.Spelling.{Text}
 use Rattle.jp_model.specs.Json.Status.{HasStatus, IsNoText, refused}
 use Rattle.jp_tape.specs.declared.builder.BuildFault.{BuildFault}
@@ -20,7 +21,19 @@ pub record NestsTooDeep (line : List ℕ) : Type 0 where
   pub text : Text line tree
   pub deep : 512 < depth tree
 
--- what a fault of the walk tells of a line that is UTF-8; there is no other one
+-- what a fault of the reader tells of a line in which no more arrays and objects than this may nest; there is no other one. A
+-- line with fewer marks does not nest so deep.
+abbrev pub IsStopOf : List ℕ → ℕ → BuildFault → Type 0
+IsStopOf line most (faults.Line line_faults.Utf8) = ⊥
+IsStopOf line most (faults.Line line_faults.Grammar) = IsNoText line
+IsStopOf line most (faults.Line line_faults.Truncated) = ⊥
+IsStopOf line most (faults.Line line_faults.Depth) = (most < length (marks line)) × ((t : Tree) → Text line t → most < depth t)
+IsStopOf line most (faults.Line line_faults.Surrogate) = ⊥
+IsStopOf line most (faults.Line line_faults.Number) = ⊥
+IsStopOf line most (faults.Line line_faults.Duplicate) = ⊥
+IsStopOf line most faults.Memory = Unit {0}
+
+-- what a fault tells of a line that is UTF-8; there is no other one
 abbrev pub IsFaultOf : List ℕ → BuildFault → Type 0
 IsFaultOf line (faults.Line line_faults.Utf8) = ⊥
 IsFaultOf line (faults.Line line_faults.Grammar) = IsNoText line

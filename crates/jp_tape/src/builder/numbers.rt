@@ -60,7 +60,7 @@ fn fraction_end(line: &[u8], from: usize) -> Option<usize>
 
 /// The end of the number at `from`, where it has no exponent, and no byte of a number follows it.
 #[inline(always)]
-fn plain_number_end(line: &[u8], from: usize) -> Option<usize>
+pub(super) fn plain_number_end(line: &[u8], from: usize) -> Option<usize>
     requires inside { from < length line.now }
     ensures within { IfSome result (λ to. (from < to) × (to ≤ length line.now)) }
     ensures solid { IfSome result (λ to. IsSolid line.now from to) }
@@ -79,27 +79,9 @@ fn plain_number_end(line: &[u8], from: usize) -> Option<usize>
     Some(end)
 }
 
-/// The end of the number at `from`, where no byte of a number follows it. Few have an exponent.
-#[inline(always)]
-pub(super) fn number_end(line: &[u8], from: usize) -> Option<NumberEnd>
-    requires inside { from < length line.now }
-    requires room { length line.now < 2 ^ 32 }
-    ensures within { IfSome result (λ r. (from < r.end) × (r.end ≤ length line.now)) }
-    ensures solid { IfSome result (λ r. IsSolid line.now from r.end) }
-    ensures found { IfSome result (λ r. (m e : ℤ) × SpellsNumber line.now from r.end m e × Ended line.now r.end × (is_long_exponent (numeral_of (bytes_between line.now from r.end)) ≡ r.is_long)) }
-    ensures none { IfNone result ((to : ℕ) (m e : ℤ) → SpellsNumber line.now from to m e → Ended line.now to → ⊥) }
-{
-    if let Some(end) = plain_number_end(line, from) {
-        return Some(NumberEnd {
-            end,
-            is_long: false,
-        });
-    }
-    any_number_end(line, from)
-}
-
-/// Where a number ends, however it is spelled, as `number_end` finds it.
-fn any_number_end(line: &[u8], from: usize) -> Option<NumberEnd>
+/// The end of the number at `from`, however it is spelled, where no byte of a number follows it.
+#[inline(never)]
+pub(super) fn any_number_end(line: &[u8], from: usize) -> Option<NumberEnd>
     requires inside { from < length line.now }
     requires room { length line.now < 2 ^ 32 }
     ensures within { IfSome result (λ r. (from < r.end) × (r.end ≤ length line.now)) }

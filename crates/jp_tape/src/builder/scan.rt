@@ -54,6 +54,15 @@ fn first_mark(line: &[u8], marks: &[u32]) -> usize
     marks[0] as usize
 }
 
+/// The first of the marks, where there is one.
+#[inline(always)]
+pub(super) fn next_mark(marks: &[u32]) -> usize
+    requires some { 0 < length marks.now }
+    ensures value { (end : ℕ) → result ≡ first_or marks.now end }
+{
+    marks[0] as usize
+}
+
 /// The first place at or after `from` without white space, or the length: the next mark, where white space is at `from`.
 #[inline(always)]
 pub(super) fn skip_white(line: &[u8], marks: &[u32], from: usize) -> usize
@@ -127,6 +136,7 @@ pub(super) fn number_bytes_end(line: &[u8], from: usize) -> usize
 }
 
 /// The end of the word, where it is at `from`.
+#[inline(always)]
 pub(super) fn word_end(line: &[u8], from: usize, word: &[u8]) -> Option<usize>
     requires { from ≤ length line.now }
     ensures found { IfSome result (λ to. Reads line.now from to word.now × (to ≡ from + length word.now)) }

@@ -8,12 +8,11 @@ ghost use Rattle.jp_model.specs.Json.Spelling.{SpellsString};
 ghost use Rattle.jp_model.specs.Json.Tree.{array, object};
 ghost use Rattle.jp_model.specs.Json.Marks.{may_begin};
 ghost use Rattle.jp_tape.specs.Places.{Stops, IsUnescaped, IsUnquoted};
-ghost use Rattle.jp_tape.specs.Ahead.{IsAhead, IsNext, IsPassed, first_or, in_token, name_marks};
-ghost use Rattle.jp_tape.specs.Reading.{IsReadable, FoundScalar, NoValue, FoundLabel, NoLabel, IsPlainLabel};
+ghost use Rattle.jp_tape.specs.Ahead.{IsAhead, IsClosed, IsNext, IsPassed, first_or, name_marks};
+ghost use Rattle.jp_tape.specs.Reading.{IsReadable, FoundScalar, NoValue, FoundLabel, NoLabel, IsPlainLabel, Closes};
 ghost use Rattle.jp_strings.specs.Plain.{ArePlain};
 
-use super::numbers::number_end;
-use super::scan::{is_byte, marks_behind, next_token, word_end};
+use super::scan::{is_byte, marks_behind, next_mark};
 use jp_lanes::first_special;
 use jp_model::Span;
 use jp_nodes::Kind;
@@ -54,21 +53,11 @@ pub(super) struct Label {
 
 /// The quote that closes the string at `from`: the mark after that of its opening quote.
 #[inline(always)]
-fn closing_quote(line: &[u8], marks: &[u32], from: usize) -> Option<usize>
-    requires opens { Has line.now from 0x22 }
-    requires ahead { IsAhead line.now from marks.now }
-    ensures within { IfSome result (λ at. from < at) }
-    ensures quote { IfSome result (λ at. Has line.now at 0x22) }
-    ensures only { IfSome result (λ at. (to : ℕ) (points : List ℕ) → SpellsBody line.now (from + 1) to points → Has line.now to 0x22 → to ≡ at) }
-    ensures first { IfSome result (λ at. IsUnquoted line.now (from + 1) at) }
-    ensures ahead { IfSome result (λ at. IsPassed line.now marks.now 2 (at + 1)) }
-    ensures begins { IfSome result (λ at. may_begin line.now (at + 1) ≡ true) }
-    ensures none { IfNone result ((to : ℕ) (points : List ℕ) → SpellsBody line.now (from + 1) to points → Has line.now to 0x22 → ⊥) }
+fn closing_quote(marks: &[u32]) -> usize
+    requires two { 2 ≤ length marks.now }
+    ensures { (line : List ℕ) (from : ℕ) → Has line from 0x22 → IsAhead line from marks.now → Closes line marks.now from result }
 {
-    if marks.len() < 2 {
-        return None;
-    }
-    Some(marks[1] as usize)
+    marks[1] as usize
 }
 
 /// Whether each byte between the quotes at `from` and `last` stands for itself. Before the first escape of the line, at
@@ -107,16 +96,16 @@ fn string_end(line: &[u8], escape: usize, marks: &[u32], from: usize) -> Option<
     requires line { IsReadable line.now escape }
     requires opens { Has line.now from 0x22 }
     requires ahead { IsAhead line.now from marks.now }
+    requires two { 2 ≤ length marks.now }
     ensures within { IfSome result (λ r. (from + 1 < r.end) × (r.end ≤ length line.now)) }
     ensures found { IfSome result (λ r. (points : List ℕ) × SpellsString line.now from r.end points × (has_lone_surrogate points ≡ r.is_lone)) }
     ensures plain { IfSome result (λ r. r.is_plain ≡ true → ArePlain line.now (from + 1) (r.end - 1)) }
     ensures ahead { IfSome result (λ r. IsPassed line.now marks.now 2 r.end) }
     ensures begins { IfSome result (λ r. may_begin line.now r.end ≡ true) }
+    ensures more { IfSome result (λ r. IsClosed line.now marks.now → 2 < length marks.now) }
     ensures none { IfNone result ((to : ℕ) (points : List ℕ) → SpellsString line.now from to points → ⊥) }
 {
-    let Some(last) = closing_quote(line, marks, from) else {
-        return None;
-    };
+    let last = closing_quote(marks);
     if is_plain_between(line, escape, from, last) {
         return Some(StringEnd {
             end: last + 1,
@@ -134,17 +123,16 @@ fn string_end(line: &[u8], escape: usize, marks: &[u32], from: usize) -> Option<
     }
 }
 
-/// The least number of marks that a name, its colon and what follows them have.
-const NAME_AND_MORE: usize = 4;
-
 /// The name at `from` and its colon, where a token follows them: its quotes, the colon and the token are the next marks.
 #[inline(always)]
 pub(super) fn name_at(line: &[u8], escape: usize, marks: &[u32], from: usize) -> Option<Label>
     requires line { IsReadable line.now escape }
-    requires within { from ≤ length line.now }
+    requires inside { from < length line.now }
     requires ahead { IsNext line.now from marks.now }
+    requires some { 0 < length marks.now }
+    requires closed { IsClosed line.now marks.now }
     ensures within { IfSome result (λ r. (from ≤ r.value) × (r.value < length line.now)) }
-    ensures marks { IfSome result (λ r. 3 ≤ length marks.now) }
+    ensures marks { IfSome result (λ r. 3 < length marks.now) }
     ensures stops { IfSome result (λ r. Stops line.now r.value) }
     ensures ahead { IfSome result (λ r. IsPassed line.now marks.now (name_marks r.name) r.value) }
     ensures first { IfSome result (λ r. r.value ≡ first_or (drop (name_marks r.name) marks.now) (length line.now)) }
@@ -152,13 +140,13 @@ pub(super) fn name_at(line: &[u8], escape: usize, marks: &[u32], from: usize) ->
     ensures found { IfSome result (λ r. FoundLabel line.now object from r) }
     ensures none { IfNone result (NoLabel line.now object from) }
 {
-    if marks.len() < NAME_AND_MORE || !is_byte(line, from, b'"') {
+    if !is_byte(line, from, b'"') {
         return None;
     }
     let Some(name) = string_end(line, escape, marks, from) else {
         return None;
     };
-    let colon = next_token(line, marks_behind(marks, 2), name.end);
+    let colon = next_mark(marks_behind(marks, 2));
     if line[colon] != b':' {
         return None;
     }
@@ -170,46 +158,8 @@ pub(super) fn name_at(line: &[u8], escape: usize, marks: &[u32], from: usize) ->
         name: Some(body),
         is_lone: name.is_lone,
         is_plain: name.is_plain,
-        value: next_token(line, marks_behind(marks, 3), colon + 1),
+        value: next_mark(marks_behind(marks, 3)),
     })
-}
-
-/// What comes before an element's value at `from`: nothing.
-#[inline(always)]
-pub(super) fn no_name(from: usize) -> Label
-    ensures value { result.value ≡ from }
-    ensures none { result.name ≡ None }
-    ensures found { (line : List ℕ) → FoundLabel line array from result }
-{
-    Label {
-        name: None,
-        is_lone: false,
-        is_plain: true,
-        value: from,
-    }
-}
-
-/// The word at `from`, as a value of this kind.
-fn word_at(line: &[u8], marks: &[u32], from: usize, word: &[u8], kind: Kind) -> Option<Scalar>
-    requires within { from ≤ length line.now }
-    requires some { 0 < length word.now }
-    requires plain { IsTrue (list_all in_token word.now) }
-    requires ahead { IsNext line.now from marks.now }
-    ensures found { IfSome result (λ r. Reads line.now from r.end word.now × (r.end ≡ from + length word.now) × (r.kind ≡ kind) × (r.is_lone ≡ false) × (r.is_long ≡ false)) }
-    ensures ahead { IfSome result (λ r. IsPassed line.now marks.now r.marks r.end) }
-    ensures marks { IfSome result (λ r. 0 < r.marks) }
-    ensures none { IfNone result ((to : ℕ) → Reads line.now from to word.now → ⊥) }
-{
-    match word_end(line, from, word) {
-        Some(end) => Some(Scalar {
-            kind,
-            end,
-            is_lone: false,
-            is_long: false,
-            marks: 1,
-        }),
-        None => None,
-    }
 }
 
 /// The string at `from`, as a value.
@@ -218,9 +168,11 @@ pub(super) fn text_at(line: &[u8], escape: usize, marks: &[u32], from: usize) ->
     requires line { IsReadable line.now escape }
     requires opens { Has line.now from 0x22 }
     requires ahead { IsAhead line.now from marks.now }
+    requires two { 2 ≤ length marks.now }
     ensures within { IfSome result (λ r. (from < r.end) × (r.end ≤ length line.now)) }
     ensures ahead { IfSome result (λ r. IsPassed line.now marks.now r.marks r.end) }
-    ensures marks { IfSome result (λ r. 0 < r.marks) }
+    ensures marks { IfSome result (λ r. r.marks ≡ 2) }
+    ensures more { IfSome result (λ r. IsClosed line.now marks.now → 2 < length marks.now) }
     ensures begins { IfSome result (λ r. may_begin line.now r.end ≡ true) }
     ensures found { IfSome result (λ r. FoundScalar line.now from r) }
     ensures none { IfNone result (NoValue line.now from) }
@@ -235,41 +187,4 @@ pub(super) fn text_at(line: &[u8], escape: usize, marks: &[u32], from: usize) ->
         is_long: false,
         marks: 2,
     })
-}
-
-/// The value at `from`, which is neither a text nor an array nor an object.
-#[inline(always)]
-pub(super) fn scalar_at(line: &[u8], marks: &[u32], from: usize) -> Option<Scalar>
-    requires inside { from < length line.now }
-    requires room { length line.now < 2 ^ 32 }
-    requires ahead { IsNext line.now from marks.now }
-    requires no_text { byte_at line.now from ≡ 0x22 → ⊥ }
-    requires no_array { byte_at line.now from ≡ 0x5B → ⊥ }
-    requires no_object { byte_at line.now from ≡ 0x7B → ⊥ }
-    ensures within { IfSome result (λ r. (from < r.end) × (r.end ≤ length line.now)) }
-    ensures ahead { IfSome result (λ r. IsPassed line.now marks.now r.marks r.end) }
-    ensures marks { IfSome result (λ r. 0 < r.marks) }
-    ensures found { IfSome result (λ r. FoundScalar line.now from r) }
-    ensures none { IfNone result (NoValue line.now from) }
-{
-    let byte = line[from];
-    if byte == b'n' {
-        return word_at(line, marks, from, b"null", Kind::Null);
-    }
-    if byte == b't' {
-        return word_at(line, marks, from, b"true", Kind::True);
-    }
-    if byte == b'f' {
-        return word_at(line, marks, from, b"false", Kind::False);
-    }
-    match number_end(line, from) {
-        Some(number) => Some(Scalar {
-            kind: Kind::Number,
-            end: number.end,
-            is_lone: false,
-            is_long: number.is_long,
-            marks: 1,
-        }),
-        None => None,
-    }
 }

@@ -1,25 +1,33 @@
-use Rattle.std.proofs.Common.{None, []}
+use Rattle.std.proofs.Common.{None, [], ℕ, List, length, refl, ap, arith}
 use Rattle.jp_tape.proofs.Ahead.{all_ahead, begins_first}
+use Rattle.jp_tape.proofs.More.{there}
 use Rattle.jp_tape.proofs.Steps.{start_leads}
 use Rattle.jp_tape.proofs.builder.reader.read_text.Goals as goal
 
-pub next_token-requires-clause-begins : goal.next_token-requires-clause-begins
-next_token-requires-clause-begins g c = begins_first c.args.line.now
-
-pub next_token-requires-clause-ahead : goal.next_token-requires-clause-ahead
-next_token-requires-clause-ahead g c = all_ahead c.args.line.now c.args.marks.now c.requires.marks
-
-pub loop-next-init : goal.loop-next-init
-loop-next-init g c =
-    let w = c.next_token.ensures in
+pub loop-inside-init : goal.loop-inside-init
+loop-inside-init g c =
+    let line = c.args.line.now in
+    let b = c.requires.begun in
+    let v = c.in_ok-at.ensures in
+    let ms = c.args.reader.now.marks.now in
+    let w = there line ms 0 _ (omega arith) (begins_first line) (all_ahead line ms b.marks_are) v.begins.some v.value in
+    let enough = c.requires.told.1 in
+    let passed = ap (λ (ms : List ℕ). length ms) b.marks_are in
     record {
-      frames = [];
-      own = None;
-      stack = c.new-stack.ensures.items;
-      room = c.requires.told.0;
-      enough = c.requires.told.1;
-      told = c.requires.told.2;
-      leads = start_leads c.args.line.now c.next_token.result w.white w.stops;
-      within = w.white.within;
-      ahead = w.next;
+      next = record {
+        frames = [];
+        own = None;
+        roomy = record { stack = b.stack; capacity = b.capacity; passed = omega (arith, passed); closed = λ f. absurd (omega (arith, f)) };
+        shallow = omega arith;
+        suits = refl;
+        room = c.requires.told.0;
+        enough = omega (arith, enough);
+        told = c.requires.told.2;
+        leads = start_leads line _ w.white w.stops;
+        inside = w.inside;
+        ahead = w.next;
+        begins = v.begins;
+      };
+      limit = refl;
+      lender = refl;
     }

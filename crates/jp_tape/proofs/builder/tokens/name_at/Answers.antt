@@ -1,61 +1,100 @@
-use Rattle.std.proofs.Common.{◌≡◌, ℕ, ◌+◌, ◌-◌, ◌<◌, ◌≤◌, List, length, drop, ap, ◌∙◌, sym, subst, arith}
-use Rattle.std.proofs.lemmas.List.{length-drop}
+use Rattle.std.proofs.Common.{◌≡◌, ℕ, ◌+◌, ◌-◌, ◌<◌, ◌≤◌, true, List, length-drop, length, drop, ap, subst, refl, arith}
+use Rattle.std.proofs.lemmas.Option.{same_Some}
+use Rattle.jp_model.specs.declared.Span.{Span}
+use Rattle.jp_strings.specs.Plain.{ArePlain}
 use Rattle.jp_model.specs.Characters.{is_structural}
 use Rattle.jp_model.specs.Json.Places.{byte_at, Has}
-use Rattle.jp_tape.specs.Ahead.{IsAhead, first_or}
-use Rattle.jp_tape.proofs.Ahead.{goes_on, passes_colon, structural_begins}
-use Rattle.jp_tape.proofs.Labels.{found_name, no_string_no_name, no_quote_no_name, no_colon_no_name, few_marks_no_name}
+use Rattle.jp_model.specs.Json.Marks.{may_begin}
+use Rattle.jp_tape.specs.Ahead.{IsPassed, IsClosed, first_or}
+use Rattle.jp_tape.proofs.Ahead.{passes_colon, structural_begins}
+use Rattle.jp_tape.proofs.More.{IsThere, there_behind, more_behind}
+use Rattle.jp_tape.proofs.Labels.{found_name, no_string_no_name, no_quote_no_name, no_colon_no_name}
 use Rattle.jp_tape.proofs.builder.tokens.name_at.Goals as goal
-use Rattle.jp_tape.proofs.builder.tokens.name_at.Goals.{then-marks-lt-NAME_AND_MORE-via-then-marks-lt-NAME_AND_MORE, then-marks-lt-NAME_AND_MORE-via-else-marks-lt-NAME_AND_MORE+then-not-is_byte}
 
--- a token is there, and it is a colon
-colon_at : (line ms rest : List ℕ) (colon : ℕ) → rest ≡ drop 2 ms → 4 ≤ length ms → (0 < length rest → colon < length line) → byte_at line colon ≡ 0x3A → Has line colon 0x3A
-colon_at line ms rest colon e l inside is = let d = length-drop 2 ms in let n = ap length e in record { inside = inside (omega (arith, d, n, l)); is = is }
+-- the colon is there, and the value after it
+record Colon (line ms : List ℕ) (end colon : ℕ) : Type 0 where
+  there : IsThere line (drop 2 ms) end colon
+  has : Has line colon 0x3A
+  passed : IsPassed line ms 3 (colon + 1)
+  more : 3 < length ms
 
-pub is_byte-requires : goal.is_byte-requires
-is_byte-requires c = let many = c.if-marks-lt-NAME_AND_MORE.false in goes_on c.args.line.now c.args.marks.now c.args.from c.requires.ahead.ahead (omega (arith, many))
+colon_at : (line ms rest : List ℕ) (end colon : ℕ) → IsClosed line ms → 2 < length ms → IsPassed line ms 2 end → end ≤ length line → may_begin line end ≡ true → rest ≡ drop 2 ms → colon ≡ first_or rest (length line) → byte_at line colon ≡ 0x3A → Colon line ms end colon
+colon_at line ms rest end colon c two p w b e v is =
+    let t = there_behind line ms rest 2 end colon w b p.ahead two e v in
+    let has : Has line colon 0x3A = record { inside = t.inside; is = is } in
+    record {
+      there = t;
+      has = has;
+      passed = passes_colon line ms (drop 2 ms) end colon p refl t.next.ahead has;
+      more = more_behind line ms 2 colon 0x3A c two t.next.first is refl;
+    }
 
-pub next_token-requires-clause-begins : goal.next_token-requires-clause-begins
-next_token-requires-clause-begins c = structural_begins c.args.line.now c.next_token-colon.result (ap is_structural c.if-line-colon-ne58.false)
+value_at : (line ms rest : List ℕ) (end colon value : ℕ) → Colon line ms end colon → rest ≡ drop 3 ms → value ≡ first_or rest (length line) → IsThere line (drop 3 ms) (colon + 1) value
+value_at line ms rest end colon value c e v =
+    let inside = c.has.inside in
+    there_behind line ms rest 3 (colon + 1) value (omega (arith, inside)) (structural_begins line colon (ap is_structural c.has.is)) c.passed.ahead c.more e v
 
-pub next_token-requires-clause-ahead : goal.next_token-requires-clause-ahead
-next_token-requires-clause-ahead c =
-    let w = c.next_token-colon.ensures in
-    let h = colon_at c.args.line.now c.args.marks.now c.marks_behind.result.now c.next_token-colon.result c.marks_behind.ensures c.if-marks-lt-NAME_AND_MORE.false w.inside c.if-line-colon-ne58.false in
-    let p = passes_colon c.args.line.now c.args.marks.now c.marks_behind.result.now c.in-Some.name.end c.next_token-colon.result c.in-Some.ensures.ahead c.marks_behind.ensures w.ahead h in
-    subst (λ (xs : List ℕ). IsAhead c.args.line.now (c.next_token-colon.result + 1) xs) (sym c.marks_behind-2.ensures) p.ahead
+pub string_end-requires-clause-two : goal.string_end-requires-clause-two
+string_end-requires-clause-two c =
+    let two = more_behind c.args.line.now c.args.marks.now 0 c.args.from 0x22 c.requires.closed c.requires.some c.requires.ahead.first (c.is_byte.ensures.yes c.if-not-is_byte.false).is refl in
+    omega (arith, two)
 
-pub returns-clause-ahead : goal.returns-clause-ahead
-returns-clause-ahead c =
-    let w = c.next_token-colon.ensures in
-    let h = colon_at c.args.line.now c.args.marks.now c.marks_behind.result.now c.next_token-colon.result c.marks_behind.ensures c.if-marks-lt-NAME_AND_MORE.false w.inside c.if-line-colon-ne58.false in
-    let p = passes_colon c.args.line.now c.args.marks.now c.marks_behind.result.now c.in-Some.name.end c.next_token-colon.result c.in-Some.ensures.ahead c.marks_behind.ensures w.ahead h in
-    record { within = p.within; ahead = subst (λ (xs : List ℕ). IsAhead c.args.line.now c.next_token.result xs) c.marks_behind-2.ensures c.next_token.ensures.ahead }
+pub next_mark-colon-requires : goal.next_mark-colon-requires
+next_mark-colon-requires c =
+    let more = c.in-Some.ensures.more c.requires.closed in
+    let rest = ap (λ (xs : List ℕ). length xs) c.marks_behind.ensures in
+    let count = length-drop 2 c.args.marks.now in
+    record { some = omega (arith, more, rest, count) }
 
-pub returns-clause-found : goal.returns-clause-found
-returns-clause-found c =
-    let w = c.next_token-colon.ensures in
-    let v = c.next_token.ensures in
-    let f = c.in-Some.ensures.found in
-    let i = c.in-Some.ensures.within.0 in
-    let h = colon_at c.args.line.now c.args.marks.now c.marks_behind.result.now c.next_token-colon.result c.marks_behind.ensures c.if-marks-lt-NAME_AND_MORE.false w.inside c.if-line-colon-ne58.false in
-    found_name c.args.line.now c.args.from c.in-Some.name.end c.next_token-colon.result c.next_token.result c.in-Some.name.is_lone c.in-Some.name.is_plain f.0 f.1 f.2 w.white h v.white v.stops (c.in-Some.name.end - 1) (omega (arith, i))
+pub bounds-line-colon : goal.bounds-line-colon
+bounds-line-colon c =
+    let e = c.in-Some.ensures in
+    (there_behind c.args.line.now c.args.marks.now c.marks_behind.result.now 2 c.in-Some.name.end c.next_mark-colon.result e.within.1 e.begins e.ahead.ahead (e.more c.requires.closed) c.marks_behind.ensures (c.next_mark-colon.ensures.value (length c.args.line.now))).inside
 
-pub returns-clause-first : goal.returns-clause-first
-returns-clause-first c = c.next_token.ensures.next.first ∙ ap (λ (xs : List ℕ). first_or xs (length c.args.line.now)) c.marks_behind-2.ensures
+pub next_mark-requires : goal.next_mark-requires
+next_mark-requires c =
+    let line = c.args.line.now in
+    let ms = c.args.marks.now in
+    let e = c.in-Some.ensures in
+    let k = colon_at line ms c.marks_behind.result.now c.in-Some.name.end c.next_mark-colon.result c.requires.closed (e.more c.requires.closed) e.ahead e.within.1 e.begins c.marks_behind.ensures (c.next_mark-colon.ensures.value (length line)) c.if-line-colon-ne58.false in
+    let more = k.more in
+    let rest = ap (λ (xs : List ℕ). length xs) c.marks_behind-2.ensures in
+    let count = length-drop 3 ms in
+    record { some = omega (arith, more, rest, count) }
 
-pub returns-then-marks-lt-NAME_AND_MORE-clause-none : goal.returns-then-marks-lt-NAME_AND_MORE-clause-none
-returns-then-marks-lt-NAME_AND_MORE-clause-none c =
-    elim c.then-marks-lt-NAME_AND_MORE.branch [
-      | then-marks-lt-NAME_AND_MORE-via-then-marks-lt-NAME_AND_MORE w ↦ few_marks_no_name c.args.line.now c.args.marks.now c.args.from c.requires.ahead.ahead w.if-marks-lt-NAME_AND_MORE.true
-      | then-marks-lt-NAME_AND_MORE-via-else-marks-lt-NAME_AND_MORE+then-not-is_byte w ↦ no_quote_no_name c.args.line.now c.args.from (w.is_byte.ensures.no w.if-not-is_byte.true)
-    ]
+pub returns : goal.returns
+returns c =
+    let line = c.args.line.now in
+    let ms = c.args.marks.now in
+    let e = c.in-Some.ensures in
+    let end = c.in-Some.name.end in
+    let colon = c.next_mark-colon.result in
+    let k = colon_at line ms c.marks_behind.result.now end colon c.requires.closed (e.more c.requires.closed) e.ahead e.within.1 e.begins c.marks_behind.ensures (c.next_mark-colon.ensures.value (length line)) c.if-line-colon-ne58.false in
+    let v = value_at line ms c.marks_behind-2.result.now end colon c.next_mark.result k c.marks_behind-2.ensures (c.next_mark.ensures.value (length line)) in
+    let f = e.found in
+    let from = e.within.0 in
+    let before = k.there.white.order in
+    let after = v.white.order in
+    record {
+      within = (omega (arith, from, before, after), v.inside);
+      marks = k.more;
+      stops = v.stops;
+      ahead = record { within = k.passed.within; ahead = v.next.ahead };
+      first = v.next.first;
+      plain = λ body s p. subst (λ (x : Span). ArePlain line x.start x.end) (same_Some _ _ s) (e.plain p);
+      found = found_name line c.args.from end colon c.next_mark.result c.in-Some.name.is_lone c.in-Some.name.is_plain f.0 f.1 f.2 k.there.white k.has v.white v.stops (end - 1) (omega (arith, from));
+      none = tt;
+    }
+
+pub returns-then-not-is_byte-clause-none : goal.returns-then-not-is_byte-clause-none
+returns-then-not-is_byte-clause-none c = no_quote_no_name c.args.line.now c.args.from (c.is_byte.ensures.no c.if-not-is_byte.true)
 
 pub returns-in_default-clause-none : goal.returns-in_default-clause-none
 returns-in_default-clause-none c = no_string_no_name c.args.line.now c.args.from c.in_default.ensures.none
 
 pub returns-then-line-colon-ne58-clause-none : goal.returns-then-line-colon-ne58-clause-none
 returns-then-line-colon-ne58-clause-none c =
-    let w = c.next_token-colon.ensures in
-    let f = c.in-Some.ensures.found in
-    no_colon_no_name c.args.line.now c.args.from c.in-Some.name.end c.next_token-colon.result f.0 f.1 w.white w.stops (λ h. c.if-line-colon-ne58.true h.is)
+    let e = c.in-Some.ensures in
+    let t = there_behind c.args.line.now c.args.marks.now c.marks_behind.result.now 2 c.in-Some.name.end c.next_mark-colon.result e.within.1 e.begins e.ahead.ahead (e.more c.requires.closed) c.marks_behind.ensures (c.next_mark-colon.ensures.value (length c.args.line.now)) in
+    let f = e.found in
+    no_colon_no_name c.args.line.now c.args.from c.in-Some.name.end c.next_mark-colon.result f.0 f.1 t.white t.stops (λ h. c.if-line-colon-ne58.true h.is)
