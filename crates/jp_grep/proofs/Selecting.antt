@@ -1,5 +1,5 @@
 -- Queries that are asked one after another.
-use Rattle.std.proofs.Common.{◌≡◌, ◌∙◌, ◌+◌, ◌<◌, ℕ, List, [], ◌∷◌, ◌++◌, drop, get_or, length, map, take, refl, sym, ap, arith, Bool, true, false, ◌||◌, ◌&&◌, if◌then◌else◌}
+use Rattle.std.proofs.Common.{◌≡◌, ◌∙◌, ◌+◌, ◌<◌, ℕ, List, [], ◌∷◌, ◌++◌, drop, get_or, length, map, take, refl, sym, subst, ap, arith, Bool, true, false, ◌||◌, ◌&&◌, if◌then◌else◌}
 use Rattle.std.specs.Prelude.{not}
 use Rattle.std.proofs.lemmas.Bool.{ne_eqb}
 use Rattle.std.proofs.lemmas.List.{drop_more, map-append, take_more}
@@ -34,11 +34,13 @@ selects_more queries i query node t within is =
     ∙ selects-append (map query_path (take i queries)) (query_path query ∷ []) node t
     ∙ ap (λ b. selects (map query_path (take i queries)) node t || b) (sym (or_false (has_nodes (path_nodes (query_path query) node t))))
 
--- a query, and those after it
-pub selects_next : (queries : List AskedQuery) (i : ℕ) (query : AskedQuery) (node : Node) (t : Tree) → i < length queries → query ≡ get_or queries i query
-    → selects (map query_path (drop i queries)) node t ≡ (has_nodes (path_nodes (query_path query) node t) || selects (map query_path (drop (i + 1) queries)) node t)
-selects_next queries i query node t within is =
-    ap (λ l. selects (map query_path l) node t) (drop_more queries i query within ∙ ap (λ q. q ∷ drop (i + 1) queries) (sym is))
+-- a query of a list, and those after it
+pub selects_at : {items : List AskedQuery} (queries : List AskedQuery) → items ≡ queries → (i : ℕ) (query : AskedQuery) (node : Node) (t : Tree) (found : Bool)
+    → i < length items → query ≡ get_or items i query → has_nodes (path_nodes (query_path query) node t) ≡ found
+    → selects (map query_path (drop i queries)) node t ≡ (found || selects (map query_path (drop (i + 1) queries)) node t)
+selects_at queries same i query node t found within is has =
+    ap (λ l. selects (map query_path l) node t) (drop_more queries i query (subst (λ l. i < length l) same within) ∙ ap (λ q. q ∷ drop (i + 1) queries) (sym (is ∙ ap (λ l. get_or l i query) same)))
+    ∙ ap (λ b. b || selects (map query_path (drop (i + 1) queries)) node t) has
 
 some_node : (n : Node) (ns : List Node) → has_nodes (n ∷ ns) ≡ true
 some_node n ns = ap not (ne_eqb (length (n ∷ ns)) 0 (λ e. omega (arith, e)))

@@ -8,9 +8,9 @@ ghost use Rattle.jp_model.specs.Meaning.Nodes.{root_node};
 ghost use Rattle.jp_nodes.specs.Cursors.{node_of};
 ghost use Rattle.jp_children.specs.Found.{AreOf};
 ghost use Rattle.jp_lines.specs.Views.{text_of_view, tree_of_view};
-ghost use Rattle.jp_grep.specs.Holding.{Puts, TellsOfBoth, TellsOfWriter};
+ghost use Rattle.jp_grep.specs.Holding.{AreOpen, Puts, TellsOfBoth, TellsOfSearch, TellsOfWriter};
 ghost use Rattle.jp_grep.specs.Items.{judged};
-ghost use Rattle.jp_grep.specs.Faults.{IsToldOf, is_input_fault, is_report_fault, is_write_fault};
+ghost use Rattle.jp_grep.specs.Faults.{is_input_fault};
 ghost use Rattle.jp_grep.specs.Matching.{each_of, nodes_asked, wants_refused};
 ghost use Rattle.jp_grep.specs.ReadItems.{AreRead, IsReadItem, item_of, items_of, status_by};
 ghost use Rattle.jp_grep.specs.Rows.{message_where, refused_rows, row_around, row_told, rows_around, text_around};
@@ -291,8 +291,7 @@ impl<'q> Answerer<'q> {
         out: &mut Watched<W>,
         messages: &mut Watched<E>,
     ) -> Result<(), SearchFault>
-        requires writes { out.old.failed ≡ false }
-        requires reports { messages.old.failed ≡ false }
+        requires open { AreOpen out.old messages.old }
         ensures rows { Puts W.contents out.old out.new outlet.old.held.items outlet.new.held.items result [] }
         ensures message { Writes E.contents messages.old messages.new result (message_where given_up self.entry.form.now progress.counts.refused progress.number from_line (status_by state.entry)) }
         ensures tells { TellsOfBoth result out.old out.new messages.old messages.new }
@@ -322,8 +321,7 @@ impl<'q> Answerer<'q> {
     ) -> Result<Verdict, SearchFault>
         requires wanted { progress.counts.selected ≤ self.form.now.most }
         requires item { IsReadItem item }
-        requires writes { out.old.failed ≡ false }
-        requires reports { messages.old.failed ≡ false }
+        requires open { AreOpen out.old messages.old }
         ensures answers { AnswersItem W.contents E.contents self.entry.question.now self.entry.form.now progress out.old out.new outlet.old.held.items outlet.new.held.items messages.old messages.new result (item_of item.entry) }
         ensures fits { IfOk result (λ verdict. progress.counts.selected + verdict.selected ≤ self.entry.form.now.most) }
         ensures tells { TellsOfBoth result out.old out.new messages.old messages.new }
@@ -355,8 +353,7 @@ impl<'q> Answerer<'q> {
         requires read { AreRead items }
         requires numbers { progress.old.number + length (items_of items) < 2 ^ 64 }
         requires under_way { IsUnderWay self.form.now progress.old }
-        requires writes { out.old.failed ≡ false }
-        requires reports { messages.old.failed ≡ false }
+        requires open { AreOpen out.old messages.old }
         ensures answers { AnswersHeld W.contents E.contents self.entry.question.now self.entry.form.now progress.old progress.new out.old out.new outlet.old.held.items outlet.new.held.items messages.old messages.new result (items_of items.entry) }
         ensures tells { TellsOfBoth result out.old out.new messages.old messages.new }
     {
@@ -388,15 +385,10 @@ impl<'q> Answerer<'q> {
     ) -> Result<(), SearchFault>
         requires read { AreRead items }
         requires under_way { IsUnderWay self.form.now progress.old }
-        requires writes { out.old.failed ≡ false }
-        requires reports { messages.old.failed ≡ false }
+        requires open { AreOpen out.old messages.old }
         ensures answers { Answers W.contents E.contents self.entry.question.now self.entry.form.now progress.old progress.new out.old out.new messages.old messages.new result (items_of items.entry) }
         ensures size { TellsOfNumbers result progress.old (items_of items.entry) }
-        ensures write_fault { IsToldOf is_write_fault result out.new.failed }
-        ensures report_fault { IsToldOf is_report_fault result messages.new.failed }
-        ensures others { IsToldOf is_input_fault result false }
-        ensures after { out.new.after ≡ out.old.after }
-        ensures messages_after { messages.new.after ≡ messages.old.after }
+        ensures tells { TellsOfSearch is_input_fault result out.old out.new messages.old messages.new }
     {
         if !progress.has_numbers(items.count()) {
             return Err(SearchFault::Size);

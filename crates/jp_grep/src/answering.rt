@@ -4,8 +4,9 @@ ghost use Rattle.std.specs.Prelude.{◌≡◌, ◌<◌, ◌≤◌, ◌^◌, All,
 ghost use Rattle.jp_cut.specs.Holding.{IsHeld};
 ghost use Rattle.jp_masks.specs.Found.{lines_in};
 ghost use Rattle.jp_grep.specs.Cuts.{text_of};
-ghost use Rattle.jp_grep.specs.Faults.{IsToldOf, is_input_fault, is_read_fault, is_report_fault, is_write_fault};
+ghost use Rattle.jp_grep.specs.Faults.{is_input_fault, is_read_fault};
 ghost use Rattle.jp_grep.specs.Finding.{noted_items, span_of};
+ghost use Rattle.jp_grep.specs.Holding.{AreOpen, TellsOfSearch};
 ghost use Rattle.jp_grep.specs.Items.{line_item};
 ghost use Rattle.jp_grep.specs.Searching.{Advances, Answers, Ends, IsUnderWay};
 ghost use Rattle.jp_grep.specs.Sizes.{TellsOfNumbers};
@@ -78,16 +79,11 @@ impl Answering {
         requires end { end ≤ length stream.now.held.items }
         requires few { length stream.now.held.items < 2 ^ 32 }
         requires under_way { IsUnderWay answerer.form.now self.old.progress }
-        requires writes { out.old.failed ≡ false }
-        requires reports { messages.old.failed ≡ false }
+        requires open { AreOpen out.old messages.old }
         ensures answers { Answers W.contents E.contents answerer.entry.question.now answerer.entry.form.now self.old.progress self.new.progress out.old out.new messages.old messages.new result
             (map (line_item stream.now.framing) (lines_in stream.now.framing (text_of stream.now.is_first (take end stream.now.held.items)))) }
         ensures size { TellsOfNumbers result self.old.progress (map (line_item stream.now.framing) (lines_in stream.now.framing (text_of stream.now.is_first (take end stream.now.held.items)))) }
-        ensures write_fault { IsToldOf is_write_fault result out.new.failed }
-        ensures report_fault { IsToldOf is_report_fault result messages.new.failed }
-        ensures others { IsToldOf is_input_fault result false }
-        ensures after { out.new.after ≡ out.old.after }
-        ensures messages_after { messages.new.after ≡ messages.old.after }
+        ensures tells { TellsOfSearch is_input_fault result out.old out.new messages.old messages.new }
     {
         let text = stream.text_until(end);
         let Ok(batch) = self.room.read(stream.framing, text) else {
@@ -108,14 +104,9 @@ impl Answering {
     ) -> Result<(), SearchFault>
         requires stands { HasStood answerer.form.now.units (sources.Lines stream.old) }
         requires under_way { IsUnderWay answerer.form.now self.old.progress }
-        requires writes { out.old.failed ≡ false }
-        requires reports { messages.old.failed ≡ false }
+        requires open { AreOpen out.old messages.old }
         ensures advances { Advances W.contents E.contents answerer.entry.question.now answerer.entry.form.now (sources.Lines stream.old) (sources.Lines stream.new) self.old.progress self.new.progress out.old out.new messages.old messages.new result bytes.now }
-        ensures write_fault { IsToldOf is_write_fault result out.new.failed }
-        ensures report_fault { IsToldOf is_report_fault result messages.new.failed }
-        ensures others { IsToldOf is_read_fault result false }
-        ensures after { out.new.after ≡ out.old.after }
-        ensures messages_after { messages.new.after ≡ messages.old.after }
+        ensures tells { TellsOfSearch is_read_fault result out.old out.new messages.old messages.new }
     {
         let from = stream.held.len();
         let end = find_end(stream.framing, bytes);
@@ -141,14 +132,9 @@ impl Answering {
     ) -> Result<(), SearchFault>
         requires stands { HasStood answerer.form.now.units (sources.Lines stream.now) }
         requires under_way { IsUnderWay answerer.form.now self.old.progress }
-        requires writes { out.old.failed ≡ false }
-        requires reports { messages.old.failed ≡ false }
+        requires open { AreOpen out.old messages.old }
         ensures ends { Ends W.contents E.contents answerer.entry.question.now answerer.entry.form.now (sources.Lines stream.now) self.old.progress self.new.progress out.old out.new messages.old messages.new result }
-        ensures write_fault { IsToldOf is_write_fault result out.new.failed }
-        ensures report_fault { IsToldOf is_report_fault result messages.new.failed }
-        ensures others { IsToldOf is_read_fault result false }
-        ensures after { out.new.after ≡ out.old.after }
-        ensures messages_after { messages.new.after ≡ messages.old.after }
+        ensures tells { TellsOfSearch is_read_fault result out.old out.new messages.old messages.new }
     {
         stream.check_end()?;
         self.answer_until(answerer, stream, stream.held.len(), out, messages)
@@ -164,16 +150,11 @@ impl Answering {
     ) -> Result<(), SearchFault>
         requires held { All (IsHeld cutting.now.cutter) cutting.now.pieces.items }
         requires under_way { IsUnderWay answerer.form.now self.old.progress }
-        requires writes { out.old.failed ≡ false }
-        requires reports { messages.old.failed ≡ false }
+        requires open { AreOpen out.old messages.old }
         ensures answers { Answers W.contents E.contents answerer.entry.question.now answerer.entry.form.now self.old.progress self.new.progress out.old out.new messages.old messages.new result
             (noted_items cutting.now) }
         ensures size { TellsOfNumbers result self.old.progress (noted_items cutting.now) }
-        ensures write_fault { IsToldOf is_write_fault result out.new.failed }
-        ensures report_fault { IsToldOf is_report_fault result messages.new.failed }
-        ensures others { IsToldOf is_input_fault result false }
-        ensures after { out.new.after ≡ out.old.after }
-        ensures messages_after { messages.new.after ≡ messages.old.after }
+        ensures tells { TellsOfSearch is_input_fault result out.old out.new messages.old messages.new }
     {
         if list_spans(&cutting.pieces, &mut self.spans).is_err() {
             return Err(SearchFault::Memory);
@@ -196,14 +177,9 @@ impl Answering {
     ) -> Result<(), SearchFault>
         requires stands { HasStood answerer.form.now.units (sources.Pieces cutting.old) }
         requires under_way { IsUnderWay answerer.form.now self.old.progress }
-        requires writes { out.old.failed ≡ false }
-        requires reports { messages.old.failed ≡ false }
+        requires open { AreOpen out.old messages.old }
         ensures advances { Advances W.contents E.contents answerer.entry.question.now answerer.entry.form.now (sources.Pieces cutting.old) (sources.Pieces cutting.new) self.old.progress self.new.progress out.old out.new messages.old messages.new result bytes.now }
-        ensures write_fault { IsToldOf is_write_fault result out.new.failed }
-        ensures report_fault { IsToldOf is_report_fault result messages.new.failed }
-        ensures others { IsToldOf is_read_fault result false }
-        ensures after { out.new.after ≡ out.old.after }
-        ensures messages_after { messages.new.after ≡ messages.old.after }
+        ensures tells { TellsOfSearch is_read_fault result out.old out.new messages.old messages.new }
     {
         cutting.take_in(bytes)?;
         if cutting.is_first {
@@ -223,14 +199,9 @@ impl Answering {
     ) -> Result<(), SearchFault>
         requires stands { HasStood answerer.form.now.units (sources.Pieces cutting.old) }
         requires under_way { IsUnderWay answerer.form.now self.old.progress }
-        requires writes { out.old.failed ≡ false }
-        requires reports { messages.old.failed ≡ false }
+        requires open { AreOpen out.old messages.old }
         ensures ends { Ends W.contents E.contents answerer.entry.question.now answerer.entry.form.now (sources.Pieces cutting.old) self.old.progress self.new.progress out.old out.new messages.old messages.new result }
-        ensures write_fault { IsToldOf is_write_fault result out.new.failed }
-        ensures report_fault { IsToldOf is_report_fault result messages.new.failed }
-        ensures others { IsToldOf is_read_fault result false }
-        ensures after { out.new.after ≡ out.old.after }
-        ensures messages_after { messages.new.after ≡ messages.old.after }
+        ensures tells { TellsOfSearch is_read_fault result out.old out.new messages.old messages.new }
     {
         cutting.find_last()?;
         self.answer_noted(answerer, cutting, out, messages)

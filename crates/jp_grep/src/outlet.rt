@@ -1,12 +1,12 @@
 //! Rows on their way to a writer.
 
-ghost use Rattle.std.specs.Prelude.{◌≡◌, ◌<◌, ◌++◌, [], List, ℕ, codes, decimal, false, is_err, OnOk};
-ghost use Rattle.jp_devices.specs.Devices.{Device, Writes};
+ghost use Rattle.std.specs.Prelude.{◌≡◌, ◌<◌, ◌++◌, [], codes, decimal, false, is_err, OnOk};
+ghost use Rattle.jp_devices.specs.Devices.{Writes};
 ghost use Rattle.jp_model.specs.Rows.{line_feed};
 ghost use Rattle.jp_paint.specs.Colours.{painted};
 ghost use Rattle.jp_paint.specs.declared.part.Part.TheVariants as parts;
 ghost use Rattle.jp_grep.specs.Faults.{write_of};
-ghost use Rattle.jp_grep.specs.Holding.{Puts, TellsOfWriter};
+ghost use Rattle.jp_grep.specs.Holding.{Puts, TellsOfWriter, WritesPart, WritesText};
 ghost use Rattle.jp_grep.specs.Rows.{behind_name, name_front, summary_of};
 
 use crate::fault::SearchFault;
@@ -51,9 +51,7 @@ pub(crate) fn then_write<W: Write>(
     out: &mut Watched<W>,
 ) -> Result<(), WriteFault>
     requires working { out.old.failed ≡ is_err before }
-    ensures text { (start : Device W) (text : List ℕ) → Writes W.contents start out.old before text → Writes W.contents start out.new result (text ++ part.now) }
-    ensures fault { out.new.failed ≡ is_err result }
-    ensures after { out.new.after ≡ out.old.after }
+    ensures { WritesPart W.contents out.old out.new before result part.now }
 {
     match before {
         Ok(()) => write_whole(part, out),
@@ -70,9 +68,7 @@ fn then_paint<W: Write>(
     out: &mut Watched<W>,
 ) -> Result<(), WriteFault>
     requires working { out.old.failed ≡ is_err before }
-    ensures text { (start : Device W) (text : List ℕ) → Writes W.contents start out.old before text → Writes W.contents start out.new result (text ++ painted coloured part bytes.now) }
-    ensures fault { out.new.failed ≡ is_err result }
-    ensures after { out.new.after ≡ out.old.after }
+    ensures { WritesPart W.contents out.old out.new before result (painted coloured part bytes.now) }
 {
     if !coloured {
         return then_write(before, bytes, out);
@@ -90,9 +86,7 @@ fn write_name<W: Write>(
     out: &mut Watched<W>,
 ) -> Result<(), WriteFault>
     requires working { out.old.failed ≡ false }
-    ensures text { Writes W.contents out.old out.new result (painted form.now.coloured parts.Name form.now.name.now ++ behind_name form.now.null (painted coloured_sign parts.Sign other.now)) }
-    ensures fault { out.new.failed ≡ is_err result }
-    ensures after { out.new.after ≡ out.old.after }
+    ensures { WritesText W.contents out.old out.new result (painted form.now.coloured parts.Name form.now.name.now ++ behind_name form.now.null (painted coloured_sign parts.Sign other.now)) }
 {
     let written = then_paint(Ok(()), form.coloured, Part::Name, form.name.as_bytes(), out);
     if form.null {
@@ -108,9 +102,7 @@ fn write_number<W: Write>(
     out: &mut Watched<W>,
 ) -> Result<(), WriteFault>
     requires working { out.old.failed ≡ is_err before }
-    ensures text { (start : Device W) (front : List ℕ) → Writes W.contents start out.old before front → Writes W.contents start out.new result (front ++ (decimal number ++ line_feed)) }
-    ensures fault { out.new.failed ≡ is_err result }
-    ensures after { out.new.after ≡ out.old.after }
+    ensures { WritesPart W.contents out.old out.new before result (decimal number ++ line_feed) }
 {
     let mut digits = Buffer::new();
     let written = then_write(before, digits.format(number).as_bytes(), out);
@@ -124,9 +116,7 @@ fn write_count<W: Write>(
     out: &mut Watched<W>,
 ) -> Result<(), WriteFault>
     requires working { out.old.failed ≡ false }
-    ensures text { Writes W.contents out.old out.new result (name_front form.now.named form.now.null form.now.coloured form.now.name.now (codes ":") ++ (decimal count ++ line_feed)) }
-    ensures fault { out.new.failed ≡ is_err result }
-    ensures after { out.new.after ≡ out.old.after }
+    ensures { WritesText W.contents out.old out.new result (name_front form.now.named form.now.null form.now.coloured form.now.name.now (codes ":") ++ (decimal count ++ line_feed)) }
 {
     if !form.named {
         return write_number(Ok(()), count, out);

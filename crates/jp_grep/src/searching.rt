@@ -1,8 +1,9 @@
 //! A search: the lines, texts or elements of a stream, each answered as it comes.
 
-ghost use Rattle.std.specs.Prelude.{◌≡◌, ◌&&◌, ◌||◌, not, [], List, false, IfErr, MatchResult, OnOk, true};
+ghost use Rattle.std.specs.Prelude.{◌≡◌, ◌&&◌, ◌||◌, not, [], List, false, MatchResult, OnOk};
 ghost use Rattle.jp_devices.specs.Devices.{Came, GaveUpTo, Received};
-ghost use Rattle.jp_grep.specs.Faults.{IsToldOf, is_read_fault, is_report_fault, is_write_fault, is_writer_fault};
+ghost use Rattle.jp_grep.specs.Faults.{IsToldOf, is_read_fault, is_report_fault, is_write_fault};
+ghost use Rattle.jp_grep.specs.Holding.{AreOpen, TellsOfBoth, TellsOfSearch};
 ghost use Rattle.jp_grep.specs.Inputs.{ReadOn};
 ghost use Rattle.jp_grep.specs.Items.{Item};
 ghost use Rattle.jp_grep.specs.Outcomes.{CameOfStream};
@@ -33,16 +34,11 @@ fn flush_all<W: Write, E: Write>(
     out: &mut Watched<W>,
     messages: &mut Watched<E>,
 ) -> Result<(), SearchFault>
-    requires writes { out.old.failed ≡ false }
-    requires reports { messages.old.failed ≡ false }
+    requires open { AreOpen out.old messages.old }
     ensures rows { Received W.contents out.old out.new [] }
     ensures messages { Received E.contents messages.old messages.new [] }
     ensures flushed { OnOk result ((out.new.unflushed ≡ false) × (messages.new.unflushed ≡ false)) }
-    ensures write_fault { IsToldOf is_write_fault result out.new.failed }
-    ensures report_fault { IsToldOf is_report_fault result messages.new.failed }
-    ensures fault { IfErr result (λ fault. is_writer_fault fault ≡ true) }
-    ensures after { out.new.after ≡ out.old.after }
-    ensures messages_after { messages.new.after ≡ messages.old.after }
+    ensures tells { TellsOfBoth result out.old out.new messages.old messages.new }
 {
     if flush_written(out).is_err() {
         return Err(SearchFault::Write);
@@ -71,14 +67,9 @@ impl Searcher {
     ) -> Result<(), SearchFault>
         requires stands { HasStood answerer.form.now.units self.old.source }
         requires under_way { IsUnderWay answerer.form.now self.old.answering.progress }
-        requires writes { out.old.failed ≡ false }
-        requires reports { messages.old.failed ≡ false }
+        requires open { AreOpen out.old messages.old }
         ensures advances { Advances W.contents E.contents answerer.entry.question.now answerer.entry.form.now self.old.source self.new.source self.old.answering.progress self.new.answering.progress out.old out.new messages.old messages.new result bytes.now }
-        ensures write_fault { IsToldOf is_write_fault result out.new.failed }
-        ensures report_fault { IsToldOf is_report_fault result messages.new.failed }
-        ensures others { IsToldOf is_read_fault result false }
-        ensures after { out.new.after ≡ out.old.after }
-        ensures messages_after { messages.new.after ≡ messages.old.after }
+        ensures tells { TellsOfSearch is_read_fault result out.old out.new messages.old messages.new }
     {
         let answering = &mut self.answering;
         match &mut self.source {
@@ -98,14 +89,9 @@ impl Searcher {
     ) -> Result<(), SearchFault>
         requires stands { HasStood answerer.form.now.units self.old.source }
         requires under_way { IsUnderWay answerer.form.now self.old.answering.progress }
-        requires writes { out.old.failed ≡ false }
-        requires reports { messages.old.failed ≡ false }
+        requires open { AreOpen out.old messages.old }
         ensures ends { Ends W.contents E.contents answerer.entry.question.now answerer.entry.form.now self.old.source self.old.answering.progress self.new.answering.progress out.old out.new messages.old messages.new result }
-        ensures write_fault { IsToldOf is_write_fault result out.new.failed }
-        ensures report_fault { IsToldOf is_report_fault result messages.new.failed }
-        ensures others { IsToldOf is_read_fault result false }
-        ensures after { out.new.after ≡ out.old.after }
-        ensures messages_after { messages.new.after ≡ messages.old.after }
+        ensures tells { TellsOfSearch is_read_fault result out.old out.new messages.old messages.new }
     {
         let answering = &mut self.answering;
         match &mut self.source {

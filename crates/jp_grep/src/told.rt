@@ -1,8 +1,9 @@
 //! The messages about the lines of a stream. No memory is asked for it.
 
-ghost use Rattle.std.specs.Prelude.{◌≡◌, ◌&&◌, ◌++◌, List, ℕ, false, is_err, IfErr, codes, ltb, not, true};
-ghost use Rattle.jp_devices.specs.Devices.{Device, Writes};
-ghost use Rattle.jp_grep.specs.Faults.{IsToldOf, is_report_fault, report_of};
+ghost use Rattle.std.specs.Prelude.{◌≡◌, ◌&&◌, false, is_err, codes, ltb, not};
+ghost use Rattle.jp_devices.specs.Devices.{Writes};
+ghost use Rattle.jp_grep.specs.Faults.{report_of};
+ghost use Rattle.jp_grep.specs.Holding.{TellsOfMessages, WritesPart, WritesText};
 ghost use Rattle.jp_grep.specs.Rows.{from_line_text, line_message, status_message};
 ghost use Rattle.jp_grep.specs.Told.{more_message, more_refused, more_words};
 ghost use Rattle.jp_model.specs.Json.Status.{refused};
@@ -36,9 +37,7 @@ fn write_from_line<E: Write>(
     messages: &mut Watched<E>,
 ) -> Result<(), WriteFault>
     requires working { messages.old.failed ≡ is_err before }
-    ensures text { (start : Device E) (text : List ℕ) → Writes E.contents start messages.old before text → Writes E.contents start messages.new result (text ++ from_line_text from_line) }
-    ensures fault { messages.new.failed ≡ is_err result }
-    ensures after { messages.new.after ≡ messages.old.after }
+    ensures { WritesPart E.contents messages.old messages.new before result (from_line_text from_line) }
 {
     let Some(line) = from_line else {
         return before;
@@ -57,9 +56,7 @@ fn write_line_message<E: Write>(
     messages: &mut Watched<E>,
 ) -> Result<(), WriteFault>
     requires working { messages.old.failed ≡ false }
-    ensures text { Writes E.contents messages.old messages.new result (line_message name.now number said.now from_line) }
-    ensures fault { messages.new.failed ≡ is_err result }
-    ensures after { messages.new.after ≡ messages.old.after }
+    ensures { WritesText E.contents messages.old messages.new result (line_message name.now number said.now from_line) }
 {
     let mut digits = Buffer::new();
     let written = write_whole(b"jpgrep: ", messages);
@@ -86,9 +83,7 @@ pub(crate) fn tell_refused<E: Write>(
 ) -> Result<(), SearchFault>
     requires working { messages.old.failed ≡ false }
     ensures text { Writes E.contents messages.old messages.new result (status_message form.now progress.counts.refused progress.number from_line (refused fault)) }
-    ensures report_fault { IsToldOf is_report_fault result messages.new.failed }
-    ensures fault { IfErr result (λ fault. is_report_fault fault ≡ true) }
-    ensures after { messages.new.after ≡ messages.old.after }
+    ensures tells { TellsOfMessages result messages.old messages.new }
 {
     if !wants_refused(form, progress) {
         return Ok(());
@@ -115,9 +110,7 @@ pub(crate) fn tell_given_up<E: Write>(
 ) -> Result<(), SearchFault>
     requires working { messages.old.failed ≡ false }
     ensures text { Writes E.contents messages.old messages.new result (line_message form.now.name.now number (codes "out of memory") from_line) }
-    ensures report_fault { IsToldOf is_report_fault result messages.new.failed }
-    ensures fault { IfErr result (λ fault. is_report_fault fault ≡ true) }
-    ensures after { messages.new.after ≡ messages.old.after }
+    ensures tells { TellsOfMessages result messages.old messages.new }
 {
     told(write_line_message(form.name, number, "out of memory", from_line, messages))
 }
@@ -143,9 +136,7 @@ fn more_words(count: u64) -> &'static [u8]
 /// Writes the message on lines of a stream that are not told one by one.
 fn write_more<E: Write>(name: &str, more: u64, messages: &mut Watched<E>) -> Result<(), WriteFault>
     requires working { messages.old.failed ≡ false }
-    ensures text { Writes E.contents messages.old messages.new result (more_message name.now more) }
-    ensures fault { messages.new.failed ≡ is_err result }
-    ensures after { messages.new.after ≡ messages.old.after }
+    ensures { WritesText E.contents messages.old messages.new result (more_message name.now more) }
 {
     let mut digits = Buffer::new();
     let written = write_whole(b"jpgrep: ", messages);
@@ -167,9 +158,7 @@ pub(crate) fn tell_more<E: Write>(
 ) -> Result<(), SearchFault>
     requires working { messages.old.failed ≡ false }
     ensures text { Writes E.contents messages.old messages.new result (more_refused form.now refused) }
-    ensures report_fault { IsToldOf is_report_fault result messages.new.failed }
-    ensures fault { IfErr result (λ fault. is_report_fault fault ≡ true) }
-    ensures after { messages.new.after ≡ messages.old.after }
+    ensures tells { TellsOfMessages result messages.old messages.new }
 {
     if form.silent || refused <= MOST_TOLD {
         return Ok(());

@@ -23,7 +23,7 @@ returns-in-NameWith-clause-text g c =
     let some : (n == 0) ≡ false = ne_eqb n 0 (λ e. omega (arith, e, c.if-count-gt0.true)) in
     let text = ap (λ (b : Bool). if b then [] else painted f.coloured parts.Name f.name.now ++ behind_name f.null line_feed) (sym some) ∙ ap (λ s. summary_of s f n c.args.all) (sym c.in-NameWith.is) in
     written_as g.W.Write.contents c.write_name.result c.told-in-NameWith.result c.args.out.now c.write_name.new.out _ c.told-in-NameWith.ensures
-    (subst (λ t. Writes g.W.Write.contents c.args.out.now c.write_name.new.out c.write_name.result t) text c.write_name.ensures.text)
+    (subst (λ t. Writes g.W.Write.contents c.args.out.now c.write_name.new.out c.write_name.result t) text c.write_name.ensures.0)
 
 pub returns-in-NameWithout-clause-text : goal.returns-in-NameWithout-clause-text
 returns-in-NameWithout-clause-text g c =
@@ -32,4 +32,4 @@ returns-in-NameWithout-clause-text g c =
     let none : ((n == 0) && c.args.all) ≡ true = ap₂ (λ (a b : Bool). a && b) (eq-eqb n 0 c.if-count-eq0.true) c.if-all.true in
     let text = ap (λ (b : Bool). if b then painted f.coloured parts.Name f.name.now ++ behind_name f.null line_feed else []) (sym none) ∙ ap (λ s. summary_of s f n c.args.all) (sym c.in-NameWithout.is) in
     written_as g.W.Write.contents c.write_name-in-NameWithout.result c.told-in-NameWithout.result c.args.out.now c.write_name-in-NameWithout.new.out _ c.told-in-NameWithout.ensures
-    (subst (λ t. Writes g.W.Write.contents c.args.out.now c.write_name-in-NameWithout.new.out c.write_name-in-NameWithout.result t) text c.write_name-in-NameWithout.ensures.text)
+    (subst (λ t. Writes g.W.Write.contents c.args.out.now c.write_name-in-NameWithout.new.out c.write_name-in-NameWithout.result t) text c.write_name-in-NameWithout.ensures.0)

@@ -22,7 +22,7 @@ returns-in_err-tell_more-clause-output g c =
       lines.3,
       lines.4,
       handed _ _ c.from_residual-in_err-tell_more.result fault c.from_residual-in_err-tell_more.ensures.1
-          (stopped_in_part q form g.W.Write.contents g.E.Write.contents c.args.out.now c.search_lines.new.out c.args.messages.now c.tell_more.new.messages fault lines.0 lines.1 (of_report fault c.in_err-tell_more.ensures.fault) lines.5.framed
+          (stopped_in_part q form g.W.Write.contents g.E.Write.contents c.args.out.now c.search_lines.new.out c.args.messages.now c.tell_more.new.messages fault lines.0 lines.1 (of_report fault c.in_err-tell_more.ensures.tells.1) lines.5.framed
           (told_in_part q form g.W.Write.contents g.E.Write.contents c.args.out.now c.search_lines.new.out c.args.messages.now c.search_lines.new.messages c.tell_more.new.messages (answered_of q form 0 lines.1) _ lines.5.counts.refused lines.5.all
           c.in_err-tell_more.ensures.text)),
     )

@@ -81,7 +81,7 @@ returns-in_err-flush_all-clause-output g c =
       came_so_far q f g.W.Write.contents g.E.Write.contents source progress c.args.out.now out c.args.messages.now told so.0 so.1 so.2 now c.loop-read.input.reader.failed,
       so.5,
       handed _ _ c.from_residual.result fault c.from_residual.ensures.1
-          (stopped_in_part q f g.W.Write.contents g.E.Write.contents c.args.out.now out c.args.messages.now told fault came so.2 c.in_err-flush_all.ensures.fault (λ ended. absurd (false≢true ended))
+          (stopped_in_part q f g.W.Write.contents g.E.Write.contents c.args.out.now out c.args.messages.now told fault came so.2 c.in_err-flush_all.ensures.tells.2 (λ ended. absurd (false≢true ended))
           (stopped_here q f g.W.Write.contents g.E.Write.contents source progress c.args.out.now out c.args.messages.now told so.0 so.1 so.2 now)),
     )
 
@@ -136,7 +136,7 @@ returns-in_err-tell_more-clause-output g c =
       none_more q f c.args.input.now c.read_after.new.self so.0 so.2 (read_nothing q f c.args.input.now c.read_after.new.self so.0 so.2 [] c.in_default.ensures.last
           (wants_more q f g.W.Write.contents g.E.Write.contents source progress c.args.out.now out c.args.messages.now told so.0 so.1 so.2 now (c.is_done.ensures.more c.if-is_done.false))),
       handed _ _ c.from_residual-in_err-tell_more.result fault c.from_residual-in_err-tell_more.ensures.1
-          (stopped_in_part q f g.W.Write.contents g.E.Write.contents c.args.out.now out c.args.messages.now c.tell_more.new.messages fault came so.2 (of_report fault c.in_err-tell_more.ensures.fault) (λ ended. absurd (false≢true ended))
+          (stopped_in_part q f g.W.Write.contents g.E.Write.contents c.args.out.now out c.args.messages.now c.tell_more.new.messages fault came so.2 (of_report fault c.in_err-tell_more.ensures.tells.1) (λ ended. absurd (false≢true ended))
           (told_in_part q f g.W.Write.contents g.E.Write.contents c.args.out.now out c.args.messages.now told c.tell_more.new.messages (answered_of q f 0 so.2) progress.counts.refused now.counts.refused
           (all_so_far q f g.W.Write.contents g.E.Write.contents source progress c.args.out.now out c.args.messages.now told so.0 so.1 so.2 now)
           c.in_err-tell_more.ensures.text)),
@@ -145,7 +145,7 @@ returns-in_err-tell_more-clause-output g c =
 pub returns-in_err-tell_more-clause-read_fault : goal.returns-in_err-tell_more-clause-read_fault
 returns-in_err-tell_more-clause-read_fault g c =
     handed _ _ c.from_residual-in_err-tell_more.result c.in_err-tell_more.field-0.0 c.from_residual-in_err-tell_more.ensures.1
-    (told_first c.read_after.new.self.reader.failed c.tell_more.new.messages.failed c.in_err-tell_more.field-0.0 c.in_err-tell_more.ensures.report_fault c.in_err-tell_more.ensures.fault)
+    (told_first c.read_after.new.self.reader.failed c.tell_more.new.messages.failed c.in_err-tell_more.field-0.0 c.in_err-tell_more.ensures.tells.0 c.in_err-tell_more.ensures.tells.1)
 
 pub loop-read-preserved : goal.loop-read-preserved
 loop-read-preserved g c =
@@ -180,11 +180,11 @@ loop-read-preserved g c =
       room = room;
       reads = c.in-Ok.ensures.failed ∙ ap (λ b. b || false) inv.reads;
       unended = goes_further c.loop-read.input.reader.ended input.ended c.in-Ok.count c.read_after.new.bytes c.in-Ok.ensures.ended c.if-count-eq0.false inv.unended;
-      writes = said.write_fault;
-      reports = said.report_fault;
+      writes = said.tells.0;
+      reports = said.tells.1;
       after = kept_after c.loop-read.input.reader.failed c.loop-read.input.reader.ended c.read_after.new.bytes _ _ c.in-Ok.ensures.after inv.reads inv.unended some ∙ inv.after;
-      out_after = said.after ∙ c.flush_all.ensures.after ∙ inv.out_after;
-      messages_after = said.messages_after ∙ c.flush_all.ensures.messages_after ∙ inv.messages_after;
+      out_after = said.tells.3 ∙ c.flush_all.ensures.tells.3 ∙ inv.out_after;
+      messages_after = said.tells.4 ∙ c.flush_all.ensures.tells.4 ∙ inv.messages_after;
       early = c.in-Ok.ensures.early ∙ ap (λ b. one_more_where b c.loop-read.input.reader.early) c.in_ok-flush_all.ensures.flushed.0 ∙ inv.early;
     }
 
@@ -237,7 +237,7 @@ returns-in-Err-clause-output g c =
       first_came f came so.1 ends.items first.0 so.2 ends.answers.outcomes first.1 so.4.each ends.answers.each,
       read_nothing q f c.args.input.now c.read_after.new.self so.0 so.2 ends.answers.outcomes none wants,
       subst (λ (x : SearchFault). SearchStopped g.W.Write.contents g.E.Write.contents q f c.args.out.now out2 c.args.messages.now told2 x came (so.2 ++ ends.answers.outcomes)) (sym is.0)
-          (stopped_by q f g.W.Write.contents g.E.Write.contents c.args.out.now out2 c.args.messages.now told2 e came (so.2 ++ ends.answers.outcomes) said.others is.1
+          (stopped_by q f g.W.Write.contents g.E.Write.contents c.args.out.now out2 c.args.messages.now told2 e came (so.2 ++ ends.answers.outcomes) said.tells.2 is.1
           (λ front. let u = ends.refused front in
           let there = u.1 so.0 so.1 now.position in
           let same = ends.answers.unwritten (front_no_writer e front) in
@@ -324,7 +324,7 @@ returns-in-Err-answer_read-clause-output g c =
       first_came f came so.1 advances.items first.0 so.2 advances.answers.outcomes first.1 so.4.each advances.answers.each,
       read_last q f c.args.input.now c.read_after.new.self so.0 piece so.2 advances.answers.outcomes count wants,
       subst (λ (x : SearchFault). SearchStopped g.W.Write.contents g.E.Write.contents q f c.args.out.now out2 c.args.messages.now told2 x came (so.2 ++ advances.answers.outcomes)) (sym is.0)
-          (stopped_by q f g.W.Write.contents g.E.Write.contents c.args.out.now out2 c.args.messages.now told2 e came (so.2 ++ advances.answers.outcomes) said.others is.1
+          (stopped_by q f g.W.Write.contents g.E.Write.contents c.args.out.now out2 c.args.messages.now told2 e came (so.2 ++ advances.answers.outcomes) said.tells.2 is.1
           (λ front. let there = advances.refused front so.0 so.1 now.position in
           let same = advances.answers.unwritten (front_no_writer e front) in
           (inl there.1, none_so_far q f g.W.Write.contents g.E.Write.contents source before c.args.out.now out c.args.messages.now told so.0 so.1 so.2 now out2 told2 there.0 same.0 same.1))

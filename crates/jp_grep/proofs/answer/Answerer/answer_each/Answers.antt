@@ -73,8 +73,8 @@ loop-index-init g c =
         subst (λ (ls : List Item). HoldsBack g.W.Write.contents c.args.out.now c.args.out.now held held (output_from q f c.args.progress.now.number ls)) (sym none) (none_put c.args.out.now held),
         subst (λ (ls : List Item). Received g.E.Write.contents c.args.messages.now c.args.messages.now (messages_from f c.args.progress.now.counts.refused c.args.progress.now.number ls)) (sym none) (none_received c.args.messages.now),
       );
-      writes = c.requires.writes;
-      reports = c.requires.reports;
+      writes = c.requires.open.0;
+      reports = c.requires.open.1;
       after = refl;
       messages_after = refl;
     }

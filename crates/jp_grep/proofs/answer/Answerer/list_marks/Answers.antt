@@ -1,5 +1,5 @@
 -- The nodes of one query more are listed.
-use Rattle.std.proofs.Common.{◌≡◌, ◌<◌, ◌∙◌, ◌++◌, List, ap, length, map, slice_index_or, subst, sym, take}
+use Rattle.std.proofs.Common.{◌<◌, ◌∙◌, ◌++◌, List, ap, length, map, slice_index_or, subst, sym, take}
 use Rattle.std.proofs.lemmas.List.{map-append}
 use Rattle.jp_model.specs.declared.Span.{Span}
 use Rattle.jp_model.specs.Json.Tree.{span}

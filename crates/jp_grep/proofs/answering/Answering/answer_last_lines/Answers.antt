@@ -69,5 +69,5 @@ returns-clause-ends g c =
           (ends_as_lines framing came stream.held.items (in_lines units came stream answered st).lines stream.is_first (in_lines units came stream answered st).at c.in_ok-check_end.ensures));
       size = numbers_tell r (sources.Lines stream) 0 c.args.self.now.progress (map (line_item framing) lines)
           (subst (λ (l : List ℕ). TellsOfNumbers r c.args.self.now.progress (map (line_item framing) (lines_in framing (text_of stream.is_first l)))) whole said.size);
-      refused = told_no_front _ r said.others;
+      refused = told_no_front _ r said.tells.2;
     }

@@ -47,5 +47,5 @@ returns-clause-ends g c =
       first = λ came answered st. ([], all came answered st ∙ sym (append-nil (answered ++ noted_items noted)));
       framed = λ came answered st. so_anyhow _ r (framed_so units came cutting answered st);
       size = numbers_tell r (sources.Pieces cutting) 0 c.args.self.now.progress (noted_items noted) said.size;
-      refused = told_no_front _ r said.others;
+      refused = told_no_front _ r said.tells.2;
     }

@@ -159,7 +159,7 @@ returns-in_err-answer_until-in-Some-clause-advances g c =
           let all = all_first framing came stream.held.items bytes (take end bytes) (drop end bytes) s.lines stream.is_first whole cut s.at in
           first_more units came stream answered st bytes lines all.0 all.1;
       size = handed_on _ r e c.from_residual-in_err-answer_until-in-Some.ensures.1 (λ is. inr (subst (λ (ls : List Item). 2 ^ 64 ≤ before.number + length ls) same (said.size is)));
-      refused = handed_on _ r e c.from_residual-in_err-answer_until-in-Some.ensures.1 (λ front. absurd (other_no_front e said.others front));
+      refused = handed_on _ r e c.from_residual-in_err-answer_until-in-Some.ensures.1 (λ front. absurd (other_no_front e said.tells.2 front));
     }
 
 pub returns-in_ok-answer_until-in-Some-clause-advances : goal.returns-in_ok-answer_until-in-Some-clause-advances

@@ -83,5 +83,5 @@ returns-clause-advances g c =
       position = holds_at_ok r (λ came answered st. stand_more units came cutting answered st taken noted bytes (is came answered st) c.if-cutting.false c.in_ok-find_ended.ensures.is_first (found came answered st));
       first = λ came answered st. ended_come units came cutting answered st noted bytes (found came answered st);
       size = numbers_tell r (sources.Pieces cutting) (length bytes) c.args.self.now.progress (noted_items noted) said.size;
-      refused = told_no_front _ r said.others;
+      refused = told_no_front _ r said.tells.2;
     }
