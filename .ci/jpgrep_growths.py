@@ -62,6 +62,7 @@ RUNS = [
     (["--paths", "lines"], b""),
     (["--paths", "--fold", "2", "--tsv", "--header", "lines", "-"], LINES),
     (["--paths", "-w", "@.level", "--in", "@.level", "ids", "--json", "-"], DOCUMENTS),
+    (["--paths", "--each", "$..*", "lines", "-"], LINES),
     (["--tsv", "--names", "value", "-e", "$", "lines"], b""),
     (["-n", "-p", "-m", "40", "--each", "$..*", "-w", "@ != $.level || @.*", "-e", "@", "-e", "$.ms", "lines", "lines"], b""),
     (["-c", "-v", "--each", "$.tags[*]", "--in", "@", "ids", "lines"], b""),

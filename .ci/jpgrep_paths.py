@@ -1,4 +1,5 @@
-"""Random lines against a survey of their paths in Python, for `jpgrep_examples.py`, in two orders of the lines and at several folds."""
+"""Random lines against a survey of their paths in Python, for `jpgrep_examples.py`, in two orders of the lines and at several folds, of
+the lines as a whole and of nodes of theirs."""
 import json
 import pathlib
 
@@ -53,9 +54,33 @@ def step_text(step):
     return "['" + "".join(quoted) + "']"
 
 
-def survey_of(values, fold=1000):
-    """The rows of the survey of some values, each of a line."""
-    nodes = [(line, path, kind) for line, value in enumerate(values) for path, kind in nodes_of(value)]
+def places_of(value):
+    """The values in a value, itself first: the steps to each, where that to an element is None, and the value."""
+    yield (), value
+    inner = value.items() if isinstance(value, dict) else ((None, it) for it in value) if isinstance(value, list) else ()
+    for step, child in inner:
+        for path, it in places_of(child):
+            yield (step, *path), it
+
+
+def children_of(value):
+    """The children of a value, each with the step to it."""
+    return list(value.items()) if isinstance(value, dict) else [(None, it) for it in value] if isinstance(value, list) else []
+
+
+# Queries, and the nodes that they select, with the steps to each.
+EACH = {
+    "$": lambda value: [((), value)],
+    "$.*": lambda value: [((step,), child) for step, child in children_of(value)],
+    "$.*.*": lambda value: [((step, *more), it) for step, child in children_of(value) for (more, it) in [((s,), c) for s, c in children_of(child)]],
+    "$..*": lambda value: list(places_of(value))[1:],
+    "$..[?@.*]": lambda value: [(path, it) for path, it in list(places_of(value))[1:] if children_of(it)],
+}
+
+
+def survey_of(values, fold=1000, each="$"):
+    """The rows of the survey of some values, each of a line, or of the nodes that a query selects in them."""
+    nodes = [(line, (*begin, *path), kind) for line, value in enumerate(values) for begin, it in EACH[each](value) for path, kind in nodes_of(it)]
     found = {}
     for line, path, kind in folded_paths(nodes, fold):
         found.setdefault((path, kind), []).append(line)
@@ -97,3 +122,6 @@ def paths(number, dice, ended, check, room):
                 pathlib.Path(room, name).write_text("".join(text + "\n" for _, text in its), "utf-8")
             got = ended([*words, "first", "second"], room)[0].decode()
             check(f"paths {number} {words} in order {turn}", got, stated)
+            each = dice.choice(list(EACH))
+            got = ended([*words, "--each", each, "first", "second"], room)[0].decode()
+            check(f"paths {number} {words} in order {turn}, of {each}", got, text_of(survey_of([value for value, _ in drawn], fold or 1000, each)))

@@ -4,6 +4,7 @@ ghost use Rattle.std.specs.Prelude.{◌≡◌, [], IfErr, IfOk, OnErr, OnOk};
 ghost use Rattle.jp_c.specs.Asked.{TellsUnread};
 ghost use Rattle.jp_c.specs.Sessions.{left_in};
 ghost use Rattle.jp_c.specs.Surveyed.{IsSurveyed, IsSurveyOf, IsSurveyOfFound, TellsSurveyFault};
+ghost use Rattle.jp_survey.specs.declared.input.Surveyed.TheVariants as kinds;
 
 use crate::filter::line_rows;
 use crate::question::{FilterFault, question_of};
@@ -20,6 +21,7 @@ use std::io::{self, Write};
 #[derive(Drop)]
 struct Surveyor {
     survey: Survey,
+    ghost lines: { survey.surveyed ≡ kinds.Lines },
 }
 
 impl Write for Surveyor {
@@ -38,6 +40,7 @@ impl Write for Surveyor {
 
 /// The text of what was surveyed.
 fn text_of(alloc: Global, survey: Survey) -> Result<Vec<u8>, AllocError>
+    requires { survey.surveyed ≡ kinds.Lines }
     ensures { IfOk result (λ text. IsSurveyOf survey.came.taken survey.fold text.items) }
 {
     let mut text = Watched::new(Vec::new(alloc));

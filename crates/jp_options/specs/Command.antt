@@ -289,10 +289,10 @@ refuses_tally found =
     || (is_given (codes "number") found || is_given (codes "name") found || is_given (codes "null") found)
     || is_given (codes "invert") found || is_given (codes "seq") found || is_given (codes "refused") found
 
--- something is asked for that paths have none of: `-e`, `--each`, `--tally`, `--names`, `-r`, `-j`, and what a tally has none of
+-- something is asked for that paths have none of: `-e`, `--tally`, `--names`, `-r`, `-j`, and what a tally has none of
 abbrev pub refuses_survey : List Row → Bool
 refuses_survey found =
-    not (is_empty (values_in (codes "query") found)) || asks_each found
+    not (is_empty (values_in (codes "query") found))
     || is_given (codes "tally") found || not (is_empty (names_of (first_of (codes "names") found)))
     || asks_spelling found || refuses_tally found
 

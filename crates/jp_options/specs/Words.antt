@@ -1,5 +1,5 @@
 -- What the program's arguments ask for, once they are read.
-use Rattle.std.specs.Prelude.{ℕ, List, [], ◌∷◌, length, take, drop, map, codes, Bool, false, ◌&&◌, ◌||◌, not, ltb, if◌then◌else◌, min, is_some, unwrap_or}
+use Rattle.std.specs.Prelude.{ℕ, List, [], ◌∷◌, length, take, drop, map, codes, Bool, true, false, ◌&&◌, ◌||◌, not, ltb, if◌then◌else◌, min, is_some, unwrap_or}
 use Rattle.jp_cut.specs.declared.machine.Pieces.TheVariants as pieces
 use Rattle.jp_form.specs.declared.form.Shown.{Shown}
 use Rattle.jp_form.specs.declared.form.Shown.TheVariants as shown
@@ -85,6 +85,14 @@ has_columns o = if o.tally then has_several o else not o.survey && (o.tabs || o.
 abbrev pub tally_rows : Options → Shown
 tally_rows o = if has_several o then shown.Cells tables.Canonical else shown.Values false
 
+-- the paths of nodes are told that are asked one by one
+abbrev pub surveys_nodes : Options → Bool
+surveys_nodes o = o.survey && asks_each o
+
+-- what the paths are told of: lines, or such nodes with their paths
+abbrev pub survey_rows : Options → Shown
+survey_rows o = if surveys_nodes o then shown.Values true else shown.Line false
+
 -- how the cells of what is counted are shown: as in a table, or in canonical form; `-r` shows them as `--tsv` does
 abbrev pub counted_table : Options → Table
 counted_table o = if o.commas then tables.Commas else if o.tabs || o.raw then tables.Tabs else tables.Canonical
@@ -114,14 +122,14 @@ abbrev pub asked_trailing : Options → ℕ
 asked_trailing o = if shows_context o then asked_after o else 0
 
 -- what a row shows: nothing where something else is printed, a line or one around it where `-A`, `-B` or `-C` asks for them, what is
--- tallied, the line whose paths are counted, cells where `--tsv` or `--csv` asks for them, values where `-o` or `-p` does or nodes are
+-- tallied, the line or the node whose paths are counted, cells where `--tsv` or `--csv` asks for them, values where `-o` or `-p` does or nodes are
 -- asked one by one, and of a refused line with `-p` the word of its fault
 abbrev pub asked_rows : Options → Shown
 asked_rows o =
     if first_decides o || o.counted then shown.Nothing
     else if asks_context o then shown.Around
     else if o.tally then tally_rows o
-    else if o.survey then shown.Line false
+    else if o.survey then survey_rows o
     else if o.tabs then shown.Cells tables.Tabs
     else if o.commas then shown.Cells tables.Commas
     else if o.refused then shown.Line o.paths
@@ -135,6 +143,10 @@ asked_spelling o = if o.tally then spellings.Canonical else if o.raw then spelli
 -- what is printed in place of rows: of `-q`, `-l`, `-L`, `-c` the first decides
 abbrev pub asked_summary : Options → Summary
 asked_summary o = if o.quiet then summaries.Nothing else if o.with_matches then summaries.NameWith else if o.without_matches then summaries.NameWithout else if o.counted then summaries.Count else summaries.Nothing
+
+-- the number of the line stands in front: as `-n` asks for, and of nodes whose paths are counted
+abbrev pub asks_numbers : Options → Bool
+asks_numbers o = o.numbered || surveys_nodes o
 
 -- the name of the file stands in front: as `-H` and `-h` ask for, and else where there are several; and of no tally and no paths
 abbrev pub asks_names : Options → Bool

@@ -4,9 +4,9 @@
 pub(crate) const NO_TALLY: &str =
     "the argument '--tally' cannot be used with '--only-matching', '--path', '--count', '--files-with-matches', '--files-without-match', '--quiet', '--line-number', '--with-filename', '--null', '--invert-match', '--seq' or '--refused'";
 
-/// What is said if `--paths` is used with what prints something else, or selects nodes or lines without a value.
+/// What is said if `--paths` is used with what prints something else, or selects lines without a value.
 pub(crate) const NO_SURVEY: &str =
-    "the argument '--paths' cannot be used with '--query', '--each', '--tally', '--names', '--raw', '--canonical', '--only-matching', '--path', '--count', '--files-with-matches', '--files-without-match', '--quiet', '--line-number', '--with-filename', '--null', '--invert-match', '--seq' or '--refused'";
+    "the argument '--paths' cannot be used with '--query', '--tally', '--names', '--raw', '--canonical', '--only-matching', '--path', '--count', '--files-with-matches', '--files-without-match', '--quiet', '--line-number', '--with-filename', '--null', '--invert-match', '--seq' or '--refused'";
 
 /// What is said if `-A`, `-B` or `-C` is used with what has no lines around it.
 pub(crate) const NO_CONTEXT: &str =

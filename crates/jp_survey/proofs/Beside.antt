@@ -7,9 +7,8 @@ use Rattle.std.proofs.lemmas.List.{get_or-append_right, get_or-replicate, get_or
 use Rattle.std.proofs.lemmas.List.Concat.{flat_map-append}
 use Rattle.std.proofs.lemmas.List.Folds.{Any-from_list_any, list_any-append, list_any_at, list_any_none}
 use Rattle.std.proofs.lemmas.List.Sums.{sum_by-append, sum_by_push}
-use Rattle.jp_model.specs.Json.Tree.{Tree}
 use Rattle.jp_survey.specs.Counts.{Counted, CountedBeside, count_of, counts_at, last_of, lines_of, more_of, no_counts, nodes_of, passes, sum_where, with_count, with_node}
-use Rattle.jp_survey.specs.Paths.{Mark, Path, kind_number, marks_of, path_equal, same_kind}
+use Rattle.jp_survey.specs.Paths.{Line, Mark, Path, kind_number, marks_of, path_equal, same_kind}
 use Rattle.jp_survey.specs.Places.{has_path, path_at}
 use Rattle.jp_survey.specs.Surveys.{is_at, is_folded, lines_at, marks_in}
 use Rattle.jp_survey.specs.declared.count.Count.{Count}
@@ -191,17 +190,17 @@ lines_step true false false last after before old new seen s e same h = omega (a
 lines_step false b true last after before old new seen s e same h = omega (arith, s, h)
 lines_step false b false last after before old new seen s e same h = omega (arith, s, h)
 
-module _ (shown : Path → Path) (trees : List Tree) (line : ℕ) (marks : List Mark) (paths : List Path) (places : List PlaceCounts)
-    (h : CountedBeside shown trees line marks paths places) (long : length paths ≡ length places)
+module _ (shown : Path → Path) (lines : List Line) (line : ℕ) (marks : List Mark) (paths : List Path) (places : List PlaceCounts)
+    (h : CountedBeside shown lines line marks paths places) (long : length paths ≡ length places)
     (once : (j k : ℕ) → j < length paths → k < length paths → path_at paths j ≡ path_at paths k → j ≡ k)
     (mark : Mark) (place : ℕ) (inside : place < length paths) (is : path_at paths place ≡ shown mark.path) where
   counted_nodes : (test : Path → Bool) (kind : NodeKind)
-      → sum_where (nodes_of kind) test paths (with_node places place mark.kind line) ≡ count_by (passes shown test kind) (marks_in trees) + count_by (passes shown test kind) (marks ++ mark ∷ [])
+      → sum_where (nodes_of kind) test paths (with_node places place mark.kind line) ≡ count_by (passes shown test kind) (marks_in lines) + count_by (passes shown test kind) (marks ++ mark ∷ [])
   counted_nodes test kind =
       let old = counts_at places place in
       let new = with_count old mark.kind (more_of line (count_of old mark.kind)) in
       let step = nodes_step (test (path_at paths place)) (same_kind kind mark.kind) (sum_where (nodes_of kind) test paths (with_node places place mark.kind line)) (sum_where (nodes_of kind) test paths places)
-      (nodes_of kind old) (nodes_of kind new) (count_by (passes shown test kind) (marks_in trees) + count_by (passes shown test kind) marks)
+      (nodes_of kind old) (nodes_of kind new) (count_by (passes shown test kind) (marks_in lines) + count_by (passes shown test kind) marks)
       (sum_set (nodes_of kind) test paths places place new long inside) (changed (λ (c : Count). c.nodes) old kind mark.kind line) (h.nodes test kind) in
       let same : one_where (test (path_at paths place) && same_kind kind mark.kind) ≡ one_where (passes shown test kind mark) =
       ap (λ (p : Path). one_where (test p && same_kind kind mark.kind)) is in
@@ -209,17 +208,17 @@ module _ (shown : Path → Path) (trees : List Tree) (line : ℕ) (marks : List 
       omega (arith, step, same, pushed)
 
   counted_lines : (path : Path) (kind : NodeKind) → is_folded path ≡ false
-      → sum_where (lines_of kind) (path_equal path) paths (with_node places place mark.kind line) ≡ lines_at shown trees path kind + cond (list_any (is_at shown path kind) (marks ++ mark ∷ [])) 1 0
+      → sum_where (lines_of kind) (path_equal path) paths (with_node places place mark.kind line) ≡ lines_at shown lines path kind + cond (list_any (is_at shown path kind) (marks ++ mark ∷ [])) 1 0
   counted_lines path kind plain =
       let old = counts_at places place in
       let new = with_count old mark.kind (more_of line (count_of old mark.kind)) in
       let found = list_any (is_at shown path kind) marks in
       let step = lines_step (path_equal path (path_at paths place)) (same_kind kind mark.kind) found (eqb (last_of kind old) line)
       (sum_where (lines_of kind) (path_equal path) paths (with_node places place mark.kind line)) (sum_where (lines_of kind) (path_equal path) paths places)
-      (lines_of kind old) (lines_of kind new) (lines_at shown trees path kind)
+      (lines_of kind old) (lines_of kind new) (lines_at shown lines path kind)
       (sum_set (lines_of kind) (path_equal path) paths places place new long inside) (changed (λ (c : Count). c.lines) old kind mark.kind line)
       (λ e. (h.last place kind (omega (arith, long, inside))).1 ∙ ap (λ (p : Path). list_any (is_at shown p kind) marks) (sym (path_same path (path_at paths place) e))) (h.in_lines path kind plain) in
-      step ∙ ap (λ (b : Bool). lines_at shown trees path kind + cond b 1 0)
+      step ∙ ap (λ (b : Bool). lines_at shown lines path kind + cond b 1 0)
       (ap (λ (p : Path). found || ((path_equal path p && same_kind kind mark.kind) || false)) is ∙ sym (list_any-append (is_at shown path kind) marks (mark ∷ [])))
 
   -- where the new node is not of this path and kind
@@ -292,7 +291,7 @@ module _ (shown : Path → Path) (trees : List Tree) (line : ℕ) (marks : List 
           (and_left (path_equal (path_at paths k) (shown mark.path)) (same_kind kind mark.kind)
           (false_from_ne_true (path_equal (path_at paths k) (shown mark.path)) (λ e. ne (once k place (omega (arith, long, s)) inside (path_same (path_at paths k) (shown mark.path) e ∙ sym is))))))
 
-  pub one_counted : CountedBeside shown trees line (marks ++ mark ∷ []) paths (with_node places place mark.kind line)
+  pub one_counted : CountedBeside shown lines line (marks ++ mark ∷ []) paths (with_node places place mark.kind line)
   one_counted = record {
     nodes = counted_nodes;
     in_lines = counted_lines;
@@ -303,8 +302,8 @@ module _ (shown : Path → Path) (trees : List Tree) (line : ℕ) (marks : List 
 
 -- ---- more places
 
-module _ (shown : Path → Path) (trees : List Tree) (line : ℕ) (marks : List Mark) (paths : List Path) (places : List PlaceCounts)
-    (h : CountedBeside shown trees line marks paths places) (long : length paths ≡ length places) (more : List Path) (n : ℕ) (some : 0 < line)
+module _ (shown : Path → Path) (lines : List Line) (line : ℕ) (marks : List Mark) (paths : List Path) (places : List PlaceCounts)
+    (h : CountedBeside shown lines line marks paths places) (long : length paths ≡ length places) (more : List Path) (n : ℕ) (some : 0 < line)
     (all : length (paths ++ more) ≡ length (places ++ replicate n no_counts))
     (once : (j k : ℕ) → j < length (paths ++ more) → k < length (paths ++ more) → path_at (paths ++ more) j ≡ path_at (paths ++ more) k → j ≡ k) where
   -- no node has the path of a new place
@@ -345,7 +344,7 @@ module _ (shown : Path → Path) (trees : List Tree) (line : ℕ) (marks : List 
             ne_eqb (last_of kind no_counts) line (λ e. omega (arith, none, e, some)) ∙ sym (none_there k (omega (arith, long, s)) (omega (arith, all, l)) kind),
           ))
 
-  pub more_counted : CountedBeside shown trees line marks (paths ++ more) (places ++ replicate n no_counts)
+  pub more_counted : CountedBeside shown lines line marks (paths ++ more) (places ++ replicate n no_counts)
   more_counted = record {
     nodes = λ test kind. sum_grown (nodes_of kind) test (no_nodes kind) paths more places n long ∙ h.nodes test kind;
     in_lines = λ path kind plain. sum_grown (lines_of kind) (path_equal path) (no_lines kind) paths more places n long ∙ h.in_lines path kind plain;
@@ -355,20 +354,20 @@ module _ (shown : Path → Path) (trees : List Tree) (line : ℕ) (marks : List 
 
 -- ---- a text begins, and ends
 
-module _ (shown : Path → Path) (trees : List Tree) (paths : List Path) (places : List PlaceCounts) where
-  pub text_begins : (lines : ℕ) → Counted shown trees lines paths places → CountedBeside shown trees (lines + 1) [] paths places
-  text_begins lines h = record {
+module _ (shown : Path → Path) (lines : List Line) (paths : List Path) (places : List PlaceCounts) where
+  pub text_begins : (newest : ℕ) → Counted shown lines newest paths places → CountedBeside shown lines (newest + 1) [] paths places
+  text_begins newest h = record {
     nodes = λ test kind. let was = h.nodes test kind in omega (arith, was);
     in_lines = λ path kind plain. let was = h.in_lines path kind plain in omega (arith, was);
-    last = λ k kind l. let was = h.last k kind l in (omega (arith, was), ne_eqb (last_of kind (counts_at places k)) (lines + 1) (λ e. omega (arith, was, e)));
+    last = λ k kind l. let was = h.last k kind l in (omega (arith, was), ne_eqb (last_of kind (counts_at places k)) (newest + 1) (λ e. omega (arith, was, e)));
     placed = λ k d l. absurd (omega (arith, l));
   }
 
-  pub text_ends : (line : ℕ) (t : Tree) → CountedBeside shown trees line (marks_of t) paths places → Counted shown (trees ++ t ∷ []) line paths places
+  pub text_ends : (line : ℕ) (t : Line) → CountedBeside shown lines line (marks_of t) paths places → Counted shown (lines ++ t ∷ []) line paths places
   text_ends line t h = record {
     nodes = λ test kind. let one = λ (m : Mark). cond (passes shown test kind m) 1 0 in
-        h.nodes test kind ∙ sym (ap (count_by (passes shown test kind)) (flat_map-append marks_of trees (t ∷ []) ∙ ap (λ (l : List Mark). marks_in trees ++ l) (append-nil (marks_of t)))
-        ∙ sum_by-append one (marks_in trees) (marks_of t));
-    in_lines = λ path kind plain. h.in_lines path kind plain ∙ sym (sum_by_push (λ (t : Tree). cond (list_any (is_at shown path kind) (marks_of t)) 1 0) trees t);
+        h.nodes test kind ∙ sym (ap (count_by (passes shown test kind)) (flat_map-append marks_of lines (t ∷ []) ∙ ap (λ (l : List Mark). marks_in lines ++ l) (append-nil (marks_of t)))
+        ∙ sum_by-append one (marks_in lines) (marks_of t));
+    in_lines = λ path kind plain. h.in_lines path kind plain ∙ sym (sum_by_push (λ (t : Line). cond (list_any (is_at shown path kind) (marks_of t)) 1 0) lines t);
     last = λ k kind l. (h.last k kind l).0;
   }

@@ -7,12 +7,11 @@ use Rattle.std.proofs.lemmas.Option.{get_or_from_slice_get, slice_get_within}
 use Rattle.std.proofs.Math.Seq.{take-append-add}
 use Rattle.std.proofs.lemmas.Bool.{eqb-true}
 use Rattle.memchr.specs.Find.{IsLastByte, is_byte}
-use Rattle.jp_lines.proofs.Parts.{lines_parted}
 use Rattle.jp_model.proofs.Pieces.{open_at_separator}
 use Rattle.jp_model.specs.declared.Framing.TheVariants as framings
 use Rattle.jp_model.specs.Json.Reader.{status_of}
-use Rattle.jp_model.specs.Json.Tree.{Tree}
-use Rattle.jp_model.specs.Lines.{open_line, text_lines}
+use Rattle.jp_model.specs.Lines.{open_line}
+use Rattle.jp_survey.specs.Paths.{Line}
 use Rattle.jp_survey.specs.Surveys.{before_last, text_in, texts_in}
 
 -- the texts of more lines
@@ -24,7 +23,7 @@ pub texts_in_more : (rows : List (List ℕ)) (i : ℕ) (row : List ℕ) → slic
 texts_in_more rows i row h =
     let l = slice_get_within rows i row h in
     ap texts_in (take_more rows i row l ∙ ap (λ (r : List ℕ). take i rows ++ r ∷ []) (get_or_from_slice_get rows i row row h))
-    ∙ (texts_in-append (take i rows) (row ∷ []) ∙ ap (λ (ts : List Tree). texts_in (take i rows) ++ ts) (append-nil (text_in (status_of framings.Lines row))))
+    ∙ (texts_in-append (take i rows) (row ∷ []) ∙ ap (λ (ts : List Line). texts_in (take i rows) ++ ts) (append-nil (text_in (status_of framings.Lines row))))
 
 -- bytes in front of the last ones
 pub before_is : (came front last : List ℕ) → came ≡ front ++ last → before_last came last ≡ front
@@ -54,10 +53,6 @@ pub came_moved : (came last front rest : List ℕ) → came ≡ before_last came
 came_moved came last front rest is parts =
     is ∙ (ap (λ (l : List ℕ). before_last came last ++ l) parts ∙ (sym (append_assoc (before_last came last) front rest)
     ∙ ap (λ (b : List ℕ). b ++ rest) (sym (before_moved came last front rest is parts))))
-
--- the texts of lines are those of both parts
-pub texts_parted : (front rest : List ℕ) → open_line front ≡ [] → texts_in (text_lines (front ++ rest)) ≡ texts_in (text_lines front) ++ texts_in (text_lines rest)
-texts_parted front rest e = ap texts_in (lines_parted front rest e) ∙ texts_in-append (text_lines front) (text_lines rest)
 
 -- a text that ends with its last line feed leaves no line open
 pub ended_by : (front bytes cut : List ℕ) (last : ℕ) → IsLastByte (is_byte 10) bytes (Some last) → cut ≡ take (last + 1) bytes → open_line (front ++ cut) ≡ []

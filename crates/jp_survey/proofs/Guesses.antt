@@ -1,6 +1,6 @@
 -- The place of a node that is looked for.
 use Rattle.std.proofs.Common.{◌≡◌, ◌∙◌, ℕ, List, [], ◌∷◌, ◌++◌, get_or, true, false, ap, ap₂, refl, sym}
-use Rattle.std.specs.Prelude.{Option, Some, None, String, chars, position, slice_get, string_bytes}
+use Rattle.std.specs.Prelude.{IfSome, Option, Some, None, String, chars, position, slice_get, string_bytes}
 use Rattle.std.specs.Borrow.{Bor}
 use Rattle.std.specs.Option.{option_map}
 use Rattle.std.proofs.lemmas.List.{get_or-map}
@@ -70,6 +70,12 @@ module _ (tree : Tree) (h : IsTree tree) (guess parent : ℕ) where
   found_others e x =
       let found = link_found (links_of tree) (record { parent = parent; step = steps.Others }) guess e in
       guessed_others (record { parent = parent; step = steps.Others }) (slice_get-get_or (links_of tree) guess root_link found.0 ∙ ap Some found.1) refl refl x
+
+-- or is not
+pub others_found : (tree : Tree) → IsTree tree → (parent : ℕ) (r : Option ℕ) → r ≡ position (link_equal (record { parent = parent; step = steps.Others })) (links_of tree)
+    → IfSome r (λ place. (x : List ℕ) → IsPlaceAt tree place (longer (tree_folds tree) (path_at (tree_paths tree) parent) (member x)))
+others_found tree h parent None e = tt
+others_found tree h parent (Some guess) e = λ x. found_others tree h guess parent (sym e) x
 
 -- the name at a number
 pub name_is : {A : Type 0} (keys : List (String A)) (n : ℕ) (name : String A) (points : List ℕ) → slice_get keys n ≡ Some name → text_equal (chars (string_bytes name)) points ≡ true

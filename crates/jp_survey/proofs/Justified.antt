@@ -99,9 +99,14 @@ by_last folds above name path is = by (split_at (length above) path)
     by (inl short) = absurd (let l = long in omega (arith, l, short))
     by (inr parts) = last parts.0 parts.1 parts.2 parts.3
 
-pub justified_path : (limit : ℕ) (seen paths folds : List Path) (path : Path) → has_path seen path ≡ true
-    → IsJustified limit seen paths folds → IsJustified limit seen (paths ++ folded_by folds path ∷ []) folds
-justified_path limit seen paths folds path there h = record { named = named; many = h.many }
+-- a path that goes on from one that is shown so goes on by the name too
+goes_further : (folds : List Path) (above : Path) (name : List ℕ) (path more : Path) → GoesOn folds above name path → GoesOn folds above name (path ++ more)
+goes_further folds above name path more h = (h.0, h.1 ++ more, ap (λ (p : Path). p ++ more) h.2 ∙ append_assoc h.0 (member name ∷ h.1) more, h.3)
+
+-- a path is one that was seen, or begins it
+pub justified_path : (limit : ℕ) (seen paths folds : List Path) (path whole : Path) → ((above : Path) (name : List ℕ) → GoesOn folds above name path → GoesOn folds above name whole)
+    → has_path seen whole ≡ true → IsJustified limit seen paths folds → IsJustified limit seen (paths ++ folded_by folds path ∷ []) folds
+justified_path limit seen paths folds path whole further there h = record { named = named; many = h.many }
   where
     named : (more : List Path) → Closed more folds → (above : Path) (name : List ℕ)
         → has_path (paths ++ folded_by folds path ∷ []) (above ++ member name ∷ []) ≡ true → is_member text_equal (names_after more (folded_by more above) seen) name ≡ true
@@ -112,15 +117,23 @@ justified_path limit seen paths folds path there h = record { named = named; man
         new : ((path_equal (above ++ member name ∷ []) (folded_by folds path) ≡ true) ⊎ (false ≡ true)) → is_member text_equal (names_after more (folded_by more above) seen) name ≡ true
         new (inr f) = absurd (cc)
         new (inl f) =
-            let goes = goes_on_there folds above name path (by_last folds above name path (path_same (above ++ member name ∷ []) (folded_by folds path) f)) in
+            let goes = goes_on_there folds above name whole (further above name (by_last folds above name path (path_same (above ++ member name ∷ []) (folded_by folds path) f))) in
             names_closed folds more closed above seen name
             (names_any folds above seen name
-            ∙ any_weaker (path_equal path) (goes_on folds above name) seen (λ other same. ap (goes_on folds above name) (sym (path_same path other same)) ∙ goes) there)
+            ∙ any_weaker (path_equal whole) (goes_on folds above name) seen (λ other same. ap (goes_on folds above name) (sym (path_same whole other same)) ∙ goes) there)
 
         by : ((has_path paths (above ++ member name ∷ []) ≡ true) ⊎ (has_path (folded_by folds path ∷ []) (above ++ member name ∷ []) ≡ true))
             → is_member text_equal (names_after more (folded_by more above) seen) name ≡ true
         by (inl f) = h.named more closed above name f
         by (inr f) = new (or_cases (path_equal (above ++ member name ∷ []) (folded_by folds path)) false f)
+
+-- the place of the beginning of a path that was seen is there or added
+pub justified_step : (limit : ℕ) (seen old new folds : List Path) (path more : Path) → WithPath old (folded_by folds path) new → has_path seen (path ++ more) ≡ true
+    → IsJustified limit seen old folds → IsJustified limit seen new folds
+justified_step limit seen old new folds path more (inl same) there h = subst (λ (paths : List Path). IsJustified limit seen paths folds) (sym same) h
+justified_step limit seen old new folds path more (inr pushed) there h =
+    subst (λ (paths : List Path). IsJustified limit seen paths folds) (sym pushed)
+    (justified_path limit seen old folds path (path ++ more) (λ above name goes. goes_further folds above name path more goes) there h)
 
 -- a path is seen, and its place is there or added
 pub justified_node : (limit : ℕ) (seen old new folds : List Path) (path : Path) → WithPath old (folded_by folds path) new
@@ -128,7 +141,7 @@ pub justified_node : (limit : ℕ) (seen old new folds : List Path) (path : Path
 justified_node limit seen old new folds path (inl same) h = subst (λ (paths : List Path). IsJustified limit (seen ++ path ∷ []) paths folds) (sym same) (justified_seen limit seen (path ∷ []) old folds h)
 justified_node limit seen old new folds path (inr pushed) h =
     subst (λ (paths : List Path). IsJustified limit (seen ++ path ∷ []) paths folds) (sym pushed)
-    (justified_path limit (seen ++ path ∷ []) old folds path
+    (justified_path limit (seen ++ path ∷ []) old folds path path (λ above name goes. goes)
     (list_any-append (path_equal path) seen (path ∷ []) ∙ or_right (has_path seen path) (path_equal path path || false) (or_left (path_equal path path) false (path_itself path)))
     (justified_seen limit seen (path ∷ []) old folds h))
 

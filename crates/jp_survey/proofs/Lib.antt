@@ -29,3 +29,7 @@ pub mod Told
 pub mod Reordered
 pub mod Rows
 pub mod Came
+pub mod Located
+pub mod Begun
+pub mod Walks
+pub mod Taken

@@ -6,10 +6,9 @@ use Rattle.std.proofs.lemmas.Bool.{cases_Bool, or_parts}
 use Rattle.std.proofs.lemmas.List.{get_or-map, length-map}
 use Rattle.std.proofs.lemmas.List.Folds.{list_any-append}
 use Rattle.std.proofs.lemmas.List.Sums.{sum_by-cons}
-use Rattle.jp_model.specs.Json.Tree.{Tree}
 use Rattle.jp_survey.specs.Counts.{Counted, Joined, lines_of, nodes_of, passes, sum_where, sums_of}
 use Rattle.jp_survey.specs.Foldings.{Closed, HaveMoved, Refolds, folded_by, longer}
-use Rattle.jp_survey.specs.Paths.{Mark, Path, Stride, element, member, others, marks_of, path_equal, same_kind}
+use Rattle.jp_survey.specs.Paths.{Line, Mark, Path, Stride, element, marks_of, member, others, path_equal, same_kind}
 use Rattle.jp_survey.specs.Places.{AreApart, ArePlaces, folds_of, has_path, path_at, paths_of}
 use Rattle.jp_survey.specs.Surveys.{is_folded, is_others, lines_at, marks_in}
 use Rattle.jp_survey.specs.declared.count.PlaceCounts.{PlaceCounts}
@@ -114,8 +113,8 @@ none_count (x ∷ xs) = let rest = none_count xs in let both = sum_by-cons (λ y
 
 -- ---- what was counted is counted
 
-module _ (names : List (List ℕ)) (links next : List Link) (old new : List PlaceCounts) (trees : List Tree) (lines : ℕ) (h : Refolds names links old next new) (apart : AreApart names next)
-    (was : Counted (folded_by (folds_of names links)) trees lines (paths_of names links) old) where
+module _ (names : List (List ℕ)) (links next : List Link) (old new : List PlaceCounts) (lines : List Line) (newest : ℕ) (h : Refolds names links old next new) (apart : AreApart names next)
+    (was : Counted (folded_by (folds_of names links)) lines newest (paths_of names links) old) where
   closed_now : Closed (folds_of names next) (folds_of names next)
   closed_now = closed_itself names next h.places apart
 
@@ -133,35 +132,35 @@ module _ (names : List (List ℕ)) (links next : List Link) (old new : List Plac
       (λ k s. ap test (sym (folded_itself names next h.places apart k (omega (arith, many, s)))))
       ∙ h.sums (folds_of names next) closed_now in_lines kind test
 
-  refolded_nodes : (test : Path → Bool) (kind : NodeKind) → sum_where (nodes_of kind) test (paths_of names next) new ≡ count_by (passes (folded_by (folds_of names next)) test kind) (marks_in trees)
+  refolded_nodes : (test : Path → Bool) (kind : NodeKind) → sum_where (nodes_of kind) test (paths_of names next) new ≡ count_by (passes (folded_by (folds_of names next)) test kind) (marks_in lines)
   refolded_nodes test kind =
       moved_sums false kind test ∙ (was.nodes (λ path. test (folded_by (folds_of names next) path)) kind
-      ∙ (λ j. count_by (λ (mark : Mark). test (twice mark.path j) && same_kind kind mark.kind) (marks_in trees)))
+      ∙ (λ j. count_by (λ (mark : Mark). test (twice mark.path j) && same_kind kind mark.kind) (marks_in lines)))
 
   lines_by : (b : Bool) (path : Path) (kind : NodeKind) → is_folded path ≡ false
       → sum_where (lines_of kind) (λ other. path_equal path other && b) (paths_of names links) old
-      ≡ count_by (λ t. list_any (λ (mark : Mark). (path_equal path (folded_by (folds_of names links) mark.path) && b) && same_kind kind mark.kind) (marks_of t)) trees
+      ≡ count_by (λ t. list_any (λ (mark : Mark). (path_equal path (folded_by (folds_of names links) mark.path) && b) && same_kind kind mark.kind) (marks_of t)) lines
   lines_by true path kind plain =
       (λ j. sum_where (lines_of kind) (λ other. and_true (path_equal path other) j) (paths_of names links) old)
       ∙ (was.in_lines path kind plain
-      ∙ sym (λ j. count_by (λ (t : Tree). list_any (λ (mark : Mark). and_true (path_equal path (folded_by (folds_of names links) mark.path)) j && same_kind kind mark.kind) (marks_of t)) trees))
+      ∙ sym (λ j. count_by (λ (t : Line). list_any (λ (mark : Mark). and_true (path_equal path (folded_by (folds_of names links) mark.path)) j && same_kind kind mark.kind) (marks_of t)) lines))
   lines_by false path kind plain =
       (λ j. sum_where (lines_of kind) (λ other. and_false (path_equal path other) j) (paths_of names links) old)
       ∙ (none_of_all (lines_of kind) (paths_of names links) old
-      ∙ sym ((λ j. count_by (λ (t : Tree). list_any (λ (mark : Mark). and_false (path_equal path (folded_by (folds_of names links) mark.path)) j && same_kind kind mark.kind) (marks_of t)) trees)
-      ∙ ((λ j. count_by (λ (t : Tree). none_any (marks_of t) j) trees) ∙ none_count trees)))
+      ∙ sym ((λ j. count_by (λ (t : Line). list_any (λ (mark : Mark). and_false (path_equal path (folded_by (folds_of names links) mark.path)) j && same_kind kind mark.kind) (marks_of t)) lines)
+      ∙ ((λ j. count_by (λ (t : Line). none_any (marks_of t) j) lines) ∙ none_count lines)))
 
   refolded_lines : (path : Path) (kind : NodeKind) → is_folded path ≡ false
-      → sum_where (lines_of kind) (path_equal path) (paths_of names next) new ≡ lines_at (folded_by (folds_of names next)) trees path kind
+      → sum_where (lines_of kind) (path_equal path) (paths_of names next) new ≡ lines_at (folded_by (folds_of names next)) lines path kind
   refolded_lines path kind plain =
       let b = path_equal path (folded_by (folds_of names next) path) in
       moved_sums true kind (path_equal path)
       ∙ ((λ j. sum_where (lines_of kind) (λ other. plain_same (folds_of names next) path other plain j) (paths_of names links) old)
       ∙ (lines_by b path kind plain
-      ∙ (sym (λ j. count_by (λ (t : Tree). list_any (λ (mark : Mark). plain_same (folds_of names next) path (folded_by (folds_of names links) mark.path) plain j && same_kind kind mark.kind) (marks_of t)) trees)
-      ∙ (λ j. count_by (λ (t : Tree). list_any (λ (mark : Mark). path_equal path (twice mark.path j) && same_kind kind mark.kind) (marks_of t)) trees))))
+      ∙ (sym (λ j. count_by (λ (t : Line). list_any (λ (mark : Mark). plain_same (folds_of names next) path (folded_by (folds_of names links) mark.path) plain j && same_kind kind mark.kind) (marks_of t)) lines)
+      ∙ (λ j. count_by (λ (t : Line). list_any (λ (mark : Mark). path_equal path (twice mark.path j) && same_kind kind mark.kind) (marks_of t)) lines))))
 
-  pub refolded_counted : Counted (folded_by (folds_of names next)) trees lines (paths_of names next) new
+  pub refolded_counted : Counted (folded_by (folds_of names next)) lines newest (paths_of names next) new
   refolded_counted = record {
     nodes = refolded_nodes;
     in_lines = refolded_lines;

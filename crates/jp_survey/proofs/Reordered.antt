@@ -13,9 +13,8 @@ use Rattle.std.proofs.lemmas.List.Sums.{sum_by-append, sum_by-cons}
 use Rattle.std.proofs.lemmas.Map.Made.{length-from_keys}
 use Rattle.std.proofs.lemmas.Map.Steps.{list_any_congr}
 use Rattle.jp_model.specs.Characters.{text_equal}
-use Rattle.jp_model.specs.Json.Tree.{Tree}
 use Rattle.jp_survey.specs.Folds.{first_name, first_names, folded, folded_stride, rest_under, rests_under}
-use Rattle.jp_survey.specs.Paths.{Mark, Path, Stride, element, member, others, marks_of}
+use Rattle.jp_survey.specs.Paths.{Line, Mark, Path, Stride, element, marks_of, member, others}
 use Rattle.jp_survey.specs.Surveys.{Entry, IsSurvey, IsSurveyBy, is_at, lines_at, marks_in, nodes_at, paths_in, shown_by, told_lines}
 use Rattle.jp_survey.specs.declared.kind.NodeKind.{NodeKind}
 use Rattle.jp_survey.proofs.Told.{survey_shown}
@@ -95,37 +94,37 @@ same_folded fold (stride ∷ rest) paths more same =
 
 -- ---- texts in another order
 
-any_text : (test : Path → Bool) (trees : List Tree) → list_any test (paths_in trees) ≡ list_any (λ t. list_any test (map (λ mark. mark.path) (marks_of t))) trees
+any_text : (test : Path → Bool) (lines : List Line) → list_any test (paths_in lines) ≡ list_any (λ t. list_any test (map (λ mark. mark.path) (marks_of t))) lines
 any_text test [] = refl
-any_text test (t ∷ trees) =
-    ap (list_any test) (map-append (λ (mark : Mark). mark.path) (marks_of t) (marks_in trees))
-    ∙ list_any-append test (map (λ mark. mark.path) (marks_of t)) (paths_in trees)
-    ∙ ap (λ b. list_any test (map (λ mark. mark.path) (marks_of t)) || b) (any_text test trees)
+any_text test (t ∷ lines) =
+    ap (list_any test) (map-append (λ (mark : Mark). mark.path) (marks_of t) (marks_in lines))
+    ∙ list_any-append test (map (λ mark. mark.path) (marks_of t)) (paths_in lines)
+    ∙ ap (λ b. list_any test (map (λ mark. mark.path) (marks_of t)) || b) (any_text test lines)
 
-same_shown : (fold : ℕ) (trees other : List Tree) (path : Path) → IsPermutation trees other → shown_by fold trees path ≡ shown_by fold other path
-same_shown fold trees other path moved =
-    same_folded fold path (paths_in trees) (paths_in other)
-    (λ test. any_text test trees ∙ list_any-IsPermutation (λ t. list_any test (map (λ mark. mark.path) (marks_of t))) trees other moved ∙ sym (any_text test other))
+same_shown : (fold : ℕ) (lines other : List Line) (path : Path) → IsPermutation lines other → shown_by fold lines path ≡ shown_by fold other path
+same_shown fold lines other path moved =
+    same_folded fold path (paths_in lines) (paths_in other)
+    (λ test. any_text test lines ∙ list_any-IsPermutation (λ t. list_any test (map (λ mark. mark.path) (marks_of t))) lines other moved ∙ sym (any_text test other))
 
-count_texts : (test : Mark → Bool) (trees : List Tree) → count_by test (marks_in trees) ≡ sum_by (λ t. count_by test (marks_of t)) trees
+count_texts : (test : Mark → Bool) (lines : List Line) → count_by test (marks_in lines) ≡ sum_by (λ t. count_by test (marks_of t)) lines
 count_texts test [] = refl
-count_texts test (t ∷ trees) =
-    sum_by-append (λ mark. cond (test mark) 1 0) (marks_of t) (marks_in trees)
-    ∙ ap (λ n. count_by test (marks_of t) + n) (count_texts test trees)
-    ∙ sym (sum_by-cons (λ t. count_by test (marks_of t)) t trees)
+count_texts test (t ∷ lines) =
+    sum_by-append (λ mark. cond (test mark) 1 0) (marks_of t) (marks_in lines)
+    ∙ ap (λ n. count_by test (marks_of t) + n) (count_texts test lines)
+    ∙ sym (sum_by-cons (λ t. count_by test (marks_of t)) t lines)
 
 -- a survey of texts is one of them in another order
-module _ (shown : Path → Path) (trees other : List Tree) (moved : IsPermutation trees other) where
-  same_nodes : (path : Path) (kind : NodeKind) → nodes_at shown trees path kind ≡ nodes_at shown other path kind
+module _ (shown : Path → Path) (lines other : List Line) (moved : IsPermutation lines other) where
+  same_nodes : (path : Path) (kind : NodeKind) → nodes_at shown lines path kind ≡ nodes_at shown other path kind
   same_nodes path kind =
-      count_texts (is_at shown path kind) trees
-      ∙ sym (sum_by-IsPermutation (λ t. count_by (is_at shown path kind) (marks_of t)) trees other moved)
+      count_texts (is_at shown path kind) lines
+      ∙ sym (sum_by-IsPermutation (λ t. count_by (is_at shown path kind) (marks_of t)) lines other moved)
       ∙ sym (count_texts (is_at shown path kind) other)
 
-  same_lines : (path : Path) (kind : NodeKind) → lines_at shown trees path kind ≡ lines_at shown other path kind
-  same_lines path kind = sym (sum_by-IsPermutation (λ t. cond (list_any (is_at shown path kind) (marks_of t)) 1 0) trees other moved)
+  same_lines : (path : Path) (kind : NodeKind) → lines_at shown lines path kind ≡ lines_at shown other path kind
+  same_lines path kind = sym (sum_by-IsPermutation (λ t. cond (list_any (is_at shown path kind) (marks_of t)) 1 0) lines other moved)
 
-  reordered : (survey : List Entry) → IsSurveyBy shown trees survey → IsSurveyBy shown other survey
+  reordered : (survey : List Entry) → IsSurveyBy shown lines survey → IsSurveyBy shown other survey
   reordered survey h = record {
     nodes = λ k d l. let entry = get_or survey k d in h.nodes k d l ∙ same_nodes entry.path entry.kind;
     lines = λ k d l. let entry = get_or survey k d in h.lines k d l ∙ ap (told_lines entry.path) (same_lines entry.path entry.kind);
@@ -133,7 +132,7 @@ module _ (shown : Path → Path) (trees other : List Tree) (moved : IsPermutatio
     order = h.order;
   }
 
-pub survey_moved : (fold : ℕ) (trees other : List Tree) (survey : List Entry) → IsPermutation trees other → IsSurvey fold trees survey → IsSurvey fold other survey
-survey_moved fold trees other survey moved h =
-    reordered (shown_by fold other) trees other moved survey
-    (survey_shown (shown_by fold trees) (shown_by fold other) trees survey (λ k d l. same_shown fold trees other (get_or (marks_in trees) k d).path moved) h)
+pub survey_moved : (fold : ℕ) (lines other : List Line) (survey : List Entry) → IsPermutation lines other → IsSurvey fold lines survey → IsSurvey fold other survey
+survey_moved fold lines other survey moved h =
+    reordered (shown_by fold other) lines other moved survey
+    (survey_shown (shown_by fold lines) (shown_by fold other) lines survey (λ k d l. same_shown fold lines other (get_or (marks_in lines) k d).path moved) h)

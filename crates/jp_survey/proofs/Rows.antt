@@ -4,9 +4,8 @@ use Rattle.std.specs.Prelude.{suc, All, Any, count_by, sum_by, if◌then◌else�
 use Rattle.std.proofs.lemmas.Bool.{and_parts}
 use Rattle.std.proofs.lemmas.Cmp.{nat_eq_equiv, nat_list_eq_equiv}
 use Rattle.std.proofs.lemmas.List.Sums.{sum_by-cons}
-use Rattle.jp_model.specs.Json.Tree.{Tree}
 use Rattle.jp_survey.specs.Folds.{fits, folded, folded_stride, has_many_names, rests_under, stands_for}
-use Rattle.jp_survey.specs.Paths.{Mark, Path, Stride, element, member, others, kind_number, path_equal, same_kind}
+use Rattle.jp_survey.specs.Paths.{Line, Mark, Path, Stride, element, kind_number, member, others, path_equal, same_kind}
 use Rattle.jp_survey.specs.Surveys.{Entry, IsSurvey, IsSurveyBy, entries_with, is_at, marks_in, nodes_at, paths_in, shown_by}
 use Rattle.jp_survey.proofs.Beside.{kind_same}
 use Rattle.jp_survey.proofs.Equalities.{path_itself, path_same, path_symm}
@@ -71,7 +70,7 @@ is_found test (x ∷ xs) l = by (test x) refl (λ more. is_found test xs more)
 
 -- ---- rows and nodes
 
-module _ (shown : Path → Path) (trees : List Tree) (survey : List Entry) (h : IsSurveyBy shown trees survey) where
+module _ (shown : Path → Path) (lines : List Line) (survey : List Entry) (h : IsSurveyBy shown lines survey) where
   rows_of_node : (mark : Mark) → count_by (λ entry. is_at shown entry.path entry.kind mark) survey ≡ entries_with (shown mark.path) mark.kind survey
   rows_of_node mark =
       same_sums (λ entry. cond (is_at shown entry.path entry.kind mark) 1 0)
@@ -79,30 +78,30 @@ module _ (shown : Path → Path) (trees : List Tree) (survey : List Entry) (h : 
       (λ k d l. let entry = get_or survey k d in
       ap (λ b. cond b 1 0) (ap₂ (λ (a b : Bool). a && b) (path_symm entry.path (shown mark.path)) (nat_eq_equiv.symm (kind_number entry.kind) (kind_number mark.kind))))
 
-  is_there : (k : ℕ) (d : Mark) → k < length (marks_in trees) → count_by (λ entry. is_at shown entry.path entry.kind (get_or (marks_in trees) k d)) survey ≡ 1
+  is_there : (k : ℕ) (d : Mark) → k < length (marks_in lines) → count_by (λ entry. is_at shown entry.path entry.kind (get_or (marks_in lines) k d)) survey ≡ 1
   is_there k d l =
-      let mark = get_or (marks_in trees) k d in
-      let some = is_counted (is_at shown (shown mark.path) mark.kind) (marks_in trees) k d l
+      let mark = get_or (marks_in lines) k d in
+      let some = is_counted (is_at shown (shown mark.path) mark.kind) (marks_in lines) k d l
       (ap₂ (λ (a b : Bool). a && b) (path_itself (shown mark.path)) (nat_eq_equiv.refl (kind_number mark.kind))) in
       let once = h.once (shown mark.path) mark.kind in
       let rows = rows_of_node mark in
       omega (arith, some, once, rows)
 
-  pub nodes_sum : sum_by (λ entry. entry.nodes) survey ≡ length (marks_in trees)
+  pub nodes_sum : sum_by (λ entry. entry.nodes) survey ≡ length (marks_in lines)
   nodes_sum =
-      same_sums (λ (entry : Entry). entry.nodes) (λ entry. count_by (is_at shown entry.path entry.kind) (marks_in trees)) survey h.nodes
-      ∙ crossed (λ (entry : Entry). is_at shown entry.path entry.kind) survey (marks_in trees)
-      ∙ same_sums (λ mark. count_by (λ entry. is_at shown entry.path entry.kind mark) survey) (λ mark. 1) (marks_in trees) is_there
-      ∙ ones (marks_in trees)
+      same_sums (λ (entry : Entry). entry.nodes) (λ entry. count_by (is_at shown entry.path entry.kind) (marks_in lines)) survey h.nodes
+      ∙ crossed (λ (entry : Entry). is_at shown entry.path entry.kind) survey (marks_in lines)
+      ∙ same_sums (λ mark. count_by (λ entry. is_at shown entry.path entry.kind mark) survey) (λ mark. 1) (marks_in lines) is_there
+      ∙ ones (marks_in lines)
 
   -- a row is of a node that is shown by its path
-  row_found : (k : ℕ) (d : Entry) → k < length survey → Any (λ mark. is_at shown (get_or survey k d).path (get_or survey k d).kind mark ≡ true) (marks_in trees)
+  row_found : (k : ℕ) (d : Entry) → k < length survey → Any (λ mark. is_at shown (get_or survey k d).path (get_or survey k d).kind mark ≡ true) (marks_in lines)
   row_found k d l =
       let entry = get_or survey k d in
       let there = is_counted (λ (other : Entry). path_equal entry.path other.path && same_kind entry.kind other.kind) survey k d l
       (ap₂ (λ (a b : Bool). a && b) (path_itself entry.path) (nat_eq_equiv.refl (kind_number entry.kind))) in
       let once = h.once entry.path entry.kind in
-      is_found (is_at shown entry.path entry.kind) (marks_in trees) (let some : 1 ≤ nodes_at shown trees entry.path entry.kind = omega (arith, there, once) in some)
+      is_found (is_at shown entry.path entry.kind) (marks_in lines) (let some : 1 ≤ nodes_at shown lines entry.path entry.kind = omega (arith, there, once) in some)
 
 -- a path is shown by what it is folded to
 stands : (fold : ℕ) (paths : List Path) (stride : Stride) → stands_for (folded_stride fold paths stride) stride ≡ true
@@ -119,18 +118,18 @@ folded_fits fold paths [] = refl
 folded_fits fold paths (stride ∷ rest) =
     ap₂ (λ (a b : Bool). a && b) (stands fold paths stride) (folded_fits fold (rests_under (folded_stride fold paths stride) paths) rest)
 
-module _ (fold : ℕ) (trees : List Tree) where
-  of_node : (entry : Entry) → Any (λ mark. is_at (shown_by fold trees) entry.path entry.kind mark ≡ true) (marks_in trees)
-      → Any (λ mark. (fits entry.path mark.path ≡ true) × (mark.kind ≡ entry.kind)) (marks_in trees)
+module _ (fold : ℕ) (lines : List Line) where
+  of_node : (entry : Entry) → Any (λ mark. is_at (shown_by fold lines) entry.path entry.kind mark ≡ true) (marks_in lines)
+      → Any (λ mark. (fits entry.path mark.path ≡ true) × (mark.kind ≡ entry.kind)) (marks_in lines)
   of_node entry found =
       let mark = found.1 in
-      let parts = and_parts (path_equal entry.path (shown_by fold trees mark.path)) (same_kind entry.kind mark.kind) found.4 in (
+      let parts = and_parts (path_equal entry.path (shown_by fold lines mark.path)) (same_kind entry.kind mark.kind) found.4 in (
         found.0,
         mark,
         found.2,
         found.3,
-        (ap (λ path. fits path mark.path) (path_same entry.path (shown_by fold trees mark.path) parts.0) ∙ folded_fits fold (paths_in trees) mark.path, sym (kind_same entry.kind mark.kind parts.1)),
+        (ap (λ path. fits path mark.path) (path_same entry.path (shown_by fold lines mark.path) parts.0) ∙ folded_fits fold (paths_in lines) mark.path, sym (kind_same entry.kind mark.kind parts.1)),
       )
 
-  pub rows_of_nodes : (survey : List Entry) → IsSurvey fold trees survey → All (λ entry. Any (λ mark. (fits entry.path mark.path ≡ true) × (mark.kind ≡ entry.kind)) (marks_in trees)) survey
-  rows_of_nodes survey h = λ k d l. of_node (get_or survey k d) (row_found (shown_by fold trees) trees survey h k d l)
+  pub rows_of_nodes : (survey : List Entry) → IsSurvey fold lines survey → All (λ entry. Any (λ mark. (fits entry.path mark.path ≡ true) × (mark.kind ≡ entry.kind)) (marks_in lines)) survey
+  rows_of_nodes survey h = λ k d l. of_node (get_or survey k d) (row_found (shown_by fold lines) lines survey h k d l)

@@ -1,19 +1,18 @@
 -- A tree folds the objects after which the paths of texts go on by many names.
-use Rattle.std.proofs.Common.{◌≡◌, ◌∙◌, ◌&&◌, ◌||◌, ℕ, zero, suc, ◌+◌, ◌<◌, ◌⊎◌, inl, inr, List, [], ◌∷◌, ◌++◌, length, get_or, map, Bool, true, false, cond, ap, ap₂, refl, sym, subst, arith, append-nil, append_assoc}
-use Rattle.std.specs.Prelude.{All, Err, IfOk, Ok, Result, count_by, if◌then◌else◌}
+use Rattle.std.proofs.Common.{◌≡◌, ◌∙◌, ◌&&◌, ◌||◌, ℕ, zero, suc, ◌+◌, ◌<◌, ◌⊎◌, inl, inr, List, [], ◌∷◌, ◌++◌, length, get_or, map, Bool, true, false, cond, ap, ap₂, refl, sym, subst, arith, append-nil}
+use Rattle.std.specs.Prelude.{All, Err, IfOk, Ok, Result, count_by, flat_map, if◌then◌else◌}
 use Rattle.std.specs.List.{list_any}
 use Rattle.std.proofs.lemmas.Bool.{and_from, cases_Bool, eq-eqb, or_parts}
-use Rattle.std.proofs.lemmas.List.{get_or-map, length-map, map-append, map_push}
+use Rattle.std.proofs.lemmas.List.{get_or-map, length-map, map-append}
 use Rattle.std.proofs.lemmas.List.Concat.{flat_map-append}
 use Rattle.std.proofs.lemmas.List.Sums.{sum_by-append, sum_by-cons}
-use Rattle.jp_model.specs.Json.Tree.{Tree as Text}
-use Rattle.jp_model.specs.Meaning.Nodes.{Node, root_node, subtree}
+use Rattle.jp_model.specs.Meaning.Nodes.{Node, subtree}
 use Rattle.jp_model.specs.Steps.{Step, name_step, index_step}
 use Rattle.jp_survey.specs.Counts.{Counted, nodes_of, passes, sum_where}
 use Rattle.jp_survey.specs.Foldings.{Refolds, folded_by, is_over}
 use Rattle.jp_survey.specs.Folds.{folded}
 use Rattle.jp_survey.specs.Justified.{AreFolds, IsJustified, StayJustified, WithPath}
-use Rattle.jp_survey.specs.Paths.{Mark, Path, kind_number, mark_of, marks_of, path_equal, same_kind, strides_of}
+use Rattle.jp_survey.specs.Paths.{Line, Mark, Path, kind_number, mark_of, marks_of, path_equal, same_kind, strides_of}
 use Rattle.jp_survey.specs.Places.{AreApart, ArePlaces, folds_of, has_link, has_path, names_in, path_at, paths_of, root_link, stride_in, with_link}
 use Rattle.jp_survey.specs.Seen.{AreJustified, AreJustifiedBeside, HasSeen, paths_beside}
 use Rattle.jp_survey.specs.Surveys.{is_at, is_folded, marks_in, paths_in}
@@ -25,39 +24,28 @@ use Rattle.jp_survey.specs.declared.links.Link.{Link}
 use Rattle.jp_survey.specs.declared.tree.Tree.{Tree}
 use Rattle.jp_survey.proofs.Equalities.{path_itself}
 use Rattle.jp_survey.proofs.Folds.{folded_is}
-use Rattle.jp_survey.proofs.Justified.{are_folds, justified_node, justified_root}
+use Rattle.jp_survey.proofs.Justified.{are_folds, justified_root}
 use Rattle.jp_survey.proofs.Places.{grown_paths}
 use Rattle.jp_survey.proofs.Refolding.{refolded_counted}
 
 -- ---- a tree and the paths that were seen
 
 -- the root alone
-pub root_justified : (limit : ℕ) (trees : List Text) (names : List (List ℕ)) (links : List Link) → links ≡ root_link ∷ []
-    → IsJustified limit (paths_in trees) (paths_of names links) (folds_of names links)
-root_justified limit trees names links is =
-    subst (λ (links : List Link). IsJustified limit (paths_in trees) (paths_of names links) (folds_of names links)) (sym is) (justified_root limit (paths_in trees) names)
+pub root_justified : (limit : ℕ) (lines : List Line) (names : List (List ℕ)) (links : List Link) → links ≡ root_link ∷ []
+    → IsJustified limit (paths_in lines) (paths_of names links) (folds_of names links)
+root_justified limit lines names links is =
+    subst (λ (links : List Link). IsJustified limit (paths_in lines) (paths_of names links) (folds_of names links)) (sym is) (justified_root limit (paths_in lines) names)
 
-pub text_begins_justified : (limit : ℕ) (trees : List Text) (tree : Tree) → AreJustified limit trees tree → AreJustifiedBeside limit trees [] tree
-text_begins_justified limit trees tree h = subst (λ (seen : List Path). IsJustified limit seen (tree_paths tree) (tree_folds tree)) (sym (append-nil (paths_in trees))) h
+pub text_begins_justified : (limit : ℕ) (lines : List Line) (tree : Tree) → AreJustified limit lines tree → AreJustifiedBeside limit lines [] tree
+text_begins_justified limit lines tree h = subst (λ (seen : List Path). IsJustified limit seen (tree_paths tree) (tree_folds tree)) (sym (append-nil (paths_in lines))) h
 
--- a node has come, and its place is there or added
-pub node_justified : (limit : ℕ) (trees : List Text) (marks : List Mark) (mark : Mark) (old mid : Tree) → WithPath (tree_paths old) (folded_by (tree_folds old) mark.path) (tree_paths mid)
-    → tree_folds mid ≡ tree_folds old → AreJustifiedBeside limit trees marks old → AreJustifiedBeside limit trees (marks ++ mark ∷ []) mid
-node_justified limit trees marks mark old mid more folds h =
-    let seen : paths_beside trees marks ++ mark.path ∷ [] ≡ paths_beside trees (marks ++ mark ∷ []) =
-    append_assoc (paths_in trees) (map (λ (m : Mark). m.path) marks) (mark.path ∷ [])
-    ∙ ap (λ (more : List Path). paths_in trees ++ more) (sym (map_push (λ (m : Mark). m.path) marks mark)) in
-    subst (λ (f : List Path). IsJustified limit (paths_beside trees (marks ++ mark ∷ [])) (tree_paths mid) f) (sym folds)
-    (subst (λ (all : List Path). IsJustified limit all (tree_paths mid) (tree_folds old)) seen
-    (justified_node limit (paths_beside trees marks) (tree_paths old) (tree_paths mid) (tree_folds old) mark.path more h))
-
-pub text_ends_justified : (limit : ℕ) (trees : List Text) (t : Text) (tree : Tree) → AreJustifiedBeside limit trees (marks_of t) tree → AreJustified limit (trees ++ t ∷ []) tree
-text_ends_justified limit trees t tree h = subst (λ (seen : List Path). IsJustified limit seen (tree_paths tree) (tree_folds tree)) (sym all) h
+pub text_ends_justified : (limit : ℕ) (lines : List Line) (t : Line) (tree : Tree) → AreJustifiedBeside limit lines (marks_of t) tree → AreJustified limit (lines ++ t ∷ []) tree
+text_ends_justified limit lines t tree h = subst (λ (seen : List Path). IsJustified limit seen (tree_paths tree) (tree_folds tree)) (sym all) h
   where
-    all : paths_in (trees ++ t ∷ []) ≡ paths_beside trees (marks_of t)
+    all : paths_in (lines ++ t ∷ []) ≡ paths_beside lines (marks_of t)
     all =
-        ap (map (λ (m : Mark). m.path)) (flat_map-append marks_of trees (t ∷ []) ∙ ap (λ (ms : List Mark). marks_in trees ++ ms) (append-nil (marks_of t)))
-        ∙ map-append (λ (m : Mark). m.path) (marks_in trees) (marks_of t)
+        ap (map (λ (m : Mark). m.path)) (flat_map-append marks_of lines (t ∷ []) ∙ ap (λ (ms : List Mark). marks_in lines ++ ms) (append-nil (marks_of t)))
+        ∙ map-append (λ (m : Mark). m.path) (marks_in lines) (marks_of t)
 
 -- ---- a link that is added where it is new
 
@@ -106,24 +94,24 @@ some_count p (x ∷ xs) (suc k) d l e =
     omega (arith, both, rest)
 
 -- each node that was counted is at the place of its path
-pub counted_placed : (shown : Path → Path) (trees : List Text) (lines : ℕ) (paths : List Path) (places : List PlaceCounts) → Counted shown trees lines paths places
-    → All (λ path. has_path paths (shown path) ≡ true) (paths_in trees)
-counted_placed shown trees lines paths places h k d l = by (cases_Bool (has_path paths (shown mark.path)))
+pub counted_placed : (shown : Path → Path) (lines : List Line) (newest : ℕ) (paths : List Path) (places : List PlaceCounts) → Counted shown lines newest paths places
+    → All (λ path. has_path paths (shown path) ≡ true) (paths_in lines)
+counted_placed shown lines newest paths places h k d l = by (cases_Bool (has_path paths (shown mark.path)))
   where
     mark : Mark
-    mark = get_or (marks_in trees) k (record { path = d; kind = kinds.Null })
+    mark = get_or (marks_in lines) k (record { path = d; kind = kinds.Null })
 
-    within : k < length (marks_in trees)
-    within = let many = length-map (marks_in trees) (λ (m : Mark). m.path) in omega (arith, many, l)
+    within : k < length (marks_in lines)
+    within = let many = length-map (marks_in lines) (λ (m : Mark). m.path) in omega (arith, many, l)
 
-    is : get_or (paths_in trees) k d ≡ mark.path
-    is = get_or-map (λ (m : Mark). m.path) (marks_in trees) k (record { path = d; kind = kinds.Null }) d within
+    is : get_or (paths_in lines) k d ≡ mark.path
+    is = get_or-map (λ (m : Mark). m.path) (marks_in lines) k (record { path = d; kind = kinds.Null }) d within
 
-    some : 0 < count_by (passes shown (path_equal (shown mark.path)) mark.kind) (marks_in trees)
-    some = some_count (passes shown (path_equal (shown mark.path)) mark.kind) (marks_in trees) k (record { path = d; kind = kinds.Null }) within
+    some : 0 < count_by (passes shown (path_equal (shown mark.path)) mark.kind) (marks_in lines)
+    some = some_count (passes shown (path_equal (shown mark.path)) mark.kind) (marks_in lines) k (record { path = d; kind = kinds.Null }) within
         (and_from (path_equal (shown mark.path) (shown mark.path)) (same_kind mark.kind mark.kind) (path_itself (shown mark.path)) (eq-eqb (kind_number mark.kind) (kind_number mark.kind) refl))
 
-    by : ((has_path paths (shown mark.path) ≡ true) ⊎ (has_path paths (shown mark.path) ≡ false)) → has_path paths (shown (get_or (paths_in trees) k d)) ≡ true
+    by : ((has_path paths (shown mark.path) ≡ true) ⊎ (has_path paths (shown mark.path) ≡ false)) → has_path paths (shown (get_or (paths_in lines) k d)) ≡ true
     by (inl e) = ap (λ (path : Path). has_path paths (shown path)) is ∙ e
     by (inr e) =
         let none = sum_none (nodes_of mark.kind) (path_equal (shown mark.path)) paths places e in
@@ -150,21 +138,21 @@ count_alike p q same (n ∷ nodes) =
     ∙ (ap₂ (λ (b : Bool) (rest : ℕ). cond b 1 0 + rest) (same n) (count_alike p q same nodes)
     ∙ sym (sum_by-cons (λ (m : Mark). cond (q m) 1 0) (mark_of n) (map mark_of nodes)))
 
-count_all : (p q : Mark → Bool) → ((n : Node) → p (mark_of n) ≡ q (mark_of n)) → (trees : List Text) → count_by p (marks_in trees) ≡ count_by q (marks_in trees)
+count_all : (p q : Mark → Bool) → ((n : Node) → p (mark_of n) ≡ q (mark_of n)) → (lines : List Line) → count_by p (marks_in lines) ≡ count_by q (marks_in lines)
 count_all p q same [] = refl
-count_all p q same (t ∷ trees) =
-    sum_by-append (λ (m : Mark). cond (p m) 1 0) (marks_of t) (marks_in trees)
-    ∙ (ap₂ (λ (m n : ℕ). m + n) (count_alike p q same (subtree (root_node t))) (count_all p q same trees)
-    ∙ sym (sum_by-append (λ (m : Mark). cond (q m) 1 0) (marks_of t) (marks_in trees)))
+count_all p q same (t ∷ lines) =
+    sum_by-append (λ (m : Mark). cond (p m) 1 0) (marks_of t) (marks_in lines)
+    ∙ (ap₂ (λ (m n : ℕ). m + n) (count_alike p q same (flat_map subtree t)) (count_all p q same lines)
+    ∙ sym (sum_by-append (λ (m : Mark). cond (q m) 1 0) (marks_of t) (marks_in lines)))
 
-pub counted_alike : (shown other : Path → Path) → ((path : Path) → is_folded path ≡ false → shown path ≡ other path) → (trees : List Text) (lines : ℕ) (paths : List Path) (places : List PlaceCounts)
-    → Counted shown trees lines paths places → Counted other trees lines paths places
-counted_alike shown other same trees lines paths places h = record {
+pub counted_alike : (shown other : Path → Path) → ((path : Path) → is_folded path ≡ false → shown path ≡ other path) → (lines : List Line) (newest : ℕ) (paths : List Path) (places : List PlaceCounts)
+    → Counted shown lines newest paths places → Counted other lines newest paths places
+counted_alike shown other same lines newest paths places h = record {
   nodes = λ test kind. h.nodes test kind
-      ∙ count_all (passes shown test kind) (passes other test kind) (λ n. ap (λ (path : Path). test path && same_kind kind (mark_of n).kind) (at n)) trees;
+      ∙ count_all (passes shown test kind) (passes other test kind) (λ n. ap (λ (path : Path). test path && same_kind kind (mark_of n).kind) (at n)) lines;
   in_lines = λ path kind plain. h.in_lines path kind plain
-      ∙ (λ j. count_by (λ (t : Text). any_alike (is_at shown path kind) (is_at other path kind)
-      (λ n. ap (λ (p : Path). path_equal path p && same_kind kind (mark_of n).kind) (at n)) (subtree (root_node t)) j) trees);
+      ∙ (λ j. count_by (λ (t : Line). any_alike (is_at shown path kind) (is_at other path kind)
+      (λ n. ap (λ (p : Path). path_equal path p && same_kind kind (mark_of n).kind) (at n)) (flat_map subtree t) j) lines);
   last = h.last;
 }
   where
@@ -174,29 +162,29 @@ counted_alike shown other same trees lines paths places h = record {
 -- ---- in the end
 
 module _ (limit : ℕ) (names : List (List ℕ)) (links : List Link) (h : ArePlaces names links) (apart : AreApart names links)
-    (none : (place : ℕ) → place < length links → is_over limit links place ≡ false) (trees : List Text) (lines : ℕ) (places : List PlaceCounts)
-    (counted : Counted (folded_by (folds_of names links)) trees lines (paths_of names links) places)
-    (was : IsJustified limit (paths_in trees) (paths_of names links) (folds_of names links)) where
-  pub counted_folds : AreFolds limit (paths_in trees) (folds_of names links)
-  counted_folds = are_folds names links h limit apart none (paths_in trees) (counted_placed (folded_by (folds_of names links)) trees lines (paths_of names links) places counted) was
+    (none : (place : ℕ) → place < length links → is_over limit links place ≡ false) (lines : List Line) (newest : ℕ) (places : List PlaceCounts)
+    (counted : Counted (folded_by (folds_of names links)) lines newest (paths_of names links) places)
+    (was : IsJustified limit (paths_in lines) (paths_of names links) (folds_of names links)) where
+  pub counted_folds : AreFolds limit (paths_in lines) (folds_of names links)
+  counted_folds = are_folds names links h limit apart none (paths_in lines) (counted_placed (folded_by (folds_of names links)) lines newest (paths_of names links) places counted) was
 
   -- the nodes are counted at the places of their paths, as these are folded from the top down
-  pub counted_folded : Counted (folded limit (paths_in trees)) trees lines (paths_of names links) places
+  pub counted_folded : Counted (folded limit (paths_in lines)) lines newest (paths_of names links) places
   counted_folded =
-      counted_alike (folded_by (folds_of names links)) (folded limit (paths_in trees)) (folded_is limit (paths_in trees) (folds_of names links) counted_folds)
-      trees lines (paths_of names links) places counted
+      counted_alike (folded_by (folds_of names links)) (folded limit (paths_in lines)) (folded_is limit (paths_in lines) (folds_of names links) counted_folds)
+      lines newest (paths_of names links) places counted
 
 -- and so they are once no object of a tree is to be folded any more
-pub folded_seen : {E : Type 0} (r : Result Folded E) (limit : ℕ) (trees : List Text) (tree : Tree) → HasSeen limit trees tree
+pub folded_seen : {E : Type 0} (r : Result Folded E) (limit : ℕ) (lines : List Line) (tree : Tree) → HasSeen limit lines tree
     → IfOk r (λ folded. Refolds (names_of tree) (links_of tree) tree.counts.places.items folded.links.links.keys folded.counts.places.items)
     → IfOk r (λ folded. AreApart (names_of tree) folded.links.links.keys) → IfOk r (λ folded. StayJustified limit (names_of tree) (links_of tree) folded.links.links.keys)
-    → IfOk r (λ folded. (place : ℕ) → place < length folded.links.links.keys → is_over limit folded.links.links.keys place ≡ false) → IfOk r (HasCounted limit (names_of tree) trees)
-folded_seen (Ok folded) limit trees tree seen refolds apart justified none =
+    → IfOk r (λ folded. (place : ℕ) → place < length folded.links.links.keys → is_over limit folded.links.links.keys place ≡ false) → IfOk r (HasCounted limit (names_of tree) lines)
+folded_seen (Ok folded) limit lines tree seen refolds apart justified none =
     let names = names_of tree in let links = links_of tree in let next = folded.links.links.keys in let counts = folded.counts.places.items in
-    let counted = refolded_counted names links next tree.counts.places.items counts trees tree.lines refolds apart seen.counted in
+    let counted = refolded_counted names links next tree.counts.places.items counts lines tree.lines refolds apart seen.counted in
     record {
       places = refolds.places;
-      lines = tree.lines;
-      counted = counted_folded limit names next refolds.places apart none trees tree.lines counts counted (justified (paths_in trees) seen.justified);
+      newest = tree.lines;
+      counted = counted_folded limit names next refolds.places apart none lines tree.lines counts counted (justified (paths_in lines) seen.justified);
     }
-folded_seen (Err e) limit trees tree seen refolds apart justified none = refolds
+folded_seen (Err e) limit lines tree seen refolds apart justified none = refolds

@@ -5,10 +5,9 @@ use Rattle.std.specs.List.{list_any}
 use Rattle.std.proofs.lemmas.List.{get_or_append_left}
 use Rattle.std.proofs.lemmas.List.Elements.{All-tail}
 use Rattle.std.proofs.lemmas.List.Sums.{sum_by-cons}
-use Rattle.jp_model.specs.Json.Tree.{Tree}
 use Rattle.jp_survey.specs.Counts.{Counted}
 use Rattle.jp_survey.specs.Entries.{IsListing}
-use Rattle.jp_survey.specs.Paths.{Mark, Path, marks_of, path_equal}
+use Rattle.jp_survey.specs.Paths.{Line, Mark, Path, marks_of, path_equal}
 use Rattle.jp_survey.specs.Surveys.{Entry, IsSurveyBy, is_at, is_folded, lines_at, marks_in, nodes_at, told_lines}
 use Rattle.jp_survey.specs.declared.count.PlaceCounts.{PlaceCounts}
 use Rattle.jp_survey.specs.declared.kind.NodeKind.{NodeKind}
@@ -23,9 +22,9 @@ told_alike path few many same = by (is_folded path) refl
     by true e = refl
     by false e = ap (λ (n : ℕ). Some n) (same e)
 
-pub survey_of_listing : (shown : Path → Path) (trees : List Tree) (lines : ℕ) (paths : List Path) (counts : List PlaceCounts) (survey : List Entry)
-    → IsListing paths counts survey → Counted shown trees lines paths counts → IsSurveyBy shown trees survey
-survey_of_listing shown trees lines paths counts survey listed counted = record {
+pub survey_of_listing : (shown : Path → Path) (lines : List Line) (newest : ℕ) (paths : List Path) (counts : List PlaceCounts) (survey : List Entry)
+    → IsListing paths counts survey → Counted shown lines newest paths counts → IsSurveyBy shown lines survey
+survey_of_listing shown lines newest paths counts survey listed counted = record {
   nodes = λ i d l. let entry = get_or survey i d in listed.nodes i d l ∙ counted.nodes (path_equal entry.path) entry.kind;
   lines = λ i d l. let entry = get_or survey i d in listed.lines i d l ∙ told_alike entry.path _ _ (counted.in_lines entry.path entry.kind);
   once = λ path kind. listed.once path kind ∙ ap (min 1) (counted.nodes (path_equal path) kind);
@@ -61,23 +60,23 @@ module _ (shown other : Path → Path) where
     seen_alike : (marks : List Mark) → All (λ mark. shown mark.path ≡ other mark.path) marks → All (λ mark. is_at shown path kind mark ≡ is_at other path kind mark) marks
     seen_alike marks same i d l = ap (λ (p : Path). is_at (λ _. p) path kind (get_or marks i d)) (same i d l)
 
-    lines_alike : (trees : List Tree) → All (λ mark. shown mark.path ≡ other mark.path) (marks_in trees) → lines_at shown trees path kind ≡ lines_at other trees path kind
+    lines_alike : (lines : List Line) → All (λ mark. shown mark.path ≡ other mark.path) (marks_in lines) → lines_at shown lines path kind ≡ lines_at other lines path kind
     lines_alike [] same = refl
-    lines_alike (t ∷ trees) same =
-        let first = first_part (λ (mark : Mark). shown mark.path ≡ other mark.path) (marks_of t) (marks_in trees) same in
-        let rest = last_part (λ (mark : Mark). shown mark.path ≡ other mark.path) (marks_of t) (marks_in trees) same in
-        sum_by-cons (λ (text : Tree). cond (list_any (is_at shown path kind) (marks_of text)) 1 0) t trees
-        ∙ ap₂ (λ (b : Bool) (n : ℕ). cond b 1 0 + n) (any_alike (is_at shown path kind) (is_at other path kind) (marks_of t) (seen_alike (marks_of t) first)) (lines_alike trees rest)
-        ∙ sym (sum_by-cons (λ (text : Tree). cond (list_any (is_at other path kind) (marks_of text)) 1 0) t trees)
+    lines_alike (t ∷ lines) same =
+        let first = first_part (λ (mark : Mark). shown mark.path ≡ other mark.path) (marks_of t) (marks_in lines) same in
+        let rest = last_part (λ (mark : Mark). shown mark.path ≡ other mark.path) (marks_of t) (marks_in lines) same in
+        sum_by-cons (λ (text : Line). cond (list_any (is_at shown path kind) (marks_of text)) 1 0) t lines
+        ∙ ap₂ (λ (b : Bool) (n : ℕ). cond b 1 0 + n) (any_alike (is_at shown path kind) (is_at other path kind) (marks_of t) (seen_alike (marks_of t) first)) (lines_alike lines rest)
+        ∙ sym (sum_by-cons (λ (text : Line). cond (list_any (is_at other path kind) (marks_of text)) 1 0) t lines)
 
   -- a survey by one way to show paths is one by another that shows those of all nodes alike
-  pub survey_shown : (trees : List Tree) (survey : List Entry) → All (λ mark. shown mark.path ≡ other mark.path) (marks_in trees) → IsSurveyBy shown trees survey → IsSurveyBy other trees survey
-  survey_shown trees survey same h = record {
+  pub survey_shown : (lines : List Line) (survey : List Entry) → All (λ mark. shown mark.path ≡ other mark.path) (marks_in lines) → IsSurveyBy shown lines survey → IsSurveyBy other lines survey
+  survey_shown lines survey same h = record {
     nodes = λ i d l. let entry = get_or survey i d in h.nodes i d l ∙ nodes_alike entry.path entry.kind;
-    lines = λ i d l. let entry = get_or survey i d in h.lines i d l ∙ ap (told_lines entry.path) (lines_alike entry.path entry.kind trees same);
+    lines = λ i d l. let entry = get_or survey i d in h.lines i d l ∙ ap (told_lines entry.path) (lines_alike entry.path entry.kind lines same);
     once = λ path kind. h.once path kind ∙ ap (min 1) (nodes_alike path kind);
     order = h.order;
   }
     where
-      nodes_alike : (path : Path) (kind : NodeKind) → nodes_at shown trees path kind ≡ nodes_at other trees path kind
-      nodes_alike path kind = count_alike (is_at shown path kind) (is_at other path kind) (marks_in trees) (seen_alike path kind (marks_in trees) same)
+      nodes_alike : (path : Path) (kind : NodeKind) → nodes_at shown lines path kind ≡ nodes_at other lines path kind
+      nodes_alike path kind = count_alike (is_at shown path kind) (is_at other path kind) (marks_in lines) (seen_alike path kind (marks_in lines) same)

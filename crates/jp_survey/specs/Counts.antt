@@ -1,8 +1,7 @@
 -- How many nodes of each kind are at places.
 use Rattle.std.specs.Prelude.{◌≡◌, ℕ, ◌+◌, ◌<◌, ◌≤◌, ◌==◌, ◌&&◌, List, [], ◌∷◌, length, slice_index_or, slice_set, Bool, false, true, count_by, cond, map, take, All, if◌then◌else◌}
 use Rattle.std.specs.List.{list_any}
-use Rattle.jp_model.specs.Json.Tree.{Tree}
-use Rattle.jp_survey.specs.Paths.{Mark, Path, path_equal, same_kind}
+use Rattle.jp_survey.specs.Paths.{Line, Mark, Path, path_equal, same_kind}
 use Rattle.jp_survey.specs.Places.{has_path, path_at}
 use Rattle.jp_survey.specs.Surveys.{is_at, is_folded, lines_at, marks_in}
 use Rattle.jp_survey.specs.declared.count.Count.{Count}
@@ -67,19 +66,19 @@ sum_where number test (path ∷ paths) (place ∷ places) = cond (test path) (nu
 abbrev pub passes : (shown : Path → Path) → (Path → Bool) → NodeKind → Mark → Bool
 passes shown test kind mark = test (shown mark.path) && same_kind kind mark.kind
 
--- The nodes of texts are counted at the places of their paths, as these are shown: of those paths that pass any test there are as
--- many, and in as many texts where no object above is folded. No line that was counted has a greater number than `lines`.
-pub record Counted (shown : Path → Path) (trees : List Tree) (lines : ℕ) (paths : List Path) (places : List PlaceCounts) : Type 0 where
-  pub nodes : (test : Path → Bool) (kind : NodeKind) → sum_where (nodes_of kind) test paths places ≡ count_by (passes shown test kind) (marks_in trees)
-  pub in_lines : (path : Path) (kind : NodeKind) → is_folded path ≡ false → sum_where (lines_of kind) (path_equal path) paths places ≡ lines_at shown trees path kind
-  pub last : (k : ℕ) (kind : NodeKind) → k < length places → last_of kind (counts_at places k) ≤ lines
+-- The nodes of lines are counted at the places of their paths, as these are shown: of those paths that pass any test there are as
+-- many, and in as many lines where no object above is folded. No line that was counted has a greater number than `newest`.
+pub record Counted (shown : Path → Path) (lines : List Line) (newest : ℕ) (paths : List Path) (places : List PlaceCounts) : Type 0 where
+  pub nodes : (test : Path → Bool) (kind : NodeKind) → sum_where (nodes_of kind) test paths places ≡ count_by (passes shown test kind) (marks_in lines)
+  pub in_lines : (path : Path) (kind : NodeKind) → is_folded path ≡ false → sum_where (lines_of kind) (path_equal path) paths places ≡ lines_at shown lines path kind
+  pub last : (k : ℕ) (kind : NodeKind) → k < length places → last_of kind (counts_at places k) ≤ newest
 
--- The same, and of one more text the nodes that were seen so far are counted too, in the line of a number.
-pub record CountedBeside (shown : Path → Path) (trees : List Tree) (line : ℕ) (marks : List Mark) (paths : List Path) (places : List PlaceCounts) : Type 0 where
+-- The same, and of one more line the nodes that were seen so far are counted too, in the line of a number.
+pub record CountedBeside (shown : Path → Path) (lines : List Line) (line : ℕ) (marks : List Mark) (paths : List Path) (places : List PlaceCounts) : Type 0 where
   pub nodes : (test : Path → Bool) (kind : NodeKind)
-      → sum_where (nodes_of kind) test paths places ≡ count_by (passes shown test kind) (marks_in trees) + count_by (passes shown test kind) marks
+      → sum_where (nodes_of kind) test paths places ≡ count_by (passes shown test kind) (marks_in lines) + count_by (passes shown test kind) marks
   pub in_lines : (path : Path) (kind : NodeKind) → is_folded path ≡ false
-      → sum_where (lines_of kind) (path_equal path) paths places ≡ lines_at shown trees path kind + cond (list_any (is_at shown path kind) marks) 1 0
+      → sum_where (lines_of kind) (path_equal path) paths places ≡ lines_at shown lines path kind + cond (list_any (is_at shown path kind) marks) 1 0
   pub last : (k : ℕ) (kind : NodeKind) → k < length places
       → (last_of kind (counts_at places k) ≤ line) × ((last_of kind (counts_at places k) == line) ≡ list_any (is_at shown (path_at paths k) kind) marks)
   pub placed : All (λ mark. has_path paths (shown mark.path) ≡ true) marks

@@ -7,6 +7,8 @@ pub mod Counts
 pub mod Foldings
 pub mod Justified
 pub mod Trees
+pub mod Located
+pub mod Rows
 pub mod Seen
 pub mod Entries
 pub mod Texts

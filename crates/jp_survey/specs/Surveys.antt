@@ -9,25 +9,24 @@ use Rattle.std.specs.declared.cmp.Ordering.TheVariants.{Less, Equal, Greater}
 use Rattle.jp_model.specs.declared.Framing.TheVariants as framings
 use Rattle.jp_model.specs.Json.Reader.{status_of}
 use Rattle.jp_model.specs.Json.Status.{LineStatus, blank, refused, parsed}
-use Rattle.jp_model.specs.Json.Tree.{Tree}
 use Rattle.jp_survey.specs.Folds.{folded}
-use Rattle.jp_survey.specs.Paths.{Path, Stride, element, member, others, Mark, kind_number, marks_of, path_equal, same_kind}
+use Rattle.jp_survey.specs.Paths.{Line, Mark, Path, Stride, element, kind_number, marks_of, member, others, path_equal, same_kind, whole_line}
 use Rattle.jp_survey.specs.declared.kind.NodeKind.{NodeKind}
 
--- How many nodes of a kind have a path, and in how many texts there is one, where that is told.
+-- How many nodes of a kind have a path, and in how many lines there is one, where that is told.
 pub record Entry : Type 0 where
   pub path : Path
   pub kind : NodeKind
   pub nodes : ℕ
   pub lines : Option ℕ
 
--- what is seen of some texts
-abbrev pub marks_in : List Tree → List Mark
-marks_in trees = flat_map marks_of trees
+-- what is seen of some lines
+abbrev pub marks_in : List Line → List Mark
+marks_in lines = flat_map marks_of lines
 
 -- and the paths of their nodes
-abbrev pub paths_in : List Tree → List Path
-paths_in trees = map (λ mark. mark.path) (marks_in trees)
+abbrev pub paths_in : List Line → List Path
+paths_in lines = map (λ mark. mark.path) (marks_in lines)
 
 -- a path goes through an object that is folded
 abbrev pub is_others : Stride → Bool
@@ -38,7 +37,7 @@ is_others others = true
 abbrev pub is_folded : Path → Bool
 is_folded path = list_any is_others path
 
--- in how many texts a node is, where that is told: not below an object that is folded
+-- in how many lines a node is, where that is told: not below an object that is folded
 abbrev pub told_lines : Path → ℕ → Option ℕ
 told_lines path count = if is_folded path then None else Some count
 
@@ -64,38 +63,38 @@ entries_with path kind survey = count_by (λ entry. path_equal path entry.path &
 abbrev pub is_at : (shown : Path → Path) → Path → NodeKind → Mark → Bool
 is_at shown path kind mark = path_equal path (shown mark.path) && same_kind kind mark.kind
 
--- how many nodes of some texts are
-abbrev pub nodes_at : (shown : Path → Path) → List Tree → Path → NodeKind → ℕ
-nodes_at shown trees path kind = count_by (is_at shown path kind) (marks_in trees)
+-- how many nodes of some lines are
+abbrev pub nodes_at : (shown : Path → Path) → List Line → Path → NodeKind → ℕ
+nodes_at shown lines path kind = count_by (is_at shown path kind) (marks_in lines)
 
--- in how many texts one is
-abbrev pub lines_at : (shown : Path → Path) → List Tree → Path → NodeKind → ℕ
-lines_at shown trees path kind = count_by (λ t. list_any (is_at shown path kind) (marks_of t)) trees
+-- in how many lines one is
+abbrev pub lines_at : (shown : Path → Path) → List Line → Path → NodeKind → ℕ
+lines_at shown lines path kind = count_by (λ line. list_any (is_at shown path kind) (marks_of line)) lines
 
--- Entries tell of the nodes of texts, with their paths as they are shown: each has the number of its nodes and of their texts, each
+-- Entries tell of the nodes of lines, with their paths as they are shown: each has the number of its nodes and of their lines, each
 -- path and kind of a node has one entry and no other has any, and they stand in order.
-pub record IsSurveyBy (shown : Path → Path) (trees : List Tree) (survey : List Entry) : Type 0 where
-  pub nodes : All (λ entry. entry.nodes ≡ nodes_at shown trees entry.path entry.kind) survey
-  pub lines : All (λ entry. entry.lines ≡ told_lines entry.path (lines_at shown trees entry.path entry.kind)) survey
-  pub once : (path : Path) (kind : NodeKind) → entries_with path kind survey ≡ min 1 (nodes_at shown trees path kind)
+pub record IsSurveyBy (shown : Path → Path) (seen : List Line) (survey : List Entry) : Type 0 where
+  pub nodes : All (λ entry. entry.nodes ≡ nodes_at shown seen entry.path entry.kind) survey
+  pub lines : All (λ entry. entry.lines ≡ told_lines entry.path (lines_at shown seen entry.path entry.kind)) survey
+  pub once : (path : Path) (kind : NodeKind) → entries_with path kind survey ≡ min 1 (nodes_at shown seen path kind)
   pub order : IsSorted entry_cmp survey
 
 -- how the paths of nodes are shown: folded
-abbrev pub shown_by : (fold : ℕ) → List Tree → Path → Path
-shown_by fold trees = folded fold (paths_in trees)
+abbrev pub shown_by : (fold : ℕ) → List Line → Path → Path
+shown_by fold lines = folded fold (paths_in lines)
 
--- a survey of texts, in which objects of more names than `fold` are folded
-abbrev pub IsSurvey : (fold : ℕ) → List Tree → List Entry → Type 0
-IsSurvey fold trees survey = IsSurveyBy (shown_by fold trees) trees survey
+-- a survey of lines, in which objects of more names than `fold` are folded
+abbrev pub IsSurvey : (fold : ℕ) → List Line → List Entry → Type 0
+IsSurvey fold lines survey = IsSurveyBy (shown_by fold lines) lines survey
 
--- the text that a row is, where it is one
-abbrev pub text_in : LineStatus → List Tree
+-- the line that a row is, where it is a text
+abbrev pub text_in : LineStatus → List Line
 text_in blank = []
 text_in (refused fault) = []
-text_in (parsed t) = t ∷ []
+text_in (parsed t) = whole_line t ∷ []
 
--- the texts among rows (RFC 8259; profile)
-abbrev pub texts_in : List (List ℕ) → List Tree
+-- the lines among rows (RFC 8259; profile)
+abbrev pub texts_in : List (List ℕ) → List Line
 texts_in rows = flat_map (λ row. text_in (status_of framings.Lines row)) rows
 
 -- what came before some bytes that came last

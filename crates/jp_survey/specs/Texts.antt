@@ -2,14 +2,13 @@
 use Rattle.std.specs.Prelude.{true, false, ◌≡◌, ℕ, List, [], ◌∷◌, ◌++◌, flat_map, codes, decimal, encode_utf8_all, Bool, Option, Some, None, Result, Ok, Err, if◌then◌else◌}
 use Rattle.jp_devices.specs.Devices.{Begins, Device, Received}
 use Rattle.jp_form.specs.declared.form.Table.{Table}
-use Rattle.jp_model.specs.Json.Tree.{Tree}
 use Rattle.jp_model.specs.Meaning.Paths.{step_text}
 use Rattle.jp_model.specs.Rows.{line_feed}
 use Rattle.jp_model.specs.Steps.{name_step}
 use Rattle.jp_table.specs.Cells.{Cell, bare_cell, text_cell}
 use Rattle.jp_table.specs.Tables.{joined}
-use Rattle.jp_survey.specs.Paths.{Path, Stride, element, member, others, kind_text}
-use Rattle.jp_survey.specs.Surveys.{Entry, IsSurvey}
+use Rattle.jp_survey.specs.Paths.{Path, Stride, element, kind_text, member, others}
+use Rattle.jp_survey.specs.Surveys.{Entry}
 use Rattle.jp_survey.specs.declared.fault.SurveyFault.{SurveyFault}
 use Rattle.jp_survey.specs.declared.fault.SurveyFault.TheVariants as faults
 
@@ -51,14 +50,13 @@ names_text table wanted = if wanted then joined table column_cells ++ line_feed 
 abbrev pub survey_text : Table → Bool → List Entry → List ℕ
 survey_text table has_names survey = names_text table has_names ++ flat_map (entry_text table) survey
 
--- The writer received the text of the survey of the texts; a beginning of it where a write failed; and nothing where memory was
+-- The writer received the text of a survey for which this holds; a beginning of it where a write failed; and nothing where memory was
 -- refused.
-abbrev pub WritesSurvey : {W A : Type 0} → (W → Option (List ℕ)) → Device W → Device W → Result A SurveyFault → (fold : ℕ) → List Tree → Table → Bool → Type 0
-WritesSurvey contents old new (Ok done) fold trees table has_names =
-    (survey : List Entry) × IsSurvey fold trees survey × Received contents old new (survey_text table has_names survey)
-WritesSurvey contents old new (Err faults.Write) fold trees table has_names =
-    (survey : List Entry) × (part : List ℕ) × IsSurvey fold trees survey × Begins part (survey_text table has_names survey) × Received contents old new part
-WritesSurvey contents old new (Err faults.Memory) fold trees table has_names = new ≡ old
+abbrev pub WritesSurvey : {W A : Type 0} → (W → Option (List ℕ)) → Device W → Device W → Result A SurveyFault → (List Entry → Type 0) → Table → Bool → Type 0
+WritesSurvey contents old new (Ok done) Is table has_names = (survey : List Entry) × Is survey × Received contents old new (survey_text table has_names survey)
+WritesSurvey contents old new (Err faults.Write) Is table has_names =
+    (survey : List Entry) × (part : List ℕ) × Is survey × Begins part (survey_text table has_names survey) × Received contents old new part
+WritesSurvey contents old new (Err faults.Memory) Is table has_names = new ≡ old
 
 -- a write failed
 abbrev pub is_write_fault : {A : Type 0} → Result A SurveyFault → Bool

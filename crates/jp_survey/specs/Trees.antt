@@ -2,11 +2,10 @@
 use Rattle.std.specs.Prelude.{◌≡◌, ℕ, ◌<◌, List, ◌++◌, length, replicate, slice_get, slice_index_or, Some, true, false}
 use Rattle.jp_nodes.specs.Cursors.{index_of, name_of}
 use Rattle.jp_nodes.specs.declared.cursor.Cursor.{Cursor}
-use Rattle.jp_model.specs.Json.Tree.{Tree as Text}
 use Rattle.jp_model.specs.Meaning.Nodes.{Node, step_to}
 use Rattle.jp_survey.specs.Counts.{Counted, CountedBeside, no_counts}
-use Rattle.jp_survey.specs.Foldings.{folded_by}
-use Rattle.jp_survey.specs.Paths.{Mark, Path, Stride, stride_of, strides_of}
+use Rattle.jp_survey.specs.Foldings.{folded_below, folded_by}
+use Rattle.jp_survey.specs.Paths.{Line, Mark, Path, Stride, stride_of, strides_of}
 use Rattle.jp_survey.specs.Places.{AreApart, AreLinked, ArePlaces, IsKnown, folds_of, has_path, is_named, is_rest, is_start, names_in, path_at, paths_of}
 use Rattle.jp_survey.specs.Surveys.{shown_by}
 use Rattle.jp_survey.specs.declared.folding.Folded.{Folded}
@@ -61,21 +60,21 @@ pub record Leads (tree : Tree) (parent : ℕ) (step : Step) : Type 0 where
   pub told : (is_start step ≡ false) × (is_rest step ≡ false)
   pub apart : is_named step ≡ true → has_path (tree_folds tree) (path_at (tree_paths tree) parent) ≡ false
 
--- The places of the first nodes of a text are known: each has the path of its node.
-abbrev pub AreKnown : Tree → List Node → ℕ → Type 0
-AreKnown tree nodes n = (j : ℕ) (node : Node) → j < n → slice_get nodes j ≡ Some node
-    → (j < length tree.places.items) × IsPlaceAt tree (slice_index_or tree.places.items j 0) (folded_by (tree_folds tree) (strides_of node.location))
+-- The places of the first nodes of a text are known: each has the path of its node, which goes on from that of a place.
+abbrev pub AreKnown : Tree → (top : ℕ) → List Node → ℕ → Type 0
+AreKnown tree top nodes n = (j : ℕ) (node : Node) → j < n → slice_get nodes j ≡ Some node
+    → (j < length tree.places.items) × IsPlaceAt tree (slice_index_or tree.places.items j 0) (folded_below (tree_folds tree) (path_at (tree_paths tree) top) (strides_of node.location))
 
--- A tree has counted the nodes of texts, each at the place of its path.
-abbrev pub AreCounted : List Text → Tree → Type 0
-AreCounted trees tree = Counted (folded_by (tree_folds tree)) trees tree.lines (tree_paths tree) tree.counts.places.items
+-- A tree has counted the nodes of lines, each at the place of its path.
+abbrev pub AreCounted : List Line → Tree → Type 0
+AreCounted lines tree = Counted (folded_by (tree_folds tree)) lines tree.lines (tree_paths tree) tree.counts.places.items
 
--- The same, and some nodes of one more text.
-abbrev pub AreCountedBeside : List Text → (line : ℕ) → List Mark → Tree → Type 0
-AreCountedBeside trees line marks tree = CountedBeside (folded_by (tree_folds tree)) trees line marks (tree_paths tree) tree.counts.places.items
+-- The same, and some nodes of one more line.
+abbrev pub AreCountedBeside : List Line → (line : ℕ) → List Mark → Tree → Type 0
+AreCountedBeside lines line marks tree = CountedBeside (folded_by (tree_folds tree)) lines line marks (tree_paths tree) tree.counts.places.items
 
--- Places have counted the nodes of texts, each at the place of its path as a survey shows it.
-pub record HasCounted (fold : ℕ) (names : List (List ℕ)) (trees : List Text) (folded : Folded) : Type 0 where
+-- Places have counted the nodes of lines, each at the place of its path as a survey shows it.
+pub record HasCounted (fold : ℕ) (names : List (List ℕ)) (lines : List Line) (folded : Folded) : Type 0 where
   pub places : ArePlaces names folded.links.links.keys
-  pub lines : ℕ
-  pub counted : Counted (shown_by fold trees) trees lines (paths_of names folded.links.links.keys) folded.counts.places.items
+  pub newest : ℕ
+  pub counted : Counted (shown_by fold lines) lines newest (paths_of names folded.links.links.keys) folded.counts.places.items

@@ -14,15 +14,19 @@
 mod count;
 mod fault;
 mod folding;
+mod input;
 mod kind;
 pub mod laws;
 mod links;
 mod listing;
+mod location;
 mod survey;
 mod text;
 mod tree;
+mod walk;
 
 pub use fault::SurveyFault;
+pub use input::Surveyed;
 pub use survey::Survey;
 
 #[cfg(test)]

@@ -1,38 +1,32 @@
 //! A writer of rows that surveys them.
 
-ghost use Rattle.std.specs.Prelude.{◌≡◌, ◌++◌, [], ℕ, List, IfOk, IfSome, OnOk, false};
+ghost use Rattle.std.specs.Prelude.{◌≡◌, ◌++◌, [], ℕ, List, IfOk, IfSome, false};
 ghost use Rattle.std.specs.Io.{WritesAtMost};
 ghost use Rattle.std.proofs.Props.{props};
 ghost use Rattle.jp_devices.specs.Devices.{Grew};
-ghost use Rattle.jp_lines.specs.Batches.{IsBatchLine};
-ghost use Rattle.jp_model.specs.declared.Framing.TheVariants as framings;
-ghost use Rattle.jp_model.specs.Json.Reader.{status_of};
-ghost use Rattle.jp_model.specs.Json.Tree.{Tree as Text};
 ghost use Rattle.jp_model.specs.Lines.{open_line, text_lines};
-ghost use Rattle.jp_survey.specs.Places.{IsKnown-prop};
-ghost use Rattle.jp_survey.specs.Seen.{HasSeen};
-ghost use Rattle.jp_survey.specs.Surveys.{Entry, IsSurvey, before_last, text_in, texts_in};
+ghost use Rattle.jp_survey.specs.Places.{ArePlaces, IsKnown-prop};
+ghost use Rattle.jp_survey.specs.Seen.{HasTaken, IsSurveyed, IsTakenInto};
+ghost use Rattle.jp_survey.specs.Surveys.{Entry, before_last};
 ghost use Rattle.jp_survey.specs.Texts.{WritesSurvey, is_write_fault, survey_text};
-ghost use Rattle.jp_survey.specs.Trees.{HasCounted, IsTree, names_of};
+ghost use Rattle.jp_survey.specs.Trees.{IsTree, names_of};
+ghost use Rattle.jp_survey.specs.declared.input.Surveyed.TheVariants as kinds;
 
 use crate::fault::SurveyFault;
 use crate::folding::{Folded, fold_all};
+use crate::input::{Surveyed, count_rows};
 use crate::listing::{list_paths, list_rows};
 use crate::text::text_of;
 use crate::tree::Tree;
 use jp_devices::{Watched, write_whole};
 use jp_form::Table;
-use jp_lines::{BatchLine, BatchRoom, LineState};
-use jp_model::Framing;
+use jp_lines::BatchRoom;
 use memchr::memrchr;
 use std::alloc::{AllocError, Global};
 use std::io::{self, Sink, Write};
 
 /// How many bytes are read together at least.
 const LEAST: usize = 1 << 16;
-
-/// How many bytes the reader takes together at most.
-const MOST: usize = (1 << 32) - 1;
 
 /// The bytes up to the last line feed, and what follows it.
 fn cut_last(bytes: &[u8]) -> Option<(&[u8], &[u8])>
@@ -45,43 +39,17 @@ fn cut_last(bytes: &[u8]) -> Option<(&[u8], &[u8])>
     Some(bytes.split_at(last + 1))
 }
 
-/// Counts the nodes of a line.
-fn count_line(tree: &mut Tree, line: BatchLine<'_>) -> Result<(), AllocError>
-    requires line { IsBatchLine framings.Lines line }
-    requires tree { IsTree tree.old }
-    ensures tree { OnOk result (IsTree tree.new) }
-    ensures seen { (fold : ℕ) (trees : List Text) → HasSeen fold trees tree.old → OnOk result (HasSeen fold (trees ++ text_in (status_of framings.Lines line.entry.text.now)) tree.new) }
-{
-    match line.state {
-        LineState::Tree(view) => tree.count_text(view.root()),
-        LineState::Blank | LineState::Refused(_) => Ok(()),
-    }
-}
-
-/// Counts the nodes of lines.
-fn count_lines(room: &mut BatchRoom, tree: &mut Tree, bytes: &[u8]) -> Result<(), AllocError>
-    requires { IsTree tree.old }
-    ensures tree { OnOk result (IsTree tree.new) }
-    ensures seen { (fold : ℕ) (trees : List Text) → HasSeen fold trees tree.old → OnOk result (HasSeen fold (trees ++ texts_in (text_lines bytes.now)) tree.new) }
-{
-    if bytes.len() > MOST {
-        return Err(AllocError);
-    }
-    let batch = room.read(Framing::Lines, bytes)?;
-    for index in 0..batch.line_count() {
-        count_line(tree, batch.line(index))?;
-    }
-    Ok(())
-}
-
 /// The rows that came, each ended by a line feed, and what is in them. It is a writer, and a row may come in pieces.
 #[derive(Drop)]
 pub struct Survey {
     alloc: Global,
+    surveyed: Surveyed,
     /// How many names an object has at most that is not folded.
     fold: u64,
     room: BatchRoom,
     tree: Tree,
+    /// The number of the line of the row that was counted last, where rows tell of nodes one by one.
+    number: Vec<u8>,
     /// What came since rows were counted.
     fresh: Vec<u8>,
     /// How many bytes are to come before rows are counted again.
@@ -92,11 +60,11 @@ pub struct Survey {
     ghost whole: { is_full ≡ false → came.taken ≡ before_last came.taken fresh.items ++ fresh.items },
     ghost ended: { is_full ≡ false → open_line (before_last came.taken fresh.items) ≡ [] },
     ghost is_tree: { is_full ≡ false → IsTree tree } by { Prim.hlevel (props, IsKnown-prop) },
-    ghost seen: { is_full ≡ false → HasSeen fold (texts_in (text_lines (before_last came.taken fresh.items))) tree },
+    ghost taken: { is_full ≡ false → HasTaken surveyed fold (text_lines (before_last came.taken fresh.items)) number.items tree },
 }
 
 impl Survey {
-    /// A survey of no row yet, in which an object is folded that has more than `fold` names.
+    /// A survey of no row yet, in which an object is folded that has more than `fold` names. Each row is to be the text of a line.
     ///
     /// # Errors
     ///
@@ -105,18 +73,51 @@ impl Survey {
         ensures came { IfOk result (λ survey. survey.came.taken ≡ []) }
         ensures full { IfOk result (λ survey. survey.is_full ≡ false) }
         ensures fold { IfOk result (λ survey. survey.fold ≡ fold) }
+        ensures surveyed { IfOk result (λ survey. survey.surveyed ≡ kinds.Lines) }
     {
         let tree = Tree::new(alloc, fold)?;
-        Ok(Survey {
+        Ok(Survey::over(alloc, Surveyed::Lines, fold, tree))
+    }
+
+    /// The same of nodes one by one. Each row is to have the number of a line, a colon, the normalized path of a node of it (RFC
+    /// 9535, section 2.7), a tab, and the node's text. Rows of a number that follow one another are of one line; an empty row parts
+    /// lines too.
+    ///
+    /// # Errors
+    ///
+    /// Memory ran out.
+    pub fn of_nodes(alloc: Global, fold: u64) -> Result<Survey, AllocError>
+        ensures came { IfOk result (λ survey. survey.came.taken ≡ []) }
+        ensures full { IfOk result (λ survey. survey.is_full ≡ false) }
+        ensures fold { IfOk result (λ survey. survey.fold ≡ fold) }
+        ensures surveyed { IfOk result (λ survey. survey.surveyed ≡ kinds.Nodes) }
+    {
+        let mut tree = Tree::new(alloc, fold)?;
+        tree.begin_line()?;
+        Ok(Survey::over(alloc, Surveyed::Nodes, fold, tree))
+    }
+
+    /// A survey of no row yet, with its tree.
+    fn over(alloc: Global, surveyed: Surveyed, fold: u64, tree: Tree) -> Survey
+        requires tree { IsTree tree }
+        requires taken { HasTaken surveyed fold [] [] tree }
+        ensures came { result.came.taken ≡ [] }
+        ensures full { result.is_full ≡ false }
+        ensures fold { result.fold ≡ fold }
+        ensures surveyed { result.surveyed ≡ surveyed }
+    {
+        Survey {
             alloc,
+            surveyed,
             fold,
             room: BatchRoom::new(alloc),
             tree,
+            number: Vec::new(alloc),
             fresh: Vec::new(alloc),
             wanted: LEAST,
             came: Watched::new(io::sink()),
             is_full: false,
-        })
+        }
     }
 
     /// Whether a write failed for want of memory.
@@ -130,6 +131,7 @@ impl Survey {
     fn count(&mut self) -> Result<(), AllocError>
         ensures came { self.new.came ≡ self.old.came }
         ensures fold { self.new.fold ≡ self.old.fold }
+        ensures surveyed { self.new.surveyed ≡ self.old.surveyed }
     {
         if self.is_full {
             return Err(AllocError);
@@ -140,7 +142,13 @@ impl Survey {
         };
         let rest = Vec::from_slice(alloc, left)?;
         self.is_full = true;
-        count_lines(&mut self.room, &mut self.tree, rows)?;
+        count_rows(
+            self.surveyed,
+            &mut self.room,
+            &mut self.tree,
+            &mut self.number,
+            rows,
+        )?;
         self.fresh = rest;
         self.is_full = false;
         Ok(())
@@ -152,6 +160,7 @@ impl Survey {
     fn make_room(&mut self) -> Result<(), AllocError>
         ensures came { self.new.came ≡ self.old.came }
         ensures fold { self.new.fold ≡ self.old.fold }
+        ensures surveyed { self.new.surveyed ≡ self.old.surveyed }
     {
         if self.fresh.len() < self.wanted {
             return Ok(());
@@ -166,6 +175,7 @@ impl Survey {
         ensures bound { WritesAtMost result bytes.now }
         ensures bytes { Grew self.old.came.taken self.new.came.taken result bytes.now }
         ensures fold { self.new.fold ≡ self.old.fold }
+        ensures surveyed { self.new.surveyed ≡ self.old.surveyed }
     {
         if self.make_room().is_err() {
             return Err(io::ErrorKind::OutOfMemory.into());
@@ -186,19 +196,26 @@ impl Survey {
 impl Survey {
     /// The places of the nodes of the rows that came, with the objects folded that have too many names. It is full then.
     fn places(&mut self) -> Result<Folded, AllocError>
-        ensures { IfOk result (HasCounted self.old.fold (names_of self.new.tree) (texts_in (text_lines self.old.came.taken))) }
+        ensures places { IfOk result (λ folded. ArePlaces (names_of self.new.tree) folded.links.links.keys) }
+        ensures taken { IfOk result (IsTakenInto self.old.surveyed self.old.fold (names_of self.new.tree) (text_lines self.old.came.taken)) }
     {
         if self.is_full {
             return Err(AllocError);
         }
         self.is_full = true;
-        count_lines(&mut self.room, &mut self.tree, &self.fresh)?;
+        count_rows(
+            self.surveyed,
+            &mut self.room,
+            &mut self.tree,
+            &mut self.number,
+            &self.fresh,
+        )?;
         fold_all(self.alloc, &self.tree.links, &self.tree.counts, self.fold)
     }
 
     /// The text of the survey of the rows that came. It is full then.
     fn text(&mut self, table: Table, has_names: bool) -> Result<Vec<u8>, AllocError>
-        ensures { IfOk result (λ text. (survey : List Entry) × IsSurvey self.old.fold (texts_in (text_lines self.old.came.taken)) survey × (text.items ≡ survey_text table has_names survey)) }
+        ensures { IfOk result (λ text. (survey : List Entry) × IsSurveyed self.old.surveyed self.old.fold (text_lines self.old.came.taken) survey × (text.items ≡ survey_text table has_names survey)) }
     {
         let places = self.places()?;
         let paths = list_paths(self.alloc, &self.tree.names, &places.links)?;
@@ -206,9 +223,9 @@ impl Survey {
         text_of(self.alloc, table, has_names, &rows)
     }
 
-    /// Writes what is in the texts of the rows that came: for each path and kind of value one row, in order, with in how many rows
-    /// there is such a node and how many there are. Objects of too many names are folded, from the top down, and below one that is
-    /// folded a hyphen stands for the number of rows. A row that is no JSON text has no node. Above all stands the row of the
+    /// Writes what is in the lines or the nodes of the rows that came: for each path and kind of value one row, in order, with in how
+    /// many lines there is such a node and how many there are. Objects of too many names are folded, from the top down, and below one
+    /// that is folded a hyphen stands for the number of lines. A row with no JSON text has no node. Above all stands the row of the
     /// names of the columns, where it is wanted.
     ///
     /// # Errors
@@ -221,7 +238,7 @@ impl Survey {
         out: &mut Watched<W>,
     ) -> Result<(), SurveyFault>
         requires { out.old.failed ≡ false }
-        ensures rows { WritesSurvey W.contents out.old out.new result self.fold (texts_in (text_lines self.came.taken)) table has_names }
+        ensures rows { WritesSurvey W.contents out.old out.new result (IsSurveyed self.surveyed self.fold (text_lines self.came.taken)) table has_names }
         ensures fault { out.new.failed ≡ is_write_fault result }
     {
         let mut survey = self;
@@ -245,6 +262,7 @@ impl Write for Survey {
         ensures bound { WritesAtMost result bytes.now }
         ensures bytes { Grew self.old.came.taken self.new.came.taken result bytes.now }
         ensures fold { self.new.fold ≡ self.old.fold }
+        ensures surveyed { self.new.surveyed ≡ self.old.surveyed }
     {
         let taken = self.take(bytes);
         self.is_full |= taken.is_err();
@@ -254,6 +272,7 @@ impl Write for Survey {
     fn flush(&mut self) -> io::Result<()>
         ensures bytes { self.new.came.taken ≡ self.old.came.taken }
         ensures fold { self.new.fold ≡ self.old.fold }
+        ensures surveyed { self.new.surveyed ≡ self.old.surveyed }
     {
         Ok(())
     }

@@ -8,7 +8,12 @@ use std::test::Fail;
 
 /// The text of the survey of some rows.
 fn surveyed(rt: &HostRuntime, fold: u64, rows: &[u8]) -> Result<Vec<u8>, Fail> {
-    let mut survey = Survey::new(rt.alloc(), fold)?;
+    told_of(rt, Survey::new(rt.alloc(), fold)?, rows)
+}
+
+/// The text of a survey, once it took some rows.
+fn told_of(rt: &HostRuntime, begun: Survey, rows: &[u8]) -> Result<Vec<u8>, Fail> {
+    let mut survey = begun;
     let _ = survey.write(rows)?;
     let mut out = Watched::new(Vec::new(rt.alloc()));
     survey.write_rows(Table::Canonical, false, &mut out)?;
@@ -31,6 +36,17 @@ fn folds_objects_of_many_names(rt: HostRuntime) -> Result<(), Fail> {
     let text = surveyed(&rt, 1, rows)?;
     let wanted =
         b"1\t1\t$\tobject\n-\t1\t$[**]\tnumber\n-\t1\t$[**]\tobject\n-\t1\t$[**]['c']\tnumber\n";
+    assert_eq!(rt; text.as_slice(), wanted.as_slice());
+    Ok(())
+}
+
+#[test]
+fn shows_the_paths_below_nodes(rt: HostRuntime) -> Result<(), Fail> {
+    let rows =
+        b"\n1:$['a'][0]\t{\"x\":1}\n1:$['a'][12]\t{\"x\":2}\n1:$['\\'\\n\\u001f\"\xc3\xa9']\tnull\n\n1:$['a'][0]\t{}\n2:$\t[[]]\n";
+    let text = told_of(&rt, Survey::of_nodes(rt.alloc(), 1000)?, rows)?;
+    let wanted =
+        b"1\t1\t$\tarray\n1\t1\t$[*]\tarray\n1\t1\t$['\\'\\n\\u001f\"\xc3\xa9']\tnull\n2\t3\t$['a'][*]\tobject\n1\t2\t$['a'][*]['x']\tnumber\n";
     assert_eq!(rt; text.as_slice(), wanted.as_slice());
     Ok(())
 }

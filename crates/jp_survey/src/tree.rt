@@ -1,15 +1,15 @@
 //! The tree of the paths of nodes, with how many nodes are where.
 
-ghost use Rattle.std.specs.Prelude.{◌≡◌, ◌+◌, ◌++◌, ◌∷◌, ◌<◌, [], ℕ, IfOk, IfSome, List, OnOk, length, slice_index_or, true};
-ghost use Rattle.jp_model.specs.Json.Tree.{Tree as Text};
+ghost use Rattle.std.specs.Prelude.{◌≡◌, ◌+◌, ◌++◌, ◌∷◌, ◌<◌, [], ℕ, IfOk, IfSome, List, None, OnOk, chars, false, length, slice_index_or, string_bytes, true};
 ghost use Rattle.jp_model.specs.Meaning.Nodes.{root_node, subtree};
+ghost use Rattle.jp_model.specs.Steps.{Step as TreeStep};
 ghost use Rattle.jp_nodes.specs.Cursors.{node_of, place_of, root_of};
 ghost use Rattle.jp_strings.specs.Points.{IsText, points_of};
-ghost use Rattle.jp_survey.specs.Foldings.{folded_by, longer};
+ghost use Rattle.jp_survey.specs.Foldings.{folded_below, longer};
 ghost use Rattle.jp_survey.specs.Justified.{WithPath};
-ghost use Rattle.jp_survey.specs.Paths.{member, strides_of};
-ghost use Rattle.jp_survey.specs.Places.{path_at, stride_in};
-ghost use Rattle.jp_survey.specs.Seen.{HasSeen};
+ghost use Rattle.jp_survey.specs.Paths.{Line, member, strides_of, whole_line};
+ghost use Rattle.jp_survey.specs.Places.{has_path, path_at, stride_in};
+ghost use Rattle.jp_survey.specs.Seen.{HasBegun, HasCome, HasSeen};
 ghost use Rattle.jp_survey.specs.Trees.{AreKnown, Grows, IsPlaceAt, IsTree, Leads, links_of, names_of, stride_to, tree_folds, tree_paths};
 
 use crate::count::Counts;
@@ -24,7 +24,7 @@ use std::alloc::{AllocError, Global};
 /// The paths of the nodes of lines, with how many nodes are where.
 #[derive(Drop)]
 pub(crate) struct Tree {
-    alloc: Global,
+    pub(crate) alloc: Global,
     /// How many members by name an object has that is not folded.
     fold: u64,
     pub(crate) names: IndexSet<String>,
@@ -75,7 +75,7 @@ impl Tree {
     }
 
     /// The number of a place, which is added where it is new.
-    fn add(&mut self, parent: usize, step: Step) -> Result<usize, AllocError>
+    pub(crate) fn add(&mut self, parent: usize, step: Step) -> Result<usize, AllocError>
         requires tree { IsTree self.old }
         requires leads { Leads self.old parent step }
         ensures tree { OnOk result (IsTree self.new) }
@@ -93,23 +93,62 @@ impl Tree {
     }
 
     /// The number of a name, which is added where it is new.
-    fn name_number(&mut self, body: &[u8]) -> Result<usize, AllocError>
-        requires tree { IsTree self.old }
-        requires body { IsText body.now }
+    fn name_number(&mut self, name: String) -> Result<usize, AllocError>
+        requires { IsTree self.old }
         ensures tree { OnOk result (IsTree self.new) }
         ensures grows { OnOk result (Grows self.old self.new) }
         ensures links { self.new.links ≡ self.old.links }
         ensures counts { self.new.counts ≡ self.old.counts }
         ensures paths { OnOk result (tree_paths self.new ≡ tree_paths self.old) }
         ensures within { IfOk result (λ number. number < length (names_of self.new)) }
-        ensures name { IfOk result (λ number. slice_index_or (names_of self.new) number [] ≡ points_of body.now) }
+        ensures name { IfOk result (λ number. slice_index_or (names_of self.new) number [] ≡ chars (string_bytes name)) }
     {
-        let text = unescape(self.alloc, body)?;
-        let (number, _) = self.names.insert_full(text)?;
+        let (number, _) = self.names.insert_full(name)?;
         Ok(number)
     }
 
+    /// The place of all members together, where the object of a place is folded.
+    fn others_place(&self, parent: usize) -> Option<usize>
+        requires { IsTree self.now }
+        ensures place { IfSome result (λ place. (x : List ℕ) → IsPlaceAt self.now place (longer (tree_folds self.now) (path_at (tree_paths self.now) parent) (member x))) }
+        ensures plain { result ≡ None → parent < length (links_of self.now) → has_path (tree_folds self.now) (path_at (tree_paths self.now) parent) ≡ false }
+    {
+        self.links.find(Link {
+            parent,
+            step: Step::Others,
+        })
+    }
+
+    /// The place of a member of an object that is not folded.
+    fn add_member(&mut self, parent: usize, name: String) -> Result<usize, AllocError>
+        requires tree { IsTree self.old }
+        requires parent { parent < length (links_of self.old) }
+        requires plain { has_path (tree_folds self.old) (path_at (tree_paths self.old) parent) ≡ false }
+        ensures tree { OnOk result (IsTree self.new) }
+        ensures grows { OnOk result (Grows self.old self.new) }
+        ensures place { IfOk result (λ place. IsPlaceAt self.new place (longer (tree_folds self.old) (path_at (tree_paths self.old) parent) (member (chars (string_bytes name))))) }
+        ensures path { OnOk result (WithPath (tree_paths self.old) (longer (tree_folds self.old) (path_at (tree_paths self.old) parent) (member (chars (string_bytes name)))) (tree_paths self.new)) }
+    {
+        let number = self.name_number(name)?;
+        self.add(parent, Step::Member(number))
+    }
+
     /// The place of a member: by its name, or with all others where the object is folded.
+    pub(crate) fn named_place(&mut self, parent: usize, name: String) -> Result<usize, AllocError>
+        requires tree { IsTree self.old }
+        requires parent { parent < length (links_of self.old) }
+        ensures tree { OnOk result (IsTree self.new) }
+        ensures grows { OnOk result (Grows self.old self.new) }
+        ensures place { IfOk result (λ place. IsPlaceAt self.new place (longer (tree_folds self.old) (path_at (tree_paths self.old) parent) (member (chars (string_bytes name))))) }
+        ensures path { OnOk result (WithPath (tree_paths self.old) (longer (tree_folds self.old) (path_at (tree_paths self.old) parent) (member (chars (string_bytes name)))) (tree_paths self.new)) }
+    {
+        match self.others_place(parent) {
+            Some(place) => Ok(place),
+            None => self.add_member(parent, name),
+        }
+    }
+
+    /// The same by the body of its name.
     fn member_place(&mut self, parent: usize, body: &[u8]) -> Result<usize, AllocError>
         requires tree { IsTree self.old }
         requires parent { parent < length (links_of self.old) }
@@ -119,15 +158,11 @@ impl Tree {
         ensures place { IfOk result (λ place. IsPlaceAt self.new place (longer (tree_folds self.old) (path_at (tree_paths self.old) parent) (member (points_of body.now)))) }
         ensures path { OnOk result (WithPath (tree_paths self.old) (longer (tree_folds self.old) (path_at (tree_paths self.old) parent) (member (points_of body.now))) (tree_paths self.new)) }
     {
-        let others = Step::Others;
-        if let Some(place) = self.links.find(Link {
-            parent,
-            step: others,
-        }) {
+        if let Some(place) = self.others_place(parent) {
             return Ok(place);
         }
-        let name = self.name_number(body)?;
-        self.add(parent, Step::Member(name))
+        let name = unescape(self.alloc, body)?;
+        self.add_member(parent, name)
     }
 
     /// The place of a node below a place.
@@ -203,33 +238,35 @@ impl Tree {
         Ok(place)
     }
 
-    /// The place of a node, which comes after the node of another place. The places of the nodes before it are known.
+    /// The place of a node, which comes after the node of another place. `top` is the place of the node whose text it is of, and the
+    /// places of the nodes before it are known.
     #[inline(always)]
-    fn place_of(&mut self, before: usize, node: Cursor<'_>) -> Result<usize, AllocError>
+    fn place_of(&mut self, top: usize, before: usize, node: Cursor<'_>) -> Result<usize, AllocError>
         requires tree { IsTree self.old }
-        requires known { AreKnown self.old (subtree (root_node (root_of node))) (place_of node) }
+        requires top { top < length (links_of self.old) }
+        requires known { AreKnown self.old top (subtree (root_node (root_of node))) (place_of node) }
         ensures tree { OnOk result (IsTree self.new) }
         ensures grows { OnOk result (Grows self.old self.new) }
-        ensures place { IfOk result (λ place. IsPlaceAt self.new place (folded_by (tree_folds self.old) (strides_of (node_of node.entry).location))) }
-        ensures path { OnOk result (WithPath (tree_paths self.old) (folded_by (tree_folds self.old) (strides_of (node_of node.entry).location)) (tree_paths self.new)) }
+        ensures place { IfOk result (λ place. IsPlaceAt self.new place (folded_below (tree_folds self.old) (path_at (tree_paths self.old) top) (strides_of (node_of node.entry).location))) }
+        ensures path { OnOk result (WithPath (tree_paths self.old) (folded_below (tree_folds self.old) (path_at (tree_paths self.old) top) (strides_of (node_of node.entry).location)) (tree_paths self.new)) }
     {
         let Some(parent) = node.parent() else {
-            return Ok(0);
+            return Ok(top);
         };
         let above = *self.places.get(parent.place() as usize).ok_or(AllocError)?;
         self.next_place(before, above, node)
     }
 
-    /// Counts the nodes of a text, from the root on.
+    /// Counts a line that is this text.
     pub(crate) fn count_text(&mut self, root: Cursor<'_>) -> Result<(), AllocError>
         requires tree { IsTree self.old }
         requires place { place_of root ≡ 0 }
         requires root { node_of root ≡ root_node (root_of root) }
         ensures tree { OnOk result (IsTree self.new) }
-        ensures seen { (fold : ℕ) (trees : List Text) → HasSeen fold trees self.old → OnOk result (HasSeen fold (trees ++ root_of root.entry ∷ []) self.new) }
+        ensures seen { (fold : ℕ) (lines : List Line) → HasSeen fold lines self.old → OnOk result (HasSeen fold (lines ++ whole_line (root_of root.entry) ∷ []) self.new) }
     {
-        self.make_room()?;
-        self.count_nodes(root)
+        self.begin_line()?;
+        self.count_nodes(0, root)
     }
 
     /// The number of the next line.
@@ -239,25 +276,37 @@ impl Tree {
         self.lines.checked_add(1).ok_or(AllocError)
     }
 
-    /// Counts the nodes of a text, from the root on, where there is room.
-    fn count_nodes(&mut self, root: Cursor<'_>) -> Result<(), AllocError>
+    /// Begins a line, of which no node is counted yet.
+    pub(crate) fn begin_line(&mut self) -> Result<(), AllocError>
+        requires { IsTree self.old }
+        ensures tree { OnOk result (IsTree self.new) }
+        ensures begun { (fold : ℕ) (lines : List Line) → HasSeen fold lines self.old → OnOk result (HasBegun fold lines [] self.new) }
+    {
+        self.make_room()?;
+        let line = self.next_line()?;
+        self.lines = line;
+        Ok(())
+    }
+
+    /// Counts a node of the line that has begun, and all that is in it, by the root of its text. `top` is its place.
+    pub(crate) fn count_nodes(&mut self, top: usize, root: Cursor<'_>) -> Result<(), AllocError>
         requires tree { IsTree self.old }
+        requires top { top < length (links_of self.old) }
         requires place { place_of root ≡ 0 }
         requires root { node_of root ≡ root_node (root_of root) }
         ensures tree { OnOk result (IsTree self.new) }
-        ensures seen { (fold : ℕ) (trees : List Text) → HasSeen fold trees self.old → OnOk result (HasSeen fold (trees ++ root_of root.entry ∷ []) self.new) }
+        ensures begun { (fold : ℕ) (lines : List Line) (line : Line) (location : List TreeStep) → HasCome fold lines line location top self.old → OnOk result (HasBegun fold lines (line ++ record { location = location; tree = root_of root.entry } ∷ []) self.new) }
     {
-        let line = self.next_line()?;
+        let line = self.lines;
         self.places.clear();
-        let mut before = 0;
+        let mut before = top;
         for number in 0..root.after() {
             let node = root.go_to(number);
-            let place = self.place_of(before, node)?;
+            let place = self.place_of(top, before, node)?;
             self.counts.count(place, NodeKind::of(node.kind()), line)?;
             self.places.push(place)?;
             before = place;
         }
-        self.lines = line;
         Ok(())
     }
 
@@ -265,7 +314,7 @@ impl Tree {
     fn fold_objects(&mut self) -> Result<(), AllocError>
         requires { IsTree self.old }
         ensures tree { OnOk result (IsTree self.new) }
-        ensures seen { (fold : ℕ) (trees : List Text) → HasSeen fold trees self.old → OnOk result (HasSeen fold trees self.new) }
+        ensures seen { (fold : ℕ) (lines : List Line) → HasSeen fold lines self.old → OnOk result (HasSeen fold lines self.new) }
     {
         if !self.links.has_over(self.fold) {
             return Ok(());
@@ -281,7 +330,7 @@ impl Tree {
     fn make_room(&mut self) -> Result<(), AllocError>
         requires { IsTree self.old }
         ensures tree { OnOk result (IsTree self.new) }
-        ensures seen { (fold : ℕ) (trees : List Text) → HasSeen fold trees self.old → OnOk result (HasSeen fold trees self.new) }
+        ensures seen { (fold : ℕ) (lines : List Line) → HasSeen fold lines self.old → OnOk result (HasSeen fold lines self.new) }
     {
         if self.links.len() < self.wanted {
             return Ok(());

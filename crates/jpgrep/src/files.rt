@@ -7,8 +7,8 @@ use crate::output::{Output, Printer, RegularFile};
 use jp_context::Context;
 use jp_devices::StandardInput;
 use jp_grep::{
-    Finished, Format, Framing, Input, Limit, Question, Run, SearchFault, Shown, Summary, Units,
-    Unread,
+    Finished, Format, Framing, Input, Limit, Question, Run, SearchFault, Shown, Summary, Table,
+    Units, Unread,
 };
 use jp_model::Watched;
 use jp_options::Options;
@@ -111,7 +111,26 @@ impl<W: Write + Drop> Searcher<'_, W> {
             return Next::Stop;
         }
         let form = self.options.form(STANDARD_INPUT, self.coloured);
-        match self.run.write_header(&form, self.options.columns()) {
+        let written = self.run.write_header(&form, self.options.columns());
+        self.after_row(written)
+    }
+
+    /// Writes an empty row before the rows of a file, whose line numbers begin again: of equal numbers, a survey of nodes takes those
+    /// that follow one another for one line.
+    fn part_rows(&mut self) -> Next {
+        if !self.run.is_open() {
+            return Next::Stop;
+        }
+        let mut form = self.options.form(STANDARD_INPUT, self.coloured);
+        form.shown = Shown::Cells(Table::Canonical);
+        form.numbered = false;
+        let written = self.run.write_header(&form, &[]);
+        self.after_row(written)
+    }
+
+    /// Whether the search goes on after a row that was written, or was not.
+    fn after_row(&mut self, written: Result<(), SearchFault>) -> Next {
+        match written {
             Ok(()) => Next::GoOn,
             Err(SearchFault::Memory) => self.stop_for_memory(),
             Err(_) => Next::Stop,
@@ -214,6 +233,9 @@ impl<W: Write + Drop> Searcher<'_, W> {
         if file.is_some() && file == self.output {
             self.tell(name, IS_OUTPUT);
             return Next::GoOn;
+        }
+        if self.options.surveys_nodes() && self.part_rows() == Next::Stop {
+            return Next::Stop;
         }
         self.search(name, input)
     }

@@ -4,4 +4,4 @@ use Rattle.jp_survey.proofs.Rows.{nodes_sum}
 use Rattle.jp_survey.proofs.laws.nodes_sum_to_all_nodes.Goals as goal
 
 pub returns : goal.returns
-returns c fold trees survey h = nodes_sum (shown_by fold trees) trees survey h
+returns c fold lines survey h = nodes_sum (shown_by fold lines) lines survey h

@@ -4,8 +4,8 @@ use Rattle.std.proofs.Math.Seq.{take-append-add}
 use Rattle.std.proofs.lemmas.List.{take_at}
 use Rattle.std.proofs.lemmas.Grind.{common_steps}
 use Rattle.jp_model.specs.Lines.{open_line, text_lines}
-use Rattle.jp_survey.specs.Seen.{HasSeen}
-use Rattle.jp_survey.specs.Surveys.{before_last, texts_in}
+use Rattle.jp_survey.specs.Seen.{HasTaken}
+use Rattle.jp_survey.specs.Surveys.{before_last}
 use Rattle.jp_survey.proofs.Came.{before_more, came_more}
 use Rattle.jp_survey.proofs.survey.Survey.take.Goals as goal
 
@@ -22,7 +22,7 @@ invariant_of-self-in-Ok c =
       whole = λ off. came_more old.came.taken old.fresh.items (take count bytes) c.write-taken.new.self.taken c.truncate.new.self.items came fresh (old.whole off);
       ended = λ off. ap open_line (more (old.whole off)) ∙ old.ended off;
       is_tree = old.is_tree;
-      seen = λ off. subst (λ (b : List ℕ). HasSeen old.fold (texts_in (text_lines b)) old.tree) (sym (more (old.whole off))) (old.seen off);
+      taken = λ off. subst (λ (b : List ℕ). HasTaken old.surveyed old.fold (text_lines b) old.number.items old.tree) (sym (more (old.whole off))) (old.taken off);
     }
 
 pub invariant_of-self-in-Err : goal.invariant_of-self-in-Err
@@ -37,5 +37,5 @@ invariant_of-self-in-Err c =
       whole = λ off. came ∙ (old.whole off ∙ sym (ap₂ (λ (b f : List ℕ). b ++ f) front fresh));
       ended = λ off. ap open_line front ∙ old.ended off;
       is_tree = old.is_tree;
-      seen = λ off. subst (λ (b : List ℕ). HasSeen old.fold (texts_in (text_lines b)) old.tree) (sym front) (old.seen off);
+      taken = λ off. subst (λ (b : List ℕ). HasTaken old.surveyed old.fold (text_lines b) old.number.items old.tree) (sym front) (old.taken off);
     }

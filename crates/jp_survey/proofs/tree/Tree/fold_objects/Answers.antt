@@ -17,11 +17,11 @@ returns-clause-tree c =
     }
 
 pub returns-clause-seen : goal.returns-clause-seen
-returns-clause-seen c fold trees was =
+returns-clause-seen c fold lines was =
     let old = c.args.self.now in let new = c.in_ok-folded.folded in let folded = c.in_ok-folded.ensures in let tree = c.requires in
     let names = names_of old in let links = links_of old in let next = new.links.links.keys in
     record {
       limit = was.limit;
-      counted = refolded_counted names links next old.counts.places.items new.counts.places.items trees old.lines (folded.refolds names tree.places) (folded.apart names tree.places) was.counted;
-      justified = subst (λ (limit : ℕ). StayJustified limit names links next) was.limit (folded.justified names tree.places) (paths_in trees) was.justified;
+      counted = refolded_counted names links next old.counts.places.items new.counts.places.items lines old.lines (folded.refolds names tree.places) (folded.apart names tree.places) was.counted;
+      justified = subst (λ (limit : ℕ). StayJustified limit names links next) was.limit (folded.justified names tree.places) (paths_in lines) was.justified;
     }

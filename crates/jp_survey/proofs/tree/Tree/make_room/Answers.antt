@@ -2,6 +2,6 @@
 use Rattle.jp_survey.proofs.tree.Tree.make_room.Goals as goal
 
 pub returns-clause-seen : goal.returns-clause-seen
-returns-clause-seen c fold trees was =
-    let seen = c.in_ok-fold_objects.ensures.seen fold trees was in
+returns-clause-seen c fold lines was =
+    let seen = c.in_ok-fold_objects.ensures.seen fold lines was in
     record { limit = seen.limit; counted = seen.counted; justified = seen.justified }

@@ -1,54 +1,32 @@
 -- A member of an object that is folded is with all others, and any other at the place of its name.
-use Rattle.std.proofs.Common.{◌≡◌, ◌∙◌, ℕ, ◌++◌, ◌∷◌, [], List, IfOk, ap, ap₂, arith, get_or, inl, length, refl, subst, sym}
-use Rattle.std.specs.Prelude.{is_some}
-use Rattle.std.proofs.lemmas.Result.{on_ok_weaker}
+use Rattle.std.proofs.Common.{ℕ, List, IfOk, OnOk, inl, refl, subst}
 use Rattle.jp_strings.specs.Points.{points_of}
 use Rattle.jp_survey.specs.Foldings.{longer}
 use Rattle.jp_survey.specs.Justified.{WithPath}
-use Rattle.jp_survey.specs.Paths.{Path, member}
-use Rattle.jp_survey.specs.Places.{has_path, path_at}
-use Rattle.jp_survey.specs.Trees.{Grows, IsPlaceAt, links_of, names_of, tree_folds, tree_paths}
-use Rattle.jp_survey.proofs.Folded.{shown_plain}
-use Rattle.jp_survey.proofs.Guesses.{found_others}
-use Rattle.jp_survey.proofs.Names.{not_folded_at}
-use Rattle.jp_survey.proofs.Seen.{with_after}
-use Rattle.jp_survey.proofs.Trees.{grows_on, path_stays, stays}
+use Rattle.jp_survey.specs.Paths.{member}
+use Rattle.jp_survey.specs.Places.{path_at}
+use Rattle.jp_survey.specs.Trees.{IsPlaceAt, tree_folds, tree_paths}
+use Rattle.jp_survey.proofs.Trees.{stays}
 use Rattle.jp_survey.proofs.tree.Tree.member_place.Goals as goal
 
 pub returns-in-Some-clause-grows : goal.returns-in-Some-clause-grows
 returns-in-Some-clause-grows c = stays c.args.self.now _ refl refl refl refl refl refl
 
 pub returns-in-Some-clause-place : goal.returns-in-Some-clause-place
-returns-in-Some-clause-place c = found_others c.args.self.now c.requires.tree c.in-Some.place c.args.parent (sym c.find.ensures.place ∙ c.in-Some.is) (points_of c.args.body.now)
+returns-in-Some-clause-place c = c.in-Some.ensures.place (points_of c.args.body.now)
 
 pub returns-in-Some-clause-path : goal.returns-in-Some-clause-path
 returns-in-Some-clause-path c = inl refl
 
-pub add-requires-clause-leads : goal.add-requires-clause-leads
-add-requires-clause-leads c =
-    let old = c.args.self.now in let mid = c.name_number.new.self in let parent = c.args.parent in
-    let plain = not_folded_at (names_of old) (links_of old) c.requires.tree.places parent c.requires.parent (sym c.find.ensures.found ∙ ap is_some c.in_default.is) in
-    let many : length (links_of mid) ≡ length (links_of old) = ap (λ l. length l.links.keys) c.name_number.ensures.links in
-    record {
-      within = omega (arith, many, c.requires.parent);
-      known = c.in_ok-name.ensures.within;
-      told = (refl, refl);
-      apart = λ named. ap₂ has_path c.in_ok-name.ensures.grows.folds (path_stays old mid c.requires.tree c.in_ok-name.ensures.grows parent c.requires.parent) ∙ plain;
-    }
+pub add_member-requires-clause-plain : goal.add_member-requires-clause-plain
+add_member-requires-clause-plain c = c.others_place.ensures.plain c.in_default.is c.requires.parent
 
 pub returns : goal.returns
 returns c =
-    let old = c.args.self.now in let mid = c.name_number.new.self in let new = c.add.new.self in let parent = c.args.parent in let points = points_of c.args.body.now in
-    let plain = not_folded_at (names_of old) (links_of old) c.requires.tree.places parent c.requires.parent (sym c.find.ensures.found ∙ ap is_some c.in_default.is) in
-    let path : path_at (tree_paths mid) parent ++ member (get_or (names_of mid) c.in_ok-name.name []) ∷ [] ≡ longer (tree_folds old) (path_at (tree_paths old) parent) (member points) =
-    ap₂ (λ (p : Path) (x : List ℕ). p ++ member x ∷ []) (path_stays old mid c.requires.tree c.in_ok-name.ensures.grows parent c.requires.parent) c.in_ok-name.ensures.name
-    ∙ sym (shown_plain (tree_folds old) (path_at (tree_paths old) parent) points plain) in
+    let old = c.args.self.now in let new = c.add_member.new.self in let parent = c.args.parent in
     record {
-      tree = c.add.ensures.tree;
-      grows = on_ok_weaker c.add.result (λ (h : Grows mid new). grows_on old mid new c.in_ok-name.ensures.grows h) c.add.ensures.grows;
-      place = subst (λ (p : Path). IfOk c.add.result (λ place. IsPlaceAt new place p)) path c.add.ensures.place;
-      path = on_ok_weaker c.add.result
-          (λ (h : WithPath (tree_paths mid) (path_at (tree_paths mid) parent ++ member (get_or (names_of mid) c.in_ok-name.name []) ∷ []) (tree_paths new)).
-          with_after (tree_paths old) (tree_paths mid) (tree_paths new) _ c.in_ok-name.ensures.paths (subst (λ (p : Path). WithPath (tree_paths mid) p (tree_paths new)) path h))
-          c.add.ensures.path;
+      tree = c.add_member.ensures.tree;
+      grows = c.add_member.ensures.grows;
+      place = subst (λ (x : List ℕ). IfOk c.add_member.result (λ place. IsPlaceAt new place (longer (tree_folds old) (path_at (tree_paths old) parent) (member x)))) c.in_ok-name.ensures c.add_member.ensures.place;
+      path = subst (λ (x : List ℕ). OnOk c.add_member.result (WithPath (tree_paths old) (longer (tree_folds old) (path_at (tree_paths old) parent) (member x)) (tree_paths new))) c.in_ok-name.ensures c.add_member.ensures.path;
     }
