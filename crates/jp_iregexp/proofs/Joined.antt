@@ -3,14 +3,14 @@ use Rattle.std.proofs.Common.{◌≡◌, ℕ, zero, suc, ◌+◌, ◌-◌, ◌*�
 use Rattle.jp_iregexp.specs.declared.node.Node.{Node, Sequence, Choice}
 use Rattle.jp_iregexp.specs.declared.positions.PositionSet.{PositionSet}
 use Rattle.jp_iregexp.specs.Nodes.{most_of, turns_of, tree_of, sequence_list, choice_list}
-use Rattle.jp_iregexp.specs.Positions.{ReachFrom, AreEnds}
+use Rattle.jp_iregexp.specs.Positions.{AreEnds}
 use Rattle.jp_iregexp.specs.Tables.{AreAlike, IsTable, IsNumber, Numbered, NumberedList}
 use Rattle.jp_model.specs.Pattern.Language.{Language, AtMost, Splits, Repeats, RepeatsWithin}
 use Rattle.jp_model.specs.Pattern.Tree.{Pattern, empty, followed_by, never, either_of}
 use Rattle.jp_iregexp.proofs.Bits.{below_or_not}
 use Rattle.jp_iregexp.proofs.Keeping.{from_Sequence, from_Choice}
 use Rattle.jp_iregexp.proofs.Parts.{tree_of_Sequence, tree_of_Choice}
-use Rattle.jp_iregexp.proofs.Reaching.{ends_same, reach_map, reach_map_short, repeats_join, repeats_split, within_join, within_split, cut, uncut}
+use Rattle.jp_iregexp.proofs.Reaching.{ends_same, reach_map, repeats_join, repeats_split, within_join, within_split, cut}
 
 -- ---- products
 
@@ -169,14 +169,6 @@ pub turns_ends : (Member : List ℕ → Type 0) (least : ℕ) (further : Option 
 turns_ends Member least (Some n) text starts ends a = a
 turns_ends Member least None text starts ends a =
     ends_same text starts ends (λ x r. record { count = r.count; enough = r.enough; few = tt; repeats = r.repeats }) (λ x l r. cut_short Member least (length text) r.count x l r.enough r.repeats) a
-
--- and a bound that is no less than the text is as good as none
-pub bounded_ends : (Member : List ℕ → Type 0) (most : ℕ) (text : List ℕ) (starts ends : PositionSet) → length text ≤ most → AreEnds (RepeatsWithin Member 0 None) text starts ends → AreEnds (RepeatsWithin Member 0 (Some most)) text starts ends
-bounded_ends Member most text starts ends short a = record {
-  over = a.over;
-  sound = λ q h. (let s = a.sound q h in let t : ReachFrom (RepeatsWithin Member 0 (Some most)) text starts q = record { start = s.start; has = s.has; reach = reach_map_short text s.start q (λ x l r. cut most x (omega (arith, l, short)) r) s.reach } in t);
-  complete = λ p q h r. a.complete p q h (reach_map (uncut most) text p q r);
-}
 
 -- ---- a part that is all of another one
 

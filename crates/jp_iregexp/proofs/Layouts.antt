@@ -12,7 +12,8 @@ use Rattle.jp_iregexp.specs.declared.automaton.State.{State as ProgramState}
 use Rattle.jp_iregexp.specs.States.{State, HasState, IsLaidOut, Leads, through, state_at}
 use Rattle.jp_iregexp.specs.Layouts.{state_of, linked, AreLinked, LaidOnto}
 use Rattle.jp_iregexp.specs.Nodes.{class_of}
-use Rattle.jp_iregexp.proofs.Sums.{one, chained, either, any, once_or_more, same, same_or_not, holds_either, holds_left, holds_right, only_one, some_same}
+use Rattle.jp_iregexp.proofs.Bits.{same_or_not}
+use Rattle.jp_iregexp.proofs.Sums.{one, chained, either, any, once_or_more, same, holds_either, holds_left, holds_right, only_one, some_same}
 use Rattle.jp_iregexp.proofs.Leading.{inside, leads_nowhere}
 
 -- ---- linked states

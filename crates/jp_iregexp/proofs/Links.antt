@@ -6,7 +6,8 @@ use Rattle.jp_model.proofs.LowestBit.{is_kept, is_cleared}
 use Rattle.jp_iregexp.specs.States.{State, HasState, state_at}
 use Rattle.jp_iregexp.specs.declared.automaton.State.{State as ProgramState}
 use Rattle.jp_iregexp.specs.Layouts.{state_of, linked, AreLinked}
-use Rattle.jp_iregexp.proofs.Sums.{same_or_not, only_one, some_same}
+use Rattle.jp_iregexp.proofs.Bits.{same_or_not}
+use Rattle.jp_iregexp.proofs.Sums.{only_one, some_same}
 use Rattle.jp_iregexp.proofs.Lowest.{lowest_in, was_there}
 use Rattle.jp_iregexp.proofs.Layouts.{length_mapped, linked_last, linked_other, linked_same, state_here}
 use Rattle.jp_iregexp.proofs.Leading.{inside}

@@ -5,7 +5,8 @@ use lib.Bits.{bit_and}
 use Rattle.jp_model.proofs.LowestBit.{lowest, is_kept}
 use Rattle.jp_model.specs.Pattern.Classes.{in_class}
 use Rattle.jp_iregexp.specs.States.{State, HasState, state_at, Passes, IsPassed}
-use Rattle.jp_iregexp.proofs.Sums.{same_or_not, holds_either, holds_left, holds_right, some_same}
+use Rattle.jp_iregexp.proofs.Bits.{same_or_not}
+use Rattle.jp_iregexp.proofs.Sums.{holds_either, holds_left, holds_right, some_same}
 
 module _ (word : ℕ) (some : 0 < word) (small : word < 2 ^ 64) where
   pub lowest_in : HasState word (trailing_zeros w64 word)

@@ -10,7 +10,8 @@ use Rattle.jp_model.specs.Pattern.Classes.{in_class}
 use Rattle.jp_iregexp.specs.declared.automaton.State.{State as ProgramState}
 use Rattle.jp_iregexp.specs.States.{State, HasState, state_at, IsStep, waits_for, AreMasks, AreCodes, AreSets, WaitsBehind}
 use Rattle.jp_iregexp.specs.Layouts.{state_of}
-use Rattle.jp_iregexp.proofs.Sums.{same_or_not, holds_either, holds_left, holds_right}
+use Rattle.jp_iregexp.proofs.Bits.{same_or_not}
+use Rattle.jp_iregexp.proofs.Sums.{holds_either, holds_left, holds_right}
 use Rattle.jp_iregexp.proofs.Lowest.{lowest_in, was_there}
 
 -- ---- what waits after the states that are ready

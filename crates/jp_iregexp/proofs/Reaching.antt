@@ -319,9 +319,6 @@ cut n x l r =
     let few : w.count ≤ length x = w.few in
     record { count = w.count; enough = omega arith; few = omega arith; repeats = w.repeats }
 
-pub uncut : {Member : List ℕ → Type 0} (n : ℕ) (x : List ℕ) → RepeatsWithin Member 0 (Some n) x → RepeatsWithin Member 0 None x
-uncut n x r = record { count = r.count; enough = omega arith; few = tt; repeats = r.repeats }
-
 -- ---- the least number, and then further ones
 
 pub repeats_join : (Member : List ℕ → Type 0) (a b n : ℕ) → n ≡ a + b → (x : List ℕ) → Splits (Repeats Member a) (Repeats Member b) x → Repeats Member n x

@@ -1,7 +1,8 @@
 -- How the states of parts make those of the whole.
-use Rattle.std.proofs.Common.{◌≡◌, ◌≢◌, ℕ, zero, suc, ◌+◌, ◌^◌, ◌<◌, ◌≤◌, ◌⊎◌, inl, inr, Bool, true, false, ◌&&◌, ◌||◌, IsTrue, List, [], ◌∷◌, ◌++◌, length, Some, None, bit_or, arith, refl, sym, ◌∙◌, ap, subst, append_assoc, append-nil, length-append}
+use Rattle.std.proofs.Common.{◌≡◌, ℕ, zero, suc, ◌+◌, ◌^◌, ◌<◌, ◌≤◌, ◌⊎◌, inl, inr, Bool, true, false, ◌&&◌, ◌||◌, IsTrue, List, [], ◌∷◌, ◌++◌, length, Some, None, bit_or, arith, refl, sym, ◌∙◌, ap, subst, append_assoc, append-nil, length-append}
 use Rattle.std.specs.Int.{bit_at}
 use Rattle.std.proofs.lemmas.Nat.Bits.{bit_at_or, bit_at-lt, bit_at-pow_same, bit_at-pow_other}
+use Rattle.jp_iregexp.proofs.Bits.{same_or_not}
 use Rattle.jp_model.specs.Pattern.Tree.{CharClass}
 use Rattle.jp_model.specs.Pattern.Classes.{in_class}
 use Rattle.jp_model.specs.Pattern.Language.{IsOne, Splits, Repeats, RepeatsWithin}
@@ -79,12 +80,6 @@ module _ (states : List State) (Member : List ℕ → Type 0) (behind first : �
   entered e a text s = entered_at e a text s.front s.rest s.is s.first s.second
 
 -- ---- one state
-
-pub same_or_not : (m n : ℕ) → (m ≡ n) ⊎ (m ≢ n)
-same_or_not zero zero = inl refl
-same_or_not zero (suc n) = inr (λ e. cc)
-same_or_not (suc m) zero = inr (λ e. cc)
-same_or_not (suc m) (suc n) = elim (same_or_not m n) [ inl e ↦ inl (ap suc e) | inr d ↦ inr (λ e. d (cc)) ]
 
 pub only_one : (k p : ℕ) → HasState (2 ^ k) p → p ≡ k
 only_one k p h = elim (same_or_not p k) [ inl e ↦ e | inr d ↦ absurd (let z = bit_at-pow_other k p d in omega (arith, z, h)) ]

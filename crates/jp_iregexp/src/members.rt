@@ -1,7 +1,8 @@
 //! Which positions are in a set.
 
-ghost use Rattle.std.specs.Prelude.{◌≡◌, ◌^◌, ℕ, ◌-◌, ◌<◌, ◌≤◌, ◌↔◌, ◌⊎◌, IsTrue, IfOk, OnOk};
-ghost use Rattle.jp_iregexp.specs.Positions.{Has, IsSetOver, IsTail};
+ghost use Rattle.std.specs.Prelude.{◌≡◌, ◌^◌, ℕ, ◌-◌, ◌<◌, ◌≤◌, ◌↔◌, ◌⊎◌, IsTrue, IfOk, OnOk, None};
+ghost use Rattle.std.specs.Option.{IfSome};
+ghost use Rattle.jp_iregexp.specs.Positions.{Has, IsFirstFrom, IsSetOver, IsTail};
 
 use crate::Result;
 use crate::positions::{PositionSet, first_bits};
@@ -81,6 +82,19 @@ impl PositionSet {
         ensures fits { result ≤ 2 ^ 63 }
     {
         (self.first + self.words.len()) * 64
+    }
+
+    /// The first position in the set that is not below this one.
+    pub(crate) fn first_from(&self, low: usize) -> Option<usize>
+        ensures first { IfSome result (IsFirstFrom self.now low) }
+        ensures none { result ≡ None → (p : ℕ) → low ≤ p → Has self.now p → ⊥ }
+    {
+        for p in low.max(self.low())..self.high() {
+            if self.contains(p) {
+                return Some(p);
+            }
+        }
+        None
     }
 
     /// A set of the same positions, with words of its own.

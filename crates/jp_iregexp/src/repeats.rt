@@ -14,7 +14,7 @@ use crate::even::{LONGEST, common_length, doubled};
 use crate::matcher::Matcher;
 use crate::node::Node;
 use crate::positions::PositionSet;
-use crate::runs::{count_ends, run_ends, window_ends};
+use crate::runs::run_ends;
 use crate::tables::{Tables, ends_in};
 
 /// It is kept for no more bodies than this what their turns reach, which takes 64 bytes for each scalar of the text at most.
@@ -55,6 +55,9 @@ impl Matcher<'_> {
         ensures ends { IfOk result (λ out. AreEnds (Language (times (tree_of body.now) least (Some (least + further)))) self.now.text.now starts.now out) }
     {
         match body {
+            Node::Class(class) => {
+                return run_ends(self.alloc, class, self.text, least, further, starts);
+            }
             Node::Sequence(parts) | Node::Choice(parts) => {
                 if let [part] = parts.as_slice() {
                     return self.repeated_ends(part, table, least, further, starts, tables);
@@ -73,7 +76,7 @@ impl Matcher<'_> {
             _ => {}
         }
         let reached = self.exact_turns(body, table, least, starts, tables)?;
-        self.further_turns(body, table, further, &reached, tables)
+        self.added_turns(body, table, further, &reached, tables)
     }
 
     /// As many of the further turns as reach anything new: without a bound, as many as the text has scalars.
@@ -87,7 +90,7 @@ impl Matcher<'_> {
         }
     }
 
-    /// The part exactly `count` times. Scalars of a class take one pass.
+    /// The part exactly `count` times.
     #[cycle(ends)]
     fn exact_turns(
         &self,
@@ -103,9 +106,6 @@ impl Matcher<'_> {
         ensures kept { OnOk result (AreRight self.now.text.now self.now.root.now tables.new) }
         ensures ends { IfOk result (λ out. AreEnds (Repeats (Language (tree_of body.now)) count) self.now.text.now starts.now out) }
     {
-        if let Node::Class(class) = body {
-            return count_ends(self.alloc, class, self.text, count, starts);
-        }
         if count <= 1 {
             return self.counted_turns(body, table, count, starts, tables);
         }
@@ -175,31 +175,6 @@ impl Matcher<'_> {
             reached = next;
         }
         Ok(reached)
-    }
-
-    /// The part up to `most` times. Scalars of a class take one pass.
-    #[cycle(ends)]
-    fn further_turns(
-        &self,
-        body: &Node,
-        table: Option<usize>,
-        most: usize,
-        starts: &PositionSet,
-        tables: &mut Tables,
-    ) -> Result<PositionSet>
-        requires starts { AreStarts self.now.text.now starts.now }
-        requires numbered { NumberedTurns (bodies_of self.now.root.now) body.now table }
-        requires right { AreRight self.now.text.now self.now.root.now tables.old }
-        ensures kept { OnOk result (AreRight self.now.text.now self.now.root.now tables.new) }
-        ensures ends { IfOk result (λ out. AreEnds (RepeatsWithin (Language (tree_of body.now)) 0 (Some most)) self.now.text.now starts.now out) }
-    {
-        match body {
-            Node::Class(class) if most < self.text.len() => {
-                window_ends(self.alloc, class, self.text, most, starts)
-            }
-            Node::Class(class) => run_ends(self.alloc, class, self.text, starts),
-            _ => self.added_turns(body, table, most, starts, tables),
-        }
     }
 
     /// The part up to `most` times. A turn starts from what the one before it added, and they stop where one adds nothing, or

@@ -1,124 +1,77 @@
-//! A given number of scalars of a class, any number of them, or up to a given number.
+//! The turns of a class, in one pass.
 
-ghost use Rattle.std.specs.Prelude.{◌≡◌, ◌^◌, ◌<◌, ◌+◌, ◌-◌, true, false, Some, None, IfOk};
+ghost use Rattle.std.specs.Prelude.{◌≡◌, ◌≤◌, ◌+◌, ℕ, true, false, Some, None, IfOk};
+ghost use Rattle.std.specs.Option.{IfSome};
 ghost use Rattle.jp_iregexp.specs.Positions.{Has, AreEnds, AreStarts};
 ghost use Rattle.jp_iregexp.specs.Nodes.{class_of};
-ghost use Rattle.jp_model.specs.Pattern.Language.{Language, Repeats, RepeatsWithin};
+ghost use Rattle.jp_model.specs.Pattern.Language.{Language, RepeatsWithin};
 ghost use Rattle.jp_model.specs.Pattern.Tree.{one_of};
 
+use crate::Result;
 use crate::class::Class;
 use crate::positions::PositionSet;
-use std::alloc::{AllocError, Global};
+use std::alloc::Global;
 
-/// The positions where exactly `count` scalars of the class end that begin at one of the starts. It takes one pass, whatever
-/// the count is: `run` is how many scalars of the class are one after another before a position. Nothing is reached any more
-/// where the run, or as much of it as is counted, begins after the last start.
-pub(crate) fn count_ends(
-    alloc: Global,
-    class: &Class,
-    text: &[char],
-    count: u32,
-    starts: &PositionSet,
-) -> Result<PositionSet, AllocError>
-    requires { AreStarts text.now starts.now }
-    ensures { IfOk result (λ out. AreEnds (Repeats (Language (one_of (class_of class.now))) count) text.now starts.now out) }
-{
-    if count == 0 {
-        return starts.copy(alloc);
-    }
-    let mut out = PositionSet::empty(alloc);
-    let wanted = count as usize;
-    let low = starts.low();
-    let high = starts.high();
-    let mut run: usize = 0;
-    for p in low..text.len() {
-        if high + run.min(wanted) <= p {
-            return Ok(out);
-        }
-        run = next_run(class.contains(text[p]), run);
-        if run >= wanted && starts.contains(p + 1 - wanted) {
-            out.insert(p + 1)?;
-        }
-    }
-    Ok(out)
-}
-
-/// The run before the next position, where the run before the scalar was this long.
-fn next_run(passes: bool, run: usize) -> usize
-    requires { run < 2 ^ 63 }
-    ensures goes_on { passes ≡ true → result ≡ run + 1 }
-    ensures ends { passes ≡ false → result ≡ 0 }
-{
-    if passes { run + 1 } else { 0 }
-}
-
-/// The positions where any number of scalars of the class ends that begins at one of the starts. It takes one pass: a position
-/// is reached where it is a start, or where the one before it is reached and the scalar between them is in the class. After
-/// the last start it ends where a position is not reached.
+/// The positions where `least` scalars of the class, or up to `further` more, end that begin at one of the starts. It takes one
+/// pass, whatever the bounds are: the earliest start is kept that is not before `begin`, where the scalars begin that are all in
+/// the class up to a position, and no more than `most` before the position. Where it is not `least` before it, no start is.
 pub(crate) fn run_ends(
     alloc: Global,
     class: &Class,
     text: &[char],
+    least: u32,
+    further: usize,
     starts: &PositionSet,
-) -> Result<PositionSet, AllocError>
+) -> Result<PositionSet>
     requires { AreStarts text.now starts.now }
-    ensures { IfOk result (λ out. AreEnds (RepeatsWithin (Language (one_of (class_of class.now))) 0 None) text.now starts.now out) }
+    ensures { IfOk result (λ out. AreEnds (RepeatsWithin (Language (one_of (class_of class.now))) least (Some (least + further))) text.now starts.now out) }
 {
-    let mut out = starts.copy(alloc)?;
-    let low = starts.low();
-    let high = starts.high();
-    for p in low..text.len() {
-        if high <= p && !out.contains(p) {
-            return Ok(out);
-        }
-        if out.contains(p) && class.contains(text[p]) {
-            out.insert(p + 1)?;
-        }
-    }
-    Ok(out)
-}
-
-/// The positions where up to `most` scalars of the class end that begin at one of the starts. It takes one pass, whatever the
-/// bound is: `room` is one more than the scalars that may still follow the latest start, and 0 where none leads here.
-pub(crate) fn window_ends(
-    alloc: Global,
-    class: &Class,
-    text: &[char],
-    most: usize,
-    starts: &PositionSet,
-) -> Result<PositionSet, AllocError>
-    requires starts { AreStarts text.now starts.now }
-    requires most { most < 2 ^ 63 }
-    ensures { IfOk result (λ out. AreEnds (RepeatsWithin (Language (one_of (class_of class.now))) 0 (Some most)) text.now starts.now out) }
-{
-    let mut out = starts.copy(alloc)?;
-    let full = most + 1;
-    let low = starts.low();
-    let high = starts.high();
-    let mut room = next_room(starts, low, false, full, 0);
-    for p in low..text.len() {
-        if high <= p && room == 0 {
-            return Ok(out);
-        }
-        room = next_room(starts, p + 1, class.contains(text[p]), full, room);
-        if room > 0 {
-            out.insert(p + 1)?;
-        }
-    }
-    Ok(out)
-}
-
-/// The room at a position, where the scalar before it had this much.
-fn next_room(starts: &PositionSet, p: usize, passes: bool, full: usize, room: usize) -> usize
-    ensures begins { Has starts.now p → result ≡ full }
-    ensures goes_on { (Has starts.now p → ⊥) → passes ≡ true → result ≡ room - 1 }
-    ensures ends { (Has starts.now p → ⊥) → passes ≡ false → result ≡ 0 }
-{
-    if starts.contains(p) {
-        full
-    } else if passes {
-        room.saturating_sub(1)
+    let Some(first) = starts.first_from(0) else {
+        return Ok(PositionSet::empty(alloc));
+    };
+    let least = least as usize;
+    let most = least.saturating_add(further).min(text.len());
+    let mut out = if least == 0 {
+        starts.copy(alloc)?
     } else {
-        0
+        PositionSet::empty(alloc)
+    };
+    let mut begin = first;
+    let mut start = first;
+    for p in first..text.len() {
+        begin = begin_at(class.contains(text[p]), begin, p + 1);
+        let earliest = begin.max((p + 1).saturating_sub(most));
+        let Some(next) = leading(starts, start, earliest) else {
+            return Ok(out);
+        };
+        start = next;
+        if start + least <= p + 1 {
+            out.insert(p + 1)?;
+        }
+    }
+    Ok(out)
+}
+
+/// Where the scalars of the class begin that end at a position: where they began before, if the last one is in the class.
+#[inline(always)]
+fn begin_at(passes: bool, begin: usize, p: usize) -> usize
+    ensures passes { passes ≡ true → result ≡ begin }
+    ensures fails { passes ≡ false → result ≡ p }
+{
+    if passes { begin } else { p }
+}
+
+/// The earliest start that is not before `earliest`, where none is from there on that is before this one.
+#[inline(always)]
+fn leading(starts: &PositionSet, start: usize, earliest: usize) -> Option<usize>
+    requires { Has starts.now start }
+    ensures next { IfSome result (λ next. Has starts.now next × earliest ≤ next) }
+    ensures first { IfSome result (λ next. (p : ℕ) → start ≤ p → earliest ≤ p → Has starts.now p → next ≤ p) }
+    ensures none { result ≡ None → (p : ℕ) → earliest ≤ p → Has starts.now p → ⊥ }
+{
+    if start < earliest {
+        starts.first_from(earliest)
+    } else {
+        Some(start)
     }
 }

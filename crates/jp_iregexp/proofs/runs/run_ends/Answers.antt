@@ -1,42 +1,84 @@
-use Rattle.std.proofs.Common.{◌≡◌, ℕ, ◌<◌, length, get_or, IsTrue, true, rules, arith, sym, ◌∙◌, ap}
+use Rattle.std.proofs.Common.{◌≡◌, ℕ, ◌+◌, ◌<◌, ◌≤◌, length, get_or, IsTrue, true, rules, arith, sym, ◌∙◌, ap}
 use Rattle.std.proofs.lemmas.List.{get_or_read}
 use Rattle.jp_model.specs.Pattern.Classes.{in_class}
 use Rattle.jp_iregexp.specs.Nodes.{class_of}
-use Rattle.jp_iregexp.proofs.OnePass.{runs_start, runs_insert, runs_skip, runs_past, runs_all}
+use Rattle.jp_iregexp.specs.Positions.{Has}
+use Rattle.jp_iregexp.proofs.OnePass.{begin_on, runs_start_same, runs_start_none, runs_insert, runs_skip, runs_past, runs_end, runs_all}
 use Rattle.jp_iregexp.proofs.runs.run_ends.Goals as goal
-use Rattle.jp_iregexp.proofs.runs.run_ends.Goals.{then-contains+then-contains-2+in_ok-insert, else-contains, else-contains-via-then-contains+else-contains-2, else-contains-via-else-contains}
+use Rattle.jp_iregexp.proofs.runs.run_ends.Goals.{then-least-eq0+in_ok-out, else-least-eq0, then-start-least+in_ok-insert, else-start-least}
 
 pub loop-p-init : goal.loop-p-init
-loop-p-init c = runs_start (λ s. IsTrue (in_class (class_of c.args.class.now) s)) c.args.text.now c.args.starts.now c.in_ok-out.out c.low-low.result c.low-low.ensures c.requires.over c.in_ok-out.ensures
+loop-p-init c =
+    let P = λ (s : ℕ). IsTrue (in_class (class_of c.args.class.now) s) in
+    let text = c.args.text.now in
+    let starts = c.args.starts.now in
+    let first = c.in-Some.ensures.first in
+    let low : (p : ℕ) → Has starts p → c.in-Some.first ≤ p = λ p h. first.first p (omega arith) h in
+    elim c.if-least-eq0.branch [
+      | then-least-eq0+in_ok-out w ↦
+          rw w.out-is (runs_start_same P text starts w.in_ok-out.out c.args.least c.min-most.result c.in-Some.first c.requires.over first.has low w.if-least-eq0.true w.in_ok-out.ensures)
+      | else-least-eq0 w ↦
+          rw w.out-is (runs_start_none P text starts w.empty-out.result c.args.least c.min-most.result c.in-Some.first c.requires.over first.has low (let some = w.if-least-eq0.false in omega (arith, some)) w.empty-out.ensures)
+    ]
+
+pub returns-in_default-leading : goal.returns-in_default-leading
+returns-in_default-leading c =
+    let P = λ (s : ℕ). IsTrue (in_class (class_of c.args.class.now) s) in
+    let text = c.args.text.now in
+    let starts = c.args.starts.now in
+    let class = class_of c.args.class.now in
+    let l = c.loop-p in
+    let n = l.p in
+    let most = c.min-most.result in
+    let inside : n < length text = search rules in
+    let read : c.index-text-p.result ≡ get_or text n 0 = get_or_read text n c.index-text-p.result inside c.index-text-p.is 0 in
+    let tested : c.contains.result ≡ in_class class (get_or text n 0) = c.contains.ensures ∙ ap (in_class class) read in
+    let begin = c.begin_at-begin.result in
+    let e = c.begin_at-begin.ensures in
+    let begins = begin_on P text starts n l.begin begin c.contains.result inside (λ t. sym tested ∙ t) (λ f h. let t : c.contains.result ≡ true = tested ∙ h in cc) e.passes e.fails l.invariant.begin_is in
+    let bound = c.max-earliest.result in
+    let far = c.saturating_sub.ensures in
+    let max = c.max-earliest.ensures in
+    runs_all P text starts l.out c.args.least most (c.args.least + c.args.further) n l.begin l.start (let least = c.min-most.ensures in let sum = c.saturating_add.ensures in omega (arith, least, sum))
+    (λ count few within. let least = c.min-most.ensures in let sum = c.saturating_add.ensures in omega (arith, least, sum, few, within))
+    (runs_past P text starts l.out c.args.least most n l.begin begin l.start bound inside l.invariant begins (λ p from near. omega (arith, far, max, from, near)) (c.in_default-leading.ensures.none (search rules)))
+    l.invariant
 
 pub loop-p-preserved : goal.loop-p-preserved
 loop-p-preserved c =
+    let P = λ (s : ℕ). IsTrue (in_class (class_of c.args.class.now) s) in
     let text = c.args.text.now in
     let starts = c.args.starts.now in
-    let P = λ (s : ℕ). IsTrue (in_class (class_of c.args.class.now) s) in
-    let n = c.loop-p.p in
+    let class = class_of c.args.class.now in
+    let l = c.loop-p in
+    let n = l.p in
+    let most = c.min-most.result in
     let inside : n < length text = search rules in
-    elim c.if-contains.branch [
-      | then-contains+then-contains-2+in_ok-insert w ↦
-          (let e = w.in_ok-insert.ensures in
-          let read : w.index-text-p.result ≡ get_or text n 0 = get_or_read text n w.index-text-p.result inside w.index-text-p.is 0 in
-          rw w.out-is (runs_insert P text starts c.loop-p.out w.insert.new.self n c.loop-p.invariant inside (c.contains-in-loop-p.ensures.0 w.if-contains.true) (sym (ap (in_class (class_of c.args.class.now)) read) ∙ sym w.contains-then-contains.ensures ∙ w.if-contains-2.true) e.same e.old e.new))
-      | else-contains w ↦
-          (rw w.out-is (runs_skip P text starts c.loop-p.out n c.loop-p.invariant (λ h i.
-          elim w.else-contains.branch [
-            | else-contains-via-then-contains+else-contains-2 v ↦
-                (let read : v.index-text-p.result ≡ get_or text n 0 = get_or_read text n v.index-text-p.result inside v.index-text-p.is 0 in
-                let yes : v.contains-then-contains.result ≡ true = v.contains-then-contains.ensures ∙ ap (in_class (class_of c.args.class.now)) read ∙ i in let no = v.if-contains-2.false in cc)
-            | else-contains-via-else-contains v ↦ (let yes = c.contains-in-loop-p.ensures.1 h in let no = v.if-contains.false in cc)
-          ])))
+    let read : c.index-text-p.result ≡ get_or text n 0 = get_or_read text n c.index-text-p.result inside c.index-text-p.is 0 in
+    let tested : c.contains.result ≡ in_class class (get_or text n 0) = c.contains.ensures ∙ ap (in_class class) read in
+    let begin = c.begin_at-begin.result in
+    let e = c.begin_at-begin.ensures in
+    let begins = begin_on P text starts n l.begin begin c.contains.result inside (λ t. sym tested ∙ t) (λ f h. let t : c.contains.result ≡ true = tested ∙ h in cc) e.passes e.fails l.invariant.begin_is in
+    let bound = c.max-earliest.result in
+    let far = c.saturating_sub.ensures in
+    let max = c.max-earliest.ensures in
+    let next = c.in-Some-leading.next in
+    let found = c.in-Some-leading.ensures in
+    let from : begin ≤ bound = omega (arith, max) in
+    let near : n + 1 ≤ bound + most = omega (arith, far, max) in
+    elim c.if-start-least.branch [
+      | then-start-least+in_ok-insert w ↦
+          (let i = w.in_ok-insert.ensures in
+          rw w.out-is (runs_insert P text starts l.out c.args.least most n l.begin begin l.start bound inside l.invariant begins (λ p late close. omega (arith, far, max, late, close)) next found.next.0 found.next.1 from near found.first w.insert.new.self w.if-start-least.true i.same i.old i.new))
+      | else-start-least w ↦
+          (rw w.out-is (runs_skip P text starts l.out c.args.least most n l.begin begin l.start bound inside l.invariant begins (λ p late close. omega (arith, far, max, late, close)) next found.next.0 found.next.1 from near found.first (let short = w.if-start-least.false in omega (arith, short))))
     ]
 
 pub returns : goal.returns
-returns c = runs_all (λ s. IsTrue (in_class (class_of c.args.class.now) s)) c.args.text.now c.args.starts.now c.loop-p.out c.loop-p.p (λ p h inside. let past = c.loop-p-test.false in omega (arith, past, inside)) c.loop-p.invariant
-
-pub returns-then-not-contains : goal.returns-then-not-contains
-returns-then-not-contains c =
+returns c =
     let P = λ (s : ℕ). IsTrue (in_class (class_of c.args.class.now) s) in
     let l = c.loop-p in
-    runs_all P c.args.text.now c.args.starts.now l.out l.p
-    (runs_past P c.args.text.now c.args.starts.now l.out l.p c.high-high.result c.if-high-p.true c.high-high.ensures.above (λ h. let yes = c.contains.ensures.1 h in let no = c.if-not-contains.true in cc) l.invariant) l.invariant
+    let text = c.args.text.now in
+    runs_all P text c.args.starts.now l.out c.args.least c.min-most.result (c.args.least + c.args.further) l.p l.begin l.start (let least = c.min-most.ensures in let sum = c.saturating_add.ensures in omega (arith, least, sum))
+    (λ count few within. let least = c.min-most.ensures in let sum = c.saturating_add.ensures in omega (arith, least, sum, few, within))
+    (λ q p count later h few r. runs_end P text l.p (let done = c.loop-p-test.false in omega (arith, done)) q p count later r) l.invariant

@@ -1,4 +1,4 @@
-use Rattle.std.proofs.Common.{◌≡◌, ℕ, List, get_or, ◌+◌, ◌*◌, ◌-◌, ◌≤◌, ◌↔◌, inl, inr, refl, Some, None, IfOk, length, drop, arith, rules, sym, ◌∙◌, ap, subst}
+use Rattle.std.proofs.Common.{◌≡◌, ℕ, List, get_or, ◌+◌, ◌*◌, ◌-◌, ◌≤◌, ◌↔◌, inl, inr, refl, Some, IfOk, length, drop, arith, rules, sym, ◌∙◌, ap, subst}
 use Rattle.jp_iregexp.specs.declared.node.Node.{Node, the_lemmas}
 use Rattle.jp_iregexp.specs.declared.positions.PositionSet.{PositionSet}
 use Rattle.jp_model.specs.Pattern.Language.{Language, Repeats, RepeatsWithin}
@@ -8,7 +8,7 @@ use Rattle.jp_iregexp.proofs.Evens.{even_ends, even_none}
 use Rattle.jp_iregexp.specs.Nodes.{most_of, tree_of, sequence_list, choice_list}
 use Rattle.jp_iregexp.proofs.Parts.{tree_of_Sequence, tree_of_Choice, drop_item, drop_past, if_ok_map}
 use Rattle.jp_iregexp.proofs.Turns.{continue_start, sequence_step, sequence_end, gather_step, gather_end, exact_start, exact_step, exact_exit, exact_end, further_start, further_step, further_exit, further_end, front_start, front_step, times_some}
-use Rattle.jp_iregexp.proofs.Joined.{joined_ends, turns_ends, bounded_ends, only_numbered, only_ends, table_alike}
+use Rattle.jp_iregexp.proofs.Joined.{joined_ends, turns_ends, only_numbered, only_ends, table_alike}
 use Rattle.jp_iregexp.proofs.Reaching.{ends_none, same_over}
 use Rattle.jp_iregexp.proofs.Tails.{closed_numbered, front_left, kept_stays}
 use Rattle.jp_iregexp.proofs.Rows.{from_one, rows_push, table_ends}
@@ -58,10 +58,6 @@ pub ends-returns-in-Choice-clause-ends : goal.ends-returns-in-Choice-clause-ends
 ends-returns-in-Choice-clause-ends t c =
     let tree : tree_of c.args.node.now ≡ choice_list c.as_slice-in-Choice.result.now = ap tree_of c.in-Choice.is ∙ tree_of_Choice c.in-Choice.parts ∙ ap choice_list (sym c.as_slice-in-Choice.ensures.value) in
     subst (λ (r : Pattern). IfOk c.choice_ends.result (λ (out : PositionSet). AreEnds (Language r) c.args.self.now.text.now c.args.starts.now out)) (sym tree) c.choice_ends.ensures.ends
-
-pub exact_turns-returns-in-Class-clause-ends : goal.exact_turns-returns-in-Class-clause-ends
-exact_turns-returns-in-Class-clause-ends t c =
-    subst (λ (n : Node). IfOk c.count_ends.result (λ (out : PositionSet). AreEnds (Repeats (Language (tree_of n)) c.args.count) c.args.self.now.text.now c.args.starts.now out)) (sym c.in-Class.is) c.count_ends.ensures
 
 pub even_turns-returns-then-distance-self-clause-ends : goal.even_turns-returns-then-distance-self-clause-ends
 even_turns-returns-then-distance-self-clause-ends t c =
@@ -197,15 +193,11 @@ ends-returns-in-Repeated-clause-ends t c =
     (if_ok_map (λ (out : PositionSet). AreEnds (RepeatsWithin member n.least (Some (n.least + c.turns.result))) text starts out) (λ (out : PositionSet). AreEnds (RepeatsWithin member n.least (most_of n.least n.further)) text starts out) c.repeated_ends.result
     (λ out a. turns_ends member n.least n.further text starts out (subst (λ k. AreEnds (RepeatsWithin member n.least (Some (n.least + k))) text starts out) c.turns.ensures.turns a)) c.repeated_ends.ensures.ends)
 
-pub further_turns-returns-in-Class-2-clause-ends : goal.further_turns-returns-in-Class-2-clause-ends
-further_turns-returns-in-Class-2-clause-ends t c =
-    let member = Language (tree_of c.args.body.now) in
-    let text = c.args.self.now.text.now in
-    let starts = c.args.starts.now in
-    let most = c.args.most in
-    if_ok_map (λ (out : PositionSet). AreEnds (RepeatsWithin member 0 None) text starts out) (λ (out : PositionSet). AreEnds (RepeatsWithin member 0 (Some most)) text starts out) c.run_ends.result
-    (λ out a. bounded_ends member most text starts out c.if-most-self.false a)
-    (subst (λ (n : Node). IfOk c.run_ends.result (λ (out : PositionSet). AreEnds (RepeatsWithin (Language (tree_of n)) 0 None) text starts out)) (sym c.in-Class-2.is) c.run_ends.ensures)
+pub repeated_ends-returns-in-Class-clause-ends : goal.repeated_ends-returns-in-Class-clause-ends
+repeated_ends-returns-in-Class-clause-ends t c =
+    let least = c.args.least in
+    let most = Some (least + c.args.further) in
+    subst (λ (n : Node). IfOk c.run_ends.result (λ (out : PositionSet). AreEnds (RepeatsWithin (Language (tree_of n)) least most) c.args.self.now.text.now c.args.starts.now out)) (sym c.in-Class.is) c.run_ends.ensures
 
 pub repeated_ends-returns-in-Repeated-clause-ends : goal.repeated_ends-returns-in-Repeated-clause-ends
 repeated_ends-returns-in-Repeated-clause-ends t c =
@@ -247,8 +239,8 @@ repeated_ends-returns-clause-ends t c =
     let reached = c.in_ok-reached.reached in
     let least = c.args.least in
     let further = c.args.further in
-    if_ok_map (λ (out : PositionSet). AreEnds (RepeatsWithin member 0 (Some further)) text reached out) (λ (out : PositionSet). AreEnds (RepeatsWithin member least (Some (least + further))) text starts out) c.further_turns.result
-    (λ out b. times_some member least further text starts reached out c.in_ok-reached.ensures.ends b) c.further_turns.ensures.ends
+    if_ok_map (λ (out : PositionSet). AreEnds (RepeatsWithin member 0 (Some further)) text reached out) (λ (out : PositionSet). AreEnds (RepeatsWithin member least (Some (least + further))) text starts out) c.added_turns.result
+    (λ out b. times_some member least further text starts reached out c.in_ok-reached.ensures.ends b) c.added_turns.ensures.ends
 
 pub ends-returns-then-not-has_any-clause-ends : goal.ends-returns-then-not-has_any-clause-ends
 ends-returns-then-not-has_any-clause-ends t c =
