@@ -17,7 +17,7 @@ use Rattle.jp_laws.proofs.PathTexts.{name_scalar_by}
 use Rattle.jp_laws.proofs.Reached.{Each, each_append, all_each, each_all}
 
 -- no control character
-abbrev High : List ℕ → Type 0
+abbrev pub High : List ℕ → Type 0
 High bytes = Each (λ b. 32 ≤ b) bytes
 
 high_append : (xs ys : List ℕ) → High xs → High ys → High (xs ++ ys)
@@ -76,7 +76,7 @@ steps_high : (steps : List Step) → High (steps_text steps)
 steps_high [] = tt
 steps_high (s ∷ ss) = high_append (step_text s) (steps_text ss) (step_high s) (steps_high ss)
 
-path_high : (steps : List Step) → High (path_text steps)
+pub path_high : (steps : List Step) → High (path_text steps)
 path_high steps = encodes_high (36 ∷ steps_text steps) (omega arith, steps_high steps)
 
 -- ---- what is not there

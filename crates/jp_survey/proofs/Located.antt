@@ -17,6 +17,7 @@ use Rattle.std.proofs.lemmas.Str.{encode_ascii, encodes-append, encodes-IsAscii}
 use Rattle.memchr.specs.Find.{IsFirstByte, is_byte}
 use Rattle.jp_laws.proofs.PathTexts.{name_scalar_by}
 use Rattle.jp_laws.proofs.Reached.{Each, each_append}
+use Rattle.jp_laws.proofs.RowFields.{High, path_high}
 use Rattle.jp_model.proofs.Digits.{digits_model}
 use Rattle.jp_model.specs.Characters.{is_digit}
 use Rattle.jp_model.specs.Json.Numbers.{AreDigits}
@@ -108,66 +109,12 @@ index_clear (negsuc k) n = absurd (cc)
 
 -- ---- no control character is in a path
 
-abbrev High : List ℕ → Type 0
-High bytes = Each (λ b. 32 ≤ b) bytes
-
-high_append : (xs ys : List ℕ) → High xs → High ys → High (xs ++ ys)
-high_append xs ys h g = each_append (λ b. 32 ≤ b) xs ys h g
-
-digits_high : (ds : List ℕ) → AreDigits ds → High ds
-digits_high [] h = tt
-digits_high (d ∷ ds) h = (let bounds = digit_bounds d h.0 in omega (arith, bounds.0), digits_high ds h.1)
-
-hex_high : (n : ℕ) → 32 ≤ hex_digit n
-hex_high n = cond_both (nat_lt n 10) (48 + n) (87 + n) (λ b. 32 ≤ b) (λ e. omega arith) (λ e. omega arith)
-
-escape_high : (b : ℕ) → 32 ≤ b → High (92 ∷ b ∷ [])
-escape_high b h = (omega arith, (h, tt))
-
-scalar_high : (c : ℕ) → High (name_scalar c)
-scalar_high c =
-    name_scalar_by c High (λ e. escape_high 98 (omega arith)) (λ e. escape_high 116 (omega arith)) (λ e. escape_high 110 (omega arith)) (λ e. escape_high 102 (omega arith))
-    (λ e. escape_high 114 (omega arith)) (λ e. escape_high 39 (omega arith)) (λ e. escape_high 92 (omega arith))
-    (λ l. (omega arith, (omega arith, (omega arith, (omega arith, (hex_high (c / 16), (hex_high (c % 16), tt))))))) (λ l n m. (l, tt))
-
-name_high : (x : List ℕ) → High (flat_map name_scalar x)
-name_high [] = tt
-name_high (c ∷ x) = high_append (name_scalar c) (flat_map name_scalar x) (scalar_high c) (name_high x)
-
-one_high : (b : ℕ) → 32 ≤ b → High (b ∷ [])
-one_high b h = (h, tt)
-
-encode_high : (c : ℕ) → 32 ≤ c → High (encode c)
-unfolding encode
-encode_high c h =
-    cond_both (ltb c 128) _ _ High (λ e. (h, tt)) (λ a.
-    cond_both (ltb c 2048) _ _ High (λ e. (omega arith, (omega arith, tt))) (λ b.
-    cond_both (ltb c 65536) _ _ High (λ e. (omega arith, (omega arith, (omega arith, tt)))) (λ e. (omega arith, (omega arith, (omega arith, (omega arith, tt)))))))
-
-encodes_high : (cs : List ℕ) → High cs → High (encodes cs)
-encodes_high [] h = tt
-encodes_high (c ∷ cs) h = high_append (encode c) (encodes cs) (encode_high c h.0) (encodes_high cs h.1)
-
-step_high : (s : Step) → is_normal s ≡ true → High (step_text s)
-step_high (name_step x) n =
-    high_append (91 ∷ (39 ∷ flat_map name_scalar x ++ 39 ∷ [])) (93 ∷ []) (omega arith, (omega arith, high_append (flat_map name_scalar x) (39 ∷ []) (name_high x) (one_high 39 (omega arith)))) (one_high 93 (omega arith))
-step_high (index_step (pos k)) n =
-    high_append (91 ∷ decimal k) (93 ∷ []) (omega arith, digits_high (decimal k) (digits_decimal digits_model k (small_index k n))) (one_high 93 (omega arith))
-step_high (index_step (negsuc k)) n = absurd (cc)
-
-steps_high : (steps : List Step) → list_all is_normal steps ≡ true → High (steps_text steps)
-steps_high [] n = tt
-steps_high (s ∷ ss) n =
-    let both = and_parts (is_normal s) (list_all is_normal ss) n in
-    high_append (step_text s) (steps_text ss) (step_high s both.0) (steps_high ss both.1)
-
 high_apart : (bytes : List ℕ) → High bytes → Apart 9 bytes
 high_apart [] h = tt
 high_apart (b ∷ bytes) h = (λ (e : b ≡ 9). let k = h.0 in omega (arith, k, e), high_apart bytes h.1)
 
-pub path_before_tab : (location : List Step) → list_all is_normal location ≡ true → stands_before 9 (path_text location) ≡ true
-path_before_tab location n =
-    apart_before 9 (path_text location) (high_apart (path_text location) (encodes_high (36 ∷ steps_text location) (omega arith, steps_high location n)))
+pub path_before_tab : (location : List Step) → stands_before 9 (path_text location) ≡ true
+path_before_tab location = apart_before 9 (path_text location) (high_apart (path_text location) (path_high location))
 
 -- ---- the bytes of a name
 

@@ -101,7 +101,7 @@ fn count_told(tree: &mut Tree, path: &[u8], line: BatchLine<'_>) -> Result<(), A
     }
 }
 
-/// The same by its path and its text.
+/// Counts a node of the line that has begun, and all that is in it, by its path and its text.
 fn count_node(
     room: &mut BatchRoom,
     tree: &mut Tree,

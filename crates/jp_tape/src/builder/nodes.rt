@@ -91,7 +91,7 @@ impl Nodes {
         Ok(())
     }
 
-    /// Notes whether two of the names behind the first `outer` are equal. Where a fault is noted already, they are not compared.
+    /// Notes whether two of the names after the first `outer` are equal. Where a fault is noted already, they are not compared.
     #[inline(always)]
     fn note_equal_names(&mut self, line: &[u8], outer: usize) -> Result<(), AllocError>
         requires within { outer ≤ length self.old.names.items }
@@ -105,7 +105,7 @@ impl Nodes {
         Ok(())
     }
 
-    /// Writes the first two words of the node at this place, behind which the next child of its parent comes.
+    /// Writes the first two words of the node at this place, after which the next child of its parent comes.
     #[inline(always)]
     fn finish(&mut self, place: usize, head: u64, span: u64)
         requires { 3 * place + 2 < length self.old.words.items }

@@ -11,12 +11,12 @@ returns-in_default-clause-parts c number location text small normal is =
 pub returns-in_default-cut_at-clause-parts : goal.returns-in_default-cut_at-clause-parts
 returns-in_default-cut_at-clause-parts c number location text small normal is =
     let first = c.in-Some.ensures.cut (decimal number) (path_text location ++ 9 ∷ text) (number_before 58 number (omega arith) small) is in
-    c.in_default-cut_at.ensures.cut (path_text location) text (path_before_tab location normal) first.1
+    c.in_default-cut_at.ensures.cut (path_text location) text (path_before_tab location) first.1
 
 pub returns-clause-parts : goal.returns-clause-parts
 returns-clause-parts c number location text small normal is =
     let first = c.in-Some.ensures.cut (decimal number) (path_text location ++ 9 ∷ text) (number_before 58 number (omega arith) small) is in
-    let second = c.in-Some-cut_at.ensures.cut (path_text location) text (path_before_tab location normal) first.1 in
+    let second = c.in-Some-cut_at.ensures.cut (path_text location) text (path_before_tab location) first.1 in
     (first.0, second.0, second.1)
 
 pub returns-clause-none : goal.returns-clause-none
