@@ -1,11 +1,11 @@
 -- The parser's lists, oldest first, and the definition's, latest first.
-use Rattle.std.proofs.Common.{◌≡◌, ◌≤◌, length, List, [], ◌∷◌, ◌++◌, refl, sym, ◌∙◌, ap, arith, Option, None, Global, Vec}
+use Rattle.std.proofs.Common.{◌≡◌, ◌≤◌, length, List, [], ◌∷◌, ◌++◌, refl, sym, ◌∙◌, ap, arith, Option, Some, None, Global, Vec}
 use Rattle.jp_iregexp.specs.declared.node.Node.{Node, Sequence, Choice}
 use Rattle.jp_model.specs.Pattern.Tree.{Pattern, empty, never}
 use Rattle.jp_iregexp.specs.Nodes.{tree_of, sequence_list, choice_list}
 use Rattle.jp_model.specs.Pattern.Groups.{Group, sequence_onto, choice_onto, at_end}
 use Rattle.jp_iregexp.specs.declared.group.Group.{Group as OpenGroup}
-use Rattle.jp_iregexp.specs.Groups.{latest_onto, latest_first, group_of, groups_onto, groups_latest}
+use Rattle.jp_iregexp.specs.Groups.{atom_of, latest_onto, latest_first, group_of, groups_onto, groups_latest}
 use Rattle.jp_iregexp.proofs.Parts.{tree_of_Sequence, tree_of_Choice}
 
 latest_push : (parts : List Node) (part : Node) (done : List Pattern) → latest_onto (parts ++ part ∷ []) done ≡ tree_of part ∷ latest_onto parts done
@@ -39,6 +39,18 @@ reading branches pieces atom = record { branches = branches; pieces = pieces; at
 
 pub same_group : (b c p q : List Pattern) (a d : Option Pattern) → b ≡ c → p ≡ q → a ≡ d → reading b p a ≡ reading c q d
 same_group b c p q a d e f g = ap (λ x. reading x p a) e ∙ ap (λ x. reading c x a) f ∙ ap (λ x. reading c q x) g
+
+onto_some_part : (parts : List Node) (part : Pattern) (done : List Pattern) → latest_onto parts (part ∷ done) ≡ [] → ⊥
+onto_some_part [] part done e = cc
+onto_some_part (p ∷ parts) part done e = onto_some_part parts (tree_of p) (part ∷ done) e
+
+pub no_parts : (parts : List Node) → latest_first parts ≡ [] → parts ≡ []
+no_parts [] e = refl
+no_parts (p ∷ parts) e = absurd (onto_some_part parts (tree_of p) [] e)
+
+pub no_atom : (atom : Option Node) → atom_of atom ≡ None → atom ≡ None
+no_atom None e = refl
+no_atom (Some atom) e = absurd (cc)
 
 groups_push : (groups : List OpenGroup) (g : OpenGroup) (done : List Group) → groups_onto (groups ++ g ∷ []) done ≡ group_of g ∷ groups_onto groups done
 groups_push [] g done = refl

@@ -211,16 +211,15 @@ part_numbered : (bodies : List Pattern) (node part : Node) (parts : Vec Node Glo
 part_numbered bodies node part parts (inl is) one k = (subst (NumberedList bodies) one (from_Sequence bodies parts (subst (Numbered bodies) is k))).0
 part_numbered bodies node part parts (inr is) one k = (subst (NumberedList bodies) one (from_Choice bodies parts (subst (Numbered bodies) is k))).0
 
-number_alike : (bodies : List Pattern) (node part : Node) (table : Option ℕ) → AreAlike (Language (tree_of part)) (Language (tree_of node)) → IsNumber bodies node table → IsNumber bodies part table
-number_alike bodies node part None a k = tt
-number_alike bodies node part (Some number) a k = record { to = λ x m. a.from x (k.to x m); from = λ x m. k.from x (a.to x m) }
+number_alike : (bodies : List Pattern) (node part : Node) (number : ℕ) → AreAlike (Language (tree_of part)) (Language (tree_of node)) → IsNumber bodies node number → IsNumber bodies part number
+number_alike bodies node part number a k = record { to = λ x m. a.from x (k.to x m); from = λ x m. k.from x (a.to x m) }
 
 module _ (node part : Node) (parts : Vec Node Global) (items : List Node) (is : (node ≡ Sequence parts) ⊎ (node ≡ Choice parts)) (are : items ≡ parts.items) (size : length items ≡ 1) (found : part ≡ get_or items 0 part) where
   one : parts.items ≡ part ∷ []
   one = sym are ∙ one_item items part size found
 
-  pub only_numbered : (bodies : List Pattern) (table : Option ℕ) → Numbered bodies node × IsNumber bodies node table → Numbered bodies part × IsNumber bodies part table
-  only_numbered bodies table k = (part_numbered bodies node part parts is one k.0, number_alike bodies node part table (only_alike node part parts is one) k.1)
+  pub only_numbered : (bodies : List Pattern) (number : ℕ) → Numbered bodies node × IsNumber bodies node number → Numbered bodies part × IsNumber bodies part number
+  only_numbered bodies number k = (part_numbered bodies node part parts is one k.0, number_alike bodies node part number (only_alike node part parts is one) k.1)
 
   pub only_ends : (least : ℕ) (most : Option ℕ) (text : List ℕ) (starts ends : PositionSet) → AreEnds (RepeatsWithin (Language (tree_of part)) least most) text starts ends → AreEnds (RepeatsWithin (Language (tree_of node)) least most) text starts ends
   only_ends least most text starts ends a =

@@ -1,18 +1,18 @@
 -- Parts with their numbers, as a row and as a list.
-use Rattle.std.proofs.Common.{◌≡◌, ℕ, zero, suc, ◌+◌, ◌<◌, ◌⊎◌, inl, inr, List, [], ◌∷◌, ◌++◌, length, take, map, get_or, Option, Some, None, arith, refl, sym, ◌∙◌, ap, subst, length-append, slice_set, Global, Vec}
+use Rattle.std.proofs.Common.{◌≡◌, ℕ, zero, suc, ◌+◌, ◌<◌, ◌⊎◌, inl, inr, List, [], ◌∷◌, ◌++◌, length, get_or, Option, Some, None, arith, refl, sym, ◌∙◌, ap, subst, length-append, slice_set, Global, Vec}
 use Rattle.std.proofs.Math.Seq.{get_or-append_seam}
-use Rattle.std.proofs.lemmas.List.{map-append, append_assoc}
+use Rattle.std.proofs.lemmas.List.{append_assoc}
 use Rattle.std.proofs.lemmas.Option.{none-some, option_and_then_some}
 use Rattle.jp_model.specs.Pattern.Language.{Language}
-use Rattle.jp_model.specs.Pattern.Tree.{Pattern, empty, followed_by, never, either_of}
+use Rattle.jp_model.specs.Pattern.Tree.{Pattern, empty}
 use Rattle.jp_iregexp.specs.declared.node.Node.{Node, Sequence, Choice, Class as ClassNode, Sequence', Choice', Repeated', Row_of-Node, end_of-Node, more_of-Node, items-the_row-Node, items_hidden-the_row-Node-0}
 use Rattle.jp_iregexp.specs.declared.positions.PositionSet.{PositionSet}
-use Rattle.jp_iregexp.specs.Numbers.{next_of, numbers_behind, parts_behind}
+use Rattle.jp_iregexp.specs.Numbers.{next_of, numbers_after, parts_after}
 use Rattle.jp_iregexp.specs.Kept.{IsAdded}
-use Rattle.jp_iregexp.specs.Tables.{AreAlike, AreTables, IsTable, IsNumber, Numbered, NumberedParts, NumberedList, bodies_of, bodies_in, with_number}
-use Rattle.jp_iregexp.specs.Nodes.{tree_of, sequence_list, choice_list}
+use Rattle.jp_iregexp.specs.Tables.{AreAlike, AreTables, IsTable, IsNumber, Numbered, NumberedParts, NumberedList, bodies_of, bodies_in}
+use Rattle.jp_iregexp.specs.Nodes.{tree_of}
 use Rattle.jp_iregexp.proofs.Numbering.{next_is}
-use Rattle.jp_iregexp.proofs.Parts.{row_of, take_item, tree_of_Sequence, tree_of_Choice}
+use Rattle.jp_iregexp.proofs.Parts.{row_of}
 
 list_numbered : (bodies : List Pattern) (n : _) (row : Row_of-Node n) → NumberedParts bodies row → NumberedList bodies (items-the_row-Node n row)
 list_numbered bodies n end_of-Node k = tt
@@ -35,28 +35,23 @@ numbered_at bodies (p ∷ parts) (suc i) part l is k = numbered_at bodies parts 
 
 -- ---- numbers that ascend are those of the bodies
 
-number_size : (due last : ℕ) (table : Option ℕ) (body : Pattern) → next_of due table ≡ Some last → last ≡ due + length (with_number table body)
-number_size due last None body e = (let same : due ≡ last = cc in omega arith)
-number_size due last (Some number) body e = (let next = (next_is due last number e).next in omega (arith, next))
-
 mutual
-  bodies_size : (first last : ℕ) (node : Node) → numbers_behind first node ≡ Some last → last ≡ first + length (bodies_of node)
+  bodies_size : (first last : ℕ) (node : Node) → numbers_after first node ≡ Some last → last ≡ first + length (bodies_of node)
   bodies_size first last (ClassNode c) e = (let same : first ≡ last = cc in omega arith)
   bodies_size first last (Sequence' shape parts) e = row_size first last _ parts e
   bodies_size first last (Choice' shape parts) e = row_size first last _ parts e
-  bodies_size first last (Repeated' p body least further table) e =
-      option_and_then_some (λ due. next_of due table) (numbers_behind first body) last e
-      (λ due b n. (let one = bodies_size first due body b in let other = number_size due last table (tree_of body) n in let both = length-append (bodies_of body) (with_number table (tree_of body)) in omega (arith, one, other, both)))
+  bodies_size first last (Repeated' p body least further number) e =
+      option_and_then_some (λ due. next_of due number) (numbers_after first body) last e
+      (λ due b n. (let one = bodies_size first due body b in let other = (next_is due last number n).next in let both = length-append (bodies_of body) (tree_of body ∷ []) in omega (arith, one, other, both)))
 
-  row_size : (first last : ℕ) (n : _) (row : Row_of-Node n) → parts_behind first row ≡ Some last → last ≡ first + length (bodies_in row)
+  row_size : (first last : ℕ) (n : _) (row : Row_of-Node n) → parts_after first row ≡ Some last → last ≡ first + length (bodies_in row)
   row_size first last n end_of-Node e = (let same : first ≡ last = cc in omega arith)
   row_size first last n (more_of-Node part rest) e =
-      option_and_then_some (λ due. parts_behind due rest) (numbers_behind first part) last e
+      option_and_then_some (λ due. parts_after due rest) (numbers_after first part) last e
       (λ due b r. (let one = bodies_size first due part b in let other = row_size due last _ rest r in let both = length-append (bodies_of part) (bodies_in rest) in omega (arith, one, other, both)))
 
-has_number : (before after : List Pattern) (body : Node) (due last : ℕ) (table : Option ℕ) → due ≡ length before → next_of due table ≡ Some last → IsNumber (before ++ (with_number table (tree_of body) ++ after)) body table
-has_number before after body due last None at e = tt
-has_number before after body due last (Some number) at e =
+has_number : (before after : List Pattern) (body : Node) (due last number : ℕ) → due ≡ length before → next_of due number ≡ Some last → IsNumber (before ++ (tree_of body ∷ [] ++ after)) body number
+has_number before after body due last number at e =
     let is : number ≡ length before = (next_is due last number e).is ∙ at in
     let same : get_or (before ++ tree_of body ∷ after) number empty ≡ tree_of body = ap (λ n. get_or (before ++ tree_of body ∷ after) n empty) is ∙ get_or-append_seam before (tree_of body) after empty in
     subst (λ (r : Pattern). AreAlike (Language r) (Language (tree_of body))) (sym same) (record { to = λ x m. m; from = λ x m. m })
@@ -66,26 +61,26 @@ three : (before one two after : List Pattern) → before ++ one ++ (two ++ after
 three before one two after = append_assoc before one (two ++ after) ∙ ap (λ l. before ++ l) (sym (append_assoc one two after))
 
 mutual
-  numbered : (before after : List Pattern) (node : Node) (first last : ℕ) → first ≡ length before → numbers_behind first node ≡ Some last → Numbered (before ++ (bodies_of node ++ after)) node
+  numbered : (before after : List Pattern) (node : Node) (first last : ℕ) → first ≡ length before → numbers_after first node ≡ Some last → Numbered (before ++ (bodies_of node ++ after)) node
   numbered before after (ClassNode c) first last at e = tt
   numbered before after (Sequence' shape parts) first last at e = row_numbered before after _ parts first last at e
   numbered before after (Choice' shape parts) first last at e = row_numbered before after _ parts first last at e
-  numbered before after (Repeated' p body least further table) first last at e =
-      option_and_then_some (λ due. next_of due table) (numbers_behind first body) last e
+  numbered before after (Repeated' p body least further number) first last at e =
+      option_and_then_some (λ due. next_of due number) (numbers_after first body) last e
       (λ due b n.
       (let inner = bodies_of body in
-      let own = with_number table (tree_of body) in
+      let own = tree_of body ∷ [] in
       let size = bodies_size first due body b in
       let both = length-append before inner in
       let place : due ≡ length (before ++ inner) = omega (arith, at, size, both) in (
         subst (λ (l : List Pattern). Numbered l body) (ap (λ l. before ++ l) (sym (append_assoc inner own after))) (numbered before (own ++ after) body first due at b),
-        subst (λ (l : List Pattern). IsNumber l body table) (three before inner own after) (has_number (before ++ inner) after body due last table place n),
+        subst (λ (l : List Pattern). IsNumber l body number) (three before inner own after) (has_number (before ++ inner) after body due last number place n),
       )))
 
-  row_numbered : (before after : List Pattern) (n : _) (row : Row_of-Node n) (first last : ℕ) → first ≡ length before → parts_behind first row ≡ Some last → NumberedParts (before ++ (bodies_in row ++ after)) row
+  row_numbered : (before after : List Pattern) (n : _) (row : Row_of-Node n) (first last : ℕ) → first ≡ length before → parts_after first row ≡ Some last → NumberedParts (before ++ (bodies_in row ++ after)) row
   row_numbered before after n end_of-Node first last at e = tt
   row_numbered before after n (more_of-Node part rest) first last at e =
-      option_and_then_some (λ due. parts_behind due rest) (numbers_behind first part) last e
+      option_and_then_some (λ due. parts_after due rest) (numbers_after first part) last e
       (λ due b r.
       (let inner = bodies_of part in
       let own = bodies_in rest in
@@ -101,7 +96,7 @@ append_none [] = refl
 append_none (r ∷ l) = ap (λ x. r ∷ x) (append_none l)
 
 -- each body of a pattern has its number
-pub whole_numbered : (root : Node) (last : ℕ) → numbers_behind 0 root ≡ Some last → Numbered (bodies_of root) root
+pub whole_numbered : (root : Node) (last : ℕ) → numbers_after 0 root ≡ Some last → Numbered (bodies_of root) root
 whole_numbered root last e = subst (λ (l : List Pattern). Numbered l root) (append_none (bodies_of root)) (numbered [] [] root 0 last refl e)
 
 -- ---- tables
@@ -131,34 +126,3 @@ set_some (r ∷ rows) zero row zero other e = inl (refl, cc)
 set_some (r ∷ rows) zero row (suc n) other e = inr e
 set_some (r ∷ rows) (suc i) row zero other e = inr e
 set_some (r ∷ rows) (suc i) row (suc n) other e = elim (set_some rows i row n other e) [ inl p ↦ inl (ap suc p.0, p.1) | inr p ↦ inr p ]
-
--- ---- the trees of parts in a row
-
-abbrev in_sequence : List Pattern → Pattern
-in_sequence [] = empty
-in_sequence (r ∷ rest) = followed_by r (in_sequence rest)
-
-abbrev in_choice : List Pattern → Pattern
-in_choice [] = never
-in_choice (r ∷ rest) = either_of r (in_choice rest)
-
-sequence_trees : (parts : List Node) → sequence_list parts ≡ in_sequence (map tree_of parts)
-sequence_trees [] = refl
-sequence_trees (p ∷ parts) = ap (followed_by (tree_of p)) (sequence_trees parts)
-
-choice_trees : (parts : List Node) → choice_list parts ≡ in_choice (map tree_of parts)
-choice_trees [] = refl
-choice_trees (p ∷ parts) = ap (either_of (tree_of p)) (choice_trees parts)
-
-pub same_sequence : (made parts : Vec Node Global) → map tree_of made.items ≡ map tree_of parts.items → tree_of (Sequence made) ≡ tree_of (Sequence parts)
-same_sequence made parts e =
-    tree_of_Sequence made ∙ sequence_trees made.items ∙ ap in_sequence e ∙ sym (tree_of_Sequence parts ∙ sequence_trees parts.items)
-
-pub same_choice : (made parts : Vec Node Global) → map tree_of made.items ≡ map tree_of parts.items → tree_of (Choice made) ≡ tree_of (Choice parts)
-same_choice made parts e =
-    tree_of_Choice made ∙ choice_trees made.items ∙ ap in_choice e ∙ sym (tree_of_Choice parts ∙ choice_trees parts.items)
-
-pub same_push : (parts made more : List Node) (i : ℕ) (part prepared : Node) → i < length parts → part ≡ get_or parts i part → more ≡ made ++ prepared ∷ [] → map tree_of made ≡ map tree_of (take i parts) → tree_of prepared ≡ tree_of part → map tree_of more ≡ map tree_of (take (i + 1) parts)
-same_push parts made more i part prepared l is m so_far same =
-    ap (map tree_of) m ∙ map-append tree_of made (prepared ∷ []) ∙ ap (λ x. x ++ tree_of prepared ∷ []) so_far ∙ ap (λ r. map tree_of (take i parts) ++ r ∷ []) same
-    ∙ sym (map-append tree_of (take i parts) (part ∷ [])) ∙ ap (map tree_of) (sym (take_item parts i part l is))

@@ -1,5 +1,5 @@
 -- A tail of a set, word by word, and sets that no turn leaves.
-use Rattle.std.proofs.Common.{◌≡◌, ℕ, ◌+◌, ◌-◌, ◌/◌, ◌%◌, ◌^◌, ◌<◌, ◌≤◌, inl, inr, List, [], get_or, Option, Some, None, Bool, true, false, w64, arith, sym, ◌∙◌, ap, subst}
+use Rattle.std.proofs.Common.{◌≡◌, ℕ, ◌+◌, ◌-◌, ◌/◌, ◌%◌, ◌^◌, ◌<◌, ◌≤◌, inl, inr, List, [], get_or, Option, None, Bool, true, false, w64, arith, sym, ◌∙◌, ap, subst}
 use Rattle.std.specs.Int.{bit_at, trailing_zeros}
 use Rattle.std.proofs.lemmas.Nat.Bits.{bit_at-zero, bit_at-trailing_zeros}
 use Rattle.std.proofs.lemmas.Option.{none-some}
@@ -119,14 +119,11 @@ more_closed text root old new number set c kept are n other is =
     ]
 
 -- what is closed under a body is so under the one with its number
-pub closed_numbered : (text : List ℕ) (root body : Node) (table : Option ℕ) (set : PositionSet) → IsNumber (bodies_of root) body table → IsClosed (Language (tree_of body)) text set → (number : ℕ) → table ≡ Some number → IsClosed (Language (get_or (bodies_of root) number empty)) text set
-closed_numbered text root body table set n c number is =
-    let alike : IsNumber (bodies_of root) body (Some number) = subst (IsNumber (bodies_of root) body) is n in
-    closed_alike (Language (tree_of body)) (Language (get_or (bodies_of root) number empty)) text set (record { to = alike.from; from = alike.to }) c
+pub closed_numbered : (text : List ℕ) (root body : Node) (number : ℕ) (set : PositionSet) → IsNumber (bodies_of root) body number → IsClosed (Language (tree_of body)) text set → IsClosed (Language (get_or (bodies_of root) number empty)) text set
+closed_numbered text root body number set alike c = closed_alike (Language (tree_of body)) (Language (get_or (bodies_of root) number empty)) text set (record { to = alike.from; from = alike.to }) c
 
 -- the frontier is a tail of a set that is kept
-pub kept_stays : (text : List ℕ) (root body : Node) (table : Option ℕ) (sets : List (Option PositionSet)) (reached frontier : PositionSet) → IsNumber (bodies_of root) body table → AreClosed text root sets → IsTailOfKept sets table frontier → Fronts (Language (tree_of body)) text reached frontier → IsClosed (Language (tree_of body)) text reached
-kept_stays text root body table sets reached frontier n are k f =
-    let alike : IsNumber (bodies_of root) body (Some k.number) = subst (IsNumber (bodies_of root) body) k.is n in
-    let whole = closed_alike (Language (get_or (bodies_of root) k.number empty)) (Language (tree_of body)) text k.whole alike (are k.number k.whole k.kept) in
+pub kept_stays : (text : List ℕ) (root body : Node) (number : ℕ) (sets : List (Option PositionSet)) (reached frontier : PositionSet) → IsNumber (bodies_of root) body number → AreClosed text root sets → IsTailOfKept sets number frontier → Fronts (Language (tree_of body)) text reached frontier → IsClosed (Language (tree_of body)) text reached
+kept_stays text root body number sets reached frontier alike are k f =
+    let whole = closed_alike (Language (get_or (bodies_of root) number empty)) (Language (tree_of body)) text k.whole alike (are number k.whole k.kept) in
     front_stays (Language (tree_of body)) text reached frontier f (closed_tail (Language (tree_of body)) text frontier k.whole k.tail whole)

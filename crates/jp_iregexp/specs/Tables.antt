@@ -38,27 +38,21 @@ pub record AreAlike (First Second : List ℕ → Type 0) : Type 0 where
   pub to : (x : List ℕ) → First x → Second x
   pub from : (x : List ℕ) → Second x → First x
 
--- the pattern of a body, if it has a number
-abbrev pub with_number : Option ℕ → Pattern → List Pattern
-with_number None body = []
-with_number (Some number) body = body ∷ []
-
--- the patterns of the bodies that have a number, each after those within it
+-- the patterns of the bodies of repeated parts, each after those within it
 abbrev mutual
   pub bodies_of : Node → List Pattern
   bodies_of (ClassNode c) = []
   bodies_of (Sequence' shape parts) = bodies_in parts
   bodies_of (Choice' shape parts) = bodies_in parts
-  bodies_of (Repeated' p body least further table) = bodies_of body ++ with_number table (tree_of body)
+  bodies_of (Repeated' p body least further number) = bodies_of body ++ tree_of body ∷ []
 
   pub bodies_in : {m : _} → Row_of-Node m → List Pattern
   bodies_in end_of-Node = []
   bodies_in (more_of-Node part rest) = bodies_of part ++ bodies_in rest
 
--- the number of a body, if it has one, is that of a pattern with the same members
-abbrev pub IsNumber : List Pattern → Node → Option ℕ → Type 0
-IsNumber bodies body None = Unit {0}
-IsNumber bodies body (Some number) = AreAlike (Language (get_or bodies number empty)) (Language (tree_of body))
+-- the number of a body is that of a pattern with the same members
+abbrev pub IsNumber : List Pattern → Node → ℕ → Type 0
+IsNumber bodies body number = AreAlike (Language (get_or bodies number empty)) (Language (tree_of body))
 
 -- so is that of each body in a part
 abbrev mutual
@@ -66,15 +60,15 @@ abbrev mutual
   Numbered bodies (ClassNode c) = Unit {0}
   Numbered bodies (Sequence' shape parts) = NumberedParts bodies parts
   Numbered bodies (Choice' shape parts) = NumberedParts bodies parts
-  Numbered bodies (Repeated' p body least further table) = Numbered bodies body × IsNumber bodies body table
+  Numbered bodies (Repeated' p body least further number) = Numbered bodies body × IsNumber bodies body number
 
   pub NumberedParts : List Pattern → {m : _} → Row_of-Node m → Type 0
   NumberedParts bodies end_of-Node = Unit {0}
   NumberedParts bodies (more_of-Node part rest) = Numbered bodies part × NumberedParts bodies rest
 
 -- the same of the turns of a part
-abbrev pub NumberedTurns : List Pattern → Node → Option ℕ → Type 0
-NumberedTurns bodies body table = Numbered bodies body × IsNumber bodies body table
+abbrev pub NumberedTurns : List Pattern → Node → ℕ → Type 0
+NumberedTurns bodies body number = Numbered bodies body × IsNumber bodies body number
 
 -- the same of a list of parts
 abbrev pub NumberedList : List Pattern → List Node → Type 0
@@ -90,9 +84,7 @@ abbrev pub AreClosed : List ℕ → Node → List (Option PositionSet) → Type 
 AreClosed text root sets = (number : ℕ) (set : PositionSet) → get_or sets number None ≡ Some set → IsClosed (Language (get_or (bodies_of root) number empty)) text set
 
 -- the set is a tail of the one that is kept by this number
-pub record IsTailOfKept (sets : List (Option PositionSet)) (table : Option ℕ) (set : PositionSet) : Type 0 where
-  pub number : ℕ
+pub record IsTailOfKept (sets : List (Option PositionSet)) (number : ℕ) (set : PositionSet) : Type 0 where
   pub whole : PositionSet
-  pub is : table ≡ Some number
   pub kept : get_or sets number None ≡ Some whole
   pub tail : IsTail set whole

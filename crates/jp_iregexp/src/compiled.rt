@@ -1,46 +1,39 @@
 //! A pattern's tree, and its automaton where it has one.
 
-ghost use Rattle.std.specs.Prelude.{◌≡◌, true, IfOk, map, None};
-ghost use Rattle.std.specs.Option.{IfSome, is_some};
+ghost use Rattle.std.specs.Prelude.{◌≡◌, IfOk, Some, map};
+ghost use Rattle.std.specs.Option.{IfSome};
+ghost use Rattle.std.proofs.Props.{props};
 ghost use Rattle.jp_iregexp.specs.States.{Accepts};
 ghost use Rattle.jp_iregexp.specs.Layouts.{state_of};
 ghost use Rattle.jp_iregexp.specs.Nodes.{tree_of};
-ghost use Rattle.jp_iregexp.specs.Numbers.{numbers_behind};
+ghost use Rattle.jp_iregexp.specs.Numbers.{numbers_after};
 
 use crate::automaton::Automaton;
 use crate::layout::automaton_of;
 use crate::node::Node;
-use crate::numbers::with_numbers;
+use crate::parsed::Parsed;
 use std::alloc::{AllocError, Global};
 
-/// A tree and its automaton, which it has where it is small enough. In another one the bodies of repeated parts are numbered, and
-/// it is known how many they are.
+/// A tree, how many of its parts are repeated, and its automaton, which it has where it is small enough.
 #[derive(Drop)]
 pub(crate) struct Compiled {
     pub(crate) root: Node,
     pub(crate) automaton: Option<Automaton>,
     pub(crate) repeated: usize,
     ghost same: { ∥ IfSome automaton (λ a. Accepts (map state_of a.states.items) a.starts (tree_of root)) ∥₁ },
-    ghost numbered: { automaton ≡ None → is_some (numbers_behind 0 root) ≡ true },
+    ghost numbered: { numbers_after 0 root ≡ Some repeated } by { Prim.hlevel props },
 }
 
 impl Compiled {
     /// Lays the tree out. If memory is refused, the answer is an error.
-    pub(crate) fn new(alloc: Global, root: Node) -> Result<Compiled, AllocError>
-        ensures { IfOk result (λ compiled. tree_of compiled.root ≡ tree_of root) }
+    pub(crate) fn new(alloc: Global, parsed: Parsed) -> Result<Compiled, AllocError>
+        ensures { IfOk result (λ compiled. tree_of compiled.root ≡ tree_of parsed.root) }
     {
-        let automaton = automaton_of(alloc, &root)?;
-        if automaton.is_some() {
-            return Ok(Compiled {
-                root,
-                automaton,
-                repeated: 0,
-            });
-        }
-        let (root, repeated) = with_numbers(alloc, &root)?;
+        let automaton = automaton_of(alloc, &parsed.root)?;
+        let Parsed { root, repeated } = parsed;
         Ok(Compiled {
             root,
-            automaton: None,
+            automaton,
             repeated,
         })
     }

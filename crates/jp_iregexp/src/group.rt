@@ -1,9 +1,10 @@
 //! What was read of one group of a pattern (RFC 9485, section 3).
 
-ghost use Rattle.std.specs.Prelude.{◌≡◌, IfOk, OnOk, Some, None, if◌then◌else◌};
+ghost use Rattle.std.specs.Prelude.{◌≡◌, ℕ, IfOk, IsTrue, OnOk, Some, None, if◌then◌else◌, option_and_then};
 ghost use Rattle.jp_iregexp.specs.Groups.{group_of, atom_of, latest_first};
 ghost use Rattle.jp_model.specs.Pattern.Groups.{fresh, with_atom, add_atom, add_count, next_branch, whole_of};
 ghost use Rattle.jp_iregexp.specs.Nodes.{most_of, tree_of};
+ghost use Rattle.jp_iregexp.specs.Numbers.{group_after, next_of, numbers_after};
 
 use crate::node::Node;
 use std::alloc::{AllocError, Global};
@@ -18,9 +19,9 @@ pub(crate) struct Group {
 
 impl Group {
     /// A group with nothing read yet.
-    #[tactic(auto, using(crate::proofs::Built::first_push))]
     pub(crate) fn new(alloc: Global) -> Group
-        ensures { group_of result ≡ fresh }
+        ensures group { group_of result ≡ fresh }
+        ensures numbers { (first : ℕ) → group_after first result ≡ Some first }
     {
         Group {
             branches: Vec::new(alloc),
@@ -30,13 +31,11 @@ impl Group {
     }
 
     /// One more atom.
-    #[tactic(auto, using(crate::proofs::Built::first_push))]
     pub(crate) fn add_atom(&mut self, atom: Node) -> Result<(), AllocError>
-        ensures { OnOk result (group_of self.new ≡ add_atom (tree_of atom) (group_of self.old)) }
+        ensures group { OnOk result (group_of self.new ≡ add_atom (tree_of atom) (group_of self.old)) }
+        ensures numbers { OnOk result ((first : ℕ) → group_after first self.new ≡ option_and_then (λ due. numbers_after due atom) (group_after first self.old)) }
     {
-        if let Some(piece) = self.atom.take() {
-            self.pieces.push(piece)?;
-        }
+        self.end_piece()?;
         self.atom = Some(atom);
         Ok(())
     }
@@ -47,6 +46,7 @@ impl Group {
         ensures pieces { OnOk result (latest_first self.new.pieces.items ≡ with_atom (atom_of self.old.atom) (latest_first self.old.pieces.items)) }
         ensures atom { OnOk result (self.new.atom ≡ None) }
         ensures branches { self.new.branches ≡ self.old.branches }
+        ensures numbers { OnOk result ((first : ℕ) → group_after first self.new ≡ group_after first self.old) }
     {
         if let Some(piece) = self.atom.take() {
             self.pieces.push(piece)?;
@@ -54,15 +54,18 @@ impl Group {
         Ok(())
     }
 
-    /// The atom with a quantifier after it, and whether there is an atom. Where there is none, nothing changes.
+    /// The atom with a quantifier after it, which gets this number, and whether there is an atom. Where there is none, nothing
+    /// changes.
     #[tactic(auto, using(crate::proofs::Built::first_push))]
     pub(crate) fn add_count(
         &mut self,
         alloc: Global,
         least: u32,
         further: Option<u32>,
+        number: usize,
     ) -> Result<bool, AllocError>
-        ensures { IfOk result (λ stands. add_count least (most_of least further) (group_of self.old) (group_of self.old).atom ≡ (if stands then Some (group_of self.new) else None)) }
+        ensures group { IfOk result (λ stands. add_count least (most_of least further) (group_of self.old) (group_of self.old).atom ≡ (if stands then Some (group_of self.new) else None)) }
+        ensures numbers { IfOk result (λ stands. IsTrue stands → (first : ℕ) → group_after first self.new ≡ option_and_then (λ due. next_of due number) (group_after first self.old)) }
     {
         match self.atom.take() {
             None => Ok(false),
@@ -71,7 +74,7 @@ impl Group {
                     body: Box::new(alloc, atom)?,
                     least,
                     further,
-                    table: None,
+                    number,
                 })?;
                 Ok(true)
             }
@@ -81,7 +84,8 @@ impl Group {
     /// The branch ends, and another begins.
     #[tactic(auto, using(crate::proofs::Built::first_push))]
     pub(crate) fn end_branch(&mut self, alloc: Global) -> Result<(), AllocError>
-        ensures { OnOk result (group_of self.new ≡ next_branch (group_of self.old)) }
+        ensures group { OnOk result (group_of self.new ≡ next_branch (group_of self.old)) }
+        ensures numbers { OnOk result ((first : ℕ) → group_after first self.new ≡ group_after first self.old) }
     {
         self.end_piece()?;
         let pieces = std::mem::replace(&mut self.pieces, Vec::new(alloc));
@@ -92,7 +96,8 @@ impl Group {
     /// The group as one part.
     #[tactic(auto, using(crate::proofs::Built::first_push))]
     pub(crate) fn into_node(mut self, alloc: Global) -> Result<Node, AllocError>
-        ensures { IfOk result (λ node. tree_of node ≡ whole_of (group_of self)) }
+        ensures tree { IfOk result (λ node. tree_of node ≡ whole_of (group_of self)) }
+        ensures numbers { IfOk result (λ node. (first : ℕ) → numbers_after first node ≡ group_after first self) }
     {
         self.end_branch(alloc)?;
         let Group {

@@ -23,7 +23,7 @@ mod matcher;
 mod members;
 mod names;
 mod node;
-mod numbers;
+mod parsed;
 mod parser;
 mod pattern;
 mod places;

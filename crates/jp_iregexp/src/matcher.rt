@@ -74,8 +74,8 @@ impl Matcher<'_> {
                 body,
                 least,
                 further,
-                table,
-            } => self.repeated_ends(body, *table, *least, self.turns(*further), starts, tables),
+                number,
+            } => self.repeated_ends(body, *number, *least, self.turns(*further), starts, tables),
         }
     }
 

@@ -7,7 +7,7 @@ ghost use Rattle.jp_model.specs.Pattern.Reading.{tokens_of, pattern_of};
 ghost use Rattle.jp_iregexp.specs.Nodes.{tree_of};
 
 use crate::groups::Groups;
-use crate::node::Node;
+use crate::parsed::Parsed;
 use crate::token::next_token;
 use std::alloc::{AllocError, Global};
 
@@ -22,8 +22,8 @@ fn parentheses(text: &[char]) -> usize
 }
 
 /// The pattern that the tokens of a text stand for. Each token takes a scalar, so there are no more of them.
-fn read_tokens(alloc: Global, text: &[char]) -> Result<Option<Node>, AllocError>
-    ensures { IfOk result (λ found. option_map tree_of found ≡ option_and_then pattern_of_tokens (tokens_of text.now)) }
+fn read_tokens(alloc: Global, text: &[char]) -> Result<Option<Parsed>, AllocError>
+    ensures { IfOk result (λ found. option_map (λ parsed. tree_of parsed.root) found ≡ option_and_then pattern_of_tokens (tokens_of text.now)) }
 {
     let mut groups = Groups::new(alloc);
     let mut left = text;
@@ -32,12 +32,13 @@ fn read_tokens(alloc: Global, text: &[char]) -> Result<Option<Node>, AllocError>
             [] => return groups.into_root(alloc),
             [first, behind @ ..] => match next_token(alloc, *first, behind)? {
                 None => return Ok(None),
-                Some((token, rest)) => {
-                    if !groups.add(alloc, token)? {
-                        return Ok(None);
+                Some((token, rest)) => match groups.add(alloc, token)? {
+                    None => return Ok(None),
+                    Some(more) => {
+                        groups = more;
+                        left = rest;
                     }
-                    left = rest;
-                }
+                },
             },
         }
     }
@@ -49,8 +50,8 @@ fn read_tokens(alloc: Global, text: &[char]) -> Result<Option<Node>, AllocError>
 }
 
 /// The pattern that the scalars spell, if they spell one.
-pub(crate) fn read_pattern(alloc: Global, text: &[char]) -> Result<Option<Node>, AllocError>
-    ensures { IfOk result (λ found. option_map tree_of found ≡ pattern_of text.now) }
+pub(crate) fn read_pattern(alloc: Global, text: &[char]) -> Result<Option<Parsed>, AllocError>
+    ensures { IfOk result (λ found. option_map (λ parsed. tree_of parsed.root) found ≡ pattern_of text.now) }
 {
     if parentheses(text) > MOST_PARENTHESES {
         return Ok(None);

@@ -1,6 +1,6 @@
 //! Patterns and the questions that are asked of them.
 
-ghost use Rattle.std.specs.Prelude.{◌≡◌, IfOk, None, option_map};
+ghost use Rattle.std.specs.Prelude.{◌≡◌, IfOk, option_map};
 ghost use Rattle.std.specs.Str.{chars};
 ghost use Rattle.jp_model.specs.Pattern.Membership.{is_in, occurs_in};
 ghost use Rattle.jp_model.specs.Pattern.Reading.{pattern_of};
@@ -29,8 +29,8 @@ impl Pattern {
         let scalars = scalars_of(alloc, text)?;
         match read_pattern(alloc, scalars.as_slice())? {
             None => Ok(None),
-            Some(root) => {
-                let compiled = Compiled::new(alloc, root)?;
+            Some(parsed) => {
+                let compiled = Compiled::new(alloc, parsed)?;
                 Ok(Some(Pattern { compiled }))
             }
         }
@@ -70,7 +70,6 @@ fn scalars_of(alloc: Global, text: &str) -> Result<Vec<char>, AllocError>
 /// Whether the whole text is in the set of a tree. Few patterns have no automaton.
 #[inline(never)]
 fn matches_by_tree(alloc: Global, compiled: &Compiled, text: &str) -> Result<bool, AllocError>
-    requires { compiled.now.automaton ≡ None }
     ensures { IfOk result (λ answer. answer ≡ is_in (tree_of compiled.now.root) (chars text.now)) }
 {
     let scalars = scalars_of(alloc, text)?;
@@ -83,7 +82,6 @@ fn matches_by_tree(alloc: Global, compiled: &Compiled, text: &str) -> Result<boo
 /// Whether some part of the text is in the set of a tree.
 #[inline(never)]
 fn occurs_by_tree(alloc: Global, compiled: &Compiled, text: &str) -> Result<bool, AllocError>
-    requires { compiled.now.automaton ≡ None }
     ensures { IfOk result (λ answer. answer ≡ occurs_in (tree_of compiled.now.root) (chars text.now)) }
 {
     let scalars = scalars_of(alloc, text)?;

@@ -1,6 +1,6 @@
 //! Which positions the turns of a repeated part reach.
 
-ghost use Rattle.std.specs.Prelude.{◌≡◌, ◌<◌, ◌≤◌, ◌+◌, ◌*◌, ◌^◌, ◌⊎◌, ℕ, length, get_or, Some, IfOk, OnOk};
+ghost use Rattle.std.specs.Prelude.{◌≡◌, ◌<◌, ◌≤◌, ◌+◌, ◌*◌, ◌^◌, ◌⊎◌, length, get_or, Some, IfOk, OnOk};
 ghost use Rattle.jp_iregexp.specs.Evens.{HaveLength};
 ghost use Rattle.jp_iregexp.specs.Positions.{AreEnds, AreStarts, IsClosed};
 ghost use Rattle.jp_model.specs.Pattern.Language.{Language, Repeats, RepeatsWithin};
@@ -42,14 +42,14 @@ impl Matcher<'_> {
     pub(crate) fn repeated_ends(
         &self,
         body: &Node,
-        table: Option<usize>,
+        number: usize,
         least: u32,
         further: usize,
         starts: &PositionSet,
         tables: &mut Tables,
     ) -> Result<PositionSet>
         requires starts { AreStarts self.now.text.now starts.now }
-        requires numbered { NumberedTurns (bodies_of self.now.root.now) body.now table }
+        requires numbered { NumberedTurns (bodies_of self.now.root.now) body.now number }
         requires right { AreRight self.now.text.now self.now.root.now tables.old }
         ensures kept { OnOk result (AreRight self.now.text.now self.now.root.now tables.new) }
         ensures ends { IfOk result (λ out. AreEnds (Language (times (tree_of body.now) least (Some (least + further)))) self.now.text.now starts.now out) }
@@ -60,23 +60,23 @@ impl Matcher<'_> {
             }
             Node::Sequence(parts) | Node::Choice(parts) => {
                 if let [part] = parts.as_slice() {
-                    return self.repeated_ends(part, table, least, further, starts, tables);
+                    return self.repeated_ends(part, number, least, further, starts, tables);
                 }
             }
             Node::Repeated {
                 body: part,
                 least: once,
                 further: more,
-                table,
+                number,
             } if *once <= 1 => {
                 let most = *once as usize + self.turns(*more);
                 let further = joined(*once, most, least, further);
-                return self.repeated_ends(part, *table, least * *once, further, starts, tables);
+                return self.repeated_ends(part, *number, least * *once, further, starts, tables);
             }
             _ => {}
         }
-        let reached = self.exact_turns(body, table, least, starts, tables)?;
-        self.added_turns(body, table, further, &reached, tables)
+        let reached = self.exact_turns(body, number, least, starts, tables)?;
+        self.added_turns(body, number, further, &reached, tables)
     }
 
     /// As many of the further turns as reach anything new: without a bound, as many as the text has scalars.
@@ -95,25 +95,25 @@ impl Matcher<'_> {
     fn exact_turns(
         &self,
         body: &Node,
-        table: Option<usize>,
+        number: usize,
         count: u32,
         starts: &PositionSet,
         tables: &mut Tables,
     ) -> Result<PositionSet>
         requires starts { AreStarts self.now.text.now starts.now }
-        requires numbered { NumberedTurns (bodies_of self.now.root.now) body.now table }
+        requires numbered { NumberedTurns (bodies_of self.now.root.now) body.now number }
         requires right { AreRight self.now.text.now self.now.root.now tables.old }
         ensures kept { OnOk result (AreRight self.now.text.now self.now.root.now tables.new) }
         ensures ends { IfOk result (λ out. AreEnds (Repeats (Language (tree_of body.now)) count) self.now.text.now starts.now out) }
     {
         if count <= 1 {
-            return self.counted_turns(body, table, count, starts, tables);
+            return self.counted_turns(body, number, count, starts, tables);
         }
         match common_length(body, self.text.len().min(LONGEST)) {
             Some(length) if length > 0 => {
-                self.even_turns(body, table, length, count, starts, tables)
+                self.even_turns(body, number, length, count, starts, tables)
             }
-            _ => self.counted_turns(body, table, count, starts, tables),
+            _ => self.counted_turns(body, number, count, starts, tables),
         }
     }
 
@@ -123,14 +123,14 @@ impl Matcher<'_> {
     fn even_turns(
         &self,
         body: &Node,
-        table: Option<usize>,
+        number: usize,
         length: usize,
         count: u32,
         starts: &PositionSet,
         tables: &mut Tables,
     ) -> Result<PositionSet>
         requires starts { AreStarts self.now.text.now starts.now }
-        requires numbered { NumberedTurns (bodies_of self.now.root.now) body.now table }
+        requires numbered { NumberedTurns (bodies_of self.now.root.now) body.now number }
         requires right { AreRight self.now.text.now self.now.root.now tables.old }
         requires length { HaveLength (Language (tree_of body.now)) length }
         requires some { 0 < length }
@@ -145,7 +145,7 @@ impl Matcher<'_> {
         }
         let high = (starts.high() + distance).min(self.text.len() + 1);
         let from = PositionSet::range(self.alloc, starts.low(), high)?;
-        let once = self.one_turn(body, table, &from, tables)?;
+        let once = self.one_turn(body, number, &from, tables)?;
         let all = doubled(self.alloc, &once, length, count)?;
         starts.moved_within(self.alloc, distance, &all)
     }
@@ -155,20 +155,20 @@ impl Matcher<'_> {
     fn counted_turns(
         &self,
         body: &Node,
-        table: Option<usize>,
+        number: usize,
         count: u32,
         starts: &PositionSet,
         tables: &mut Tables,
     ) -> Result<PositionSet>
         requires starts { AreStarts self.now.text.now starts.now }
-        requires numbered { NumberedTurns (bodies_of self.now.root.now) body.now table }
+        requires numbered { NumberedTurns (bodies_of self.now.root.now) body.now number }
         requires right { AreRight self.now.text.now self.now.root.now tables.old }
         ensures kept { OnOk result (AreRight self.now.text.now self.now.root.now tables.new) }
         ensures ends { IfOk result (λ out. AreEnds (Repeats (Language (tree_of body.now)) count) self.now.text.now starts.now out) }
     {
         let mut reached = starts.copy(self.alloc)?;
         for turn in 0..count {
-            let next = self.one_turn(body, table, &reached, tables)?;
+            let next = self.one_turn(body, number, &reached, tables)?;
             if next.is_same(&reached) {
                 return Ok(next);
             }
@@ -183,13 +183,13 @@ impl Matcher<'_> {
     fn added_turns(
         &self,
         body: &Node,
-        table: Option<usize>,
+        number: usize,
         most: usize,
         starts: &PositionSet,
         tables: &mut Tables,
     ) -> Result<PositionSet>
         requires starts { AreStarts self.now.text.now starts.now }
-        requires numbered { NumberedTurns (bodies_of self.now.root.now) body.now table }
+        requires numbered { NumberedTurns (bodies_of self.now.root.now) body.now number }
         requires right { AreRight self.now.text.now self.now.root.now tables.old }
         ensures kept { OnOk result (AreRight self.now.text.now self.now.root.now tables.new) }
         ensures ends { IfOk result (λ out. AreEnds (RepeatsWithin (Language (tree_of body.now)) 0 (Some most)) self.now.text.now starts.now out) }
@@ -197,13 +197,13 @@ impl Matcher<'_> {
         let mut reached = starts.copy(self.alloc)?;
         let mut frontier = starts.copy(self.alloc)?;
         for turn in 0..most {
-            if tables.stays(table, &frontier) {
+            if tables.stays(number, &frontier) {
                 return Ok(reached);
             }
-            let next = self.one_turn(body, table, &frontier, tables)?;
+            let next = self.one_turn(body, number, &frontier, tables)?;
             let fresh = next.without(self.alloc, &reached)?;
             if !fresh.has_any() {
-                self.keep_closed(table, &reached, tables)?;
+                self.keep_closed(number, &reached, tables)?;
                 return Ok(reached);
             }
             reached.add_all(&fresh)?;
@@ -214,23 +214,16 @@ impl Matcher<'_> {
 
     /// Keeps a set that no turn of the body with this number leaves, in place of the one before, once the match has asked
     /// often.
-    fn keep_closed(
-        &self,
-        table: Option<usize>,
-        reached: &PositionSet,
-        tables: &mut Tables,
-    ) -> Result<()>
-        requires closed { (number : ℕ) → table ≡ Some number → IsClosed (Language (get_or (bodies_of self.now.root.now) number empty)) self.now.text.now reached.now }
+    fn keep_closed(&self, number: usize, reached: &PositionSet, tables: &mut Tables) -> Result<()>
+        requires closed { IsClosed (Language (get_or (bodies_of self.now.root.now) number empty)) self.now.text.now reached.now }
         requires right { AreRight self.now.text.now self.now.root.now tables.old }
         ensures { OnOk result (AreRight self.now.text.now self.now.root.now tables.new) }
     {
-        match table {
-            Some(number) if number < KEPT && tables.asked >= OFTEN => {
-                let set = reached.copy(self.alloc)?;
-                tables.closed.keep(number, set)
-            }
-            _ => Ok(()),
+        if number >= KEPT || tables.asked < OFTEN {
+            return Ok(());
         }
+        let set = reached.copy(self.alloc)?;
+        tables.closed.keep(number, set)
     }
 
     /// The part once: by its table, if it was made.
@@ -238,12 +231,12 @@ impl Matcher<'_> {
     fn one_turn(
         &self,
         body: &Node,
-        table: Option<usize>,
+        number: usize,
         starts: &PositionSet,
         tables: &mut Tables,
     ) -> Result<PositionSet>
         requires starts { AreStarts self.now.text.now starts.now }
-        requires numbered { NumberedTurns (bodies_of self.now.root.now) body.now table }
+        requires numbered { NumberedTurns (bodies_of self.now.root.now) body.now number }
         requires right { AreRight self.now.text.now self.now.root.now tables.old }
         ensures kept { OnOk result (AreRight self.now.text.now self.now.root.now tables.new) }
         ensures ends { IfOk result (λ out. AreEnds (Language (tree_of body.now)) self.now.text.now starts.now out) }
@@ -252,10 +245,7 @@ impl Matcher<'_> {
             tables.asked += 1;
             return self.ends(body, starts, tables);
         }
-        match table {
-            Some(number) => self.kept_turn(body, number, starts, tables),
-            None => self.ends(body, starts, tables),
-        }
+        self.kept_turn(body, number, starts, tables)
     }
 
     /// The part once, by its table.
@@ -268,7 +258,7 @@ impl Matcher<'_> {
         tables: &mut Tables,
     ) -> Result<PositionSet>
         requires starts { AreStarts self.now.text.now starts.now }
-        requires numbered { NumberedTurns (bodies_of self.now.root.now) body.now (Some number) }
+        requires numbered { NumberedTurns (bodies_of self.now.root.now) body.now number }
         requires right { AreRight self.now.text.now self.now.root.now tables.old }
         ensures kept { OnOk result (AreRight self.now.text.now self.now.root.now tables.new) }
         ensures ends { IfOk result (λ out. AreEnds (Language (tree_of body.now)) self.now.text.now starts.now out) }
@@ -284,7 +274,7 @@ impl Matcher<'_> {
     #[cycle(ends)]
     fn make_table(&self, body: &Node, number: usize, tables: &mut Tables) -> Result<()>
         requires fits { length self.now.text.now < 2 ^ 63 }
-        requires numbered { NumberedTurns (bodies_of self.now.root.now) body.now (Some number) }
+        requires numbered { NumberedTurns (bodies_of self.now.root.now) body.now number }
         requires right { AreRight self.now.text.now self.now.root.now tables.old }
         ensures { OnOk result (AreRight self.now.text.now self.now.root.now tables.new) }
     {

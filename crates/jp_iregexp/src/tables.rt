@@ -1,6 +1,6 @@
 //! What a match keeps beside a pattern: for a text of n scalars a table has n + 1 rows, each as wide as what it reaches.
 
-ghost use Rattle.std.specs.Prelude.{◌≡◌, IfOk, IsTrue, None, []};
+ghost use Rattle.std.specs.Prelude.{◌≡◌, IfOk, IsTrue, []};
 ghost use Rattle.jp_iregexp.specs.Positions.{AreEnds, AreStarts};
 ghost use Rattle.jp_iregexp.specs.Tables.{AreInRows, IsTailOfKept};
 ghost use Rattle.jp_model.specs.Pattern.Language.{Language};
@@ -14,15 +14,14 @@ use crate::node::Node;
 use crate::positions::PositionSet;
 use std::alloc::Global;
 
-/// The positions where a text of a pattern that has no automaton ends that begins at one of the starts.
+/// The positions where a text of a pattern ends that begins at one of the starts.
 pub(crate) fn reach(
     alloc: Global,
     compiled: &Compiled,
     text: &[char],
     starts: &PositionSet,
 ) -> Result<PositionSet>
-    requires tree { compiled.now.automaton ≡ None }
-    requires starts { AreStarts text.now starts.now }
+    requires { AreStarts text.now starts.now }
     ensures { IfOk result (λ out. AreEnds (Language (tree_of compiled.now.root)) text.now starts.now out) }
 {
     let matcher = Matcher {
@@ -65,14 +64,11 @@ impl Tables {
     }
 
     /// Whether no turn of the body leaves this set: it is what is left, from its lowest position on, of one that none leaves.
-    pub(crate) fn stays(&self, table: Option<usize>, set: &PositionSet) -> bool
-        ensures { IsTrue result → IsTailOfKept self.now.closed.rows.items table set.now }
+    pub(crate) fn stays(&self, number: usize, set: &PositionSet) -> bool
+        ensures { IsTrue result → IsTailOfKept self.now.closed.rows.items number set.now }
     {
-        match table {
-            Some(number) => match self.closed.get(number) {
-                Some(whole) => set.is_tail_of(whole),
-                None => false,
-            },
+        match self.closed.get(number) {
+            Some(whole) => set.is_tail_of(whole),
             None => false,
         }
     }

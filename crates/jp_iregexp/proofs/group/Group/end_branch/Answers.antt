@@ -4,10 +4,11 @@ use Rattle.jp_model.specs.Pattern.Tree.{empty}
 use Rattle.jp_model.specs.Pattern.Groups.{with_atom, sequence_onto}
 use Rattle.jp_iregexp.specs.Groups.{atom_of, latest_first}
 use Rattle.jp_iregexp.proofs.Built.{branch_ended, same_group}
+use Rattle.jp_iregexp.proofs.Numbering.{held, branch_after}
 use Rattle.jp_iregexp.proofs.group.Group.end_branch.Goals as goal
 
-pub returns : goal.returns
-returns c =
+pub returns-clause-group : goal.returns-clause-group
+returns-clause-group c =
     let old = c.args.self.now in
     let i = c.in_ok-end_piece.ensures in
     let j = c.replace-pieces.ensures in
@@ -18,3 +19,12 @@ returns c =
     ∙ ap (λ (v : Vec Node Global). sequence_onto before empty ∷ latest_first v.items) i.branches)
     (ap (λ (v : Vec Node Global). latest_first v.items) j.after ∙ ap latest_first c.new.ensures.items)
     (ap atom_of i.atom)
+
+pub returns-clause-numbers : goal.returns-clause-numbers
+returns-clause-numbers c =
+    let ended = c.end_piece.new.self in
+    let i = c.in_ok-end_piece.ensures in
+    let j = c.replace-pieces.ensures in
+    λ first. branch_after first ended.branches.items c.push.new.self.items c.replace-pieces.new.dest.items c.replace-pieces.result ended.atom i.atom (ap (λ (v : Vec Node Global). v.items) j.after ∙ c.new.ensures.items) c.in_ok-push.ensures.items
+    ∙ ap (λ (v : Vec Node Global). held first ended.branches.items v.items ended.atom) j.value
+    ∙ i.numbers first

@@ -133,7 +133,7 @@ added_turns-returns-then-stays-clause-ends t c =
     let text = c.args.self.now.text.now in
     let l = c.loop-turn in
     let i = l.invariant in
-    let closed = kept_stays text c.args.self.now.root.now c.args.body.now c.args.table l.tables.closed.rows.items l.reached l.frontier c.requires.numbered.1 i.right.closed (c.stays.ensures c.if-stays.true) i.fronts in
+    let closed = kept_stays text c.args.self.now.root.now c.args.body.now c.args.number l.tables.closed.rows.items l.reached l.frontier c.requires.numbered.1 i.right.closed (c.stays.ensures c.if-stays.true) i.fronts in
     further_exit member (RepeatsWithin member 0 (Some c.args.most)) text c.args.starts.now l.reached l.reached c.args.most l.turn i.continues closed
 
 pub added_turns-keep_closed-requires-clause-closed : goal.added_turns-keep_closed-requires-clause-closed
@@ -141,7 +141,7 @@ added_turns-keep_closed-requires-clause-closed t c =
     let member = Language (tree_of c.args.body.now) in
     let text = c.args.self.now.text.now in
     let l = c.loop-turn in
-    closed_numbered text c.args.self.now.root.now c.args.body.now c.args.table l.reached c.requires.numbered.1
+    closed_numbered text c.args.self.now.root.now c.args.body.now c.args.number l.reached c.requires.numbered.1
     (front_left member text l.reached l.frontier c.in_ok-next.next l.invariant.fronts c.in_ok-next.ensures.ends
     (λ q h. elim (c.in_ok-fresh.ensures.complete q h) [ inl n ↦ absurd (let some = c.has_any.ensures.none q n in let none = c.if-not-has_any.true in cc) | inr o ↦ o ]))
 
@@ -217,7 +217,7 @@ pub repeated_ends-repeated_ends-requires-in-len1 : goal.repeated_ends-repeated_e
 repeated_ends-repeated_ends-requires-in-len1 t c =
     let low = c.in-len1.len_at_least in
     let high = c.in-len1.len_below in
-    let numbered = only_numbered c.args.body.now c.part-item.result c.in-Sequence.parts c.as_slice.result.now c.in-Sequence.is c.as_slice.ensures.value (omega (arith, low, high)) c.part-item.is (bodies_of c.args.self.now.root.now) c.args.table c.requires.numbered in
+    let numbered = only_numbered c.args.body.now c.part-item.result c.in-Sequence.parts c.as_slice.result.now c.in-Sequence.is c.as_slice.ensures.value (omega (arith, low, high)) c.part-item.is (bodies_of c.args.self.now.root.now) c.args.number c.requires.numbered in
     (search (rules, the_lemmas), (search rules, (numbered, c.requires.right)))
 
 pub repeated_ends-returns-in-len1-clause-ends : goal.repeated_ends-returns-in-len1-clause-ends
