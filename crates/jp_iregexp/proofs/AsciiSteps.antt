@@ -6,7 +6,7 @@ use Rattle.std.proofs.lemmas.Str.{chars-append, chars-IsAscii, IsUtf8-from_ascii
 use Rattle.std.specs.Str.{chars, IsAscii}
 use Rattle.jp_iregexp.specs.declared.automaton.Automaton.{Automaton}
 use Rattle.jp_iregexp.specs.Layouts.{state_of}
-use Rattle.jp_iregexp.specs.States.{State, HasState, IsStep, Leads, WaitsBehind}
+use Rattle.jp_iregexp.specs.States.{State, HasState, IsStep, Leads, WaitsAfter}
 use Rattle.jp_iregexp.proofs.Leading.{stepped}
 use Rattle.jp_iregexp.proofs.Masks.{masked_step}
 
@@ -29,17 +29,17 @@ ascii_cut text bytes i same inside few = subst (λ (l : List ℕ). chars (drop i
 
 -- the states that wait after those that are ready
 pub ready_step : (a : Automaton) (waiting byte ready next : ℕ) → byte < 128 → ready ≡ bit_and waiting (get_or a.ascii.items byte 0)
-    → ((q : ℕ) → HasState next q ↔ WaitsBehind a.after.items ready q) → IsStep (map state_of a.states.items) waiting byte next
-ready_step a waiting byte ready next few is behind =
-    masked_step a.states.items a.after.items a.ascii.items waiting byte next a.behind a.masks (omega (arith, few, a.all))
-    (subst (λ n. (q : ℕ) → HasState next q ↔ WaitsBehind a.after.items n q) is behind)
+    → ((q : ℕ) → HasState next q ↔ WaitsAfter (map state_of a.states.items) ready q) → IsStep (map state_of a.states.items) waiting byte next
+ready_step a waiting byte ready next few is after =
+    masked_step (map state_of a.states.items) a.ascii.items waiting byte next a.masks (omega (arith, few, a.all))
+    (subst (λ n. (q : ℕ) → HasState next q ↔ WaitsAfter (map state_of a.states.items) n q) is after)
 
-none_waits : (after : List ℕ) (q : ℕ) → HasState 0 q ↔ WaitsBehind after 0 q
-none_waits after q = ((λ h. let z = bit_at-zero q in absurd (omega (arith, z, h))), (λ w. let z = bit_at-zero w.number in let h = w.is_ready in absurd (omega (arith, z, h))))
+none_waits : (states : List State) (q : ℕ) → HasState 0 q ↔ WaitsAfter states 0 q
+none_waits states q = ((λ h. let z = bit_at-zero q in absurd (omega (arith, z, h))), (λ w. let z = bit_at-zero w.number in let h = w.is_ready in absurd (omega (arith, z, h))))
 
 -- where no state is ready nothing waits after the scalar
-pub none_behind : (a : Automaton) (waiting byte ready : ℕ) → byte < 128 → ready ≡ bit_and waiting (get_or a.ascii.items byte 0) → ready ≡ 0 → IsStep (map state_of a.states.items) waiting byte 0
-none_behind a waiting byte ready few is none = ready_step a waiting byte 0 0 few (sym none ∙ is) (none_waits a.after.items)
+pub none_after : (a : Automaton) (waiting byte ready : ℕ) → byte < 128 → ready ≡ bit_and waiting (get_or a.ascii.items byte 0) → ready ≡ 0 → IsStep (map state_of a.states.items) waiting byte 0
+none_after a waiting byte ready few is none = ready_step a waiting byte 0 0 few (sym none ∙ is) (none_waits (map state_of a.states.items))
 
 -- the states that wait lead over the rest of a text exactly where those after an ASCII byte lead over what follows it
 pub leads_byte : (states : List State) (waiting next : ℕ) (text bytes : List ℕ) (i : ℕ) → bytes ≡ text → i < length bytes → slice_index bytes i < 128 → IsStep states waiting (slice_index bytes i) next

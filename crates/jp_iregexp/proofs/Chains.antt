@@ -1,17 +1,18 @@
 -- States after which only the next one waits: those that are ready move on at once.
-use Rattle.std.proofs.Common.{◌≡◌, ℕ, zero, suc, ◌*◌, ◌/◌, ◌%◌, ◌+◌, ◌^◌, ◌<◌, ◌≤◌, ◌↔◌, inl, inr, IsTrue, List, length, get_or, bit_or, bit_and, w64, arith, sym, ◌∙◌, ap, subst}
+use Rattle.std.proofs.Common.{◌≡◌, ℕ, zero, suc, ◌*◌, ◌/◌, ◌%◌, ◌+◌, ◌^◌, ◌<◌, ◌≤◌, ◌↔◌, inl, inr, IsTrue, List, length, map, bit_or, bit_and, w64, arith, sym, ◌∙◌, ap, subst}
 use Rattle.std.proofs.lemmas.Bool.{eqb-true}
 use Rattle.std.proofs.lemmas.Nat.Bits.{bit_at_above, bit_at-suc, bit_at-zero, bit_at_lowest, bit_at_cat_low, bit_at-pow_same, bit_at-pow_other}
-use Rattle.std.proofs.Math.ListN.{get_or-eq_default}
 use Rattle.std.specs.Int.{bit_at, bit_not}
-use Rattle.jp_iregexp.specs.States.{HasState, WaitsBehind, is_chained}
+use Rattle.jp_iregexp.specs.States.{HasState, WaitsAfter, is_chained, set_after}
+use Rattle.jp_iregexp.specs.Layouts.{state_of}
+use Rattle.jp_iregexp.specs.declared.automaton.State.{State as ProgramState}
 use Rattle.jp_iregexp.proofs.Bits.{same_or_not, left_or}
-use Rattle.jp_iregexp.proofs.Masks.{both, both_left, both_right, below_or_past}
+use Rattle.jp_iregexp.proofs.Masks.{both, both_left, both_right, below_or_past, after_past}
 use Rattle.jp_iregexp.proofs.Sums.{holds_either, holds_left, holds_right}
 
 -- after the last state there is none
-pub past_chained : (after : List ℕ) (p : ℕ) → length after ≤ p → IsTrue (is_chained after p) → ⊥
-past_chained after p l h = (let some = bit_at-pow_same (suc p) in let none = bit_at-zero (suc p) in absurd (omega (arith, none, subst (λ n. HasState n (suc p)) (sym (eqb-true _ _ h) ∙ get_or-eq_default after 0 l) some)))
+pub past_chained : (ps : List ProgramState) (p : ℕ) → length ps ≤ p → IsTrue (is_chained (map state_of ps) p) → ⊥
+past_chained ps p l h = (let some = bit_at-pow_same (suc p) in let none = bit_at-zero (suc p) in absurd (omega (arith, none, subst (λ n. HasState n (suc p)) (sym (eqb-true _ _ h) ∙ after_past ps p l) some)))
 
 -- each bit of a word, moved on by one
 moved_bit : (word q : ℕ) → suc q < 64 → bit_at (word * 2 % 18446744073709551616) (suc q) ≡ bit_at word q
@@ -20,17 +21,17 @@ moved_bit word q l =
     let half : word * 2 / 2 ≡ word = omega arith in
     sym (bit_at_cat_low (word * 2 / 18446744073709551616) 64 (word * 2 % 18446744073709551616) (suc q) l) ∙ ap (λ n. bit_at n (suc q)) whole ∙ bit_at-suc (word * 2) q ∙ ap (λ n. bit_at n q) half
 
-module _ (after : List ℕ) (ready chained : ℕ) (few : length after ≤ 63) (links : (p : ℕ) → HasState chained p ↔ IsTrue (is_chained after p)) where
+module _ (ps : List ProgramState) (ready chained : ℕ) (few : length ps ≤ 63) (links : (p : ℕ) → HasState chained p ↔ IsTrue (is_chained (map state_of ps) p)) where
   abbrev Moved : ℕ
   Moved = bit_and ready chained * 2 % 18446744073709551616
 
-  next_one : (p : ℕ) → HasState chained p → get_or after p 0 ≡ 2 ^ suc p
+  next_one : (p : ℕ) → HasState chained p → set_after (map state_of ps) p ≡ 2 ^ suc p
   next_one p h = eqb-true _ _ ((links p).0 h)
 
   chained_below : (p : ℕ) → HasState chained p → suc p < 64
-  chained_below p h = elim (below_or_past p (length after)) [ inl l ↦ omega (arith, l, few) | inr l ↦ absurd (past_chained after p l ((links p).0 h)) ]
+  chained_below p h = elim (below_or_past p (length ps)) [ inl l ↦ omega (arith, l, few) | inr l ↦ absurd (past_chained ps p l ((links p).0 h)) ]
 
-  moved_waits : (q : ℕ) → HasState Moved q → WaitsBehind after ready q
+  moved_waits : (q : ℕ) → HasState Moved q → WaitsAfter (map state_of ps) ready q
   moved_waits zero h = absurd (let low = bit_at_lowest Moved in omega (arith, low, h))
   moved_waits (suc q) h = elim (below_or_past (suc q) 64) [
     | inr l ↦ absurd (let none = bit_at_above Moved 64 (suc q) (omega arith) l in omega (arith, none, h))
@@ -43,15 +44,15 @@ module _ (after : List ℕ) (ready chained : ℕ) (few : length after ≤ 63) (l
         })
   ]
 
-  waits_moved : (p q : ℕ) → HasState ready p → HasState chained p → HasState (get_or after p 0) q → HasState Moved q
+  waits_moved : (p q : ℕ) → HasState ready p → HasState chained p → HasState (set_after (map state_of ps) p) q → HasState Moved q
   waits_moved p q here chain waits = elim (same_or_not q (suc p)) [
     | inl e ↦ subst (HasState Moved) (sym e) (moved_bit (bit_and ready chained) p (chained_below p chain) ∙ both ready chained p here chain)
     | inr d ↦ absurd (let none = bit_at-pow_other (suc p) q d in let some = subst (λ n. HasState n q) (next_one p chain) waits in omega (arith, none, some))
   ]
 
   -- what the chained states and the others lead to
-  pub moved_on : (next : ℕ) → ready < 2 ^ 64 → chained < 2 ^ 64 → ((q : ℕ) → HasState next q ↔ WaitsBehind after (bit_and ready (bit_not w64 chained)) q)
-      → (q : ℕ) → HasState (bit_or Moved next) q ↔ WaitsBehind after ready q
+  pub moved_on : (next : ℕ) → ready < 2 ^ 64 → chained < 2 ^ 64 → ((q : ℕ) → HasState next q ↔ WaitsAfter (map state_of ps) (bit_and ready (bit_not w64 chained)) q)
+      → (q : ℕ) → HasState (bit_or Moved next) q ↔ WaitsAfter (map state_of ps) ready q
   moved_on next fits small others q = (
     (λ h. elim (holds_either Moved next q h) [
       | inl i ↦ moved_waits q i

@@ -8,7 +8,7 @@ use Rattle.std.proofs.lemmas.Nat.Bits.{bit_at_and, bit_at-lt, bit_at-zero, bit_a
 use Rattle.jp_model.proofs.LowestBit.{is_kept}
 use Rattle.jp_model.specs.Pattern.Classes.{in_class}
 use Rattle.jp_iregexp.specs.declared.automaton.State.{State as ProgramState}
-use Rattle.jp_iregexp.specs.States.{State, HasState, state_at, IsStep, waits_for, AreMasks, AreCodes, AreSets, WaitsBehind}
+use Rattle.jp_iregexp.specs.States.{State, HasState, state_at, IsStep, waits_for, AreMasks, AreCodes, AreSets, WaitsAfter, set_after}
 use Rattle.jp_iregexp.specs.Layouts.{state_of}
 use Rattle.jp_iregexp.proofs.Bits.{same_or_not}
 use Rattle.jp_iregexp.proofs.Sums.{holds_either, holds_left, holds_right}
@@ -17,22 +17,22 @@ use Rattle.jp_iregexp.proofs.Lowest.{lowest_in, was_there}
 -- ---- what waits after the states that are ready
 
 -- what was found so far, and what is left
-pub record IsPartBehind (after : List ℕ) (ready rest next : ℕ) : Type 0 where
-  pub sound : (q : ℕ) → HasState next q → WaitsBehind after ready q
+pub record IsPartAfter (states : List State) (ready rest next : ℕ) : Type 0 where
+  pub sound : (q : ℕ) → HasState next q → WaitsAfter states ready q
   pub left : (p : ℕ) → HasState rest p → HasState ready p
-  pub complete : (q : ℕ) → WaitsBehind after ready q → HasState next q ⊎ WaitsBehind after rest q
+  pub complete : (q : ℕ) → WaitsAfter states ready q → HasState next q ⊎ WaitsAfter states rest q
 
 no_bit : (p : ℕ) → HasState 0 p → ⊥
 no_bit p h = (let z = bit_at-zero p in omega (arith, z, h))
 
-pub start_behind : (after : List ℕ) (ready : ℕ) → IsPartBehind after ready ready 0
-start_behind after ready = record { sound = λ q h. absurd (no_bit q h); left = λ p h. h; complete = λ q h. inr h }
+pub start_after : (states : List State) (ready : ℕ) → IsPartAfter states ready ready 0
+start_after states ready = record { sound = λ q h. absurd (no_bit q h); left = λ p h. h; complete = λ q h. inr h }
 
-pub end_behind : (after : List ℕ) (ready next : ℕ) → IsPartBehind after ready 0 next → (q : ℕ) → HasState next q ↔ WaitsBehind after ready q
-end_behind after ready next s q = (s.sound q, λ h. elim (s.complete q h) [ inl i ↦ i | inr r ↦ absurd (no_bit r.number r.is_ready) ])
+pub end_after : (states : List State) (ready next : ℕ) → IsPartAfter states ready 0 next → (q : ℕ) → HasState next q ↔ WaitsAfter states ready q
+end_after states ready next s q = (s.sound q, λ h. elim (s.complete q h) [ inl i ↦ i | inr r ↦ absurd (no_bit r.number r.is_ready) ])
 
-pub take_behind : (after : List ℕ) (ready rest next word : ℕ) → 0 < rest → rest < 2 ^ 64 → IsPartBehind after ready rest next → word ≡ get_or after (trailing_zeros w64 rest) 0 → IsPartBehind after ready (bit_and rest (rest - 1)) (bit_or next word)
-take_behind after ready rest next word some small s is = record {
+pub take_after : (states : List State) (ready rest next word : ℕ) → 0 < rest → rest < 2 ^ 64 → IsPartAfter states ready rest next → word ≡ set_after states (trailing_zeros w64 rest) → IsPartAfter states ready (bit_and rest (rest - 1)) (bit_or next word)
+take_after states ready rest next word some small s is = record {
   sound = λ q h. elim (holds_either next word q h) [
     | inl i ↦ s.sound q i
     | inr i ↦ record { number = trailing_zeros w64 rest; is_ready = s.left (trailing_zeros w64 rest) (lowest_in rest some small); waits = subst (λ n. HasState n q) is i }
@@ -41,7 +41,7 @@ take_behind after ready rest next word some small s is = record {
   complete = λ q h. elim (s.complete q h) [
     | inl i ↦ inl (holds_left next word q i)
     | inr r ↦ elim (same_or_not r.number (trailing_zeros w64 rest)) [
-      | inl e ↦ inl (holds_right next word q (subst (λ n. HasState n q) (ap (λ p. get_or after p 0) e ∙ sym is) r.waits))
+      | inl e ↦ inl (holds_right next word q (subst (λ n. HasState n q) (ap (set_after states) e ∙ sym is) r.waits))
       | inr d ↦ inr (record { number = r.number; is_ready = is_kept rest some small r.number d ∙ r.is_ready; waits = r.waits })
     ]
   ];
@@ -49,10 +49,20 @@ take_behind after ready rest next word some small s is = record {
 
 -- ---- a state by its number
 
-after_at : (ps : List ProgramState) (n : ℕ) (w : State) → state_at (map state_of ps) n ≡ Some w → get_or (map (λ (p : ProgramState). p.after) ps) n 0 ≡ w.behind
+after_at : (states : List State) (n : ℕ) (w : State) → state_at states n ≡ Some w → set_after states n ≡ w.behind
 after_at [] n w is = absurd (cc)
-after_at (p ∷ ps) zero w is = (let e : state_of p ≡ w = cc in ap (λ (v : State). v.behind) e)
-after_at (p ∷ ps) (suc n) w is = after_at ps n w is
+after_at (x ∷ states) zero w is = (let e : x ≡ w = cc in ap (λ (v : State). v.behind) e)
+after_at (x ∷ states) (suc n) w is = after_at states n w is
+
+pub after_here : (ps : List ProgramState) (n : ℕ) (p : ProgramState) → n < length ps → p ≡ get_or ps n p → set_after (map state_of ps) n ≡ p.after
+after_here [] n p l is = absurd (omega arith)
+after_here (x ∷ ps) zero p l is = ap (λ (y : ProgramState). y.after) (sym is)
+after_here (x ∷ ps) (suc n) p l is = after_here ps n p (omega arith) is
+
+pub after_past : (ps : List ProgramState) (n : ℕ) → length ps ≤ n → set_after (map state_of ps) n ≡ 0
+after_past [] n l = refl
+after_past (x ∷ ps) zero l = absurd (omega arith)
+after_past (x ∷ ps) (suc n) l = after_past ps n (omega arith)
 
 -- a state that waits for the scalar
 record IsWaiting (states : List State) (number scalar : ℕ) : Type 0 where
@@ -80,23 +90,23 @@ pub both : (a b p : ℕ) → HasState a p → HasState b p → HasState (bit_and
 both a b p h i = omega (arith, h, i, bit_at_and a b p)
 
 -- after the states that wait, and whose class has the scalar
-pub masked_step : (ps : List ProgramState) (after masks : List ℕ) (set scalar next : ℕ) → after ≡ map (λ (p : ProgramState). p.after) ps → AreMasks (map state_of ps) masks → scalar < length masks
-    → ((q : ℕ) → HasState next q ↔ WaitsBehind after (bit_and set (get_or masks scalar 0)) q) → IsStep (map state_of ps) set scalar next
-masked_step ps after masks set scalar next is masked inside step = λ q. (
+pub masked_step : (states : List State) (masks : List ℕ) (set scalar next : ℕ) → AreMasks states masks → scalar < length masks
+    → ((q : ℕ) → HasState next q ↔ WaitsAfter states (bit_and set (get_or masks scalar 0)) q) → IsStep states set scalar next
+masked_step states masks set scalar next masked inside step = λ q. (
   (λ h. let b = (step q).0 h in
-      let r = waiting_here (map state_of ps) b.number scalar ((masked scalar b.number inside).0 (both_right set (get_or masks scalar 0) b.number b.is_ready)) in
+      let r = waiting_here states b.number scalar ((masked scalar b.number inside).0 (both_right set (get_or masks scalar 0) b.number b.is_ready)) in
       record {
         number = b.number;
         state = r.state;
         is = r.is;
         waits = both_left set (get_or masks scalar 0) b.number b.is_ready;
         has = r.has;
-        rest = subst (λ n. HasState n q) (ap (λ (l : List ℕ). get_or l b.number 0) is ∙ after_at ps b.number r.state r.is) b.waits;
+        rest = subst (λ n. HasState n q) (after_at states b.number r.state r.is) b.waits;
       }),
   (λ h. (step q).1 (record {
     number = h.number;
-    is_ready = both set (get_or masks scalar 0) h.number h.waits ((masked scalar h.number inside).1 (here_waiting (map state_of ps) h.number scalar h.state h.is h.has));
-    waits = subst (λ n. HasState n q) (sym (ap (λ (l : List ℕ). get_or l h.number 0) is ∙ after_at ps h.number h.state h.is)) h.rest;
+    is_ready = both set (get_or masks scalar 0) h.number h.waits ((masked scalar h.number inside).1 (here_waiting states h.number scalar h.state h.is h.has));
+    waits = subst (λ n. HasState n q) (sym (after_at states h.number h.state h.is)) h.rest;
   })),
 )
 

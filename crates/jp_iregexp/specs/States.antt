@@ -1,5 +1,5 @@
 -- A pattern as states, where each waits for one scalar of its class, and what a text leads to.
-use Rattle.std.specs.Prelude.{ℕ, zero, suc, ◌≡◌, ◌<◌, ◌^◌, ◌==◌, ◌↔◌, get_or, Bool, true, false, if◌then◌else◌, IsTrue, List, [], ◌∷◌, ◌++◌, length, Option, Some, None}
+use Rattle.std.specs.Prelude.{ℕ, zero, suc, ◌≡◌, ◌<◌, ◌^◌, ◌==◌, ◌↔◌, get_or, Bool, true, false, if◌then◌else◌, IsTrue, List, [], ◌∷◌, ◌++◌, length, map, Option, Some, None}
 use Rattle.std.specs.Int.{bit_at}
 use Rattle.std.specs.Int.RustNames.{bit_or}
 use Rattle.jp_model.specs.Pattern.Tree.{CharClass, Pattern}
@@ -78,19 +78,23 @@ waits_for (w ∷ states) (suc number) scalar = waits_for states number scalar
 abbrev pub AreMasks : List State → List ℕ → Type 0
 AreMasks states masks = (scalar number : ℕ) → scalar < length masks → HasState (get_or masks scalar 0) number ↔ IsTrue (waits_for states number scalar)
 
+-- the set that waits after the state with this number, which is empty where there is no such state
+abbrev pub set_after : List State → ℕ → ℕ
+set_after states number = get_or (map (λ state. state.behind) states) number 0
+
 -- state q waits after one of the states that are ready
-pub record WaitsBehind (after : List ℕ) (ready q : ℕ) : Type 0 where
+pub record WaitsAfter (states : List State) (ready q : ℕ) : Type 0 where
   pub number : ℕ
   pub is_ready : HasState ready number
-  pub waits : HasState (get_or after number 0) q
+  pub waits : HasState (set_after states number) q
 
 -- the set has the state with the next number, and nothing else
 abbrev pub is_link : (set number : ℕ) → Bool
 is_link set number = set == 2 ^ suc number
 
 -- only the state with the next number waits after the state
-abbrev pub is_chained : List ℕ → ℕ → Bool
-is_chained after p = is_link (get_or after p 0) p
+abbrev pub is_chained : List State → ℕ → Bool
+is_chained states number = is_link (set_after states number) number
 
 -- from the start the states lead over the texts of the pattern's set, and no others
 abbrev pub Accepts : List State → ℕ → Pattern → Type 0

@@ -5,7 +5,7 @@ ghost use Rattle.std.specs.Prelude.{◌≡◌, ◌↔◌, ◌<◌, ◌≤◌, �
 ghost use Rattle.std.specs.Option.{IfSome};
 ghost use Rattle.std.specs.Str.{chars};
 ghost use Rattle.jp_model.specs.Pattern.Language.{Occurs};
-ghost use Rattle.jp_iregexp.specs.States.{AreMasks, AreSets, HasState, IsPassed, IsStep, Leads, WaitsBehind, is_chained, is_link};
+ghost use Rattle.jp_iregexp.specs.States.{AreMasks, AreSets, HasState, IsPassed, IsStep, Leads, WaitsAfter, is_chained, is_link, set_after};
 ghost use Rattle.jp_iregexp.specs.Layouts.{state_of};
 
 use crate::class::Class;
@@ -30,15 +30,12 @@ pub(crate) struct State {
 pub(crate) struct Automaton {
     pub(crate) states: Vec<State>,
     pub(crate) starts: u64,
-    /// By state what waits after it.
-    after: Vec<u64>,
     /// The states after which only the one with the next number waits.
     chained: u64,
     /// By ASCII scalar the states whose class has it.
     ascii: Vec<u64>,
-    ghost behind: { after.items ≡ map (λ p. p.after) states.items },
-    ghost few: { length after.items ≤ 63 },
-    ghost links: { (p : ℕ) → HasState chained p ↔ IsTrue (is_chained after.items p) },
+    ghost few: { length states.items ≤ 63 },
+    ghost links: { (p : ℕ) → HasState chained p ↔ IsTrue (is_chained (map state_of states.items) p) },
     ghost masks: { AreMasks (map state_of states.items) ascii.items },
     ghost all: { length ascii.items ≡ 128 },
 }
@@ -54,13 +51,11 @@ impl Automaton {
         ensures states { IfOk result (λ automaton. automaton.states.items ≡ states.items) }
         ensures starts { IfOk result (λ automaton. automaton.starts ≡ starts) }
     {
-        let after = words_after(alloc, states.as_slice())?;
         let ascii = ascii_masks(alloc, states.as_slice())?;
-        let chained = chained(after.as_slice());
+        let chained = chained(states.as_slice());
         Ok(Automaton {
             states,
             starts,
-            after,
             chained,
             ascii,
         })
@@ -83,16 +78,16 @@ impl Automaton {
         requires { scalar < 128 }
         ensures { IsStep (map state_of self.now.states.items) waiting scalar result }
     {
-        self.behind(waiting & self.ascii[scalar as usize])
+        self.after(waiting & self.ascii[scalar as usize])
     }
 
     /// What waits after any of the states that are ready. Those that are chained move on at once.
     #[inline(always)]
-    fn behind(&self, ready: u64) -> u64
-        ensures { (q : ℕ) → HasState result q ↔ WaitsBehind self.now.after.items ready q }
+    fn after(&self, ready: u64) -> u64
+        ensures { (q : ℕ) → HasState result q ↔ WaitsAfter (map state_of self.now.states.items) ready q }
     {
         let moved = (ready & self.chained) << 1;
-        moved | behind_each(self.after.as_slice(), ready & !self.chained)
+        moved | after_each(self.states.as_slice(), ready & !self.chained)
     }
 
     /// Of the states that wait, those that take an ASCII scalar. None where the byte is not ASCII.
@@ -120,7 +115,7 @@ impl Automaton {
             if ready == 0 {
                 return false;
             }
-            waiting = self.behind(ready);
+            waiting = self.after(ready);
         }
         has_end(waiting)
     }
@@ -156,7 +151,7 @@ impl Automaton {
             if ready == 0 {
                 waiting = self.starts;
             } else {
-                waiting = self.behind(ready) | self.starts;
+                waiting = self.after(ready) | self.starts;
                 if has_end(waiting) {
                     return true;
                 }
@@ -189,26 +184,14 @@ fn has_end(set: u64) -> bool
     (set >> 63) & 1 == 1
 }
 
-/// For each state, in order, the set of states that wait after it.
-fn words_after(alloc: Global, states: &[State]) -> Result<Vec<u64>, AllocError>
-    ensures { IfOk result (λ words. words.items ≡ map (λ p. p.after) states.now) }
-{
-    let mut words = Vec::new(alloc);
-    words.reserve(states.len())?;
-    for state in states {
-        words.push(state.after)?;
-    }
-    Ok(words)
-}
-
 /// The states after which only the one with the next number waits. They are numbered as they are read, so most are.
-fn chained(after: &[u64]) -> u64
-    requires { length after.now ≤ 63 }
-    ensures { (p : ℕ) → HasState result p ↔ IsTrue (is_chained after.now p) }
+fn chained(states: &[State]) -> u64
+    requires { length states.now ≤ 63 }
+    ensures { (p : ℕ) → HasState result p ↔ IsTrue (is_chained (map state_of states.now) p) }
 {
     let mut all = 0;
-    for (number, word) in after.iter().enumerate() {
-        if is_link(*word, number) {
+    for (number, state) in states.iter().enumerate() {
+        if is_link(state.after, number) {
             all |= 1 << number;
         }
     }
@@ -267,13 +250,13 @@ fn having(sets: &[u128], code: u8) -> u64
 
 /// What waits after any of the states that are ready: each of them is asked.
 #[inline(always)]
-fn behind_each(after: &[u64], ready: u64) -> u64
-    ensures { (q : ℕ) → HasState result q ↔ WaitsBehind after.now ready q }
+fn after_each(states: &[State], ready: u64) -> u64
+    ensures { (q : ℕ) → HasState result q ↔ WaitsAfter (map state_of states.now) ready q }
 {
     let mut next = 0;
     let mut rest = ready;
     while rest != 0 {
-        next |= word_after(after, rest.trailing_zeros() as usize);
+        next |= word_after(states, rest.trailing_zeros() as usize);
         rest &= rest - 1;
     }
     next
@@ -281,11 +264,11 @@ fn behind_each(after: &[u64], ready: u64) -> u64
 
 /// The states that wait after the one with this number. None do where there is no such state.
 #[inline(always)]
-fn word_after(after: &[u64], number: usize) -> u64
-    ensures { result ≡ get_or after.now number 0 }
+fn word_after(states: &[State], number: usize) -> u64
+    ensures { result ≡ set_after (map state_of states.now) number }
 {
-    match after.get(number) {
-        Some(word) => *word,
+    match states.get(number) {
+        Some(state) => state.after,
         None => 0,
     }
 }

@@ -4,8 +4,11 @@ use Rattle.std.proofs.lemmas.Iterator.Consumers.{YieldsList-turn, YieldsList-end
 use Rattle.std.specs.Str.{chars}
 use Rattle.jp_iregexp.specs.Layouts.{state_of}
 use Rattle.jp_iregexp.proofs.Leading.{scalar_behind, nothing_left}
-use Rattle.jp_iregexp.proofs.Finding.{IsFinding, is_found, find_on, not_found}
+use Rattle.jp_iregexp.proofs.Finding.{IsFinding, start_finding, is_found, find_on, not_found}
 use Rattle.jp_iregexp.proofs.automaton.Automaton.finds_any.Goals as goal
+
+pub loop-scalar-init : goal.loop-scalar-init
+loop-scalar-init c = start_finding (map state_of c.args.self.now.states.items) c.args.self.now.starts (chars c.args.text.now)
 
 pub returns-then-has_end : goal.returns-then-has_end
 returns-then-has_end c =
