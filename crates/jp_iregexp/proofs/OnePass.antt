@@ -140,8 +140,8 @@ module _ (P : ℕ → Type 0) (text : List ℕ) (starts ends : PositionSet) (lea
   }
 
 -- the next position: where the class's scalars begin, and the earliest start from there on
-module _ (P : ℕ → Type 0) (text : List ℕ) (starts ends : PositionSet) (least most n begin next_begin start bound : ℕ) (inside : n < length text) (w : RunsBelow P text starts ends least most n begin start)
-    (b : IsBegin P text starts (n + 1) next_begin) (bounds : (p : ℕ) → next_begin ≤ p → n + 1 ≤ p + most → bound ≤ p) where
+module _ (P : ℕ → Type 0) (text : List ℕ) (starts ends : PositionSet) (least most n begin next_begin start : ℕ) (inside : n < length text) (w : RunsBelow P text starts ends least most n begin start)
+    (b : IsBegin P text starts (n + 1) next_begin) where
   -- what is before the next position, as seen from there
   still : (p : ℕ) → Has starts p → next_begin ≤ p → begin ≤ p
   still p h l = elim (below_or_not n p) [
@@ -151,9 +151,9 @@ module _ (P : ℕ → Type 0) (text : List ℕ) (starts ends : PositionSet) (lea
         w.begin_is.lowest p (n - p) h r)
   ]
 
-  module _ (next : ℕ) (has : Has starts next) (late : bound ≤ next) (from : next_begin ≤ bound) (near : n + 1 ≤ bound + most) (first : (p : ℕ) → start ≤ p → bound ≤ p → Has starts p → next ≤ p) where
+  module _ (next : ℕ) (has : Has starts next) (late : next_begin ≤ next) (near : n + 1 ≤ next + most) (first : (p : ℕ) → start ≤ p → next_begin ≤ p → n + 1 ≤ p + most → Has starts p → next ≤ p) where
     earliest : (p : ℕ) → Has starts p → next_begin ≤ p → n + 1 ≤ p + most → next ≤ p
-    earliest p h l k = first p (w.earliest p h (still p h l) (omega (arith, k))) (bounds p l k) h
+    earliest p h l k = first p (w.earliest p h (still p h l) (omega (arith, k))) l k h
 
     pub runs_insert : (more : PositionSet) → next + least ≤ n + 1 → Has more (n + 1) → ((q : ℕ) → Has ends q → Has more q) → ((q : ℕ) → Has more q → (q ≡ n + 1) ⊎ Has ends q) → RunsBelow P text starts more least most (n + 1) next_begin next
     runs_insert more enough same old new = record {
@@ -163,9 +163,9 @@ module _ (P : ℕ → Type 0) (text : List ℕ) (starts ends : PositionSet) (lea
       earliest = earliest;
       sound = λ q h. elim (new q h) [
         | inl e ↦
-            (let r = b.covers next (omega (arith, from, late)) (omega (arith, enough)) in
+            (let r = b.covers next late (omega (arith, enough)) in
             let here : ReachFrom (RepeatsWithin (IsOne P) least (Some most)) text starts (n + 1) =
-            record { start = next; has = has; reach = reach_map (λ x m. record { count = n + 1 - next; enough = omega (arith, enough); few = omega (arith, near, late); repeats = m }) text next (n + 1) r } in
+            record { start = next; has = has; reach = reach_map (λ x m. record { count = n + 1 - next; enough = omega (arith, enough); few = omega (arith, near); repeats = m }) text next (n + 1) r } in
             subst (ReachFrom (RepeatsWithin (IsOne P) least (Some most)) text starts) (sym e) here)
         | inr g ↦ w.sound q g
       ];
@@ -190,14 +190,14 @@ module _ (P : ℕ → Type 0) (text : List ℕ) (starts ends : PositionSet) (lea
     }
 
   -- no start is left
-  pub runs_past : ((p : ℕ) → bound ≤ p → Has starts p → ⊥) → (q p c : ℕ) → n < q → Has starts p → c ≤ most → Reach (Repeats (IsOne P) c) text p q → ⊥
+  pub runs_past : ((p : ℕ) → next_begin ≤ p → n + 1 ≤ p + most → Has starts p → ⊥) → (q p c : ℕ) → n < q → Has starts p → c ≤ most → Reach (Repeats (IsOne P) c) text p q → ⊥
   runs_past none q p c later h few r =
       let far = ones_length P text c p q r in
       let begins : next_begin ≤ p = elim (below_or_not (n + 1) p) [
         | inl after ↦ (let o = b.ordered in omega (arith, o, after))
         | inr before ↦ b.lowest p (n + 1 - p) h (ones_between P text c p (n + 1) q before (omega (arith, later)) r)
       ] in
-      none p (bounds p begins (omega (arith, far, few, later))) h
+      none p begins (omega (arith, far, few, later)) h
 
 -- the text ends here
 pub runs_end : (P : ℕ → Type 0) (text : List ℕ) (n : ℕ) → length text ≤ n → (q p c : ℕ) → n < q → Reach (Repeats (IsOne P) c) text p q → ⊥

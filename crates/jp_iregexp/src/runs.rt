@@ -1,6 +1,6 @@
 //! The turns of a class, in one pass.
 
-ghost use Rattle.std.specs.Prelude.{◌≡◌, ◌≤◌, ◌+◌, ℕ, true, false, Some, None, IfOk};
+ghost use Rattle.std.specs.Prelude.{◌≡◌, ◌≤◌, ◌<◌, ◌+◌, ◌^◌, ℕ, true, false, Some, None, IfOk};
 ghost use Rattle.std.specs.Option.{IfSome};
 ghost use Rattle.jp_iregexp.specs.Positions.{Has, AreEnds, AreStarts};
 ghost use Rattle.jp_iregexp.specs.Nodes.{class_of};
@@ -40,8 +40,7 @@ pub(crate) fn run_ends(
     let mut start = first;
     for p in first..text.len() {
         begin = begin_at(class.contains(text[p]), begin, p + 1);
-        let earliest = begin.max((p + 1).saturating_sub(most));
-        let Some(next) = leading(starts, start, earliest) else {
+        let Some(next) = leading(starts, start, begin, most, p + 1) else {
             return Ok(out);
         };
         start = next;
@@ -61,17 +60,23 @@ fn begin_at(passes: bool, begin: usize, p: usize) -> usize
     if passes { begin } else { p }
 }
 
-/// The earliest start that is not before `earliest`, where none is from there on that is before this one.
+/// The earliest start that is not before `begin` and no more than `most` before a position, where no such one is before `start`.
 #[inline(always)]
-fn leading(starts: &PositionSet, start: usize, earliest: usize) -> Option<usize>
-    requires { Has starts.now start }
-    ensures next { IfSome result (λ next. Has starts.now next × earliest ≤ next) }
-    ensures first { IfSome result (λ next. (p : ℕ) → start ≤ p → earliest ≤ p → Has starts.now p → next ≤ p) }
-    ensures none { result ≡ None → (p : ℕ) → earliest ≤ p → Has starts.now p → ⊥ }
+fn leading(
+    starts: &PositionSet,
+    start: usize,
+    begin: usize,
+    most: usize,
+    p: usize,
+) -> Option<usize>
+    requires has { Has starts.now start }
+    requires fits { start + most < 2 ^ 64 }
+    ensures next { IfSome result (λ next. Has starts.now next × begin ≤ next × p ≤ next + most) }
+    ensures first { IfSome result (λ next. (q : ℕ) → start ≤ q → begin ≤ q → p ≤ q + most → Has starts.now q → next ≤ q) }
+    ensures none { result ≡ None → (q : ℕ) → begin ≤ q → p ≤ q + most → Has starts.now q → ⊥ }
 {
-    if start < earliest {
-        starts.first_from(earliest)
-    } else {
-        Some(start)
+    if begin <= start && p <= start + most {
+        return Some(start);
     }
+    starts.first_from(begin.max(p.saturating_sub(most)))
 }

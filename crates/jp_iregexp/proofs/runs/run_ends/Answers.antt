@@ -36,12 +36,9 @@ returns-in_default-leading c =
     let begin = c.begin_at-begin.result in
     let e = c.begin_at-begin.ensures in
     let begins = begin_on P text starts n l.begin begin c.contains.result inside (λ t. sym tested ∙ t) (λ f h. let t : c.contains.result ≡ true = tested ∙ h in cc) e.passes e.fails l.invariant.begin_is in
-    let bound = c.max-earliest.result in
-    let far = c.saturating_sub.ensures in
-    let max = c.max-earliest.ensures in
     runs_all P text starts l.out c.args.least most (c.args.least + c.args.further) n l.begin l.start (let least = c.min-most.ensures in let sum = c.saturating_add.ensures in omega (arith, least, sum))
     (λ count few within. let least = c.min-most.ensures in let sum = c.saturating_add.ensures in omega (arith, least, sum, few, within))
-    (runs_past P text starts l.out c.args.least most n l.begin begin l.start bound inside l.invariant begins (λ p from near. omega (arith, far, max, from, near)) (c.in_default-leading.ensures.none (search rules)))
+    (runs_past P text starts l.out c.args.least most n l.begin begin l.start inside l.invariant begins (c.in_default-leading.ensures.none (search rules)))
     l.invariant
 
 pub loop-p-preserved : goal.loop-p-preserved
@@ -59,19 +56,14 @@ loop-p-preserved c =
     let begin = c.begin_at-begin.result in
     let e = c.begin_at-begin.ensures in
     let begins = begin_on P text starts n l.begin begin c.contains.result inside (λ t. sym tested ∙ t) (λ f h. let t : c.contains.result ≡ true = tested ∙ h in cc) e.passes e.fails l.invariant.begin_is in
-    let bound = c.max-earliest.result in
-    let far = c.saturating_sub.ensures in
-    let max = c.max-earliest.ensures in
     let next = c.in-Some-leading.next in
     let found = c.in-Some-leading.ensures in
-    let from : begin ≤ bound = omega (arith, max) in
-    let near : n + 1 ≤ bound + most = omega (arith, far, max) in
     elim c.if-start-least.branch [
       | then-start-least+in_ok-insert w ↦
           (let i = w.in_ok-insert.ensures in
-          rw w.out-is (runs_insert P text starts l.out c.args.least most n l.begin begin l.start bound inside l.invariant begins (λ p late close. omega (arith, far, max, late, close)) next found.next.0 found.next.1 from near found.first w.insert.new.self w.if-start-least.true i.same i.old i.new))
+          rw w.out-is (runs_insert P text starts l.out c.args.least most n l.begin begin l.start inside l.invariant begins next found.next.0 found.next.1 found.next.2 found.first w.insert.new.self w.if-start-least.true i.same i.old i.new))
       | else-start-least w ↦
-          (rw w.out-is (runs_skip P text starts l.out c.args.least most n l.begin begin l.start bound inside l.invariant begins (λ p late close. omega (arith, far, max, late, close)) next found.next.0 found.next.1 from near found.first (let short = w.if-start-least.false in omega (arith, short))))
+          (rw w.out-is (runs_skip P text starts l.out c.args.least most n l.begin begin l.start inside l.invariant begins next found.next.0 found.next.1 found.next.2 found.first (let short = w.if-start-least.false in omega (arith, short))))
     ]
 
 pub returns : goal.returns
