@@ -1,15 +1,11 @@
 -- Texts of one length, one after another.
-use Rattle.std.proofs.Common.{◌≡◌, ℕ, zero, suc, ◌+◌, ◌-◌, ◌*◌, ◌<◌, ◌≤◌, ◌↔◌, inl, inr, List, [], ◌∷◌, ◌++◌, length, drop, arith, refl, sym, ◌∙◌, ap, subst, length-append, length-drop, Option, Some, None}
+use Rattle.std.proofs.Common.{◌≡◌, ℕ, zero, suc, ◌+◌, ◌-◌, ◌*◌, ◌<◌, ◌≤◌, ◌↔◌, inl, inr, List, length, drop, arith, sym, ◌∙◌, ap, subst, length-append, length-drop, Some}
 use Rattle.std.proofs.Math.Nat.{add-mul}
-use Rattle.std.specs.Option.{IfSome}
-use Rattle.jp_model.specs.Pattern.Language.{Language, Splits, Repeats, RepeatsWithin}
-use Rattle.jp_iregexp.specs.declared.node.Node.{Node}
-use Rattle.jp_iregexp.specs.Nodes.{tree_of, choice_list}
+use Rattle.jp_model.specs.Pattern.Language.{Repeats, RepeatsWithin}
 use Rattle.jp_iregexp.specs.declared.positions.PositionSet.{PositionSet}
 use Rattle.jp_iregexp.specs.Evens.{HaveLength, IsRun, AreRuns}
 use Rattle.jp_iregexp.specs.Positions.{Has, Reach, AreEnds}
 use Rattle.jp_iregexp.proofs.Bits.{below_or_not}
-use Rattle.jp_iregexp.proofs.Counted.{choice_fewer}
 use Rattle.jp_iregexp.proofs.Reaching.{AreSame, nothing_reach, joined, between}
 
 -- ---- lengths
@@ -26,9 +22,6 @@ one_more_times c n = (let e : suc c ≡ 1 + c = omega arith in ap (λ k. k * n) 
 pub repeats_length : (Member : List ℕ → Type 0) (n : ℕ) → HaveLength Member n → (c : ℕ) → HaveLength (Repeats Member c) (c * n)
 repeats_length Member n each zero x r = ap length r ∙ sym (none_times n)
 repeats_length Member n each (suc c) x r = ap length r.is ∙ length-append r.front r.rest ∙ (λ i. each r.front r.first i + repeats_length Member n each c r.rest r.second i) ∙ sym (one_more_times c n)
-
-pub splits_length : (First Second : List ℕ → Type 0) (m n : ℕ) → HaveLength First m → HaveLength Second n → HaveLength (Splits First Second) (m + n)
-splits_length First Second m n f s x h = ap length h.is ∙ length-append h.front h.rest ∙ (λ i. f h.front h.first i + s h.rest h.second i)
 
 -- exactly `least` turns
 pub exact_length : (Member : List ℕ → Type 0) (n least : ℕ) → HaveLength Member n → HaveLength (RepeatsWithin Member least (Some (least + 0))) (n * least)
@@ -154,10 +147,3 @@ even_none Member step each text starts out count distance far long none = record
   sound = λ q h. absurd (none q h);
   complete = λ p q h r. absurd (let size = reach_length (Repeats Member count) (count * step) (repeats_length Member step each count) text p q r in let within = r.within in omega (arith, size, within, far, long));
 }
-
--- ---- the length of a choice
-
-pub choice_length : (before : List Node) (part : Node) (common : Option ℕ) (next : ℕ) → IfSome common (λ n. HaveLength (Language (choice_list before)) n) → (common ≡ None → (x : List ℕ) → Language (choice_list before) x → ⊥) → ((n : ℕ) → common ≡ Some n → n ≡ next)
-    → HaveLength (Language (tree_of part)) next → HaveLength (Language (choice_list (before ++ part ∷ []))) next
-choice_length before part None next is none same h x m = elim (choice_fewer before part x m) [ inl i ↦ absurd (none refl x i) | inr i ↦ h x i ]
-choice_length before part (Some n) next is none same h x m = elim (choice_fewer before part x m) [ inl i ↦ is x i ∙ same n refl | inr i ↦ h x i ]

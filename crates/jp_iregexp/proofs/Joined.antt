@@ -4,7 +4,7 @@ use Rattle.jp_iregexp.specs.declared.node.Node.{Node, Sequence, Choice}
 use Rattle.jp_iregexp.specs.declared.positions.PositionSet.{PositionSet}
 use Rattle.jp_iregexp.specs.Nodes.{most_of, turns_of, tree_of, sequence_list, choice_list}
 use Rattle.jp_iregexp.specs.Positions.{AreEnds}
-use Rattle.jp_iregexp.specs.Tables.{AreAlike, IsTable, IsNumber, Numbered, NumberedList}
+use Rattle.jp_iregexp.specs.Tables.{AreAlike, IsLength, IsTable, IsNumber, Numbered, NumberedList}
 use Rattle.jp_model.specs.Pattern.Language.{Language, AtMost, Splits, Repeats, RepeatsWithin}
 use Rattle.jp_model.specs.Pattern.Tree.{Pattern, empty, followed_by, never, either_of}
 use Rattle.jp_iregexp.proofs.Bits.{below_or_not}
@@ -214,12 +214,19 @@ part_numbered bodies node part parts (inr is) one k = (subst (NumberedList bodie
 number_alike : (bodies : List Pattern) (node part : Node) (number : ℕ) → AreAlike (Language (tree_of part)) (Language (tree_of node)) → IsNumber bodies node number → IsNumber bodies part number
 number_alike bodies node part number a k = record { to = λ x m. a.from x (k.to x m); from = λ x m. k.from x (a.to x m) }
 
+length_alike : (node part : Node) (noted : Option ℕ) → AreAlike (Language (tree_of part)) (Language (tree_of node)) → IsLength node noted → IsLength part noted
+length_alike node part None a is = tt
+length_alike node part (Some n) a is = (is.0, λ x m. is.1 x (a.to x m))
+
 module _ (node part : Node) (parts : Vec Node Global) (items : List Node) (is : (node ≡ Sequence parts) ⊎ (node ≡ Choice parts)) (are : items ≡ parts.items) (size : length items ≡ 1) (found : part ≡ get_or items 0 part) where
   one : parts.items ≡ part ∷ []
   one = sym are ∙ one_item items part size found
 
   pub only_numbered : (bodies : List Pattern) (number : ℕ) → Numbered bodies node × IsNumber bodies node number → Numbered bodies part × IsNumber bodies part number
   only_numbered bodies number k = (part_numbered bodies node part parts is one k.0, number_alike bodies node part number (only_alike node part parts is one) k.1)
+
+  pub only_length : (noted : Option ℕ) → IsLength node noted → IsLength part noted
+  only_length noted = length_alike node part noted (only_alike node part parts is one)
 
   pub only_ends : (least : ℕ) (most : Option ℕ) (text : List ℕ) (starts ends : PositionSet) → AreEnds (RepeatsWithin (Language (tree_of part)) least most) text starts ends → AreEnds (RepeatsWithin (Language (tree_of node)) least most) text starts ends
   only_ends least most text starts ends a =

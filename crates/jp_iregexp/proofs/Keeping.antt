@@ -7,11 +7,12 @@ use Rattle.jp_model.specs.Pattern.Language.{Language}
 use Rattle.jp_model.specs.Pattern.Tree.{Pattern, empty}
 use Rattle.jp_iregexp.specs.declared.node.Node.{Node, Sequence, Choice, Class as ClassNode, Sequence', Choice', Repeated', Row_of-Node, end_of-Node, more_of-Node, items-the_row-Node, items_hidden-the_row-Node-0}
 use Rattle.jp_iregexp.specs.declared.positions.PositionSet.{PositionSet}
-use Rattle.jp_iregexp.specs.Numbers.{next_of, numbers_after, parts_after}
+use Rattle.jp_iregexp.specs.Numbers.{numbers_after, parts_after}
 use Rattle.jp_iregexp.specs.Kept.{IsAdded}
 use Rattle.jp_iregexp.specs.Tables.{AreAlike, AreTables, IsTable, IsNumber, Numbered, NumberedParts, NumberedList, bodies_of, bodies_in}
 use Rattle.jp_iregexp.specs.Nodes.{tree_of}
-use Rattle.jp_iregexp.proofs.Numbering.{next_is}
+use Rattle.jp_iregexp.proofs.Noted.{noted_length}
+use Rattle.jp_iregexp.proofs.Numbering.{notes_of}
 use Rattle.jp_iregexp.proofs.Parts.{row_of}
 
 list_numbered : (bodies : List Pattern) (n : _) (row : Row_of-Node n) → NumberedParts bodies row → NumberedList bodies (items-the_row-Node n row)
@@ -40,9 +41,12 @@ mutual
   bodies_size first last (ClassNode c) e = (let same : first ≡ last = cc in omega arith)
   bodies_size first last (Sequence' shape parts) e = row_size first last _ parts e
   bodies_size first last (Choice' shape parts) e = row_size first last _ parts e
-  bodies_size first last (Repeated' p body least further number) e =
-      option_and_then_some (λ due. next_of due number) (numbers_after first body) last e
-      (λ due b n. (let one = bodies_size first due body b in let other = (next_is due last number n).next in let both = length-append (bodies_of body) (tree_of body ∷ []) in omega (arith, one, other, both)))
+  bodies_size first last (Repeated' p body least further number noted) e =
+      let notes = notes_of first last body number noted e in
+      let one = bodies_size first notes.due body notes.before in
+      let other = notes.next in
+      let both = length-append (bodies_of body) (tree_of body ∷ []) in
+      omega (arith, one, other, both)
 
   row_size : (first last : ℕ) (n : _) (row : Row_of-Node n) → parts_after first row ≡ Some last → last ≡ first + length (bodies_in row)
   row_size first last n end_of-Node e = (let same : first ≡ last = cc in omega arith)
@@ -50,9 +54,8 @@ mutual
       option_and_then_some (λ due. parts_after due rest) (numbers_after first part) last e
       (λ due b r. (let one = bodies_size first due part b in let other = row_size due last _ rest r in let both = length-append (bodies_of part) (bodies_in rest) in omega (arith, one, other, both)))
 
-has_number : (before after : List Pattern) (body : Node) (due last number : ℕ) → due ≡ length before → next_of due number ≡ Some last → IsNumber (before ++ (tree_of body ∷ [] ++ after)) body number
-has_number before after body due last number at e =
-    let is : number ≡ length before = (next_is due last number e).is ∙ at in
+has_number : (before after : List Pattern) (body : Node) (number : ℕ) → number ≡ length before → IsNumber (before ++ (tree_of body ∷ [] ++ after)) body number
+has_number before after body number is =
     let same : get_or (before ++ tree_of body ∷ after) number empty ≡ tree_of body = ap (λ n. get_or (before ++ tree_of body ∷ after) n empty) is ∙ get_or-append_seam before (tree_of body) after empty in
     subst (λ (r : Pattern). AreAlike (Language r) (Language (tree_of body))) (sym same) (record { to = λ x m. m; from = λ x m. m })
 
@@ -65,17 +68,18 @@ mutual
   numbered before after (ClassNode c) first last at e = tt
   numbered before after (Sequence' shape parts) first last at e = row_numbered before after _ parts first last at e
   numbered before after (Choice' shape parts) first last at e = row_numbered before after _ parts first last at e
-  numbered before after (Repeated' p body least further number) first last at e =
-      option_and_then_some (λ due. next_of due number) (numbers_after first body) last e
-      (λ due b n.
-      (let inner = bodies_of body in
+  numbered before after (Repeated' p body least further number noted) first last at e =
+      let notes = notes_of first last body number noted e in
+      let inner = bodies_of body in
       let own = tree_of body ∷ [] in
-      let size = bodies_size first due body b in
+      let size = bodies_size first notes.due body notes.before in
       let both = length-append before inner in
-      let place : due ≡ length (before ++ inner) = omega (arith, at, size, both) in (
-        subst (λ (l : List Pattern). Numbered l body) (ap (λ l. before ++ l) (sym (append_assoc inner own after))) (numbered before (own ++ after) body first due at b),
-        subst (λ (l : List Pattern). IsNumber l body number) (three before inner own after) (has_number (before ++ inner) after body due last number place n),
-      )))
+      let due = notes.is_due in
+      let place : number ≡ length (before ++ inner) = omega (arith, at, size, both, due) in (
+        subst (λ (l : List Pattern). Numbered l body) (ap (λ l. before ++ l) (sym (append_assoc inner own after))) (numbered before (own ++ after) body first notes.due at notes.before),
+        subst (λ (l : List Pattern). IsNumber l body number) (three before inner own after) (has_number (before ++ inner) after body number place),
+        noted_length body noted first notes.due notes.before notes.has_length,
+      )
 
   row_numbered : (before after : List Pattern) (n : _) (row : Row_of-Node n) (first last : ℕ) → first ≡ length before → parts_after first row ≡ Some last → NumberedParts (before ++ (bodies_in row ++ after)) row
   row_numbered before after n end_of-Node first last at e = tt

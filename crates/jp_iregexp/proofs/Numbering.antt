@@ -1,15 +1,16 @@
--- The numbers of repeated parts, of parts in a row and in a list, and of groups.
+-- The numbers of repeated parts, of parts in a row and in a list, and of groups, and the lengths that are noted beside them.
 use Rattle.std.proofs.Common.{◌≡◌, ◌==◌, ℕ, suc, List, [], ◌∷◌, ◌++◌, Option, Some, None, option_and_then, Bool, true, false, if◌then◌else◌, refl, sym, ◌∙◌, ap, Global, Vec}
-use Rattle.std.proofs.lemmas.Bool.{eqb-true}
-use Rattle.std.proofs.lemmas.Option.{none-some}
+use Rattle.std.proofs.lemmas.Bool.{eqb-true, eq-eqb}
+use Rattle.std.proofs.lemmas.Option.{none-some, option_and_then_some}
 use Rattle.jp_iregexp.specs.declared.group.Group.{Group}
 use Rattle.jp_iregexp.specs.declared.node.Node.{Node, Sequence, Choice, Row_of-Node, end_of-Node, more_of-Node, items-the_row-Node, items_hidden-the_row-Node-0}
-use Rattle.jp_iregexp.specs.Numbers.{next_of, numbers_after, parts_after, each_after, list_after, atom_after, group_after, groups_after}
+use Rattle.jp_iregexp.specs.Lengths.{length_of}
+use Rattle.jp_iregexp.specs.Numbers.{is_noted, next_of, numbers_after, parts_after, each_after, list_after, atom_after, group_after, groups_after}
 use Rattle.jp_iregexp.proofs.Parts.{row_of}
 
 -- ---- numbers
 
-then_same : (f g : ℕ → Option ℕ) (o : Option ℕ) → ((n : ℕ) → f n ≡ g n) → option_and_then f o ≡ option_and_then g o
+pub then_same : (f g : ℕ → Option ℕ) (o : Option ℕ) → ((n : ℕ) → f n ≡ g n) → option_and_then f o ≡ option_and_then g o
 then_same f g None e = refl
 then_same f g (Some n) e = e n
 
@@ -103,17 +104,44 @@ closed_after around before inner outer now node is same e =
     ∙ then_same (λ due. numbers_after due node) (λ due. group_after due inner) (groups_after 0 before outer) same
     ∙ ap (option_and_then (λ due. group_after due inner)) (sym (ap (each_after group_after 0) is ∙ after_push group_after 0 before outer))
 
--- ---- a number that is the one that is due
+-- ---- what is noted in a repeated part
 
-pub record IsDue (due last number : ℕ) : Type 0 where
-  pub is : number ≡ due
+-- a number that is there only where a test passes
+pub passed : (test : Bool) (o : Option ℕ) (last : ℕ) → (if test then o else None) ≡ Some last → (test ≡ true) × (o ≡ Some last)
+passed true o last e = (refl, e)
+passed false o last e = absurd (none-some last e)
+
+noted_is : (length noted : Option ℕ) → is_noted length noted ≡ true → noted ≡ length
+noted_is None None e = refl
+noted_is None (Some n) e = absurd (cc)
+noted_is (Some m) None e = absurd (cc)
+noted_is (Some m) (Some n) e = ap (λ k. Some k) (eqb-true n m e)
+
+noted_same : (length : Option ℕ) → is_noted length length ≡ true
+noted_same None = refl
+noted_same (Some n) = eq-eqb n n refl
+
+-- a part that is repeated has the number that is due, where the length that is noted is that of its body
+pub noted_after : (due number : ℕ) (body atom : Node) (noted : Option ℕ) → body ≡ atom → noted ≡ length_of atom
+    → (if is_noted (length_of body) noted then option_and_then (λ n. next_of n number) (numbers_after due body) else None) ≡ option_and_then (λ n. next_of n number) (numbers_after due atom)
+noted_after due number body atom noted is long =
+    let test : is_noted (length_of body) noted ≡ true = ap (λ l. is_noted l noted) (ap length_of is ∙ sym long) ∙ noted_same noted in
+    let all = option_and_then (λ n. next_of n number) (numbers_after due body) in
+    ap (λ (t : Bool). if t then all else None) test ∙ ap (λ n. option_and_then (λ m. next_of m number) (numbers_after due n)) is
+
+-- the number is the one that is due after those of the body, and the length is that of the body
+pub record AreNotes (first last : ℕ) (body : Node) (number : ℕ) (length : Option ℕ) : Type 0 where
+  pub due : ℕ
+  pub before : numbers_after first body ≡ Some due
+  pub is_due : number ≡ due
   pub next : last ≡ suc due
+  pub has_length : length ≡ length_of body
 
-due_case : (due last : ℕ) (test : Bool) → (if test then Some (suc due) else None) ≡ Some last → (test ≡ true) × (last ≡ suc due)
-due_case due last true e = (refl, cc)
-due_case due last false e = absurd (none-some last e)
-
-pub next_is : (due last number : ℕ) → next_of due number ≡ Some last → IsDue due last number
-next_is due last number e =
-    let c = due_case due last (number == due) e in
-    record { is = eqb-true number due c.0; next = c.1 }
+pub notes_of : (first last : ℕ) (body : Node) (number : ℕ) (length : Option ℕ) → (if is_noted (length_of body) length then option_and_then (λ due. next_of due number) (numbers_after first body) else None) ≡ Some last → AreNotes first last body number length
+notes_of first last body number length e =
+    let noted = passed (is_noted (length_of body) length) (option_and_then (λ due. next_of due number) (numbers_after first body)) last e in
+    option_and_then_some (λ due. next_of due number) (numbers_after first body) last noted.1
+    (λ due before n.
+    (let here = passed (number == due) (Some (suc due)) last n in
+    let next = here.1 in
+    record { due = due; before = before; is_due = eqb-true number due here.0; next = cc; has_length = noted_is (length_of body) length noted.0 }))

@@ -40,7 +40,7 @@ abbrev mutual
   tree_of (ClassNode c) = one_of (class_of c)
   tree_of (Sequence' shape parts) = sequence_of parts
   tree_of (Choice' shape parts) = choice_of parts
-  tree_of (Repeated' p body least further number) = times (tree_of body) least (most_of least further)
+  tree_of (Repeated' p body least further number length) = times (tree_of body) least (most_of least further)
 
   pub sequence_of : {m : _} → Row_of-Node m → Pattern
   sequence_of end_of-Node = empty

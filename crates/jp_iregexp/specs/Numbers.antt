@@ -1,19 +1,26 @@
--- The numbers of a pattern's repeated parts.
-use Rattle.std.specs.Prelude.{ℕ, suc, ◌==◌, if◌then◌else◌, List, [], ◌∷◌, Option, Some, None, option_and_then}
+-- The numbers and the lengths that are noted in a pattern's repeated parts.
+use Rattle.std.specs.Prelude.{ℕ, suc, ◌==◌, Bool, if◌then◌else◌, List, [], ◌∷◌, Option, Some, None, option_and_then}
+use Rattle.std.specs.Option.{option_eq}
 use Rattle.jp_iregexp.specs.declared.group.Group.{Group}
 use Rattle.jp_iregexp.specs.declared.node.Node.{Node, Class as ClassNode, Sequence', Choice', Repeated', Row_of-Node, end_of-Node, more_of-Node}
+use Rattle.jp_iregexp.specs.Lengths.{length_of}
 
 -- the next number after this one, if it is the one that is due
 abbrev pub next_of : ℕ → ℕ → Option ℕ
 next_of due number = if number == due then Some (suc due) else None
 
--- the next number after those of a part, if they ascend from this one, each after those within its own part
+-- the length that is noted is this one
+abbrev pub is_noted : (length noted : Option ℕ) → Bool
+is_noted length noted = option_eq (λ a b. a == b) noted length
+
+-- the next number after those of a part, if they ascend from this one, each after those within its own part, and each length that
+-- is noted is that of its own part
 abbrev mutual
   pub numbers_after : ℕ → Node → Option ℕ
   numbers_after first (ClassNode c) = Some first
   numbers_after first (Sequence' shape parts) = parts_after first parts
   numbers_after first (Choice' shape parts) = parts_after first parts
-  numbers_after first (Repeated' p body least further number) = option_and_then (λ due. next_of due number) (numbers_after first body)
+  numbers_after first (Repeated' p body least further number length) = if is_noted (length_of body) length then option_and_then (λ due. next_of due number) (numbers_after first body) else None
 
   pub parts_after : ℕ → {m : _} → Row_of-Node m → Option ℕ
   parts_after first end_of-Node = Some first

@@ -1,9 +1,10 @@
 -- The ends of a set of texts from each position.
-use Rattle.std.specs.Prelude.{ℕ, ◌≡◌, ◌+◌, ◌<◌, List, [], ◌∷◌, ◌++◌, length, get_or, slice_index_or, Option, Some, None, Vec}
+use Rattle.std.specs.Prelude.{ℕ, ◌≡◌, ◌+◌, ◌^◌, ◌<◌, ◌≤◌, List, [], ◌∷◌, ◌++◌, length, get_or, slice_index_or, Option, Some, None, IfSome, Vec}
 use Rattle.std.specs.declared.alloc.Global.{Global}
 use Rattle.jp_model.specs.Pattern.Language.{Language}
 use Rattle.jp_model.specs.Pattern.Tree.{Pattern, empty}
 use Rattle.jp_iregexp.specs.declared.node.Node.{Node, Class as ClassNode, Sequence', Choice', Repeated', Row_of-Node, end_of-Node, more_of-Node}
+use Rattle.jp_iregexp.specs.Evens.{HaveLength}
 use Rattle.jp_iregexp.specs.Nodes.{tree_of}
 use Rattle.jp_iregexp.specs.declared.positions.PositionSet.{PositionSet}
 use Rattle.jp_iregexp.specs.Positions.{Has, IsClosed, IsSetOver, IsTail, Reach}
@@ -44,7 +45,7 @@ abbrev mutual
   bodies_of (ClassNode c) = []
   bodies_of (Sequence' shape parts) = bodies_in parts
   bodies_of (Choice' shape parts) = bodies_in parts
-  bodies_of (Repeated' p body least further number) = bodies_of body ++ tree_of body ∷ []
+  bodies_of (Repeated' p body least further number length) = bodies_of body ++ tree_of body ∷ []
 
   pub bodies_in : {m : _} → Row_of-Node m → List Pattern
   bodies_in end_of-Node = []
@@ -54,19 +55,23 @@ abbrev mutual
 abbrev pub IsNumber : List Pattern → Node → ℕ → Type 0
 IsNumber bodies body number = AreAlike (Language (get_or bodies number empty)) (Language (tree_of body))
 
--- so is that of each body in a part
+-- the length that is noted for a body, if there is one, is that of its texts, and is not above 2^31
+abbrev pub IsLength : Node → Option ℕ → Type 0
+IsLength body length = IfSome length (λ n. n ≤ 2 ^ 31 × HaveLength (Language (tree_of body)) n)
+
+-- both are right for each body in a part
 abbrev mutual
   pub Numbered : List Pattern → Node → Type 0
   Numbered bodies (ClassNode c) = Unit {0}
   Numbered bodies (Sequence' shape parts) = NumberedParts bodies parts
   Numbered bodies (Choice' shape parts) = NumberedParts bodies parts
-  Numbered bodies (Repeated' p body least further number) = Numbered bodies body × IsNumber bodies body number
+  Numbered bodies (Repeated' p body least further number length) = Numbered bodies body × IsNumber bodies body number × IsLength body length
 
   pub NumberedParts : List Pattern → {m : _} → Row_of-Node m → Type 0
   NumberedParts bodies end_of-Node = Unit {0}
   NumberedParts bodies (more_of-Node part rest) = Numbered bodies part × NumberedParts bodies rest
 
--- the same of the turns of a part
+-- a part that is taken in turns has its number, and both are right in it
 abbrev pub NumberedTurns : List Pattern → Node → ℕ → Type 0
 NumberedTurns bodies body number = Numbered bodies body × IsNumber bodies body number
 

@@ -6,6 +6,7 @@ ghost use Rattle.jp_model.specs.Pattern.Groups.{fresh, with_atom, add_atom, add_
 ghost use Rattle.jp_iregexp.specs.Nodes.{most_of, tree_of};
 ghost use Rattle.jp_iregexp.specs.Numbers.{group_after, next_of, numbers_after};
 
+use crate::lengths::common_length;
 use crate::node::Node;
 use std::alloc::{AllocError, Global};
 
@@ -54,8 +55,8 @@ impl Group {
         Ok(())
     }
 
-    /// The atom with a quantifier after it, which gets this number, and whether there is an atom. Where there is none, nothing
-    /// changes.
+    /// The atom with a quantifier after it, which gets this number, and whether there is an atom. The length of the atom's texts
+    /// is noted beside the number. Where there is no atom, nothing changes.
     #[tactic(auto, using(crate::proofs::Built::first_push))]
     pub(crate) fn add_count(
         &mut self,
@@ -70,11 +71,13 @@ impl Group {
         match self.atom.take() {
             None => Ok(false),
             Some(atom) => {
+                let length = common_length(&atom);
                 self.pieces.push(Node::Repeated {
                     body: Box::new(alloc, atom)?,
                     least,
                     further,
                     number,
+                    length,
                 })?;
                 Ok(true)
             }

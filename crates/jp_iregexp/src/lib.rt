@@ -19,6 +19,7 @@ mod items;
 mod kept;
 pub mod laws;
 mod layout;
+mod lengths;
 mod matcher;
 mod members;
 mod names;

@@ -75,7 +75,11 @@ impl Matcher<'_> {
                 least,
                 further,
                 number,
-            } => self.repeated_ends(body, *number, *least, self.turns(*further), starts, tables),
+                length,
+            } => {
+                let further = self.turns(*further);
+                self.repeated_ends(body, *number, *length, *least, further, starts, tables)
+            }
         }
     }
 

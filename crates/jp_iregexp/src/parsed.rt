@@ -6,7 +6,8 @@ ghost use Rattle.jp_iregexp.specs.Numbers.{numbers_after};
 
 use crate::node::Node;
 
-/// A tree, and how many of its parts are repeated. These are numbered from 0 on, each after those within it.
+/// A tree, and how many of its parts are repeated. These are numbered from 0 on, each after those within it, and the length that
+/// is noted beside each number is right.
 #[derive(Drop)]
 pub(crate) struct Parsed {
     pub(crate) root: Node,

@@ -5,12 +5,12 @@ ghost use Rattle.jp_iregexp.specs.Evens.{HaveLength};
 ghost use Rattle.jp_iregexp.specs.Positions.{AreEnds, AreStarts, IsClosed};
 ghost use Rattle.jp_model.specs.Pattern.Language.{Language, Repeats, RepeatsWithin};
 ghost use Rattle.jp_iregexp.specs.Right.{AreRight};
-ghost use Rattle.jp_iregexp.specs.Tables.{IsTable, Numbered, NumberedTurns, bodies_of};
+ghost use Rattle.jp_iregexp.specs.Tables.{IsLength, IsTable, Numbered, NumberedTurns, bodies_of};
 ghost use Rattle.jp_iregexp.specs.Nodes.{turns_of, tree_of};
 ghost use Rattle.jp_model.specs.Pattern.Tree.{empty, times};
 
 use crate::Result;
-use crate::even::{LONGEST, common_length, doubled};
+use crate::even::doubled;
 use crate::matcher::Matcher;
 use crate::node::Node;
 use crate::positions::PositionSet;
@@ -43,6 +43,7 @@ impl Matcher<'_> {
         &self,
         body: &Node,
         number: usize,
+        length: Option<u32>,
         least: u32,
         further: usize,
         starts: &PositionSet,
@@ -50,6 +51,7 @@ impl Matcher<'_> {
     ) -> Result<PositionSet>
         requires starts { AreStarts self.now.text.now starts.now }
         requires numbered { NumberedTurns (bodies_of self.now.root.now) body.now number }
+        requires length { IsLength body.now length }
         requires right { AreRight self.now.text.now self.now.root.now tables.old }
         ensures kept { OnOk result (AreRight self.now.text.now self.now.root.now tables.new) }
         ensures ends { IfOk result (λ out. AreEnds (Language (times (tree_of body.now) least (Some (least + further)))) self.now.text.now starts.now out) }
@@ -60,7 +62,7 @@ impl Matcher<'_> {
             }
             Node::Sequence(parts) | Node::Choice(parts) => {
                 if let [part] = parts.as_slice() {
-                    return self.repeated_ends(part, number, least, further, starts, tables);
+                    return self.repeated_ends(part, number, length, least, further, starts, tables);
                 }
             }
             Node::Repeated {
@@ -68,14 +70,16 @@ impl Matcher<'_> {
                 least: once,
                 further: more,
                 number,
+                length,
             } if *once <= 1 => {
                 let most = *once as usize + self.turns(*more);
                 let further = joined(*once, most, least, further);
-                return self.repeated_ends(part, *number, least * *once, further, starts, tables);
+                let least = least * *once;
+                return self.repeated_ends(part, *number, *length, least, further, starts, tables);
             }
             _ => {}
         }
-        let reached = self.exact_turns(body, number, least, starts, tables)?;
+        let reached = self.exact_turns(body, number, length, least, starts, tables)?;
         self.added_turns(body, number, further, &reached, tables)
     }
 
@@ -96,22 +100,21 @@ impl Matcher<'_> {
         &self,
         body: &Node,
         number: usize,
+        length: Option<u32>,
         count: u32,
         starts: &PositionSet,
         tables: &mut Tables,
     ) -> Result<PositionSet>
         requires starts { AreStarts self.now.text.now starts.now }
         requires numbered { NumberedTurns (bodies_of self.now.root.now) body.now number }
+        requires length { IsLength body.now length }
         requires right { AreRight self.now.text.now self.now.root.now tables.old }
         ensures kept { OnOk result (AreRight self.now.text.now self.now.root.now tables.new) }
         ensures ends { IfOk result (λ out. AreEnds (Repeats (Language (tree_of body.now)) count) self.now.text.now starts.now out) }
     {
-        if count <= 1 {
-            return self.counted_turns(body, number, count, starts, tables);
-        }
-        match common_length(body, self.text.len().min(LONGEST)) {
-            Some(length) if length > 0 => {
-                self.even_turns(body, number, length, count, starts, tables)
+        match length {
+            Some(length) if count > 1 && length > 0 => {
+                self.even_turns(body, number, length as usize, count, starts, tables)
             }
             _ => self.counted_turns(body, number, count, starts, tables),
         }

@@ -8,7 +8,7 @@ use Rattle.jp_iregexp.proofs.Evens.{even_ends, even_none}
 use Rattle.jp_iregexp.specs.Nodes.{most_of, tree_of, sequence_list, choice_list}
 use Rattle.jp_iregexp.proofs.Parts.{tree_of_Sequence, tree_of_Choice, drop_item, drop_past, if_ok_map}
 use Rattle.jp_iregexp.proofs.Turns.{continue_start, sequence_step, sequence_end, gather_step, gather_end, exact_start, exact_step, exact_exit, exact_end, further_start, further_step, further_exit, further_end, front_start, front_step, times_some}
-use Rattle.jp_iregexp.proofs.Joined.{joined_ends, turns_ends, only_numbered, only_ends, table_alike}
+use Rattle.jp_iregexp.proofs.Joined.{joined_ends, turns_ends, only_numbered, only_length, only_ends, table_alike}
 use Rattle.jp_iregexp.proofs.Reaching.{ends_none, same_over}
 use Rattle.jp_iregexp.proofs.Tails.{closed_numbered, front_left, kept_stays}
 use Rattle.jp_iregexp.proofs.Rows.{from_one, rows_push, table_ends}
@@ -190,8 +190,8 @@ ends-returns-in-Repeated-clause-ends t c =
     let member = Language (tree_of c.deref.result.now) in
     let tree : tree_of c.args.node.now ≡ times (tree_of c.deref.result.now) n.least (most_of n.least n.further) = ap tree_of n.is ∙ ap (λ b. times (tree_of b) n.least (most_of n.least n.further)) (sym c.deref.ensures) in
     subst (λ (r : Pattern). IfOk c.repeated_ends.result (λ (out : PositionSet). AreEnds (Language r) text starts out)) (sym tree)
-    (if_ok_map (λ (out : PositionSet). AreEnds (RepeatsWithin member n.least (Some (n.least + c.turns.result))) text starts out) (λ (out : PositionSet). AreEnds (RepeatsWithin member n.least (most_of n.least n.further)) text starts out) c.repeated_ends.result
-    (λ out a. turns_ends member n.least n.further text starts out (subst (λ k. AreEnds (RepeatsWithin member n.least (Some (n.least + k))) text starts out) c.turns.ensures.turns a)) c.repeated_ends.ensures.ends)
+    (if_ok_map (λ (out : PositionSet). AreEnds (RepeatsWithin member n.least (Some (n.least + c.turns-further.result))) text starts out) (λ (out : PositionSet). AreEnds (RepeatsWithin member n.least (most_of n.least n.further)) text starts out) c.repeated_ends.result
+    (λ out a. turns_ends member n.least n.further text starts out (subst (λ k. AreEnds (RepeatsWithin member n.least (Some (n.least + k))) text starts out) c.turns-further.ensures.turns a)) c.repeated_ends.ensures.ends)
 
 pub repeated_ends-returns-in-Class-clause-ends : goal.repeated_ends-returns-in-Class-clause-ends
 repeated_ends-returns-in-Class-clause-ends t c =
@@ -217,8 +217,10 @@ pub repeated_ends-repeated_ends-requires-in-len1 : goal.repeated_ends-repeated_e
 repeated_ends-repeated_ends-requires-in-len1 t c =
     let low = c.in-len1.len_at_least in
     let high = c.in-len1.len_below in
-    let numbered = only_numbered c.args.body.now c.part-item.result c.in-Sequence.parts c.as_slice.result.now c.in-Sequence.is c.as_slice.ensures.value (omega (arith, low, high)) c.part-item.is (bodies_of c.args.self.now.root.now) c.args.number c.requires.numbered in
-    (search (rules, the_lemmas), (search rules, (numbered, c.requires.right)))
+    let size : length c.as_slice.result.now ≡ 1 = omega (arith, low, high) in
+    let numbered = only_numbered c.args.body.now c.part-item.result c.in-Sequence.parts c.as_slice.result.now c.in-Sequence.is c.as_slice.ensures.value size c.part-item.is (bodies_of c.args.self.now.root.now) c.args.number c.requires.numbered in
+    let noted = only_length c.args.body.now c.part-item.result c.in-Sequence.parts c.as_slice.result.now c.in-Sequence.is c.as_slice.ensures.value size c.part-item.is c.args.length c.requires.length in
+    (search (rules, the_lemmas), (search rules, (numbered, (noted, c.requires.right))))
 
 pub repeated_ends-returns-in-len1-clause-ends : goal.repeated_ends-returns-in-len1-clause-ends
 repeated_ends-returns-in-len1-clause-ends t c =
